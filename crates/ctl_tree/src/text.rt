@@ -77,7 +77,7 @@ impl Text {
     pub fn copied(&self, alloc: Global) -> Result<Text, AllocError>
         ensures { IfOk result (λ t. t ≡ self.now) }
     {
-        Text::from_slice(alloc, self.bytes.as_slice())
+        Text::from_slice(alloc, self.as_bytes())
     }
 }
 

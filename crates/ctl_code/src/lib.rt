@@ -1,0 +1,4 @@
+//! The code that the machine runs.
+#![tactic(auto)]
+
+pub mod code;

@@ -1,0 +1,5 @@
+//! From the checked program to the machine's code.
+#![tactic(auto)]
+
+mod emit;
+pub mod generate;

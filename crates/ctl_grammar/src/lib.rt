@@ -1,0 +1,6 @@
+//! The grammar of the subset of Ada that adactl takes.
+#![tactic(auto)]
+
+pub mod kind;
+pub mod refused;
+pub mod spelling;

@@ -1,0 +1,106 @@
+//! Classes of bytes (RM 2.1, 2.2).
+
+ghost use Rattle.std.specs.Prelude.{◌≡◌};
+ghost use Rattle.ctl_lexis.specs.Bytes.{class_of, is_blank, is_line_end, is_letter, is_digit, is_underscore, is_graphic, in_name, in_number, in_line, run};
+
+use ctl_lexis::class::ByteClass;
+
+pub fn is_line_end(byte: u8) -> bool
+    ensures { result ≡ is_line_end byte }
+{
+    (10..=13).contains(&byte)
+}
+
+fn is_blank(byte: u8) -> bool
+    ensures { result ≡ is_blank byte }
+{
+    byte == b' ' || (9..=13).contains(&byte)
+}
+
+pub fn is_letter(byte: u8) -> bool
+    ensures { result ≡ is_letter byte }
+{
+    (b'a' <= byte && byte <= b'z') || (b'A' <= byte && byte <= b'Z')
+}
+
+pub fn is_digit(byte: u8) -> bool
+    ensures { result ≡ is_digit byte }
+{
+    b'0' <= byte && byte <= b'9'
+}
+
+pub fn is_underscore(byte: u8) -> bool
+    ensures { result ≡ is_underscore byte }
+{
+    byte == b'_'
+}
+
+fn is_graphic(byte: u8) -> bool
+    ensures { result ≡ is_graphic byte }
+{
+    32 <= byte && byte <= 126
+}
+
+fn in_name(byte: u8) -> bool
+    ensures { result ≡ in_name byte }
+{
+    is_letter(byte) || (is_digit(byte) || is_underscore(byte))
+}
+
+fn in_number(byte: u8) -> bool
+    ensures { result ≡ in_number byte }
+{
+    is_digit(byte) || is_underscore(byte)
+}
+
+fn in_line(byte: u8) -> bool
+    ensures { result ≡ in_line byte }
+{
+    !is_line_end(byte)
+}
+
+/// How many bytes at the front are letters, digits and underscores.
+pub fn name_run(bytes: &[u8]) -> usize
+    ensures { result ≡ run in_name bytes.now }
+{
+    bytes.iter().take_while(|b| in_name(**b)).count()
+}
+
+/// How many bytes at the front are digits and underscores.
+pub fn number_run(bytes: &[u8]) -> usize
+    ensures { result ≡ run in_number bytes.now }
+{
+    bytes.iter().take_while(|b| in_number(**b)).count()
+}
+
+/// How many bytes at the front stand in one line.
+pub fn line_run(bytes: &[u8]) -> usize
+    ensures { result ≡ run in_line bytes.now }
+{
+    bytes.iter().take_while(|b| in_line(**b)).count()
+}
+
+/// How many bytes at the front may stand in a string.
+pub fn graphic_run(bytes: &[u8]) -> usize
+    ensures { result ≡ run is_graphic bytes.now }
+{
+    bytes.iter().take_while(|b| is_graphic(**b)).count()
+}
+
+/// What may begin with a byte.
+#[tactic(auto, unfolding(ctl_lexis::specs::Bytes::class_of))]
+pub fn class_of(byte: u8) -> ByteClass
+    ensures { result ≡ class_of byte }
+{
+    if is_blank(byte) {
+        ByteClass::Blank
+    } else if is_letter(byte) {
+        ByteClass::Letter
+    } else if is_digit(byte) {
+        ByteClass::Digit
+    } else if byte == b'"' {
+        ByteClass::Quote
+    } else {
+        ByteClass::Other
+    }
+}

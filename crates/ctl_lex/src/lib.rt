@@ -1,0 +1,15 @@
+//! The scanner: from the bytes of a source text to its tokens with their places, or to its first lexical fault (RM 2).
+#![tactic(auto)]
+
+mod byte;
+mod delimiter;
+mod front;
+mod name;
+mod number;
+mod place;
+mod scan;
+mod string;
+mod token;
+mod word;
+
+pub use scan::tokens;

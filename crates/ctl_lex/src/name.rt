@@ -1,0 +1,47 @@
+//! Identifiers and reserved words (RM 2.3, 2.9).
+
+ghost use Rattle.std.specs.Prelude.{◌≡◌, false};
+ghost use Rattle.ctl_lexis.specs.Pieces.{has_single_underscores};
+ghost use Rattle.ctl_lexis.specs.Reading.{name_of, name_at};
+
+use crate::byte::{is_underscore, name_run};
+use crate::word::word_of;
+use ctl_lexis::shape::Shape;
+use ctl_tree::fault::FaultCode;
+
+/// Whether each underscore has another byte directly behind it.
+pub fn has_single_underscores(text: &[u8]) -> bool
+    ensures { result ≡ has_single_underscores false text.now }
+{
+    let mut behind = false;
+    for byte in text {
+        let here = is_underscore(*byte);
+        if behind && here {
+            return false;
+        }
+        behind = here;
+    }
+    !behind
+}
+
+/// An identifier or a reserved word of these bytes, with its length.
+#[tactic(auto, unfolding(ctl_lexis::specs::Reading::name_of))]
+fn name_of(text: &[u8]) -> Result<(Shape, usize), (FaultCode, usize)>
+    ensures { result ≡ name_of text.now }
+{
+    if !has_single_underscores(text) {
+        return Err((FaultCode::BadIdentifier, 0));
+    }
+    match word_of(text) {
+        Some(kind) => Ok((Shape::Fixed(kind), text.len())),
+        None => Ok((Shape::Identifier, text.len())),
+    }
+}
+
+/// The identifier or the reserved word at the front, with its length.
+#[tactic(auto, unfolding(ctl_lexis::specs::Reading::name_at))]
+pub fn name_at(bytes: &[u8]) -> Result<(Shape, usize), (FaultCode, usize)>
+    ensures { result ≡ name_at bytes.now }
+{
+    name_of(&bytes[..name_run(bytes)])
+}

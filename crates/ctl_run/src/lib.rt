@@ -1,0 +1,4 @@
+//! From a source text to what its run shows.
+#![tactic(auto)]
+
+pub mod run;

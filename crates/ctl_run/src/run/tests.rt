@@ -1,0 +1,67 @@
+use super::*;
+use ctl_text::trace_text;
+use std::test::Fail;
+
+/// Nothing is declared, and nothing shown.
+const EMPTY: &[u8] = b"procedure Main is begin null; end Main;";
+
+/// Two objects of a block, of types whose Finalize prints; the second type's Initialize prints too.
+const TWO_OBJECTS: &[u8] =
+    b"with Ada.Finalization; use Ada.Finalization; with Ada.Text_IO; use Ada.Text_IO; procedure Main is type A is new Controlled with null record; type B is new Controlled with null record; overriding procedure Finalize (X : in out A); overriding procedure Initialize (X : in out B); overriding procedure Finalize (X : in out B); procedure Finalize (X : in out A) is begin Put_Line (\"a\"); end Finalize; procedure Initialize (X : in out B) is begin Put_Line (\"i\"); end Initialize; procedure Finalize (X : in out B) is begin Put_Line (\"b\"); end Finalize; begin declare V : A; W : B; begin Put_Line (\"in\"); end; Put_Line (\"out\"); end Main;";
+
+const TWO_OBJECTS_TRACE: &str =
+    "live 1 m2\ninitialize 2\nprint i\nnewline\nlive 2 m2\nprint in\nnewline\nfinalize 2 scope\nprint b\nnewline\nfinalize 1 scope\nprint a\nnewline\nprint out\nnewline\nend done\n";
+
+/// A Finalize that declares an object of its own type never comes to its end.
+const ENDLESS: &[u8] =
+    b"with Ada.Finalization; use Ada.Finalization; with Ada.Text_IO; use Ada.Text_IO; procedure Main is type A is new Controlled with null record; overriding procedure Finalize (X : in out A); procedure Finalize (X : in out A) is V : A; begin Put (\"x\"); end Finalize; V : A; begin null; end Main;";
+
+#[test]
+fn traces_of_runs(rt: HostRuntime) -> Result<(), Fail> {
+    let alloc = rt.alloc();
+    for (source, steps, wanted) in [
+        (EMPTY, 1000, "end done\n"),
+        (EMPTY, 0, "end limit\n"),
+        (TWO_OBJECTS, 1000, TWO_OBJECTS_TRACE),
+        (ENDLESS, 5, "live 1 m1\nend limit\n"),
+    ] {
+        let outcome = run_source(alloc, source, Order::Newest, steps).map_err(|_| "refused")?;
+        let text = trace_text(alloc, &outcome.events, &outcome.end)?;
+        let shown = String::from_utf8(text).map_err(|_| "no text")?;
+        assert_eq!(rt; shown.as_str(), wanted);
+    }
+    Ok(())
+}
+
+#[test]
+fn faults_of_texts(rt: HostRuntime) -> Result<(), Fail> {
+    let alloc = rt.alloc();
+    for (source, wanted) in [
+        (b"".as_slice(), "1:1: 10 UNEXPECTED"),
+        (
+            b"procedure Main is begin null; end Main",
+            "1:39: 10 UNEXPECTED",
+        ),
+        (
+            b"procedure Main is task T; begin null; end Main;",
+            "1:19: 12 LEFT_OUT",
+        ),
+        (
+            b"procedure Main is X : Integer; begin null; end Main;",
+            "1:19: 12 LEFT_OUT",
+        ),
+        (
+            b"procedure Main is begin begin Put_Line (\"x\"); end; end Main;",
+            "1:1: 30 TYPE",
+        ),
+    ] {
+        match check_source(alloc, source) {
+            Ok(_) => return Err("accepted".into()),
+            Err(fault) => {
+                let shown = fault.to_string(alloc)?;
+                assert_eq!(rt; shown.as_str(), wanted);
+            }
+        }
+    }
+    Ok(())
+}

@@ -1,0 +1,5 @@
+//! Which constructs of the language this version runs.
+#![tactic(auto)]
+
+mod construct;
+pub mod slice;
