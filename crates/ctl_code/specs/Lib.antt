@@ -1,0 +1,4 @@
+pub mod States
+pub mod Table
+pub mod Steps
+pub mod Laws

@@ -2,3 +2,4 @@
 #![tactic(auto)]
 
 pub mod code;
+pub mod laws;

@@ -1,0 +1,12 @@
+pub mod Rows
+pub mod Follow
+pub mod Place
+pub mod Worlds
+pub mod Plain
+pub mod Setting
+pub mod Finalize
+pub mod Leave
+pub mod Declare
+pub mod Statements
+pub mod Bodies
+pub mod Whole

@@ -1,5 +1,10 @@
 //! The code of a whole program.
 
+ghost use Rattle.std.specs.Prelude.{◌≡◌, IfOk, length};
+ghost use Rattle.ctl_gen.specs.Correct.{Behaves};
+ghost use Rattle.ctl_gen.specs.Slice.{InSlice};
+ghost use Rattle.ctl_gen.specs.Layout.{IsLaidOut, entry_at, operations_of};
+
 use crate::emit::Emitter;
 use ctl_code::code::{Code, Entry, Instr, Operations};
 use ctl_tree::checked::{Checked, RecordType, Subprogram};
@@ -8,7 +13,21 @@ use ctl_tree::text::Text;
 use std::alloc::{AllocError, Global};
 
 /// The code of a checked program. The only fault is MEMORY.
-pub fn generate(alloc: Global, program: &Checked) -> Result<Code, Fault> {
+///
+/// The contract says how the instructions stand, and that they do what a program of this version means: after every number of steps
+/// and under every order the machine has shown a beginning of what the program's meaning shows for the picks that were taken, it
+/// has shown all of it where it has ended, it is never stuck, and each outcome is reached in 64 steps a tick.
+pub fn generate(alloc: Global, program: &Checked) -> Result<Code, Fault>
+    ensures layout { IfOk result (λ code. IsLaidOut program.now code) }
+    ensures behaves { IfOk result (λ code. InSlice program.now → Behaves program.now code) }
+{
+    assemble(alloc, program)
+}
+
+/// The instructions, and the tables that they name.
+fn assemble(alloc: Global, program: &Checked) -> Result<Code, Fault>
+    ensures { IfOk result (λ code. IsLaidOut program.now code) }
+{
     let mut emitter = Emitter::new(alloc);
     emitter.put(Instr::Start(program.main))?;
     let mut entries = Vec::new(alloc);
@@ -29,7 +48,9 @@ pub fn generate(alloc: Global, program: &Checked) -> Result<Code, Fault> {
 }
 
 /// The entry of a subprogram whose body comes next.
-fn entry_of(emitter: &Emitter, subprogram: &Subprogram) -> Entry {
+fn entry_of(emitter: &Emitter, subprogram: &Subprogram) -> Entry
+    ensures { result ≡ entry_at (length emitter.now.instructions.items) subprogram.now }
+{
     Entry {
         level: subprogram.level,
         slots: subprogram.body.slots,
@@ -37,7 +58,9 @@ fn entry_of(emitter: &Emitter, subprogram: &Subprogram) -> Entry {
     }
 }
 
-fn records_of(alloc: Global, records: &[RecordType]) -> Result<Vec<Operations>, AllocError> {
+fn records_of(alloc: Global, records: &[RecordType]) -> Result<Vec<Operations>, AllocError>
+    ensures { IfOk result (λ all. all.items ≡ operations_of records.now) }
+{
     let mut all = Vec::new(alloc);
     for record in records {
         all.push(Operations {
@@ -48,7 +71,9 @@ fn records_of(alloc: Global, records: &[RecordType]) -> Result<Vec<Operations>, 
     Ok(all)
 }
 
-fn names_of(alloc: Global, names: &[Text]) -> Result<Vec<Text>, AllocError> {
+fn names_of(alloc: Global, names: &[Text]) -> Result<Vec<Text>, AllocError>
+    ensures { IfOk result (λ all. all.items ≡ names.now) }
+{
     let mut all = Vec::new(alloc);
     for name in names {
         all.push(name.copied(alloc)?)?;

@@ -7,7 +7,7 @@ unfoldable pub same_letter : ℕ → ℕ → Bool
 same_letter x y = to_ascii_lowercase x == to_ascii_lowercase y
 
 -- the same letters, digits and underscores
-abbrev pub same_name : List ℕ → List ℕ → Bool
+unfoldable pub same_name : List ℕ → List ℕ → Bool
 same_name [] [] = true
 same_name (x ∷ a) (y ∷ b) = same_letter x y && same_name a b
 same_name [] (y ∷ b) = false

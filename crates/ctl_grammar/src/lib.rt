@@ -2,5 +2,6 @@
 #![tactic(auto)]
 
 pub mod kind;
+pub mod laws;
 pub mod refused;
 pub mod spelling;

@@ -13,12 +13,16 @@ fn is_same_letter(a: u8, b: u8) -> bool
 }
 
 /// Whether two identifiers are the same: case does not count (RM 2.3).
+#[tactic(auto, unfolding(crate::specs::Spelling::same_name))]
 pub fn is_same_name(a: &[u8], b: &[u8]) -> bool
     ensures { result ≡ same_name a.now b.now }
 {
     let mut left = a;
     let mut right = b;
-    'letters: while let (Some((x, more)), Some((y, others))) = (left.split_first(), right.split_first()) {
+    'letters: while let (Some((x, more)), Some((y, others))) = (
+        left.split_first(),
+        right.split_first(),
+    ) {
         if !is_same_letter(*x, *y) {
             return false;
         }

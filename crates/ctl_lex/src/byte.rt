@@ -20,13 +20,13 @@ fn is_blank(byte: u8) -> bool
 pub fn is_letter(byte: u8) -> bool
     ensures { result ≡ is_letter byte }
 {
-    (b'a' <= byte && byte <= b'z') || (b'A' <= byte && byte <= b'Z')
+    (b'a'..=b'z').contains(&byte) || (b'A'..=b'Z').contains(&byte)
 }
 
 pub fn is_digit(byte: u8) -> bool
     ensures { result ≡ is_digit byte }
 {
-    b'0' <= byte && byte <= b'9'
+    (b'0'..=b'9').contains(&byte)
 }
 
 pub fn is_underscore(byte: u8) -> bool
@@ -38,13 +38,13 @@ pub fn is_underscore(byte: u8) -> bool
 fn is_graphic(byte: u8) -> bool
     ensures { result ≡ is_graphic byte }
 {
-    32 <= byte && byte <= 126
+    (b' '..=b'~').contains(&byte)
 }
 
 fn in_name(byte: u8) -> bool
     ensures { result ≡ in_name byte }
 {
-    is_letter(byte) || (is_digit(byte) || is_underscore(byte))
+    is_letter(byte) || is_digit(byte) || is_underscore(byte)
 }
 
 fn in_number(byte: u8) -> bool

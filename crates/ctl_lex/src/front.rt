@@ -9,12 +9,12 @@ use crate::name::name_at;
 use crate::number::{byte_at, number_at};
 use crate::string::string_at;
 use ctl_lexis::class::ByteClass;
-use ctl_lexis::shape::Shape;
+use ctl_lexis::shape::{Front, Shape};
 use ctl_tree::fault::FaultCode;
 
 /// The comment at the front, with its length (RM 2.7).
 #[tactic(auto, unfolding(ctl_lexis::specs::Reading::comment_at))]
-fn comment_at(bytes: &[u8]) -> Result<(Shape, usize), (FaultCode, usize)>
+fn comment_at(bytes: &[u8]) -> Front
     requires some { 2 ≤ length bytes.now }
     requires room { length bytes.now < 2 ^ 32 }
     ensures { result ≡ comment_at bytes.now }
@@ -24,7 +24,7 @@ fn comment_at(bytes: &[u8]) -> Result<(Shape, usize), (FaultCode, usize)>
 
 /// The comment or the longest delimiter at the front, with its length (RM 2.2, 2.7).
 #[tactic(auto, unfolding(ctl_lexis::specs::Reading::mark_at))]
-fn mark_at(bytes: &[u8]) -> Result<(Shape, usize), (FaultCode, usize)>
+fn mark_at(bytes: &[u8]) -> Front
     requires room { length bytes.now < 2 ^ 32 }
     ensures { result ≡ mark_at bytes.now }
 {
@@ -44,7 +44,7 @@ fn mark_at(bytes: &[u8]) -> Result<(Shape, usize), (FaultCode, usize)>
 
 /// What stands at the front, with its length; or the fault that the text has there, and how far behind the front.
 #[tactic(auto, unfolding(ctl_lexis::specs::Reading::front_of))]
-pub fn front_of(bytes: &[u8]) -> Result<(Shape, usize), (FaultCode, usize)>
+pub fn front_of(bytes: &[u8]) -> Front
     requires some { 1 ≤ length bytes.now }
     requires room { length bytes.now < 2 ^ 32 }
     ensures { result ≡ front_of bytes.now }

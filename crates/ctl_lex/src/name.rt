@@ -6,7 +6,7 @@ ghost use Rattle.ctl_lexis.specs.Reading.{name_of, name_at};
 
 use crate::byte::{is_underscore, name_run};
 use crate::word::word_of;
-use ctl_lexis::shape::Shape;
+use ctl_lexis::shape::{Front, Shape};
 use ctl_tree::fault::FaultCode;
 
 /// Whether each underscore has another byte directly behind it.
@@ -26,7 +26,7 @@ pub fn has_single_underscores(text: &[u8]) -> bool
 
 /// An identifier or a reserved word of these bytes, with its length.
 #[tactic(auto, unfolding(ctl_lexis::specs::Reading::name_of))]
-fn name_of(text: &[u8]) -> Result<(Shape, usize), (FaultCode, usize)>
+fn name_of(text: &[u8]) -> Front
     ensures { result ≡ name_of text.now }
 {
     if !has_single_underscores(text) {
@@ -40,7 +40,7 @@ fn name_of(text: &[u8]) -> Result<(Shape, usize), (FaultCode, usize)>
 
 /// The identifier or the reserved word at the front, with its length.
 #[tactic(auto, unfolding(ctl_lexis::specs::Reading::name_at))]
-pub fn name_at(bytes: &[u8]) -> Result<(Shape, usize), (FaultCode, usize)>
+pub fn name_at(bytes: &[u8]) -> Front
     ensures { result ≡ name_at bytes.now }
 {
     name_of(&bytes[..name_run(bytes)])

@@ -7,7 +7,7 @@ ghost use Rattle.ctl_lexis.specs.Reading.{number_of, number_at};
 
 use crate::byte::{is_digit, is_letter, number_run};
 use crate::name::has_single_underscores;
-use ctl_lexis::shape::Shape;
+use ctl_lexis::shape::{Front, Shape};
 use ctl_tree::fault::FaultCode;
 
 /// The digits that a number may have.
@@ -31,7 +31,7 @@ fn runs_on(rest: &[u8]) -> bool
     ensures { result ≡ runs_on rest.now }
 {
     let next = byte_at(rest, 0);
-    is_letter(next) || (next == b'#' || (next == b'.' && is_digit(byte_at(rest, 1))))
+    is_letter(next) || next == b'#' || (next == b'.' && is_digit(byte_at(rest, 1)))
 }
 
 /// Whether digits and underscores are a number where this follows.
@@ -58,7 +58,7 @@ fn value_of(text: &[u8]) -> u64
 
 /// The number of these bytes, where this follows, with its length.
 #[tactic(auto, unfolding(ctl_lexis::specs::Reading::number_of, ctl_lexis::specs::Pieces::is_number))]
-fn number_of(text: &[u8], rest: &[u8]) -> Result<(Shape, usize), (FaultCode, usize)>
+fn number_of(text: &[u8], rest: &[u8]) -> Front
     ensures { result ≡ number_of text.now rest.now }
 {
     if is_number(text, rest) {
@@ -70,7 +70,7 @@ fn number_of(text: &[u8], rest: &[u8]) -> Result<(Shape, usize), (FaultCode, usi
 
 /// The number at the front, with its length.
 #[tactic(auto, unfolding(ctl_lexis::specs::Reading::number_at))]
-pub fn number_at(bytes: &[u8]) -> Result<(Shape, usize), (FaultCode, usize)>
+pub fn number_at(bytes: &[u8]) -> Front
     ensures { result ≡ number_at bytes.now }
 {
     let (text, rest) = bytes.split_at(number_run(bytes));

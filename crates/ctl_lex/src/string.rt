@@ -4,7 +4,7 @@ ghost use Rattle.std.specs.Prelude.{◌≡◌, ◌+◌, ◌≤◌, ◌<◌, ◌^
 ghost use Rattle.ctl_lexis.specs.Reading.{body_length, content_of, string_of, string_at};
 
 use crate::byte::{graphic_run, is_line_end};
-use ctl_lexis::shape::Shape;
+use ctl_lexis::shape::{Front, Shape};
 use ctl_tree::fault::FaultCode;
 use ctl_tree::text::Text;
 use std::alloc::{AllocError, Global};
@@ -37,7 +37,7 @@ fn body_length(body: &[u8]) -> Option<usize>
 
 /// A string whose body has this many bytes, or the first byte in it that may not stand there.
 #[tactic(auto, unfolding(ctl_lexis::specs::Reading::string_of))]
-fn string_of(n: usize, body: &[u8]) -> Result<(Shape, usize), (FaultCode, usize)>
+fn string_of(n: usize, body: &[u8]) -> Front
     requires inside { n < length body.now }
     requires room { length body.now < 2 ^ 32 }
     ensures { result ≡ string_of n body.now }
@@ -52,7 +52,7 @@ fn string_of(n: usize, body: &[u8]) -> Result<(Shape, usize), (FaultCode, usize)
 
 /// The string at the front, with its length.
 #[tactic(auto, unfolding(ctl_lexis::specs::Reading::string_at))]
-pub fn string_at(bytes: &[u8]) -> Result<(Shape, usize), (FaultCode, usize)>
+pub fn string_at(bytes: &[u8]) -> Front
     requires some { 1 ≤ length bytes.now }
     requires room { length bytes.now < 2 ^ 32 }
     ensures { result ≡ string_at bytes.now }

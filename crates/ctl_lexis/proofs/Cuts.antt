@@ -1,5 +1,5 @@
 -- A text is cut in one way: from its front, piece by piece.
-use Rattle.std.proofs.Common.{◌≡◌, ℕ, zero, suc, ◌+◌, ◌<◌, ◌≤◌, List, [], ◌∷◌, ◌++◌, length, take, drop, Result, Ok, Err, ◌⊎◌, inl, inr, refl, sym, ap, subst, ◌∙◌, append_assoc, arith}
+use Rattle.std.proofs.Common.{◌≡◌, ℕ, zero, suc, ◌≤◌, List, [], ◌∷◌, ◌++◌, length, take, drop, Ok, Err, ◌⊎◌, inl, inr, refl, sym, ap, subst, ◌∙◌, append_assoc, arith}
 use Rattle.std.proofs.lemmas.List.{length-append, take_at, drop_at, append-nil}
 use Rattle.ctl_tree.specs.declared.fault.FaultCode.{FaultCode}
 use Rattle.ctl_tree.specs.declared.fault.FaultCode.TheVariants.{BadByte}
@@ -11,8 +11,8 @@ use Rattle.ctl_lexis.specs.Places.{after, place_after}
 use Rattle.ctl_lexis.specs.Pieces.{Piece, IsPiece, quoted}
 use Rattle.ctl_lexis.specs.Lexis.{IsCut, token_of, tokens_of, place_behind, IsFault, bad_byte, bad_identifier, bad_number, open_string, bad_byte_inside}
 use Rattle.ctl_lexis.specs.Reading.{Front, piece_of, mark_at, simple_delimiter, compound_delimiter, front_of}
-use Rattle.ctl_lexis.proofs.Judged.{Judged, Found, Refused, front_judged}
-use Rattle.ctl_lexis.proofs.Again.{Again, piece_again, fault_again}
+use Rattle.ctl_lexis.proofs.Judged.{Judged, front_judged}
+use Rattle.ctl_lexis.proofs.Again.{piece_again, fault_again}
 
 -- one piece more at the end of a cut
 pub cut_more : (bytes : List ℕ) (pieces : List (Piece × List ℕ)) (rest behind text : List ℕ) (piece : Piece) → IsCut bytes pieces rest → rest ≡ text ++ behind → IsPiece piece text behind → IsCut bytes (pieces ++ (piece, text) ∷ []) behind

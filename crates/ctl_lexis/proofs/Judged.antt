@@ -1,7 +1,7 @@
 -- What is read at the front of a text is a piece of it, and a fault that is read there is one.
-use Rattle.std.proofs.Common.{◌≡◌, ℕ, ◌+◌, ◌-◌, ◌<◌, ◌≤◌, Bool, true, false, ◌&&◌, ◌==◌, cond, ltb, List, [], ◌∷◌, ◌++◌, length, take, drop, get_or, Option, Some, None, Result, Ok, Err, refl, sym, ap, subst, ◌∙◌, append_assoc, arith}
-use Rattle.std.proofs.lemmas.Bool.{eqb-true, ltb-true, ltb-false, and_parts, or_left, eq-eqb, true≢false}
-use Rattle.std.proofs.lemmas.List.{length-append, take_at, drop_at, append-nil}
+use Rattle.std.proofs.Common.{◌≡◌, ℕ, ◌+◌, ◌-◌, ◌<◌, ◌≤◌, Bool, true, false, ◌&&◌, ◌==◌, cond, ltb, List, [], ◌∷◌, ◌++◌, length, take, drop, get_or, Option, Some, None, Ok, Err, refl, sym, ap, subst, ◌∙◌, append_assoc, arith}
+use Rattle.std.proofs.lemmas.Bool.{eqb-true, ltb-true, ltb-false, and_parts, or_left, true≢false}
+use Rattle.std.proofs.lemmas.List.{length-append, take_at, append-nil}
 use Rattle.ctl_tree.specs.declared.token.Kind.{Kind}
 use Rattle.ctl_tree.specs.declared.token.Kind.TheVariants as kind
 use Rattle.ctl_tree.specs.declared.fault.FaultCode.{FaultCode}
@@ -9,16 +9,15 @@ use Rattle.ctl_tree.specs.declared.fault.FaultCode.TheVariants.{BadByte, BadNumb
 use Rattle.ctl_lexis.specs.declared.class.ByteClass.{ByteClass}
 use Rattle.ctl_lexis.specs.declared.class.ByteClass.TheVariants.{Blank, Letter, Digit, Quote, Other}
 use Rattle.ctl_lexis.specs.declared.shape.Shape.{Shape}
-use Rattle.ctl_lexis.specs.declared.shape.Shape.TheVariants.{Gap, Fixed, Identifier, Number, String}
-use Rattle.ctl_lexis.specs.Bytes.{class_of, run, is_blank, is_letter, is_digit, is_underscore, is_graphic, in_name, in_number, in_line}
-use Rattle.ctl_lexis.specs.Spelling.{spelling}
-use Rattle.ctl_lexis.specs.Pieces.{Passes, Stops, Piece, gap, lexeme, has_single_underscores, is_number, value_from, Spells, quoted, IsName, IsNumeral, IsClosed, IsDelimiter, IsComment, IsPiece, blank, comment, word, identifier, number, string, delimiter}
+use Rattle.ctl_lexis.specs.declared.shape.Shape.TheVariants.{Gap, Fixed, Number, String}
+use Rattle.ctl_lexis.specs.Bytes.{class_of, run, is_blank, is_letter, is_digit, is_graphic, in_name, in_number, in_line}
+use Rattle.ctl_lexis.specs.Pieces.{Passes, Stops, lexeme, has_single_underscores, is_number, value_from, quoted, IsName, IsNumeral, IsClosed, IsPiece, blank, comment, word, identifier, number, string, delimiter}
 use Rattle.ctl_lexis.specs.Lexis.{IsFault, bad_byte, bad_identifier, bad_number, open_string, bad_byte_inside}
 use Rattle.ctl_lexis.specs.Reading.{Front, word_of, word_shape, name_of, name_at, number_of, number_at, body_length, content_of, string_of, closed_string, string_at, simple_delimiter, compound_delimiter, simple_or_fault, longest_delimiter, comment_at, mark_at, front_by, front_of, piece_of}
-use Rattle.ctl_lexis.proofs.Runs.{Run, run_of, run_from, taken, dropped}
+use Rattle.ctl_lexis.proofs.Runs.{run_of, run_from, taken, dropped}
 use Rattle.ctl_lexis.proofs.WordLookup.{found_spelled, spelled_found}
 use Rattle.ctl_lexis.proofs.DelimiterLookup.{simple_spelled, compound_spelled, delimiter_found, at_most_two, at_most_one}
-use Rattle.ctl_lexis.proofs.StringBody.{Closes, Opens, BodyJudged, body_judged, content_again}
+use Rattle.ctl_lexis.proofs.StringBody.{Closes, BodyJudged, body_judged, content_again}
 
 -- the first bytes are a piece of this shape and of n bytes
 pub record Found (bytes : List ℕ) (shape : Shape) (n : ℕ) : Type 0 where

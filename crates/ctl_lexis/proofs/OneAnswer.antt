@@ -1,13 +1,11 @@
 -- A text has exactly one answer: its tokens, or its first fault.
-use Rattle.std.proofs.Common.{◌≡◌, ℕ, ◌<◌, ◌≤◌, List, [], ◌∷◌, ◌++◌, length, ◌⊎◌, inl, inr, refl, sym, ap, subst, ◌∙◌, arith}
+use Rattle.std.proofs.Common.{◌≡◌, ℕ, List, [], ◌∷◌, ◌++◌, length, ◌⊎◌, inl, inr, refl, sym, ap, subst, ◌∙◌, arith}
 use Rattle.std.proofs.lemmas.Bool.{cases_lt}
 use Rattle.ctl_tree.specs.declared.fault.Fault.{Fault}
-use Rattle.ctl_tree.specs.declared.fault.FaultCode.{FaultCode}
 use Rattle.ctl_tree.specs.declared.token.Token.{Token}
-use Rattle.ctl_lexis.specs.declared.place.Place.{Place}
 use Rattle.ctl_lexis.specs.Places.{start, place_after}
 use Rattle.ctl_lexis.specs.Pieces.{Piece}
-use Rattle.ctl_lexis.specs.Lexis.{longest_text, IsCut, tokens_of, end_mark, place_behind, fault_at, HasTokens, HasFault, IsFault, too_long, first}
+use Rattle.ctl_lexis.specs.Lexis.{longest_text, tokens_of, end_mark, place_behind, fault_at, HasTokens, HasFault, IsFault, too_long, first}
 use Rattle.ctl_lexis.proofs.Cuts.{same_cut, no_fault_in_cut, same_fault_cut, same_fault, ends}
 
 pub one_list : (bytes : List ℕ) (a b : List Token) → HasTokens bytes a → HasTokens bytes b → a ≡ b

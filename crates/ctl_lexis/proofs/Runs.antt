@@ -1,7 +1,6 @@
 -- The bytes at the front that pass a test, and the rest.
-use Rattle.std.proofs.Common.{◌≡◌, ℕ, zero, suc, ◌+◌, Bool, true, false, cond, List, [], ◌∷◌, ◌++◌, length, take, drop, refl, sym, ap, ◌∙◌, arith}
+use Rattle.std.proofs.Common.{◌≡◌, ℕ, suc, ◌+◌, Bool, true, false, List, [], ◌∷◌, ◌++◌, length, take, drop, refl, sym, ap, ◌∙◌, arith}
 use Rattle.std.specs.List.{prefix_len}
-use Rattle.std.specs.Prelude.{take_while}
 use Rattle.std.proofs.lemmas.List.{take_at, drop_at}
 use Rattle.ctl_lexis.specs.Bytes.{run}
 use Rattle.ctl_lexis.specs.Pieces.{Passes, Stops}

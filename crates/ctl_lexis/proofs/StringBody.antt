@@ -1,6 +1,5 @@
 -- The body of a string up to the quotation mark that closes it.
-use Rattle.std.proofs.Common.{◌≡◌, ℕ, ◌+◌, ◌≤◌, Bool, true, false, ◌&&◌, ◌==◌, cond, leb, List, [], ◌∷◌, ◌++◌, length, Option, Some, None, refl, sym, ap, subst, ◌∙◌, arith}
-use Rattle.std.specs.Prelude.{not}
+use Rattle.std.proofs.Common.{◌≡◌, ℕ, ◌+◌, ◌≤◌, Bool, true, false, ◌==◌, cond, leb, List, [], ◌∷◌, ◌++◌, length, Option, Some, None, refl, sym, ap, subst, ◌∙◌, arith}
 use Rattle.std.proofs.lemmas.Bool.{eqb-true, ne_eqb, and_parts, leb-true, not-true, not-false, not_from_true, not_from_false}
 use Rattle.ctl_lexis.specs.Bytes.{is_line_end, in_line}
 use Rattle.ctl_lexis.specs.Pieces.{Passes, Stops, quoted, is_quotation_mark}

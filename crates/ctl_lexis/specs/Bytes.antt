@@ -1,5 +1,5 @@
 -- What the single bytes of a text are (RM 2.1, 2.2).
-use Rattle.std.specs.Prelude.{ℕ, Bool, true, false, ◌&&◌, ◌||◌, not, ◌==◌, nat_le, List, [], ◌∷◌, length, take_while, if◌then◌else◌}
+use Rattle.std.specs.Prelude.{ℕ, Bool, ◌&&◌, ◌||◌, not, ◌==◌, nat_le, List, length, take_while, if◌then◌else◌}
 use Rattle.ctl_lexis.specs.declared.class.ByteClass.{ByteClass}
 use Rattle.ctl_lexis.specs.declared.class.ByteClass.TheVariants.{Blank, Letter, Digit, Quote, Other}
 

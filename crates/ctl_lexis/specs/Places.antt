@@ -1,6 +1,5 @@
 -- Places in a text: line and column from 1, in bytes (RM 2.2).
-use Rattle.std.specs.Prelude.{ℕ, ◌+◌, Bool, true, false, ◌&&◌, ◌==◌, List, [], ◌∷◌, if◌then◌else◌}
-use Rattle.ctl_tree.specs.declared.span.Span.{Span}
+use Rattle.std.specs.Prelude.{ℕ, ◌+◌, false, ◌&&◌, ◌==◌, List, [], ◌∷◌, if◌then◌else◌}
 use Rattle.ctl_lexis.specs.declared.place.Place.{Place}
 use Rattle.ctl_lexis.specs.Bytes.{is_line_end}
 

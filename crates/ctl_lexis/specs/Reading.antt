@@ -1,6 +1,6 @@
 -- How a text is read from its front: the one shape that stands there with its length, or the fault and how far behind the
 -- front it stands.
-use Rattle.std.specs.Prelude.{◌≡◌, ℕ, ◌+◌, ◌*◌, ◌-◌, Bool, true, false, ◌&&◌, ◌||◌, not, ◌==◌, nat_le, nat_lt, List, [], ◌∷◌, length, take, drop, count_by, Option, Some, None, Result, Ok, Err, slice_index, if◌then◌else◌}
+use Rattle.std.specs.Prelude.{ℕ, ◌+◌, ◌-◌, Bool, true, false, ◌&&◌, ◌==◌, nat_lt, List, [], ◌∷◌, length, take, drop, Option, Some, None, Result, Ok, Err, slice_index, if◌then◌else◌}
 use Rattle.std.specs.List.{find}
 use Rattle.std.specs.Str.{str_eq_ignore_ascii_case}
 use Rattle.ctl_tree.specs.declared.token.Kind.{Kind}
@@ -10,7 +10,7 @@ use Rattle.ctl_lexis.specs.declared.class.ByteClass.{ByteClass}
 use Rattle.ctl_lexis.specs.declared.class.ByteClass.TheVariants.{Blank, Letter, Digit, Quote, Other}
 use Rattle.ctl_lexis.specs.declared.shape.Shape.{Shape}
 use Rattle.ctl_lexis.specs.declared.shape.Shape.TheVariants.{Gap, Fixed, Identifier, Number, String}
-use Rattle.ctl_lexis.specs.Bytes.{class_of, run, is_letter, is_digit, is_underscore, is_graphic, is_line_end, in_name, in_number, in_line}
+use Rattle.ctl_lexis.specs.Bytes.{class_of, run, is_graphic, is_line_end, in_name, in_number, in_line}
 use Rattle.ctl_tree.specs.declared.token.Kind.TheVariants as kind
 use Rattle.ctl_lexis.specs.Pieces.{Piece, gap, lexeme, has_single_underscores, is_number, value_from}
 use Rattle.ctl_lexis.specs.Spelling.{spelling}

@@ -1,5 +1,6 @@
 //! What stands at the front of a text.
 
+use ctl_tree::fault::FaultCode;
 use ctl_tree::token::Kind;
 
 /// What stands at the front of a text, beside the bytes themselves.
@@ -14,3 +15,6 @@ pub enum Shape {
     Number(u64),
     String,
 }
+
+/// What stands at the front of a text, with its length; or the fault there, and how many bytes behind the front.
+pub type Front = Result<(Shape, usize), (FaultCode, usize)>;

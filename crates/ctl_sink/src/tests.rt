@@ -104,7 +104,11 @@ fn a_writer_fails_by_an_error_or_by_no_byte(rt: HostRuntime) {
                 room,
                 answers_error,
             });
-            assert_eq!(rt; put_all(&mut sink, b"trace").is_ok(), room >= 5, "at {room}");
+            assert_eq!(rt;
+                put_all(&mut sink, b"trace").is_ok(),
+                room >= 5,
+                "at {room}"
+            );
             assert_eq!(rt; sink.failed(), room < 5, "at {room}");
         }
     }

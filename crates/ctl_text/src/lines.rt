@@ -61,10 +61,7 @@ fn push_event<A: Allocator>(text: &mut Vec<u8, A>, event: &Event) -> Result<(), 
 }
 
 /// Appends the line of an event, ended by a line feed.
-pub fn push_event_line<A: Allocator>(
-    text: &mut Vec<u8, A>,
-    event: &Event,
-) -> Result<(), AllocError>
+pub fn push_event_line<A: Allocator>(text: &mut Vec<u8, A>, event: &Event) -> Result<(), AllocError>
     ensures { OnOk result (text.new.items ≡ text.old.items ++ (event_line event.now ++ codes "\n")) }
 {
     push_event(text, event)?;

@@ -44,7 +44,8 @@ fn block_left(alloc: Global) -> Result<Vec<Event>, AllocError> {
     Ok(events)
 }
 
-const BLOCK_LEFT: &str = "live 1 m2\nlive 2 m2\nfinalize 2 scope\nprint F 2\nnewline\nfinalize 1 scope\nprint F 1\nnewline\nprint done\nnewline\nend done\n";
+const BLOCK_LEFT: &str =
+    "live 1 m2\nlive 2 m2\nfinalize 2 scope\nprint F 2\nnewline\nfinalize 1 scope\nprint F 1\nnewline\nprint done\nnewline\nend done\n";
 
 #[test]
 fn a_run_is_shown_line_by_line(rt: HostRuntime) -> Result<(), Fail> {
@@ -70,11 +71,17 @@ fn each_event_has_its_line(rt: HostRuntime) -> Result<(), Fail> {
     let cases = [
         (Event::Newline, "newline"),
         (Event::Print(Text::new(alloc)), "print "),
-        (Event::Initialize(whole(alloc, 18446744073709551615)), "initialize 18446744073709551615"),
+        (
+            Event::Initialize(whole(alloc, 18446744073709551615)),
+            "initialize 18446744073709551615",
+        ),
         (Event::Adjust(whole(alloc, 4)), "adjust 4"),
         (Event::Allocate(1, 16), "allocate 1 16"),
         (Event::Deallocate(1, 16), "deallocate 1 16"),
-        (Event::Live(whole(alloc, 4), Owner::Collection(1)), "live 4 c1"),
+        (
+            Event::Live(whole(alloc, 4), Owner::Collection(1)),
+            "live 4 c1",
+        ),
     ];
     for (event, wanted) in cases {
         let line = line_of(alloc, event)?;
@@ -109,12 +116,18 @@ fn each_end_has_its_line(rt: HostRuntime) -> Result<(), Fail> {
     let cases = [
         (End::Done, "end done\n"),
         (raised, "end raised Constraint_Error\n"),
-        (End::Stopped(Stop::UseAfterFree), "end stopped USE_AFTER_FREE\n"),
+        (
+            End::Stopped(Stop::UseAfterFree),
+            "end stopped USE_AFTER_FREE\n",
+        ),
         (
             End::Stopped(Stop::FreeWhileFinalizing),
             "end stopped FREE_WHILE_FINALIZING\n",
         ),
-        (End::Stopped(Stop::ForeignFree), "end stopped FOREIGN_FREE\n"),
+        (
+            End::Stopped(Stop::ForeignFree),
+            "end stopped FOREIGN_FREE\n",
+        ),
         (End::Stopped(Stop::BadAddress), "end stopped BAD_ADDRESS\n"),
         (
             End::Stopped(Stop::ReleasedSubpool),
@@ -142,14 +155,18 @@ fn whole_in(alloc: Global, events: &[Event], size: usize) -> Result<Option<bool>
 #[test]
 fn too_small_a_heap_gives_no_text(rt: HostRuntime) -> Result<(), Fail> {
     let events = block_left(rt.alloc())?;
-    let mut refused = 0;
+    let mut was_refused = false;
+    let mut was_given = false;
     for size in 1..64 {
         match whole_in(rt.alloc(), events.as_slice(), size * 16)? {
-            Some(whole) => assert!(rt; whole, "at {size}"),
-            None => refused += 1,
+            Some(whole) => {
+                assert!(rt; whole, "at {size}");
+                was_given = true;
+            }
+            None => was_refused = true,
         }
     }
-    assert!(rt; refused > 0);
-    assert!(rt; refused < 63);
+    assert!(rt; was_refused);
+    assert!(rt; was_given);
     Ok(())
 }

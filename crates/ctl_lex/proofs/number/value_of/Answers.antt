@@ -1,4 +1,4 @@
-use Rattle.std.proofs.Common.{◌≡◌, ◌+◌, ◌≤◌, true, take, get_or, count_by, sym, ◌∙◌, arith}
+use Rattle.std.proofs.Common.{◌+◌, ◌≤◌, take, get_or, count_by, sym, ◌∙◌, arith}
 use Rattle.ctl_lexis.specs.Bytes.{is_digit}
 use Rattle.ctl_lex.proofs.Numbers.{more_fits, digit_value, digits_left}
 use Rattle.ctl_lex.proofs.number.value_of.Goals as goal

@@ -1,10 +1,9 @@
-use Rattle.std.proofs.Common.{◌≡◌, inl, inr, length, sym, ap, subst, ◌∙◌, arith, length-take-le, true-eqb, false-eqb, ℕ, ◌+◌, ◌≤◌, List, [], ◌∷◌, ◌++◌, take}
+use Rattle.std.proofs.Common.{inl, sym, ap, subst, ◌∙◌, arith, length-take-le, true-eqb, false-eqb, ℕ, List, [], ◌∷◌, ◌++◌}
 use Rattle.ctl_tree.specs.declared.fault.FaultCode.TheVariants.{TooLong}
 use Rattle.ctl_tree.specs.declared.token.Token.{Token}
-use Rattle.ctl_lexis.specs.declared.place.Place.{Place}
 use Rattle.ctl_lexis.specs.Places.{place_after}
-use Rattle.ctl_lexis.specs.Lexis.{token_of, HasTokens, HasFault, end_mark, fault_at, too_long}
-use Rattle.ctl_lexis.specs.Reading.{front_of, piece_of}
+use Rattle.ctl_lexis.specs.Lexis.{token_of, HasTokens, HasFault, fault_at, too_long}
+use Rattle.ctl_lexis.specs.Reading.{piece_of}
 use Rattle.ctl_lexis.proofs.Judged.{Judged, Found, Refused}
 use Rattle.ctl_lexis.proofs.OneAnswer.{one_list, one_fault, never_both}
 use Rattle.ctl_lex.proofs.ReadTo.{IsReadTo, rest_judged, found_within, refused_within, read_more, read_all, read_fault}

@@ -1,4 +1,4 @@
-use Rattle.std.proofs.Common.{◌≡◌, ◌+◌, ◌-◌, ◌≤◌, true, false, drop, Bool, sym, ap, subst, ◌∙◌, arith}
+use Rattle.std.proofs.Common.{◌≡◌, ◌+◌, ◌-◌, true, false, drop, Bool, sym, ap, subst, ◌∙◌, arith}
 use Rattle.ctl_lexis.specs.Reading.{add_to, body_length}
 use Rattle.ctl_lex.proofs.Bodies.{mark_twice, mark_once, no_mark}
 use Rattle.ctl_lex.proofs.string.body_length.Invariants.{passed}

@@ -1,4 +1,4 @@
-use Rattle.std.proofs.Common.{◌≡◌, ◌+◌, ◌-◌, ◌≤◌, true, false, drop, ℕ, Bool}
+use Rattle.std.proofs.Common.{◌≡◌, ◌-◌, ◌≤◌, true, false, drop, ℕ, Bool}
 use Rattle.ctl_lexis.specs.Reading.{body_length, add_to}
 use Rattle.ctl_lex.proofs.string.body_length.Given as goal
 

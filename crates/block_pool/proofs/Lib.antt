@@ -1,0 +1,3 @@
+pub mod FreeListLemmas
+pub mod HeldCounts
+pub mod Steps

@@ -1,0 +1,9 @@
+//! Blocks of one size in one region. The free ones form a list that is kept in their own words.
+#![tactic(auto)]
+
+mod pool;
+#[cfg(test)]
+mod tests;
+
+pub use pool::BlockPool;
+pub use raw_region::PoolFault;

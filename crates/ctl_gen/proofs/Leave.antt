@@ -1,0 +1,86 @@
+-- A master is left: its layers are finalized, from the newest on, and what it declared is gone.
+use Rattle.std.proofs.Common.{◌≡◌, ℕ, ◌-◌, ◌≤◌, List, [], ◌∷◌, length, Bool, true, false, refl, sym, ap, subst, arith, drop}
+use Rattle.std.specs.Prelude.{◌||◌}
+use Rattle.ctl_tree.specs.declared.checked.Ty.{Ty}
+use Rattle.ctl_tree.specs.declared.checked.Ty.TheVariants.{Integer, Count, Boolean, Address, Handle, Access, Record}
+use Rattle.ctl_meaning.specs.World.{Layer, Single, Sets, Log, World}
+use Rattle.ctl_meaning.specs.Ledger.{layers_of}
+use Rattle.ctl_meaning.specs.Activations.{slots_in, activation_at}
+use Rattle.ctl_meaning.specs.Changes.{close_master}
+use Rattle.ctl_meaning.specs.Choice.{Ask, picked}
+use Rattle.ctl_meaning.specs.Outcome.{program_error, ByRaise, Result, Goes, Leaves, Act, Done, add, bind, on_goes, opened_outcome}
+use Rattle.ctl_meaning.specs.Types.{Tables}
+use Rattle.ctl_meaning.specs.Names.{Call, Tools}
+use Rattle.ctl_meaning.specs.Storage.{program_error_if}
+use Rattle.ctl_meaning.specs.Masters.{Left, finalize_declared, finalize_layer, leave_layers, left}
+use Rattle.ctl_code.specs.declared.code.Code.{Code}
+use Rattle.ctl_code.specs.States.{After, Frame, InMaster, Leaving, State}
+use Rattle.ctl_code.specs.Table.{behind, next_layer, cut_back}
+use Rattle.ctl_code.specs.Steps.{moved, step}
+use Rattle.ctl_gen.specs.Slice.{IsPlainType}
+use Rattle.ctl_gen.proofs.Worlds.{Fits, LayersFit, layers_fit, fits_close}
+use Rattle.ctl_gen.proofs.Setting.{Setting, tools_with, flagged, Calls}
+use Rattle.ctl_gen.proofs.Finalize.{declared_runs}
+use Rattle.ctl_gen.proofs.Follow.{Runs, gives, both, added, one_step, end_step, bind_bind}
+
+-- where the end of a master leads
+abbrev pub leaves : After → List Frame → List ℕ → Result Left → Log → World → State
+leaves after ks ops (Goes x) l w = record { mode = behind after x.result; control = ks; operands = ops; world = w; log = l }
+leaves after ks ops (Leaves y) l w = gives ks ops (Leaves y) l w
+
+cut_same : (ops : List ℕ) → cut_back (length ops) ops ≡ ops
+cut_same ops = let e : length ops - length ops ≡ 0 = omega arith in ap (λ n. drop n ops) e
+
+module _ (ask : Ask) (k : Tables) (code : Code) (setting : Setting k code) (call : Call) (bound : ℕ) (calls : Calls ask k code bound call) where
+  abbrev K : Tools
+  K = tools_with ask k call
+
+  abbrev rest : ℕ → List Layer → Result Done → Bool → Result Bool → Act Left
+  rest m xs r failed s c l w = bind (on_goes (λ b. leave_layers K xs (failed || b)) s c l w) (on_goes (left m r))
+
+  -- the layers that are left, from the step that begins with them
+  layers_run : (xs : List Layer) (failed : Bool) (r : Result Done) (m : ℕ) (after : After) (ks : List Frame) (ops : List ℕ) (c : ℕ) (l : Log) (w : World) (s0 : State) → c ≤ bound → Fits k w → LayersFit k xs → step ask code s0 ≡ moved l (next_layer code m xs failed r after ks ops w) → Runs ask code (Fits k) 1 1 s0 c (leaves after ks ops) (bind (leave_layers K xs failed c l w) (on_goes (left m r)))
+  unfolding picked opened_outcome leave_layers left program_error_if finalize_layer
+  layers_run [] true r m after ks ops c l w s0 le fits known first = end_step ask code (Fits k) 1 s0 c _ (leaves after ks ops) (Leaves (ByRaise program_error)) l (close_master m w) (fits_close k m w fits) first
+  layers_run [] false r m after ks ops c l w s0 le fits known first = end_step ask code (Fits k) 1 s0 c _ (leaves after ks ops) (Goes (record { result = r; slots = slots_in (activation_at m w.activations) })) l (close_master m w) (fits_close k m w fits) first
+  layers_run (Sets s ∷ xs) failed r m after ks ops c l w s0 le fits known first = absurd known.0
+  layers_run (Single x ∷ xs) failed r m after ks ops c l w s0 le fits known first =
+      layer x.number x.ty known.0 first (λ b c1 l1 w1 lo fits1. layers_run xs (failed || b) r m after ks ops c1 l1 w1 (gives (Leaving m xs failed r after ∷ ks) ops (Goes b) l1 w1) (omega (arith, lo, le)) fits1 known.1 refl)
+    where
+      mid : Result Bool → Log → World → State
+      mid = gives (Leaving m xs failed r after ∷ ks) ops
+
+      layer : (n : ℕ) (ty : Ty) → IsPlainType k ty → step ask code s0 ≡ moved l (next_layer code m (Single (record { number = n; ty = ty }) ∷ xs) failed r after ks ops w) → ((b : Bool) (c1 : ℕ) (l1 : Log) (w1 : World) → c1 ≤ c → Fits k w1 → Runs ask code (Fits k) 1 1 (gives (Leaving m xs failed r after ∷ ks) ops (Goes b) l1 w1) c1 (leaves after ks ops) (bind (leave_layers K xs (failed || b) c1 l1 w1) (on_goes (left m r)))) → Runs ask code (Fits k) 1 1 s0 c (leaves after ks ops) (bind (bind (add 1 (finalize_declared K (record { number = n; ty = ty }) c l w)) (on_goes (λ b. leave_layers K xs (failed || b)))) (on_goes (left m r)))
+      layer n (Record t) known1 begins more =
+          subst (λ o. Runs ask code (Fits k) 1 1 s0 c (leaves after ks ops) o) (sym (bind_bind (add 1 (finalize_declared K (record { number = n; ty = Record t }) c l w)) (on_goes (λ b. leave_layers K xs (failed || b))) (on_goes (left m r))))
+          (both ask code (Fits k) 0 0 1 1 1 1 s0 c mid (leaves after ks ops) _ (rest m xs r failed) (omega arith) (omega arith) (omega arith)
+          (added ask code (Fits k) 1 3 3 0 0 s0 c mid _ (omega arith) (omega arith) (declared_runs ask k code setting call t known1.0 known1.1 known1.2 bound calls n (Leaving m xs failed r after ∷ ks) ops c l w s0 le fits begins))
+          on)
+        where
+          on : (s : Result Bool) (c1 : ℕ) (l1 : Log) (w1 : World) → c1 ≤ c → Fits k w1 → Runs ask code (Fits k) 1 1 (gives (Leaving m xs failed r after ∷ ks) ops s l1 w1) c1 (leaves after ks ops) (rest m xs r failed s c1 l1 w1)
+          on (Goes b) c1 l1 w1 lo fits1 = more b c1 l1 w1 lo fits1
+          on (Leaves y) c1 l1 w1 lo fits1 = end_step ask code (Fits k) 1 _ c1 _ (leaves after ks ops) (Leaves y) l1 w1 fits1 refl
+      layer n Integer known1 begins more = absurd known1
+      layer n Count known1 begins more = absurd known1
+      layer n Boolean known1 begins more = absurd known1
+      layer n Address known1 begins more = absurd known1
+      layer n Handle known1 begins more = absurd known1
+      layer n (Access a) known1 begins more = absurd known1
+
+  -- a master whose statements have ended so
+  pub leave_runs : (r : Result Done) (m : ℕ) (after : After) (ks : List Frame) (ops : List ℕ) (c : ℕ) (l : Log) (w : World) → c ≤ bound → Fits k w → Runs ask code (Fits k) 2 2 (gives (InMaster m (length ops) after ∷ ks) ops (flagged r) l w) c (leaves after ks ops) (bind (leave_layers K (layers_of m w.ledger) false c l w) (on_goes (left m r)))
+  unfolding picked opened_outcome
+  leave_runs r m after ks ops c l w le fits = one r
+    where
+      xs : List Layer
+      xs = layers_of m w.ledger
+
+      leaving : Result Done → State
+      leaving s = gives (Leaving m xs false s after ∷ ks) ops (Goes false) l w
+
+      last : (s : Result Done) → Runs ask code (Fits k) 1 1 (gives (Leaving m (layers_of m w.ledger) false s after ∷ ks) ops (Goes false) l w) c (leaves after ks ops) (bind (leave_layers K (layers_of m w.ledger) false c l w) (on_goes (left m s)))
+      last s = layers_run xs false s m after ks ops c l w (leaving s) le fits (layers_fit k m w fits) refl
+
+      one : (s : Result Done) → Runs ask code (Fits k) 2 2 (gives (InMaster m (length ops) after ∷ ks) ops (flagged s) l w) c (leaves after ks ops) (bind (leave_layers K (layers_of m w.ledger) false c l w) (on_goes (left m s)))
+      one (Goes a) = one_step ask code (Fits k) 1 1 2 2 _ (leaving (Goes a)) c c (leaves after ks ops) _ (omega arith) (omega arith) (omega arith) (omega arith) (ap (λ os. gives (Leaving m xs false (Goes a) after ∷ ks) os (Goes false) l w) (cut_same ops)) (last (Goes a))
+      one (Leaves y) = one_step ask code (Fits k) 1 1 2 2 _ (leaving (Leaves y)) c c (leaves after ks ops) _ (omega arith) (omega arith) (omega arith) (omega arith) (ap (λ os. gives (Leaving m xs false (Leaves y) after ∷ ks) os (Goes false) l w) (cut_same ops)) (last (Leaves y))

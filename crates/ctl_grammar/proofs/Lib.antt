@@ -1,0 +1,14 @@
+pub mod Starts
+pub mod Sound
+pub mod Again
+pub mod Plain
+pub mod Rows
+pub mod Local
+pub mod Deeper
+pub mod Extends
+pub mod Constructs
+pub mod Loops
+pub mod Whole
+pub mod Moved
+pub mod Samples
+pub mod Programs

@@ -1,0 +1,4 @@
+pub mod Refusals
+pub mod Served
+pub mod Shown
+pub mod Statuses

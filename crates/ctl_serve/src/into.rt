@@ -1,0 +1,89 @@
+//! Runs, and the text that shows them, put into a sink.
+
+ghost use Rattle.std.specs.Prelude.{◌≡◌, ◌↔◌, true, false, IfOk, IfErr, IsErrOf, MatchResult, OnOk};
+ghost use Rattle.std.specs.Io.KnownBytes.{Appends};
+ghost use Rattle.ctl_sink.specs.Prefix.{AppendsPart};
+ghost use Rattle.ctl_lexis.specs.Lexis.{HasFault};
+ghost use Rattle.ctl_serve.specs.Refusals.{IsRefusal, IsRefusalWith};
+ghost use Rattle.ctl_serve.specs.Shown.{shown_by, WritesPart, WritesWhole};
+ghost use Rattle.ctl_tree.specs.declared.fault.Fault.{Fault};
+ghost use Rattle.ctl_serve.specs.declared.summary.RunFault.TheVariants.{Write};
+
+use crate::summary::{RunFault, Summary};
+use ctl_machine::outcome::Outcome;
+use ctl_run::run::run_source;
+use ctl_sink::{Sink, put_all};
+use ctl_text::{output_text_in, trace_text_in};
+use ctl_tree::fault::Fault;
+use ctl_tree::request::{Order, Show};
+use std::alloc::{AllocError, Allocator, Global};
+
+/// The text that shows a run: what it printed, or its trace.
+pub fn text_of<A: Allocator>(
+    alloc: A,
+    outcome: &Outcome,
+    show: Show,
+) -> Result<Vec<u8, A>, AllocError>
+    ensures { IfOk result (λ text. text.items ≡ shown_by show outcome.now) }
+{
+    match show {
+        Show::Output => output_text_in(alloc, &outcome.events),
+        Show::Trace => trace_text_in(alloc, &outcome.events, &outcome.end),
+    }
+}
+
+/// Puts the text of a run into a sink.
+pub fn put_run<S: Sink, A: Allocator>(
+    alloc: A,
+    outcome: &Outcome,
+    show: Show,
+    sink: &mut S,
+) -> Result<(), RunFault>
+    requires { S.has_failed sink.old ≡ false }
+    ensures ok { OnOk result (Appends (S.taken sink.old) (S.taken sink.new) (shown_by show outcome.now)) }
+    ensures write { IsErrOf result Write → AppendsPart (S.taken sink.old) (S.taken sink.new) (shown_by show outcome.now) }
+    ensures refused { IfErr result (λ fault. IsRefusal fault → sink.new ≡ sink.old) }
+    ensures failed { (S.has_failed sink.new ≡ true) ↔ IsErrOf result Write }
+{
+    let Ok(text) = text_of(alloc, outcome, show) else {
+        return Err(RunFault::Refused(Fault::memory()));
+    };
+    match put_all(sink, text.as_slice()) {
+        Ok(()) => Ok(()),
+        Err(_) => Err(RunFault::Write),
+    }
+}
+
+/// Runs a source text to its end, by at most so many steps, and then puts the text that shows the run into a sink that
+/// has not failed.
+///
+/// A short `put` is continued. `Write` comes exactly where a `put` of the call failed, and then a prefix of the text was
+/// put; `Refused` with the fault of the source text, or where memory was refused, and then nothing was put.
+pub fn run_into<S: Sink>(
+    alloc: Global,
+    source: &[u8],
+    order: Order,
+    steps: u64,
+    show: Show,
+    sink: &mut S,
+) -> Result<Summary, RunFault>
+    requires { S.has_failed sink.old ≡ false }
+    ensures ok { IfOk result (WritesWhole show (S.taken sink.old) (S.taken sink.new)) }
+    ensures write { IsErrOf result Write → WritesPart show (S.taken sink.old) (S.taken sink.new) }
+    ensures refused { IfErr result (λ fault. IsRefusal fault → sink.new ≡ sink.old) }
+    ensures failed { (S.has_failed sink.new ≡ true) ↔ IsErrOf result Write }
+
+    // A text with a lexical fault is refused with it.
+    ensures lexical { (fault : Fault) → HasFault source.now fault → MatchResult result (λ _. ⊥) (IsRefusalWith fault) }
+{
+    let outcome = match run_source(alloc, source, order, steps) {
+        Ok(outcome) => outcome,
+        Err(fault) => return Err(RunFault::Refused(fault)),
+    };
+    put_run(alloc, &outcome, show, sink)?;
+    Ok(Summary {
+        picks: outcome.picks,
+        end: outcome.end,
+        steps: outcome.steps,
+    })
+}

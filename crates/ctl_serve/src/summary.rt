@@ -1,0 +1,26 @@
+//! What is known of a run whose text has been written, and why none was.
+
+use ctl_tree::ending::End;
+use ctl_tree::fault::Fault;
+use thiserror::Error;
+
+/// What is known of a run whose text has been written.
+#[derive(Drop, Debug)]
+pub struct Summary {
+    /// the picks that the run took, in their order
+    pub picks: Vec<u64>,
+    pub end: End,
+    /// the machine steps taken
+    pub steps: u64,
+}
+
+/// Why the text of a run was not written whole.
+#[derive(Clone, Copy, Debug, PartialEq, Eq, Error)]
+pub enum RunFault {
+    /// the source text is refused, or the host refused memory; nothing was written
+    #[error("{0}")]
+    Refused(Fault),
+    /// the sink failed; what it took is a prefix of the text
+    #[error("write failed")]
+    Write,
+}

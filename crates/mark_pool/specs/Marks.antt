@@ -1,0 +1,82 @@
+-- What a contract sees of a pool with marks.
+use Rattle.std.specs.Prelude.{◌≡◌, refl, ℕ, ◌+◌, ◌-◌, ◌≤◌, List, [], ◌∷◌, ◌++◌, length, All}
+use Rattle.std.specs.Coded.{Coded, code_by, coded×, coded_ℕ, coded_list}
+use Rattle.raw_region.specs.Places.{Home, home_code, Region, Cut, Places, places_code, held, out, with_run, AreHeld}
+use Rattle.mark_pool.specs.declared.pool.Mark.{Mark}
+
+-- How the logic stores a mark: as a pair.
+abbrev pub mark_code : Coded Mark
+mark_code = code_by (ℕ × ℕ) (coded× coded_ℕ coded_ℕ) (λ m. (m.number, m.start)) (λ t. record { number = t.0; start = t.1 }) (λ _. refl)
+
+-- Which region its words lie in, which of them are out, how many are used, the newest mark, the others from the oldest on, and how many numbers were issued.
+pub record Marks : Type 0 where
+  pub home : Home
+  pub places : Places
+  pub used : ℕ
+  pub top : Mark
+  pub older : List Mark
+  pub issued : ℕ
+
+-- How the logic stores it: as a tuple of its fields.
+abbrev pub marks_code : Coded Marks
+marks_code =
+    code_by (Home × (Places × (ℕ × (Mark × (List Mark × ℕ)))))
+    (coded× home_code (coded× places_code (coded× coded_ℕ (coded× mark_code (coded× (coded_list mark_code) coded_ℕ)))))
+    (λ m. (m.home, (m.places, (m.used, (m.top, (m.older, m.issued))))))
+    (λ t. record { home = t.0; places = t.1.0; used = t.1.1.0; top = t.1.1.1.0; older = t.1.1.1.1.0; issued = t.1.1.1.1.1 }) (λ _. refl)
+
+-- The sizes that a pool may have, in words.
+abbrev pub IsPoolSize : ℕ → Type 0
+IsPoolSize words = (1 ≤ words) × (words ≤ 2097152)
+
+-- How many words it has.
+abbrev pub size_of : Marks → ℕ
+size_of m = length m.places
+
+-- Ten marks stand: the newest and nine older ones.
+abbrev pub IsFull : Marks → Type 0
+IsFull m = length m.older ≡ 9
+
+-- The mark that a pool gives next.
+abbrev pub next_mark : Marks → Mark
+next_mark m = record { number = m.issued; start = m.used }
+
+-- The pool with a further mark, at what is used now.
+abbrev pub with_mark : Marks → Marks
+with_mark m = record m { top = next_mark m; older = m.older ++ m.top ∷ []; issued = m.issued + 1 }
+
+-- The pool with the next words taken out, and used.
+abbrev pub with_taken : Marks → ℕ → Marks
+with_taken m words = record m { used = m.used + words; places = with_run m.places m.used (out words) }
+
+-- The pool with the words of a Block in their places again.
+abbrev pub with_back : Marks → Cut → Marks
+with_back m block = record m { places = with_run m.places block.start (held block.words) }
+
+-- No Block that was taken since the newest mark is out.
+abbrev pub IsTopBack : Marks → Type 0
+IsTopBack m = AreHeld m.places m.top.start (m.used - m.top.start)
+
+-- No Block is out.
+abbrev pub AreAllBack : Marks → Type 0
+AreAllBack m = AreHeld m.places 0 (length m.places)
+
+-- new is old after the release of its only mark: that mark has a new number.
+pub record IsEmptied (old new : Marks) : Type 0 where
+  pub top : new.top ≡ record { number = old.issued; start = old.top.start }
+  pub older : new.older ≡ []
+  pub issued : new.issued ≡ old.issued + 1
+
+-- new is old after the release of its newest mark of several: the one before is the newest.
+pub record IsDropped (old new : Marks) : Type 0 where
+  pub older : old.older ≡ new.older ++ new.top ∷ []
+  pub issued : new.issued ≡ old.issued
+
+-- The region has `size` words. What is not used is in it, and each mark lies in it.
+pub record Stands (r : Region) (size used : ℕ) (top : Mark) (older : List Mark) : Type 0 where
+  pub places : length r.places ≡ size
+  pub small : size ≤ 2097152
+  pub used_fits : used ≤ size
+  pub top_fits : top.start ≤ size
+  pub older_fit : All (λ m. m.start ≤ size) older
+  pub rest : AreHeld r.places used (size - used)

@@ -1,0 +1,9 @@
+//! Words that are given out one after the other, and go back down to a mark.
+#![tactic(auto)]
+
+mod pool;
+#[cfg(test)]
+mod tests;
+
+pub use pool::{MarkNo, MarkPool};
+pub use raw_region::PoolFault;

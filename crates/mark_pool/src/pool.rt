@@ -1,0 +1,171 @@
+ghost use Rattle.std.specs.Prelude.{◌≡◌, ℕ, ◌+◌, ◌^◌, ◌<◌, ◌≤◌, [], length, replicate, MatchOption, IfOk, ◌↔◌};
+ghost use Rattle.raw_region.specs.Places.{held, words_at};
+ghost use Rattle.mark_pool.specs.Marks.{Marks, IsPoolSize, size_of, IsFull, with_mark, with_taken, with_back, IsTopBack, AreAllBack, IsEmptied, IsDropped};
+
+use arrayvec::ArrayVec;
+use raw_region::{Block, PoolFault, RawRegion};
+use std::alloc::{Allocator, Global};
+use std::marker::Model;
+
+/// The number of a mark of a pool. Each is issued once.
+#[derive(Clone, Copy, Debug, PartialEq, Eq)]
+pub struct MarkNo(pub u64);
+
+/// A mark: its number, and how many words were used when it was made.
+#[derive(Clone, Copy, Default)]
+pub struct Mark {
+    number: u64,
+    start: usize,
+}
+
+/// A pool whose words are given out one after the other. It ends by `close`, once all Blocks are back.
+///
+/// At most ten marks stand in it, one from the start. Releasing the newest takes all words since then back.
+pub struct MarkPool<A: Allocator = Global> {
+    region: RawRegion<A>,
+    size: usize,
+    used: usize,
+    top: Mark,
+    // From the oldest on.
+    older: ArrayVec<Mark, 9>,
+    issued: u64,
+}
+
+impl<A: Allocator> Model for MarkPool<A> {
+    ghost use Rattle.mark_pool.specs.Marks.{Marks, marks_code, Stands};
+
+    ghost Value = { Marks };
+
+    ghost coded = { marks_code };
+
+    ghost view = { λ p. record {
+      home = p.region.home;
+      places = p.region.places;
+      used = p.used;
+      top = p.top;
+      older = p.older.items;
+      issued = p.issued;
+    } };
+
+    ghost invariant = { λ p. Stands p.region p.size p.used p.top p.older.items };
+}
+
+impl<A: Allocator> MarkPool<A> {
+    /// A pool of `words` words, from 1 to 2,097,152, all of them zero, with its first mark.
+    ///
+    /// # Errors
+    ///
+    /// `Size` where `words` is out of range, and `Memory` where the allocator refuses the region.
+    pub fn new(alloc: A, words: usize) -> Result<MarkPool<A>, PoolFault>
+        ensures ok { IfOk result (λ p. IsPoolSize words × (p.places ≡ held (replicate words 0))
+            × (p.used ≡ 0) × (p.top ≡ record { number = 0; start = 0 }) × (p.older ≡ []) × (p.issued ≡ 1)) }
+        ensures size { (result ≡ Err PoolFault.Size) ↔ (¬ IsPoolSize words) }
+    {
+        if words < 1 || words > 2097152 {
+            return Err(PoolFault::Size);
+        }
+        Ok(MarkPool {
+            region: RawRegion::open(alloc, words)?,
+            size: words,
+            used: 0,
+            top: Mark {
+                number: 0,
+                start: 0,
+            },
+            older: ArrayVec::new(),
+            issued: 1,
+        })
+    }
+
+    /// How many words are used.
+    pub fn used(&self) -> u64
+        ensures { result ≡ self.now.used }
+    {
+        self.used as u64
+    }
+
+    /// The newest mark.
+    pub fn top(&self) -> MarkNo
+        ensures { result.0 ≡ self.now.top.number }
+    {
+        MarkNo(self.top.number)
+    }
+
+    /// Makes a mark at what is used now, under a new number, or gives `None` where ten stand.
+    pub fn mark(&mut self) -> Option<MarkNo>
+        requires { self.old.issued + 1 < 2 ^ 64 }
+        ensures { MatchOption result (IsFull self.old × (self.new ≡ self.old))
+            (λ n. (¬ IsFull self.old) × (n.0 ≡ self.old.issued) × (self.new ≡ with_mark self.old)) }
+    {
+        if self.older.len() == 9 {
+            return None;
+        }
+        let number = self.issued;
+        self.older.push(self.top);
+        self.top = Mark {
+            number,
+            start: self.used,
+        };
+        self.issued += 1;
+        Some(MarkNo(number))
+    }
+
+    /// The next `words` words, at least one, or `None` where fewer are left.
+    pub fn take(&mut self, words: usize) -> Option<Block>
+        requires { 1 ≤ words }
+        ensures { MatchOption result ((size_of self.old < self.old.used + words) × (self.new ≡ self.old))
+            (λ b. (self.old.used + words ≤ size_of self.old) × (b.home ≡ self.old.home)
+            × (b.start ≡ self.old.used) × (b.words ≡ words_at self.old.places self.old.used words)
+            × (self.new ≡ with_taken self.old words)) }
+    {
+        if words > self.size - self.used {
+            return None;
+        }
+        let start = self.used;
+        self.used += words;
+        Some(self.region.cut(start, words))
+    }
+
+    /// Brings a Block of this pool back. Its words stay used until the mark before it is released.
+    pub fn back(&mut self, block: Block)
+        requires { block.home ≡ self.old.home }
+        ensures { self.new ≡ with_back self.old block }
+    {
+        self.region.home(block);
+    }
+
+    /// Releases the newest mark: what was used since then is used no more, and the mark is dropped.
+    /// The first mark stays, under a new number. The Blocks taken since the mark are back.
+    pub fn release(&mut self)
+        requires back { IsTopBack self.old }
+        requires numbers { self.old.issued + 1 < 2 ^ 64 }
+        ensures used { self.new.used ≡ self.old.top.start }
+        ensures places { (self.new.home ≡ self.old.home) × (self.new.places ≡ self.old.places) }
+        ensures first { self.old.older ≡ [] → IsEmptied self.old self.new }
+        ensures other { 0 < length self.old.older → IsDropped self.old self.new }
+    {
+        self.used = self.top.start;
+        match self.older.pop() {
+            Some(mark) => self.top = mark,
+            None => {
+                self.top.number = self.issued;
+                self.issued += 1;
+            }
+        }
+    }
+
+    /// Frees the region. All Blocks are back.
+    pub fn close(self)
+        requires { AreAllBack self }
+    {
+        let MarkPool {
+            region,
+            size: _,
+            used: _,
+            top: _,
+            older: _,
+            issued: _,
+        } = self;
+        region.close();
+    }
+}

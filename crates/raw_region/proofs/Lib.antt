@@ -1,0 +1,5 @@
+pub mod Cells
+pub mod Detaching
+pub mod Lodging
+pub mod PlaceLemmas
+pub mod Walks

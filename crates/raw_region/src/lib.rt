@@ -1,0 +1,14 @@
+//! Words in one allocation, from which runs of words can be cut out as Blocks and brought home.
+#![tactic(auto)]
+
+mod allocation;
+mod block;
+mod fault;
+mod holding;
+mod region;
+#[cfg(test)]
+mod tests;
+
+pub use block::Block;
+pub use fault::PoolFault;
+pub use region::RawRegion;

@@ -1,0 +1,136 @@
+ghost use Rattle.std.specs.Prelude.{◌≡◌, ℕ, ◌+◌, ◌<◌, ◌≤◌, length, replicate, slice_set, IfOk, IsSome};
+ghost use Rattle.raw_region.specs.Places.{Region, Cut, place, held, out, with_run, words_at, cut_of, AreHeld, AreOut, AreApart};
+
+use crate::allocation::{Allocation, attach, detach};
+use crate::block::Block;
+use crate::holding::Holding;
+use std::alloc::{AllocError, Allocator, Global};
+use std::marker::Model;
+use std::mem;
+
+/// Words in one allocation. It ends by `close`, and each Block that was cut out of it by `home`.
+pub struct RawRegion<A: Allocator = Global> {
+    base: *mut u64,
+    size: usize,
+    holding: Holding,
+    allocation: Allocation<A>,
+}
+
+impl<A: Allocator> Model for RawRegion<A> {
+    ghost use Rattle.std.specs.Prelude.{◌≡◌, ◌<◌, ◌≤◌, length};
+    ghost use Rattle.raw_region.specs.Places.{Region, region_code};
+    ghost use Rattle.raw_region.specs.Ownership.{IsPlaced};
+
+    ghost Value = { Region };
+
+    ghost coded = { region_code };
+
+    ghost view = { λ r. record { home = r.holding.home; places = r.holding.places } };
+
+    ghost invariant = { λ r. (r.holding.home.at ≡ r.base) × (r.holding.home.size ≡ r.size) × IsPlaced r.base
+        × (r.allocation.ptr ≡ r.base) × (r.allocation.len ≡ r.size) × (length r.holding.places ≡ r.size)
+        × (0 < r.size) × (r.size ≤ 33554432) };
+}
+
+impl<A: Allocator> RawRegion<A> {
+    /// A region of `words` words, from 1 to 33,554,432, all of them zero.
+    ///
+    /// # Errors
+    ///
+    /// `AllocError` where the allocator refuses the memory.
+    pub fn open(alloc: A, words: usize) -> Result<RawRegion<A>, AllocError>
+        requires { (1 ≤ words) × (words ≤ 33554432) }
+        ensures size { IfOk result (λ r. r.home.size ≡ words) }
+        ensures zero { IfOk result (λ r. r.places ≡ held (replicate words 0)) }
+    {
+        let mut zeros = Vec::from_elem(alloc, 0u64, words)?;
+        let base = zeros.as_mut_ptr();
+        let (holding, allocation) = detach(zeros);
+        Ok(RawRegion {
+            base,
+            size: words,
+            holding,
+            allocation,
+        })
+    }
+
+    /// The word at the place `i`, which is in no Block.
+    pub fn read(&self, i: usize) -> u64
+        requires { IsSome (place self.now.places i) }
+        ensures { Some result ≡ place self.now.places i }
+    {
+        *self.holding.word(self.base, i)
+    }
+
+    /// Puts `word` at the place `i`, which is in no Block.
+    pub fn write(&mut self, i: usize, word: u64)
+        requires { IsSome (place self.old.places i) }
+        ensures home { self.new.home ≡ self.old.home }
+        ensures places { self.new.places ≡ slice_set self.old.places i (Some word) }
+    {
+        let holding = mem::replace(&mut self.holding, Holding::none());
+        let (rest, claim, mut words) = holding.carve(self.base, i, 1);
+        words[0] = word;
+        self.holding = rest.merge(claim, words);
+    }
+
+    /// Takes `len` words, at least one, out from the place `start` on. None of them is in a Block.
+    pub fn cut(&mut self, start: usize, len: usize) -> Block
+        requires { (1 ≤ len) × AreHeld self.old.places start len }
+        ensures home { self.new.home ≡ self.old.home }
+        ensures places { self.new.places ≡ with_run self.old.places start (out len) }
+        ensures block { result ≡ cut_of self.old start len }
+    {
+        let holding = mem::replace(&mut self.holding, Holding::none());
+        let (rest, claim, words) = holding.carve(self.base, start, len);
+        self.holding = rest;
+        Block {
+            words,
+            start,
+            claim,
+        }
+    }
+
+    /// Brings a Block of this region back, with its words. Its places were out until now.
+    pub fn home(&mut self, block: Block)
+        requires { block.home ≡ self.old.home }
+        ensures home { self.new.home ≡ self.old.home }
+        ensures places { self.new.places ≡ with_run self.old.places block.start (held block.words) }
+        ensures were_out { AreOut self.old.places block.start (length block.words) }
+        ensures within { block.start + length block.words ≤ length self.old.places }
+    {
+        let Block {
+            words,
+            start: _,
+            claim,
+        } = block;
+        let holding = mem::replace(&mut self.holding, Holding::none());
+        self.holding = holding.merge(claim, words);
+    }
+
+    /// Brings two Blocks back. They share no place, however they came about.
+    pub fn home_both(&mut self, first: Block, second: Block)
+        requires first { first.home ≡ self.old.home }
+        requires second { second.home ≡ self.old.home }
+        ensures apart { AreApart first second }
+        ensures home { self.new.home ≡ self.old.home }
+        ensures places { self.new.places
+            ≡ with_run (with_run self.old.places first.start (held first.words)) second.start (held second.words) }
+    {
+        self.home(first);
+        self.home(second);
+    }
+
+    /// Frees the allocation. No Block is out.
+    pub fn close(self)
+        requires { AreHeld self.places 0 (length self.places) }
+    {
+        let RawRegion {
+            base: _,
+            size: _,
+            holding,
+            allocation,
+        } = self;
+        drop(attach(holding, allocation));
+    }
+}
