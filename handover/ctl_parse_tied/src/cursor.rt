@@ -1,0 +1,91 @@
+//! Where the parser stands, and the reading of single tokens.
+
+ghost use Rattle.std.specs.Prelude.{◌≡◌, ◌<◌, ◌≤◌, ◌∷◌, [], length, OnOk, Ok};
+ghost use Rattle.ctl_grammar.specs.Form.{none, leaf, at};
+ghost use Rattle.ctl_grammar.specs.Grammar.{flag, spot};
+ghost use Rattle.ctl_grammar.specs.Nodes.{place};
+ghost use Rattle.ctl_grammar.specs.Reading.{Gives, begins, token_at, read};
+ghost use Rattle.ctl_parse.specs.View.{flag_node};
+
+use ctl_grammar::kind::is_same_kind;
+use ctl_grammar::refused::{Reason, Refused};
+use ctl_tree::span::Span;
+use ctl_tree::token::{Kind, Token};
+use std::alloc::Global;
+
+/// What is left of the tokens, and how many more constructs may be opened.
+///
+/// A method that fails leaves the rest at the faulty token.
+#[derive(Drop)]
+pub(crate) struct Parser<'a> {
+    pub(crate) rest: &'a [Token],
+    pub(crate) left: u32,
+    pub(crate) alloc: Global,
+}
+
+impl<'a> Parser<'a> {
+    /// Whether the next token is of this kind.
+    pub(crate) fn next_is(&self, kind: Kind) -> bool
+        ensures { result ≡ begins (kind ∷ []) self.now.rest.now }
+    {
+        match self.rest.first() {
+            Some(token) => is_same_kind(kind, token.kind),
+            None => false,
+        }
+    }
+
+    /// The next token, which is to be of this kind.
+    pub(crate) fn take(&mut self, kind: Kind) -> Result<&'a Token, Refused>
+        ensures given { Gives (λ t. leaf t.now) result self.new.rest.now (token_at kind (λ t. leaf t) self.old.rest.now) }
+        ensures left { self.new.left ≡ self.old.left }
+        ensures shorter { OnOk result (length self.new.rest.now < length self.old.rest.now) }
+    {
+        match self.rest.split_first() {
+            Some((token, rest)) if is_same_kind(kind, token.kind) => {
+                self.rest = rest;
+                Ok(token)
+            }
+            _ => Err(Refused::Token(Reason::Unexpected)),
+        }
+    }
+
+    /// Passes over a token of this kind.
+    pub(crate) fn skip(&mut self, kind: Kind) -> Result<(), Refused>
+        ensures given { Gives (λ u. none) result self.new.rest.now (token_at kind (λ t. none) self.old.rest.now) }
+        ensures left { self.new.left ≡ self.old.left }
+        ensures shorter { OnOk result (length self.new.rest.now < length self.old.rest.now) }
+    {
+        match self.rest.split_first() {
+            Some((token, rest)) if is_same_kind(kind, token.kind) => {
+                self.rest = rest;
+                Ok(())
+            }
+            _ => Err(Refused::Token(Reason::Unexpected)),
+        }
+    }
+
+    /// Passes over a token of this kind, whose place it gives.
+    pub(crate) fn mark(&mut self, kind: Kind) -> Result<Span, Refused>
+        ensures given { Gives at result self.new.rest.now (read self.old.left (spot kind) none self.old.rest.now) }
+        ensures left { self.new.left ≡ self.old.left }
+        ensures shorter { OnOk result (length self.new.rest.now < length self.old.rest.now) }
+    {
+        let token = self.take(kind)?;
+        Ok(token.span)
+    }
+
+    /// Passes over a token of this kind, if it is the next one, and says whether it was.
+    #[tactic(auto, unfolding(ctl_grammar::specs::Grammar::flag))]
+    pub(crate) fn took(&mut self, kind: Kind) -> Result<bool, Refused>
+        ensures given { Gives flag_node result self.new.rest.now (read self.old.left (flag kind) none self.old.rest.now) }
+        ensures left { self.new.left ≡ self.old.left }
+        ensures shorter { OnOk result (length self.new.rest.now ≤ length self.old.rest.now) }
+    {
+        if self.next_is(kind) {
+            self.skip(kind)?;
+            Ok(true)
+        } else {
+            Ok(false)
+        }
+    }
+}

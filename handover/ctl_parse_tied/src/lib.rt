@@ -1,0 +1,20 @@
+//! The parser of adactl: from the tokens of a source text to its tree, or the first fault of its grammar.
+//!
+//! Each production of the grammar is a method of its own. What the grammar repeats is read by a loop, so the depth of recursion
+//! is bounded by how many constructs stand in one another, and not by the length of the text.
+#![tactic(auto)]
+
+mod cursor;
+mod declarations;
+mod depth;
+mod expressions;
+mod headings;
+mod known;
+mod names;
+mod operators;
+mod simple_statements;
+mod statements;
+mod types;
+mod whole;
+
+pub use whole::{ROOM, parse};

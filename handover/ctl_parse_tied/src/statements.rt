@@ -1,0 +1,510 @@
+//! Statements that hold others, declarative parts, bodies and handlers (RM 3.11, 5, 6.3, 11.2).
+
+ghost use Rattle.std.specs.Prelude.{◌≡◌, ◌<◌, ◌≤◌, length, OnOk};
+
+use crate::cursor::Parser;
+use crate::depth::Heading;
+use ctl_grammar::refused::{Reason, Refused};
+use ctl_tree::span::Span;
+use ctl_tree::token::Kind;
+use ctl_tree::tree::{
+    BodyPart, Branch, Formal, Handled, Handler, Identifier, Item, ItemKind, Specification,
+    Statement, StatementKind,
+};
+
+impl<'a> Parser<'a> {
+    /// `stmt {stmt}` (RM 5.1)
+    #[cycle(statements)]
+    pub(crate) fn statements(&mut self) -> Result<Vec<Statement>, Refused>
+        ensures left { OnOk result (self.new.left ≡ self.old.left) }
+        ensures shorter { OnOk result (length self.new.rest.now < length self.old.rest.now) }
+    {
+        let mut all = Vec::new(self.alloc);
+        let first = self.statement()?;
+        all.push(first)?;
+        'more: while self.at_statement() {
+            let next = self.statement()?;
+            all.push(next)?;
+        }
+        Ok(all)
+    }
+
+    /// `stmt`
+    #[cycle(statements)]
+    fn statement(&mut self) -> Result<Statement, Refused>
+        ensures left { OnOk result (self.new.left ≡ self.old.left) }
+        ensures shorter { OnOk result (length self.new.rest.now < length self.old.rest.now) }
+    {
+        if self.next_is(Kind::Null) {
+            self.null_statement()
+        } else if self.next_is(Kind::Identifier) {
+            self.named_statement()
+        } else if self.next_is(Kind::Exit) {
+            self.exit_statement()
+        } else if self.next_is(Kind::Return) {
+            self.return_statement()
+        } else if self.next_is(Kind::Raise) {
+            self.raise_statement()
+        } else if self.next_is(Kind::If) {
+            self.conditional()
+        } else if self.at_repetition() {
+            self.repetition()
+        } else {
+            self.block()
+        }
+    }
+
+    /// An if statement, a construct (RM 5.3).
+    #[cycle(statements)]
+    fn conditional(&mut self) -> Result<Statement, Refused>
+        ensures left { OnOk result (self.new.left ≡ self.old.left) }
+        ensures shorter { OnOk result (length self.new.rest.now < length self.old.rest.now) }
+    {
+        if !self.next_is(Kind::If) {
+            return Err(Refused::Token(Reason::Unexpected));
+        }
+        if self.left == 0 {
+            return Err(Refused::Token(Reason::TooDeep));
+        }
+        self.left -= 1;
+        let inside = self.in_conditional()?;
+        self.left += 1;
+        Ok(inside)
+    }
+
+    /// `"if" expr "then" stmts {"elsif" expr "then" stmts} ["else" stmts] "end" "if" ";"`
+    #[cycle(statements)]
+    fn in_conditional(&mut self) -> Result<Statement, Refused>
+        ensures left { OnOk result (self.new.left ≡ self.old.left) }
+        ensures shorter { OnOk result (length self.new.rest.now < length self.old.rest.now) }
+    {
+        let span = self.mark(Kind::If)?;
+        let branches = self.branches()?;
+        let otherwise = self.otherwise()?;
+        self.end_if()?;
+        Ok(Statement {
+            span,
+            kind: StatementKind::If(branches, otherwise),
+        })
+    }
+
+    /// `expr "then" stmts`
+    #[cycle(statements)]
+    fn branch(&mut self) -> Result<Branch, Refused>
+        ensures left { OnOk result (self.new.left ≡ self.old.left) }
+        ensures shorter { OnOk result (length self.new.rest.now < length self.old.rest.now) }
+    {
+        let condition = self.expression()?;
+        self.skip(Kind::Then)?;
+        let statements = self.statements()?;
+        Ok(Branch {
+            condition,
+            statements,
+        })
+    }
+
+    /// `"elsif" expr "then" stmts`
+    #[cycle(statements)]
+    fn next_branch(&mut self) -> Result<Branch, Refused>
+        ensures left { OnOk result (self.new.left ≡ self.old.left) }
+        ensures shorter { OnOk result (length self.new.rest.now < length self.old.rest.now) }
+    {
+        self.skip(Kind::Elsif)?;
+        self.branch()
+    }
+
+    /// The branches of an if statement.
+    #[cycle(statements)]
+    fn branches(&mut self) -> Result<Vec<Branch>, Refused>
+        ensures left { OnOk result (self.new.left ≡ self.old.left) }
+        ensures shorter { OnOk result (length self.new.rest.now < length self.old.rest.now) }
+    {
+        let mut all = Vec::new(self.alloc);
+        let first = self.branch()?;
+        all.push(first)?;
+        'more: while self.next_is(Kind::Elsif) {
+            let next = self.next_branch()?;
+            all.push(next)?;
+        }
+        Ok(all)
+    }
+
+    /// `["else" stmts]`
+    #[cycle(statements)]
+    fn otherwise(&mut self) -> Result<Vec<Statement>, Refused>
+        ensures left { OnOk result (self.new.left ≡ self.old.left) }
+        ensures shorter { OnOk result (length self.new.rest.now ≤ length self.old.rest.now) }
+    {
+        if self.next_is(Kind::Else) {
+            self.skip(Kind::Else)?;
+            self.statements()
+        } else {
+            Ok(Vec::new(self.alloc))
+        }
+    }
+
+    /// A loop, a construct (RM 5.5).
+    #[cycle(statements)]
+    fn repetition(&mut self) -> Result<Statement, Refused>
+        ensures left { OnOk result (self.new.left ≡ self.old.left) }
+        ensures shorter { OnOk result (length self.new.rest.now < length self.old.rest.now) }
+    {
+        if !self.at_repetition() {
+            return Err(Refused::Token(Reason::Unexpected));
+        }
+        if self.left == 0 {
+            return Err(Refused::Token(Reason::TooDeep));
+        }
+        self.left -= 1;
+        let inside = self.in_repetition()?;
+        self.left += 1;
+        Ok(inside)
+    }
+
+    /// A loop.
+    #[cycle(statements)]
+    fn in_repetition(&mut self) -> Result<Statement, Refused>
+        ensures left { OnOk result (self.new.left ≡ self.old.left) }
+        ensures shorter { OnOk result (length self.new.rest.now < length self.old.rest.now) }
+    {
+        let (start, scheme) = self.scheme()?;
+        let word = self.mark(Kind::Loop)?;
+        let statements = self.statements()?;
+        self.end_loop()?;
+        let span = start.unwrap_or(word);
+        Ok(Statement {
+            span,
+            kind: StatementKind::Loop(scheme, statements),
+        })
+    }
+
+    /// A block, a construct (RM 5.6).
+    #[cycle(statements)]
+    fn block(&mut self) -> Result<Statement, Refused>
+        ensures left { OnOk result (self.new.left ≡ self.old.left) }
+        ensures shorter { OnOk result (length self.new.rest.now < length self.old.rest.now) }
+    {
+        if !self.at_block() {
+            return Err(Refused::Token(Reason::Unexpected));
+        }
+        if self.left == 0 {
+            return Err(Refused::Token(Reason::TooDeep));
+        }
+        self.left -= 1;
+        let inside = self.in_block()?;
+        self.left += 1;
+        Ok(inside)
+    }
+
+    /// `["declare" part] "begin" handled "end" ";"`
+    #[cycle(statements)]
+    fn in_block(&mut self) -> Result<Statement, Refused>
+        ensures left { OnOk result (self.new.left ≡ self.old.left) }
+        ensures shorter { OnOk result (length self.new.rest.now < length self.old.rest.now) }
+    {
+        let (start, items) = self.declared()?;
+        let word = self.mark(Kind::Begin)?;
+        let handled = self.handled()?;
+        self.skip(Kind::End)?;
+        self.skip(Kind::Semicolon)?;
+        let span = start.unwrap_or(word);
+        Ok(Statement {
+            span,
+            kind: StatementKind::Block(items, handled),
+        })
+    }
+
+    /// `["declare" part]`, with its place
+    #[cycle(statements)]
+    fn declared(&mut self) -> Result<(Option<Span>, Vec<Item>), Refused>
+        ensures left { OnOk result (self.new.left ≡ self.old.left) }
+        ensures shorter { OnOk result (length self.new.rest.now ≤ length self.old.rest.now) }
+    {
+        if self.next_is(Kind::Declare) {
+            let span = self.mark(Kind::Declare)?;
+            let items = self.part()?;
+            Ok((Some(span), items))
+        } else {
+            Ok((None, Vec::new(self.alloc)))
+        }
+    }
+
+    /// `stmts ["exception" handler {handler}]` (RM 11.2)
+    #[cycle(statements)]
+    pub(crate) fn handled(&mut self) -> Result<Handled, Refused>
+        ensures left { OnOk result (self.new.left ≡ self.old.left) }
+        ensures shorter { OnOk result (length self.new.rest.now < length self.old.rest.now) }
+    {
+        let statements = self.statements()?;
+        let handlers = self.handlers()?;
+        Ok(Handled {
+            statements,
+            handlers,
+        })
+    }
+
+    /// `["exception" handler {handler}]`
+    #[cycle(statements)]
+    fn handlers(&mut self) -> Result<Vec<Handler>, Refused>
+        ensures left { OnOk result (self.new.left ≡ self.old.left) }
+        ensures shorter { OnOk result (length self.new.rest.now ≤ length self.old.rest.now) }
+    {
+        if self.next_is(Kind::Exception) {
+            self.skip(Kind::Exception)?;
+            self.handler_list()
+        } else {
+            Ok(Vec::new(self.alloc))
+        }
+    }
+
+    /// `handler {handler}`
+    #[cycle(statements)]
+    fn handler_list(&mut self) -> Result<Vec<Handler>, Refused>
+        ensures left { OnOk result (self.new.left ≡ self.old.left) }
+        ensures shorter { OnOk result (length self.new.rest.now < length self.old.rest.now) }
+    {
+        let mut all = Vec::new(self.alloc);
+        let first = self.handler()?;
+        all.push(first)?;
+        'more: while self.next_is(Kind::When) {
+            let next = self.handler()?;
+            all.push(next)?;
+        }
+        Ok(all)
+    }
+
+    /// `"when" ("others" | dotted {"|" dotted}) "=>" stmts`
+    #[cycle(statements)]
+    fn handler(&mut self) -> Result<Handler, Refused>
+        ensures left { OnOk result (self.new.left ≡ self.old.left) }
+        ensures shorter { OnOk result (length self.new.rest.now < length self.old.rest.now) }
+    {
+        let span = self.mark(Kind::When)?;
+        let choices = self.choices()?;
+        self.skip(Kind::Arrow)?;
+        let statements = self.statements()?;
+        Ok(Handler {
+            span,
+            choices,
+            statements,
+        })
+    }
+
+    /// `{item}` (RM 3.11)
+    #[cycle(statements)]
+    pub(crate) fn part(&mut self) -> Result<Vec<Item>, Refused>
+        ensures left { OnOk result (self.new.left ≡ self.old.left) }
+        ensures shorter { OnOk result (length self.new.rest.now ≤ length self.old.rest.now) }
+    {
+        let mut all = Vec::new(self.alloc);
+        'more: while self.at_item() {
+            let next = self.item()?;
+            all.push(next)?;
+        }
+        Ok(all)
+    }
+
+    /// `item`
+    #[cycle(statements)]
+    fn item(&mut self) -> Result<Item, Refused>
+        ensures left { OnOk result (self.new.left ≡ self.old.left) }
+        ensures shorter { OnOk result (length self.new.rest.now < length self.old.rest.now) }
+    {
+        if self.next_is(Kind::Overriding) {
+            self.overriding_item()
+        } else if self.next_is(Kind::Procedure) {
+            self.procedure_item()
+        } else if self.next_is(Kind::Function) {
+            self.function_item()
+        } else if self.next_is(Kind::Type) {
+            self.type_item()
+        } else if self.next_is(Kind::For) {
+            self.clause()
+        } else {
+            self.named_item()
+        }
+    }
+
+    /// `"overriding" spec ";" | "overriding" body` (RM 8.3.1)
+    #[cycle(statements)]
+    fn overriding_item(&mut self) -> Result<Item, Refused>
+        ensures left { OnOk result (self.new.left ≡ self.old.left) }
+        ensures shorter { OnOk result (length self.new.rest.now < length self.old.rest.now) }
+    {
+        let span = self.mark(Kind::Overriding)?;
+        self.refuse_deep_body(Heading::Any)?;
+        let specification = self.specification()?;
+        let kind = self.completed(true, specification)?;
+        Ok(Item { span, kind })
+    }
+
+    /// `spec ";" | body` of a function
+    #[cycle(statements)]
+    fn function_item(&mut self) -> Result<Item, Refused>
+        ensures left { OnOk result (self.new.left ≡ self.old.left) }
+        ensures shorter { OnOk result (length self.new.rest.now < length self.old.rest.now) }
+    {
+        self.refuse_deep_body(Heading::Any)?;
+        let specification = self.function()?;
+        let span = specification.span;
+        let kind = self.completed(false, specification)?;
+        Ok(Item { span, kind })
+    }
+
+    /// `spec ";" | body` of a procedure, or an instance
+    #[cycle(statements)]
+    fn procedure_item(&mut self) -> Result<Item, Refused>
+        ensures left { OnOk result (self.new.left ≡ self.old.left) }
+        ensures shorter { OnOk result (length self.new.rest.now < length self.old.rest.now) }
+    {
+        self.refuse_deep_body(Heading::Procedure)?;
+        let span = self.mark(Kind::Procedure)?;
+        let name = self.identifier()?;
+        let kind = self.procedure_kind(span, name)?;
+        Ok(Item { span, kind })
+    }
+
+    /// What stands behind the name of a procedure that does not say `overriding`.
+    #[cycle(statements)]
+    fn procedure_kind(&mut self, span: Span, name: Identifier) -> Result<ItemKind, Refused>
+        ensures left { OnOk result (self.new.left ≡ self.old.left) }
+        ensures shorter { OnOk result (length self.new.rest.now < length self.old.rest.now) }
+    {
+        if self.next_is(Kind::LeftParenthesis) {
+            let formals = self.formals()?;
+            let specification = plain_procedure(span, name, formals);
+            self.completed(false, specification)
+        } else if self.next_is(Kind::Is) {
+            self.skip(Kind::Is)?;
+            self.procedure_behind_is(span, name)
+        } else {
+            self.skip(Kind::Semicolon)?;
+            let specification = plain_procedure(span, name, Vec::new(self.alloc));
+            Ok(ItemKind::Declaration(false, specification))
+        }
+    }
+
+    /// An instance, or a body of a procedure without parameters, behind its `is`.
+    #[cycle(statements)]
+    fn procedure_behind_is(&mut self, span: Span, name: Identifier) -> Result<ItemKind, Refused>
+        ensures left { OnOk result (self.new.left ≡ self.old.left) }
+        ensures shorter { OnOk result (length self.new.rest.now < length self.old.rest.now) }
+    {
+        if self.next_is(Kind::New) {
+            self.instance(name)
+        } else {
+            let body = self.bare_body(&name)?;
+            let specification = plain_procedure(span, name, Vec::new(self.alloc));
+            Ok(ItemKind::Body(false, specification, body))
+        }
+    }
+
+    /// A semicolon, or a body, behind a heading.
+    #[cycle(statements)]
+    fn completed(
+        &mut self,
+        is_overriding: bool,
+        specification: Specification,
+    ) -> Result<ItemKind, Refused>
+        ensures left { OnOk result (self.new.left ≡ self.old.left) }
+        ensures shorter { OnOk result (length self.new.rest.now < length self.old.rest.now) }
+    {
+        if self.next_is(Kind::Is) {
+            let body = self.body(&specification.name)?;
+            Ok(ItemKind::Body(is_overriding, specification, body))
+        } else {
+            self.skip(Kind::Semicolon)?;
+            Ok(ItemKind::Declaration(is_overriding, specification))
+        }
+    }
+
+    /// What stands behind the heading of a body, a construct (RM 6.3).
+    #[cycle(statements)]
+    pub(crate) fn body(&mut self, name: &Identifier) -> Result<BodyPart, Refused>
+        ensures left { OnOk result (self.new.left ≡ self.old.left) }
+        ensures shorter { OnOk result (length self.new.rest.now < length self.old.rest.now) }
+    {
+        if !self.next_is(Kind::Is) {
+            return Err(Refused::Token(Reason::Unexpected));
+        }
+        if self.left == 0 {
+            return Err(Refused::Token(Reason::TooDeep));
+        }
+        self.left -= 1;
+        let inside = self.in_body(name)?;
+        self.left += 1;
+        Ok(inside)
+    }
+
+    /// `"is" part "begin" handled "end" [id] ";"`
+    #[cycle(statements)]
+    fn in_body(&mut self, name: &Identifier) -> Result<BodyPart, Refused>
+        ensures left { OnOk result (self.new.left ≡ self.old.left) }
+        ensures shorter { OnOk result (length self.new.rest.now < length self.old.rest.now) }
+    {
+        self.skip(Kind::Is)?;
+        self.in_bare_body(name)
+    }
+
+    /// What stands behind the `is` of a body, a construct (RM 6.3).
+    #[cycle(statements)]
+    fn bare_body(&mut self, name: &Identifier) -> Result<BodyPart, Refused>
+        ensures left { OnOk result (self.new.left ≡ self.old.left) }
+        ensures shorter { OnOk result (length self.new.rest.now < length self.old.rest.now) }
+    {
+        if !self.at_bare_body() {
+            return Err(Refused::Token(Reason::Unexpected));
+        }
+        if self.left == 0 {
+            return Err(Refused::Token(Reason::TooDeep));
+        }
+        self.left -= 1;
+        let inside = self.in_bare_body(name)?;
+        self.left += 1;
+        Ok(inside)
+    }
+
+    /// `part "begin" handled "end" [id] ";"`
+    #[cycle(statements)]
+    fn in_bare_body(&mut self, name: &Identifier) -> Result<BodyPart, Refused>
+        ensures left { OnOk result (self.new.left ≡ self.old.left) }
+        ensures shorter { OnOk result (length self.new.rest.now < length self.old.rest.now) }
+    {
+        let items = self.part()?;
+        self.skip(Kind::Begin)?;
+        let handled = self.handled()?;
+        self.skip(Kind::End)?;
+        let end_name = self.end_name(name)?;
+        self.skip(Kind::Semicolon)?;
+        Ok(BodyPart {
+            items,
+            handled,
+            end_name,
+        })
+    }
+
+    /// Whether an item is next.
+    pub(crate) fn at_item(&self) -> bool {
+        self.next_is(Kind::Overriding)
+            || self.next_is(Kind::Procedure)
+            || self.next_is(Kind::Function)
+            || self.next_is(Kind::Type)
+            || self.next_is(Kind::For)
+            || self.next_is(Kind::Identifier)
+    }
+
+    /// Whether what stands behind the `is` of a body is next.
+    pub(crate) fn at_bare_body(&self) -> bool {
+        self.at_item() || self.next_is(Kind::Begin)
+    }
+}
+
+/// The heading of a procedure.
+fn plain_procedure(span: Span, name: Identifier, formals: Vec<Formal>) -> Specification {
+    Specification {
+        span,
+        name,
+        formals,
+        result: None,
+    }
+}
