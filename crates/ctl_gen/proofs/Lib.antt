@@ -10,3 +10,4 @@ pub mod Declare
 pub mod Statements
 pub mod Bodies
 pub mod Whole
+pub mod Admitted

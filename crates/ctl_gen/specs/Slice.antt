@@ -78,3 +78,13 @@ pub record InSlice (program : Checked) : Type 0 where
   pub main : IsBody program.subprograms.items program.main
   pub procedures : (f : ℕ) (s : Subprogram) → slice_get program.subprograms.items f ≡ Some s → s.is_function ≡ false
   pub bodies : (f : ℕ) (s : Subprogram) → slice_get program.subprograms.items f ≡ Some s → MasterInSlice (tables_of program) s.body
+
+-- the same of statements in a list
+abbrev pub RowsInSlice : Tables → List Stmt → Type 0
+RowsInSlice k [] = Unit {0}
+RowsInSlice k (s ∷ ss) = StmtInSlice k s × RowsInSlice k ss
+
+-- procedures with such bodies
+abbrev pub BodiesInSlice : Tables → List Subprogram → Type 0
+BodiesInSlice k [] = Unit {0}
+BodiesInSlice k (s ∷ ss) = (s.is_function ≡ false) × MasterInSlice k s.body × BodiesInSlice k ss

@@ -1,16 +1,13 @@
 -- What is derived is read, where what stands behind it does not go on with it.
-use Rattle.std.proofs.Common.{◌≡◌, ℕ, zero, suc, ◌+◌, ◌≤◌, ◌<◌, Bool, true, false, cond, List, [], ◌∷◌, ◌++◌, length, Result, Ok, Err, refl, sym, ap, subst, ◌∙◌, append_assoc, inl, inr, arith}
-use Rattle.std.specs.Prelude.{◌&&◌, ◌||◌, not}
+use Rattle.std.proofs.Common.{◌≡◌, ℕ, zero, suc, ◌≤◌, ◌<◌, Bool, true, false, cond, List, [], ◌∷◌, ◌++◌, length, Ok, Err, refl, sym, ap, subst, ◌∙◌, append_assoc, inl, inr, arith}
+use Rattle.std.specs.Prelude.{◌&&◌, not}
 use Rattle.std.proofs.lemmas.List.{length-append}
 use Rattle.ctl_tree.specs.declared.token.Kind.{Kind}
 use Rattle.ctl_tree.specs.declared.token.Token.{Token}
-use Rattle.ctl_grammar.specs.declared.refused.Reason.{Reason}
-use Rattle.ctl_grammar.specs.declared.refused.Reason.TheVariants.{Unexpected, TooDeep}
-use Rattle.ctl_grammar.specs.Kind.{same_kind}
 use Rattle.ctl_grammar.specs.Form.{Node, none, leaf, num, written, at, pair, tag, Nest, Form, word, keep, tested, empty, seq, within, alt, when, many, act, late, nest, can_be_empty, starts, goes_on, nest_starts, is_apart, is_clear}
 use Rattle.ctl_grammar.specs.Grammar.{body}
-use Rattle.ctl_grammar.specs.Reading.{Read, ◌>>=◌, token_at, begins, both, repeat, all_of, from_here, is_read, nowhere, reader, construct}
-use Rattle.ctl_grammar.specs.Derivation.{Split, Row, Both, Derives, Construct}
+use Rattle.ctl_grammar.specs.Reading.{Read, begins, both, repeat, all_of, from_here, reader, construct}
+use Rattle.ctl_grammar.specs.Derivation.{Row, Both, Derives, Construct}
 use Rattle.ctl_grammar.proofs.Starts.{and_left, and_right, not_true, stops_left, stops_right, both_parts, Opens, OpensAll, row_opens, derives_opens, behind, begins_with}
 
 abbrev pub Again : (Node → List Token → Type 0) → List Kind → (List Token → Read) → Type 0

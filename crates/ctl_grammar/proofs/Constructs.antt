@@ -1,10 +1,10 @@
 -- Opening a construct.
-use Rattle.std.proofs.Common.{◌≡◌, ℕ, zero, suc, ◌<◌, ◌-◌, true, false, List, Ok, Err, refl, ap, arith, cond}
+use Rattle.std.proofs.Common.{◌≡◌, ℕ, zero, suc, ◌<◌, ◌-◌, true, false, List, Err, refl, arith}
 use Rattle.ctl_tree.specs.declared.token.Token.{Token}
 use Rattle.ctl_grammar.specs.declared.refused.Reason.TheVariants.{Unexpected, TooDeep}
 use Rattle.ctl_grammar.specs.Form.{Node, Nest, nest_starts}
 use Rattle.ctl_grammar.specs.Grammar.{body}
-use Rattle.ctl_grammar.specs.Reading.{Read, begins, reader, construct, read}
+use Rattle.ctl_grammar.specs.Reading.{begins, construct, read}
 
 pub construct_opened : (left : ℕ) (n : Nest) (env : Node) (ts : List Token) → begins (nest_starts n) ts ≡ true → 0 < left → construct true true left n env ts ≡ read (left - 1) (body n) env ts
 unfolding construct

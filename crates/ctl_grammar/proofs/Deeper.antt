@@ -1,5 +1,5 @@
 -- With more room, or with fewer rules, the same is read, unless there was too little room or a rule was broken.
-use Rattle.std.proofs.Common.{◌≡◌, ℕ, zero, suc, ◌+◌, Bool, true, false, cond, List, [], ◌∷◌, ◌++◌, length, Result, Ok, Err, refl, sym, ap, subst, ◌∙◌, inl, inr, arith}
+use Rattle.std.proofs.Common.{◌≡◌, ℕ, zero, suc, ◌+◌, Bool, true, false, cond, List, [], ◌∷◌, length, Ok, Err, refl, sym, ap, subst, ◌∙◌, inl, inr, arith}
 use Rattle.std.specs.Prelude.{◌⊎◌, ◌&&◌, ◌||◌, not}
 use Rattle.ctl_tree.specs.declared.token.Kind.{Kind}
 use Rattle.ctl_tree.specs.declared.token.Token.{Token}
@@ -8,7 +8,7 @@ use Rattle.ctl_grammar.specs.declared.refused.Reason.TheVariants.{Unexpected, To
 use Rattle.ctl_grammar.specs.Kind.{same_kind}
 use Rattle.ctl_grammar.specs.Form.{Node, none, leaf, num, written, at, pair, tag, Nest, Rule, Form, word, keep, tested, empty, seq, within, alt, when, many, act, late, nest, starts, nest_starts}
 use Rattle.ctl_grammar.specs.Grammar.{body}
-use Rattle.ctl_grammar.specs.Reading.{Read, ◌>>=◌, broken, token_at, tested_at, begins, both, repeat, all_of, from_here, is_read, nowhere, reader, construct}
+use Rattle.ctl_grammar.specs.Reading.{Read, ◌>>=◌, broken, tested_at, begins, both, repeat, all_of, reader, construct}
 use Rattle.ctl_grammar.specs.Derivation.{Split, Row, Both, Derives, Construct, AnyConstruct}
 use Rattle.ctl_grammar.proofs.Starts.{both_parts}
 use Rattle.ctl_grammar.proofs.Sound.{Allows}

@@ -1,17 +1,16 @@
 -- What stands before a fault can go on to a whole text of the grammar alone: at any depth, and whatever the rules of names say.
-use Rattle.std.proofs.Common.{◌≡◌, ℕ, zero, suc, Bool, true, false, cond, eqb, List, [], ◌∷◌, ◌++◌, length, Result, Ok, Err, refl, sym, ap, subst, ◌∙◌, ◌⊎◌, eq-eqb, append_assoc, inl, inr}
+use Rattle.std.proofs.Common.{◌≡◌, ℕ, zero, suc, Bool, true, false, cond, List, [], ◌∷◌, ◌++◌, length, Ok, Err, refl, sym, ap, ◌∙◌, ◌⊎◌, eq-eqb, append_assoc, inl, inr}
 use Rattle.std.specs.Prelude.{◌&&◌, ◌||◌, not}
 use Rattle.ctl_tree.specs.declared.token.Kind.{Kind}
-use Rattle.ctl_tree.specs.declared.token.Kind.TheVariants as kinds
 use Rattle.ctl_tree.specs.declared.token.Token.{Token}
 use Rattle.ctl_grammar.specs.declared.refused.Reason.{Reason}
 use Rattle.ctl_grammar.specs.declared.refused.Reason.TheVariants.{Unexpected, TooDeep}
 use Rattle.ctl_grammar.specs.Kind.{code, same_kind}
 use Rattle.ctl_grammar.specs.Form.{Node, none, leaf, num, written, at, pair, tag, Nest, Rule, Form, word, keep, tested, empty, seq, within, alt, when, many, act, late, nest, starts, nest_starts}
 use Rattle.ctl_grammar.specs.Grammar.{body}
-use Rattle.ctl_grammar.specs.Reading.{Read, ◌>>=◌, broken, token_at, tested_at, begins, both, repeat, all_of, from_here, is_read, nowhere, reader, construct}
-use Rattle.ctl_grammar.specs.Derivation.{Split, Row, Both, Derives, Construct, AnyConstruct}
-use Rattle.ctl_grammar.proofs.Sound.{Takes, Sound, SoundAll, bind_ok, failed, allows_more, reader_sound, construct_sound}
+use Rattle.ctl_grammar.specs.Reading.{Read, ◌>>=◌, broken, token_at, tested_at, begins, both, repeat, all_of, reader, construct}
+use Rattle.ctl_grammar.specs.Derivation.{Row, Both, Derives, AnyConstruct}
+use Rattle.ctl_grammar.proofs.Sound.{Sound, SoundAll, failed, allows_more, reader_sound, construct_sound}
 use Rattle.ctl_grammar.proofs.Again.{from_here_same}
 use Rattle.ctl_grammar.proofs.Deeper.{gather}
 

@@ -12,3 +12,8 @@ pub mod Whole
 pub mod Moved
 pub mod Samples
 pub mod Programs
+pub mod Ahead
+pub mod Late
+pub mod Faults
+pub mod First
+pub mod Items

@@ -1,5 +1,5 @@
 -- What is read does not depend on what stands behind the next token.
-use Rattle.std.proofs.Common.{◌≡◌, ℕ, zero, suc, ◌≤◌, ◌<◌, Bool, true, false, cond, List, [], ◌∷◌, ◌++◌, length, Result, Ok, Err, refl, sym, ap, subst, ◌∙◌, append_assoc, arith}
+use Rattle.std.proofs.Common.{◌≡◌, ℕ, zero, suc, ◌≤◌, Bool, true, false, cond, List, [], ◌∷◌, ◌++◌, length, Ok, Err, refl, sym, ap, subst, ◌∙◌, append_assoc, arith}
 use Rattle.std.specs.Prelude.{◌&&◌, ◌||◌, not}
 use Rattle.ctl_tree.specs.declared.token.Kind.{Kind}
 use Rattle.ctl_tree.specs.declared.token.Token.{Token}
@@ -8,10 +8,10 @@ use Rattle.ctl_grammar.specs.declared.refused.Reason.TheVariants.{Unexpected, To
 use Rattle.ctl_grammar.specs.Kind.{same_kind}
 use Rattle.ctl_grammar.specs.Form.{Node, none, leaf, pair, Nest, Rule, Form, word, keep, tested, empty, seq, within, alt, when, many, act, late, nest, has, can_be_empty, starts, nest_starts, goes_on, is_apart, is_clear}
 use Rattle.ctl_grammar.specs.Grammar.{body}
-use Rattle.ctl_grammar.specs.Reading.{Read, ◌>>=◌, broken, token_at, tested_at, begins, both, all_of, from_here, is_read, nowhere, reader, construct}
+use Rattle.ctl_grammar.specs.Reading.{Read, ◌>>=◌, broken, token_at, tested_at, begins, both, all_of, from_here, reader, construct}
 use Rattle.ctl_grammar.proofs.Starts.{and_left, and_right, not_true}
 use Rattle.ctl_grammar.proofs.Again.{IsPlain, from_here_same}
-use Rattle.ctl_grammar.proofs.Rows.{Consumes, and_then, all_step, all_stop}
+use Rattle.ctl_grammar.proofs.Rows.{Consumes, all_step, all_stop}
 
 -- both have the same first token, or both none
 abbrev pub SameStart : List Token → List Token → Type 0

@@ -1,14 +1,13 @@
 -- Reading a row that a loop gathers in a list.
-use Rattle.std.proofs.Common.{◌≡◌, ℕ, Bool, true, false, cond, List, [], ◌∷◌, ◌++◌, Result, Ok, Err, refl, sym, ap, subst, ◌∙◌}
-use Rattle.std.specs.Prelude.{◌&&◌}
+use Rattle.std.proofs.Common.{◌≡◌, ℕ, true, false, List, [], ◌∷◌, ◌++◌, Ok, Err, refl, sym, ap, ◌∙◌}
 use Rattle.ctl_tree.specs.declared.token.Token.{Token}
 use Rattle.ctl_grammar.specs.declared.refused.Reason.{Reason}
 use Rattle.ctl_grammar.specs.declared.refused.Refused.{Refused}
 use Rattle.ctl_grammar.specs.declared.refused.Refused.TheVariants as refused
-use Rattle.ctl_grammar.specs.Form.{Node, none, num, pair, Form, many, can_be_empty, starts}
+use Rattle.ctl_grammar.specs.Form.{Node, none, pair, Form, many, can_be_empty, starts}
 use Rattle.ctl_grammar.specs.Nodes.{row_of, joined_row}
 use Rattle.ctl_grammar.specs.Reading.{Read, ◌>>=◌, Gives, begins, all_of, reader, is_zero, construct, read}
-use Rattle.ctl_grammar.proofs.Rows.{Consumes, consumes, and_then, all_step, all_stop}
+use Rattle.ctl_grammar.proofs.Rows.{consumes, and_then, all_step, all_stop}
 
 -- what is still read, behind what has been read so far
 abbrev pub gathering : List Node → Read → Read

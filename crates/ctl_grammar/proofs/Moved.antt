@@ -1,13 +1,11 @@
 -- Moving what is too deep changes its place alone.
-use Rattle.std.proofs.Common.{◌≡◌, ℕ, zero, suc, Bool, true, false, cond, List, [], ◌∷◌, length, Result, Ok, Err, refl, sym, ap, ◌∙◌, inl, inr}
+use Rattle.std.proofs.Common.{◌≡◌, ℕ, zero, suc, Bool, true, false, cond, List, length, Ok, Err, refl, sym, ◌∙◌, inl, inr}
 use Rattle.std.specs.Prelude.{◌⊎◌, ◌&&◌}
-use Rattle.ctl_tree.specs.declared.token.Kind.{Kind}
 use Rattle.ctl_tree.specs.declared.token.Token.{Token}
-use Rattle.ctl_grammar.specs.declared.refused.Reason.{Reason}
 use Rattle.ctl_grammar.specs.declared.refused.Reason.TheVariants.{Unexpected, TooDeep, LeftOut, EndName}
 use Rattle.ctl_grammar.specs.Form.{Node, none, pair, Nest, Form, word, keep, tested, empty, seq, within, alt, when, many, act, late, nest, starts, nest_starts}
 use Rattle.ctl_grammar.specs.Grammar.{body}
-use Rattle.ctl_grammar.specs.Reading.{Read, ◌>>=◌, begins, both, repeat, all_of, is_too_deep, from_here, is_read, nowhere, reader, is_zero, construct}
+use Rattle.ctl_grammar.specs.Reading.{Read, ◌>>=◌, begins, both, repeat, all_of, from_here, is_read, nowhere, reader, is_zero, construct}
 use Rattle.ctl_grammar.proofs.Again.{from_here_same}
 
 -- too much was opened

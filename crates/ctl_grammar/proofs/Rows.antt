@@ -1,13 +1,13 @@
 -- Reading a row, one after the other.
-use Rattle.std.proofs.Common.{◌≡◌, ℕ, zero, suc, ◌+◌, ◌≤◌, ◌<◌, Bool, true, false, cond, List, [], ◌∷◌, ◌++◌, length, Result, Ok, Err, refl, sym, ap, subst, ◌∙◌, arith}
+use Rattle.std.proofs.Common.{◌≡◌, ℕ, zero, suc, ◌≤◌, ◌<◌, Bool, true, false, cond, List, [], ◌∷◌, length, Ok, Err, refl, ap, subst, arith}
 use Rattle.std.proofs.lemmas.List.{length-append}
 use Rattle.ctl_tree.specs.declared.token.Kind.{Kind}
 use Rattle.ctl_tree.specs.declared.token.Token.{Token}
-use Rattle.ctl_grammar.specs.Form.{Node, none, pair, Form, Nest, can_be_empty, starts, nest_starts}
+use Rattle.ctl_grammar.specs.Form.{Node, none, pair, Form, Nest, can_be_empty, starts}
 use Rattle.ctl_grammar.specs.Reading.{Read, ◌>>=◌, begins, repeat, all_of, reader, construct}
-use Rattle.ctl_grammar.specs.Derivation.{Derives, Construct}
+use Rattle.ctl_grammar.specs.Derivation.{Construct}
 use Rattle.ctl_grammar.proofs.Starts.{Opens, OpensAll, derives_opens}
-use Rattle.ctl_grammar.proofs.Sound.{Takes, Sound, SoundAll, allows_same, reader_sound, construct_sound}
+use Rattle.ctl_grammar.proofs.Sound.{SoundAll, allows_same, reader_sound, construct_sound}
 use Rattle.ctl_grammar.proofs.Again.{construct_opens}
 use Rattle.ctl_grammar.proofs.Plain.{plain}
 

@@ -1,15 +1,15 @@
 -- What is read is derived.
-use Rattle.std.proofs.Common.{◌≡◌, ℕ, zero, suc, Bool, true, false, cond, List, [], ◌∷◌, ◌++◌, length, Result, Ok, Err, refl, sym, ap, subst, ◌∙◌, append_assoc, inl, inr}
+use Rattle.std.proofs.Common.{◌≡◌, ℕ, zero, suc, Bool, true, false, cond, List, [], ◌∷◌, ◌++◌, length, Ok, Err, refl, sym, ap, subst, ◌∙◌, append_assoc, inl, inr}
 use Rattle.std.specs.Prelude.{◌&&◌, ◌||◌, not}
 use Rattle.ctl_tree.specs.declared.token.Kind.{Kind}
 use Rattle.ctl_tree.specs.declared.token.Token.{Token}
 use Rattle.ctl_grammar.specs.declared.refused.Reason.{Reason}
 use Rattle.ctl_grammar.specs.declared.refused.Reason.TheVariants.{Unexpected, TooDeep}
 use Rattle.ctl_grammar.specs.Kind.{same_kind}
-use Rattle.ctl_grammar.specs.Form.{Node, none, leaf, num, pair, tag, Nest, Rule, Form, word, keep, tested, empty, seq, within, alt, when, many, act, late, nest, starts, nest_starts}
+use Rattle.ctl_grammar.specs.Form.{Node, none, leaf, pair, Nest, Rule, Form, word, keep, tested, empty, seq, within, alt, when, many, act, late, nest, starts, nest_starts}
 use Rattle.ctl_grammar.specs.Grammar.{body}
 use Rattle.ctl_grammar.specs.Reading.{Read, ◌>>=◌, broken, token_at, tested_at, begins, both, repeat, all_of, from_here, is_read, nowhere, reader, is_zero, construct}
-use Rattle.ctl_grammar.specs.Derivation.{Split, Row, Both, Derives, Construct}
+use Rattle.ctl_grammar.specs.Derivation.{Row, Both, Derives, Construct}
 use Rattle.ctl_grammar.proofs.Starts.{and_left}
 
 abbrev pub done : Node → List Token → Read

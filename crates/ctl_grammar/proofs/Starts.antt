@@ -1,5 +1,5 @@
 -- What begins a text, and what may stand behind it.
-use Rattle.std.proofs.Common.{◌≡◌, ℕ, zero, suc, Bool, true, false, cond, eqb, List, [], ◌∷◌, ◌++◌, refl, sym, ap, subst, ◌∙◌, inl, inr}
+use Rattle.std.proofs.Common.{◌≡◌, ℕ, Bool, true, false, cond, eqb, List, [], ◌∷◌, ◌++◌, refl, sym, ap, subst, ◌∙◌, inl, inr}
 use Rattle.std.specs.Prelude.{◌&&◌, ◌||◌, not}
 use Rattle.std.proofs.lemmas.Bool.{eqb-true}
 use Rattle.ctl_tree.specs.declared.token.Kind.{Kind}
@@ -40,7 +40,7 @@ or_assoc : (a b c : Bool) → ((a || b) || c) ≡ (a || (b || c))
 or_assoc true b c = refl
 or_assoc false b c = refl
 
-has_append : (k : Kind) (js ks : List Kind) → has k (js ++ ks) ≡ (has k js || has k ks)
+pub has_append : (k : Kind) (js ks : List Kind) → has k (js ++ ks) ≡ (has k js || has k ks)
 has_append k [] ks = refl
 has_append k (j ∷ js) ks =
     let more = has_append k js ks in
@@ -60,7 +60,7 @@ pub stops_right : (js ks : List Kind) (ts : List Token) → begins (js ++ ks) ts
 stops_right js ks [] e = refl
 stops_right js ks (t ∷ ts) e = or_neither_right (has t.kind js) (has t.kind ks) (sym (has_append t.kind js ks) ∙ e)
 
-has_same : (j k : Kind) (ks : List Kind) → same_kind j k ≡ true → has j ks ≡ has k ks
+pub has_same : (j k : Kind) (ks : List Kind) → same_kind j k ≡ true → has j ks ≡ has k ks
 has_same j k [] e = refl
 has_same j k (i ∷ ks) e =
     let more = has_same j k ks e in

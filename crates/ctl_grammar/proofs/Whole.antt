@@ -1,22 +1,18 @@
 -- A whole text: the laws put together.
-use Rattle.std.proofs.Common.{◌≡◌, ℕ, zero, suc, ◌+◌, Bool, true, false, cond, List, [], ◌∷◌, ◌++◌, length, Result, Ok, Err, refl, sym, ap, subst, ◌∙◌, ◌⊎◌, append_assoc, inl, inr, arith}
-use Rattle.std.specs.Prelude.{◌&&◌, ◌||◌, not}
+use Rattle.std.proofs.Common.{◌≡◌, ℕ, ◌+◌, Bool, true, false, List, [], ◌∷◌, ◌++◌, Ok, Err, refl, sym, ap, subst, ◌∙◌, append_assoc, inl, inr, arith}
 use Rattle.std.proofs.lemmas.List.{append-nil, append_cancel_right}
-use Rattle.ctl_tree.specs.declared.token.Kind.{Kind}
-use Rattle.ctl_tree.specs.declared.token.Kind.TheVariants as kinds
 use Rattle.ctl_tree.specs.declared.token.Token.{Token}
 use Rattle.ctl_grammar.specs.declared.refused.Reason.{Reason}
 use Rattle.ctl_grammar.specs.declared.refused.Reason.TheVariants.{Unexpected, TooDeep, LeftOut, EndName}
-use Rattle.ctl_grammar.specs.Form.{Node, none, Rule, Known, Ends, Form, Nest, Enclosed, Arguments, Handle, Formals, Associations, Conditional, Repetition, Block, Body, BareBody, can_be_empty, goes_on, is_clear, has}
-use Rattle.ctl_grammar.specs.Grammar.{body, program}
+use Rattle.ctl_grammar.specs.Form.{Node, none, Rule, Known, Ends, Form, goes_on, is_clear}
 use Rattle.ctl_grammar.specs.Reading.{Read, broken, reader, begins, construct, is_too_deep}
-use Rattle.ctl_grammar.specs.Derivation.{Derives, Construct, AnyConstruct, Spells, Begins}
-use Rattle.ctl_grammar.proofs.Sound.{Takes, Allows, allows_same, reader_sound, construct_sound}
+use Rattle.ctl_grammar.specs.Derivation.{Construct, Spells, Begins}
+use Rattle.ctl_grammar.proofs.Sound.{Takes, allows_same, reader_sound, construct_sound}
 use Rattle.ctl_grammar.proofs.Again.{reader_again, construct_again, construct_opens}
 use Rattle.ctl_grammar.proofs.Plain.{plain}
 use Rattle.ctl_grammar.proofs.Rows.{consumes}
-use Rattle.ctl_grammar.proofs.Local.{SameStart, LocalAt, reader_local, construct_local}
-use Rattle.ctl_grammar.proofs.Deeper.{Stopped, Frees, read_agrees, deeper}
+use Rattle.ctl_grammar.proofs.Local.{LocalAt, reader_local, construct_local}
+use Rattle.ctl_grammar.proofs.Deeper.{Frees, read_agrees, deeper}
 
 -- A form that one token is enough to read, and that nothing behind it goes on with.
 pub record IsWhole (f : Form) : Type 0 where

@@ -1,12 +1,11 @@
 -- The grammar, a production a line.
-use Rattle.std.specs.Prelude.{ℕ, Bool, true, false, ◌||◌, List, [], ◌∷◌, codes}
+use Rattle.std.specs.Prelude.{ℕ, Bool, false, ◌||◌, List, [], ◌∷◌, codes}
 use Rattle.ctl_tree.specs.declared.token.Kind.{Kind}
 use Rattle.ctl_tree.specs.declared.token.Kind.TheVariants as kinds
-use Rattle.ctl_tree.specs.declared.token.Token.{Token}
 use Rattle.ctl_tree.specs.declared.tree.LogicalOperator.{LogicalOperator}
 use Rattle.ctl_tree.specs.declared.tree.LogicalOperator.TheVariants as operators
 use Rattle.ctl_grammar.specs.Spelling.{same_name}
-use Rattle.ctl_grammar.specs.Form.{Node, none, num, pair, tag, Nest, Enclosed, Arguments, Handle, Formals, Associations, Conditional, Repetition, Block, Body, BareBody, Known, Ends, Form, word, keep, tested, empty, seq, within, alt, when, many, act, late, nest, ◌▸◌}
+use Rattle.ctl_grammar.specs.Form.{none, num, pair, tag, Nest, Enclosed, Arguments, Handle, Formals, Associations, Conditional, Repetition, Block, Body, BareBody, Known, Ends, Form, word, keep, tested, empty, within, alt, when, many, act, late, nest, ◌▸◌}
 use Rattle.ctl_grammar.specs.Nodes.{first, second, part_2, part_3, part_4, part_5, behind_2, behind_3, behind_4, behind_5, place, letters, or_else, identifier_of, yes, no, number_of, string_of, null_of, name_of, parentheses_of, unary_of, product_of, sum_of, relation_of, logical_of, allocator_of, selector_of, all_of_access, arguments_of, access_of, attribute_of, is_bare, association_of, assignment_of, procedure_of, part_2_letters}
 
 -- ---- forms that serve others
@@ -74,9 +73,12 @@ dotted_list separator = dotted ▸ many (next_dotted separator)
 unfoldable pub next_identifier : Form
 next_identifier = act second (word kinds.Comma ▸ identifier)
 
+unfoldable pub next_identifiers : Form
+next_identifiers = many next_identifier
+
 -- identifiers, with the place of the first
 unfoldable pub identifiers : Form
-identifiers = act (λ v. pair (second (first v)) v) (identifier ▸ many next_identifier)
+identifiers = act (λ v. pair (second (first v)) v) (identifier ▸ next_identifiers)
 
 -- a name behind a word
 unfoldable pub behind : Kind → Form
@@ -207,8 +209,11 @@ expressions = expression ▸ many next_expression
 
 -- ---- headings
 
+unfoldable pub mode_behind_in : Form
+mode_behind_in = alt (act (λ v. num 2) (word kinds.Out)) (act (λ v. num 0) empty)
+
 unfoldable pub mode : Form
-mode = alt (act second (word kinds.In ▸ alt (act (λ v. num 2) (word kinds.Out)) (act (λ v. num 0) empty))) (alt (act (λ v. num 1) (word kinds.Out)) (act (λ v. num 0) empty))
+mode = alt (act second (word kinds.In ▸ mode_behind_in)) (alt (act (λ v. num 1) (word kinds.Out)) (act (λ v. num 0) empty))
 
 unfoldable pub formal : Form
 formal = act (λ v. pair (second (first v)) (pair (part_3 v) (behind_3 v))) (identifiers ▸ word kinds.Colon ▸ mode ▸ dotted)
@@ -260,8 +265,17 @@ component_list = component ▸ many component
 unfoldable pub components : Form
 components = alt (act (λ v. none) (word kinds.Null ▸ word kinds.Semicolon)) component_list
 
+unfoldable pub null_record : Form
+null_record = act (λ v. none) (word kinds.Null ▸ word kinds.Record)
+
+unfoldable pub full_record : Form
+full_record = act part_2 (word kinds.Record ▸ components ▸ word kinds.End ▸ word kinds.Record)
+
 unfoldable pub recorded : Form
-recorded = alt (act (λ v. none) (word kinds.Null ▸ word kinds.Record)) (act part_2 (word kinds.Record ▸ components ▸ word kinds.End ▸ word kinds.Record))
+recorded = alt null_record full_record
+
+unfoldable pub limited_record : Form
+limited_record = act (λ v. tag 40 (pair yes (second v))) (word kinds.Limited ▸ recorded)
 
 unfoldable pub extension : Form
 extension = act (λ v. tag 41 (pair (first v) (behind_2 v))) (behind kinds.New ▸ word kinds.With ▸ recorded)
@@ -276,7 +290,7 @@ unfoldable pub access : Form
 access = act (λ v. tag 42 (second v)) (word kinds.Access ▸ flag kinds.All ▸ dotted ▸ designated_attribute ▸ aspect)
 
 unfoldable pub definition : Form
-definition = alt (act (λ v. tag 40 (pair yes (second v))) (word kinds.Limited ▸ recorded)) (alt (extension) (alt (access) (act (λ v. tag 40 (pair no v)) recorded)))
+definition = alt limited_record (alt (extension) (alt (access) (act (λ v. tag 40 (pair no v)) recorded)))
 
 -- ---- items that hold no other item
 
@@ -289,8 +303,11 @@ context = act (λ v. pair (first v) (part_2 v)) (context_kind ▸ dotted_list ki
 unfoldable pub contexts : Form
 contexts = many context
 
+unfoldable pub defined : Form
+defined = alt (act (λ v. yes) (word kinds.Tagged)) (act (λ v. pair none v) definition)
+
 unfoldable pub type_kind : Form
-type_kind = alt (act second (word kinds.Is ▸ alt (act (λ v. yes) (word kinds.Tagged)) (act (λ v. pair none v) definition))) (act (λ v. no) empty)
+type_kind = alt (act second (word kinds.Is ▸ defined)) (act (λ v. no) empty)
 
 unfoldable pub type_item : Form
 type_item = act (λ v. pair (first v) (tag 50 (pair (part_2 v) (part_3 v)))) (spot kinds.Type ▸ identifier ▸ type_kind ▸ word kinds.Semicolon)
@@ -387,30 +404,72 @@ handled = statements ▸ handlers
 
 -- ---- bodies
 
--- what can begin a body alone, as a function has no instance
+-- parameters that open no construct
+unfoldable pub plain_formals : Form
+plain_formals = act (λ v. none) (alt in_formals empty)
+
+unfoldable pub start_of_function : Form
+start_of_function = act (λ v. none) (word kinds.Function ▸ identifier ▸ plain_formals ▸ word kinds.Return ▸ dotted)
+
+unfoldable pub start_of_procedure : Form
+start_of_procedure = act (λ v. none) (word kinds.Procedure ▸ identifier ▸ plain_formals)
+
+-- what can begin a function's body alone, as a function has no instance
+unfoldable pub start_of_function_body : Form
+start_of_function_body = act (λ v. none) (start_of_function ▸ word kinds.Is)
+
+-- what can begin a body alone behind `overriding`, where no instance may stand
 unfoldable pub start_of_body : Form
-start_of_body = alt (word kinds.Function ▸ identifier ▸ alt in_formals empty ▸ word kinds.Return ▸ dotted) (word kinds.Procedure ▸ identifier ▸ alt in_formals empty) ▸ word kinds.Is
+start_of_body = act (λ v. none) (alt start_of_function start_of_procedure ▸ word kinds.Is)
+
+-- a token that can stand behind the `is` of a body
+unfoldable pub start_of_bare_body : Form
+start_of_bare_body = alt (word kinds.Overriding) (alt (word kinds.Procedure) (alt (word kinds.Function) (alt (word kinds.Type) (alt (word kinds.For) (alt (word kinds.Identifier) (word kinds.Begin))))))
+
+unfoldable pub behind_start : Form
+behind_start = alt (act (λ v. none) (in_formals ▸ word kinds.Is)) (act (λ v. none) (word kinds.Is ▸ start_of_bare_body))
 
 -- what can begin a procedure body alone
 unfoldable pub start_of_procedure_body : Form
-start_of_procedure_body = word kinds.Procedure ▸ identifier ▸ alt (in_formals ▸ word kinds.Is) (word kinds.Is ▸ alt (word kinds.Overriding) (alt (word kinds.Procedure) (alt (word kinds.Function) (alt (word kinds.Type) (alt (word kinds.For) (alt (word kinds.Identifier) (word kinds.Begin)))))))
+start_of_procedure_body = act (λ v. none) (word kinds.Procedure ▸ identifier ▸ behind_start)
 
 -- a semicolon, or a body, behind a heading
 unfoldable pub completed : Form
 completed = alt (act (λ v. none) (word kinds.Semicolon)) (act (λ v. pair none v) (nest Body))
 
+-- a heading, and what completes it
+abbrev pub heading : Form → Form
+heading f = within f part_2_letters completed
+
+unfoldable pub completed_specification : Form
+completed_specification = late start_of_body (heading specification)
+
+unfoldable pub completed_function : Form
+completed_function = late start_of_function_body (heading function)
+
 unfoldable pub overriding_item : Form
-overriding_item = act (λ v. pair (first v) (tag 53 (pair yes (second v)))) (spot kinds.Overriding ▸ late start_of_body (within specification part_2_letters completed))
+overriding_item = act (λ v. pair (first v) (tag 53 (pair yes (second v)))) (spot kinds.Overriding ▸ completed_specification)
 
 unfoldable pub function_item : Form
-function_item = act (λ v. pair (first (first v)) (tag 53 (pair no v))) (late start_of_body (within function part_2_letters completed))
+function_item = act (λ v. pair (first (first v)) (tag 53 (pair no v))) completed_function
+
+-- an instance, or a body without parameters, behind the `is` of a procedure
+unfoldable pub behind_is : Form
+behind_is = alt (act (λ v. pair yes v) (apart instance)) (act (λ v. pair none (pair none (pair none v))) (nest BareBody))
 
 -- what stands behind the name of a procedure that does not say `overriding`
 unfoldable pub behind_name : Form
-behind_name = alt (act (λ v. pair none v) (apart (nest Formals) ▸ completed)) (alt (act second (word kinds.Is ▸ alt (act (λ v. pair yes v) (apart instance)) (act (λ v. pair none (pair none (pair none v))) (nest BareBody)))) (act (λ v. pair none (pair none none)) (word kinds.Semicolon)))
+behind_name = alt (act (λ v. pair none v) (apart (nest Formals) ▸ completed)) (alt (act second (word kinds.Is ▸ behind_is)) (act (λ v. pair none (pair none none)) (word kinds.Semicolon)))
+
+-- a procedure that does not say `overriding`
+abbrev pub plain_procedure : Form
+plain_procedure = within (spot kinds.Procedure ▸ identifier) (λ v. first (second v)) behind_name
+
+unfoldable pub completed_procedure : Form
+completed_procedure = late start_of_procedure_body plain_procedure
 
 unfoldable pub procedure_item : Form
-procedure_item = act (λ v. procedure_of (first (first v)) (second (first v)) (second v)) (late start_of_procedure_body (within (spot kinds.Procedure ▸ identifier) (λ v. first (second v)) behind_name))
+procedure_item = act (λ v. pair (first (first v)) (procedure_of (first (first v)) (second (first v)) (second v))) completed_procedure
 
 unfoldable pub item : Form
 item = alt (overriding_item) (alt (procedure_item) (alt (function_item) (alt (type_item) (alt (clause) (named_item)))))
@@ -422,7 +481,7 @@ unfoldable pub completion : Form
 completion = act (λ v. pair (first v) (pair (part_3 v) (part_5 v))) (apart part ▸ word kinds.Begin ▸ apart handled ▸ word kinds.End ▸ end_name ▸ word kinds.Semicolon)
 
 unfoldable pub declared : Form
-declared = alt (act (λ v. pair (first v) (second v)) (spot kinds.Declare ▸ part)) empty
+declared = alt (spot kinds.Declare ▸ part) (act (λ v. pair none none) empty)
 
 -- ---- constructs
 

@@ -6,3 +6,4 @@ pub mod Nodes
 pub mod Reading
 pub mod Spelling
 pub mod Text
+pub mod Fault

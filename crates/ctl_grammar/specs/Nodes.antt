@@ -1,6 +1,5 @@
 -- What texts of the grammar stand for, as nodes.
 use Rattle.std.specs.Prelude.{ℕ, Bool, true, false, ◌==◌, ◌&&◌, List, [], ◌∷◌}
-use Rattle.ctl_tree.specs.declared.token.Token.{Token}
 use Rattle.ctl_grammar.specs.Form.{Node, none, leaf, num, written, at, pair, tag}
 
 -- ---- the parts of a node
@@ -267,16 +266,16 @@ assignment_of n (tag m v) = none
 abbrev pub part_2_letters : Node → Node
 part_2_letters v = first (part_2 v)
 
--- A procedure that does not say `overriding`, from its place, its name and what stands behind that: the actuals of an
+-- What a procedure that does not say `overriding` is, from its place, its name and what stands behind that: the actuals of an
 -- instance, or its parameters with its body, if it has one.
 abbrev pub procedure_of : Node → Node → Node → Node
-procedure_of p id (pair none v) = pair p (tag 53 (pair no (pair (pair p (pair id (pair (first v) none))) (second v))))
-procedure_of p id (pair (leaf t) v) = pair p (tag 54 (pair id v))
-procedure_of p id (pair (num n) v) = pair p (tag 54 (pair id v))
-procedure_of p id (pair (written s) v) = pair p (tag 54 (pair id v))
-procedure_of p id (pair (at q) v) = pair p (tag 54 (pair id v))
-procedure_of p id (pair (pair a b) v) = pair p (tag 54 (pair id v))
-procedure_of p id (pair (tag n w) v) = pair p (tag 54 (pair id v))
+procedure_of p id (pair none v) = tag 53 (pair no (pair (pair p (pair id (pair (first v) none))) (second v)))
+procedure_of p id (pair (leaf t) v) = tag 54 (pair id v)
+procedure_of p id (pair (num n) v) = tag 54 (pair id v)
+procedure_of p id (pair (written s) v) = tag 54 (pair id v)
+procedure_of p id (pair (at q) v) = tag 54 (pair id v)
+procedure_of p id (pair (pair a b) v) = tag 54 (pair id v)
+procedure_of p id (pair (tag n w) v) = tag 54 (pair id v)
 procedure_of p id none = none
 procedure_of p id (leaf t) = none
 procedure_of p id (num n) = none

@@ -1,5 +1,5 @@
 -- Reading a form from left to right, one token ahead, with the first fault that is met.
-use Rattle.std.specs.Prelude.{◌≡◌, ℕ, zero, suc, Bool, true, false, ◌&&◌, ◌||◌, not, List, [], ◌∷◌, ◌++◌, length, Result, Ok, Err, cond}
+use Rattle.std.specs.Prelude.{◌≡◌, ℕ, zero, suc, Bool, true, false, ◌&&◌, ◌||◌, not, List, [], ◌∷◌, length, Result, Ok, Err, cond}
 use Rattle.ctl_tree.specs.declared.token.Kind.{Kind}
 use Rattle.ctl_tree.specs.declared.token.Token.{Token}
 use Rattle.ctl_grammar.specs.declared.refused.Reason.{Reason}
@@ -7,7 +7,7 @@ use Rattle.ctl_grammar.specs.declared.refused.Reason.TheVariants.{Unexpected, To
 use Rattle.ctl_grammar.specs.declared.refused.Refused.{Refused}
 use Rattle.ctl_grammar.specs.declared.refused.Refused.TheVariants as refused
 use Rattle.ctl_grammar.specs.Kind.{same_kind}
-use Rattle.ctl_grammar.specs.Form.{Node, none, leaf, num, written, at, pair, tag, Nest, Rule, Known, Ends, Form, word, keep, tested, empty, seq, within, alt, when, many, act, late, nest, has, starts, nest_starts}
+use Rattle.ctl_grammar.specs.Form.{Node, none, leaf, pair, Nest, Rule, Known, Ends, Form, word, keep, tested, empty, seq, within, alt, when, many, act, late, nest, has, starts, nest_starts}
 use Rattle.ctl_grammar.specs.Grammar.{body}
 
 -- what was read and the tokens behind it, or what is wrong and the tokens from the faulty one on
@@ -18,6 +18,10 @@ infixl 10 ◌>>=◌
 abbrev pub ◌>>=◌ : Read → (Node × List Token → Read) → Read
 (Ok x) >>= f = f x
 (Err e) >>= f = Err e
+
+-- what was read, where the node is made from what was read
+abbrev pub made : (Node → Node) → Read → Read
+made f o = o >>= λ x. Ok (f x.0, x.1)
 
 -- what is wrong where a rule of names is broken
 abbrev pub broken : Rule → Reason
@@ -102,6 +106,14 @@ read_with counts moved left f env ts = reader counts (moved && is_zero left) (co
 -- what the parser is to answer
 abbrev pub read : ℕ → Form → Node → List Token → Read
 read left f env ts = read_with true true left f env ts
+
+-- whether the tokens begin with the form
+abbrev pub is_ahead : Form → List Token → Bool
+is_ahead head ts = is_read (reader false false nowhere head none ts)
+
+-- whether what is too deep is to stand at the first of these tokens: no more construct may be opened, and they begin so
+abbrev pub starts_too_deep : ℕ → Form → List Token → Bool
+starts_too_deep left head ts = is_zero left && is_ahead head ts
 
 -- What a function returned, seen by view, and the tokens that it left are what reading gives, unless memory ran out.
 abbrev pub Gives : {X : Type 0} → (X → Node) → Result X Refused → List Token → Read → Type 0

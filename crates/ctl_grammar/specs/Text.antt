@@ -1,11 +1,10 @@
 -- Whole texts: which tokens spell a program, and which token is the first that does not fit.
-use Rattle.std.specs.Prelude.{◌≡◌, ℕ, Bool, true, false, List, [], ◌∷◌, ◌++◌, Ok, Err}
+use Rattle.std.specs.Prelude.{◌≡◌, ℕ, true, false, List, [], ◌∷◌, ◌++◌, Ok, Err}
 use Rattle.ctl_tree.specs.declared.token.Token.{Token}
-use Rattle.ctl_grammar.specs.declared.refused.Reason.{Reason}
 use Rattle.ctl_grammar.specs.declared.refused.Reason.TheVariants.{Unexpected, TooDeep, LeftOut, EndName}
 use Rattle.ctl_grammar.specs.Form.{Node, none}
-use Rattle.ctl_grammar.specs.Grammar.{program}
-use Rattle.ctl_grammar.specs.Reading.{Read, ◌>>=◌, read}
+use Rattle.ctl_grammar.specs.Grammar.{program, start_of_body, start_of_function_body, start_of_procedure_body, completed_specification, completed_function, completed_procedure}
+use Rattle.ctl_grammar.specs.Reading.{Read, ◌>>=◌, read, starts_too_deep}
 use Rattle.ctl_grammar.specs.Derivation.{Spells, Begins}
 
 -- The tokens spell a program that stands for the node, with at most so many constructs in one another; the rules of names hold.
@@ -63,3 +62,10 @@ FindsTheEndName = (left : ℕ) (ts rest : List Token) → answer left ts ≡ Err
 -- to none of this depth. The place that is answered is this token, or the beginning of the body in whose heading it stands.
 abbrev pub FindsTheTooDeep : Type 0
 FindsTheTooDeep = (left : ℕ) (ts rest : List Token) → answer left ts ≡ Err (TooDeep, rest) → (there : List Token) × IsRefused left ts there
+
+-- Where no more construct may be opened and the tokens can begin nothing but a body, the item is too deep, at its first token.
+abbrev pub PlacesDeepBodies : Type 0
+PlacesDeepBodies = (left : ℕ) (ts : List Token)
+    → (starts_too_deep left start_of_body ts ≡ true → read left completed_specification none ts ≡ Err (TooDeep, ts))
+    × (starts_too_deep left start_of_function_body ts ≡ true → read left completed_function none ts ≡ Err (TooDeep, ts))
+    × (starts_too_deep left start_of_procedure_body ts ≡ true → read left completed_procedure none ts ≡ Err (TooDeep, ts))

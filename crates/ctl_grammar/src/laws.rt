@@ -1,6 +1,8 @@
-//! The laws of the grammar. Each function does nothing: its contract is the law, over the definitions of `specs/Text.antt`.
+//! The laws of the grammar. Each function does nothing: its contract is the law, over the definitions of `specs/Text.antt` and
+//! `specs/Fault.antt`.
 
-ghost use Rattle.ctl_grammar.specs.Text.{FindsTheEndName, FindsTheLeftOut, FindsTheTooDeep, FindsTheUnexpected, ReadsWhatIsSpelled, SpellsOneTree, SpellsWhatIsRead};
+ghost use Rattle.ctl_grammar.specs.Fault.{FaultsAreFirst, OneOfBoth, ProgramOrFault};
+ghost use Rattle.ctl_grammar.specs.Text.{FindsTheEndName, FindsTheLeftOut, FindsTheTooDeep, FindsTheUnexpected, PlacesDeepBodies, ReadsWhatIsSpelled, SpellsOneTree, SpellsWhatIsRead};
 
 /// A list of tokens spells at most one tree.
 pub fn tokens_spell_one_tree()
@@ -36,4 +38,24 @@ pub fn first_wrong_end_name()
 /// Where the answer is that too many constructs are open, the tokens up to some token go on to no program of this depth.
 pub fn first_construct_too_deep()
     ensures { FindsTheTooDeep }
+{}
+
+/// Where no more construct may be opened, an item that can be nothing but a body is answered to be too deep at its first token.
+pub fn deep_body_at_its_first_token()
+    ensures { PlacesDeepBodies }
+{}
+
+/// The fault of tokens stands at a token that is the first to be wrong for its reason.
+pub fn faults_are_first()
+    ensures { FaultsAreFirst }
+{}
+
+/// Tokens spell a program, or they have a fault.
+pub fn program_or_fault()
+    ensures { ProgramOrFault }
+{}
+
+/// Tokens that spell a program have no fault, and others have one fault alone.
+pub fn one_of_both()
+    ensures { OneOfBoth }
 {}

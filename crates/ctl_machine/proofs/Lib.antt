@@ -1,0 +1,16 @@
+pub mod Numbers
+pub mod FreshSlots
+pub mod ObjectsByNumber
+pub mod MastersByNumber
+pub mod Worlds
+pub mod Soundness
+pub mod Levels
+pub mod Called
+pub mod Tops
+pub mod Begun
+pub mod Layers
+pub mod Leaving
+pub mod Births
+pub mod Silent
+pub mod Steps
+pub mod Ends

@@ -1,9 +1,14 @@
 //! The machine that runs the code, a step at a time.
 #![tactic(auto)]
 
+mod advance;
+mod calls;
 mod engine;
 mod frame;
 pub mod machine;
 mod masters;
 mod objects;
 pub mod outcome;
+mod resume;
+mod texts;
+mod world;

@@ -1,6 +1,8 @@
-//! The active masters, with what their uses find and the layers that they finalize.
+//! An active master, with what its uses find and the layers that it finalizes.
 
-ghost use Rattle.std.specs.Prelude.{◌≡◌, ◌+◌, ◌-◌, ◌^◌, ◌<◌, ◌≤◌, OnOk, OnErr, IfOk};
+ghost use Rattle.std.specs.Prelude.{◌≡◌, ◌≢◌, All, IfNone, IfOk, IfSome, map, slice_set, take};
+ghost use Rattle.ctl_machine.specs.Masters.{AreRising, slots_for, slot_of};
+ghost use Rattle.ctl_machine.specs.Numbers.{StandsAt};
 
 use std::alloc::{AllocError, Global};
 
@@ -9,182 +11,68 @@ use std::alloc::{AllocError, Global};
 pub enum Slot {
     /// nothing is elaborated here yet
     Unset,
-    /// an object, by its number
-    Object(u64),
+    /// a declared object, by its number
+    Holds(u64),
+    /// a formal parameter stands for the object of this number
+    Binds(u64),
 }
 
-/// An active master: an execution of a body or a block (RM 7.6.1).
+/// A declared object that a master finalizes: its number and its record type.
+#[derive(Clone, Copy, Debug, PartialEq, Eq)]
+pub struct Member {
+    pub number: u64,
+    pub record: usize,
+}
+
+/// An active master: an execution of a body or a block (RM 7.6.1). The outermost one stands for what is around the main
+/// procedure, and has number 0.
 #[derive(Drop)]
-struct Master {
-    number: u64,
-    /// the active masters that its part sees, by level, itself last
-    display: Vec<u64>,
-    slots: Vec<Slot>,
-    /// the objects that its part has declared
-    objects: Vec<u64>,
-    /// those of them that are to be finalized, in the order of creation
-    layers: Vec<u64>,
+pub struct Master {
+    pub number: u64,
+    /// the active masters that its part sees, by level, itself last; none for the outermost
+    pub display: Vec<u64>,
+    pub slots: Vec<Slot>,
+    /// the objects that are to be finalized, in the order of creation
+    pub layers: Vec<Member>,
 }
 
-/// The active masters, the newest last, and the number that was given last: the first master has number 1.
-#[derive(Drop)]
-pub struct Masters {
-    alloc: Global,
-    pub(crate) given: u64,
-    active: Vec<Master>,
-}
-
-impl Masters {
-    /// No master yet.
-    pub fn new(alloc: Global) -> Masters
-        ensures { result.given ≡ 0 }
-    {
-        Masters {
-            alloc,
-            given: 0,
-            active: Vec::new(alloc),
+/// So many slots, of which the first stands for the formal parameter, if there is one.
+pub fn slots_of(alloc: Global, formal: Option<u64>, count: usize) -> Result<Vec<Slot>, AllocError>
+    ensures { IfOk result (λ slots. map slot_of slots.items ≡ slots_for formal count) }
+{
+    match formal {
+        None => vec![in alloc; Slot::Unset; count],
+        Some(object) => {
+            let mut slots = vec![in alloc; Slot::Unset; count.max(1)]?;
+            slots[0] = Slot::Binds(object);
+            Ok(slots)
         }
-    }
-
-    /// Enters a master in the part that the newest one is in. Unchanged where memory is refused.
-    pub fn open_block(&mut self, slots: usize) -> Result<(), AllocError>
-        requires { self.old.given < 2 ^ 64 - 1 }
-        ensures ok { OnOk result (self.new.given ≡ self.old.given + 1) }
-        ensures err { OnErr result (self.new.given ≡ self.old.given) }
-    {
-        let display = match self.active.last() {
-            Some(newest) => Vec::from_slice(self.alloc, newest.display.as_slice())?,
-            None => Vec::new(self.alloc),
-        };
-        self.open(display, slots, None)
-    }
-
-    /// Enters the body of a subprogram that the part of `home` declares at this level; its formal parameter is this object.
-    /// Unchanged where memory is refused.
-    pub fn open_body(
-        &mut self,
-        home: u64,
-        level: usize,
-        slots: usize,
-        formal: Option<u64>,
-    ) -> Result<(), AllocError>
-        requires { self.old.given < 2 ^ 64 - 1 }
-        ensures ok { OnOk result (self.new.given ≡ self.old.given + 1) }
-        ensures err { OnErr result (self.new.given ≡ self.old.given) }
-    {
-        let display = match self.of_number(home) {
-            Some(master) => Vec::from_slice(
-                self.alloc,
-                first_of(master.display.as_slice(), level),
-            )?,
-            None => Vec::new(self.alloc),
-        };
-        self.open(display, slots, formal)
-    }
-
-    fn open(
-        &mut self,
-        display: Vec<u64>,
-        slots: usize,
-        formal: Option<u64>,
-    ) -> Result<(), AllocError>
-        requires { self.old.given < 2 ^ 64 - 1 }
-        ensures ok { OnOk result (self.new.given ≡ self.old.given + 1) }
-        ensures err { OnErr result (self.new.given ≡ self.old.given) }
-    {
-        let number = self.given + 1;
-        let mut display = display;
-        display.push(number)?;
-        let mut slots = vec![in self.alloc; Slot::Unset; slots]?;
-        if let Some(object) = formal
-            && let Some(first) = slots.first_mut()
-        {
-            *first = Slot::Object(object);
-        }
-        self.active.push(Master {
-            number,
-            display,
-            slots,
-            objects: Vec::new(self.alloc),
-            layers: Vec::new(self.alloc),
-        })?;
-        self.given = number;
-        Ok(())
-    }
-
-    /// The active master of this number. Numbers grow from the oldest to the newest.
-    fn of_number(&self, number: u64) -> Option<&Master> {
-        match self
-            .active
-            .binary_search_by(|master| master.number.cmp(&number))
-        {
-            Ok(index) => self.active.get(index),
-            Err(_) => None,
-        }
-    }
-
-    /// The number of the newest master.
-    pub fn newest(&self) -> Option<u64> {
-        self.active.last().map(|master| master.number)
-    }
-
-    /// Makes room for one more object of the newest master, and for its layer.
-    pub fn reserve(&mut self) -> Result<(), AllocError>
-        ensures { self.new.given ≡ self.old.given }
-    {
-        if let Some(newest) = self.active.last_mut() {
-            newest.objects.reserve(1)?;
-            newest.layers.reserve(1)?;
-        }
-        Ok(())
-    }
-
-    /// The part of the newest master has declared this object in this slot.
-    pub fn declare(&mut self, slot: usize, object: u64) -> Result<(), AllocError>
-        ensures { self.new.given ≡ self.old.given }
-    {
-        if let Some(newest) = self.active.last_mut() {
-            newest.objects.push(object)?;
-            if let Some(place) = newest.slots.get_mut(slot) {
-                *place = Slot::Object(object);
-            }
-        }
-        Ok(())
-    }
-
-    /// The initialization of this object succeeded: it is the newest layer of the newest master.
-    pub fn add_layer(&mut self, object: u64) -> Result<(), AllocError>
-        ensures { self.new.given ≡ self.old.given }
-    {
-        if let Some(newest) = self.active.last_mut() {
-            newest.layers.push(object)?;
-        }
-        Ok(())
-    }
-
-    /// Takes the newest layer off the newest master.
-    pub fn take_layer(&mut self) -> Option<u64>
-        ensures { self.new.given ≡ self.old.given }
-    {
-        self.active.last_mut()?.layers.pop()
-    }
-
-    /// The newest master is left: the objects that its part declared, which are gone with it.
-    pub fn close(&mut self) -> Option<Vec<u64>>
-        ensures { self.new.given ≡ self.old.given }
-    {
-        let Master {
-            number: _,
-            display: _,
-            slots: _,
-            objects,
-            layers: _,
-        } = self.active.pop()?;
-        Some(objects)
     }
 }
 
-/// The first `count` numbers, or all where there are fewer.
-fn first_of(numbers: &[u64], count: usize) -> &[u64] {
-    numbers.get(..count).unwrap_or(numbers)
+/// The slot at this place, where there is one, has a new content.
+pub fn put_slot(slots: &mut Vec<Slot>, place: usize, slot: Slot)
+    ensures { map slot_of slots.new.items ≡ slice_set (map slot_of slots.old.items) place (slot_of slot) }
+{
+    if place < slots.len() {
+        slots[place] = slot;
+    }
+}
+
+/// The place of the master of this number.
+pub fn place_of_master(masters: &[Master], number: u64) -> Option<usize>
+    requires rising { AreRising masters.now }
+    ensures found { IfSome result (StandsAt (λ m. m.number) masters.now number) }
+    ensures absent { IfNone result (All (λ m. m.number ≢ number) masters.now) }
+{
+    masters
+        .binary_search_by_key(&number, |master| master.number)
+        .ok()
+}
+
+/// The first so many numbers, or all where there are fewer.
+pub fn first_of(numbers: &[u64], count: usize) -> &[u64]
+    ensures { result.now ≡ take count numbers.now }
+{
+    &numbers[..count.min(numbers.len())]
 }

@@ -1,9 +1,11 @@
-//! The objects that exist, by their numbers.
+//! The objects that exist, in the order of their creation.
 
-ghost use Rattle.std.specs.Prelude.{◌≡◌, ◌+◌, ◌-◌, ◌^◌, ◌<◌, ◌≤◌, OnOk, OnErr, IfOk};
-
-use indexmap::IndexMap;
-use std::alloc::{AllocError, Global};
+ghost use Rattle.std.specs.Prelude.{◌≡◌, ◌≢◌, All, IfNone, IfSome, if◌then◌else◌};
+ghost use Rattle.ctl_meaning.specs.World as W;
+ghost use Rattle.ctl_meaning.specs.Objects.{change_in, is_untouched, object_in, with_begun, with_finalized};
+ghost use Rattle.ctl_machine.specs.Numbers.{StandsAt};
+ghost use Rattle.ctl_machine.specs.Objects.{IsFrontOf, IsRising, InOrder, StayInPlace, UpTo, kept_without, objects_of, state_of};
+ghost use Rattle.ctl_machine.specs.World.{IsHome};
 
 /// How far an object has come on the way to its end (RM 7.6.1).
 #[derive(Clone, Copy, Debug, PartialEq, Eq)]
@@ -13,72 +15,77 @@ pub enum State {
     Finalized,
 }
 
-/// An object that exists: its record type, its state, and the master that declares it.
+impl State {
+    /// The state once a finalization is complete: Finalized, if one has begun.
+    #[tactic(auto, unfolding(ctl_meaning::specs::Objects::is_untouched))]
+    fn completed(self) -> State
+        ensures { state_of result ≡ if is_untouched (state_of self) then W.Untouched else W.Finalized }
+    {
+        match self {
+            State::Untouched => State::Untouched,
+            State::Finalizing | State::Finalized => State::Finalized,
+        }
+    }
+}
+
+/// An object that exists: its number, its record type, the master that declares it, and its state.
 #[derive(Clone, Copy, Debug, PartialEq, Eq)]
 pub struct Object {
+    pub number: u64,
     pub record: usize,
-    pub state: State,
     pub master: u64,
+    pub state: State,
 }
 
-/// The objects that exist, and the number that was given last: the first object has number 1.
-#[derive(Drop)]
-pub struct Objects {
-    pub(crate) given: u64,
-    by_number: IndexMap<u64, Object>,
+/// The place of the object of this number. Numbers rise in the order of creation.
+pub fn place_of(objects: &[Object], number: u64) -> Option<usize>
+    requires rising { IsRising objects.now }
+    ensures found { IfSome result (StandsAt (λ o. o.number) objects.now number) }
+    ensures absent { IfNone result (All (λ o. o.number ≢ number) objects.now) }
+{
+    objects
+        .binary_search_by_key(&number, |object| object.number)
+        .ok()
 }
 
-impl Objects {
-    /// No object yet.
-    pub fn new(alloc: Global) -> Objects
-        ensures { result.given ≡ 0 }
-    {
-        Objects {
-            given: 0,
-            by_number: IndexMap::new(alloc),
-        }
-    }
+/// The master that declares the object of this number, where that object exists.
+pub fn home_in(objects: &[Object], number: u64) -> Option<u64>
+    requires rising { IsRising objects.now }
+    ensures { IsHome (object_in number (objects_of objects.now)) result }
+{
+    let place = place_of(objects, number)?;
+    Some(objects[place].master)
+}
 
-    /// The object of the next number; unchanged where memory is refused.
-    pub fn create(&mut self, record: usize, master: u64) -> Result<u64, AllocError>
-        requires { self.old.given < 2 ^ 64 - 1 }
-        ensures number { IfOk result (λ n. n ≡ self.old.given + 1) }
-        ensures given { OnOk result (self.new.given ≡ self.old.given + 1) }
-        ensures err { OnErr result (self.new.given ≡ self.old.given) }
-    {
-        let number = self.given + 1;
-        self.by_number.insert(
-            number,
-            Object {
-                record,
-                state: State::Untouched,
-                master,
-            },
-        )?;
-        self.given = number;
-        Ok(number)
+/// The finalization of this object begins, where it exists (RM 7.6.1).
+pub fn begin_finalization(objects: &mut Vec<Object>, number: u64)
+    requires rising { IsRising objects.old.items }
+    ensures changed { objects_of objects.new.items ≡ change_in number with_begun (objects_of objects.old.items) }
+    ensures others { StayInPlace objects.old.items objects.new.items }
+{
+    if let Some(place) = place_of(objects.as_slice(), number) {
+        objects[place].state = State::Finalizing;
     }
+}
 
-    /// The object of this number, where it exists.
-    pub fn get(&self, number: u64) -> Option<Object> {
-        self.by_number.get(&number).copied()
+/// It is complete, if it has begun.
+pub fn end_finalization(objects: &mut Vec<Object>, number: u64)
+    requires rising { IsRising objects.old.items }
+    ensures changed { objects_of objects.new.items ≡ change_in number with_finalized (objects_of objects.old.items) }
+    ensures others { StayInPlace objects.old.items objects.new.items }
+{
+    if let Some(place) = place_of(objects.as_slice(), number) {
+        objects[place].state = objects[place].state.completed();
     }
+}
 
-    /// Sets the state of an object, where it exists.
-    pub fn set_state(&mut self, number: u64, state: State)
-        ensures { self.new.given ≡ self.old.given }
-    {
-        if let Some(object) = self.by_number.get_mut(&number) {
-            object.state = state;
-        }
-    }
-
-    /// These objects cease to exist.
-    pub fn forget_all(&mut self, numbers: &[u64])
-        ensures { self.new.given ≡ self.old.given }
-    {
-        for number in numbers {
-            let _ = self.by_number.swap_remove(number);
-        }
-    }
+/// Objects of this master cease to exist. Those of the newest master stand last.
+pub fn forget_declared(objects: &mut Vec<Object>, master: u64)
+    requires in_order { InOrder objects.old.items }
+    requires newest { UpTo master objects.old.items }
+    ensures kept { objects.new.items ≡ kept_without master objects.old.items }
+    ensures front { IsFrontOf objects.old.items objects.new.items }
+{
+    let kept = objects.partition_point(|object| object.master < master);
+    objects.truncate(kept);
 }

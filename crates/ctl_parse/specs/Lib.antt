@@ -1,0 +1,4 @@
+pub mod Heading
+pub mod Known
+pub mod Memory
+pub mod View

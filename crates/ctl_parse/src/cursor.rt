@@ -1,6 +1,10 @@
 //! Where the parser stands, and the reading of single tokens.
 
-ghost use Rattle.std.specs.Prelude.{◌≡◌, ◌<◌, ◌≤◌, length, OnOk};
+ghost use Rattle.std.specs.Prelude.{◌≡◌, ◌<◌, ◌≤◌, ◌∷◌, [], length, OnOk};
+ghost use Rattle.ctl_grammar.specs.Form.{none, leaf, at};
+ghost use Rattle.ctl_grammar.specs.Grammar.{flag, spot};
+ghost use Rattle.ctl_grammar.specs.Reading.{Gives, begins, token_at, read};
+ghost use Rattle.ctl_parse.specs.View.{flag_node};
 
 use ctl_grammar::kind::is_same_kind;
 use ctl_grammar::refused::{Reason, Refused};
@@ -20,7 +24,9 @@ pub(crate) struct Parser<'a> {
 
 impl<'a> Parser<'a> {
     /// Whether the next token is of this kind.
-    pub(crate) fn next_is(&self, kind: Kind) -> bool {
+    pub(crate) fn next_is(&self, kind: Kind) -> bool
+        ensures { result ≡ begins (kind ∷ []) self.now.rest.now }
+    {
         match self.rest.first() {
             Some(token) => is_same_kind(kind, token.kind),
             None => false,
@@ -29,6 +35,7 @@ impl<'a> Parser<'a> {
 
     /// The next token, which is to be of this kind.
     pub(crate) fn take(&mut self, kind: Kind) -> Result<&'a Token, Refused>
+        ensures given { Gives (λ t. leaf t.now) result self.new.rest.now (token_at kind (λ t. leaf t) self.old.rest.now) }
         ensures left { self.new.left ≡ self.old.left }
         ensures shorter { OnOk result (length self.new.rest.now < length self.old.rest.now) }
     {
@@ -43,6 +50,7 @@ impl<'a> Parser<'a> {
 
     /// Passes over a token of this kind.
     pub(crate) fn skip(&mut self, kind: Kind) -> Result<(), Refused>
+        ensures given { Gives (λ u. none) result self.new.rest.now (token_at kind (λ t. none) self.old.rest.now) }
         ensures left { self.new.left ≡ self.old.left }
         ensures shorter { OnOk result (length self.new.rest.now < length self.old.rest.now) }
     {
@@ -57,20 +65,18 @@ impl<'a> Parser<'a> {
 
     /// Passes over a token of this kind, whose place it gives.
     pub(crate) fn mark(&mut self, kind: Kind) -> Result<Span, Refused>
+        ensures given { Gives at result self.new.rest.now (read self.old.left (spot kind) none self.old.rest.now) }
         ensures left { self.new.left ≡ self.old.left }
         ensures shorter { OnOk result (length self.new.rest.now < length self.old.rest.now) }
     {
-        match self.rest.split_first() {
-            Some((token, rest)) if is_same_kind(kind, token.kind) => {
-                self.rest = rest;
-                Ok(token.span)
-            }
-            _ => Err(Refused::Token(Reason::Unexpected)),
-        }
+        let token = self.take(kind)?;
+        Ok(token.span)
     }
 
     /// Passes over a token of this kind, if it is the next one, and says whether it was.
+    #[tactic(auto, unfolding(ctl_grammar::specs::Grammar::flag))]
     pub(crate) fn took(&mut self, kind: Kind) -> Result<bool, Refused>
+        ensures given { Gives flag_node result self.new.rest.now (read self.old.left (flag kind) none self.old.rest.now) }
         ensures left { self.new.left ≡ self.old.left }
         ensures shorter { OnOk result (length self.new.rest.now ≤ length self.old.rest.now) }
     {

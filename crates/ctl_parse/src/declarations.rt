@@ -1,6 +1,11 @@
 //! Items that hold no other item (RM 3.11).
 
-ghost use Rattle.std.specs.Prelude.{◌≡◌, ◌<◌, ◌≤◌, length, OnOk};
+ghost use Rattle.std.specs.Prelude.{◌≡◌, ◌<◌, ◌≤◌, length, map, OnOk};
+ghost use Rattle.ctl_grammar.specs.Form.{none, num, at, pair, tag, starts};
+ghost use Rattle.ctl_grammar.specs.Grammar.{context_kind, context, contexts, defined, type_kind, type_item, clause, objects, named_kind, named_item, instance};
+ghost use Rattle.ctl_grammar.specs.Nodes.{row_of};
+ghost use Rattle.ctl_grammar.specs.Reading.{Gives, begins, read, made};
+ghost use Rattle.ctl_parse.specs.View.{identifier_node, context_code, context_node, objects_node, view_item_kind, view_item};
 
 use crate::cursor::Parser;
 use crate::known::Known;
@@ -11,7 +16,9 @@ use ctl_tree::tree::{Context, ContextKind, Identifier, Item, ItemKind, Objects};
 
 impl<'a> Parser<'a> {
     /// `"with" | "use"`, with its place
+    #[tactic(auto, unfolding(ctl_grammar::specs::Grammar::context_kind))]
     fn context_kind(&mut self) -> Result<(Span, ContextKind), Refused>
+        ensures given { Gives (λ p. pair (at p.0) (num (context_code p.1))) result self.new.rest.now (read self.old.left context_kind none self.old.rest.now) }
         ensures left { OnOk result (self.new.left ≡ self.old.left) }
         ensures shorter { OnOk result (length self.new.rest.now < length self.old.rest.now) }
     {
@@ -25,7 +32,9 @@ impl<'a> Parser<'a> {
     }
 
     /// `("with" | "use") dotted {"," dotted} ";"` (RM 10.1.2, 8.4)
+    #[tactic(auto, unfolding(ctl_grammar::specs::Grammar::context))]
     fn context(&mut self) -> Result<Context, Refused>
+        ensures given { Gives context_node result self.new.rest.now (read self.old.left context none self.old.rest.now) }
         ensures left { OnOk result (self.new.left ≡ self.old.left) }
         ensures shorter { OnOk result (length self.new.rest.now < length self.old.rest.now) }
     {
@@ -36,12 +45,17 @@ impl<'a> Parser<'a> {
     }
 
     /// Whether a clause of the context is next.
-    fn at_context(&self) -> bool {
+    #[tactic(auto, unfolding(ctl_grammar::specs::Grammar::context, ctl_grammar::specs::Grammar::context_kind))]
+    fn at_context(&self) -> bool
+        ensures { result ≡ begins (starts context) self.now.rest.now }
+    {
         self.next_is(Kind::With) || self.next_is(Kind::Use)
     }
 
     /// `{context}`
+    #[tactic(auto, unfolding(ctl_grammar::specs::Grammar::contexts))]
     pub(crate) fn contexts(&mut self) -> Result<Vec<Context>, Refused>
+        ensures given { Gives (λ v. row_of (map context_node v.items)) result self.new.rest.now (read self.old.left contexts none self.old.rest.now) }
         ensures left { OnOk result (self.new.left ≡ self.old.left) }
         ensures shorter { OnOk result (length self.new.rest.now ≤ length self.old.rest.now) }
     {
@@ -54,7 +68,9 @@ impl<'a> Parser<'a> {
     }
 
     /// What stands between the `is` of a type and its semicolon.
+    #[tactic(auto, unfolding(ctl_grammar::specs::Grammar::defined))]
     fn defined(&mut self, name: Identifier) -> Result<ItemKind, Refused>
+        ensures given { Gives view_item_kind result self.new.rest.now (made (λ v. tag 50 (pair (identifier_node name) v)) (read self.old.left defined none self.old.rest.now)) }
         ensures left { OnOk result (self.new.left ≡ self.old.left) }
         ensures shorter { OnOk result (length self.new.rest.now < length self.old.rest.now) }
     {
@@ -68,7 +84,9 @@ impl<'a> Parser<'a> {
     }
 
     /// What stands between the name of a type and its semicolon.
+    #[tactic(auto, unfolding(ctl_grammar::specs::Grammar::type_kind))]
     fn type_kind(&mut self, name: Identifier) -> Result<ItemKind, Refused>
+        ensures given { Gives view_item_kind result self.new.rest.now (made (λ v. tag 50 (pair (identifier_node name) v)) (read self.old.left type_kind none self.old.rest.now)) }
         ensures left { OnOk result (self.new.left ≡ self.old.left) }
         ensures shorter { OnOk result (length self.new.rest.now ≤ length self.old.rest.now) }
     {
@@ -81,7 +99,9 @@ impl<'a> Parser<'a> {
     }
 
     /// `"type" id ["is" "tagged"] ";" | "type" id "is" typedef ";"` (RM 3.2.1, 3.10.1)
+    #[tactic(auto, unfolding(ctl_grammar::specs::Grammar::type_item))]
     pub(crate) fn type_item(&mut self) -> Result<Item, Refused>
+        ensures given { Gives view_item result self.new.rest.now (read self.old.left type_item none self.old.rest.now) }
         ensures left { OnOk result (self.new.left ≡ self.old.left) }
         ensures shorter { OnOk result (length self.new.rest.now < length self.old.rest.now) }
     {
@@ -93,7 +113,9 @@ impl<'a> Parser<'a> {
     }
 
     /// `"for" id "'" id "use" dotted ";"` (RM 13.3)
+    #[tactic(auto, unfolding(ctl_grammar::specs::Grammar::clause))]
     pub(crate) fn clause(&mut self) -> Result<Item, Refused>
+        ensures given { Gives view_item result self.new.rest.now (read self.old.left clause none self.old.rest.now) }
         ensures left { OnOk result (self.new.left ≡ self.old.left) }
         ensures shorter { OnOk result (length self.new.rest.now < length self.old.rest.now) }
     {
@@ -110,7 +132,9 @@ impl<'a> Parser<'a> {
     }
 
     /// `["aliased"] ["constant"] dotted [assocs] [":=" expr]` behind the names (RM 3.3.1)
+    #[tactic(auto, unfolding(ctl_grammar::specs::Grammar::objects))]
     fn objects(&mut self, names: Vec<Identifier>) -> Result<Objects, Refused>
+        ensures given { Gives (λ o. pair (row_of (map identifier_node o.names.items)) (objects_node o)) result self.new.rest.now (made (λ v. pair (row_of (map identifier_node names.items)) v) (read self.old.left objects none self.old.rest.now)) }
         ensures left { OnOk result (self.new.left ≡ self.old.left) }
         ensures shorter { OnOk result (length self.new.rest.now < length self.old.rest.now) }
     {
@@ -130,7 +154,9 @@ impl<'a> Parser<'a> {
     }
 
     /// What stands between the colon behind names and the semicolon.
+    #[tactic(auto, unfolding(ctl_grammar::specs::Grammar::named_kind))]
     fn named_kind(&mut self, names: Vec<Identifier>) -> Result<ItemKind, Refused>
+        ensures given { Gives view_item_kind result self.new.rest.now (made (λ v. tag 52 (pair (row_of (map identifier_node names.items)) v)) (read self.old.left named_kind none self.old.rest.now)) }
         ensures left { OnOk result (self.new.left ≡ self.old.left) }
         ensures shorter { OnOk result (length self.new.rest.now < length self.old.rest.now) }
     {
@@ -144,7 +170,9 @@ impl<'a> Parser<'a> {
     }
 
     /// `ids ":" "exception" ";"` (RM 11.1), or objects (RM 3.3.1)
+    #[tactic(auto, unfolding(ctl_grammar::specs::Grammar::named_item))]
     pub(crate) fn named_item(&mut self) -> Result<Item, Refused>
+        ensures given { Gives view_item result self.new.rest.now (read self.old.left named_item none self.old.rest.now) }
         ensures left { OnOk result (self.new.left ≡ self.old.left) }
         ensures shorter { OnOk result (length self.new.rest.now < length self.old.rest.now) }
     {
@@ -156,7 +184,9 @@ impl<'a> Parser<'a> {
     }
 
     /// `"new" dotted assocs ";"` behind the `is` of an instance (RM 12.3)
+    #[tactic(auto, unfolding(ctl_grammar::specs::Grammar::instance))]
     pub(crate) fn instance(&mut self, name: Identifier) -> Result<ItemKind, Refused>
+        ensures given { Gives view_item_kind result self.new.rest.now (made (λ v. tag 54 (pair (identifier_node name) v)) (read self.old.left instance none self.old.rest.now)) }
         ensures left { OnOk result (self.new.left ≡ self.old.left) }
         ensures shorter { OnOk result (length self.new.rest.now < length self.old.rest.now) }
     {

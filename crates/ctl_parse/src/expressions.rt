@@ -1,6 +1,11 @@
 //! Expressions and names (RM 4).
 
-ghost use Rattle.std.specs.Prelude.{◌≡◌, ◌<◌, ◌≤◌, length, OnOk};
+ghost use Rattle.std.specs.Prelude.{◌≡◌, ◌<◌, ◌≤◌, length, map, OnOk, true};
+ghost use Rattle.ctl_grammar.specs.Form.{none, at, pair, Enclosed, Arguments, Handle};
+ghost use Rattle.ctl_grammar.specs.Grammar.{suffix, suffixes, name, handle, qualified, allocator, primary, factor, multiplicand, multiplicands, term, addend, addends, simple, compared, relation, next_relation, relations, behind_and, behind_or, joined, expression, next_expression, expressions, body};
+ghost use Rattle.ctl_grammar.specs.Nodes.{row_of};
+ghost use Rattle.ctl_grammar.specs.Reading.{Gives, read, construct};
+ghost use Rattle.ctl_parse.specs.View.{optional, view, view_suffix, view_addend, view_multiplicand, view_name, compared_node, joined_node};
 
 use crate::cursor::Parser;
 use crate::operators::{first_word, name_expression};
@@ -14,7 +19,9 @@ use ctl_tree::tree::{
 impl<'a> Parser<'a> {
     /// `expr`: relations that one logical operator joins; a lone relation stands for itself
     #[cycle(expressions)]
+    #[tactic(auto, unfolding(ctl_grammar::specs::Grammar::expression))]
     pub(crate) fn expression(&mut self) -> Result<Expression, Refused>
+        ensures given { Gives view result self.new.rest.now (read self.old.left expression none self.old.rest.now) }
         ensures left { OnOk result (self.new.left ≡ self.old.left) }
         ensures shorter { OnOk result (length self.new.rest.now < length self.old.rest.now) }
     {
@@ -25,7 +32,9 @@ impl<'a> Parser<'a> {
 
     /// A logical operator, and the relations behind the first one, if there is one.
     #[cycle(expressions)]
+    #[tactic(auto, unfolding(ctl_grammar::specs::Grammar::joined))]
     fn joined(&mut self) -> Result<Option<(LogicalOperator, Vec<Expression>)>, Refused>
+        ensures given { Gives joined_node result self.new.rest.now (read self.old.left joined none self.old.rest.now) }
         ensures left { OnOk result (self.new.left ≡ self.old.left) }
         ensures shorter { OnOk result (length self.new.rest.now ≤ length self.old.rest.now) }
     {
@@ -46,7 +55,9 @@ impl<'a> Parser<'a> {
 
     /// What stands behind the first `and`.
     #[cycle(expressions)]
+    #[tactic(auto, unfolding(ctl_grammar::specs::Grammar::behind_and))]
     fn conjunction(&mut self) -> Result<Option<(LogicalOperator, Vec<Expression>)>, Refused>
+        ensures given { Gives joined_node result self.new.rest.now (read self.old.left behind_and none self.old.rest.now) }
         ensures left { OnOk result (self.new.left ≡ self.old.left) }
         ensures shorter { OnOk result (length self.new.rest.now < length self.old.rest.now) }
     {
@@ -62,7 +73,9 @@ impl<'a> Parser<'a> {
 
     /// What stands behind the first `or`.
     #[cycle(expressions)]
+    #[tactic(auto, unfolding(ctl_grammar::specs::Grammar::behind_or))]
     fn disjunction(&mut self) -> Result<Option<(LogicalOperator, Vec<Expression>)>, Refused>
+        ensures given { Gives joined_node result self.new.rest.now (read self.old.left behind_or none self.old.rest.now) }
         ensures left { OnOk result (self.new.left ≡ self.old.left) }
         ensures shorter { OnOk result (length self.new.rest.now < length self.old.rest.now) }
     {
@@ -78,7 +91,9 @@ impl<'a> Parser<'a> {
 
     /// A relation behind a logical operator.
     #[cycle(expressions)]
+    #[tactic(auto, unfolding(ctl_grammar::specs::Grammar::next_relation))]
     fn next_relation(&mut self, operator: LogicalOperator) -> Result<Expression, Refused>
+        ensures given { Gives view result self.new.rest.now (read self.old.left (next_relation operator) none self.old.rest.now) }
         ensures left { OnOk result (self.new.left ≡ self.old.left) }
         ensures shorter { OnOk result (length self.new.rest.now < length self.old.rest.now) }
     {
@@ -88,7 +103,9 @@ impl<'a> Parser<'a> {
 
     /// Relations that this operator joins.
     #[cycle(expressions)]
+    #[tactic(auto, unfolding(ctl_grammar::specs::Grammar::relations))]
     fn relations(&mut self, operator: LogicalOperator) -> Result<Vec<Expression>, Refused>
+        ensures given { Gives (λ v. row_of (map view v.items)) result self.new.rest.now (read self.old.left (relations operator) none self.old.rest.now) }
         ensures left { OnOk result (self.new.left ≡ self.old.left) }
         ensures shorter { OnOk result (length self.new.rest.now < length self.old.rest.now) }
     {
@@ -104,7 +121,9 @@ impl<'a> Parser<'a> {
 
     /// `simple [RELATIONAL simple]`
     #[cycle(expressions)]
+    #[tactic(auto, unfolding(ctl_grammar::specs::Grammar::relation))]
     fn relation(&mut self) -> Result<Expression, Refused>
+        ensures given { Gives view result self.new.rest.now (read self.old.left relation none self.old.rest.now) }
         ensures left { OnOk result (self.new.left ≡ self.old.left) }
         ensures shorter { OnOk result (length self.new.rest.now < length self.old.rest.now) }
     {
@@ -115,7 +134,9 @@ impl<'a> Parser<'a> {
 
     /// `[RELATIONAL simple]`
     #[cycle(expressions)]
+    #[tactic(auto, unfolding(ctl_grammar::specs::Grammar::compared, ctl_grammar::specs::Grammar::relational))]
     fn compared(&mut self) -> Result<Option<(RelationalOperator, Expression)>, Refused>
+        ensures given { Gives compared_node result self.new.rest.now (read self.old.left compared none self.old.rest.now) }
         ensures left { OnOk result (self.new.left ≡ self.old.left) }
         ensures shorter { OnOk result (length self.new.rest.now ≤ length self.old.rest.now) }
     {
@@ -130,7 +151,9 @@ impl<'a> Parser<'a> {
 
     /// `[SIGN] term {ADDING term}`
     #[cycle(expressions)]
+    #[tactic(auto, unfolding(ctl_grammar::specs::Grammar::simple))]
     pub(crate) fn simple(&mut self) -> Result<Expression, Refused>
+        ensures given { Gives view result self.new.rest.now (read self.old.left simple none self.old.rest.now) }
         ensures left { OnOk result (self.new.left ≡ self.old.left) }
         ensures shorter { OnOk result (length self.new.rest.now < length self.old.rest.now) }
     {
@@ -142,7 +165,9 @@ impl<'a> Parser<'a> {
 
     /// `ADDING term`
     #[cycle(expressions)]
+    #[tactic(auto, unfolding(ctl_grammar::specs::Grammar::addend))]
     fn addend(&mut self) -> Result<Addend, Refused>
+        ensures given { Gives view_addend result self.new.rest.now (read self.old.left addend none self.old.rest.now) }
         ensures left { OnOk result (self.new.left ≡ self.old.left) }
         ensures shorter { OnOk result (length self.new.rest.now < length self.old.rest.now) }
     {
@@ -153,7 +178,9 @@ impl<'a> Parser<'a> {
 
     /// `{ADDING term}`
     #[cycle(expressions)]
+    #[tactic(auto, unfolding(ctl_grammar::specs::Grammar::addends))]
     fn addends(&mut self) -> Result<Vec<Addend>, Refused>
+        ensures given { Gives (λ v. row_of (map view_addend v.items)) result self.new.rest.now (read self.old.left addends none self.old.rest.now) }
         ensures left { OnOk result (self.new.left ≡ self.old.left) }
         ensures shorter { OnOk result (length self.new.rest.now ≤ length self.old.rest.now) }
     {
@@ -167,7 +194,9 @@ impl<'a> Parser<'a> {
 
     /// `factor {MULTIPLYING factor}`
     #[cycle(expressions)]
+    #[tactic(auto, unfolding(ctl_grammar::specs::Grammar::term))]
     fn term(&mut self) -> Result<Expression, Refused>
+        ensures given { Gives view result self.new.rest.now (read self.old.left term none self.old.rest.now) }
         ensures left { OnOk result (self.new.left ≡ self.old.left) }
         ensures shorter { OnOk result (length self.new.rest.now < length self.old.rest.now) }
     {
@@ -178,7 +207,9 @@ impl<'a> Parser<'a> {
 
     /// `MULTIPLYING factor`
     #[cycle(expressions)]
+    #[tactic(auto, unfolding(ctl_grammar::specs::Grammar::multiplicand))]
     fn multiplicand(&mut self) -> Result<Multiplicand, Refused>
+        ensures given { Gives view_multiplicand result self.new.rest.now (read self.old.left multiplicand none self.old.rest.now) }
         ensures left { OnOk result (self.new.left ≡ self.old.left) }
         ensures shorter { OnOk result (length self.new.rest.now < length self.old.rest.now) }
     {
@@ -189,7 +220,9 @@ impl<'a> Parser<'a> {
 
     /// `{MULTIPLYING factor}`
     #[cycle(expressions)]
+    #[tactic(auto, unfolding(ctl_grammar::specs::Grammar::multiplicands))]
     fn multiplicands(&mut self) -> Result<Vec<Multiplicand>, Refused>
+        ensures given { Gives (λ v. row_of (map view_multiplicand v.items)) result self.new.rest.now (read self.old.left multiplicands none self.old.rest.now) }
         ensures left { OnOk result (self.new.left ≡ self.old.left) }
         ensures shorter { OnOk result (length self.new.rest.now ≤ length self.old.rest.now) }
     {
@@ -203,7 +236,9 @@ impl<'a> Parser<'a> {
 
     /// `["abs" | "not"] primary`
     #[cycle(expressions)]
+    #[tactic(auto, unfolding(ctl_grammar::specs::Grammar::factor))]
     fn factor(&mut self) -> Result<Expression, Refused>
+        ensures given { Gives view result self.new.rest.now (read self.old.left factor none self.old.rest.now) }
         ensures left { OnOk result (self.new.left ≡ self.old.left) }
         ensures shorter { OnOk result (length self.new.rest.now < length self.old.rest.now) }
     {
@@ -222,7 +257,9 @@ impl<'a> Parser<'a> {
 
     /// `number | string | "null" | name | "(" expr ")" | allocator`
     #[cycle(expressions)]
+    #[tactic(auto, unfolding(ctl_grammar::specs::Grammar::primary, ctl_grammar::specs::Grammar::number, ctl_grammar::specs::Grammar::string, ctl_grammar::specs::Grammar::null, ctl_grammar::specs::Grammar::name, ctl_grammar::specs::Grammar::identifier, ctl_grammar::specs::Grammar::allocator))]
     fn primary(&mut self) -> Result<Expression, Refused>
+        ensures given { Gives view result self.new.rest.now (read self.old.left primary none self.old.rest.now) }
         ensures left { OnOk result (self.new.left ≡ self.old.left) }
         ensures shorter { OnOk result (length self.new.rest.now < length self.old.rest.now) }
     {
@@ -245,7 +282,9 @@ impl<'a> Parser<'a> {
 
     /// `"new" ["(" name ")"] dotted ["'" "(" expr ")"]`
     #[cycle(expressions)]
+    #[tactic(auto, unfolding(ctl_grammar::specs::Grammar::allocator))]
     fn allocator(&mut self) -> Result<Expression, Refused>
+        ensures given { Gives view result self.new.rest.now (read self.old.left allocator none self.old.rest.now) }
         ensures left { OnOk result (self.new.left ≡ self.old.left) }
         ensures shorter { OnOk result (length self.new.rest.now < length self.old.rest.now) }
     {
@@ -258,7 +297,9 @@ impl<'a> Parser<'a> {
 
     /// `["(" name ")"]`
     #[cycle(expressions)]
+    #[tactic(auto, unfolding(ctl_grammar::specs::Grammar::handle))]
     fn handle(&mut self) -> Result<Option<Name>, Refused>
+        ensures given { Gives (optional view_name) result self.new.rest.now (read self.old.left handle none self.old.rest.now) }
         ensures left { OnOk result (self.new.left ≡ self.old.left) }
         ensures shorter { OnOk result (length self.new.rest.now ≤ length self.old.rest.now) }
     {
@@ -272,7 +313,9 @@ impl<'a> Parser<'a> {
 
     /// `"(" name ")"`, a construct
     #[cycle(expressions)]
+    #[tactic(auto, using(ctl_grammar::proofs::Constructs::construct_opened, ctl_grammar::proofs::Constructs::construct_full, ctl_grammar::proofs::Constructs::construct_other))]
     fn enclosed_name(&mut self) -> Result<Name, Refused>
+        ensures given { Gives view_name result self.new.rest.now (construct true true self.old.left Handle none self.old.rest.now) }
         ensures left { OnOk result (self.new.left ≡ self.old.left) }
         ensures shorter { OnOk result (length self.new.rest.now < length self.old.rest.now) }
     {
@@ -290,7 +333,9 @@ impl<'a> Parser<'a> {
 
     /// `"(" name ")"`
     #[cycle(expressions)]
+    #[tactic(auto, unfolding(ctl_grammar::specs::Grammar::body))]
     fn in_enclosed_name(&mut self) -> Result<Name, Refused>
+        ensures given { Gives view_name result self.new.rest.now (read self.old.left (body Handle) none self.old.rest.now) }
         ensures left { OnOk result (self.new.left ≡ self.old.left) }
         ensures shorter { OnOk result (length self.new.rest.now < length self.old.rest.now) }
     {
@@ -302,7 +347,9 @@ impl<'a> Parser<'a> {
 
     /// `["'" "(" expr ")"]`
     #[cycle(expressions)]
+    #[tactic(auto, unfolding(ctl_grammar::specs::Grammar::qualified))]
     fn qualified(&mut self) -> Result<Option<Expression>, Refused>
+        ensures given { Gives (optional view) result self.new.rest.now (read self.old.left qualified none self.old.rest.now) }
         ensures left { OnOk result (self.new.left ≡ self.old.left) }
         ensures shorter { OnOk result (length self.new.rest.now ≤ length self.old.rest.now) }
     {
@@ -317,7 +364,9 @@ impl<'a> Parser<'a> {
 
     /// `"(" expr ")"`, a construct, with its place
     #[cycle(expressions)]
+    #[tactic(auto, using(ctl_grammar::proofs::Constructs::construct_opened, ctl_grammar::proofs::Constructs::construct_full, ctl_grammar::proofs::Constructs::construct_other))]
     fn enclosed(&mut self) -> Result<(Span, Expression), Refused>
+        ensures given { Gives (λ p. pair (at p.0) (view p.1)) result self.new.rest.now (construct true true self.old.left Enclosed none self.old.rest.now) }
         ensures left { OnOk result (self.new.left ≡ self.old.left) }
         ensures shorter { OnOk result (length self.new.rest.now < length self.old.rest.now) }
     {
@@ -335,7 +384,9 @@ impl<'a> Parser<'a> {
 
     /// `"(" expr ")"`, with its place
     #[cycle(expressions)]
+    #[tactic(auto, unfolding(ctl_grammar::specs::Grammar::body))]
     fn in_enclosed(&mut self) -> Result<(Span, Expression), Refused>
+        ensures given { Gives (λ p. pair (at p.0) (view p.1)) result self.new.rest.now (read self.old.left (body Enclosed) none self.old.rest.now) }
         ensures left { OnOk result (self.new.left ≡ self.old.left) }
         ensures shorter { OnOk result (length self.new.rest.now < length self.old.rest.now) }
     {
@@ -347,7 +398,9 @@ impl<'a> Parser<'a> {
 
     /// `name`
     #[cycle(expressions)]
+    #[tactic(auto, unfolding(ctl_grammar::specs::Grammar::name))]
     pub(crate) fn name(&mut self) -> Result<Name, Refused>
+        ensures given { Gives view_name result self.new.rest.now (read self.old.left name none self.old.rest.now) }
         ensures left { OnOk result (self.new.left ≡ self.old.left) }
         ensures shorter { OnOk result (length self.new.rest.now < length self.old.rest.now) }
     {
@@ -358,7 +411,9 @@ impl<'a> Parser<'a> {
 
     /// What stands behind the first identifier of a name.
     #[cycle(expressions)]
+    #[tactic(auto, unfolding(ctl_grammar::specs::Grammar::suffixes))]
     fn suffixes(&mut self) -> Result<Vec<Suffix>, Refused>
+        ensures given { Gives (λ v. row_of (map view_suffix v.items)) result self.new.rest.now (read self.old.left suffixes none self.old.rest.now) }
         ensures left { OnOk result (self.new.left ≡ self.old.left) }
         ensures shorter { OnOk result (length self.new.rest.now ≤ length self.old.rest.now) }
     {
@@ -372,7 +427,9 @@ impl<'a> Parser<'a> {
 
     /// `"." id | "." "all" | "(" expr {"," expr} ")" | "'" attr`
     #[cycle(expressions)]
+    #[tactic(auto, unfolding(ctl_grammar::specs::Grammar::suffix, ctl_grammar::specs::Grammar::selection))]
     fn suffix(&mut self) -> Result<Suffix, Refused>
+        ensures given { Gives view_suffix result self.new.rest.now (read self.old.left suffix none self.old.rest.now) }
         ensures left { OnOk result (self.new.left ≡ self.old.left) }
         ensures shorter { OnOk result (length self.new.rest.now < length self.old.rest.now) }
     {
@@ -388,7 +445,9 @@ impl<'a> Parser<'a> {
 
     /// `"(" expr {"," expr} ")"`, a construct
     #[cycle(expressions)]
+    #[tactic(auto, using(ctl_grammar::proofs::Constructs::construct_opened, ctl_grammar::proofs::Constructs::construct_full, ctl_grammar::proofs::Constructs::construct_other))]
     fn arguments(&mut self) -> Result<Suffix, Refused>
+        ensures given { Gives view_suffix result self.new.rest.now (construct true true self.old.left Arguments none self.old.rest.now) }
         ensures left { OnOk result (self.new.left ≡ self.old.left) }
         ensures shorter { OnOk result (length self.new.rest.now < length self.old.rest.now) }
     {
@@ -406,7 +465,9 @@ impl<'a> Parser<'a> {
 
     /// `"(" expr {"," expr} ")"`
     #[cycle(expressions)]
+    #[tactic(auto, unfolding(ctl_grammar::specs::Grammar::body))]
     fn in_arguments(&mut self) -> Result<Suffix, Refused>
+        ensures given { Gives view_suffix result self.new.rest.now (read self.old.left (body Arguments) none self.old.rest.now) }
         ensures left { OnOk result (self.new.left ≡ self.old.left) }
         ensures shorter { OnOk result (length self.new.rest.now < length self.old.rest.now) }
     {
@@ -418,7 +479,9 @@ impl<'a> Parser<'a> {
 
     /// `"," expr`
     #[cycle(expressions)]
+    #[tactic(auto, unfolding(ctl_grammar::specs::Grammar::next_expression))]
     fn next_expression(&mut self) -> Result<Expression, Refused>
+        ensures given { Gives view result self.new.rest.now (read self.old.left next_expression none self.old.rest.now) }
         ensures left { OnOk result (self.new.left ≡ self.old.left) }
         ensures shorter { OnOk result (length self.new.rest.now < length self.old.rest.now) }
     {
@@ -428,7 +491,9 @@ impl<'a> Parser<'a> {
 
     /// `expr {"," expr}`
     #[cycle(expressions)]
+    #[tactic(auto, unfolding(ctl_grammar::specs::Grammar::expressions))]
     fn expressions(&mut self) -> Result<Vec<Expression>, Refused>
+        ensures given { Gives (λ v. row_of (map view v.items)) result self.new.rest.now (read self.old.left expressions none self.old.rest.now) }
         ensures left { OnOk result (self.new.left ≡ self.old.left) }
         ensures shorter { OnOk result (length self.new.rest.now < length self.old.rest.now) }
     {

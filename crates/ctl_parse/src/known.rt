@@ -1,6 +1,11 @@
 //! The identifiers that the grammar knows at some places, and the name at an end.
 
 ghost use Rattle.std.specs.Prelude.{◌≡◌, ◌<◌, ◌≤◌, length, OnOk};
+ghost use Rattle.ctl_grammar.specs.Form.{none, written};
+ghost use Rattle.ctl_grammar.specs.Grammar.{end_name, is_among, known};
+ghost use Rattle.ctl_grammar.specs.Reading.{Gives, read};
+ghost use Rattle.ctl_parse.specs.Known.{names_at};
+ghost use Rattle.ctl_parse.specs.View.{identifier_node, named};
 
 use crate::cursor::Parser;
 use ctl_grammar::kind::is_same_kind;
@@ -22,14 +27,16 @@ pub(crate) enum Known {
 
 impl Known {
     /// Whether the subset knows this identifier there. Case does not count.
-    fn has(self, name: &[u8]) -> bool {
+    fn has(self, name: &[u8]) -> bool
+        ensures { result ≡ is_among (names_at self) name.now }
+    {
         match self {
             Known::Attribute => {
-                is_same_name(name, b"image")
-                    || is_same_name(name, b"first")
-                    || is_same_name(name, b"last")
+                is_same_name(b"image", name)
+                    || is_same_name(b"first", name)
+                    || is_same_name(b"last", name)
             }
-            Known::StoragePool => is_same_name(name, b"storage_pool"),
+            Known::StoragePool => is_same_name(b"storage_pool", name),
             Known::Nothing => false,
         }
     }
@@ -37,7 +44,9 @@ impl Known {
 
 impl<'a> Parser<'a> {
     /// An identifier that the subset knows at this place.
+    #[tactic(auto, unfolding(ctl_grammar::specs::Grammar::known, ctl_grammar::specs::Grammar::identifier))]
     pub(crate) fn known(&mut self, place: Known) -> Result<Identifier, Refused>
+        ensures given { Gives identifier_node result self.new.rest.now (read self.old.left (known (names_at place)) none self.old.rest.now) }
         ensures left { OnOk result (self.new.left ≡ self.old.left) }
         ensures shorter { OnOk result (length self.new.rest.now < length self.old.rest.now) }
     {
@@ -50,7 +59,9 @@ impl<'a> Parser<'a> {
     }
 
     /// `[id]` behind the `end` of the body of this name (RM 6.3).
+    #[tactic(auto, unfolding(ctl_grammar::specs::Grammar::end_name, ctl_grammar::specs::Grammar::identifier))]
     pub(crate) fn end_name(&mut self, name: &Identifier) -> Result<Option<Identifier>, Refused>
+        ensures given { Gives named result self.new.rest.now (read self.old.left end_name (written name.now.name) self.old.rest.now) }
         ensures left { OnOk result (self.new.left ≡ self.old.left) }
         ensures shorter { OnOk result (length self.new.rest.now ≤ length self.old.rest.now) }
     {

@@ -1,6 +1,11 @@
 //! Identifiers, and names of identifiers alone.
 
-ghost use Rattle.std.specs.Prelude.{◌≡◌, ◌<◌, ◌≤◌, length, OnOk};
+ghost use Rattle.std.specs.Prelude.{◌≡◌, ◌<◌, ◌≤◌, length, map, OnOk};
+ghost use Rattle.ctl_grammar.specs.Form.{none, pair};
+ghost use Rattle.ctl_grammar.specs.Grammar.{identifier, selector, selectors, dotted, next_dotted, dotted_list, next_identifier, next_identifiers, identifiers, behind};
+ghost use Rattle.ctl_grammar.specs.Nodes.{row_of};
+ghost use Rattle.ctl_grammar.specs.Reading.{Gives, read, made};
+ghost use Rattle.ctl_parse.specs.View.{identifier_node, dotted_node, placed_row};
 
 use crate::cursor::Parser;
 use ctl_grammar::refused::Refused;
@@ -10,7 +15,9 @@ use ctl_tree::tree::{Dotted, Identifier};
 
 impl<'a> Parser<'a> {
     /// `id`
+    #[tactic(auto, unfolding(ctl_grammar::specs::Grammar::identifier))]
     pub(crate) fn identifier(&mut self) -> Result<Identifier, Refused>
+        ensures given { Gives identifier_node result self.new.rest.now (read self.old.left identifier none self.old.rest.now) }
         ensures left { OnOk result (self.new.left ≡ self.old.left) }
         ensures shorter { OnOk result (length self.new.rest.now < length self.old.rest.now) }
     {
@@ -23,7 +30,9 @@ impl<'a> Parser<'a> {
     }
 
     /// `"." id`
+    #[tactic(auto, unfolding(ctl_grammar::specs::Grammar::selector))]
     fn selector(&mut self) -> Result<Identifier, Refused>
+        ensures given { Gives identifier_node result self.new.rest.now (read self.old.left selector none self.old.rest.now) }
         ensures left { OnOk result (self.new.left ≡ self.old.left) }
         ensures shorter { OnOk result (length self.new.rest.now < length self.old.rest.now) }
     {
@@ -32,7 +41,9 @@ impl<'a> Parser<'a> {
     }
 
     /// `{"." id}`
+    #[tactic(auto, unfolding(ctl_grammar::specs::Grammar::selectors))]
     fn selectors(&mut self) -> Result<Vec<Identifier>, Refused>
+        ensures given { Gives (λ v. row_of (map identifier_node v.items)) result self.new.rest.now (read self.old.left selectors none self.old.rest.now) }
         ensures left { OnOk result (self.new.left ≡ self.old.left) }
         ensures shorter { OnOk result (length self.new.rest.now ≤ length self.old.rest.now) }
     {
@@ -45,7 +56,9 @@ impl<'a> Parser<'a> {
     }
 
     /// `id {"." id}`
+    #[tactic(auto, unfolding(ctl_grammar::specs::Grammar::dotted))]
     pub(crate) fn dotted(&mut self) -> Result<Dotted, Refused>
+        ensures given { Gives dotted_node result self.new.rest.now (read self.old.left dotted none self.old.rest.now) }
         ensures left { OnOk result (self.new.left ≡ self.old.left) }
         ensures shorter { OnOk result (length self.new.rest.now < length self.old.rest.now) }
     {
@@ -55,7 +68,9 @@ impl<'a> Parser<'a> {
     }
 
     /// `SEPARATOR dotted`
+    #[tactic(auto, unfolding(ctl_grammar::specs::Grammar::next_dotted))]
     fn next_dotted(&mut self, separator: Kind) -> Result<Dotted, Refused>
+        ensures given { Gives dotted_node result self.new.rest.now (read self.old.left (next_dotted separator) none self.old.rest.now) }
         ensures left { OnOk result (self.new.left ≡ self.old.left) }
         ensures shorter { OnOk result (length self.new.rest.now < length self.old.rest.now) }
     {
@@ -64,7 +79,9 @@ impl<'a> Parser<'a> {
     }
 
     /// `dotted {SEPARATOR dotted}`
+    #[tactic(auto, unfolding(ctl_grammar::specs::Grammar::dotted_list))]
     pub(crate) fn dotted_list(&mut self, separator: Kind) -> Result<Vec<Dotted>, Refused>
+        ensures given { Gives (λ v. row_of (map dotted_node v.items)) result self.new.rest.now (read self.old.left (dotted_list separator) none self.old.rest.now) }
         ensures left { OnOk result (self.new.left ≡ self.old.left) }
         ensures shorter { OnOk result (length self.new.rest.now < length self.old.rest.now) }
     {
@@ -79,7 +96,9 @@ impl<'a> Parser<'a> {
     }
 
     /// `"," id`
+    #[tactic(auto, unfolding(ctl_grammar::specs::Grammar::next_identifier))]
     fn next_identifier(&mut self) -> Result<Identifier, Refused>
+        ensures given { Gives identifier_node result self.new.rest.now (read self.old.left next_identifier none self.old.rest.now) }
         ensures left { OnOk result (self.new.left ≡ self.old.left) }
         ensures shorter { OnOk result (length self.new.rest.now < length self.old.rest.now) }
     {
@@ -88,23 +107,38 @@ impl<'a> Parser<'a> {
     }
 
     /// `id {"," id}`, with the place of the first
+    #[tactic(auto, unfolding(ctl_grammar::specs::Grammar::identifiers))]
     pub(crate) fn identifiers(&mut self) -> Result<(Span, Vec<Identifier>), Refused>
+        ensures given { Gives (λ p. placed_row p.0 p.1.items) result self.new.rest.now (read self.old.left identifiers none self.old.rest.now) }
         ensures left { OnOk result (self.new.left ≡ self.old.left) }
         ensures shorter { OnOk result (length self.new.rest.now < length self.old.rest.now) }
     {
-        let mut all = Vec::new(self.alloc);
         let first = self.identifier()?;
         let span = first.span;
+        let names = self.identifiers_from(first)?;
+        Ok((span, names))
+    }
+
+    /// `{"," id}` behind the first identifier
+    #[tactic(auto, unfolding(ctl_grammar::specs::Grammar::next_identifiers))]
+    fn identifiers_from(&mut self, first: Identifier) -> Result<Vec<Identifier>, Refused>
+        ensures given { Gives (λ v. row_of (map identifier_node v.items)) result self.new.rest.now (made (λ v. pair (identifier_node first) v) (read self.old.left next_identifiers none self.old.rest.now)) }
+        ensures left { OnOk result (self.new.left ≡ self.old.left) }
+        ensures shorter { OnOk result (length self.new.rest.now ≤ length self.old.rest.now) }
+    {
+        let mut all = Vec::new(self.alloc);
         all.push(first)?;
         'more: while self.next_is(Kind::Comma) {
             let next = self.next_identifier()?;
             all.push(next)?;
         }
-        Ok((span, all))
+        Ok(all)
     }
 
     /// `WORD dotted`
+    #[tactic(auto, unfolding(ctl_grammar::specs::Grammar::behind))]
     pub(crate) fn behind(&mut self, word: Kind) -> Result<Dotted, Refused>
+        ensures given { Gives dotted_node result self.new.rest.now (read self.old.left (behind word) none self.old.rest.now) }
         ensures left { OnOk result (self.new.left ≡ self.old.left) }
         ensures shorter { OnOk result (length self.new.rest.now < length self.old.rest.now) }
     {

@@ -1,6 +1,11 @@
 //! Operators, and the expressions that they make (RM 4.5).
 
-ghost use Rattle.std.specs.Prelude.{◌≡◌, ◌<◌, ◌≤◌, length, OnOk};
+ghost use Rattle.std.specs.Prelude.{◌≡◌, ◌<◌, ◌≤◌, length, map, IfOk, IfErr, OnOk, true};
+ghost use Rattle.ctl_grammar.specs.Form.{none, num, at, pair, starts};
+ghost use Rattle.ctl_grammar.specs.Grammar.{first_word, joiner, relational, sign, adding, multiplying, number, string, null, selection, attribute, suffix};
+ghost use Rattle.ctl_grammar.specs.Nodes.{name_of, parentheses_of, unary_of, product_of, unsigned_sum_of, sum_of, relation_of, logical_of, allocator_of, is_bare, bare_of, row_of};
+ghost use Rattle.ctl_grammar.specs.Reading.{Gives, begins, read};
+ghost use Rattle.ctl_parse.specs.View.{optional, dotted_node, relational_code, adding_code, multiplying_code, unary_code, view, view_suffix, view_addend, view_multiplicand, view_name, compared_node, sign_place, joined_node, named};
 
 use crate::cursor::Parser;
 use crate::known::Known;
@@ -15,27 +20,42 @@ use ctl_tree::tree::{
 
 impl<'a> Parser<'a> {
     /// The words of a logical operator (RM 4.5.1).
+    #[tactic(auto, unfolding(ctl_grammar::specs::Grammar::joiner))]
     pub(crate) fn joiner(&mut self, operator: LogicalOperator) -> Result<(), Refused>
+        ensures given { Gives (λ u. none) result self.new.rest.now (read self.old.left (joiner operator) none self.old.rest.now) }
         ensures left { OnOk result (self.new.left ≡ self.old.left) }
         ensures shorter { OnOk result (length self.new.rest.now < length self.old.rest.now) }
     {
         match operator {
-            LogicalOperator::And => self.skip(Kind::And),
-            LogicalOperator::Or => self.skip(Kind::Or),
-            LogicalOperator::Xor => self.skip(Kind::Xor),
+            LogicalOperator::And => {
+                self.skip(Kind::And)?;
+                Ok(())
+            }
+            LogicalOperator::Or => {
+                self.skip(Kind::Or)?;
+                Ok(())
+            }
+            LogicalOperator::Xor => {
+                self.skip(Kind::Xor)?;
+                Ok(())
+            }
             LogicalOperator::AndThen => {
                 self.skip(Kind::And)?;
-                self.skip(Kind::Then)
+                self.skip(Kind::Then)?;
+                Ok(())
             }
             LogicalOperator::OrElse => {
                 self.skip(Kind::Or)?;
-                self.skip(Kind::Else)
+                self.skip(Kind::Else)?;
+                Ok(())
             }
         }
     }
 
     /// A relational operator (RM 4.5.2).
+    #[tactic(auto, unfolding(ctl_grammar::specs::Grammar::relational))]
     pub(crate) fn relational(&mut self) -> Result<RelationalOperator, Refused>
+        ensures given { Gives (λ o. num (relational_code o)) result self.new.rest.now (read self.old.left relational none self.old.rest.now) }
         ensures left { OnOk result (self.new.left ≡ self.old.left) }
         ensures shorter { OnOk result (length self.new.rest.now < length self.old.rest.now) }
     {
@@ -61,7 +81,9 @@ impl<'a> Parser<'a> {
     }
 
     /// A sign, if there is one, with its place (RM 4.5.4).
+    #[tactic(auto, unfolding(ctl_grammar::specs::Grammar::sign))]
     pub(crate) fn sign(&mut self) -> Result<Option<(Sign, Span)>, Refused>
+        ensures given { Gives sign_place result self.new.rest.now (read self.old.left sign none self.old.rest.now) }
         ensures left { OnOk result (self.new.left ≡ self.old.left) }
         ensures shorter { OnOk result (length self.new.rest.now ≤ length self.old.rest.now) }
     {
@@ -77,7 +99,9 @@ impl<'a> Parser<'a> {
     }
 
     /// What joins terms (RM 4.5.3).
+    #[tactic(auto, unfolding(ctl_grammar::specs::Grammar::adding))]
     pub(crate) fn adding(&mut self) -> Result<AddingOperator, Refused>
+        ensures given { Gives (λ o. num (adding_code o)) result self.new.rest.now (read self.old.left adding none self.old.rest.now) }
         ensures left { OnOk result (self.new.left ≡ self.old.left) }
         ensures shorter { OnOk result (length self.new.rest.now < length self.old.rest.now) }
     {
@@ -94,7 +118,9 @@ impl<'a> Parser<'a> {
     }
 
     /// What joins factors (RM 4.5.5).
+    #[tactic(auto, unfolding(ctl_grammar::specs::Grammar::multiplying))]
     pub(crate) fn multiplying(&mut self) -> Result<MultiplyingOperator, Refused>
+        ensures given { Gives (λ o. num (multiplying_code o)) result self.new.rest.now (read self.old.left multiplying none self.old.rest.now) }
         ensures left { OnOk result (self.new.left ≡ self.old.left) }
         ensures shorter { OnOk result (length self.new.rest.now < length self.old.rest.now) }
     {
@@ -114,7 +140,9 @@ impl<'a> Parser<'a> {
     }
 
     /// `"access" | id`, where the identifier is that of an attribute of the subset
+    #[tactic(auto, unfolding(ctl_grammar::specs::Grammar::attribute))]
     pub(crate) fn attribute(&mut self) -> Result<Suffix, Refused>
+        ensures given { Gives view_suffix result self.new.rest.now (read self.old.left attribute none self.old.rest.now) }
         ensures left { OnOk result (self.new.left ≡ self.old.left) }
         ensures shorter { OnOk result (length self.new.rest.now < length self.old.rest.now) }
     {
@@ -128,7 +156,9 @@ impl<'a> Parser<'a> {
     }
 
     /// A number.
+    #[tactic(auto, unfolding(ctl_grammar::specs::Grammar::number))]
     pub(crate) fn number(&mut self) -> Result<Expression, Refused>
+        ensures given { Gives view result self.new.rest.now (read self.old.left number none self.old.rest.now) }
         ensures left { OnOk result (self.new.left ≡ self.old.left) }
         ensures shorter { OnOk result (length self.new.rest.now < length self.old.rest.now) }
     {
@@ -140,7 +170,9 @@ impl<'a> Parser<'a> {
     }
 
     /// A string.
+    #[tactic(auto, unfolding(ctl_grammar::specs::Grammar::string))]
     pub(crate) fn string(&mut self) -> Result<Expression, Refused>
+        ensures given { Gives view result self.new.rest.now (read self.old.left string none self.old.rest.now) }
         ensures left { OnOk result (self.new.left ≡ self.old.left) }
         ensures shorter { OnOk result (length self.new.rest.now < length self.old.rest.now) }
     {
@@ -153,7 +185,9 @@ impl<'a> Parser<'a> {
     }
 
     /// `null`
+    #[tactic(auto, unfolding(ctl_grammar::specs::Grammar::null))]
     pub(crate) fn null(&mut self) -> Result<Expression, Refused>
+        ensures given { Gives view result self.new.rest.now (read self.old.left null none self.old.rest.now) }
         ensures left { OnOk result (self.new.left ≡ self.old.left) }
         ensures shorter { OnOk result (length self.new.rest.now < length self.old.rest.now) }
     {
@@ -165,7 +199,9 @@ impl<'a> Parser<'a> {
     }
 
     /// `"." id | "." "all"`
+    #[tactic(auto, unfolding(ctl_grammar::specs::Grammar::selection))]
     pub(crate) fn selection(&mut self) -> Result<Suffix, Refused>
+        ensures given { Gives view_suffix result self.new.rest.now (read self.old.left selection none self.old.rest.now) }
         ensures left { OnOk result (self.new.left ≡ self.old.left) }
         ensures shorter { OnOk result (length self.new.rest.now < length self.old.rest.now) }
     {
@@ -180,7 +216,10 @@ impl<'a> Parser<'a> {
     }
 
     /// Whether a relational operator is next.
-    pub(crate) fn at_relational(&self) -> bool {
+    #[tactic(auto, unfolding(ctl_grammar::specs::Grammar::relational))]
+    pub(crate) fn at_relational(&self) -> bool
+        ensures { result ≡ begins (starts relational) self.now.rest.now }
+    {
         self.next_is(Kind::Equal)
             || self.next_is(Kind::NotEqual)
             || self.next_is(Kind::Less)
@@ -190,12 +229,18 @@ impl<'a> Parser<'a> {
     }
 
     /// Whether an operator that joins terms is next.
-    pub(crate) fn at_adding(&self) -> bool {
+    #[tactic(auto, unfolding(ctl_grammar::specs::Grammar::adding))]
+    pub(crate) fn at_adding(&self) -> bool
+        ensures { result ≡ begins (starts adding) self.now.rest.now }
+    {
         self.next_is(Kind::Plus) || self.next_is(Kind::Minus) || self.next_is(Kind::Ampersand)
     }
 
     /// Whether an operator that joins factors is next.
-    pub(crate) fn at_multiplying(&self) -> bool {
+    #[tactic(auto, unfolding(ctl_grammar::specs::Grammar::multiplying))]
+    pub(crate) fn at_multiplying(&self) -> bool
+        ensures { result ≡ begins (starts multiplying) self.now.rest.now }
+    {
         self.next_is(Kind::Star)
             || self.next_is(Kind::Slash)
             || self.next_is(Kind::Mod)
@@ -203,7 +248,10 @@ impl<'a> Parser<'a> {
     }
 
     /// Whether a name goes on.
-    pub(crate) fn at_suffix(&self) -> bool {
+    #[tactic(auto, unfolding(ctl_grammar::specs::Grammar::suffix, ctl_grammar::specs::Grammar::selection))]
+    pub(crate) fn at_suffix(&self) -> bool
+        ensures { result ≡ begins (starts suffix) self.now.rest.now }
+    {
         self.next_is(Kind::Dot)
             || self.next_is(Kind::LeftParenthesis)
             || self.next_is(Kind::Apostrophe)
@@ -214,7 +262,10 @@ impl<'a> Parser<'a> {
         &self,
         first: Expression,
         rest: Option<(LogicalOperator, Vec<Expression>)>,
-    ) -> Result<Expression, Refused> {
+    ) -> Result<Expression, Refused>
+        ensures ok { IfOk result (λ e. view e ≡ logical_of (view first) (joined_node rest)) }
+        ensures err { IfErr result (λ e. e ≡ Refused.Memory) }
+    {
         match rest {
             None => Ok(first),
             Some((operator, others)) => {
@@ -233,7 +284,10 @@ impl<'a> Parser<'a> {
         &self,
         left: Expression,
         right: Option<(RelationalOperator, Expression)>,
-    ) -> Result<Expression, Refused> {
+    ) -> Result<Expression, Refused>
+        ensures ok { IfOk result (λ e. view e ≡ relation_of (view left) (compared_node right)) }
+        ensures err { IfErr result (λ e. e ≡ Refused.Memory) }
+    {
         match right {
             None => Ok(left),
             Some((operator, right)) => {
@@ -254,7 +308,10 @@ impl<'a> Parser<'a> {
         sign: Option<(Sign, Span)>,
         first: Expression,
         rest: Vec<Addend>,
-    ) -> Result<Expression, Refused> {
+    ) -> Result<Expression, Refused>
+        ensures ok { IfOk result (λ e. view e ≡ sum_of (sign_place sign) (view first) (row_of (map view_addend rest.items))) }
+        ensures err { IfErr result (λ e. e ≡ Refused.Memory) }
+    {
         match sign {
             Some((sign, span)) => {
                 let first = Box::new(self.alloc, first)?;
@@ -272,7 +329,10 @@ impl<'a> Parser<'a> {
         &self,
         first: Expression,
         rest: Vec<Addend>,
-    ) -> Result<Expression, Refused> {
+    ) -> Result<Expression, Refused>
+        ensures ok { IfOk result (λ e. view e ≡ unsigned_sum_of (view first) (row_of (map view_addend rest.items))) }
+        ensures err { IfErr result (λ e. e ≡ Refused.Memory) }
+    {
         if rest.is_empty() {
             return Ok(first);
         }
@@ -289,7 +349,10 @@ impl<'a> Parser<'a> {
         &self,
         first: Expression,
         rest: Vec<Multiplicand>,
-    ) -> Result<Expression, Refused> {
+    ) -> Result<Expression, Refused>
+        ensures ok { IfOk result (λ e. view e ≡ product_of (view first) (row_of (map view_multiplicand rest.items))) }
+        ensures err { IfErr result (λ e. e ≡ Refused.Memory) }
+    {
         if rest.is_empty() {
             return Ok(first);
         }
@@ -307,7 +370,10 @@ impl<'a> Parser<'a> {
         span: Span,
         word: UnaryWord,
         operand: Expression,
-    ) -> Result<Expression, Refused> {
+    ) -> Result<Expression, Refused>
+        ensures ok { IfOk result (λ e. view e ≡ unary_of (unary_code word) (pair (at span) (view operand))) }
+        ensures err { IfErr result (λ e. e ≡ Refused.Memory) }
+    {
         let operand = Box::new(self.alloc, operand)?;
         Ok(Expression {
             span,
@@ -316,11 +382,10 @@ impl<'a> Parser<'a> {
     }
 
     /// An expression in parentheses.
-    pub(crate) fn parentheses(
-        &self,
-        span: Span,
-        inside: Expression,
-    ) -> Result<Expression, Refused> {
+    pub(crate) fn parentheses(&self, span: Span, inside: Expression) -> Result<Expression, Refused>
+        ensures ok { IfOk result (λ e. view e ≡ parentheses_of (pair (at span) (view inside))) }
+        ensures err { IfErr result (λ e. e ≡ Refused.Memory) }
+    {
         let inside = Box::new(self.alloc, inside)?;
         Ok(Expression {
             span,
@@ -335,7 +400,10 @@ impl<'a> Parser<'a> {
         handle: Option<Name>,
         mark: Dotted,
         value: Option<Expression>,
-    ) -> Result<Expression, Refused> {
+    ) -> Result<Expression, Refused>
+        ensures ok { IfOk result (λ e. view e ≡ allocator_of (at span) (optional view_name handle) (dotted_node mark) (optional view value)) }
+        ensures err { IfErr result (λ e. e ≡ Refused.Memory) }
+    {
         let allocator = Allocator {
             handle,
             mark,
@@ -350,7 +418,9 @@ impl<'a> Parser<'a> {
 }
 
 /// The word by which a logical operator begins.
-pub(crate) fn first_word(operator: LogicalOperator) -> Kind {
+pub(crate) fn first_word(operator: LogicalOperator) -> Kind
+    ensures { result ≡ first_word operator }
+{
     match operator {
         LogicalOperator::And | LogicalOperator::AndThen => Kind::And,
         LogicalOperator::Or | LogicalOperator::OrElse => Kind::Or,
@@ -358,23 +428,31 @@ pub(crate) fn first_word(operator: LogicalOperator) -> Kind {
     }
 }
 
-/// The identifier that the expression is, if it is no more.
-pub(crate) fn bare_name(expression: Expression) -> Option<Identifier> {
+/// Whether the expression is an identifier alone.
+pub(crate) fn is_bare_name(expression: &Expression) -> bool
+    ensures { result ≡ is_bare (view expression.now) }
+{
+    match &expression.kind {
+        ExpressionKind::Name(name) => name.suffixes.is_empty(),
+        _other => false,
+    }
+}
+
+/// The identifier that the expression is, where it is one alone.
+pub(crate) fn bare_name(expression: Expression) -> Option<Identifier>
+    ensures { is_bare (view expression) ≡ true → named result ≡ bare_of (view expression) }
+{
     let Expression { span: _, kind } = expression;
     match kind {
-        ExpressionKind::Name(Name { first, suffixes }) => {
-            if suffixes.is_empty() {
-                Some(first)
-            } else {
-                None
-            }
-        }
+        ExpressionKind::Name(Name { first, suffixes: _ }) => Some(first),
         _other => None,
     }
 }
 
 /// A name as an expression.
-pub(crate) fn name_expression(name: Name) -> Expression {
+pub(crate) fn name_expression(name: Name) -> Expression
+    ensures { view result ≡ name_of (view_name name) }
+{
     Expression {
         span: name.first.span,
         kind: ExpressionKind::Name(name),

@@ -1,6 +1,11 @@
 //! Statements that hold others, declarative parts, bodies and handlers (RM 3.11, 5, 6.3, 11.2).
 
-ghost use Rattle.std.specs.Prelude.{◌≡◌, ◌<◌, ◌≤◌, length, OnOk};
+ghost use Rattle.std.specs.Prelude.{◌≡◌, ◌<◌, ◌≤◌, length, map, OnOk, true};
+ghost use Rattle.ctl_grammar.specs.Form.{none, written, at, pair, tag, starts, nest_starts, Conditional, Repetition, Block, Body, BareBody};
+ghost use Rattle.ctl_grammar.specs.Grammar.{statement, statements, branch, next_branch, branches, otherwise, handler, handler_list, handlers, handled, completed, overriding_item, function_item, behind_is, behind_name, procedure_item, item, part, completion, declared, body};
+ghost use Rattle.ctl_grammar.specs.Nodes.{procedure_of, row_of};
+ghost use Rattle.ctl_grammar.specs.Reading.{Gives, begins, read, construct, made};
+ghost use Rattle.ctl_parse.specs.View.{identifier_node, flag_node, specification_node, formal_row, span_node, view_item_kind, view_body_part, view_branch, view_handled, view_handler, view_item, view_statement};
 
 use crate::cursor::Parser;
 use crate::depth::Heading;
@@ -15,7 +20,9 @@ use ctl_tree::tree::{
 impl<'a> Parser<'a> {
     /// `stmt {stmt}` (RM 5.1)
     #[cycle(statements)]
+    #[tactic(auto, unfolding(ctl_grammar::specs::Grammar::statements))]
     pub(crate) fn statements(&mut self) -> Result<Vec<Statement>, Refused>
+        ensures given { Gives (λ v. row_of (map view_statement v.items)) result self.new.rest.now (read self.old.left statements none self.old.rest.now) }
         ensures left { OnOk result (self.new.left ≡ self.old.left) }
         ensures shorter { OnOk result (length self.new.rest.now < length self.old.rest.now) }
     {
@@ -31,7 +38,9 @@ impl<'a> Parser<'a> {
 
     /// `stmt`
     #[cycle(statements)]
+    #[tactic(auto, unfolding(ctl_grammar::specs::Grammar::statement, ctl_grammar::specs::Grammar::null_statement, ctl_grammar::specs::Grammar::named_statement, ctl_grammar::specs::Grammar::exit_statement, ctl_grammar::specs::Grammar::return_statement, ctl_grammar::specs::Grammar::raise_statement, ctl_grammar::specs::Grammar::name, ctl_grammar::specs::Grammar::identifier))]
     fn statement(&mut self) -> Result<Statement, Refused>
+        ensures given { Gives view_statement result self.new.rest.now (read self.old.left statement none self.old.rest.now) }
         ensures left { OnOk result (self.new.left ≡ self.old.left) }
         ensures shorter { OnOk result (length self.new.rest.now < length self.old.rest.now) }
     {
@@ -56,7 +65,9 @@ impl<'a> Parser<'a> {
 
     /// An if statement, a construct (RM 5.3).
     #[cycle(statements)]
+    #[tactic(auto, using(ctl_grammar::proofs::Constructs::construct_opened, ctl_grammar::proofs::Constructs::construct_full, ctl_grammar::proofs::Constructs::construct_other))]
     fn conditional(&mut self) -> Result<Statement, Refused>
+        ensures given { Gives view_statement result self.new.rest.now (construct true true self.old.left Conditional none self.old.rest.now) }
         ensures left { OnOk result (self.new.left ≡ self.old.left) }
         ensures shorter { OnOk result (length self.new.rest.now < length self.old.rest.now) }
     {
@@ -74,7 +85,9 @@ impl<'a> Parser<'a> {
 
     /// `"if" expr "then" stmts {"elsif" expr "then" stmts} ["else" stmts] "end" "if" ";"`
     #[cycle(statements)]
+    #[tactic(auto, unfolding(ctl_grammar::specs::Grammar::body))]
     fn in_conditional(&mut self) -> Result<Statement, Refused>
+        ensures given { Gives view_statement result self.new.rest.now (read self.old.left (body Conditional) none self.old.rest.now) }
         ensures left { OnOk result (self.new.left ≡ self.old.left) }
         ensures shorter { OnOk result (length self.new.rest.now < length self.old.rest.now) }
     {
@@ -90,7 +103,9 @@ impl<'a> Parser<'a> {
 
     /// `expr "then" stmts`
     #[cycle(statements)]
+    #[tactic(auto, unfolding(ctl_grammar::specs::Grammar::branch))]
     fn branch(&mut self) -> Result<Branch, Refused>
+        ensures given { Gives view_branch result self.new.rest.now (read self.old.left branch none self.old.rest.now) }
         ensures left { OnOk result (self.new.left ≡ self.old.left) }
         ensures shorter { OnOk result (length self.new.rest.now < length self.old.rest.now) }
     {
@@ -105,7 +120,9 @@ impl<'a> Parser<'a> {
 
     /// `"elsif" expr "then" stmts`
     #[cycle(statements)]
+    #[tactic(auto, unfolding(ctl_grammar::specs::Grammar::next_branch))]
     fn next_branch(&mut self) -> Result<Branch, Refused>
+        ensures given { Gives view_branch result self.new.rest.now (read self.old.left next_branch none self.old.rest.now) }
         ensures left { OnOk result (self.new.left ≡ self.old.left) }
         ensures shorter { OnOk result (length self.new.rest.now < length self.old.rest.now) }
     {
@@ -115,7 +132,9 @@ impl<'a> Parser<'a> {
 
     /// The branches of an if statement.
     #[cycle(statements)]
+    #[tactic(auto, unfolding(ctl_grammar::specs::Grammar::branches))]
     fn branches(&mut self) -> Result<Vec<Branch>, Refused>
+        ensures given { Gives (λ v. row_of (map view_branch v.items)) result self.new.rest.now (read self.old.left branches none self.old.rest.now) }
         ensures left { OnOk result (self.new.left ≡ self.old.left) }
         ensures shorter { OnOk result (length self.new.rest.now < length self.old.rest.now) }
     {
@@ -131,7 +150,9 @@ impl<'a> Parser<'a> {
 
     /// `["else" stmts]`
     #[cycle(statements)]
+    #[tactic(auto, unfolding(ctl_grammar::specs::Grammar::otherwise))]
     fn otherwise(&mut self) -> Result<Vec<Statement>, Refused>
+        ensures given { Gives (λ v. row_of (map view_statement v.items)) result self.new.rest.now (read self.old.left otherwise none self.old.rest.now) }
         ensures left { OnOk result (self.new.left ≡ self.old.left) }
         ensures shorter { OnOk result (length self.new.rest.now ≤ length self.old.rest.now) }
     {
@@ -145,7 +166,9 @@ impl<'a> Parser<'a> {
 
     /// A loop, a construct (RM 5.5).
     #[cycle(statements)]
+    #[tactic(auto, using(ctl_grammar::proofs::Constructs::construct_opened, ctl_grammar::proofs::Constructs::construct_full, ctl_grammar::proofs::Constructs::construct_other))]
     fn repetition(&mut self) -> Result<Statement, Refused>
+        ensures given { Gives view_statement result self.new.rest.now (construct true true self.old.left Repetition none self.old.rest.now) }
         ensures left { OnOk result (self.new.left ≡ self.old.left) }
         ensures shorter { OnOk result (length self.new.rest.now < length self.old.rest.now) }
     {
@@ -163,7 +186,9 @@ impl<'a> Parser<'a> {
 
     /// A loop.
     #[cycle(statements)]
+    #[tactic(auto, unfolding(ctl_grammar::specs::Grammar::body))]
     fn in_repetition(&mut self) -> Result<Statement, Refused>
+        ensures given { Gives view_statement result self.new.rest.now (read self.old.left (body Repetition) none self.old.rest.now) }
         ensures left { OnOk result (self.new.left ≡ self.old.left) }
         ensures shorter { OnOk result (length self.new.rest.now < length self.old.rest.now) }
     {
@@ -180,7 +205,9 @@ impl<'a> Parser<'a> {
 
     /// A block, a construct (RM 5.6).
     #[cycle(statements)]
+    #[tactic(auto, using(ctl_grammar::proofs::Constructs::construct_opened, ctl_grammar::proofs::Constructs::construct_full, ctl_grammar::proofs::Constructs::construct_other))]
     fn block(&mut self) -> Result<Statement, Refused>
+        ensures given { Gives view_statement result self.new.rest.now (construct true true self.old.left Block none self.old.rest.now) }
         ensures left { OnOk result (self.new.left ≡ self.old.left) }
         ensures shorter { OnOk result (length self.new.rest.now < length self.old.rest.now) }
     {
@@ -198,7 +225,9 @@ impl<'a> Parser<'a> {
 
     /// `["declare" part] "begin" handled "end" ";"`
     #[cycle(statements)]
+    #[tactic(auto, unfolding(ctl_grammar::specs::Grammar::body))]
     fn in_block(&mut self) -> Result<Statement, Refused>
+        ensures given { Gives view_statement result self.new.rest.now (read self.old.left (body Block) none self.old.rest.now) }
         ensures left { OnOk result (self.new.left ≡ self.old.left) }
         ensures shorter { OnOk result (length self.new.rest.now < length self.old.rest.now) }
     {
@@ -216,7 +245,9 @@ impl<'a> Parser<'a> {
 
     /// `["declare" part]`, with its place
     #[cycle(statements)]
+    #[tactic(auto, unfolding(ctl_grammar::specs::Grammar::declared))]
     fn declared(&mut self) -> Result<(Option<Span>, Vec<Item>), Refused>
+        ensures given { Gives (λ p. pair (span_node p.0) (row_of (map view_item p.1.items))) result self.new.rest.now (read self.old.left declared none self.old.rest.now) }
         ensures left { OnOk result (self.new.left ≡ self.old.left) }
         ensures shorter { OnOk result (length self.new.rest.now ≤ length self.old.rest.now) }
     {
@@ -231,7 +262,9 @@ impl<'a> Parser<'a> {
 
     /// `stmts ["exception" handler {handler}]` (RM 11.2)
     #[cycle(statements)]
+    #[tactic(auto, unfolding(ctl_grammar::specs::Grammar::handled))]
     pub(crate) fn handled(&mut self) -> Result<Handled, Refused>
+        ensures given { Gives view_handled result self.new.rest.now (read self.old.left handled none self.old.rest.now) }
         ensures left { OnOk result (self.new.left ≡ self.old.left) }
         ensures shorter { OnOk result (length self.new.rest.now < length self.old.rest.now) }
     {
@@ -245,7 +278,9 @@ impl<'a> Parser<'a> {
 
     /// `["exception" handler {handler}]`
     #[cycle(statements)]
+    #[tactic(auto, unfolding(ctl_grammar::specs::Grammar::handlers))]
     fn handlers(&mut self) -> Result<Vec<Handler>, Refused>
+        ensures given { Gives (λ v. row_of (map view_handler v.items)) result self.new.rest.now (read self.old.left handlers none self.old.rest.now) }
         ensures left { OnOk result (self.new.left ≡ self.old.left) }
         ensures shorter { OnOk result (length self.new.rest.now ≤ length self.old.rest.now) }
     {
@@ -259,7 +294,9 @@ impl<'a> Parser<'a> {
 
     /// `handler {handler}`
     #[cycle(statements)]
+    #[tactic(auto, unfolding(ctl_grammar::specs::Grammar::handler_list))]
     fn handler_list(&mut self) -> Result<Vec<Handler>, Refused>
+        ensures given { Gives (λ v. row_of (map view_handler v.items)) result self.new.rest.now (read self.old.left handler_list none self.old.rest.now) }
         ensures left { OnOk result (self.new.left ≡ self.old.left) }
         ensures shorter { OnOk result (length self.new.rest.now < length self.old.rest.now) }
     {
@@ -275,7 +312,9 @@ impl<'a> Parser<'a> {
 
     /// `"when" ("others" | dotted {"|" dotted}) "=>" stmts`
     #[cycle(statements)]
+    #[tactic(auto, unfolding(ctl_grammar::specs::Grammar::handler))]
     fn handler(&mut self) -> Result<Handler, Refused>
+        ensures given { Gives view_handler result self.new.rest.now (read self.old.left handler none self.old.rest.now) }
         ensures left { OnOk result (self.new.left ≡ self.old.left) }
         ensures shorter { OnOk result (length self.new.rest.now < length self.old.rest.now) }
     {
@@ -292,7 +331,9 @@ impl<'a> Parser<'a> {
 
     /// `{item}` (RM 3.11)
     #[cycle(statements)]
+    #[tactic(auto, unfolding(ctl_grammar::specs::Grammar::part))]
     pub(crate) fn part(&mut self) -> Result<Vec<Item>, Refused>
+        ensures given { Gives (λ v. row_of (map view_item v.items)) result self.new.rest.now (read self.old.left part none self.old.rest.now) }
         ensures left { OnOk result (self.new.left ≡ self.old.left) }
         ensures shorter { OnOk result (length self.new.rest.now ≤ length self.old.rest.now) }
     {
@@ -306,7 +347,9 @@ impl<'a> Parser<'a> {
 
     /// `item`
     #[cycle(statements)]
+    #[tactic(auto, unfolding(ctl_grammar::specs::Grammar::item, ctl_grammar::specs::Grammar::overriding_item, ctl_grammar::specs::Grammar::procedure_item, ctl_grammar::specs::Grammar::completed_procedure, ctl_grammar::specs::Grammar::function_item, ctl_grammar::specs::Grammar::completed_function, ctl_grammar::specs::Grammar::function, ctl_grammar::specs::Grammar::type_item, ctl_grammar::specs::Grammar::clause))]
     fn item(&mut self) -> Result<Item, Refused>
+        ensures given { Gives view_item result self.new.rest.now (read self.old.left item none self.old.rest.now) }
         ensures left { OnOk result (self.new.left ≡ self.old.left) }
         ensures shorter { OnOk result (length self.new.rest.now < length self.old.rest.now) }
     {
@@ -327,7 +370,9 @@ impl<'a> Parser<'a> {
 
     /// `"overriding" spec ";" | "overriding" body` (RM 8.3.1)
     #[cycle(statements)]
+    #[tactic(auto, using(ctl_grammar::proofs::Late::specification_here, ctl_grammar::proofs::Late::specification_past), unfolding(ctl_grammar::specs::Grammar::overriding_item))]
     fn overriding_item(&mut self) -> Result<Item, Refused>
+        ensures given { Gives view_item result self.new.rest.now (read self.old.left overriding_item none self.old.rest.now) }
         ensures left { OnOk result (self.new.left ≡ self.old.left) }
         ensures shorter { OnOk result (length self.new.rest.now < length self.old.rest.now) }
     {
@@ -340,11 +385,13 @@ impl<'a> Parser<'a> {
 
     /// `spec ";" | body` of a function
     #[cycle(statements)]
+    #[tactic(auto, using(ctl_grammar::proofs::Late::function_here, ctl_grammar::proofs::Late::function_past), unfolding(ctl_grammar::specs::Grammar::function_item))]
     fn function_item(&mut self) -> Result<Item, Refused>
+        ensures given { Gives view_item result self.new.rest.now (read self.old.left function_item none self.old.rest.now) }
         ensures left { OnOk result (self.new.left ≡ self.old.left) }
         ensures shorter { OnOk result (length self.new.rest.now < length self.old.rest.now) }
     {
-        self.refuse_deep_body(Heading::Any)?;
+        self.refuse_deep_body(Heading::Function)?;
         let specification = self.function()?;
         let span = specification.span;
         let kind = self.completed(false, specification)?;
@@ -353,7 +400,9 @@ impl<'a> Parser<'a> {
 
     /// `spec ";" | body` of a procedure, or an instance
     #[cycle(statements)]
+    #[tactic(auto, using(ctl_grammar::proofs::Late::procedure_here, ctl_grammar::proofs::Late::procedure_past), unfolding(ctl_grammar::specs::Grammar::procedure_item))]
     fn procedure_item(&mut self) -> Result<Item, Refused>
+        ensures given { Gives view_item result self.new.rest.now (read self.old.left procedure_item none self.old.rest.now) }
         ensures left { OnOk result (self.new.left ≡ self.old.left) }
         ensures shorter { OnOk result (length self.new.rest.now < length self.old.rest.now) }
     {
@@ -366,7 +415,9 @@ impl<'a> Parser<'a> {
 
     /// What stands behind the name of a procedure that does not say `overriding`.
     #[cycle(statements)]
+    #[tactic(auto, unfolding(ctl_grammar::specs::Grammar::behind_name))]
     fn procedure_kind(&mut self, span: Span, name: Identifier) -> Result<ItemKind, Refused>
+        ensures given { Gives view_item_kind result self.new.rest.now (made (λ v. procedure_of (at span) (identifier_node name) v) (read self.old.left behind_name (written name.name) self.old.rest.now)) }
         ensures left { OnOk result (self.new.left ≡ self.old.left) }
         ensures shorter { OnOk result (length self.new.rest.now < length self.old.rest.now) }
     {
@@ -386,7 +437,9 @@ impl<'a> Parser<'a> {
 
     /// An instance, or a body of a procedure without parameters, behind its `is`.
     #[cycle(statements)]
+    #[tactic(auto, unfolding(ctl_grammar::specs::Grammar::behind_is, ctl_grammar::specs::Grammar::instance, ctl_grammar::specs::Grammar::behind))]
     fn procedure_behind_is(&mut self, span: Span, name: Identifier) -> Result<ItemKind, Refused>
+        ensures given { Gives view_item_kind result self.new.rest.now (made (λ v. procedure_of (at span) (identifier_node name) v) (read self.old.left behind_is (written name.name) self.old.rest.now)) }
         ensures left { OnOk result (self.new.left ≡ self.old.left) }
         ensures shorter { OnOk result (length self.new.rest.now < length self.old.rest.now) }
     {
@@ -401,26 +454,30 @@ impl<'a> Parser<'a> {
 
     /// A semicolon, or a body, behind a heading.
     #[cycle(statements)]
+    #[tactic(auto, unfolding(ctl_grammar::specs::Grammar::completed))]
     fn completed(
         &mut self,
         is_overriding: bool,
         specification: Specification,
     ) -> Result<ItemKind, Refused>
+        ensures given { Gives view_item_kind result self.new.rest.now (made (λ v. tag 53 (pair (flag_node is_overriding) (pair (specification_node specification) v))) (read self.old.left completed (written specification.name.name) self.old.rest.now)) }
         ensures left { OnOk result (self.new.left ≡ self.old.left) }
         ensures shorter { OnOk result (length self.new.rest.now < length self.old.rest.now) }
     {
-        if self.next_is(Kind::Is) {
-            let body = self.body(&specification.name)?;
-            Ok(ItemKind::Body(is_overriding, specification, body))
-        } else {
+        if self.next_is(Kind::Semicolon) {
             self.skip(Kind::Semicolon)?;
             Ok(ItemKind::Declaration(is_overriding, specification))
+        } else {
+            let body = self.body(&specification.name)?;
+            Ok(ItemKind::Body(is_overriding, specification, body))
         }
     }
 
     /// What stands behind the heading of a body, a construct (RM 6.3).
     #[cycle(statements)]
+    #[tactic(auto, using(ctl_grammar::proofs::Constructs::construct_opened, ctl_grammar::proofs::Constructs::construct_full, ctl_grammar::proofs::Constructs::construct_other))]
     pub(crate) fn body(&mut self, name: &Identifier) -> Result<BodyPart, Refused>
+        ensures given { Gives view_body_part result self.new.rest.now (construct true true self.old.left Body (written name.now.name) self.old.rest.now) }
         ensures left { OnOk result (self.new.left ≡ self.old.left) }
         ensures shorter { OnOk result (length self.new.rest.now < length self.old.rest.now) }
     {
@@ -438,7 +495,9 @@ impl<'a> Parser<'a> {
 
     /// `"is" part "begin" handled "end" [id] ";"`
     #[cycle(statements)]
+    #[tactic(auto, unfolding(ctl_grammar::specs::Grammar::body))]
     fn in_body(&mut self, name: &Identifier) -> Result<BodyPart, Refused>
+        ensures given { Gives view_body_part result self.new.rest.now (read self.old.left (body Body) (written name.now.name) self.old.rest.now) }
         ensures left { OnOk result (self.new.left ≡ self.old.left) }
         ensures shorter { OnOk result (length self.new.rest.now < length self.old.rest.now) }
     {
@@ -448,7 +507,9 @@ impl<'a> Parser<'a> {
 
     /// What stands behind the `is` of a body, a construct (RM 6.3).
     #[cycle(statements)]
+    #[tactic(auto, using(ctl_grammar::proofs::Constructs::construct_opened, ctl_grammar::proofs::Constructs::construct_full, ctl_grammar::proofs::Constructs::construct_other), unfolding(ctl_grammar::specs::Grammar::body))]
     fn bare_body(&mut self, name: &Identifier) -> Result<BodyPart, Refused>
+        ensures given { Gives view_body_part result self.new.rest.now (construct true true self.old.left BareBody (written name.now.name) self.old.rest.now) }
         ensures left { OnOk result (self.new.left ≡ self.old.left) }
         ensures shorter { OnOk result (length self.new.rest.now < length self.old.rest.now) }
     {
@@ -466,7 +527,9 @@ impl<'a> Parser<'a> {
 
     /// `part "begin" handled "end" [id] ";"`
     #[cycle(statements)]
+    #[tactic(auto, unfolding(ctl_grammar::specs::Grammar::completion))]
     fn in_bare_body(&mut self, name: &Identifier) -> Result<BodyPart, Refused>
+        ensures given { Gives view_body_part result self.new.rest.now (read self.old.left completion (written name.now.name) self.old.rest.now) }
         ensures left { OnOk result (self.new.left ≡ self.old.left) }
         ensures shorter { OnOk result (length self.new.rest.now < length self.old.rest.now) }
     {
@@ -484,7 +547,10 @@ impl<'a> Parser<'a> {
     }
 
     /// Whether an item is next.
-    pub(crate) fn at_item(&self) -> bool {
+    #[tactic(auto, unfolding(ctl_grammar::specs::Grammar::item, ctl_grammar::specs::Grammar::overriding_item, ctl_grammar::specs::Grammar::procedure_item, ctl_grammar::specs::Grammar::completed_procedure, ctl_grammar::specs::Grammar::function_item, ctl_grammar::specs::Grammar::completed_function, ctl_grammar::specs::Grammar::function, ctl_grammar::specs::Grammar::type_item, ctl_grammar::specs::Grammar::clause, ctl_grammar::specs::Grammar::named_item, ctl_grammar::specs::Grammar::identifiers, ctl_grammar::specs::Grammar::identifier))]
+    pub(crate) fn at_item(&self) -> bool
+        ensures { result ≡ begins (starts item) self.now.rest.now }
+    {
         self.next_is(Kind::Overriding)
             || self.next_is(Kind::Procedure)
             || self.next_is(Kind::Function)
@@ -494,13 +560,18 @@ impl<'a> Parser<'a> {
     }
 
     /// Whether what stands behind the `is` of a body is next.
-    pub(crate) fn at_bare_body(&self) -> bool {
+    #[tactic(auto, using(ctl_grammar::proofs::First::bare_body_begins))]
+    pub(crate) fn at_bare_body(&self) -> bool
+        ensures { result ≡ begins (nest_starts BareBody) self.now.rest.now }
+    {
         self.at_item() || self.next_is(Kind::Begin)
     }
 }
 
 /// The heading of a procedure.
-fn plain_procedure(span: Span, name: Identifier, formals: Vec<Formal>) -> Specification {
+fn plain_procedure(span: Span, name: Identifier, formals: Vec<Formal>) -> Specification
+    ensures { specification_node result ≡ pair (at span) (pair (identifier_node name) (pair (formal_row formals.items) none)) }
+{
     Specification {
         span,
         name,

@@ -1,6 +1,11 @@
 //! Definitions of types (RM 3).
 
-ghost use Rattle.std.specs.Prelude.{◌≡◌, ◌<◌, ◌≤◌, length, OnOk};
+ghost use Rattle.std.specs.Prelude.{◌≡◌, ◌<◌, ◌≤◌, length, map, OnOk};
+ghost use Rattle.ctl_grammar.specs.Form.{none};
+ghost use Rattle.ctl_grammar.specs.Grammar.{optional_value, component, component_list, components, null_record, full_record, recorded, limited_record, extension, aspect, designated_attribute, access, definition};
+ghost use Rattle.ctl_grammar.specs.Nodes.{row_of};
+ghost use Rattle.ctl_grammar.specs.Reading.{Gives, read};
+ghost use Rattle.ctl_parse.specs.View.{optional, view, named, component_node, aspect_node, definition_node};
 
 use crate::cursor::Parser;
 use crate::known::Known;
@@ -12,7 +17,9 @@ use ctl_tree::tree::{
 
 impl<'a> Parser<'a> {
     /// `[":=" expr]`
+    #[tactic(auto, unfolding(ctl_grammar::specs::Grammar::optional_value))]
     pub(crate) fn optional_value(&mut self) -> Result<Option<Expression>, Refused>
+        ensures given { Gives (optional view) result self.new.rest.now (read self.old.left optional_value none self.old.rest.now) }
         ensures left { OnOk result (self.new.left ≡ self.old.left) }
         ensures shorter { OnOk result (length self.new.rest.now ≤ length self.old.rest.now) }
     {
@@ -26,7 +33,9 @@ impl<'a> Parser<'a> {
     }
 
     /// `ids ":" dotted [":=" expr] ";"` (RM 3.8)
+    #[tactic(auto, unfolding(ctl_grammar::specs::Grammar::component))]
     fn component(&mut self) -> Result<ComponentDeclaration, Refused>
+        ensures given { Gives component_node result self.new.rest.now (read self.old.left component none self.old.rest.now) }
         ensures left { OnOk result (self.new.left ≡ self.old.left) }
         ensures shorter { OnOk result (length self.new.rest.now < length self.old.rest.now) }
     {
@@ -43,7 +52,9 @@ impl<'a> Parser<'a> {
     }
 
     /// `comp {comp}`
+    #[tactic(auto, unfolding(ctl_grammar::specs::Grammar::component_list))]
     fn component_list(&mut self) -> Result<Vec<ComponentDeclaration>, Refused>
+        ensures given { Gives (λ v. row_of (map component_node v.items)) result self.new.rest.now (read self.old.left component_list none self.old.rest.now) }
         ensures left { OnOk result (self.new.left ≡ self.old.left) }
         ensures shorter { OnOk result (length self.new.rest.now < length self.old.rest.now) }
     {
@@ -58,7 +69,9 @@ impl<'a> Parser<'a> {
     }
 
     /// `"null" ";" | comp {comp}`
+    #[tactic(auto, unfolding(ctl_grammar::specs::Grammar::components))]
     fn components(&mut self) -> Result<Vec<ComponentDeclaration>, Refused>
+        ensures given { Gives (λ v. row_of (map component_node v.items)) result self.new.rest.now (read self.old.left components none self.old.rest.now) }
         ensures left { OnOk result (self.new.left ≡ self.old.left) }
         ensures shorter { OnOk result (length self.new.rest.now < length self.old.rest.now) }
     {
@@ -72,7 +85,9 @@ impl<'a> Parser<'a> {
     }
 
     /// `"null" "record"`
+    #[tactic(auto, unfolding(ctl_grammar::specs::Grammar::null_record))]
     fn null_record(&mut self) -> Result<Vec<ComponentDeclaration>, Refused>
+        ensures given { Gives (λ v. row_of (map component_node v.items)) result self.new.rest.now (read self.old.left null_record none self.old.rest.now) }
         ensures left { OnOk result (self.new.left ≡ self.old.left) }
         ensures shorter { OnOk result (length self.new.rest.now < length self.old.rest.now) }
     {
@@ -82,7 +97,9 @@ impl<'a> Parser<'a> {
     }
 
     /// `"record" ("null" ";" | comp {comp}) "end" "record"`
+    #[tactic(auto, unfolding(ctl_grammar::specs::Grammar::full_record))]
     fn full_record(&mut self) -> Result<Vec<ComponentDeclaration>, Refused>
+        ensures given { Gives (λ v. row_of (map component_node v.items)) result self.new.rest.now (read self.old.left full_record none self.old.rest.now) }
         ensures left { OnOk result (self.new.left ≡ self.old.left) }
         ensures shorter { OnOk result (length self.new.rest.now < length self.old.rest.now) }
     {
@@ -94,7 +111,9 @@ impl<'a> Parser<'a> {
     }
 
     /// `recdef`
+    #[tactic(auto, unfolding(ctl_grammar::specs::Grammar::recorded, ctl_grammar::specs::Grammar::null_record, ctl_grammar::specs::Grammar::full_record))]
     fn record(&mut self) -> Result<Vec<ComponentDeclaration>, Refused>
+        ensures given { Gives (λ v. row_of (map component_node v.items)) result self.new.rest.now (read self.old.left recorded none self.old.rest.now) }
         ensures left { OnOk result (self.new.left ≡ self.old.left) }
         ensures shorter { OnOk result (length self.new.rest.now < length self.old.rest.now) }
     {
@@ -106,7 +125,9 @@ impl<'a> Parser<'a> {
     }
 
     /// `"limited" recdef`
+    #[tactic(auto, unfolding(ctl_grammar::specs::Grammar::limited_record))]
     fn limited_record(&mut self) -> Result<Definition, Refused>
+        ensures given { Gives definition_node result self.new.rest.now (read self.old.left limited_record none self.old.rest.now) }
         ensures left { OnOk result (self.new.left ≡ self.old.left) }
         ensures shorter { OnOk result (length self.new.rest.now < length self.old.rest.now) }
     {
@@ -116,7 +137,9 @@ impl<'a> Parser<'a> {
     }
 
     /// `"new" dotted "with" recdef` (RM 3.9.1)
+    #[tactic(auto, unfolding(ctl_grammar::specs::Grammar::extension))]
     fn extension(&mut self) -> Result<Definition, Refused>
+        ensures given { Gives definition_node result self.new.rest.now (read self.old.left extension none self.old.rest.now) }
         ensures left { OnOk result (self.new.left ≡ self.old.left) }
         ensures shorter { OnOk result (length self.new.rest.now < length self.old.rest.now) }
     {
@@ -127,7 +150,9 @@ impl<'a> Parser<'a> {
     }
 
     /// `["'" id]` of an access type, where the subset has no attribute
+    #[tactic(auto, unfolding(ctl_grammar::specs::Grammar::designated_attribute))]
     fn designated_attribute(&mut self) -> Result<Option<Identifier>, Refused>
+        ensures given { Gives named result self.new.rest.now (read self.old.left designated_attribute none self.old.rest.now) }
         ensures left { OnOk result (self.new.left ≡ self.old.left) }
         ensures shorter { OnOk result (length self.new.rest.now ≤ length self.old.rest.now) }
     {
@@ -141,7 +166,9 @@ impl<'a> Parser<'a> {
     }
 
     /// `["with" id "=>" dotted]` (RM 13.1.1)
+    #[tactic(auto, unfolding(ctl_grammar::specs::Grammar::aspect))]
     fn aspect(&mut self) -> Result<Option<Aspect>, Refused>
+        ensures given { Gives aspect_node result self.new.rest.now (read self.old.left aspect none self.old.rest.now) }
         ensures left { OnOk result (self.new.left ≡ self.old.left) }
         ensures shorter { OnOk result (length self.new.rest.now ≤ length self.old.rest.now) }
     {
@@ -157,7 +184,9 @@ impl<'a> Parser<'a> {
     }
 
     /// `"access" ["all"] dotted ["'" id] ["with" id "=>" dotted]` (RM 3.10)
+    #[tactic(auto, unfolding(ctl_grammar::specs::Grammar::access))]
     fn access(&mut self) -> Result<Definition, Refused>
+        ensures given { Gives definition_node result self.new.rest.now (read self.old.left access none self.old.rest.now) }
         ensures left { OnOk result (self.new.left ≡ self.old.left) }
         ensures shorter { OnOk result (length self.new.rest.now < length self.old.rest.now) }
     {
@@ -175,7 +204,9 @@ impl<'a> Parser<'a> {
     }
 
     /// `typedef`
+    #[tactic(auto, unfolding(ctl_grammar::specs::Grammar::definition, ctl_grammar::specs::Grammar::limited_record, ctl_grammar::specs::Grammar::extension, ctl_grammar::specs::Grammar::access, ctl_grammar::specs::Grammar::behind))]
     pub(crate) fn definition(&mut self) -> Result<Definition, Refused>
+        ensures given { Gives definition_node result self.new.rest.now (read self.old.left definition none self.old.rest.now) }
         ensures left { OnOk result (self.new.left ≡ self.old.left) }
         ensures shorter { OnOk result (length self.new.rest.now < length self.old.rest.now) }
     {

@@ -1,6 +1,14 @@
 //! The whole of a source text.
 
-ghost use Rattle.std.specs.Prelude.{◌≡◌, ◌<◌, ◌≤◌, length, OnOk};
+ghost use Rattle.std.specs.Prelude.{◌≡◌, ◌⊎◌, IfOk, IfErr, OnOk, MatchResult};
+ghost use Rattle.ctl_tree.specs.declared.fault.Fault.{Fault};
+ghost use Rattle.ctl_grammar.specs.Form.{Node, none};
+ghost use Rattle.ctl_grammar.specs.Grammar.{program};
+ghost use Rattle.ctl_grammar.specs.Reading.{Gives, read};
+ghost use Rattle.ctl_grammar.specs.Text.{IsProgram, answer};
+ghost use Rattle.ctl_grammar.specs.Fault.{HasGrammarFault, code_of, fault_at};
+ghost use Rattle.ctl_parse.specs.Memory.{IsMemory};
+ghost use Rattle.ctl_parse.specs.View.{tree_node};
 
 use crate::cursor::Parser;
 use ctl_grammar::kind::is_left_out;
@@ -15,12 +23,17 @@ use std::alloc::Global;
 pub const ROOM: u32 = 100;
 
 impl<'a> Parser<'a> {
-    /// `{context} "procedure" id "is" part "begin" handled "end" [id] ";"`
-    fn program(&mut self) -> Result<Tree, Refused> {
+    /// `{context} "procedure" id "is" part "begin" handled "end" [id] ";"`, and the end mark
+    #[tactic(auto, unfolding(ctl_grammar::specs::Grammar::program))]
+    fn program(&mut self) -> Result<Tree, Refused>
+        ensures given { Gives tree_node result self.new.rest.now (read self.old.left program none self.old.rest.now) }
+        ensures left { OnOk result (self.new.left ≡ self.old.left) }
+    {
         let contexts = self.contexts()?;
         let span = self.mark(Kind::Procedure)?;
         let name = self.identifier()?;
         let body = self.body(&name)?;
+        self.skip(Kind::Finish)?;
         Ok(Tree {
             contexts,
             span,
@@ -29,10 +42,13 @@ impl<'a> Parser<'a> {
         })
     }
 
-    /// The program, and the end mark behind it.
-    fn whole(&mut self) -> Result<Tree, Refused> {
+    /// The program, and no token behind it.
+    #[tactic(auto, unfolding(ctl_grammar::specs::Text::answer))]
+    fn whole(&mut self) -> Result<Tree, Refused>
+        ensures given { Gives tree_node result self.new.rest.now (answer self.old.left self.old.rest.now) }
+        ensures left { OnOk result (self.new.left ≡ self.old.left) }
+    {
         let program = self.program()?;
-        self.skip(Kind::Finish)?;
         match self.rest.first() {
             None => Ok(program),
             Some(_) => Err(Refused::Token(Reason::Unexpected)),
@@ -41,7 +57,9 @@ impl<'a> Parser<'a> {
 }
 
 /// The number of the fault of a token that is wrong for this reason.
-fn code_of(reason: Reason, kind: Kind) -> FaultCode {
+fn code_of(reason: Reason, kind: Kind) -> FaultCode
+    ensures { result ≡ code_of reason kind }
+{
     match reason {
         Reason::Unexpected => {
             if is_left_out(kind) {
@@ -57,7 +75,9 @@ fn code_of(reason: Reason, kind: Kind) -> FaultCode {
 }
 
 /// The fault of the first of these tokens. Where none is left, it stands at the last of all tokens.
-fn fault_at(reason: Reason, rest: &[Token], tokens: &[Token]) -> Fault {
+fn fault_at(reason: Reason, rest: &[Token], tokens: &[Token]) -> Fault
+    ensures { result ≡ fault_at reason rest.now tokens.now }
+{
     match rest.first() {
         Some(token) => Fault::at(code_of(reason, token.kind), token.span),
         None => match tokens.last() {
@@ -73,7 +93,15 @@ fn fault_at(reason: Reason, rest: &[Token], tokens: &[Token]) -> Fault {
 /// that the subset leaves out; `LEFT_OUT` also at an attribute or aspect that it leaves out. `TOO_DEEP` stands at the
 /// first token of a construct where `ROOM` are open, and `END_NAME` at a name behind `end` that is not the subprogram's.
 /// `MEMORY`: the host refused memory.
-pub fn parse(alloc: Global, tokens: &[Token]) -> Result<Tree, Fault> {
+#[tactic(auto, using(crate::proofs::Answered::is_program, crate::proofs::Answered::one_program, crate::proofs::Answered::no_program))]
+pub fn parse(alloc: Global, tokens: &[Token]) -> Result<Tree, Fault>
+    ensures found { IfOk result (λ tree. IsProgram ROOM (tree_node tree) tokens.now) }
+    ensures refused { IfErr result (λ fault. HasGrammarFault ROOM tokens.now fault ⊎ IsMemory fault) }
+
+    // A text that is a program is not refused for another reason, nor is one with a fault taken.
+    ensures all_programs { (v : Node) → IsProgram ROOM v tokens.now → MatchResult result (λ tree. tree_node tree ≡ v) IsMemory }
+    ensures all_faults { (fault : Fault) → HasGrammarFault ROOM tokens.now fault → MatchResult result (λ _. ⊥) (λ f. (f ≡ fault) ⊎ IsMemory f) }
+{
     let mut parser = Parser {
         rest: tokens,
         left: ROOM,
@@ -167,6 +195,40 @@ mod tests {
         ("@", Kind::Finish),
     ];
 
+    const UNUSED_WORDS: [Kind; 31] = [
+        Kind::Abort,
+        Kind::Abstract,
+        Kind::Accept,
+        Kind::Array,
+        Kind::At,
+        Kind::Body,
+        Kind::Case,
+        Kind::Delay,
+        Kind::Delta,
+        Kind::Digits,
+        Kind::Do,
+        Kind::Entry,
+        Kind::Generic,
+        Kind::Goto,
+        Kind::Interface,
+        Kind::Of,
+        Kind::Package,
+        Kind::Pragma,
+        Kind::Private,
+        Kind::Protected,
+        Kind::Range,
+        Kind::Renames,
+        Kind::Requeue,
+        Kind::Select,
+        Kind::Separate,
+        Kind::Some,
+        Kind::Subtype,
+        Kind::Synchronized,
+        Kind::Task,
+        Kind::Terminate,
+        Kind::Until,
+    ];
+
     fn kind_of(piece: &[u8]) -> Kind {
         for (word, kind) in &WORDS {
             if is_same_name(word.as_bytes(), piece) {
@@ -211,9 +273,13 @@ mod tests {
     /// The code and the column of the fault, or none for a tree.
     fn fault_of(alloc: Global, text: &str) -> Result<Option<(FaultCode, usize)>, AllocError> {
         let tokens = lexed(alloc, text)?;
-        match parse(alloc, &tokens) {
-            Ok(_) => Ok(None),
-            Err(fault) => Ok(Some((fault.code, fault.column))),
+        Ok(fault_of_tokens(alloc, &tokens))
+    }
+
+    fn fault_of_tokens(alloc: Global, tokens: &[Token]) -> Option<(FaultCode, usize)> {
+        match parse(alloc, tokens) {
+            Ok(_) => None,
+            Err(fault) => Some((fault.code, fault.column)),
         }
     }
 
@@ -236,6 +302,63 @@ mod tests {
         }
         text.push_str(after)?;
         Ok(text)
+    }
+
+    /// The fault of an item where a hundred constructs are open: the body of Main and blocks in one another. The item begins in
+    /// column 621.
+    fn fault_in_depth(alloc: Global, item: &str) -> Result<Option<(FaultCode, usize)>, AllocError> {
+        let mut text = String::new(alloc);
+        text.push_str("procedure Main is begin ")?;
+        for _ in 0..98 {
+            text.push_str("begin ")?;
+        }
+        text.push_str("declare ")?;
+        text.push_str(item)?;
+        text.push_str(" begin null ; end ; ")?;
+        for _ in 0..98 {
+            text.push_str("end ; ")?;
+        }
+        text.push_str("end ; @")?;
+        fault_of(alloc, &text)
+    }
+
+    #[test]
+    fn a_body_too_deep_stands_at_its_first_token(rt: HostRuntime) -> Result<(), Fail> {
+        let faults = [
+            (
+                "procedure Q ( X : T ) is begin null ; end ;",
+                FaultCode::TooDeep,
+                621,
+            ),
+            ("procedure Q ( X : T ) ;", FaultCode::TooDeep, 633),
+            (
+                "procedure Q ( X T ) is begin null ; end ;",
+                FaultCode::TooDeep,
+                633,
+            ),
+            ("procedure Q is begin null ; end ;", FaultCode::TooDeep, 621),
+            ("procedure Q is new D ( 1 ) ;", FaultCode::TooDeep, 642),
+            ("procedure Q is ;", FaultCode::Unexpected, 636),
+            (
+                "overriding procedure Q is begin null ; end ;",
+                FaultCode::TooDeep,
+                632,
+            ),
+            (
+                "function F return T is begin null ; end ;",
+                FaultCode::TooDeep,
+                621,
+            ),
+        ];
+        for (item, code, column) in faults {
+            assert_eq!(rt;
+                fault_in_depth(rt.alloc(), item)?,
+                Some((code, column)),
+                "{item}"
+            );
+        }
+        assert_eq!(rt; fault_in_depth(rt.alloc(), "procedure Q ;")?, None);
+        Ok(())
     }
 
     #[test]
@@ -299,6 +422,36 @@ mod tests {
         for (text, code, column) in faults {
             assert_eq!(rt; fault_of(rt.alloc(), text)?, Some((code, column)), "{text}");
         }
+        Ok(())
+    }
+
+    #[test]
+    fn words_that_the_subset_leaves_out(rt: HostRuntime) -> Result<(), Fail> {
+        for word in UNUSED_WORDS {
+            let mut tokens = lexed(rt.alloc(), "procedure Main is")?;
+            tokens.push(Token {
+                kind: word,
+                span: Span {
+                    line: 1,
+                    column: 19,
+                },
+                text: Text::new(rt.alloc()),
+                value: 0,
+            })?;
+            assert_eq!(rt;
+                fault_of_tokens(rt.alloc(), &tokens),
+                Some((FaultCode::LeftOut, 19))
+            );
+        }
+        Ok(())
+    }
+
+    #[test]
+    fn no_end_mark(rt: HostRuntime) -> Result<(), Fail> {
+        assert_eq!(rt;
+            fault_of_tokens(rt.alloc(), &[]),
+            Some((FaultCode::Unexpected, 1))
+        );
         Ok(())
     }
 

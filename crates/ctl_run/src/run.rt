@@ -1,11 +1,15 @@
 //! The stages in their order: lexis, grammar, legality, code, run.
 
-ghost use Rattle.std.specs.Prelude.{◌≡◌, ◌⊎◌, MatchResult};
+ghost use Rattle.std.specs.Prelude.{◌≡◌, ◌⊎◌, IfOk, List, MatchResult};
 ghost use Rattle.ctl_tree.specs.declared.fault.Fault.{Fault};
-ghost use Rattle.ctl_lexis.specs.Lexis.{HasFault};
+ghost use Rattle.ctl_tree.specs.declared.token.Token.{Token};
+ghost use Rattle.ctl_lexis.specs.Lexis.{HasFault, HasTokens};
+ghost use Rattle.ctl_grammar.specs.Fault.{HasGrammarFault};
 ghost use Rattle.ctl_lex.specs.Memory.{IsMemory};
+ghost use Rattle.ctl_run.specs.Headline.{Accepts, RunsSource};
 
 use ctl_check::check::check;
+use ctl_gen::admits::admits;
 use ctl_gen::generate::generate;
 use ctl_lex::tokens;
 use ctl_machine::machine::Machine;
@@ -13,7 +17,8 @@ use ctl_machine::outcome::Outcome;
 use ctl_parse::parse;
 use ctl_slice::slice::left_out;
 use ctl_tree::checked::Checked;
-use ctl_tree::fault::Fault;
+use ctl_tree::fault::{Fault, FaultCode};
+use ctl_tree::span::Span;
 use ctl_tree::request::Order;
 use std::alloc::Global;
 
@@ -21,19 +26,29 @@ use std::alloc::Global;
 pub fn check_source(alloc: Global, source: &[u8]) -> Result<Checked, Fault>
     // A text with a lexical fault is refused with it.
     ensures lexical { (fault : Fault) → HasFault source.now fault → MatchResult result (λ _. ⊥) (λ f. (f ≡ fault) ⊎ IsMemory f) }
+    // A text whose tokens spell no program is refused with the first fault of its grammar.
+    ensures grammatical { (tokens : List Token) (fault : Fault) → HasTokens source.now tokens → HasGrammarFault 100 tokens fault → MatchResult result (λ _. ⊥) (λ f. (f ≡ fault) ⊎ IsMemory f) }
+    ensures accepted { IfOk result (λ program. Accepts source.now program) }
 {
     let tokens = tokens(alloc, source)?;
     let tree = parse(alloc, &tokens)?;
-    match left_out(&tree) {
-        Some(fault) => Err(fault),
-        None => check(alloc, &tree),
+    if let Some(fault) = left_out(&tree) {
+        return Err(fault);
     }
+    let program = check(alloc, &tree)?;
+    // The table of constructs has let through what this version cannot run.
+    if !admits(&program) {
+        return Err(Fault::at(FaultCode::LeftOut, Span { line: 1, column: 1 }));
+    }
+    Ok(program)
 }
 
 /// Runs a source text by at most this many steps. The fault is that of the text, or MEMORY where memory was refused before the
 /// first step; a step that is refused memory ends the run as `HostMemory`.
 pub fn run_source(alloc: Global, source: &[u8], order: Order, steps: u64) -> Result<Outcome, Fault>
     ensures lexical { (fault : Fault) → HasFault source.now fault → MatchResult result (λ _. ⊥) (λ f. (f ≡ fault) ⊎ IsMemory f) }
+    ensures grammatical { (tokens : List Token) (fault : Fault) → HasTokens source.now tokens → HasGrammarFault 100 tokens fault → MatchResult result (λ _. ⊥) (λ f. (f ≡ fault) ⊎ IsMemory f) }
+    ensures headline { IfOk result (λ outcome. RunsSource source.now order steps outcome) }
 {
     let program = check_source(alloc, source)?;
     let code = generate(alloc, &program)?;
@@ -41,6 +56,7 @@ pub fn run_source(alloc: Global, source: &[u8], order: Order, steps: u64) -> Res
     let _ = machine.run(steps);
     Ok(machine.finish())
 }
+
 
 #[cfg(test)]
 mod tests;

@@ -1,4 +1,9 @@
-use Rattle.std.proofs.Common.{◌≡◌, ℕ, ◌+◌, ◌*◌, ◌<◌, ◌≤◌, length}
+use Rattle.std.proofs.Common.{◌≡◌, ◌+◌, ◌*◌, ◌<◌, ◌≤◌, length, map}
+use Rattle.ctl_grammar.proofs.Loops.{gathering}
+use Rattle.ctl_grammar.specs.Form.{none, many}
+use Rattle.ctl_grammar.specs.Grammar.{addend, addends, expressions, multiplicand, multiplicands, next_expression, next_relation, relations, suffix, suffixes}
+use Rattle.ctl_grammar.specs.Reading.{read}
+use Rattle.ctl_parse.specs.View.{view, view_addend, view_multiplicand, view_suffix}
 use Rattle.ctl_parse.proofs.cursor.Parser.+expressions.Given as goal
 
 abbrev pub decreases-enclosed : goal.decreases-enclosed
@@ -93,6 +98,7 @@ decreases-in_enclosed_name l = l.self.now.left * 22 + 21
 
 abbrev pub invariant-relations-more : goal.invariant-relations-more
 invariant-relations-more l = record {
+  so_far : gathering (map view l.all.items) (read l.fn.self.left (many (next_relation l.fn.operator)) none l.self.rest.now) ≡ read l.fn.self.left (relations l.fn.operator) none l.fn.self.rest.now;
   same : l.self.left ≡ l.fn.self.left;
   shorter : length l.self.rest.now < length l.fn.self.rest.now;
 }
@@ -102,6 +108,7 @@ decreases-relations-more l = length l.self.rest.now
 
 abbrev pub invariant-addends-more : goal.invariant-addends-more
 invariant-addends-more l = record {
+  so_far : gathering (map view_addend l.all.items) (read l.fn.self.left (many addend) none l.self.rest.now) ≡ read l.fn.self.left addends none l.fn.self.rest.now;
   same : l.self.left ≡ l.fn.self.left;
   shorter : length l.self.rest.now ≤ length l.fn.self.rest.now;
 }
@@ -111,6 +118,7 @@ decreases-addends-more l = length l.self.rest.now
 
 abbrev pub invariant-multiplicands-more : goal.invariant-multiplicands-more
 invariant-multiplicands-more l = record {
+  so_far : gathering (map view_multiplicand l.all.items) (read l.fn.self.left (many multiplicand) none l.self.rest.now) ≡ read l.fn.self.left multiplicands none l.fn.self.rest.now;
   same : l.self.left ≡ l.fn.self.left;
   shorter : length l.self.rest.now ≤ length l.fn.self.rest.now;
 }
@@ -120,6 +128,7 @@ decreases-multiplicands-more l = length l.self.rest.now
 
 abbrev pub invariant-suffixes-more : goal.invariant-suffixes-more
 invariant-suffixes-more l = record {
+  so_far : gathering (map view_suffix l.all.items) (read l.fn.self.left (many suffix) none l.self.rest.now) ≡ read l.fn.self.left suffixes none l.fn.self.rest.now;
   same : l.self.left ≡ l.fn.self.left;
   shorter : length l.self.rest.now ≤ length l.fn.self.rest.now;
 }
@@ -129,6 +138,7 @@ decreases-suffixes-more l = length l.self.rest.now
 
 abbrev pub invariant-expressions-more : goal.invariant-expressions-more
 invariant-expressions-more l = record {
+  so_far : gathering (map view l.all.items) (read l.fn.self.left (many next_expression) none l.self.rest.now) ≡ read l.fn.self.left expressions none l.fn.self.rest.now;
   same : l.self.left ≡ l.fn.self.left;
   shorter : length l.self.rest.now < length l.fn.self.rest.now;
 }

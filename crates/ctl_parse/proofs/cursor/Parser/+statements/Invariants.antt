@@ -1,4 +1,9 @@
-use Rattle.std.proofs.Common.{◌≡◌, ℕ, ◌+◌, ◌*◌, ◌<◌, ◌≤◌, length}
+use Rattle.std.proofs.Common.{◌≡◌, ◌+◌, ◌*◌, ◌<◌, ◌≤◌, length, map}
+use Rattle.ctl_grammar.proofs.Loops.{gathering}
+use Rattle.ctl_grammar.specs.Form.{none, many}
+use Rattle.ctl_grammar.specs.Grammar.{branches, handler, handler_list, item, next_branch, part, statement, statements}
+use Rattle.ctl_grammar.specs.Reading.{read}
+use Rattle.ctl_parse.specs.View.{view_branch, view_handler, view_item, view_statement}
 use Rattle.ctl_parse.proofs.cursor.Parser.+statements.Given as goal
 
 abbrev pub decreases-conditional : goal.decreases-conditional
@@ -90,6 +95,7 @@ decreases-in_body l = l.self.now.left * 9 + 8
 
 abbrev pub invariant-statements-more : goal.invariant-statements-more
 invariant-statements-more l = record {
+  so_far : gathering (map view_statement l.all.items) (read l.fn.self.left (many statement) none l.self.rest.now) ≡ read l.fn.self.left statements none l.fn.self.rest.now;
   same : l.self.left ≡ l.fn.self.left;
   shorter : length l.self.rest.now < length l.fn.self.rest.now;
 }
@@ -99,6 +105,7 @@ decreases-statements-more l = length l.self.rest.now
 
 abbrev pub invariant-branches-more : goal.invariant-branches-more
 invariant-branches-more l = record {
+  so_far : gathering (map view_branch l.all.items) (read l.fn.self.left (many next_branch) none l.self.rest.now) ≡ read l.fn.self.left branches none l.fn.self.rest.now;
   same : l.self.left ≡ l.fn.self.left;
   shorter : length l.self.rest.now < length l.fn.self.rest.now;
 }
@@ -108,6 +115,7 @@ decreases-branches-more l = length l.self.rest.now
 
 abbrev pub invariant-handler_list-more : goal.invariant-handler_list-more
 invariant-handler_list-more l = record {
+  so_far : gathering (map view_handler l.all.items) (read l.fn.self.left (many handler) none l.self.rest.now) ≡ read l.fn.self.left handler_list none l.fn.self.rest.now;
   same : l.self.left ≡ l.fn.self.left;
   shorter : length l.self.rest.now < length l.fn.self.rest.now;
 }
@@ -117,6 +125,7 @@ decreases-handler_list-more l = length l.self.rest.now
 
 abbrev pub invariant-part-more : goal.invariant-part-more
 invariant-part-more l = record {
+  so_far : gathering (map view_item l.all.items) (read l.fn.self.left (many item) none l.self.rest.now) ≡ read l.fn.self.left part none l.fn.self.rest.now;
   same : l.self.left ≡ l.fn.self.left;
   shorter : length l.self.rest.now ≤ length l.fn.self.rest.now;
 }

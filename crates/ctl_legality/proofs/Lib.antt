@@ -1,0 +1,6 @@
+pub mod Noting
+pub mod Breaches
+pub mod First
+pub mod ExpressionRows
+pub mod Kept
+pub mod StatementRows

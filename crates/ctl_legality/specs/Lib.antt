@@ -1,0 +1,5 @@
+pub mod Library
+pub mod View
+pub mod Sites
+pub mod Rules
+pub mod Judged

@@ -1,0 +1,121 @@
+//! The declarations that are in view at a place of the text (RM 8.2, 8.3), and what a name denotes there.
+
+use crate::library::{LibraryName, Operation, Unit};
+use ctl_tree::span::Span;
+use ctl_tree::text::Text;
+
+/// What a declaration declares.
+#[derive(Clone, Copy, Debug, PartialEq, Eq)]
+pub enum Entity {
+    /// not visible yet: its own declaration has not ended (RM 8.3(17))
+    Hidden,
+    /// a type, and whether its full declaration has ended (RM 3.10.1)
+    Type(bool),
+    /// a subprogram, and whether its body was met (RM 6.1, 6.3)
+    Subprogram(bool),
+    /// a variable, a constant, a parameter or a component
+    Object,
+    Exception,
+    /// an instance of a generic procedure
+    Instance,
+    Library(LibraryName),
+}
+
+/// What is known of a declaration in view.
+#[derive(Clone, Copy, Debug, PartialEq, Eq)]
+pub struct Known {
+    pub entity: Entity,
+    /// how many masters (subprogram bodies and blocks) stand around the declaration (RM 3.10.2)
+    pub level: usize,
+    /// how many declarations that are in view with it stand before it
+    pub place: usize,
+    /// where its identifier stands
+    pub span: Span,
+}
+
+/// A declaration in view.
+#[derive(Drop, Debug)]
+pub struct Declaration {
+    /// its name in lower case, since case does not count (RM 2.3)
+    pub name: Text,
+    pub known: Known,
+}
+
+/// The declarative part whose items are read, or another region of declarations.
+#[derive(Clone, Copy, Debug, PartialEq, Eq)]
+pub struct Part {
+    /// how many declarations around it are in view
+    pub start: usize,
+    /// how many masters stand around its declarations
+    pub level: usize,
+    /// whether a body stands in it before
+    pub has_body: bool,
+}
+
+/// What a use of a name denotes.
+#[derive(Clone, Copy, Debug, PartialEq, Eq)]
+pub enum Denoted {
+    /// a declaration of the text: its place among those in view, and its level
+    Declared(usize, usize),
+    /// a declaration of the library
+    Library(LibraryName),
+    /// a library unit itself
+    Unit(Unit),
+    /// one of the operations, told apart by the first actual parameter
+    Operation(Operation),
+}
+
+/// What the beginning of a name means where it stands.
+#[derive(Clone, Copy, Debug, PartialEq, Eq)]
+pub enum Meaning {
+    Means(Denoted),
+    /// the identifier of this number, from 0, is given by no visible declaration
+    UnknownAt(usize),
+    /// a library unit that no with clause names
+    NotWithed,
+}
+
+/// Where the identifiers of a name lead from a library unit.
+#[derive(Clone, Copy, Debug, PartialEq, Eq)]
+pub enum Way {
+    /// to a unit
+    Reaches(Unit),
+    /// from this unit to the identifier of this number, which is no child of it, and what the unit declares by that name
+    Stops(Unit, usize, Option<LibraryName>),
+}
+
+/// How a name is used.
+#[derive(Clone, Copy, Debug, PartialEq, Eq)]
+pub enum Usage {
+    /// as the designated type of an access type, which may be incomplete (RM 3.10.1)
+    Designated,
+    Plain,
+}
+
+/// What a declaration is known by in its region.
+#[derive(Clone, Copy, Debug, PartialEq, Eq)]
+pub enum Naming {
+    /// by its name, which a use may give
+    Direct,
+    /// by its name behind a dot: a component is no direct name
+    Component,
+    /// by its name behind a bar: a choice of an exception handler
+    Choice,
+}
+
+/// A rule of legality that is judged with the names.
+#[derive(Clone, Copy, Debug, PartialEq, Eq)]
+pub enum Rule {
+    Unknown,
+    Duplicate,
+    NoBody,
+    Order,
+    NotWithed,
+}
+
+/// A rule that is broken, and the place.
+#[derive(Clone, Copy, Debug, PartialEq, Eq)]
+pub struct Breach {
+    pub rule: Rule,
+    pub span: Span,
+}

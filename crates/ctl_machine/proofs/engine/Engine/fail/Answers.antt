@@ -1,0 +1,21 @@
+use Rattle.std.proofs.Common.{refl, sym, true}
+use Rattle.std.proofs.lemmas.List.{append-nil}
+use Rattle.ctl_machine.specs.declared.frame.Frame.TheVariants.{Initializing}
+use Rattle.ctl_machine.specs.declared.frame.Handed.TheVariants.{Raise}
+use Rattle.ctl_machine.proofs.Tops.{popped, by_top, fits_top, makes_by, levels_begun, levels_ended}
+use Rattle.ctl_machine.proofs.engine.Engine.fail.Goals as goal
+
+pub returns : goal.returns
+returns c code =
+    let t = c.requires.top in
+    let frame = Initializing c.args.object t.0 t.1 in
+    let control = c.args.self.now.control in
+    let rest = popped control.len control.items c.pop.new.self.items t.2.0 frame control.ok.0 c.pop.ensures.rest t.2.1 in
+    makes_by _ _ _ _ (by_top code (Raise c.args.exception) c.args.self.now t.2.0 frame t.2.1) (record {
+      sound = record { place = tt; rests = rw (rest, c.end_finalization.ensures, c.begin_finalization.ensures, levels_ended, levels_begun) (fits_top true c.args.self.now t.2.0 frame t.2.1 c.requires.rests) };
+      mode = refl;
+      control = rw (rest, c.end_finalization.ensures, c.begin_finalization.ensures, levels_ended, levels_begun) refl;
+      operands = refl;
+      world = rw (c.end_finalization.ensures, c.begin_finalization.ensures) refl;
+      shows = sym (append-nil _);
+    })

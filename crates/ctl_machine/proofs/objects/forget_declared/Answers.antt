@@ -1,0 +1,17 @@
+-- The closure tells the objects of older masters, which stand first.
+use Rattle.std.proofs.Common.{rules}
+use Rattle.std.specs.Prelude.{nat_lt}
+use Rattle.std.proofs.lemmas.List.Sorted.{IsPartitionPoint-from_clause, IsPartitionedBy-ltb}
+use Rattle.ctl_machine.proofs.ObjectsByNumber.{homes_never_fall, forgotten}
+use Rattle.ctl_machine.proofs.objects.forget_declared.Goals as goal
+
+pub returns-clause-kept : goal.returns-clause-kept
+returns-clause-kept c =
+    let master = c.args.master in
+    let objects = c.args.objects.now.items in
+    let parted = IsPartitionedBy-ltb (λ o. o.master) objects master (homes_never_fall objects c.requires.in_order) in
+    let ends = IsPartitionPoint-from_clause (λ o. nat_lt o.master master) _ _ c.partition_point-kept.ensures.partitioned (rw c.deref.ensures.value parted) (λ a r f k. search rules) in
+    rw c.truncate.ensures.items (forgotten master c.partition_point-kept.result objects c.requires.newest (rw (← c.deref.ensures.value) ends))
+
+pub returns-clause-front : goal.returns-clause-front
+returns-clause-front c = (c.partition_point-kept.result, c.truncate.ensures.items)

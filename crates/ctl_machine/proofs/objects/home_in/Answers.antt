@@ -1,0 +1,12 @@
+use Rattle.std.proofs.Common.{refl}
+use Rattle.ctl_machine.specs.declared.objects.State.TheVariants.{Untouched}
+use Rattle.ctl_machine.proofs.ObjectsByNumber.{none_found, one_found}
+use Rattle.ctl_machine.proofs.objects.home_in.Goals as goal
+
+-- no object has the number
+pub returns-in_err-place : goal.returns-in_err-place
+returns-in_err-place c = rw (c.from_residual.ensures, none_found c.args.number c.args.objects.now c.in_err-place.ensures.absent) refl
+
+-- its master is read at its place
+pub returns : goal.returns
+returns c = rw (one_found c.args.number c.args.objects.now c.in_ok-place.place (record { number = 0; «record» = 0; master = 0; state = Untouched }) c.requires.rising c.in_ok-place.ensures.found) (_, refl, refl)

@@ -1,0 +1,67 @@
+-- What a call comes to, as a move of the instruction table.
+use Rattle.std.specs.Prelude.{ℕ, List, [], ◌∷◌, Option, Some, None, Bool, true, false}
+use Rattle.ctl_tree.specs.declared.event.Event.{Event}
+use Rattle.ctl_tree.specs.declared.ending.Stop.TheVariants.{UseAfterFree}
+use Rattle.ctl_meaning.specs.World.{World}
+use Rattle.ctl_meaning.specs.Outcome.{Goes}
+use Rattle.ctl_code.specs.States.{At, Giving, Stopped, AfterBody, Frame, InMaster, Move}
+use Rattle.ctl_code.specs.Table.{quiet, showing}
+use Rattle.ctl_machine.specs.declared.calls.Called.{Called}
+use Rattle.ctl_machine.specs.declared.calls.Called.TheVariants.{Gone, Nothing, Entered}
+use Rattle.ctl_machine.specs.declared.frame.Afterwards.TheVariants.{Body}
+use Rattle.ctl_machine.specs.declared.frame.Frame as F
+use Rattle.ctl_machine.specs.declared.frame.Frame.TheVariants.{Statements}
+use Rattle.ctl_machine.specs.declared.frame.Handed.TheVariants as HandedOf
+use Rattle.ctl_machine.specs.declared.frame.Mode as M
+use Rattle.ctl_machine.specs.declared.frame.Mode.TheVariants as ModeOf
+use Rattle.ctl_machine.specs.World.{Level, newest_master, newest_display, all_but_first}
+
+-- a body was entered at this place, or there is none
+abbrev pub move_into : Option ℕ → List Event → List Frame → World → Move
+move_into None es k w = showing es (Stopped UseAfterFree) k [] w
+move_into (Some place) es k w = showing es (At (newest_display w) place) (InMaster (newest_master w) 0 AfterBody ∷ k) [] w
+
+abbrev pub move_by : Called → Event → List Frame → World → Move
+move_by Gone e k w = quiet (Stopped UseAfterFree) k [] w
+move_by Nothing e k w = quiet (Giving (Goes false)) k [] w
+move_by (Entered place) e k w = move_into place (e ∷ []) k w
+
+-- the masters around
+abbrev pub levels_in : Option ℕ → List Level → List Level
+levels_in None ls = ls
+levels_in (Some place) ls = all_but_first ls
+
+abbrev pub levels_by : Called → List Level → List Level
+levels_by Gone ls = ls
+levels_by Nothing ls = ls
+levels_by (Entered place) ls = levels_in place ls
+
+-- the machine's part of it: where it goes on, the frame of the body, and what is shown
+abbrev pub place_by : Option ℕ → M.Mode
+place_by None = ModeOf.Stopped UseAfterFree
+place_by (Some place) = ModeOf.At place
+
+abbrev pub mode_by : Called → M.Mode
+mode_by Gone = ModeOf.Stopped UseAfterFree
+mode_by Nothing = ModeOf.Giving HandedOf.Normal
+mode_by (Entered place) = place_by place
+
+abbrev pub frames_at : Option ℕ → List F.Frame
+frames_at None = []
+frames_at (Some place) = Statements Body ∷ []
+
+abbrev pub frames_by : Called → List F.Frame
+frames_by Gone = []
+frames_by Nothing = []
+frames_by (Entered place) = frames_at place
+
+abbrev pub shown_by : Called → Event → List Event
+shown_by Gone e = []
+shown_by Nothing e = []
+shown_by (Entered place) e = e ∷ []
+
+-- whether the object exists
+abbrev pub is_there : Called → Bool
+is_there Gone = false
+is_there Nothing = true
+is_there (Entered place) = true

@@ -1,0 +1,102 @@
+//! Calls of bodies, and of the operations that a user wrote for a type.
+
+ghost use Rattle.std.specs.Prelude.{◌≡◌, ◌+◌, ◌^◌, ◌<◌, IfOk, List, OnErr, [], is_some, slice_get};
+ghost use Rattle.ctl_tree.specs.declared.event.Event as EventOf;
+ghost use Rattle.ctl_meaning.specs.Changes.{object_at};
+ghost use Rattle.ctl_code.specs.States as T;
+ghost use Rattle.ctl_code.specs.Table as Table;
+ghost use Rattle.ctl_machine.specs.World.{levels_of, display_at};
+ghost use Rattle.ctl_machine.specs.Masters.{actuals_for};
+ghost use Rattle.ctl_machine.specs.Calls.{move_into, move_by, levels_in, levels_by, is_there};
+
+use crate::world::World;
+use ctl_code::code::{Code, Entry, Operations};
+use std::alloc::AllocError;
+
+/// What a call of an operation has come to.
+#[derive(Clone, Copy, Debug, PartialEq, Eq)]
+pub enum Called {
+    /// the object does not exist
+    Gone,
+    /// the user wrote no such operation
+    Nothing,
+    /// the body at this place is entered, or there is no body
+    Entered(Option<usize>),
+}
+
+/// The operations that the user wrote for a record type.
+pub fn operations_of(code: &Code, record_type: usize) -> Operations
+    ensures initialize { result.initialize ≡ Table.operation_of (λ o. o.initialize) code.now record_type }
+    ensures finalize { result.finalize ≡ Table.operation_of (λ o. o.finalize) code.now record_type }
+{
+    match code.records.get(record_type).copied() {
+        Some(operations) => operations,
+        None => Operations {
+            initialize: None,
+            finalize: None,
+        },
+    }
+}
+
+/// The body of the subprogram of this number, where the code has one.
+fn entry_at(code: &Code, subprogram: usize) -> Option<Entry>
+    ensures { result ≡ slice_get code.now.entries.items subprogram }
+{
+    code.entries.get(subprogram).copied()
+}
+
+/// Enters the body of a subprogram that the part of the master `home` sees, and gives the place of its first instruction; none
+/// where the code has no such body. Unchanged where memory is refused.
+pub fn enter_body(
+    world: &mut World,
+    code: &Code,
+    subprogram: usize,
+    home: u64,
+    formal: Option<u64>,
+) -> Result<Option<usize>, AllocError>
+    requires { world.old.ledger.next_master < 2 ^ 64 }
+    ensures moves { IfOk result (λ place. (es : List EventOf.Event) (k : List T.Frame) → Table.enter_body (slice_get code.now.entries.items subprogram) es (display_at home world.old) (actuals_for formal) k [] world.old ≡ move_into place es k world.new) }
+    ensures levels { IfOk result (λ place. levels_in place (levels_of world.new) ≡ levels_of world.old) }
+    ensures err { OnErr result (world.new ≡ world.old) }
+{
+    let Some(
+        Entry {
+            level,
+            slots,
+            place,
+        },
+    ) = entry_at(code, subprogram)
+    else {
+        return Ok(None);
+    };
+    world.enter_body(home, level, slots, formal)?;
+    Ok(Some(place))
+}
+
+/// Calls an operation of an object, if the user wrote it (RM 7.6). Unchanged where memory is refused.
+pub fn call_operation(
+    world: &mut World,
+    code: &Code,
+    operation: Option<usize>,
+    object: u64,
+) -> Result<Called, AllocError>
+    requires { world.old.ledger.next_master < 2 ^ 64 }
+    ensures moves { IfOk result (λ called. (e : EventOf.Event) (k : List T.Frame) → Table.call_operation code.now operation e object (object_at object world.old) k [] world.old ≡ move_by called e k world.new) }
+    ensures there { IfOk result (λ called. is_there called ≡ is_some (object_at object world.old)) }
+    ensures levels { IfOk result (λ called. levels_by called (levels_of world.new) ≡ levels_of world.old) }
+    ensures err { OnErr result (world.new ≡ world.old) }
+{
+    let Some(home) = world.home_of(object) else {
+        return Ok(Called::Gone);
+    };
+    let Some(subprogram) = operation else {
+        return Ok(Called::Nothing);
+    };
+    Ok(Called::Entered(enter_body(
+        world,
+        code,
+        subprogram,
+        home,
+        Some(object),
+    )?))
+}

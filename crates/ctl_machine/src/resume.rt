@@ -1,0 +1,371 @@
+//! What the topmost frame makes of what is handed to it.
+
+ghost use Rattle.std.specs.Prelude.{◌≡◌, ◌+◌, ◌^◌, ◌<◌, ℕ, List, ◌∷◌, ◌++◌, [], IfOk, OnOk, OnErr, is_some, length, vec_len, vec_capacity, true, false};
+ghost use Rattle.ctl_code.specs.States.{without_flag};
+ghost use Rattle.ctl_code.specs.Table as Table;
+ghost use Rattle.ctl_machine.specs.declared.frame.Frame as FrameOf;
+ghost use Rattle.ctl_machine.specs.declared.frame.Frame.TheVariants.{Statements, Creating, Initializing, Finalizing, Leaving};
+ghost use Rattle.ctl_machine.specs.declared.frame.Handed.TheVariants as HandedOf;
+ghost use Rattle.ctl_machine.specs.declared.frame.Mode.TheVariants as ModeOf;
+ghost use Rattle.ctl_code.specs.declared.code.Code.{Code};
+ghost use Rattle.ctl_machine.specs.Calls.{frames_by, mode_by, shown_by};
+ghost use Rattle.ctl_machine.specs.Control.{IsPlace, after_of, birth_mode, done_of, finalization_result, may_raise, mode_of, result_of, says_failed};
+ghost use Rattle.ctl_meaning.specs.Changes.{object_at};
+ghost use Rattle.ctl_machine.specs.World.{Level, levels_of, layered, layered_levels};
+ghost use Rattle.ctl_machine.specs.Engine.{IsTop, IsLeaving, Makes, Rests, Stays, given_to_top, leaves_on};
+
+use crate::calls::{Called, call_operation, operations_of};
+use crate::engine::Engine;
+use crate::frame::{Afterwards, Completion, Departure, Frame, Handed, Mode};
+use crate::masters::Member;
+use crate::world::World;
+use ctl_code::code::Code;
+use ctl_tree::ending::Stop;
+use ctl_tree::event::{Cause, Event, Owner, Part};
+use ctl_tree::text::Path;
+use std::alloc::{AllocError, Global};
+
+/// The number of Program_Error in the table of exceptions.
+const PROGRAM_ERROR: usize = 1;
+
+/// Another frame in place of the topmost one.
+fn replace_top(control: &mut Vec<Frame>, frame: Frame)
+    requires { 0 < vec_len control.old }
+    ensures items { (below : List FrameOf.Frame) (top : FrameOf.Frame) → control.old.items ≡ below ++ top ∷ [] → control.new.items ≡ below ++ frame ∷ [] }
+    ensures len { vec_len control.new ≡ vec_len control.old }
+    ensures capacity { vec_capacity control.new ≡ vec_capacity control.old }
+{
+    let top = control.len() - 1;
+    control[top] = frame;
+}
+
+/// An object as a part.
+fn whole(alloc: Global, object: u64) -> Part
+    ensures { result ≡ Table.whole_part object }
+{
+    Part {
+        object,
+        path: Path::new(alloc),
+    }
+}
+
+/// How the statements of a master were completed that hand this on.
+fn completion_of(handed: Handed) -> Completion
+    ensures { done_of result ≡ without_flag (result_of handed) }
+{
+    match handed {
+        Handed::Normal | Handed::FinalizationFailed => Completion::Normal,
+        Handed::Raise(exception) => Completion::Raise(exception),
+    }
+}
+
+/// What a Finalize hands on that was left so: whether it raised an exception (RM 7.6.1).
+fn finalization_of(handed: Handed) -> Handed
+    ensures { result ≡ finalization_result handed }
+{
+    match handed {
+        Handed::Raise(_) => Handed::FinalizationFailed,
+        _ => Handed::Normal,
+    }
+}
+
+/// Whether a finalization failed.
+fn is_failure(handed: Handed) -> bool
+    ensures { result ≡ says_failed handed }
+{
+    match handed {
+        Handed::Normal => false,
+        _ => true,
+    }
+}
+
+/// Where the execution goes on when the creation of an object has succeeded: at this place, if the object exists.
+fn mode_at_birth(exists: bool, next: usize) -> Mode
+    ensures { result ≡ birth_mode exists next }
+{
+    if exists {
+        Mode::At(next)
+    } else {
+        Mode::Stopped(Stop::UseAfterFree)
+    }
+}
+
+/// Where the execution goes on behind a master (RM 7.6.1): Program_Error is raised there where a finalization failed.
+fn mode_behind(departure: Departure) -> Mode
+    ensures place { IsPlace result }
+    ensures mode { (ls : List Level) → mode_of result ls ≡ Table.left_mode (after_of departure.afterwards ls) departure.has_failed (done_of departure.pending) }
+{
+    if departure.has_failed {
+        return Mode::Giving(Handed::Raise(PROGRAM_ERROR));
+    }
+    match (departure.afterwards, departure.pending) {
+        (_, Completion::Raise(exception)) => Mode::Giving(Handed::Raise(exception)),
+        (Afterwards::Body, Completion::Normal) => Mode::Giving(Handed::Normal),
+        (Afterwards::Block(entry, count), Completion::Normal) => match entry.checked_add(count) {
+            Some(place) => Mode::At(place),
+            None => Mode::Beyond(entry, count),
+        },
+    }
+}
+
+/// An object that exists is the newest layer of the newest master; whether it exists. Unchanged where memory is refused.
+fn add_existing(world: &mut World, member: Member) -> Result<bool, AllocError>
+    ensures exists { IfOk result (λ exists. exists ≡ is_some (object_at member.number world.old)) }
+    ensures ok { IfOk result (λ exists. world.new ≡ layered exists member world.old) }
+    ensures levels { IfOk result (λ exists. levels_of world.new ≡ layered_levels exists member (levels_of world.old)) }
+    ensures err { OnErr result (world.new ≡ world.old) }
+{
+    if world.home_of(member.number).is_none() {
+        return Ok(false);
+    }
+    world.add_layer(member)?;
+    Ok(true)
+}
+
+/// An object whose type has a user-written Finalize has come to life.
+fn show_birth(
+    alloc: Global,
+    events: &mut Vec<Event>,
+    finalize: Option<usize>,
+    object: u64,
+    master: u64,
+)
+    requires { vec_len events.old < vec_capacity events.old }
+    ensures { events.new.items ≡ events.old.items ++ Table.birth finalize object master }
+{
+    match finalize {
+        Some(_) => events.push_reserved(Event::Live(whole(alloc, object), Owner::Master(master))),
+        None => (),
+    }
+}
+
+impl Engine {
+    /// What the topmost frame makes of what is handed to it.
+    pub(crate) fn resume(
+        &mut self,
+        code: &Code,
+        handed: Handed,
+        top: Frame,
+    ) -> Result<(), AllocError>
+        requires top { IsTop top self.old }
+        requires rests { Rests (may_raise (ModeOf.Giving handed)) self.old }
+        requires masters { self.old.world.ledger.next_master < 2 ^ 64 }
+        ensures ok { OnOk result (Makes self.old self.new (given_to_top code.now handed self.old)) }
+        ensures err { OnErr result (Stays self.old self.new) }
+    {
+        match top {
+            Frame::Statements(afterwards) => {
+                self.begin_leaving(handed, afterwards);
+                Ok(())
+            }
+            Frame::Leaving(departure) => self.go_on_leaving(code, handed, departure),
+            Frame::Creating(object, record_type, next) => {
+                self.initialize(code, object, record_type, next)
+            }
+            Frame::Initializing(object, record_type, next) => match handed {
+                Handed::Raise(exception) => {
+                    self.fail(object, exception);
+                    Ok(())
+                }
+                _ => self.come_to_life(code, object, record_type, next),
+            },
+            Frame::Finalizing(object) => {
+                self.end_finalization(object, handed);
+                Ok(())
+            }
+        }
+    }
+
+    /// The statements of the newest master are completed: it is left (RM 7.6.1).
+    fn begin_leaving(&mut self, handed: Handed, afterwards: Afterwards)
+        requires top { IsTop (Statements afterwards) self.old }
+        requires rests { Rests (may_raise (ModeOf.Giving handed)) self.old }
+        ensures { (code : Code) → Makes self.old self.new (given_to_top code handed self.old) }
+    {
+        let remaining = self.world.layer_count();
+        replace_top(
+            &mut self.control,
+            Frame::Leaving(Departure {
+                remaining,
+                has_failed: false,
+                pending: completion_of(handed),
+                afterwards,
+            }),
+        );
+        self.mode = Mode::Giving(Handed::Normal);
+    }
+
+    /// The next layer of the newest master is finalized, or it has none any more.
+    fn go_on_leaving(
+        &mut self,
+        code: &Code,
+        handed: Handed,
+        departure: Departure,
+    ) -> Result<(), AllocError>
+        requires top { IsTop (Leaving departure) self.old }
+        requires rests { Rests (may_raise (ModeOf.Giving handed)) self.old }
+        requires masters { self.old.world.ledger.next_master < 2 ^ 64 }
+        ensures ok { OnOk result (Makes self.old self.new (given_to_top code.now handed self.old)) }
+        ensures err { OnErr result (Stays self.old self.new) }
+    {
+        let has_failed = departure.has_failed | is_failure(handed);
+        match departure.remaining.checked_sub(1) {
+            Some(remaining) => self.finalize_layer(
+                code,
+                Departure {
+                    remaining,
+                    has_failed,
+                    ..departure
+                },
+            ),
+            None => {
+                self.end_leaving(Departure {
+                    has_failed,
+                    ..departure
+                });
+                Ok(())
+            }
+        }
+    }
+
+    /// An object of the newest master, which is left, is finalized (RM 7.6.1).
+    fn finalize_layer(&mut self, code: &Code, departure: Departure) -> Result<(), AllocError>
+        requires top { IsLeaving departure 1 self.old }
+        requires rests { Rests false self.old }
+        requires masters { self.old.world.ledger.next_master < 2 ^ 64 }
+        ensures ok { OnOk result (Makes self.old self.new (leaves_on code.now departure 1 self.old)) }
+        ensures err { OnErr result (Stays self.old self.new) }
+    {
+        let Some(Member { number, record }) = self.world.layer(departure.remaining) else {
+            return Ok(());
+        };
+        self.control.reserve(2)?;
+        self.events.reserve(1)?;
+        let operation = operations_of(code, record).finalize;
+        let called = call_operation(&mut self.world, code, operation, number)?;
+        replace_top(&mut self.control, Frame::Leaving(departure));
+        if let Called::Gone = called {
+            self.mode = Mode::Stopped(Stop::UseAfterFree);
+            return Ok(());
+        }
+        self.control.push_reserved(Frame::Finalizing(number));
+        self.world.begin_finalization(number);
+        self.follow(
+            called,
+            Event::Finalize(whole(self.alloc, number), Cause::Scope),
+        );
+        Ok(())
+    }
+
+    /// The newest master has no layer any more: its objects cease to exist (RM 7.6.1).
+    fn end_leaving(&mut self, departure: Departure)
+        requires top { IsLeaving departure 0 self.old }
+        requires rests { Rests false self.old }
+        requires none { departure.remaining ≡ 0 }
+        ensures { (code : Code) → Makes self.old self.new (leaves_on code departure 0 self.old) }
+    {
+        let _ = self.control.pop();
+        self.world.close();
+        self.mode = mode_behind(departure);
+    }
+
+    /// The Initialize of a declared object, where the user wrote one (RM 7.6).
+    fn initialize(
+        &mut self,
+        code: &Code,
+        object: u64,
+        record_type: usize,
+        next: usize,
+    ) -> Result<(), AllocError>
+        requires top { IsTop (Creating object record_type next) self.old }
+        requires rests { Rests false self.old }
+        requires masters { self.old.world.ledger.next_master < 2 ^ 64 }
+        ensures ok { OnOk result (Makes self.old self.new (given_to_top code.now HandedOf.Normal self.old)) }
+        ensures err { OnErr result (Stays self.old self.new) }
+    {
+        self.control.reserve(1)?;
+        self.events.reserve(1)?;
+        let operation = operations_of(code, record_type).initialize;
+        let called = call_operation(&mut self.world, code, operation, object)?;
+        replace_top(
+            &mut self.control,
+            Frame::Initializing(object, record_type, next),
+        );
+        self.follow(called, Event::Initialize(whole(self.alloc, object)));
+        Ok(())
+    }
+
+    /// A call has come to this: the event of an operation that is called is shown, and its body comes next.
+    fn follow(&mut self, called: Called, event: Event)
+        requires control { vec_len self.old.control < vec_capacity self.old.control }
+        requires events { vec_len self.old.events < vec_capacity self.old.events }
+        ensures mode { self.new.mode ≡ mode_by called }
+        ensures control { self.new.control.items ≡ self.old.control.items ++ frames_by called }
+        ensures world { self.new.world ≡ self.old.world }
+        ensures events { self.new.events.items ≡ self.old.events.items ++ shown_by called event }
+    {
+        match called {
+            Called::Gone => self.mode = Mode::Stopped(Stop::UseAfterFree),
+            Called::Nothing => self.mode = Mode::Giving(Handed::Normal),
+            Called::Entered(None) => {
+                self.events.push_reserved(event);
+                self.mode = Mode::Stopped(Stop::UseAfterFree);
+            }
+            Called::Entered(Some(first)) => {
+                self.events.push_reserved(event);
+                self.control.push_reserved(Frame::Statements(Afterwards::Body));
+                self.mode = Mode::At(first);
+            }
+        }
+    }
+
+    /// The creation of a declared object has succeeded: it is a layer of its master (RM 7.6.1).
+    fn come_to_life(
+        &mut self,
+        code: &Code,
+        object: u64,
+        record_type: usize,
+        next: usize,
+    ) -> Result<(), AllocError>
+        requires top { IsTop (Initializing object record_type next) self.old }
+        requires rests { Rests false self.old }
+        ensures ok { OnOk result (Makes self.old self.new (given_to_top code.now HandedOf.Normal self.old)) }
+        ensures err { OnErr result (Stays self.old self.new) }
+    {
+        self.events.reserve(1)?;
+        let master = self.world.newest();
+        let member = Member {
+            number: object,
+            record: record_type,
+        };
+        let exists = add_existing(&mut self.world, member)?;
+        let operation = operations_of(code, record_type).finalize;
+        show_birth(self.alloc, &mut self.events, operation, object, master);
+        let _ = self.control.pop();
+        self.mode = mode_at_birth(exists, next);
+        Ok(())
+    }
+
+    /// The Initialize of a declared object has raised an exception (RM 7.6.1): it is never finalized.
+    fn fail(&mut self, object: u64, exception: usize)
+        requires top { (record_type next : ℕ) × IsTop (Initializing object record_type next) self.old }
+        requires rests { Rests true self.old }
+        ensures { (code : Code) → Makes self.old self.new (given_to_top code (HandedOf.Raise exception) self.old) }
+    {
+        self.world.begin_finalization(object);
+        self.world.end_finalization(object);
+        let _ = self.control.pop();
+        self.mode = Mode::Giving(Handed::Raise(exception));
+    }
+
+    /// The Finalize of an object is complete; whether it raised is handed on (RM 7.6.1).
+    fn end_finalization(&mut self, object: u64, handed: Handed)
+        requires top { IsTop (Finalizing object) self.old }
+        requires rests { Rests (may_raise (ModeOf.Giving handed)) self.old }
+        ensures { (code : Code) → Makes self.old self.new (given_to_top code handed self.old) }
+    {
+        self.world.end_finalization(object);
+        let _ = self.control.pop();
+        self.mode = Mode::Giving(finalization_of(handed));
+    }
+}

@@ -1,0 +1,260 @@
+//! What there is while a program runs: the active masters and the objects that exist.
+//!
+//! A contract sees a world of the meaning, and each change as one of the meaning's.
+
+ghost use Rattle.std.specs.Prelude.{◌≡◌, ◌+◌, ◌^◌, ◌<◌, IfOk, OnOk, OnErr, length, map, option_map, replicate, reverse, slice_get, take};
+ghost use Rattle.ctl_tree.specs.declared.checked.Ty.TheVariants.{Record};
+ghost use Rattle.ctl_meaning.specs.World as W;
+ghost use Rattle.ctl_meaning.specs.Ledger.{layers_of};
+ghost use Rattle.ctl_meaning.specs.Lists.{last_of};
+ghost use Rattle.ctl_meaning.specs.Changes as C;
+ghost use Rattle.ctl_machine.specs.Masters.{slots_for, slot_of};
+ghost use Rattle.ctl_machine.specs.World.{world_of, IsSound, IsHome, layer_of, levels_of, newest_display, newest_master, newest_layers, display_at, declared_in, all_but_first, first_with_layer};
+
+use crate::masters::{Master, Member, Slot, first_of, place_of_master, put_slot, slots_of};
+use crate::objects::{
+    Object, State, begin_finalization, end_finalization, forget_declared, home_in,
+};
+use std::alloc::{AllocError, Global};
+use std::marker::Model;
+use std::mem;
+
+/// The active masters, from the outermost on, the objects that exist, and the numbers that were given last: the first object
+/// and the first master have number 1.
+#[derive(Drop)]
+pub struct World {
+    alloc: Global,
+    given_objects: u64,
+    given_masters: u64,
+    newest: Master,
+    older: Vec<Master>,
+    objects: Vec<Object>,
+}
+
+impl Model for World {
+    ghost Value = { W.World };
+
+    ghost view = { λ w. world_of w.given_objects w.given_masters w.newest w.older.items w.objects.items };
+
+    ghost invariant = { λ w. IsSound w.given_objects w.given_masters w.newest w.older.items w.objects.items };
+}
+
+impl World {
+    /// No master is active, and no object exists.
+    pub fn new(alloc: Global) -> World
+        ensures { result ≡ W.empty_world }
+    {
+        World {
+            alloc,
+            given_objects: 0,
+            given_masters: 0,
+            newest: Master {
+                number: 0,
+                display: Vec::new(alloc),
+                slots: Vec::new(alloc),
+                layers: Vec::new(alloc),
+            },
+            older: Vec::new(alloc),
+            objects: Vec::new(alloc),
+        }
+    }
+
+    /// The number of the newest master, 0 where none is active.
+    pub fn newest(&self) -> u64
+        ensures number { result ≡ newest_master self.now }
+        ensures display { display_at result self.now ≡ newest_display self.now }
+        ensures last { last_of (newest_display self.now) ≡ newest_master self.now }
+    {
+        self.newest.number
+    }
+
+    /// Enters a block in the part of the newest master. Unchanged where memory is refused.
+    pub fn enter_block(&mut self, slots: usize) -> Result<(), AllocError>
+        requires { self.old.ledger.next_master < 2 ^ 64 }
+        ensures ok { OnOk result (self.new ≡ C.open_master (newest_display self.old) (replicate slots W.Unset) self.old) }
+        ensures err { OnErr result (self.new ≡ self.old) }
+    {
+        let display = Vec::from_slice(self.alloc, self.newest.display.as_slice())?;
+        let slots = slots_of(self.alloc, None, slots)?;
+        self.enter(display, slots)
+    }
+
+    /// Enters the body of a subprogram that the part of the master `home` declares at this level, with its formal parameter.
+    /// Unchanged where memory is refused.
+    pub fn enter_body(
+        &mut self,
+        home: u64,
+        level: usize,
+        slots: usize,
+        formal: Option<u64>,
+    ) -> Result<(), AllocError>
+        requires { self.old.ledger.next_master < 2 ^ 64 }
+        ensures ok { OnOk result (self.new ≡ C.open_master (take level (display_at home self.old)) (slots_for formal slots) self.old) }
+        ensures err { OnErr result (self.new ≡ self.old) }
+    {
+        let display = Vec::from_slice(self.alloc, first_of(self.display(home), level))?;
+        let slots = slots_of(self.alloc, formal, slots)?;
+        self.enter(display, slots)
+    }
+
+    /// What the part of the active master of this number sees, nothing where there is none. Numbers rise from the outermost to
+    /// the newest.
+    fn display(&self, home: u64) -> &[u64]
+        ensures { result.now ≡ display_at home self.now }
+    {
+        if home == self.newest.number {
+            return self.newest.display.as_slice();
+        }
+        match place_of_master(self.older.as_slice(), home) {
+            Some(place) => self.older[place].display.as_slice(),
+            None => &[],
+        }
+    }
+
+    /// One more master, with these masters around it.
+    fn enter(&mut self, around: Vec<u64>, slots: Vec<Slot>) -> Result<(), AllocError>
+        requires { self.old.ledger.next_master < 2 ^ 64 }
+        ensures ok { OnOk result (self.new ≡ C.open_master around.items (map slot_of slots.items) self.old) }
+        ensures err { OnErr result (self.new ≡ self.old) }
+    {
+        let number = self.given_masters + 1;
+        let mut display = around;
+        display.push(number)?;
+        self.older.reserve(1)?;
+        let newest = Master {
+            number,
+            display,
+            slots,
+            layers: Vec::new(self.alloc),
+        };
+        self.older
+            .push_reserved(mem::replace(&mut self.newest, newest));
+        self.given_masters = number;
+        Ok(())
+    }
+
+    /// How many layers the newest master has.
+    pub fn layer_count(&self) -> usize
+        ensures count { result ≡ length (newest_layers self.now) }
+        ensures ledger { layers_of (newest_master self.now) self.now.ledger ≡ newest_layers self.now }
+    {
+        self.newest.layers.len()
+    }
+
+    /// The layer of the newest master at this place, in the order of creation from 0.
+    pub fn layer(&self, place: usize) -> Option<Member>
+        ensures { option_map layer_of result ≡ slice_get (reverse (newest_layers self.now)) place }
+    {
+        self.newest.layers.get(place).copied()
+    }
+
+    /// The master that declares the object of this number, where that object exists.
+    pub fn home_of(&self, object: u64) -> Option<u64>
+        ensures { IsHome (C.object_at object self.now) result }
+    {
+        home_in(self.objects.as_slice(), object)
+    }
+
+    /// A new object of this record type is declared in the newest master, at this slot; its number. Unchanged where memory is
+    /// refused.
+    pub fn declare(&mut self, slot: usize, record: usize) -> Result<u64, AllocError>
+        requires { self.old.ledger.next_object < 2 ^ 64 }
+        ensures number { IfOk result (λ number. number ≡ self.old.ledger.next_object) }
+        ensures ok { OnOk result (self.new ≡ declared_in slot «record» self.old) }
+        ensures levels { OnOk result (levels_of self.new ≡ levels_of self.old) }
+        ensures err { OnErr result (self.new ≡ self.old) }
+    {
+        let number = self.given_objects + 1;
+        self.objects.push(Object {
+            number,
+            record,
+            master: self.newest.number,
+            state: State::Untouched,
+        })?;
+        put_slot(&mut self.newest.slots, slot, Slot::Holds(number));
+        self.given_objects = number;
+        Ok(number)
+    }
+
+    /// A declared object is the newest layer of the newest master. Unchanged where memory is refused.
+    pub fn add_layer(&mut self, member: Member) -> Result<(), AllocError>
+        ensures ok { OnOk result (self.new ≡ C.add_layer (newest_master self.old) (layer_of member) self.old) }
+        ensures levels { OnOk result (levels_of self.new ≡ first_with_layer (layer_of member) (levels_of self.old)) }
+        ensures err { OnErr result (self.new ≡ self.old) }
+    {
+        // Around the main procedure no master is active, and nothing is finalized.
+        if !self.older.is_empty() {
+            self.newest.layers.push(member)?;
+        }
+        Ok(())
+    }
+
+    /// The finalization of this object begins, where it exists (RM 7.6.1).
+    pub fn begin_finalization(&mut self, object: u64)
+        ensures { self.new ≡ C.begin_finalization object self.old }
+    {
+        begin_finalization(&mut self.objects, object);
+    }
+
+    /// It is complete, if it has begun.
+    pub fn end_finalization(&mut self, object: u64)
+        ensures { self.new ≡ C.end_finalization object self.old }
+    {
+        end_finalization(&mut self.objects, object);
+    }
+
+    /// The newest master is left, and its objects cease to exist (RM 7.6.1).
+    pub fn close(&mut self)
+        ensures closed { self.new ≡ C.close_master (newest_master self.old) self.old }
+        ensures levels { levels_of self.new ≡ all_but_first (levels_of self.old) }
+    {
+        forget_declared(&mut self.objects, self.newest.number);
+        if let Some(outer) = self.older.pop() {
+            self.newest = outer;
+        }
+    }
+}
+
+#[cfg(test)]
+mod tests {
+    use super::*;
+    use std::test::Fail;
+
+    #[test]
+    #[tactic(auto, unfolding(ctl_meaning::specs::World::empty_world, ctl_meaning::specs::World::empty_ledger, ctl_meaning::specs::Changes::open_master, ctl_meaning::specs::Ledger::enter_master))]
+    fn a_block_finalizes_what_it_declares(rt: HostRuntime) -> Result<(), Fail> {
+        let mut world = World::new(rt.alloc());
+        assert_eq!(rt; world.newest(), 0);
+        world.enter_block(1)?;
+        assert_eq!(rt; world.newest(), 1);
+        let number = world.declare(0, 7)?;
+        assert_eq!(rt; number, 1);
+        assert_eq!(rt; world.home_of(1), Some(1));
+        world.add_layer(Member { number, record: 7 })?;
+        assert_eq!(rt; world.layer_count(), 1);
+        assert_eq!(rt;
+            world.layer(0),
+            Some(Member {
+                number: 1,
+                record: 7
+            })
+        );
+        assert_eq!(rt; world.layer(1), None);
+        world.begin_finalization(1);
+        world.end_finalization(1);
+        world.close();
+        assert_eq!(rt; world.newest(), 0);
+        assert_eq!(rt; world.home_of(1), None);
+        Ok(())
+    }
+
+    #[test]
+    #[tactic(auto, unfolding(ctl_meaning::specs::World::empty_world, ctl_meaning::specs::World::empty_ledger, ctl_meaning::specs::Changes::open_master, ctl_meaning::specs::Ledger::enter_master))]
+    fn a_body_stands_in_its_home(rt: HostRuntime) -> Result<(), Fail> {
+        let mut world = World::new(rt.alloc());
+        world.enter_body(0, 0, 0, None)?;
+        world.enter_body(1, 1, 1, Some(1))?;
+        assert_eq!(rt; world.newest(), 2);
+        Ok(())
+    }
+}

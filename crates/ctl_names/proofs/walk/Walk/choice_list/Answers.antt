@@ -1,0 +1,21 @@
+use Rattle.std.proofs.Common.{◌≡◌, ℕ, ◌≤◌, List, [], ◌∷◌, ◌++◌, length, take, refl, sym, ap, subst, ◌∙◌, arith}
+use Rattle.ctl_legality.specs.declared.view.Entity.TheVariants as Entity
+use Rattle.ctl_legality.specs.declared.view.Usage.TheVariants.{Plain}
+use Rattle.ctl_legality.specs.View.{View, declare, folded}
+use Rattle.ctl_legality.specs.Sites.{Site, dotted_site, hide_each, associations_sites, expression_sites, after_choice, choice_sites, after_choice_list, choice_list_sites}
+use Rattle.ctl_legality.specs.Judged.{judged}
+use Rattle.ctl_legality.proofs.Kept.{Keeps, declare_kept}
+use Rattle.ctl_names.specs.Judging.{view_of, Judges}
+use Rattle.ctl_names.proofs.Turns.{region_judges, view_turn, turn_with}
+use Rattle.ctl_names.proofs.walk.Walk.choice_list.Goals as goal
+
+pub loop-choice-preserved : goal.loop-choice-preserved
+loop-choice-preserved c =
+    let done = c.in_ok-choice.ensures in
+    let kept = c.loop-choice.invariant in
+    let v = view_of c.loop-choice.self c.args.part in
+    let w = view_of c.choice.new.self c.args.part in
+    record {
+      view = view_turn after_choice_list after_choice (λ x xs u. refl) c.args.choices.now c.loop-choice.choice-index c.choice-item.result c.loop-choice-test.true c.choice-item.is v w done.view ∙ kept.view;
+      found = turn_with choice_list_sites choice_sites after_choice (λ x xs u. refl) c.args.choices.now c.loop-choice.choice-index c.choice-item.result c.loop-choice-test.true c.choice-item.is v w done.view c.loop-choice.self.found c.choice.new.self.found done.found ∙ kept.found;
+    }

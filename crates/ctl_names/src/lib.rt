@@ -1,0 +1,14 @@
+//! What each name of a program denotes, and the first rule on names, order or completion that it breaks.
+#![tactic(auto)]
+
+pub mod context;
+pub mod declarations;
+pub mod expressions;
+pub mod found;
+pub mod items;
+pub mod library;
+pub mod resolve;
+pub mod scope;
+pub mod statements;
+pub mod types;
+pub mod walk;

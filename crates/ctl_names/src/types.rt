@@ -1,0 +1,196 @@
+//! The walk over the definitions of types and over objects (RM 3.3.1, 3.8, 3.9.1, 3.10).
+
+ghost use Rattle.std.specs.Prelude.{◌≡◌, ◌++◌, ◌∷◌, [], IfOk, OnOk};
+ghost use Rattle.ctl_legality.specs.declared.view.Entity.TheVariants as entity;
+ghost use Rattle.ctl_legality.specs.declared.view.Naming.TheVariants as naming;
+ghost use Rattle.ctl_legality.specs.declared.view.Usage.TheVariants as usage;
+ghost use Rattle.ctl_legality.specs.View.{inside, region};
+ghost use Rattle.ctl_legality.specs.Sites.{component_sites, components_sites, after_components, declare_each, declared_each, aspect_sites, definition_sites, in_definition, in_record, objects_sites, hide_each, dotted_site, associations_sites, option_sites};
+ghost use Rattle.ctl_legality.specs.Judged.{judged};
+ghost use Rattle.ctl_names.specs.Judging.{view_of, Judges};
+
+use crate::walk::{Walk, folded};
+use ctl_legality::view::{Entity, Naming, Part, Usage};
+use ctl_tree::tree::{
+    AccessDefinition, Aspect, ComponentDeclaration, Definition, Dotted, Identifier, Objects,
+};
+use std::alloc::AllocError;
+
+impl Walk {
+    /// Components of one type.
+    #[tactic(auto, using(ctl_legality::proofs::Noting::judged_append))]
+    fn component(&mut self, part: Part, component: &ComponentDeclaration) -> Result<(), AllocError>
+        ensures view { OnOk result (view_of self.new part ≡ declare_each naming.Component entity.Object component.now.names.items (view_of self.old part)) }
+        ensures found { OnOk result (self.new.found ≡ judged self.old.found (component_sites component.now (view_of self.old part))) }
+    {
+        self.dotted(part, &component.mark, Usage::Plain)?;
+        self.option_expression(part, &component.default)?;
+        self.declared_each(part, Naming::Component, Entity::Object, &component.names)?;
+        Ok(())
+    }
+
+    /// The components that a definition writes.
+    #[tactic(auto, using(ctl_legality::proofs::Noting::judged_append))]
+    fn components(
+        &mut self,
+        part: Part,
+        components: &[ComponentDeclaration],
+    ) -> Result<(), AllocError>
+        ensures view { OnOk result (view_of self.new part ≡ after_components components.now (view_of self.old part)) }
+        ensures found { OnOk result (self.new.found ≡ judged self.old.found (components_sites components.now (view_of self.old part))) }
+    {
+        for component in components {
+            self.component(part, component)?;
+        }
+        Ok(())
+    }
+
+    /// The pool of an access type, where its definition names one.
+    fn aspect(&mut self, part: Part, aspect: &Option<Aspect>) -> Result<(), AllocError>
+        ensures { OnOk result (Judges self.old self.new (aspect_sites aspect.now (view_of self.old part))) }
+    {
+        match aspect {
+            None => Ok(()),
+            Some(aspect) => self.dotted(part, &aspect.pool, Usage::Plain),
+        }
+    }
+
+    /// The inside of a new type's definition: its name is hidden.
+    fn enter_definition(&mut self, part: Part, identifier: &Identifier) -> Result<(), AllocError>
+        ensures view { OnOk result (view_of self.new part ≡ in_definition (view_of self.old part) identifier.now) }
+        ensures found { OnOk result (self.new.found ≡ self.old.found) }
+    {
+        let key = folded(self.alloc, identifier)?;
+        let completed = self.completed_type(part, key.as_slice());
+        self.within(part, key, identifier.span, Entity::Hidden, completed)
+    }
+
+    /// The region of a record's components: the name of the type is in view.
+    fn enter_record(&mut self, part: Part, identifier: &Identifier) -> Result<Part, AllocError>
+        ensures view { IfOk result (λ inner. view_of self.new inner ≡ in_record (view_of self.old part) identifier.now) }
+        ensures found { OnOk result (self.new.found ≡ self.old.found) }
+    {
+        let key = folded(self.alloc, identifier)?;
+        let completed = self.completed_type(part, key.as_slice());
+        self.within(part, key, identifier.span, Entity::Type(true), completed)?;
+        Ok(self.region(part))
+    }
+
+    /// The components of a type, in their region.
+    fn record_components(
+        &mut self,
+        part: Part,
+        identifier: &Identifier,
+        components: &[ComponentDeclaration],
+    ) -> Result<(), AllocError>
+        ensures { OnOk result (Judges self.old self.new (components_sites components.now (in_record (view_of self.old part) identifier.now))) }
+    {
+        let count = self.scope.count();
+        let inner = self.enter_record(part, identifier)?;
+        self.components(inner, components)?;
+        self.scope.close(count);
+        Ok(())
+    }
+
+    /// The parent of an extension.
+    fn parent(
+        &mut self,
+        part: Part,
+        identifier: &Identifier,
+        parent: &Dotted,
+    ) -> Result<(), AllocError>
+        ensures { OnOk result (Judges self.old self.new (dotted_site parent.now (in_definition (view_of self.old part) identifier.now) usage.Plain ∷ [])) }
+    {
+        let count = self.scope.count();
+        self.enter_definition(part, identifier)?;
+        self.dotted(part, parent, Usage::Plain)?;
+        self.scope.close(count);
+        Ok(())
+    }
+
+    /// What an access type designates, and its pool.
+    #[tactic(auto, using(ctl_legality::proofs::Noting::judged_append))]
+    fn access_parts(&mut self, part: Part, definition: &AccessDefinition) -> Result<(), AllocError>
+        ensures { OnOk result (Judges self.old self.new (dotted_site definition.now.designated (view_of self.old part) usage.Designated ∷ aspect_sites definition.now.aspect (view_of self.old part))) }
+    {
+        self.dotted(part, &definition.designated, Usage::Designated)?;
+        self.aspect(part, &definition.aspect)?;
+        Ok(())
+    }
+
+    /// The definition of an access type.
+    fn access_definition(
+        &mut self,
+        part: Part,
+        identifier: &Identifier,
+        definition: &AccessDefinition,
+    ) -> Result<(), AllocError>
+        ensures { OnOk result (Judges self.old self.new (dotted_site definition.now.designated (in_definition (view_of self.old part) identifier.now) usage.Designated ∷ aspect_sites definition.now.aspect (in_definition (view_of self.old part) identifier.now))) }
+    {
+        let count = self.scope.count();
+        self.enter_definition(part, identifier)?;
+        self.access_parts(part, definition)?;
+        self.scope.close(count);
+        Ok(())
+    }
+
+    /// The definition of a type.
+    #[tactic(auto, using(ctl_legality::proofs::Noting::judged_append))]
+    pub fn definition(
+        &mut self,
+        part: Part,
+        identifier: &Identifier,
+        definition: &Definition,
+    ) -> Result<(), AllocError>
+        ensures { OnOk result (Judges self.old self.new (definition_sites definition.now (view_of self.old part) identifier.now)) }
+    {
+        match definition {
+            Definition::Record(_, components) => {
+                self.record_components(part, identifier, components)?;
+            }
+            Definition::Extension(parent, components) => {
+                self.parent(part, identifier, parent)?;
+                self.record_components(part, identifier, components)?;
+            }
+            Definition::Access(definition) => {
+                self.access_definition(part, identifier, definition)?;
+            }
+        }
+        Ok(())
+    }
+}
+
+// Objects and instances (RM 3.3.1, 12.3).
+impl Walk {
+    #[tactic(auto, using(ctl_legality::proofs::Noting::judged_append))]
+    fn object_parts(&mut self, part: Part, objects: &Objects) -> Result<(), AllocError>
+        ensures { OnOk result (Judges self.old self.new (dotted_site objects.now.mark (view_of self.old part) usage.Plain ∷ (associations_sites objects.now.discriminants.items (view_of self.old part) ++ option_sites objects.now.value (view_of self.old part)))) }
+    {
+        self.dotted(part, &objects.mark, Usage::Plain)?;
+        self.associations(part, &objects.discriminants)?;
+        self.option_expression(part, &objects.value)?;
+        Ok(())
+    }
+
+    /// The mark, the discriminants and the value of objects, which are hidden there.
+    fn own_object(&mut self, part: Part, objects: &Objects) -> Result<(), AllocError>
+        ensures { OnOk result (Judges self.old self.new (dotted_site objects.now.mark (hide_each objects.now.names.items (view_of self.old part)) usage.Plain ∷ (associations_sites objects.now.discriminants.items (hide_each objects.now.names.items (view_of self.old part)) ++ option_sites objects.now.value (hide_each objects.now.names.items (view_of self.old part))))) }
+    {
+        let count = self.scope.count();
+        self.declare_each(part, Naming::Direct, Entity::Hidden, &objects.names)?;
+        self.object_parts(part, objects)?;
+        self.scope.close(count);
+        Ok(())
+    }
+
+    /// The declaration of objects.
+    #[tactic(auto, using(ctl_legality::proofs::Noting::judged_append))]
+    pub fn objects(&mut self, part: Part, objects: &Objects) -> Result<(), AllocError>
+        ensures view { OnOk result (view_of self.new part ≡ declare_each naming.Direct entity.Object objects.now.names.items (view_of self.old part)) }
+        ensures found { OnOk result (self.new.found ≡ judged self.old.found (objects_sites objects.now (view_of self.old part))) }
+    {
+        self.own_object(part, objects)?;
+        self.declared_each(part, Naming::Direct, Entity::Object, &objects.names)?;
+        Ok(())
+    }
+}

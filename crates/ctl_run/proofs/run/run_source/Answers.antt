@@ -1,0 +1,25 @@
+use Rattle.std.proofs.Common.{◌≡◌, ◌+◌, ◌-◌, ◌^◌, ◌≤◌, ap, sym, subst, ◌∙◌, arith, false, min}
+use Rattle.ctl_tree.specs.declared.request.Order.{Order}
+use Rattle.ctl_code.specs.declared.code.Code.{Code}
+use Rattle.ctl_gen.specs.Correct.{Behaves}
+use Rattle.ctl_machine.specs.Machine.{Running}
+use Rattle.ctl_run.specs.Headline.{Headline}
+use Rattle.ctl_run.proofs.Composed.{composed}
+use Rattle.ctl_run.proofs.run.run_source.Goals as goal
+
+pub returns-clause-headline : goal.returns-clause-headline
+returns-clause-headline c =
+    let program = c.in_ok-program.program in
+    let m = c.run.new.self in
+    let new = c.in_ok-machine.ensures in
+    let code = c.run.ensures.code ∙ ap (λ (x : Running). x.code) new in
+    let order = c.run.ensures.order ∙ ap (λ (x : Running). x.order) new in
+    let start = ap (λ (x : Running). x.steps) new in
+    let within : m.steps ≤ c.args.steps = omega (arith, c.run.ensures.bound, start) in
+    let counted : m.has_ended ≡ false → m.steps ≡ c.args.steps = λ running. let h = c.run.ensures.counted running in omega (arith, h, start, c.ranges.steps.fits) in
+    let behaves : Behaves program m.code = subst (λ (x : Code). Behaves program x) (sym code) (c.in_ok-code.ensures.behaves c.in_ok-program.ensures.accepted.in_slice) in
+    record {
+      program = program;
+      accepted = c.in_ok-program.ensures.accepted;
+      headline = subst (λ (x : Order). Headline program x c.args.steps c.finish.result) order (composed program m c.args.steps c.finish.result behaves c.finish.ensures within counted);
+    }

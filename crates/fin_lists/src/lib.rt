@@ -1,0 +1,10 @@
+//! The finalization lists: masters with their layers, and sets of objects.
+#![tactic(auto)]
+
+mod group;
+mod lists;
+mod master;
+#[cfg(test)]
+mod tests;
+
+pub use lists::{FinLists, Layer, MasterNo, SetNo};

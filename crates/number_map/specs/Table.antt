@@ -1,0 +1,27 @@
+-- Values by number.
+use Rattle.std.specs.Prelude.{◌≡◌, refl, ℕ, ◌<◌, Option, Some, None}
+use Rattle.std.specs.Coded.{Coded, code_by, coded×, coded_ℕ}
+use Rattle.std.specs.Ordering.{nat_cmp}
+use Rattle.std.specs.Option.{option_map_or}
+use Rattle.std.specs.FinMap.{FinMap, empty, get, insert, remove, code}
+
+-- the value of each number that has one, and for how many more there is room
+pub record Table (V : Type 0) : Type 0 where
+  pub values : FinMap nat_cmp V
+  pub room : ℕ
+
+-- how the logic stores it: as a pair
+abbrev pub table_code : {V : Type 0} → Coded V → Coded (Table V)
+table_code {V} c = code_by (FinMap nat_cmp V × ℕ) (coded× (code coded_ℕ c) coded_ℕ) (λ t. (t.values, t.room)) (λ p. record { values = p.0; room = p.1 }) (λ _. refl)
+
+-- with a value at a number
+abbrev pub with_value : {V : Type 0} → Table V → ℕ → V → Table V
+with_value t n v = record t { values = insert t.values n v }
+
+-- the value of a number changed, where there is one
+abbrev pub change : {V : Type 0} → ℕ → (V → V) → FinMap nat_cmp V → FinMap nat_cmp V
+change n f t = option_map_or (λ v. insert t n (f v)) (get t n) t
+
+-- no number above those given has a value
+abbrev pub AreGiven : {V : Type 0} → ℕ → FinMap nat_cmp V → Type 0
+AreGiven given t = (n : ℕ) → given < n → get t n ≡ None

@@ -1,0 +1,8 @@
+-- The numbers of the faults of the store.
+use Rattle.std.specs.Prelude.{ℕ}
+use Rattle.pool_store.specs.declared.fault.StoreFault.{StoreFault}
+use Rattle.pool_store.specs.declared.fault.StoreFault.TheVariants.{Gone, Memory}
+
+abbrev pub code_of : StoreFault → ℕ
+code_of Gone = 64
+code_of Memory = 9
