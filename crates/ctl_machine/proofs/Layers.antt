@@ -1,10 +1,10 @@
 -- The layers that are still to be finalized.
-use Rattle.std.proofs.Common.{◌≡◌, ℕ, zero, suc, ◌+◌, ◌≤◌, List, [], ◌∷◌, ◌++◌, Option, Some, None, Bool, true, false, refl, sym, ap, ◌∙◌, length, reverse, take, slice_get, arith}
+use Rattle.std.proofs.Common.{◌≡◌, ℕ, zero, suc, ◌≤◌, List, [], ◌∷◌, ◌++◌, Some, None, Bool, true, false, refl, ap, ◌∙◌, length, reverse, take, slice_get, arith}
 use Rattle.std.proofs.lemmas.List.{reverse-append, length-reverse}
 use Rattle.ctl_meaning.specs.World.{Layer}
 use Rattle.ctl_machine.specs.declared.frame.Frame.{Frame}
 use Rattle.ctl_machine.specs.declared.frame.Frame.TheVariants.{Statements, Leaving, Creating, Initializing, Finalizing}
-use Rattle.ctl_machine.specs.World.{Level, first_layers, all_but_first, first_with_layer}
+use Rattle.ctl_machine.specs.World.{Level, first_with_layer}
 use Rattle.ctl_machine.specs.Control.{oldest, done_of, after_of, frames_of, Fits}
 use Rattle.ctl_code.specs.States as Table
 use Rattle.ctl_machine.proofs.Levels.{topped}

@@ -1,27 +1,23 @@
 -- The moves that leave a master.
-use Rattle.std.proofs.Common.{◌≡◌, ℕ, ◌+◌, ◌≤◌, List, [], ◌∷◌, ◌++◌, Option, Some, None, Bool, true, false, refl, sym, ap, ◌∙◌, length, reverse, slice_get, add-one, arith}
-use Rattle.std.specs.Prelude.{◌||◌, is_some, option_map}
+use Rattle.std.proofs.Common.{◌≡◌, ℕ, ◌+◌, List, [], ◌∷◌, ◌++◌, Option, Some, None, Bool, true, false, refl, sym, ap, ◌∙◌, reverse, slice_get, add-one, arith}
+use Rattle.std.specs.Prelude.{◌||◌, is_some}
 use Rattle.ctl_tree.specs.declared.event.Event.{Event}
 use Rattle.ctl_tree.specs.declared.event.Event.TheVariants.{Finalize}
 use Rattle.ctl_tree.specs.declared.event.Cause.TheVariants.{Scope}
 use Rattle.ctl_tree.specs.declared.checked.Ty.TheVariants.{Record}
 use Rattle.ctl_meaning.specs.World.{World, Object, Layer}
-use Rattle.ctl_meaning.specs.Objects.{with_begun}
 use Rattle.ctl_meaning.specs.Changes.{object_at, begin_finalization, close_master}
-use Rattle.ctl_meaning.specs.Outcome.{Result, Goes, Done}
+use Rattle.ctl_meaning.specs.Outcome.{Result, Goes}
 use Rattle.ctl_code.specs.declared.code.Code.{Code}
 use Rattle.ctl_code.specs.States as T
 use Rattle.ctl_code.specs.States.{Move}
 use Rattle.ctl_code.specs.Table as Table
-use Rattle.ctl_machine.specs.declared.calls.Called.{Called}
-use Rattle.ctl_machine.specs.declared.calls.Called.TheVariants.{Gone, Nothing, Entered}
 use Rattle.ctl_machine.specs.declared.masters.Member.{Member}
 use Rattle.ctl_machine.specs.declared.engine.Engine.{Engine}
 use Rattle.ctl_machine.specs.declared.frame.Frame.{Frame}
 use Rattle.ctl_machine.specs.declared.frame.Frame.TheVariants.{Leaving}
 use Rattle.ctl_machine.specs.declared.frame.Departure.{Departure}
 use Rattle.ctl_machine.specs.World.{Level, levels_of, layer_of, all_but_first, newest_master, newest_layers, first_number, first_layers}
-use Rattle.ctl_machine.specs.Calls.{move_by, is_there}
 use Rattle.ctl_machine.specs.Control.{frames_of, oldest, done_of, after_of, may_raise, result_of, says_failed, Fits}
 use Rattle.ctl_machine.specs.declared.frame.Handed.{Handed}
 use Rattle.ctl_machine.specs.declared.frame.Handed.TheVariants as HandedOf
@@ -51,7 +47,7 @@ ends code d e below failed none top =
     ∙ ap (λ (l : List Frame). Table.next_layer code (first_number ls) [] d.has_failed r after (below_top (frames_of l ls)) [] e.world) (tops e.control.items below (leaving_frame d 0 failed) top)
 
 -- the next layer is finalized
-pub goes_on : (code : Code) (d : Departure) (e : Engine) (below : List Frame) (failed : Bool) (m : Member) → slice_get (reverse (newest_layers e.world)) d.remaining ≡ Some (layer_of m) → e.control.items ≡ below ++ leaving_frame d 1 failed ∷ [] → leaves_on code d 1 e ≡ Table.begin_object code (record { number = m.number; ty = Record m.record }) (object_at m.number e.world) (frames_of (Leaving d ∷ reverse below) (levels_of e.world)) [] e.world
+pub goes_on : (code : Code) (d : Departure) (e : Engine) (below : List Frame) (failed : Bool) (m : Member) → slice_get (reverse (newest_layers e.world)) d.remaining ≡ Some (layer_of m) → e.control.items ≡ below ++ leaving_frame d 1 failed ∷ [] → leaves_on code d 1 e ≡ Table.begin_object code (record { number = m.number; ty = Record m.record_type }) (object_at m.number e.world) (frames_of (Leaving d ∷ reverse below) (levels_of e.world)) [] e.world
 goes_on code d e below failed m layer top =
     let ls = levels_of e.world in
     let r = done_of d.pending in
@@ -60,15 +56,15 @@ goes_on code d e below failed m layer top =
     ∙ ap (λ (l : List Frame). Table.next_layer code (first_number ls) (layer_of m ∷ oldest d.remaining (first_layers ls)) d.has_failed r after (below_top (frames_of l ls)) [] e.world) (tops e.control.items below (leaving_frame d 1 failed) top)
 
 -- an object that does not exist stops the run
-pub gone_object : (code : Code) (m : Member) (o : Option Object) (k : List T.Frame) (w : World) → false ≡ is_some o → Table.begin_object code (record { number = m.number; ty = Record m.record }) o k [] w ≡ Table.gone k [] w
+pub gone_object : (code : Code) (m : Member) (o : Option Object) (k : List T.Frame) (w : World) → false ≡ is_some o → Table.begin_object code (record { number = m.number; ty = Record m.record_type }) o k [] w ≡ Table.gone k [] w
 gone_object code m None k w h = refl
 gone_object code m (Some o) k w h = absurd (cc)
 
 -- the finalization of an object that exists begins, and its Finalize is called
-pub begun_object : (code : Code) (m : Member) (k : List T.Frame) (w : World) (o : Option Object) → object_at m.number w ≡ o → true ≡ is_some o → Table.begin_object code (record { number = m.number; ty = Record m.record }) o k [] w ≡ begun m.number (Table.call_operation code (Table.operation_of (λ x. x.finalize) code m.record) (Finalize (Table.whole_part m.number) Scope) m.number (object_at m.number w) (T.Finalizing m.number ∷ k) [] w)
+pub begun_object : (code : Code) (m : Member) (k : List T.Frame) (w : World) (o : Option Object) → object_at m.number w ≡ o → true ≡ is_some o → Table.begin_object code (record { number = m.number; ty = Record m.record_type }) o k [] w ≡ begun m.number (Table.call_operation code (Table.operation_of (λ x. x.finalize) code m.record_type) (Finalize (Table.whole_part m.number) Scope) m.number (object_at m.number w) (T.Finalizing m.number ∷ k) [] w)
 begun_object code m k w None same h = absurd (cc)
 begun_object code m k w (Some o) same h =
-    let f = Table.operation_of (λ x. x.finalize) code m.record in
+    let f = Table.operation_of (λ x. x.finalize) code m.record_type in
     let e = Finalize (Table.whole_part m.number) Scope in
     ap (λ (x : Option Object). Table.call_operation code f e m.number x (T.Finalizing m.number ∷ k) [] (begin_finalization m.number w)) (found_begun m.number w)
     ∙ call_begun code f e m.number (T.Finalizing m.number ∷ k) w (object_at m.number w)

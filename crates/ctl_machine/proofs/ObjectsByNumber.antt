@@ -81,15 +81,15 @@ unfolding opened_objects
 begun o = refl
 
 -- s is what a completed finalization makes of the state t
-completed : (number «record» master : ℕ) (s t : State) → state_of s ≡ (if is_untouched (state_of t) then W.Untouched else W.Finalized)
-    → object_of (record { number = number; «record» = «record»; master = master; state = s }) ≡ with_finalized (object_of (record { number = number; «record» = «record»; master = master; state = t }))
+completed : (number record_type master : ℕ) (s t : State) → state_of s ≡ (if is_untouched (state_of t) then W.Untouched else W.Finalized)
+    → object_of (record { number = number; record_type = record_type; master = master; state = s }) ≡ with_finalized (object_of (record { number = number; record_type = record_type; master = master; state = t }))
 unfolding opened_objects
-completed number «record» master s Untouched is = rw is refl
-completed number «record» master s Finalizing is = rw is refl
-completed number «record» master s Finalized is = rw is refl
+completed number record_type master s Untouched is = rw is refl
+completed number record_type master s Finalizing is = rw is refl
+completed number record_type master s Finalized is = rw is refl
 
 pub ended : (o : Object) (s : State) → state_of s ≡ (if is_untouched (state_of o.state) then W.Untouched else W.Finalized) → object_of (record o { state = s }) ≡ with_finalized (object_of o)
-ended o s is = completed o.number o.record o.master s o.state is
+ended o s is = completed o.number o.record_type o.master s o.state is
 
 -- Objects of the newest master ---------------------------------------------------------------------------
 

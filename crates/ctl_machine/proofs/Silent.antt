@@ -12,7 +12,7 @@ use Rattle.ctl_code.specs.declared.code.Instr.TheVariants.{Start, Enter, Declare
 use Rattle.ctl_code.specs.declared.code.Entry.{Entry}
 use Rattle.ctl_code.specs.declared.code.Code.{Code}
 use Rattle.ctl_code.specs.States.{Mode, At, Giving, Stopped, Stuck, After, Frame, InMaster, Leaving, Creating, Initializing, Finalizing, Move}
-use Rattle.ctl_code.specs.Table.{enter_body, call_operation, operation_of, by_text, by_instr, begin_object, next_layer, left_mode, come_to_life, by_initialize, by_finalize, by_frame, act}
+use Rattle.ctl_code.specs.Table.{enter_body, call_operation, operation_of, by_text, by_instr, begin_object, next_layer, left_mode, come_to_life, by_frame, act}
 
 -- where a result is handed on, nothing is shown
 abbrev pub silent_at : Mode → List Event → Type 0

@@ -70,7 +70,7 @@ slot_written n slot x m s (o ∷ ms) nested same put =
     rw (eq_same m.number n (sym same), older_stay activation_of (λ a. a.master) n (λ _. refl) (with_slot slot x) o ms nested.1 (omega (arith, nested.0)), put) refl
 
 abbrev pub new_at : ℕ → ℕ → ℕ → Object
-new_at g t master = record { number = g + 1; «record» = t; master = master; state = Untouched }
+new_at g t master = record { number = g + 1; record_type = t; master = master; state = Untouched }
 
 pub declared : (g h slot t : ℕ) (m : Master) (s : Vec Slot Global) (ms : List Master) (xs : List Object) → AreNested m ms
     → map slot_of s.items ≡ slice_set (map slot_of m.slots.items) slot (W.Holds (g + 1))

@@ -16,7 +16,7 @@ state_of Finalized = W.Finalized
 
 -- an object without components that a master declares
 abbrev pub object_of : Object → W.Object
-object_of o = record { number = o.number; ty = TyOf.Record o.record; cells = []; state = state_of o.state; origin = W.Declared o.master; joined = false }
+object_of o = record { number = o.number; ty = TyOf.Record o.record_type; cells = []; state = state_of o.state; origin = W.Declared o.master; joined = false }
 
 abbrev pub objects_of : List Object → List W.Object
 objects_of xs = map object_of xs

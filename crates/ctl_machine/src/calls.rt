@@ -92,11 +92,5 @@ pub fn call_operation(
     let Some(subprogram) = operation else {
         return Ok(Called::Nothing);
     };
-    Ok(Called::Entered(enter_body(
-        world,
-        code,
-        subprogram,
-        home,
-        Some(object),
-    )?))
+    Ok(Called::Entered(enter_body(world, code, subprogram, home, Some(object))?))
 }

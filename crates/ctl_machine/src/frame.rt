@@ -23,9 +23,9 @@ pub enum Handed {
 /// Where the execution goes on when a master has been left.
 #[derive(Clone, Copy, Debug, PartialEq, Eq)]
 pub enum Afterwards {
-    /// behind a block, which has so many instructions from this place on, where it was completed normally; else its completion is
-    /// handed on
-    Block(usize, usize),
+    /// behind a block, which has `count` instructions from the place `entry` on, where it was completed normally; else its
+    /// completion is handed on
+    Block { entry: usize, count: usize },
     /// behind a body: its completion is handed on
     Body,
 }
@@ -43,16 +43,24 @@ pub struct Departure {
 /// A construct that waits for what stands inside it.
 #[derive(Clone, Copy, Debug, PartialEq, Eq)]
 pub enum Frame {
-    /// the statements of a master: the newest but for those of the frames above
+    /// the statements of a master: the newest one, but for those of the frames above
     Statements(Afterwards),
     /// such a master is left
     Leaving(Departure),
-    /// an object that was declared, by its number and its record type, and is to be initialized; then the elaboration goes on at
-    /// this place
-    Creating(u64, usize, usize),
-    /// the Initialize of a declared object, by its number and its record type; then the elaboration goes on at this place
-    Initializing(u64, usize, usize),
-    /// the Finalize of an object, by its number
+    /// an object of this record type that was declared, and is to be initialized (RM 7.6); then the elaboration goes on at the
+    /// place `next`
+    Creating {
+        object: u64,
+        record_type: usize,
+        next: usize,
+    },
+    /// the Initialize of such an object
+    Initializing {
+        object: u64,
+        record_type: usize,
+        next: usize,
+    },
+    /// the Finalize of the object of this number (RM 7.6.1)
     Finalizing(u64),
 }
 
@@ -61,8 +69,8 @@ pub enum Frame {
 pub enum Mode {
     /// the instruction at this place
     At(usize),
-    /// nothing: so many instructions behind this place no code has an instruction
-    Beyond(usize, usize),
+    /// nothing: `count` instructions behind the place `entry` no code has an instruction
+    Beyond { entry: usize, count: usize },
     /// hand this to the topmost frame
     Giving(Handed),
     /// nothing: the program is erroneous at this point (RM 13.11.2)

@@ -10,5 +10,7 @@ mod masters;
 mod objects;
 pub mod outcome;
 mod resume;
+#[cfg(test)]
+mod tests;
 mod texts;
 mod world;

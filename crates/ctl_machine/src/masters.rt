@@ -21,7 +21,7 @@ pub enum Slot {
 #[derive(Clone, Copy, Debug, PartialEq, Eq)]
 pub struct Member {
     pub number: u64,
-    pub record: usize,
+    pub record_type: usize,
 }
 
 /// An active master: an execution of a body or a block (RM 7.6.1). The outermost one stands for what is around the main

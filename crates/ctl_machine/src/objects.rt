@@ -32,7 +32,7 @@ impl State {
 #[derive(Clone, Copy, Debug, PartialEq, Eq)]
 pub struct Object {
     pub number: u64,
-    pub record: usize,
+    pub record_type: usize,
     pub master: u64,
     pub state: State,
 }

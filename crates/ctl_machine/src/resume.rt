@@ -101,9 +101,9 @@ fn mode_behind(departure: Departure) -> Mode
     match (departure.afterwards, departure.pending) {
         (_, Completion::Raise(exception)) => Mode::Giving(Handed::Raise(exception)),
         (Afterwards::Body, Completion::Normal) => Mode::Giving(Handed::Normal),
-        (Afterwards::Block(entry, count), Completion::Normal) => match entry.checked_add(count) {
+        (Afterwards::Block { entry, count }, Completion::Normal) => match entry.checked_add(count) {
             Some(place) => Mode::At(place),
-            None => Mode::Beyond(entry, count),
+            None => Mode::Beyond { entry, count },
         },
     }
 }
@@ -159,10 +159,16 @@ impl Engine {
                 Ok(())
             }
             Frame::Leaving(departure) => self.go_on_leaving(code, handed, departure),
-            Frame::Creating(object, record_type, next) => {
-                self.initialize(code, object, record_type, next)
-            }
-            Frame::Initializing(object, record_type, next) => match handed {
+            Frame::Creating {
+                object,
+                record_type,
+                next,
+            } => self.initialize(code, object, record_type, next),
+            Frame::Initializing {
+                object,
+                record_type,
+                next,
+            } => match handed {
                 Handed::Raise(exception) => {
                     self.fail(object, exception);
                     Ok(())
@@ -236,12 +242,18 @@ impl Engine {
         ensures ok { OnOk result (Makes self.old self.new (leaves_on code.now departure 1 self.old)) }
         ensures err { OnErr result (Stays self.old self.new) }
     {
-        let Some(Member { number, record }) = self.world.layer(departure.remaining) else {
+        let Some(
+            Member {
+                number,
+                record_type,
+            },
+        ) = self.world.layer(departure.remaining)
+        else {
             return Ok(());
         };
         self.control.reserve(2)?;
         self.events.reserve(1)?;
-        let operation = operations_of(code, record).finalize;
+        let operation = operations_of(code, record_type).finalize;
         let called = call_operation(&mut self.world, code, operation, number)?;
         replace_top(&mut self.control, Frame::Leaving(departure));
         if let Called::Gone = called {
@@ -289,7 +301,11 @@ impl Engine {
         let called = call_operation(&mut self.world, code, operation, object)?;
         replace_top(
             &mut self.control,
-            Frame::Initializing(object, record_type, next),
+            Frame::Initializing {
+                object,
+                record_type,
+                next,
+            },
         );
         self.follow(called, Event::Initialize(whole(self.alloc, object)));
         Ok(())
@@ -313,7 +329,8 @@ impl Engine {
             }
             Called::Entered(Some(first)) => {
                 self.events.push_reserved(event);
-                self.control.push_reserved(Frame::Statements(Afterwards::Body));
+                self.control
+                    .push_reserved(Frame::Statements(Afterwards::Body));
                 self.mode = Mode::At(first);
             }
         }
@@ -336,7 +353,7 @@ impl Engine {
         let master = self.world.newest();
         let member = Member {
             number: object,
-            record: record_type,
+            record_type,
         };
         let exists = add_existing(&mut self.world, member)?;
         let operation = operations_of(code, record_type).finalize;

@@ -157,17 +157,18 @@ impl World {
 
     /// A new object of this record type is declared in the newest master, at this slot; its number. Unchanged where memory is
     /// refused.
-    pub fn declare(&mut self, slot: usize, record: usize) -> Result<u64, AllocError>
+    pub fn declare(&mut self, slot: usize, record_type: usize) -> Result<u64, AllocError>
         requires { self.old.ledger.next_object < 2 ^ 64 }
         ensures number { IfOk result (λ number. number ≡ self.old.ledger.next_object) }
-        ensures ok { OnOk result (self.new ≡ declared_in slot «record» self.old) }
+        ensures ok { OnOk result (self.new ≡ declared_in slot record_type self.old) }
         ensures levels { OnOk result (levels_of self.new ≡ levels_of self.old) }
+        ensures last { OnOk result (last_of (newest_display self.old) ≡ newest_master self.old) }
         ensures err { OnErr result (self.new ≡ self.old) }
     {
         let number = self.given_objects + 1;
         self.objects.push(Object {
             number,
-            record,
+            record_type,
             master: self.newest.number,
             state: State::Untouched,
         })?;
@@ -230,13 +231,16 @@ mod tests {
         let number = world.declare(0, 7)?;
         assert_eq!(rt; number, 1);
         assert_eq!(rt; world.home_of(1), Some(1));
-        world.add_layer(Member { number, record: 7 })?;
+        world.add_layer(Member {
+            number,
+            record_type: 7,
+        })?;
         assert_eq!(rt; world.layer_count(), 1);
         assert_eq!(rt;
             world.layer(0),
             Some(Member {
                 number: 1,
-                record: 7
+                record_type: 7
             })
         );
         assert_eq!(rt; world.layer(1), None);

@@ -1,10 +1,8 @@
 //! The stages in their order: lexis, grammar, legality, code, run.
 
-ghost use Rattle.std.specs.Prelude.{◌≡◌, ◌⊎◌, IfOk, List, MatchResult};
+ghost use Rattle.std.specs.Prelude.{◌≡◌, ◌⊎◌, IfOk, MatchResult};
 ghost use Rattle.ctl_tree.specs.declared.fault.Fault.{Fault};
-ghost use Rattle.ctl_tree.specs.declared.token.Token.{Token};
-ghost use Rattle.ctl_lexis.specs.Lexis.{HasFault, HasTokens};
-ghost use Rattle.ctl_grammar.specs.Fault.{HasGrammarFault};
+ghost use Rattle.ctl_lexis.specs.Lexis.{HasFault};
 ghost use Rattle.ctl_lex.specs.Memory.{IsMemory};
 ghost use Rattle.ctl_run.specs.Headline.{Accepts, RunsSource};
 
@@ -18,16 +16,14 @@ use ctl_parse::parse;
 use ctl_slice::slice::left_out;
 use ctl_tree::checked::Checked;
 use ctl_tree::fault::{Fault, FaultCode};
-use ctl_tree::span::Span;
 use ctl_tree::request::Order;
+use ctl_tree::span::Span;
 use std::alloc::Global;
 
 /// The checked program of a source text, or its fault.
 pub fn check_source(alloc: Global, source: &[u8]) -> Result<Checked, Fault>
     // A text with a lexical fault is refused with it.
     ensures lexical { (fault : Fault) → HasFault source.now fault → MatchResult result (λ _. ⊥) (λ f. (f ≡ fault) ⊎ IsMemory f) }
-    // A text whose tokens spell no program is refused with the first fault of its grammar.
-    ensures grammatical { (tokens : List Token) (fault : Fault) → HasTokens source.now tokens → HasGrammarFault 100 tokens fault → MatchResult result (λ _. ⊥) (λ f. (f ≡ fault) ⊎ IsMemory f) }
     ensures accepted { IfOk result (λ program. Accepts source.now program) }
 {
     let tokens = tokens(alloc, source)?;
@@ -47,7 +43,6 @@ pub fn check_source(alloc: Global, source: &[u8]) -> Result<Checked, Fault>
 /// first step; a step that is refused memory ends the run as `HostMemory`.
 pub fn run_source(alloc: Global, source: &[u8], order: Order, steps: u64) -> Result<Outcome, Fault>
     ensures lexical { (fault : Fault) → HasFault source.now fault → MatchResult result (λ _. ⊥) (λ f. (f ≡ fault) ⊎ IsMemory f) }
-    ensures grammatical { (tokens : List Token) (fault : Fault) → HasTokens source.now tokens → HasGrammarFault 100 tokens fault → MatchResult result (λ _. ⊥) (λ f. (f ≡ fault) ⊎ IsMemory f) }
     ensures headline { IfOk result (λ outcome. RunsSource source.now order steps outcome) }
 {
     let program = check_source(alloc, source)?;
@@ -56,7 +51,6 @@ pub fn run_source(alloc: Global, source: &[u8], order: Order, steps: u64) -> Res
     let _ = machine.run(steps);
     Ok(machine.finish())
 }
-
 
 #[cfg(test)]
 mod tests;

@@ -1,6 +1,8 @@
 -- The text that shows a run, and what a sink took of it.
 use Rattle.std.specs.Prelude.{◌≡◌, ℕ, List, Option}
 use Rattle.std.specs.Io.KnownBytes.{Appends}
+use Rattle.ctl_tree.specs.declared.request.Order.{Order}
+use Rattle.ctl_run.specs.Headline.{RunsSource}
 use Rattle.ctl_machine.specs.declared.outcome.Outcome.{Outcome}
 use Rattle.ctl_serve.specs.declared.summary.Summary.{Summary}
 use Rattle.ctl_sink.specs.Prefix.{AppendsPart}
@@ -19,13 +21,15 @@ pub record Summarizes (outcome : Outcome) (summary : Summary) : Type 0 where
   pub end : summary.end ≡ outcome.end
   pub steps : summary.steps ≡ outcome.steps
 
--- the sink took the whole text of a run, and this is the run's summary
-pub record WritesWhole (show : Show) (old new : Option (List ℕ)) (summary : Summary) : Type 0 where
+-- the sink took the whole text of what a run of this source shows, and this is the run's summary
+pub record WritesWhole (source : List ℕ) (order : Order) (limit : ℕ) (show : Show) (old new : Option (List ℕ)) (summary : Summary) : Type 0 where
   pub outcome : Outcome
+  pub runs : RunsSource source order limit outcome
   pub summarized : Summarizes outcome summary
   pub whole : Appends old new (shown_by show outcome)
 
--- the sink took a part of the text of a run, from its beginning
-pub record WritesPart (show : Show) (old new : Option (List ℕ)) : Type 0 where
+-- the sink took a part of that text, from its beginning
+pub record WritesPart (source : List ℕ) (order : Order) (limit : ℕ) (show : Show) (old new : Option (List ℕ)) : Type 0 where
   pub outcome : Outcome
+  pub runs : RunsSource source order limit outcome
   pub part : AppendsPart old new (shown_by show outcome)

@@ -68,8 +68,8 @@ pub fn run_into<S: Sink>(
     sink: &mut S,
 ) -> Result<Summary, RunFault>
     requires { S.has_failed sink.old ≡ false }
-    ensures ok { IfOk result (WritesWhole show (S.taken sink.old) (S.taken sink.new)) }
-    ensures write { IsErrOf result Write → WritesPart show (S.taken sink.old) (S.taken sink.new) }
+    ensures ok { IfOk result (WritesWhole source.now order steps show (S.taken sink.old) (S.taken sink.new)) }
+    ensures write { IsErrOf result Write → WritesPart source.now order steps show (S.taken sink.old) (S.taken sink.new) }
     ensures refused { IfErr result (λ fault. IsRefusal fault → sink.new ≡ sink.old) }
     ensures failed { (S.has_failed sink.new ≡ true) ↔ IsErrOf result Write }
 

@@ -1,4 +1,4 @@
-use Rattle.std.proofs.Common.{rules, refl}
+use Rattle.std.proofs.Common.{refl}
 use Rattle.ctl_machine.proofs.Levels.{body_entered, levels_opened}
 use Rattle.ctl_machine.proofs.calls.enter_body.Goals as goal
 

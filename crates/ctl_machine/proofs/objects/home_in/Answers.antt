@@ -9,4 +9,4 @@ returns-in_err-place c = rw (c.from_residual.ensures, none_found c.args.number c
 
 -- its master is read at its place
 pub returns : goal.returns
-returns c = rw (one_found c.args.number c.args.objects.now c.in_ok-place.place (record { number = 0; «record» = 0; master = 0; state = Untouched }) c.requires.rising c.in_ok-place.ensures.found) (_, refl, refl)
+returns c = rw (one_found c.args.number c.args.objects.now c.in_ok-place.place (record { number = 0; record_type = 0; master = 0; state = Untouched }) c.requires.rising c.in_ok-place.ensures.found) (_, refl, refl)

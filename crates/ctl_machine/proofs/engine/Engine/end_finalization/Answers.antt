@@ -1,4 +1,4 @@
-use Rattle.std.proofs.Common.{refl, sym, reverse, true, false, ◌∙◌}
+use Rattle.std.proofs.Common.{refl, sym, reverse, ◌∙◌}
 use Rattle.std.proofs.lemmas.List.{append-nil}
 use Rattle.ctl_machine.specs.declared.frame.Frame.TheVariants.{Finalizing}
 use Rattle.ctl_machine.specs.declared.frame.Mode.TheVariants.{Giving}

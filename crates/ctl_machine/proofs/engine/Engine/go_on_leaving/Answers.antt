@@ -1,4 +1,4 @@
-use Rattle.std.proofs.Common.{refl, sym, arith}
+use Rattle.std.proofs.Common.{refl, arith}
 use Rattle.std.specs.Prelude.{◌||◌}
 use Rattle.ctl_machine.specs.declared.frame.Frame.TheVariants.{Leaving}
 use Rattle.ctl_machine.specs.declared.frame.Mode.TheVariants.{Giving}
