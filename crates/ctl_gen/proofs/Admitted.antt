@@ -1,6 +1,6 @@
 -- What was looked through is in the slice.
-use Rattle.std.proofs.Common.{◌≡◌, ℕ, zero, suc, ◌<◌, List, [], ◌∷◌, Some, length, refl, sym, ap, ◌∙◌, subst, arith, slice_get, drop, false}
-use Rattle.ctl_tree.specs.declared.checked.Stmt.{Stmt, Row_of-Stmt, end_of-Stmt, more_of-Stmt, items-the_row-Stmt, items_shown-the_row-Stmt-0}
+use Rattle.std.proofs.Common.{◌≡◌, ℕ, zero, suc, ◌<◌, List, [], ◌∷◌, Some, length, refl, sym, ap, ◌∙◌, subst, arith, slice_get, false}
+use Rattle.ctl_tree.specs.declared.checked.Stmt.{Row_of-Stmt, end_of-Stmt, more_of-Stmt, items-the_row-Stmt, items_shown-the_row-Stmt-0}
 use Rattle.ctl_tree.specs.declared.checked.Master.{Master, Master', Row_of-Handler, end_of-Handler, more_of-Handler, items-the_row-Handler, items_shown-the_row-Handler-2, out-Master}
 use Rattle.ctl_tree.specs.declared.checked.Subprogram.{Subprogram}
 use Rattle.ctl_meaning.specs.Types.{Tables}
@@ -33,3 +33,32 @@ body_at k (x ∷ xs) h (suc f) s e = body_at k xs h.2 f s e
 pub no_items : {A : Type 0} (xs : List A) → length xs ≡ 0 → xs ≡ []
 no_items [] h = refl
 no_items (x ∷ xs) h = absurd (omega arith)
+
+-- And what is in the slice is let through.
+
+-- a place that has an item is one of the list
+pub inside : {A : Type 0} (xs : List A) (n : ℕ) (x : A) → slice_get xs n ≡ Some x → n < length xs
+inside [] n x e = absurd (cc)
+inside (y ∷ xs) zero x e = omega arith
+inside (y ∷ xs) (suc n) x e = let h = inside xs n x e in omega (arith, h)
+
+rows_of_row : (k : Tables) (m : _) (row : Row_of-Stmt m) → RowInSlice k row → RowsInSlice k (items-the_row-Stmt m row)
+rows_of_row k m end_of-Stmt h = tt
+rows_of_row k m (more_of-Stmt s rest) h = (h.0, rows_of_row k _ rest h.1)
+
+empty_handlers : (m : _) (row : Row_of-Handler m) → NoHandlers row → items-the_row-Handler m row ≡ []
+empty_handlers m end_of-Handler h = refl
+empty_handlers m (more_of-Handler choices s body rest) h = absurd h
+
+pub parts_in_slice : (k : Tables) (m : Master) → MasterInSlice k m → ItemsInSlice k (out-Master m).items.items × RowsInSlice k (out-Master m).body.items × ((out-Master m).handlers.items ≡ [])
+unfolding out-Master denote.Hole.Carrier.out
+parts_in_slice k (Master' slots items s body t handlers) h =
+    (h.0, subst (RowsInSlice k) (sym (items_shown-the_row-Stmt-0 s body)) (rows_of_row k _ body h.1), items_shown-the_row-Handler-2 t handlers ∙ empty_handlers _ handlers h.2)
+
+pub bodies_of : (k : Tables) (xs : List Subprogram) → ((f : ℕ) (s : Subprogram) → slice_get xs f ≡ Some s → (s.is_function ≡ false) × MasterInSlice k s.body) → BodiesInSlice k xs
+bodies_of k [] h = tt
+bodies_of k (x ∷ xs) h = ((h 0 x refl).0, (h 0 x refl).1, bodies_of k xs (λ f s e. h (suc f) s e))
+
+-- a list of which one item was looked at last
+pub none_left : {A : Type 0} (xs : List A) → xs ≡ [] → length xs ≡ 0
+none_left xs e = ap length e

@@ -9,13 +9,15 @@ use ctl_tree::checked::{Checked, Item, Master, Piece, RecordType, Root, Stmt, Su
 
 /// Whether this version runs the program.
 pub fn admits(program: &Checked) -> bool
-    ensures { IsTrue result → InSlice program.now }
+    ensures sound { IsTrue result → InSlice program.now }
+    ensures whole { InSlice program.now → IsTrue result }
 {
     has_body(&program.subprograms, program.main) && bodies_fit(program)
 }
 
 fn bodies_fit(program: &Checked) -> bool
-    ensures { IsTrue result → BodiesInSlice (tables_of program.now) program.now.subprograms.items }
+    ensures sound { IsTrue result → BodiesInSlice (tables_of program.now) program.now.subprograms.items }
+    ensures whole { BodiesInSlice (tables_of program.now) program.now.subprograms.items → IsTrue result }
 {
     for subprogram in &program.subprograms {
         if !body_fits(program, subprogram) {
@@ -28,19 +30,22 @@ fn bodies_fit(program: &Checked) -> bool
 fn body_fits(program: &Checked, subprogram: &Subprogram) -> bool
     ensures procedure { IsTrue result → subprogram.now.is_function ≡ false }
     ensures body { IsTrue result → MasterInSlice (tables_of program.now) subprogram.now.body }
+    ensures whole { subprogram.now.is_function ≡ false → MasterInSlice (tables_of program.now) subprogram.now.body → IsTrue result }
 {
     !subprogram.is_function && master_fits(program, &subprogram.body)
 }
 
 fn has_body(subprograms: &[Subprogram], number: usize) -> bool
-    ensures { IsTrue result → IsBody subprograms.now number }
+    ensures sound { IsTrue result → IsBody subprograms.now number }
+    ensures whole { IsBody subprograms.now number → IsTrue result }
 {
     number < subprograms.len()
 }
 
 /// An operation that the user wrote is a subprogram of the table.
 fn is_written(subprograms: &[Subprogram], operation: Option<usize>) -> bool
-    ensures { IsTrue result → IsWritten subprograms.now operation }
+    ensures sound { IsTrue result → IsWritten subprograms.now operation }
+    ensures whole { IsWritten subprograms.now operation → IsTrue result }
 {
     match operation {
         None => true,
@@ -50,7 +55,8 @@ fn is_written(subprograms: &[Subprogram], operation: Option<usize>) -> bool
 
 /// A type that extends Controlled or Limited_Controlled without components (RM 7.6).
 fn is_plain(subprograms: &[Subprogram], record_type: &RecordType) -> bool
-    ensures { IsTrue result → IsPlain subprograms.now record_type.now }
+    ensures sound { IsTrue result → IsPlain subprograms.now record_type.now }
+    ensures whole { IsPlain subprograms.now record_type.now → IsTrue result }
 {
     is_controlled(record_type.root)
         && record_type.parent.is_none()
@@ -60,7 +66,8 @@ fn is_plain(subprograms: &[Subprogram], record_type: &RecordType) -> bool
 }
 
 fn is_controlled(root: Root) -> bool
-    ensures { IsTrue result → root ≡ Controlled }
+    ensures sound { IsTrue result → root ≡ Controlled }
+    ensures whole { root ≡ Controlled → IsTrue result }
 {
     match root {
         Root::Controlled => true,
@@ -69,7 +76,8 @@ fn is_controlled(root: Root) -> bool
 }
 
 fn is_plain_type(program: &Checked, ty: Ty) -> bool
-    ensures { IsTrue result → IsPlainType (tables_of program.now) ty }
+    ensures sound { IsTrue result → IsPlainType (tables_of program.now) ty }
+    ensures whole { IsPlainType (tables_of program.now) ty → IsTrue result }
 {
     match ty {
         Ty::Record(number) if number < program.records.len() => {
@@ -82,7 +90,8 @@ fn is_plain_type(program: &Checked, ty: Ty) -> bool
 /// A part, statements, and no handler.
 #[cycle(fits)]
 fn master_fits(program: &Checked, master: &Master) -> bool
-    ensures { IsTrue result → MasterInSlice (tables_of program.now) master.now }
+    ensures sound { IsTrue result → MasterInSlice (tables_of program.now) master.now }
+    ensures whole { MasterInSlice (tables_of program.now) master.now → IsTrue result }
 {
     if !master.handlers.is_empty() || !items_fit(program, &master.items) {
         return false;
@@ -91,7 +100,8 @@ fn master_fits(program: &Checked, master: &Master) -> bool
 }
 
 fn items_fit(program: &Checked, items: &[Item]) -> bool
-    ensures { IsTrue result → ItemsInSlice (tables_of program.now) items.now }
+    ensures sound { IsTrue result → ItemsInSlice (tables_of program.now) items.now }
+    ensures whole { ItemsInSlice (tables_of program.now) items.now → IsTrue result }
 {
     for item in items {
         if !item_fits(program, item) {
@@ -102,7 +112,8 @@ fn items_fit(program: &Checked, items: &[Item]) -> bool
 }
 
 fn item_fits(program: &Checked, item: &Item) -> bool
-    ensures { IsTrue result → ItemInSlice (tables_of program.now) item.now }
+    ensures sound { IsTrue result → ItemInSlice (tables_of program.now) item.now }
+    ensures whole { ItemInSlice (tables_of program.now) item.now → IsTrue result }
 {
     match item {
         Item::Object(_, ty, None) => is_plain_type(program, *ty),
@@ -113,7 +124,8 @@ fn item_fits(program: &Checked, item: &Item) -> bool
 
 #[cycle(fits)]
 fn statements_fit(program: &Checked, statements: &[Stmt]) -> bool
-    ensures { IsTrue result → RowsInSlice (tables_of program.now) statements.now }
+    ensures sound { IsTrue result → RowsInSlice (tables_of program.now) statements.now }
+    ensures whole { RowsInSlice (tables_of program.now) statements.now → IsTrue result }
 {
     for statement in statements {
         if !statement_fits(program, statement) {
@@ -125,7 +137,8 @@ fn statements_fit(program: &Checked, statements: &[Stmt]) -> bool
 
 #[cycle(fits)]
 fn statement_fits(program: &Checked, statement: &Stmt) -> bool
-    ensures { IsTrue result → StmtInSlice (tables_of program.now) statement.now }
+    ensures sound { IsTrue result → StmtInSlice (tables_of program.now) statement.now }
+    ensures whole { StmtInSlice (tables_of program.now) statement.now → IsTrue result }
 {
     match statement {
         Stmt::Null | Stmt::NewLine => true,
@@ -137,7 +150,8 @@ fn statement_fits(program: &Checked, statement: &Stmt) -> bool
 
 /// A string literal.
 fn is_literal(pieces: &[Piece]) -> bool
-    ensures { IsTrue result → IsLiteral pieces.now }
+    ensures sound { IsTrue result → IsLiteral pieces.now }
+    ensures whole { IsLiteral pieces.now → IsTrue result }
 {
     match pieces {
         [Piece::Text(_)] => true,

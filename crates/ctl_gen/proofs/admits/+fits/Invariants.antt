@@ -5,4 +5,6 @@ use Rattle.ctl_gen.specs.Slice.{RowsInSlice}
 use Rattle.ctl_gen.proofs.admits.+fits.Given as goal
 
 abbrev pub invariant-statements_fit-loop-statement : goal.invariant-statements_fit-loop-statement
-invariant-statements_fit-loop-statement l = RowsInSlice (tables_of l.program) (drop l.statement-index l.statements) → RowsInSlice (tables_of l.program) l.statements
+invariant-statements_fit-loop-statement l =
+    (RowsInSlice (tables_of l.program) (drop l.statement-index l.statements) → RowsInSlice (tables_of l.program) l.statements)
+    × (RowsInSlice (tables_of l.program) l.statements → RowsInSlice (tables_of l.program) (drop l.statement-index l.statements))
