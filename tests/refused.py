@@ -5,39 +5,82 @@
 
 One line for each text that is answered otherwise; the last line is `N passed, M failed`."""
 import os
-import subprocess
 import sys
 import tempfile
+
+from answers import answer, tell
 
 UNUSED_WORDS = """abort abstract accept array at body case delay delta digits do entry generic goto interface of package pragma
 private protected range renames requeue select separate some subtype synchronized task terminate until""".split()
 
 DELIMITERS = "& ' ( ) * + , - . / : ; < = > | => .. := /= >= <=".split()
 
+# each ends a line; an LF directly behind a CR ends no further one
+LINE_ENDS = ["\n", "\x0b", "\x0c", "\r", "\r\n"]
+
+ITEM = "procedure Main is "
+
 NESTED = "procedure Main is X : Integer; begin X := {}1{}; end Main;"
 
 # a text, and the code, line and column of its fault
 TEXTS = [
-    # lexis
-    ("1.5", 2, 1, 1),
-    ("12_", 2, 1, 1),
+    # numbers: UNEXPECTED where they are numbers, as a text begins with none
+    ("1" * 18, 10, 1, 1),
     ("1" * 19, 2, 1, 1),
+    ("1_" * 17 + "1", 10, 1, 1),
+    ("1_" * 18 + "1", 2, 1, 1),
+    ("1.5", 2, 1, 1),
+    ("1..2", 10, 1, 1),
+    ("12_", 2, 1, 1),
+    ("1__2", 2, 1, 1),
+    ("1a", 2, 1, 1),
+    ("16#F#", 2, 1, 1),
+    # identifiers
+    ("a", 10, 1, 1),
+    ("a_1_B", 10, 1, 1),
     ("a__b", 4, 1, 1),
+    ("a_", 4, 1, 1),
+    ("_a", 1, 1, 1),
+    (ITEM + "a_;", 4, 1, 19),
+    (ITEM + "a_\n", 4, 1, 19),
+    (ITEM + "end_", 4, 1, 19),
+    (ITEM + "ends", 10, 1, 23),
+    (ITEM + "a\xe9", 1, 1, 20),
+    # strings
     ('"a', 3, 1, 1),
-    ("x [", 1, 1, 3),
-    (" " * 1048577, 5, 1, 1),
+    ('"a""b"', 10, 1, 1),
+    ('"a""b', 3, 1, 1),
+    ('"a\n"', 3, 1, 1),
     # a string that is never closed comes before the byte in it that may not stand in a string
     ('"a\x01b', 3, 1, 1),
     ('"a\x01b"', 1, 1, 3),
+    # bytes that begin nothing
+    ("x [", 1, 1, 3),
+    ("procedure \x85", 1, 1, 11),
+    # bytes past ASCII may stand in comments alone, and end no line there
+    ("-- \xe9\x85 1.5\n1.5", 2, 2, 1),
+    ("--\r\n1", 10, 2, 1),
+    # the length
+    (" " * 1048576, 10, 1, 1048577),
+    (" " * 1048577, 5, 1, 1),
+    ("1.5" + " " * 1048576, 5, 1, 1),
+    # a lexical fault comes before a fault of the grammar, wherever it stands
+    ("end end end 1.5", 2, 1, 13),
     # grammar
     ("", 10, 1, 1),
-    (" " * 1048576, 10, 1, 1048577),
     ("procedure Main is begin null; end Mein;", 13, 1, 35),
+    ("procedure Main is begin null; end MAIN", 10, 1, 39),
+    # the hundredth pair of parentheses is too deep, as the body of Main is open too; with one less the grammar takes the text, and
+    # this version leaves out its first item
     (NESTED.format("(" * 100, ")" * 100), 11, 1, 142),
+    (NESTED.format("(" * 99, ")" * 99), 12, 1, 19),
     ("procedure Main is A, B, C : Boolean; begin A := A and B or C; end Main;", 10, 1, 57),
-    ("procedure Main is begin null; end Main", 10, 1, 39),
-    ("procedure Main is task T; begin null; end Main;", 12, 1, 19),
+    ("procedure Main is A, B, C : Boolean; begin A := A or B and C; end Main;", 10, 1, 56),
     ("procedure Main is begin A := B and then C and D; end Main;", 10, 1, 47),
+    ("procedure Main is begin null; end Main", 10, 1, 39),
+    ("procedure Main is begin null end Main;", 10, 1, 30),
+    ("procedure Main is begin null; end Main; null;", 10, 1, 41),
+    ("procedure Main is task T; begin null; end Main;", 12, 1, 19),
 ]
 
 
@@ -45,36 +88,35 @@ def texts():
     yield from TEXTS
     # a reserved word that the subset leaves out is 12 where a word that it uses would be 10
     for word in UNUSED_WORDS:
-        yield f"procedure Main is {word}", 12, 1, 19
+        yield f"{ITEM}{word}", 12, 1, 19
         yield f"procedure Main is begin {word.upper()}", 12, 1, 25
-    # each delimiter is a token, and none can begin an item
     for delimiter in DELIMITERS:
-        yield f"procedure Main is {delimiter}", 10, 1, 19
+        # each delimiter is a token, and none can begin an item
+        yield f"{ITEM}{delimiter}", 10, 1, 19
+        # it ends an identifier, a number and a word that stand directly before it; what goes on with a comma or a colon is
+        # unexpected behind it
+        yield f"{ITEM}a{delimiter}", 10, 1, 21 if delimiter in ",:" else 20
+        # a point with no digit behind it is none of the number's
+        yield f"{ITEM}1{delimiter}", 10, 1, 19
+        yield f"{ITEM}begin{delimiter}", 10, 1, 24
+    for end in LINE_ENDS:
+        yield f"{ITEM}{end};", 10, 2, 1
+        yield f"{ITEM}a{end};", 10, 2, 1
+        yield f"{ITEM}{end}{end} ;", 10, 3, 2
+        # a comment ends with its line
+        yield f"{ITEM}-- begin{end} ;", 10, 2, 2
 
 
-def fault_of(adactl, path):
-    done = subprocess.run([adactl, "check", path], stdin=subprocess.DEVNULL, capture_output=True, timeout=60)
-    lines = done.stderr.decode(errors="replace").splitlines()
-    return done.returncode, lines[-1] if lines else ""
-
-
-def main():
-    adactl = sys.argv[1]
-    passed = failed = 0
+def complaints(adactl):
     with tempfile.TemporaryDirectory() as folder:
         path = os.path.join(folder, "text.adb")
         for text, code, line, column in texts():
             with open(path, "wb") as file:
                 file.write(text.encode("latin-1"))
-            status, answer = fault_of(adactl, path)
-            if status == 2 and answer.startswith(f"adactl: {line}:{column}: {code} "):
-                passed += 1
-            else:
-                failed += 1
-                print(f"{text[:60]!r}: {status} {answer!r}, not {line}:{column}: {code}")
-    print(f"{passed} passed, {failed} failed")
-    return 1 if failed else 0
+            status, said = answer(adactl, path)
+            is_so = status == 2 and said.startswith(f"adactl: {line}:{column}: {code} ")
+            yield None if is_so else f"{text[:60]!r}: {status} {said!r}, not {line}:{column}: {code}"
 
 
 if __name__ == "__main__":
-    sys.exit(main())
+    sys.exit(tell(complaints(sys.argv[1])))

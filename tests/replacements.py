@@ -8,9 +8,10 @@ texts/finalized_in_reverse.adb replaced is accepted or refused: by a byte of eac
 of the 255 other bytes. One line for each text that is answered otherwise; the last line is `N passed, M failed`."""
 import multiprocessing
 import os
-import subprocess
 import sys
 import tempfile
+
+from answers import answer, tell
 
 HERE = os.path.dirname(os.path.abspath(__file__))
 TEXTS = ["finalized_in_reverse.adb", "storage_used_again.adb"]
@@ -20,14 +21,12 @@ TEXTS = ["finalized_in_reverse.adb", "storage_used_again.adb"]
 CLASSES = b" \t\n\r\x0b\x0cazZ09_&'()*+,-./:;<=>|\"!#$%?@[\\]^`{}~\x00\x01\x7f\x80\x85\xff"
 
 
-def answer(job):
+def answer_of_text(job):
     adactl, text = job
     with tempfile.NamedTemporaryFile(suffix=".adb", dir="/dev/shm" if os.path.isdir("/dev/shm") else None) as file:
         file.write(text)
         file.flush()
-        done = subprocess.run([adactl, "check", file.name], stdin=subprocess.DEVNULL, capture_output=True, timeout=60)
-    lines = done.stderr.decode(errors="replace").splitlines()
-    return done.returncode, lines[-1] if lines else ""
+        return answer(adactl, file.name)
 
 
 def code_of(line):
@@ -60,21 +59,13 @@ def read(name):
         return file.read()
 
 
-def main():
-    adactl = sys.argv[1]
-    passed = failed = 0
-    all_jobs = list(jobs("--every" in sys.argv[2:]))
+def complaints(adactl, every):
+    all_jobs = list(jobs(every))
     with multiprocessing.Pool() as pool:
-        answers = pool.imap(answer, ((adactl, text) for _, text, _ in all_jobs), chunksize=64)
+        answers = pool.imap(answer_of_text, ((adactl, text) for _, text, _ in all_jobs), chunksize=64)
         for (title, _, is_good), (status, line) in zip(all_jobs, answers):
-            if is_good(status, line):
-                passed += 1
-            else:
-                failed += 1
-                print(f"{title}: {status} {line!r}")
-    print(f"{passed} passed, {failed} failed")
-    return 1 if failed else 0
+            yield None if is_good(status, line) else f"{title}: {status} {line!r}"
 
 
 if __name__ == "__main__":
-    sys.exit(main())
+    sys.exit(tell(complaints(sys.argv[1], "--every" in sys.argv[2:])))

@@ -1,6 +1,6 @@
 //! Where the parser stands, and the reading of single tokens.
 
-ghost use Rattle.std.specs.Prelude.{◌≡◌, ◌<◌, ◌≤◌, ◌∷◌, [], length, OnOk};
+ghost use Rattle.std.specs.Prelude.{◌≡◌, ◌<◌, ◌≤◌, ◌+◌, ◌-◌, ◌^◌, ◌⊎◌, ◌∷◌, [], length, IfErr, OnOk, true, false};
 ghost use Rattle.ctl_grammar.specs.Form.{none, leaf, at};
 ghost use Rattle.ctl_grammar.specs.Grammar.{flag, spot};
 ghost use Rattle.ctl_grammar.specs.Reading.{Gives, begins, token_at, read};
@@ -31,6 +31,34 @@ impl<'a> Parser<'a> {
             Some(token) => is_same_kind(kind, token.kind),
             None => false,
         }
+    }
+
+    /// Opens a construct. It is to be next, and one more has to be allowed.
+    pub(crate) fn open(&mut self, is_next: bool) -> Result<(), Refused>
+        ensures next { OnOk result (is_next ≡ true) }
+        ensures room { OnOk result (0 < self.old.left) }
+        ensures left { OnOk result (self.new.left ≡ self.old.left - 1) }
+        ensures refused { IfErr result (λ e. ((e ≡ Refused.Token Reason.Unexpected) × (is_next ≡ false)) ⊎ ((e ≡ Refused.Token Reason.TooDeep) × (is_next ≡ true) × (self.old.left ≡ 0))) }
+        ensures closes { OnOk result (self.new.left + 1 < 2 ^ 32) }
+        ensures rest { self.new.rest ≡ self.old.rest }
+    {
+        if !is_next {
+            return Err(Refused::Token(Reason::Unexpected));
+        }
+        if self.left == 0 {
+            return Err(Refused::Token(Reason::TooDeep));
+        }
+        self.left -= 1;
+        Ok(())
+    }
+
+    /// Closes the construct that was opened last.
+    pub(crate) fn close(&mut self)
+        requires { self.old.left + 1 < 2 ^ 32 }
+        ensures left { self.new.left ≡ self.old.left + 1 }
+        ensures rest { self.new.rest ≡ self.old.rest }
+    {
+        self.left += 1;
     }
 
     /// The next token, which is to be of this kind.

@@ -8,8 +8,8 @@ ghost use Rattle.ctl_grammar.specs.Reading.{Gives, read, construct};
 ghost use Rattle.ctl_parse.specs.View.{optional, view, view_suffix, view_addend, view_multiplicand, view_name, compared_node, joined_node};
 
 use crate::cursor::Parser;
-use crate::operators::{first_word, name_expression};
-use ctl_grammar::refused::{Reason, Refused};
+use crate::operators::name_expression;
+use ctl_grammar::refused::Refused;
 use ctl_tree::span::Span;
 use ctl_tree::token::Kind;
 use ctl_tree::tree::{
@@ -112,7 +112,7 @@ impl<'a> Parser<'a> {
         let mut all = Vec::new(self.alloc);
         let first = self.relation()?;
         all.push(first)?;
-        'more: while self.next_is(first_word(operator)) {
+        'more: while self.at_joiner(operator) {
             let next = self.next_relation(operator)?;
             all.push(next)?;
         }
@@ -319,15 +319,10 @@ impl<'a> Parser<'a> {
         ensures left { OnOk result (self.new.left ≡ self.old.left) }
         ensures shorter { OnOk result (length self.new.rest.now < length self.old.rest.now) }
     {
-        if !self.next_is(Kind::LeftParenthesis) {
-            return Err(Refused::Token(Reason::Unexpected));
-        }
-        if self.left == 0 {
-            return Err(Refused::Token(Reason::TooDeep));
-        }
-        self.left -= 1;
+        let is_next = self.next_is(Kind::LeftParenthesis);
+        self.open(is_next)?;
         let inside = self.in_enclosed_name()?;
-        self.left += 1;
+        self.close();
         Ok(inside)
     }
 
@@ -370,15 +365,10 @@ impl<'a> Parser<'a> {
         ensures left { OnOk result (self.new.left ≡ self.old.left) }
         ensures shorter { OnOk result (length self.new.rest.now < length self.old.rest.now) }
     {
-        if !self.next_is(Kind::LeftParenthesis) {
-            return Err(Refused::Token(Reason::Unexpected));
-        }
-        if self.left == 0 {
-            return Err(Refused::Token(Reason::TooDeep));
-        }
-        self.left -= 1;
+        let is_next = self.next_is(Kind::LeftParenthesis);
+        self.open(is_next)?;
         let inside = self.in_enclosed()?;
-        self.left += 1;
+        self.close();
         Ok(inside)
     }
 
@@ -451,15 +441,10 @@ impl<'a> Parser<'a> {
         ensures left { OnOk result (self.new.left ≡ self.old.left) }
         ensures shorter { OnOk result (length self.new.rest.now < length self.old.rest.now) }
     {
-        if !self.next_is(Kind::LeftParenthesis) {
-            return Err(Refused::Token(Reason::Unexpected));
-        }
-        if self.left == 0 {
-            return Err(Refused::Token(Reason::TooDeep));
-        }
-        self.left -= 1;
+        let is_next = self.next_is(Kind::LeftParenthesis);
+        self.open(is_next)?;
         let inside = self.in_arguments()?;
-        self.left += 1;
+        self.close();
         Ok(inside)
     }
 

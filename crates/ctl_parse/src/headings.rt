@@ -9,7 +9,7 @@ ghost use Rattle.ctl_parse.specs.View.{mode_code, formal_node, specification_nod
 
 use crate::cursor::Parser;
 use crate::operators::{bare_name, is_bare_name};
-use ctl_grammar::refused::{Reason, Refused};
+use ctl_grammar::refused::Refused;
 use ctl_tree::token::Kind;
 use ctl_tree::tree::{Association, Dotted, Expression, Formal, Identifier, Mode, Specification};
 
@@ -109,15 +109,10 @@ impl<'a> Parser<'a> {
         ensures left { OnOk result (self.new.left ≡ self.old.left) }
         ensures shorter { OnOk result (length self.new.rest.now < length self.old.rest.now) }
     {
-        if !self.next_is(Kind::LeftParenthesis) {
-            return Err(Refused::Token(Reason::Unexpected));
-        }
-        if self.left == 0 {
-            return Err(Refused::Token(Reason::TooDeep));
-        }
-        self.left -= 1;
+        let is_next = self.next_is(Kind::LeftParenthesis);
+        self.open(is_next)?;
         let inside = self.in_formals()?;
-        self.left += 1;
+        self.close();
         Ok(inside)
     }
 
@@ -256,15 +251,10 @@ impl<'a> Parser<'a> {
         ensures left { OnOk result (self.new.left ≡ self.old.left) }
         ensures shorter { OnOk result (length self.new.rest.now < length self.old.rest.now) }
     {
-        if !self.next_is(Kind::LeftParenthesis) {
-            return Err(Refused::Token(Reason::Unexpected));
-        }
-        if self.left == 0 {
-            return Err(Refused::Token(Reason::TooDeep));
-        }
-        self.left -= 1;
+        let is_next = self.next_is(Kind::LeftParenthesis);
+        self.open(is_next)?;
         let inside = self.in_associations()?;
-        self.left += 1;
+        self.close();
         Ok(inside)
     }
 

@@ -52,6 +52,14 @@ impl<'a> Parser<'a> {
         }
     }
 
+    /// Whether the words of a logical operator are next, by the first of them.
+    #[tactic(auto, unfolding(ctl_grammar::specs::Grammar::joiner))]
+    pub(crate) fn at_joiner(&self, operator: LogicalOperator) -> bool
+        ensures { result ≡ begins (starts (joiner operator)) self.now.rest.now }
+    {
+        self.next_is(first_word(operator))
+    }
+
     /// A relational operator (RM 4.5.2).
     #[tactic(auto, unfolding(ctl_grammar::specs::Grammar::relational))]
     pub(crate) fn relational(&mut self) -> Result<RelationalOperator, Refused>
@@ -418,7 +426,7 @@ impl<'a> Parser<'a> {
 }
 
 /// The word by which a logical operator begins.
-pub(crate) fn first_word(operator: LogicalOperator) -> Kind
+fn first_word(operator: LogicalOperator) -> Kind
     ensures { result ≡ first_word operator }
 {
     match operator {

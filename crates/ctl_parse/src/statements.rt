@@ -9,7 +9,7 @@ ghost use Rattle.ctl_parse.specs.View.{identifier_node, flag_node, specification
 
 use crate::cursor::Parser;
 use crate::depth::Heading;
-use ctl_grammar::refused::{Reason, Refused};
+use ctl_grammar::refused::Refused;
 use ctl_tree::span::Span;
 use ctl_tree::token::Kind;
 use ctl_tree::tree::{
@@ -71,15 +71,10 @@ impl<'a> Parser<'a> {
         ensures left { OnOk result (self.new.left ≡ self.old.left) }
         ensures shorter { OnOk result (length self.new.rest.now < length self.old.rest.now) }
     {
-        if !self.next_is(Kind::If) {
-            return Err(Refused::Token(Reason::Unexpected));
-        }
-        if self.left == 0 {
-            return Err(Refused::Token(Reason::TooDeep));
-        }
-        self.left -= 1;
+        let is_next = self.next_is(Kind::If);
+        self.open(is_next)?;
         let inside = self.in_conditional()?;
-        self.left += 1;
+        self.close();
         Ok(inside)
     }
 
@@ -172,15 +167,10 @@ impl<'a> Parser<'a> {
         ensures left { OnOk result (self.new.left ≡ self.old.left) }
         ensures shorter { OnOk result (length self.new.rest.now < length self.old.rest.now) }
     {
-        if !self.at_repetition() {
-            return Err(Refused::Token(Reason::Unexpected));
-        }
-        if self.left == 0 {
-            return Err(Refused::Token(Reason::TooDeep));
-        }
-        self.left -= 1;
+        let is_next = self.at_repetition();
+        self.open(is_next)?;
         let inside = self.in_repetition()?;
-        self.left += 1;
+        self.close();
         Ok(inside)
     }
 
@@ -211,15 +201,10 @@ impl<'a> Parser<'a> {
         ensures left { OnOk result (self.new.left ≡ self.old.left) }
         ensures shorter { OnOk result (length self.new.rest.now < length self.old.rest.now) }
     {
-        if !self.at_block() {
-            return Err(Refused::Token(Reason::Unexpected));
-        }
-        if self.left == 0 {
-            return Err(Refused::Token(Reason::TooDeep));
-        }
-        self.left -= 1;
+        let is_next = self.at_block();
+        self.open(is_next)?;
         let inside = self.in_block()?;
-        self.left += 1;
+        self.close();
         Ok(inside)
     }
 
@@ -481,15 +466,10 @@ impl<'a> Parser<'a> {
         ensures left { OnOk result (self.new.left ≡ self.old.left) }
         ensures shorter { OnOk result (length self.new.rest.now < length self.old.rest.now) }
     {
-        if !self.next_is(Kind::Is) {
-            return Err(Refused::Token(Reason::Unexpected));
-        }
-        if self.left == 0 {
-            return Err(Refused::Token(Reason::TooDeep));
-        }
-        self.left -= 1;
+        let is_next = self.next_is(Kind::Is);
+        self.open(is_next)?;
         let inside = self.in_body(name)?;
-        self.left += 1;
+        self.close();
         Ok(inside)
     }
 
@@ -513,15 +493,10 @@ impl<'a> Parser<'a> {
         ensures left { OnOk result (self.new.left ≡ self.old.left) }
         ensures shorter { OnOk result (length self.new.rest.now < length self.old.rest.now) }
     {
-        if !self.at_bare_body() {
-            return Err(Refused::Token(Reason::Unexpected));
-        }
-        if self.left == 0 {
-            return Err(Refused::Token(Reason::TooDeep));
-        }
-        self.left -= 1;
+        let is_next = self.at_bare_body();
+        self.open(is_next)?;
         let inside = self.in_bare_body(name)?;
-        self.left += 1;
+        self.close();
         Ok(inside)
     }
 

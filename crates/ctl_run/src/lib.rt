@@ -1,4 +1,6 @@
 //! From a source text to what its run shows.
 #![tactic(auto)]
 
+pub mod laws;
 pub mod run;
+pub mod tree;

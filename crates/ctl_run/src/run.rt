@@ -5,14 +5,14 @@ ghost use Rattle.ctl_tree.specs.declared.fault.Fault.{Fault};
 ghost use Rattle.ctl_lexis.specs.Lexis.{HasFault};
 ghost use Rattle.ctl_lex.specs.Memory.{IsMemory};
 ghost use Rattle.ctl_run.specs.Headline.{Accepts, RunsSource};
+ghost use Rattle.ctl_run.specs.Source.{HasFirstFault};
 
+use crate::tree::tree_of;
 use ctl_check::check::check;
 use ctl_gen::admits::admits;
 use ctl_gen::generate::generate;
-use ctl_lex::tokens;
 use ctl_machine::machine::Machine;
 use ctl_machine::outcome::Outcome;
-use ctl_parse::parse;
 use ctl_slice::slice::left_out;
 use ctl_tree::checked::Checked;
 use ctl_tree::fault::{Fault, FaultCode};
@@ -24,10 +24,11 @@ use std::alloc::Global;
 pub fn check_source(alloc: Global, source: &[u8]) -> Result<Checked, Fault>
     // A text with a lexical fault is refused with it.
     ensures lexical { (fault : Fault) → HasFault source.now fault → MatchResult result (λ _. ⊥) (λ f. (f ≡ fault) ⊎ IsMemory f) }
+    // A text that spells no tree is refused with its first fault, of lexis or of grammar.
+    ensures grammatical { (fault : Fault) → HasFirstFault source.now fault → MatchResult result (λ _. ⊥) (λ f. (f ≡ fault) ⊎ IsMemory f) }
     ensures accepted { IfOk result (λ program. Accepts source.now program) }
 {
-    let tokens = tokens(alloc, source)?;
-    let tree = parse(alloc, &tokens)?;
+    let tree = tree_of(alloc, source)?;
     if let Some(fault) = left_out(&tree) {
         return Err(fault);
     }

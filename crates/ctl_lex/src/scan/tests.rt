@@ -270,6 +270,9 @@ fn contents(rt: HostRuntime) -> Result<(), Fail> {
     assert_eq!(rt; found[2].value, 999_999_999_999_999_999);
     assert_eq!(rt; found[3].value, 0);
     assert_eq!(rt; found[4].kind, Kind::DoubleDot);
+    // a point with another one behind it is none of the number's
+    let range = tokens(rt.alloc(), b"1..2")?;
+    assert_eq!(rt; range.len(), 4);
     Ok(())
 }
 

@@ -1,0 +1,18 @@
+//! The laws of texts: a text has exactly one answer. The functions do nothing; their contracts say the laws.
+
+ghost use Rattle.ctl_run.specs.Source.{SpellsOneTree, TreeOrFault, OneOfBoth};
+
+/// A text spells at most one tree.
+pub fn a_text_spells_one_tree()
+    ensures { SpellsOneTree }
+{}
+
+/// A text spells a tree, or it has a first fault of its lexis or its grammar.
+pub fn tree_or_first_fault()
+    ensures { TreeOrFault }
+{}
+
+/// A text that has a first fault spells no tree, and has no other first fault.
+pub fn one_tree_or_one_fault()
+    ensures { OneOfBoth }
+{}
