@@ -10,6 +10,9 @@ import tempfile
 
 from answers import answer, tell
 
+# in place of the number of a fault
+ACCEPTED = 0
+
 UNUSED_WORDS = """abort abstract accept array at body case delay delta digits do entry generic goto interface of package pragma
 private protected range renames requeue select separate some subtype synchronized task terminate until""".split()
 
@@ -73,10 +76,12 @@ TEXTS = [
     # the hundredth pair of parentheses is too deep, as the body of Main is open too; with one less the grammar takes the text, and
     # this version leaves out its first item
     (NESTED.format("(" * 100, ")" * 100), 11, 1, 142),
-    (NESTED.format("(" * 99, ")" * 99), 12, 1, 19),
+    (NESTED.format("(" * 99, ")" * 99), ACCEPTED, 0, 0),
     ("procedure Main is A, B, C : Boolean; begin A := A and B or C; end Main;", 10, 1, 57),
     ("procedure Main is A, B, C : Boolean; begin A := A or B and C; end Main;", 10, 1, 56),
     ("procedure Main is begin A := B and then C and D; end Main;", 10, 1, 47),
+    # two points behind a number are none of it
+    ("procedure Main is begin for I in 1..2 loop null; end loop; end Main;", ACCEPTED, 0, 0),
     ("procedure Main is begin null; end Main", 10, 1, 39),
     ("procedure Main is begin null end Main;", 10, 1, 30),
     ("procedure Main is begin null; end Main; null;", 10, 1, 41),
@@ -114,7 +119,7 @@ def complaints(adactl):
             with open(path, "wb") as file:
                 file.write(text.encode("latin-1"))
             status, said = answer(adactl, path)
-            is_so = status == 2 and said.startswith(f"adactl: {line}:{column}: {code} ")
+            is_so = status == 0 if code == ACCEPTED else status == 2 and said.startswith(f"adactl: {line}:{column}: {code} ")
             yield None if is_so else f"{text[:60]!r}: {status} {said!r}, not {line}:{column}: {code}"
 
 

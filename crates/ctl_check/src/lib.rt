@@ -3,7 +3,20 @@
 //! A text that breaks a rule of legality is refused with TYPE at its beginning; which rule it breaks, and where, is not told yet.
 #![tactic(auto)]
 
+mod bodies;
 pub mod check;
+mod checker;
+mod declarations;
+mod expressions;
 mod library;
+mod loops;
+mod names;
+mod objects;
+mod operators;
+mod output;
 mod part;
+mod refusal;
 mod scope;
+mod statements;
+mod texts;
+mod types;

@@ -1,7 +1,6 @@
 //! The library units, and which of them a text brings into view (RM 10.1.2, 8.4).
 
-use crate::check::illegal;
-use ctl_tree::fault::Fault;
+use crate::refusal::Refusal;
 use ctl_tree::tree::{Context, ContextKind, Dotted, Identifier};
 use std::alloc::Global;
 
@@ -101,7 +100,7 @@ pub struct Library {
 
 impl Library {
     /// The units of these clauses. The whole context counts, so a use clause may stand before the with clause.
-    pub fn of_context(alloc: Global, contexts: &[Context]) -> Result<Library, Fault> {
+    pub fn of_context(alloc: Global, contexts: &[Context]) -> Result<Library, Refusal> {
         let mut library = Library {
             withed: Vec::new(alloc),
             used: Vec::new(alloc),
@@ -112,26 +111,26 @@ impl Library {
         if library.used.iter().all(|unit| library.is_withed(*unit)) {
             Ok(library)
         } else {
-            Err(illegal())
+            Err(Refusal::Illegal)
         }
     }
 
-    fn add_clause(&mut self, context: &Context) -> Result<(), Fault> {
+    fn add_clause(&mut self, context: &Context) -> Result<(), Refusal> {
         for name in &context.units {
             let Some(unit) = unit_of(name) else {
-                return Err(illegal());
+                return Err(Refusal::Illegal);
             };
             match context.kind {
                 ContextKind::With => self.add_with(unit)?,
                 ContextKind::Use if unit.is_package() => add(&mut self.used, unit)?,
-                ContextKind::Use => return Err(illegal()),
+                ContextKind::Use => return Err(Refusal::Illegal),
             }
         }
         Ok(())
     }
 
     /// A child brings its parents (RM 10.1.2).
-    fn add_with(&mut self, unit: Unit) -> Result<(), Fault> {
+    fn add_with(&mut self, unit: Unit) -> Result<(), Refusal> {
         add(&mut self.withed, unit)?;
         if let Some(parent) = unit.parent() {
             add(&mut self.withed, parent)?;
@@ -169,7 +168,7 @@ impl Library {
 }
 
 /// Adds a unit that is not there yet.
-fn add(units: &mut Vec<Unit>, unit: Unit) -> Result<(), Fault> {
+fn add(units: &mut Vec<Unit>, unit: Unit) -> Result<(), Refusal> {
     if !units.contains(&unit) {
         units.push(unit)?;
     }

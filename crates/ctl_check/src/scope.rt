@@ -1,22 +1,33 @@
 //! The names that the text declares, as they come into view and go out of it (RM 8.2, 8.3).
 
-use crate::check::illegal;
-use ctl_tree::fault::Fault;
+use crate::refusal::Refusal;
+use ctl_tree::checked::{Ty, Var};
 use ctl_tree::tree::Identifier;
 use indexmap::IndexMap;
 use std::alloc::{AllocError, Global};
 
+/// An object in view.
+#[derive(Clone, Copy)]
+pub struct Object {
+    pub var: Var,
+    pub ty: Ty,
+    /// whether it may be assigned to: no constant, and no loop parameter (RM 3.3)
+    pub is_variable: bool,
+}
+
 /// What a name denotes.
-#[derive(Clone, Copy, Debug, PartialEq, Eq)]
+#[derive(Clone, Copy)]
 pub enum Entity {
     /// a record type, by its number
     Type(usize),
-    Object,
+    Object(Object),
     Procedure,
+    /// nothing yet: until its declaration ends a name only hides all others that are spelled so (RM 8.3)
+    Unfinished,
 }
 
 /// A declaration in view, and how many parts were open where it stands.
-#[derive(Clone, Copy, Debug, PartialEq, Eq)]
+#[derive(Clone, Copy)]
 pub struct Declared {
     pub part: usize,
     pub entity: Entity,
@@ -73,19 +84,31 @@ impl Scope {
     }
 
     /// Declares a name in the innermost part, which must not declare it yet (RM 8.3).
-    pub fn declare(&mut self, name: &Identifier, entity: Entity) -> Result<(), Fault> {
+    pub fn declare(&mut self, name: &Identifier, entity: Entity) -> Result<(), Refusal> {
         let part = self.parts.len();
         let key = folded(self.alloc, name)?;
         let index = self.index_of(key)?;
         let Some(declared) = self.by_name.get_index_mut(index) else {
-            return Err(illegal());
+            return Err(Refusal::Illegal);
         };
         if declared.last().is_some_and(|last| last.part == part) {
-            return Err(illegal());
+            return Err(Refusal::Illegal);
         }
         declared.push(Declared { part, entity })?;
         if let Some(names) = self.parts.last_mut() {
             names.push(index)?;
+        }
+        Ok(())
+    }
+
+    /// The declaration of this name that was entered last ends here, and the name denotes this from here on.
+    pub fn finish(&mut self, name: &Identifier, entity: Entity) -> Result<(), AllocError> {
+        let key = folded(self.alloc, name)?;
+        let index = self.index_of(key)?;
+        if let Some(declared) = self.by_name.get_index_mut(index)
+            && let Some(last) = declared.last_mut()
+        {
+            last.entity = entity;
         }
         Ok(())
     }

@@ -1,20 +1,17 @@
 -- What was looked through is in the slice.
 use Rattle.std.proofs.Common.{◌≡◌, ℕ, zero, suc, ◌<◌, List, [], ◌∷◌, Some, length, refl, sym, ap, ◌∙◌, subst, arith, slice_get, false}
-use Rattle.ctl_tree.specs.declared.checked.Stmt.{Row_of-Stmt, end_of-Stmt, more_of-Stmt, items-the_row-Stmt, items_shown-the_row-Stmt-0}
+use Rattle.ctl_tree.specs.declared.checked.Stmt.{items_shown-the_row-Stmt-0}
 use Rattle.ctl_tree.specs.declared.checked.Master.{Master, Master', Row_of-Handler, end_of-Handler, more_of-Handler, items-the_row-Handler, items_shown-the_row-Handler-2, out-Master}
 use Rattle.ctl_tree.specs.declared.checked.Subprogram.{Subprogram}
 use Rattle.ctl_meaning.specs.Types.{Tables}
-use Rattle.ctl_gen.specs.Slice.{BodiesInSlice, ItemsInSlice, MasterInSlice, NoHandlers, RowInSlice, RowsInSlice}
+use Rattle.ctl_gen.specs.Slice.{BodiesInSlice, ItemsInSlice, MasterInSlice, NoHandlers, RowsInSlice}
+use Rattle.ctl_gen.proofs.AdmittedParts.{row_in_slice, rows_of_row}
 
 -- what a place in a list has
 pub item_there : {A : Type 0} (xs : List A) (n : ℕ) → n < length xs → (x : A) × (slice_get xs n ≡ Some x)
 item_there [] n h = absurd (omega arith)
 item_there (x ∷ xs) zero h = (x, refl)
 item_there (x ∷ xs) (suc n) h = item_there xs n (omega arith)
-
-row_in_slice : (k : Tables) (m : _) (row : Row_of-Stmt m) → RowsInSlice k (items-the_row-Stmt m row) → RowInSlice k row
-row_in_slice k m end_of-Stmt h = tt
-row_in_slice k m (more_of-Stmt s rest) h = (h.0, row_in_slice k _ rest h.1)
 
 no_handlers : (m : _) (row : Row_of-Handler m) → items-the_row-Handler m row ≡ [] → NoHandlers row
 no_handlers m end_of-Handler h = tt
@@ -41,10 +38,6 @@ pub inside : {A : Type 0} (xs : List A) (n : ℕ) (x : A) → slice_get xs n ≡
 inside [] n x e = absurd (cc)
 inside (y ∷ xs) zero x e = omega arith
 inside (y ∷ xs) (suc n) x e = let h = inside xs n x e in omega (arith, h)
-
-rows_of_row : (k : Tables) (m : _) (row : Row_of-Stmt m) → RowInSlice k row → RowsInSlice k (items-the_row-Stmt m row)
-rows_of_row k m end_of-Stmt h = tt
-rows_of_row k m (more_of-Stmt s rest) h = (h.0, rows_of_row k _ rest h.1)
 
 empty_handlers : (m : _) (row : Row_of-Handler m) → NoHandlers row → items-the_row-Handler m row ≡ []
 empty_handlers m end_of-Handler h = refl

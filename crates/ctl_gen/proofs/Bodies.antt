@@ -52,7 +52,7 @@ module _ (ask : Ask) (k : Tables) (code : Code) (setting : Setting k code) (bodi
     where
       on : (r : Result Done) → Runs ask code (Fits k) 0 0 (record { mode = Giving (behind_body r); control = ks; operands = ops; world = w; log = l }) c (returns ks ops) (returned false x.slots r c l w)
       on (Goes a) = no_step ask code (Fits k) 0 0 _ c 0 (returns {A = Returned} ks ops) (Goes (record { cells = []; slots = x.slots })) l w fits refl
-      on (Leaves ByExit) = no_step ask code (Fits k) 0 0 _ c 0 (returns {A = Returned} ks ops) (Leaves ByExit) l w fits refl
+      on (Leaves ByExit) = no_step ask code (Fits k) 0 0 _ c 0 (returns {A = Returned} ks ops) (Goes (record { cells = []; slots = x.slots })) l w fits refl
       on (Leaves (ByReturn v)) = no_step ask code (Fits k) 0 0 _ c 0 (returns {A = Returned} ks ops) (Goes (record { cells = v; slots = x.slots })) l w fits refl
       on (Leaves (ByRaise e)) = no_step ask code (Fits k) 0 0 _ c 0 (returns {A = Returned} ks ops) (Leaves (ByRaise e)) l w fits refl
 

@@ -37,6 +37,13 @@ finalized n o = add 0 (bind (add 1 (bind (bind (bind (bind (add 0 o) (on_goes (�
 abbrev unwritten : ℕ → Out Done → Out Bool
 unwritten n o = add 0 (bind (add 1 (bind (bind (bind o told) (on_goes (after_finalize Scope))) (on_goes (λ b. done b)))) (on_goes (λ b. change (end_finalization n) >> done b)))
 
+-- an object that is no pool
+pub pool_closed : (k : Tables) (K : Tools) (n c : ℕ) (l : Log) (w : World) → Fits k w → close_pool K n c l w ≡ Gives (Goes false) 0 c l w
+unfolding opened_storage opened_outcome opened_pools opened_lists
+pool_closed k K n c l w fits =
+    ap (λ ps. on_some (first_with (λ p. nat_eq p.object n) ps) (on_some (first_with (λ p. nat_eq p.object n) w.pools.block_pools) (done false) (λ p. shut_pool n >> done false)) (λ p. release_each K p.marks false >>= (λ b. shut_pool n >> done b)) c l w) fits.mark_pools
+    ∙ ap (λ ps. on_some (first_with (λ p. nat_eq p.object n) ps) (done false) (λ p. shut_pool n >> done false) c l w) fits.block_pools
+
 module _ (ask : Ask) (k : Tables) (code : Code) (setting : Setting k code) (call : Call) (t : ℕ) (r : RecordType) (here : slice_get k.records t ≡ Some r) (plain : IsPlain k.subprograms r) where
   abbrev K : Tools
   K = tools_with ask k call
@@ -100,12 +107,6 @@ module _ (ask : Ask) (k : Tables) (code : Code) (setting : Setting k code) (call
         there None at = subst goal (sym (ap (λ x. bind (bind (on_some x gone (λ _. nothing) c l w) (on_goes (λ _. change (begin_finalization n)))) (on_goes (λ _. finalize K Scope Every (whole n) t >>= (λ b. change (end_finalization n) >> done b)))) at)) (stop_step ask code (Fits k) 3 3 s0 _ c 0 (gives ks ops) UseAfterFree l (omega arith) (first ∙ ap (λ x. moved l (begin_object code (record { number = n; ty = Record t }) x ks ops w)) at) refl refl)
         there (Some o) at = subst goal (sym (object_is (operation (λ x. x.finalize) k t) refl n c l w o at)) (still (operation (λ x. x.finalize) k t) (object_at n w1) refl refl (first ∙ ap (λ x. moved l (begin_object code (record { number = n; ty = Record t }) x ks ops w)) at ∙ ap (λ g. begun g (object_at n w1)) (setting.finalize t)))
 
-    closed : (n : ℕ) (c : ℕ) (l : Log) (w : World) → Fits k w → close_pool K n c l w ≡ Gives (Goes false) 0 c l w
-    unfolding opened_storage opened_outcome opened_pools opened_lists
-    closed n c l w fits =
-        ap (λ ps. on_some (first_with (λ p. nat_eq p.object n) ps) (on_some (first_with (λ p. nat_eq p.object n) w.pools.block_pools) (done false) (λ p. shut_pool n >> done false)) (λ p. release_each K p.marks false >>= (λ b. shut_pool n >> done b)) c l w) fits.mark_pools
-        ∙ ap (λ ps. on_some (first_with (λ p. nat_eq p.object n) ps) (done false) (λ p. shut_pool n >> done false) c l w) fits.block_pools
-
     -- a layer, from the step that begins with it
     pub declared_runs : (n : ℕ) (ks : List Frame) (ops : List ℕ) (c : ℕ) (l : Log) (w : World) (s0 : State) → c ≤ bound → Fits k w → step ask code s0 ≡ moved l (begin_object code (record { number = n; ty = Record t }) (object_at n w) ks ops w) → Runs ask code (Fits k) 3 3 s0 c (gives ks ops) (finalize_declared K (record { number = n; ty = Record t }) c l w)
     unfolding opened_outcome opened_masters opened_finalization
@@ -121,5 +122,5 @@ module _ (ask : Ask) (k : Tables) (code : Code) (setting : Setting k code) (call
         joined false c1 l1 w1 fits1 = no_step ask code (Fits k) 0 0 _ c1 0 (gives ks ops) (Goes false) l1 w1 fits1 refl
 
         after : (a : Result Bool) (c1 : ℕ) (l1 : Log) (w1 : World) → c1 ≤ c → Fits k w1 → Runs ask code (Fits k) 0 0 (gives ks ops a l1 w1) c1 (gives ks ops) (on_goes (λ a. close_pool K n >>= (λ b1. done (a || b1))) a c1 l1 w1)
-        after (Goes a) c1 l1 w1 lo fits1 = subst (λ o. Runs ask code (Fits k) 0 0 (gives ks ops (Goes a) l1 w1) c1 (gives ks ops) (bind o (on_goes (λ b1. done (a || b1))))) (sym (closed n c1 l1 w1 fits1)) (joined a c1 l1 w1 fits1)
+        after (Goes a) c1 l1 w1 lo fits1 = subst (λ o. Runs ask code (Fits k) 0 0 (gives ks ops (Goes a) l1 w1) c1 (gives ks ops) (bind o (on_goes (λ b1. done (a || b1))))) (sym (pool_closed k K n c1 l1 w1 fits1)) (joined a c1 l1 w1 fits1)
         after (Leaves y) c1 l1 w1 lo fits1 = no_step ask code (Fits k) 0 0 _ c1 0 (gives ks ops) (Leaves y) l1 w1 fits1 refl

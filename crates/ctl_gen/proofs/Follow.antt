@@ -94,7 +94,7 @@ module _ (ask : Ask) (code : Code) (Fits : World → Type 0) where
       }
 
   -- after a stretch that has come to its end
-  after_comes : {A : Type 0} (b b1 h1 d e : ℕ) (s s1 : State) (c c1 t : ℕ) (w1 : World) (next : Result A → Log → World → State) (o : Out A) → b + b1 ≤ d → b + h1 ≤ e → Comes b s c t c1 s1 w1 → Runs b1 h1 s1 c1 next o → Runs d e s c next (add t o)
+  pub after_comes : {A : Type 0} (b b1 h1 d e : ℕ) (s s1 : State) (c c1 t : ℕ) (w1 : World) (next : Result A → Log → World → State) (o : Out A) → b + b1 ≤ d → b + h1 ≤ e → Comes b s c t c1 s1 w1 → Runs b1 h1 s1 c1 next o → Runs d e s c next (add t o)
   unfolding add
   after_comes b b1 h1 d e s s1 c c1 t w1 next (Gives r u c2 l w) le he a z = later_comes a.n b1 d s s1 (next r l w) c c1 c2 u (t + u) w a.comes a.falls a.enough (omega (arith, a.in_time, le)) z
   after_comes b b1 h1 d e s s1 c c1 t w1 next (Stops why u l) le he a z = later_quits a.n h1 e s s1 u (t + u) l why a.comes (omega (arith, a.in_time, he)) z
@@ -158,6 +158,21 @@ module _ (ask : Ask) (code : Code) (Fits : World → Type 0) where
   arriving b h s c mid next (Stops why t l) same a = a
   arriving b h s c mid next (Cut t c1 l) same a = a
 
+  -- a few steps more that the meaning does not speak of
+  pub further : {A : Type 0} (b h d e j : ℕ) (s : State) (c : ℕ) (mid next : Result A → Log → World → State) (o : Out A) → b + j ≤ d → h ≤ e → Runs b h s c mid o → ((r : Result A) (l : Log) (w : World) → (i : ℕ) × (i ≤ j) × (steps ask code i (mid r l w) ≡ next r l w)) → Runs d e s c next o
+  further b h d e j s c mid next (Gives r t c1 l w) le he a z =
+      let x = z r l w in
+      record { n = x.0 + a.n; falls = a.falls; enough = omega (arith, a.enough); in_time = omega (arith, a.in_time, x.1, le); comes = steps_add x.0 a.n s ∙ ap (steps ask code x.0) a.comes ∙ x.2; fits = a.fits }
+  further b h d e j s c mid next (Stops why t l) le he a z = record { n = a.n; in_time = omega (arith, a.in_time, he); logged = a.logged; over = a.over }
+  further b h d e j s c mid next (Cut t c1 l) le he a z = record { n = a.n; in_time = omega (arith, a.in_time, he); logged = a.logged; going = a.going; why = a.why }
+
+  -- a construct that is left is a tick, which pays 64 steps
+  pub left_behind : {A : Type 0} (b h d e : ℕ) (s : State) (c : ℕ) (next : Result A → Log → World → State) (o : Out A) → b ≤ 64 + d → h ≤ e → Runs b h s c next o → Runs d e s c next (bind o (λ r c1 l1 w1. Gives r 1 c1 l1 w1))
+  unfolding bind add
+  left_behind b h d e s c next (Gives r t c1 l w) le he a = record { n = a.n; falls = a.falls; enough = a.enough; in_time = omega (arith, a.in_time, le); comes = a.comes; fits = a.fits }
+  left_behind b h d e s c next (Stops why t l) le he a = record { n = a.n; in_time = omega (arith, a.in_time, he); logged = a.logged; over = a.over }
+  left_behind b h d e s c next (Cut t c1 l) le he a = record { n = a.n; in_time = omega (arith, a.in_time, he); logged = a.logged; going = a.going; why = a.why }
+
   -- statements one after another, where the first may leave
   pub in_row : (b h b1 h1 d e : ℕ) (s : State) (c : ℕ) (v : List ℕ) (place place1 : ℕ) (k : List Frame) (ops : List ℕ) (o : Out Done) (f : Act Done) → b + b1 ≤ d → h ≤ e → b + h1 ≤ e → Runs b h s c (arrives v place k ops) o → ((c1 : ℕ) (l : Log) (w : World) → c1 ≤ c → Fits w → Runs b1 h1 (at v place k ops l w) c1 (arrives v place1 k ops) (f c1 l w)) → Runs d e s c (arrives v place1 k ops) (bind o (on_goes (λ _. f)))
   unfolding on_goes given
@@ -197,7 +212,7 @@ add_add t u (Gives r v c l w) = let e : t + u + v ≡ t + (u + v) = omega arith 
 add_add t u (Stops why v l) = let e : t + u + v ≡ t + (u + v) = omega arith in ap (λ n. Stops why n l) e
 add_add t u (Cut v c l) = let e : t + u + v ≡ t + (u + v) = omega arith in ap (λ n. Cut n c l) e
 
-bind_add : {A B : Type 0} (t : ℕ) (o : Out A) (g : Result A → Act B) → bind (add t o) g ≡ add t (bind o g)
+pub bind_add : {A B : Type 0} (t : ℕ) (o : Out A) (g : Result A → Act B) → bind (add t o) g ≡ add t (bind o g)
 unfolding add bind
 bind_add t (Gives r u c l w) g = add_add t u (g r c l w)
 bind_add t (Stops why u l) g = refl

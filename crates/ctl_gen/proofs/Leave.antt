@@ -17,11 +17,12 @@ use Rattle.ctl_code.specs.declared.code.Code.{Code}
 use Rattle.ctl_code.specs.States.{After, Frame, InMaster, Leaving, State}
 use Rattle.ctl_code.specs.Table.{behind, next_layer, cut_back}
 use Rattle.ctl_code.specs.Steps.{moved, step}
-use Rattle.ctl_gen.specs.Slice.{IsPlainType}
+use Rattle.ctl_gen.specs.Slice.{IsKnownType}
 use Rattle.ctl_gen.proofs.Worlds.{Fits, LayersFit, layers_fit, fits_close}
 use Rattle.ctl_gen.proofs.Setting.{Setting, tools_with, flagged, Calls}
 use Rattle.ctl_gen.proofs.Finalize.{declared_runs}
-use Rattle.ctl_gen.proofs.Follow.{Runs, gives, both, added, one_step, end_step, bind_bind}
+use Rattle.ctl_gen.proofs.Scalars.{scalar_end}
+use Rattle.ctl_gen.proofs.Follow.{Runs, gives, both, added, one_step, last_step, end_step, bind_bind}
 
 -- where the end of a master leads
 abbrev pub leaves : After → List Frame → List ℕ → Result Left → Log → World → State
@@ -50,22 +51,25 @@ module _ (ask : Ask) (k : Tables) (code : Code) (setting : Setting k code) (call
       mid : Result Bool → Log → World → State
       mid = gives (Leaving m xs failed r after ∷ ks) ops
 
-      layer : (n : ℕ) (ty : Ty) → IsPlainType k ty → step ask code s0 ≡ moved l (next_layer code m (Single (record { number = n; ty = ty }) ∷ xs) failed r after ks ops w) → ((b : Bool) (c1 : ℕ) (l1 : Log) (w1 : World) → c1 ≤ c → Fits k w1 → Runs ask code (Fits k) 1 1 (gives (Leaving m xs failed r after ∷ ks) ops (Goes b) l1 w1) c1 (leaves after ks ops) (bind (leave_layers K xs (failed || b) c1 l1 w1) (on_goes (left m r)))) → Runs ask code (Fits k) 1 1 s0 c (leaves after ks ops) (bind (bind (add 1 (finalize_declared K (record { number = n; ty = ty }) c l w)) (on_goes (λ b. leave_layers K xs (failed || b)))) (on_goes (left m r)))
-      layer n (Record t) known1 begins more =
-          subst (λ o. Runs ask code (Fits k) 1 1 s0 c (leaves after ks ops) o) (sym (bind_bind (add 1 (finalize_declared K (record { number = n; ty = Record t }) c l w)) (on_goes (λ b. leave_layers K xs (failed || b))) (on_goes (left m r))))
+      one_layer : (n : ℕ) (ty : Ty) → IsKnownType k ty → step ask code s0 ≡ moved l (next_layer code m (Single (record { number = n; ty = ty }) ∷ xs) failed r after ks ops w) → Runs ask code (Fits k) 0 0 s0 c mid (add 1 (finalize_declared K (record { number = n; ty = ty }) c l w))
+      one_layer n (Record t) known1 begins = added ask code (Fits k) 1 3 3 0 0 s0 c mid _ (omega arith) (omega arith) (declared_runs ask k code setting call t known1.0 known1.1 known1.2 bound calls n (Leaving m xs failed r after ∷ ks) ops c l w s0 le fits begins)
+      one_layer n Integer known1 begins = subst (λ o. Runs ask code (Fits k) 0 0 s0 c mid (add 1 o)) (sym (scalar_end ask k code call bound n Integer tt c l w fits)) (last_step ask code (Fits k) 0 0 s0 c 1 mid (Goes false) l w (omega arith) fits begins)
+      one_layer n Boolean known1 begins = subst (λ o. Runs ask code (Fits k) 0 0 s0 c mid (add 1 o)) (sym (scalar_end ask k code call bound n Boolean tt c l w fits)) (last_step ask code (Fits k) 0 0 s0 c 1 mid (Goes false) l w (omega arith) fits begins)
+      one_layer n Count known1 begins = absurd known1
+      one_layer n Address known1 begins = absurd known1
+      one_layer n Handle known1 begins = absurd known1
+      one_layer n (Access a) known1 begins = absurd known1
+
+      layer : (n : ℕ) (ty : Ty) → IsKnownType k ty → step ask code s0 ≡ moved l (next_layer code m (Single (record { number = n; ty = ty }) ∷ xs) failed r after ks ops w) → ((b : Bool) (c1 : ℕ) (l1 : Log) (w1 : World) → c1 ≤ c → Fits k w1 → Runs ask code (Fits k) 1 1 (gives (Leaving m xs failed r after ∷ ks) ops (Goes b) l1 w1) c1 (leaves after ks ops) (bind (leave_layers K xs (failed || b) c1 l1 w1) (on_goes (left m r)))) → Runs ask code (Fits k) 1 1 s0 c (leaves after ks ops) (bind (bind (add 1 (finalize_declared K (record { number = n; ty = ty }) c l w)) (on_goes (λ b. leave_layers K xs (failed || b)))) (on_goes (left m r)))
+      layer n ty known1 begins more =
+          subst (λ o. Runs ask code (Fits k) 1 1 s0 c (leaves after ks ops) o) (sym (bind_bind (add 1 (finalize_declared K (record { number = n; ty = ty }) c l w)) (on_goes (λ b. leave_layers K xs (failed || b))) (on_goes (left m r))))
           (both ask code (Fits k) 0 0 1 1 1 1 s0 c mid (leaves after ks ops) _ (rest m xs r failed) (omega arith) (omega arith) (omega arith)
-          (added ask code (Fits k) 1 3 3 0 0 s0 c mid _ (omega arith) (omega arith) (declared_runs ask k code setting call t known1.0 known1.1 known1.2 bound calls n (Leaving m xs failed r after ∷ ks) ops c l w s0 le fits begins))
+          (one_layer n ty known1 begins)
           on)
         where
           on : (s : Result Bool) (c1 : ℕ) (l1 : Log) (w1 : World) → c1 ≤ c → Fits k w1 → Runs ask code (Fits k) 1 1 (gives (Leaving m xs failed r after ∷ ks) ops s l1 w1) c1 (leaves after ks ops) (rest m xs r failed s c1 l1 w1)
           on (Goes b) c1 l1 w1 lo fits1 = more b c1 l1 w1 lo fits1
           on (Leaves y) c1 l1 w1 lo fits1 = end_step ask code (Fits k) 1 _ c1 _ (leaves after ks ops) (Leaves y) l1 w1 fits1 refl
-      layer n Integer known1 begins more = absurd known1
-      layer n Count known1 begins more = absurd known1
-      layer n Boolean known1 begins more = absurd known1
-      layer n Address known1 begins more = absurd known1
-      layer n Handle known1 begins more = absurd known1
-      layer n (Access a) known1 begins more = absurd known1
 
   -- a master whose statements have ended so
   pub leave_runs : (r : Result Done) (m : ℕ) (after : After) (ks : List Frame) (ops : List ℕ) (c : ℕ) (l : Log) (w : World) → c ≤ bound → Fits k w → Runs ask code (Fits k) 2 2 (gives (InMaster m (length ops) after ∷ ks) ops (flagged r) l w) c (leaves after ks ops) (bind (leave_layers K (layers_of m w.ledger) false c l w) (on_goes (left m r)))

@@ -11,3 +11,16 @@ pub mod Statements
 pub mod Bodies
 pub mod Whole
 pub mod Admitted
+pub mod Operands
+pub mod Values
+pub mod Worth
+pub mod Expressions
+pub mod Does
+pub mod Assign
+pub mod Scalars
+pub mod Texts
+pub mod Branches
+pub mod Loops
+pub mod Lengths
+pub mod Arms
+pub mod AdmittedParts

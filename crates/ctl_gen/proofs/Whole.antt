@@ -14,6 +14,7 @@ use Rattle.ctl_meaning.specs.Names.{Returned}
 use Rattle.ctl_meaning.specs.Run.{Outcome, run, end_by, outcome_of, outcome}
 use Rattle.ctl_code.specs.declared.code.Instr.{Instr}
 use Rattle.ctl_code.specs.declared.code.Instr.TheVariants as InstrOf
+use Rattle.ctl_code.specs.declared.template.TextPart.{TextPart}
 use Rattle.ctl_code.specs.declared.code.Entry.{Entry}
 use Rattle.ctl_code.specs.declared.code.Code.{Code}
 use Rattle.ctl_code.specs.States.{Mode, At, Giving, Stopped, Stuck, Frame, State}
@@ -33,14 +34,14 @@ use Rattle.ctl_gen.proofs.Follow.{GoingBy, Runs, gives}
 -- Where everything stands ----------------------------------------------------------------------
 
 -- a body among those that stand from a place on
-record Found (instrs : List Instr) (texts : List (List ℕ)) (entries : List Entry) (f : ℕ) (s : Subprogram) : Type 0 where
+record Found (instrs : List Instr) (texts : List (List TextPart)) (entries : List Entry) (f : ℕ) (s : Subprogram) : Type 0 where
   place : ℕ
   before : ℕ
   entry : slice_get entries f ≡ Some (entry_at place s)
   instructions : HasAt instrs place (master_code before s.body)
   printed : HasAt texts before (master_texts s.body)
 
-find : (instrs : List Instr) (texts : List (List ℕ)) (ss : List Subprogram) (place n : ℕ) → HasAt instrs place (bodies_code n ss) → HasAt texts n (bodies_texts ss) → (f : ℕ) (s : Subprogram) → slice_get ss f ≡ Some s → Found instrs texts (entries_from place n ss) f s
+find : (instrs : List Instr) (texts : List (List TextPart)) (ss : List Subprogram) (place n : ℕ) → HasAt instrs place (bodies_code n ss) → HasAt texts n (bodies_texts ss) → (f : ℕ) (s : Subprogram) → slice_get ss f ≡ Some s → Found instrs texts (entries_from place n ss) f s
 find instrs texts [] place n has prints f s e = absurd (cc)
 find instrs texts (x ∷ ss) place n has prints zero s e =
     let same : x ≡ s = cc e in

@@ -1,4 +1,4 @@
--- The worlds of the programs of this version: each layer is one object of a record type, and there is no pool.
+-- The worlds of the programs of this version: each layer is one object of a known type, and there is no pool.
 use Rattle.std.proofs.Common.{◌≡◌, ℕ, List, [], ◌∷◌, Some, Bool, true, false, refl, ap}
 use Rattle.std.specs.Prelude.{if◌then◌else◌, nat_eq, not}
 use Rattle.ctl_tree.specs.declared.checked.Ty.{Ty}
@@ -7,12 +7,12 @@ use Rattle.ctl_meaning.specs.World.{Origin, Layer, Single, Sets, Master, Slot, W
 use Rattle.ctl_meaning.specs.Lists.{first_with, change_each, keep, opened_lists}
 use Rattle.ctl_meaning.specs.Ledger.{with_layer, layers_in, layers_of, master_at, opened_ledger}
 use Rattle.ctl_meaning.specs.Pools.{keep_pools}
-use Rattle.ctl_meaning.specs.Changes.{create, open_master, add_layer, set_slot, close_master, begin_finalization, end_finalization, opened_changes}
-use Rattle.ctl_gen.specs.Slice.{IsPlainType}
+use Rattle.ctl_meaning.specs.Changes.{create, write_cells, open_master, add_layer, set_slot, close_master, begin_finalization, end_finalization, opened_changes}
+use Rattle.ctl_gen.specs.Slice.{IsKnownType}
 
--- one object of a record type of the table
+-- one object of a scalar type, or of a record type of the table
 abbrev pub LayerFits : Tables → Layer → Type 0
-LayerFits k (Single m) = IsPlainType k m.ty
+LayerFits k (Single m) = IsKnownType k m.ty
 LayerFits k (Sets s) = ⊥
 
 abbrev pub LayersFit : Tables → List Layer → Type 0
@@ -74,6 +74,10 @@ fits_create k ty cells origin w h = record { masters = h.masters; block_pools = 
 pub fits_slot : (k : Tables) (n i : ℕ) (x : Slot) (w : World) → Fits k w → Fits k (set_slot n i x w)
 unfolding opened_changes
 fits_slot k n i x w h = record { masters = h.masters; block_pools = h.block_pools; mark_pools = h.mark_pools }
+
+pub fits_write : (k : Tables) (n offset : ℕ) (v : List ℕ) (w : World) → Fits k w → Fits k (write_cells n offset v w)
+unfolding opened_changes
+fits_write k n offset v w h = record { masters = h.masters; block_pools = h.block_pools; mark_pools = h.mark_pools }
 
 pub fits_layer : (k : Tables) (n : ℕ) (x : Layer) (w : World) → LayerFits k x → Fits k w → Fits k (add_layer n x w)
 unfolding opened_changes opened_ledger

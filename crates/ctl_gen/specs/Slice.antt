@@ -1,12 +1,17 @@
--- The programs that this version runs: types that extend Controlled without components, their Initialize and Finalize, objects
--- without a value, blocks, null, and Put, Put_Line and New_Line of a literal.
+-- The programs that this version runs: types that extend Controlled without components, their Initialize and Finalize, objects of
+-- such types, of Integer and of Boolean, expressions over these, assignments, texts with images, control, and blocks.
 use Rattle.std.specs.Prelude.{◌≡◌, ℕ, List, [], ◌∷◌, Option, Some, None, false, slice_get}
 use Rattle.ctl_tree.specs.declared.checked.Ty.{Ty}
-use Rattle.ctl_tree.specs.declared.checked.Ty.TheVariants.{Record}
+use Rattle.ctl_tree.specs.declared.checked.Ty.TheVariants.{Integer, Boolean, Record}
+use Rattle.ctl_tree.specs.declared.checked.Step.{Step}
+use Rattle.ctl_tree.specs.declared.checked.Operand.{Operand}
+use Rattle.ctl_tree.specs.declared.checked.Arm.{Arm}
+use Rattle.ctl_tree.specs.declared.checked.Expr.{Expr, Constant, Read', Unary', Chain', Short', Row_of-Expr, end_of-Expr, more_of-Expr, Row_of-Operand, end_of-Operand, more_of-Operand}
+use Rattle.ctl_tree.specs.declared.checked.Head.{Head, Variable}
 use Rattle.ctl_tree.specs.declared.checked.Root.TheVariants.{Controlled}
 use Rattle.ctl_tree.specs.declared.checked.Piece.{Piece}
-use Rattle.ctl_tree.specs.declared.checked.Piece.TheVariants.{Text}
-use Rattle.ctl_tree.specs.declared.checked.Stmt.{Stmt, Null, Put, PutLine, NewLine, Block', Row_of-Stmt, end_of-Stmt, more_of-Stmt}
+use Rattle.ctl_tree.specs.declared.checked.Piece.TheVariants.{Text, IntegerImage, BooleanImage}
+use Rattle.ctl_tree.specs.declared.checked.Stmt.{Stmt, Null, Assign, Put, PutLine, NewLine, Exit, If', Loop', While', For', Block', Row_of-Stmt, end_of-Stmt, more_of-Stmt, Row_of-Arm, end_of-Arm, more_of-Arm}
 use Rattle.ctl_tree.specs.declared.checked.Master.{Master, Master', Row_of-Handler, end_of-Handler, more_of-Handler}
 use Rattle.ctl_tree.specs.declared.checked.Item.{Item}
 use Rattle.ctl_tree.specs.declared.checked.Item.TheVariants.{Object, Silent}
@@ -15,10 +20,58 @@ use Rattle.ctl_tree.specs.declared.checked.Subprogram.{Subprogram}
 use Rattle.ctl_tree.specs.declared.checked.Checked.{Checked}
 use Rattle.ctl_meaning.specs.Types.{Tables, tables_of}
 
--- a string literal
-abbrev pub IsLiteral : List Piece → Type 0
-IsLiteral (Text v ∷ []) = Unit {0}
-IsLiteral _ = ⊥
+-- a scalar type of this version
+abbrev pub IsScalar : Ty → Type 0
+IsScalar Integer = Unit {0}
+IsScalar Boolean = Unit {0}
+IsScalar _ = ⊥
+
+-- a name that is a variable alone
+abbrev pub IsVariable : Head → List Step → Type 0
+IsVariable (Variable v) [] = Unit {0}
+IsVariable _ _ = ⊥
+
+-- constants, variables and operators
+abbrev mutual
+  pub ExprInSlice : Expr → Type 0
+  ExprInSlice (Constant n) = Unit {0}
+  ExprInSlice (Read' head steps ty) = IsVariable head steps.items × IsScalar ty
+  ExprInSlice (Unary' op ty p e) = ExprInSlice e
+  ExprInSlice (Chain' p e s row) = ExprInSlice e × OperandsInSlice row
+  ExprInSlice (Short' form p e s row) = ExprInSlice e × OthersInSlice row
+  ExprInSlice _ = ⊥
+
+  pub OperandsInSlice : {m : _} → Row_of-Operand m → Type 0
+  OperandsInSlice end_of-Operand = Unit {0}
+  OperandsInSlice (more_of-Operand op ty right rest) = ExprInSlice right × OperandsInSlice rest
+
+  pub OthersInSlice : {m : _} → Row_of-Expr m → Type 0
+  OthersInSlice end_of-Expr = Unit {0}
+  OthersInSlice (more_of-Expr e rest) = ExprInSlice e × OthersInSlice rest
+
+-- the same of operands in a list
+abbrev pub OperandListInSlice : List Operand → Type 0
+OperandListInSlice [] = Unit {0}
+OperandListInSlice (x ∷ xs) = ExprInSlice x.right × OperandListInSlice xs
+
+abbrev pub OtherListInSlice : List Expr → Type 0
+OtherListInSlice [] = Unit {0}
+OtherListInSlice (e ∷ es) = ExprInSlice e × OtherListInSlice es
+
+-- a literal, or an image of such an expression
+abbrev pub PieceInSlice : Piece → Type 0
+PieceInSlice (Text v) = Unit {0}
+PieceInSlice (IntegerImage e) = ExprInSlice e
+PieceInSlice (BooleanImage e) = ExprInSlice e
+
+abbrev pub PiecesInSlice : List Piece → Type 0
+PiecesInSlice [] = Unit {0}
+PiecesInSlice (p ∷ ps) = PieceInSlice p × PiecesInSlice ps
+
+-- a condition that may be absent
+abbrev pub TestInSlice : Option Expr → Type 0
+TestInSlice None = Unit {0}
+TestInSlice (Some e) = ExprInSlice e
 
 -- a subprogram of the table
 abbrev pub IsBody : List Subprogram → ℕ → Type 0
@@ -42,9 +95,15 @@ abbrev pub IsPlainType : Tables → Ty → Type 0
 IsPlainType k (Record t) = (r : RecordType) × (slice_get k.records t ≡ Some r) × IsPlain k.subprograms r
 IsPlainType k _ = ⊥
 
--- an object of such a type without a value, or a declaration that does nothing
+-- a scalar type, or such a record type
+abbrev pub IsKnownType : Tables → Ty → Type 0
+IsKnownType k (Record t) = IsPlainType k (Record t)
+IsKnownType k ty = IsScalar ty
+
+-- an object of such a type, a scalar one with its value, or a declaration that does nothing
 abbrev pub ItemInSlice : Tables → Item → Type 0
-ItemInSlice k (Object slot ty None) = IsPlainType k ty
+ItemInSlice k (Object slot ty None) = IsKnownType k ty
+ItemInSlice k (Object slot ty (Some e)) = IsScalar ty × ExprInSlice e
 ItemInSlice k Silent = Unit {0}
 ItemInSlice k _ = ⊥
 
@@ -59,15 +118,25 @@ NoHandlers (more_of-Handler choices s body rest) = ⊥
 abbrev mutual
   pub StmtInSlice : Tables → Stmt → Type 0
   StmtInSlice k Null = Unit {0}
-  StmtInSlice k (Put pieces) = IsLiteral pieces.items
-  StmtInSlice k (PutLine pieces) = IsLiteral pieces.items
+  StmtInSlice k (Assign name e) = IsVariable name.head name.steps.items × ExprInSlice e
+  StmtInSlice k (Put pieces) = PiecesInSlice pieces.items
+  StmtInSlice k (PutLine pieces) = PiecesInSlice pieces.items
   StmtInSlice k NewLine = Unit {0}
+  StmtInSlice k (Exit condition) = TestInSlice condition
+  StmtInSlice k (If' s arms t others) = ArmsInSlice k arms × RowInSlice k others
+  StmtInSlice k (Loop' s row) = RowInSlice k row
+  StmtInSlice k (While' e s row) = ExprInSlice e × RowInSlice k row
+  StmtInSlice k (For' v down low high s row) = ExprInSlice low × ExprInSlice high × RowInSlice k row
   StmtInSlice k (Block' p m) = MasterInSlice k m
   StmtInSlice k _ = ⊥
 
   pub RowInSlice : {m : _} → Tables → Row_of-Stmt m → Type 0
   RowInSlice k end_of-Stmt = Unit {0}
   RowInSlice k (more_of-Stmt s rest) = StmtInSlice k s × RowInSlice k rest
+
+  pub ArmsInSlice : {m : _} → Tables → Row_of-Arm m → Type 0
+  ArmsInSlice k end_of-Arm = Unit {0}
+  ArmsInSlice k (more_of-Arm test s body rest) = ExprInSlice test × RowInSlice k body × ArmsInSlice k rest
 
   -- a part, statements, and no handler
   pub MasterInSlice : Tables → Master → Type 0
@@ -83,6 +152,13 @@ pub record InSlice (program : Checked) : Type 0 where
 abbrev pub RowsInSlice : Tables → List Stmt → Type 0
 RowsInSlice k [] = Unit {0}
 RowsInSlice k (s ∷ ss) = StmtInSlice k s × RowsInSlice k ss
+
+abbrev pub ArmInSlice : Tables → Arm → Type 0
+ArmInSlice k a = ExprInSlice a.test × RowsInSlice k a.body.items
+
+abbrev pub ArmListInSlice : Tables → List Arm → Type 0
+ArmListInSlice k [] = Unit {0}
+ArmListInSlice k (a ∷ more) = ArmInSlice k a × ArmListInSlice k more
 
 -- procedures with such bodies
 abbrev pub BodiesInSlice : Tables → List Subprogram → Type 0

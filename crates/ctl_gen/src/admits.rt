@@ -3,9 +3,12 @@
 ghost use Rattle.std.specs.Prelude.{◌≡◌, IsTrue, false};
 ghost use Rattle.ctl_tree.specs.declared.checked.Root.TheVariants.{Controlled};
 ghost use Rattle.ctl_meaning.specs.Types.{tables_of};
-ghost use Rattle.ctl_gen.specs.Slice.{InSlice, BodiesInSlice, IsBody, IsLiteral, IsPlain, IsPlainType, IsWritten, ItemInSlice, ItemsInSlice, MasterInSlice, RowsInSlice, StmtInSlice};
+ghost use Rattle.ctl_gen.specs.Slice.{InSlice, ArmInSlice, ArmListInSlice, BodiesInSlice, IsBody, IsKnownType, IsPlain, IsPlainType, IsWritten, ItemInSlice, ItemsInSlice, MasterInSlice, RowsInSlice, StmtInSlice};
 
-use ctl_tree::checked::{Checked, Item, Master, Piece, RecordType, Root, Stmt, Subprogram, Ty};
+use crate::admits_expressions::{
+    bounds_fit, condition_fits, expression_fits, is_scalar, is_variable, pieces_fit,
+};
+use ctl_tree::checked::{Arm, Checked, Item, Master, RecordType, Root, Stmt, Subprogram, Ty};
 
 /// Whether this version runs the program.
 pub fn admits(program: &Checked) -> bool
@@ -87,6 +90,17 @@ fn is_plain_type(program: &Checked, ty: Ty) -> bool
     }
 }
 
+/// A scalar type, or such a record type.
+fn is_known_type(program: &Checked, ty: Ty) -> bool
+    ensures sound { IsTrue result → IsKnownType (tables_of program.now) ty }
+    ensures whole { IsKnownType (tables_of program.now) ty → IsTrue result }
+{
+    match ty {
+        Ty::Record(_) => is_plain_type(program, ty),
+        _ => is_scalar(ty),
+    }
+}
+
 /// A part, statements, and no handler.
 #[cycle(fits)]
 fn master_fits(program: &Checked, master: &Master) -> bool
@@ -116,7 +130,8 @@ fn item_fits(program: &Checked, item: &Item) -> bool
     ensures whole { ItemInSlice (tables_of program.now) item.now → IsTrue result }
 {
     match item {
-        Item::Object(_, ty, None) => is_plain_type(program, *ty),
+        Item::Object(_, ty, None) => is_known_type(program, *ty),
+        Item::Object(_, ty, Some(value)) => is_scalar(*ty) && expression_fits(value),
         Item::Silent => true,
         _ => false,
     }
@@ -142,19 +157,44 @@ fn statement_fits(program: &Checked, statement: &Stmt) -> bool
 {
     match statement {
         Stmt::Null | Stmt::NewLine => true,
-        Stmt::Put(pieces) | Stmt::PutLine(pieces) => is_literal(pieces),
+        Stmt::Assign(name, value) => is_variable(name) && expression_fits(value),
+        Stmt::Put(pieces) | Stmt::PutLine(pieces) => pieces_fit(pieces),
+        Stmt::Exit(condition) => condition_fits(condition),
+        Stmt::If(arms, others) => arms_fit(program, arms) && statements_fit(program, others),
+        Stmt::Loop(body) => statements_fit(program, body),
+        Stmt::While(test, body) => expression_fits(test) && statements_fit(program, body),
+        Stmt::For(_, _, low, high, body) => bounds_fit(low, high) && statements_fit(program, body),
         Stmt::Block(master) => master_fits(program, master),
-        _ => false,
+        Stmt::AssignRecord(..)
+        | Stmt::Call(..)
+        | Stmt::Nothing(_)
+        | Stmt::Dispatch(..)
+        | Stmt::LibraryAllocate(..)
+        | Stmt::LibraryDeallocate(..)
+        | Stmt::Return(_)
+        | Stmt::Raise(_)
+        | Stmt::Free(..)
+        | Stmt::Release(_) => false,
     }
 }
 
-/// A string literal.
-fn is_literal(pieces: &[Piece]) -> bool
-    ensures sound { IsTrue result → IsLiteral pieces.now }
-    ensures whole { IsLiteral pieces.now → IsTrue result }
+#[cycle(fits)]
+fn arms_fit(program: &Checked, arms: &[Arm]) -> bool
+    ensures sound { IsTrue result → ArmListInSlice (tables_of program.now) arms.now }
+    ensures whole { ArmListInSlice (tables_of program.now) arms.now → IsTrue result }
 {
-    match pieces {
-        [Piece::Text(_)] => true,
-        _ => false,
+    for arm in arms {
+        if !arm_fits(program, arm) {
+            return false;
+        }
     }
+    true
+}
+
+#[cycle(fits)]
+fn arm_fits(program: &Checked, arm: &Arm) -> bool
+    ensures sound { IsTrue result → ArmInSlice (tables_of program.now) arm.now }
+    ensures whole { ArmInSlice (tables_of program.now) arm.now → IsTrue result }
+{
+    expression_fits(&arm.test) && statements_fit(program, &arm.body)
 }

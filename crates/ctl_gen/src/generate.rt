@@ -1,6 +1,7 @@
 //! The code of a whole program.
 
-ghost use Rattle.std.specs.Prelude.{◌≡◌, IfOk, length};
+ghost use Rattle.std.specs.Prelude.{◌≡◌, IfErr, IfOk, length};
+ghost use Rattle.ctl_tree.specs.declared.fault.FaultCode.TheVariants.{Memory};
 ghost use Rattle.ctl_gen.specs.Correct.{Behaves};
 ghost use Rattle.ctl_gen.specs.Slice.{InSlice};
 ghost use Rattle.ctl_gen.specs.Layout.{IsLaidOut, entry_at, operations_of};
@@ -20,13 +21,15 @@ use std::alloc::{AllocError, Global};
 pub fn generate(alloc: Global, program: &Checked) -> Result<Code, Fault>
     ensures layout { IfOk result (λ code. IsLaidOut program.now code) }
     ensures behaves { IfOk result (λ code. InSlice program.now → Behaves program.now code) }
+    ensures memory { IfErr result (λ fault. fault ≡ record { code = Memory; line = 1; column = 1 }) }
 {
     assemble(alloc, program)
 }
 
 /// The instructions, and the tables that they name.
 fn assemble(alloc: Global, program: &Checked) -> Result<Code, Fault>
-    ensures { IfOk result (λ code. IsLaidOut program.now code) }
+    ensures laid_out { IfOk result (λ code. IsLaidOut program.now code) }
+    ensures memory { IfErr result (λ fault. fault ≡ record { code = Memory; line = 1; column = 1 }) }
 {
     let mut emitter = Emitter::new(alloc);
     emitter.put(Instr::Start(program.main))?;

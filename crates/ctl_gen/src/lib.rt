@@ -2,5 +2,8 @@
 #![tactic(auto)]
 
 pub mod admits;
+mod admits_expressions;
 mod emit;
+mod emit_expressions;
+mod emit_statements;
 pub mod generate;

@@ -1,5 +1,5 @@
 -- The first breach that was noted is a broken rule, and where none was noted no rule is broken.
-use Rattle.std.proofs.Common.{◌≡◌, ℕ, Bool, true, false, cond, List, [], ◌∷◌, ◌++◌, Option, Some, None, refl, sym, ap, ◌∙◌, subst, ◌⊎◌, inl, inr}
+use Rattle.std.proofs.Common.{◌≡◌, Bool, true, false, cond, List, [], ◌∷◌, ◌++◌, Option, Some, None, refl, sym, ◌∙◌, subst, ◌⊎◌, inl, inr}
 use Rattle.ctl_tree.specs.declared.span.Span.{Span}
 use Rattle.ctl_legality.specs.declared.view.Breach.{Breach}
 use Rattle.ctl_legality.specs.declared.view.Rule.{Rule}
@@ -7,7 +7,7 @@ use Rattle.ctl_legality.specs.Sites.{Site}
 use Rattle.ctl_legality.specs.Rules.{Law, laws, at_spans, breaches_under, breaches_at, breaches_of, In, here, there, Breaks}
 use Rattle.ctl_legality.specs.Judged.{comes_before, sooner, soonest, noted}
 
-soonest_append : (l : Option Breach) (fs gs : List Breach) → soonest l (fs ++ gs) ≡ soonest (soonest l fs) gs
+pub soonest_append : (l : Option Breach) (fs gs : List Breach) → soonest l (fs ++ gs) ≡ soonest (soonest l fs) gs
 soonest_append l [] gs = refl
 soonest_append l (f ∷ fs) gs = soonest_append (sooner l f) fs gs
 

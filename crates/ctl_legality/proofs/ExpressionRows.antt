@@ -1,16 +1,17 @@
 -- The sites of an expression, read from its parts: rows of the tree as lists.
-use Rattle.std.proofs.Common.{◌≡◌, List, [], ◌∷◌, ◌++◌, Option, Some, None, refl, sym, ap, ◌∙◌}
+use Rattle.std.proofs.Common.{◌≡◌, true, false, List, [], ◌∷◌, ◌++◌, Option, Some, None, refl, sym, ap, ◌∙◌}
 use mathlib.Core.Former.{Count}
 use Rattle.ctl_tree.specs.declared.tree.Identifier.{Identifier}
 use Rattle.ctl_tree.specs.declared.tree.Expression.{Expression}
-use Rattle.ctl_tree.specs.declared.tree.ExpressionKind.{ExpressionKind, Logical', Relation', Sum', Product', Unary', Number, String, Null, Name', Parentheses', New', Row_of-Expression, end_of-Expression, more_of-Expression, Row_of-Addend, end_of-Addend, more_of-Addend, Row_of-Multiplicand, end_of-Multiplicand, more_of-Multiplicand, Row_of-Suffix, end_of-Suffix, more_of-Suffix, items-the_row-Expression, items-the_row-Addend, items-the_row-Multiplicand, items-the_row-Suffix, items_hidden-the_row-Expression-0, items_hidden-the_row-Addend-1, items_hidden-the_row-Multiplicand-2, items_hidden-the_row-Suffix-3}
+use Rattle.ctl_tree.specs.declared.tree.ExpressionKind.{ExpressionKind, Logical', Sum', Product', Name', Row_of-Expression, end_of-Expression, more_of-Expression, Row_of-Addend, end_of-Addend, more_of-Addend, Row_of-Multiplicand, end_of-Multiplicand, more_of-Multiplicand, Row_of-Suffix, end_of-Suffix, more_of-Suffix, items-the_row-Expression, items-the_row-Addend, items-the_row-Multiplicand, items-the_row-Suffix, items_hidden-the_row-Expression-0, items_hidden-the_row-Addend-1, items_hidden-the_row-Multiplicand-2, items_hidden-the_row-Suffix-3}
 use Rattle.ctl_tree.specs.declared.tree.ExpressionKind.TheVariants as k
 use Rattle.ctl_tree.specs.declared.tree.Name.{Name}
 use Rattle.ctl_tree.specs.declared.tree.Suffix.{Suffix, Selector, All, Arguments', Access, Attribute}
 use Rattle.ctl_tree.specs.declared.tree.Suffix.TheVariants as sk
-use Rattle.ctl_tree.specs.declared.tree.Allocator.{Allocator, Allocator', Allocator-handle-None', Allocator-handle-Some', Allocator-value-None', Allocator-value-Some', out-Allocator, roll-Allocator, roll-out-Allocator}
+use Rattle.ctl_tree.specs.declared.tree.Allocator.{Allocator, Allocator', Allocator-handle-Some', out-Allocator, roll-Allocator, roll-out-Allocator}
 use Rattle.ctl_tree.specs.declared.tree.Dotted.{Dotted}
-use Rattle.ctl_legality.specs.declared.view.Usage.TheVariants.{Plain}
+use Rattle.std.specs.Prelude.{not, is_some}
+use Rattle.ctl_legality.specs.declared.view.Usage.TheVariants.{Plain, Allocated}
 use Rattle.ctl_legality.specs.View.{View}
 use Rattle.ctl_legality.specs.Sites.{Site, named, kind_sites, expression_row_sites, addend_row_sites, multiplicand_row_sites, suffix_row_sites, suffix_sites, selected, leading, expression_sites, expression_list_sites, addend_list_sites, multiplicand_list_sites, suffix_list_sites, name_sites, option_sites, option_name_sites, allocator_sites, dotted_site}
 
@@ -97,7 +98,7 @@ arguments_is s es v =
     expressions_of_row r.0 r.1 v ∙ ap (λ xs. expression_list_sites xs v) (items_hidden-the_row-Expression-0 es)
 
 abbrev allocator_parts : Option Name → Dotted → Option Expression → View → List Site
-allocator_parts h m e v = option_name_sites h v ++ (dotted_site m v Plain ∷ option_sites e v)
+allocator_parts h m e v = option_name_sites h v ++ (dotted_site m v (Allocated (not (is_some e))) ∷ option_sites e v)
 
 rolled_is : (h : Option Name) (m : Dotted) (e : Option Expression) (v : View) → allocator_sites (roll-Allocator (record { handle = h; mark = m; value = e })) v ≡ allocator_parts h m e v
 unfolding roll-Allocator denote.Hole.Carrier.roll
@@ -105,10 +106,10 @@ rolled_is None m None v = refl
 rolled_is None m (Some e) v = refl
 rolled_is (Some x) m None v =
     let r = handle_row (roll-Allocator (record { handle = Some x; mark = m; value = None })) in
-    ap (λ ss. ss ++ (dotted_site m v Plain ∷ [])) (name_of_row x.first r.0 r.1 v ∙ ap (listed_name x.first v) (items_hidden-the_row-Suffix-3 x.suffixes))
+    ap (λ ss. ss ++ (dotted_site m v (Allocated true) ∷ [])) (name_of_row x.first r.0 r.1 v ∙ ap (listed_name x.first v) (items_hidden-the_row-Suffix-3 x.suffixes))
 rolled_is (Some x) m (Some e) v =
     let r = handle_row (roll-Allocator (record { handle = Some x; mark = m; value = Some e })) in
-    ap (λ ss. ss ++ (dotted_site m v Plain ∷ expression_sites e v)) (name_of_row x.first r.0 r.1 v ∙ ap (listed_name x.first v) (items_hidden-the_row-Suffix-3 x.suffixes))
+    ap (λ ss. ss ++ (dotted_site m v (Allocated false) ∷ expression_sites e v)) (name_of_row x.first r.0 r.1 v ∙ ap (listed_name x.first v) (items_hidden-the_row-Suffix-3 x.suffixes))
 
-pub allocator_is : (a : Allocator) (v : View) → allocator_sites a v ≡ option_name_sites (out-Allocator a).handle v ++ (dotted_site (out-Allocator a).mark v Plain ∷ option_sites (out-Allocator a).value v)
+pub allocator_is : (a : Allocator) (v : View) → allocator_sites a v ≡ option_name_sites (out-Allocator a).handle v ++ (dotted_site (out-Allocator a).mark v (Allocated (not (is_some (out-Allocator a).value))) ∷ option_sites (out-Allocator a).value v)
 allocator_is a v = ap (λ b. allocator_sites b v) (sym (roll-out-Allocator a)) ∙ rolled_is (out-Allocator a).handle (out-Allocator a).mark (out-Allocator a).value v

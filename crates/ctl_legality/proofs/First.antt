@@ -1,10 +1,10 @@
 -- The fault that is answered comes after no other one.
-use Rattle.std.proofs.Common.{◌≡◌, ℕ, Bool, true, false, cond, List, [], ◌∷◌, Option, Some, None, refl, sym, subst, ◌∙◌, ◌⊎◌, inl, inr, arith}
+use Rattle.std.proofs.Common.{◌≡◌, Bool, true, false, cond, List, [], ◌∷◌, Option, Some, None, refl, sym, subst, ◌∙◌, arith}
 use Rattle.std.proofs.lemmas.Bool.Decides.{nat_tests}
 use Rattle.ctl_legality.specs.declared.view.Breach.{Breach}
 use Rattle.ctl_legality.specs.Sites.{Site}
 use Rattle.ctl_legality.specs.Rules.{In, here, there, breaches_of, Breaks}
-use Rattle.ctl_legality.specs.Judged.{comes_before, sooner, soonest, noted}
+use Rattle.ctl_legality.specs.Judged.{comes_before, soonest, noted}
 use Rattle.ctl_legality.proofs.Breaches.{noted_is, breaks_in}
 
 self : (a : Breach) → comes_before a a ≡ false

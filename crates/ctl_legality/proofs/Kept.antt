@@ -1,7 +1,6 @@
 -- What is declared in a region changes nothing of what stands around it.
-use Rattle.std.proofs.Common.{◌≡◌, ℕ, zero, suc, ◌+◌, ◌≤◌, Bool, true, false, ◌&&◌, cond, List, [], ◌∷◌, ◌++◌, length, take, Option, Some, None, refl, sym, ap, subst, ◌∙◌, arith, length-append}
+use Rattle.std.proofs.Common.{◌≡◌, ℕ, zero, suc, ◌≤◌, Bool, true, false, ◌&&◌, cond, List, [], ◌∷◌, length, take, Option, Some, None, refl, sym, ap, subst, ◌∙◌, arith, length-append}
 use Rattle.std.proofs.lemmas.List.{take-append-le}
-use Rattle.std.proofs.Math.Seq.{take-length}
 use borrow.Author.Tests.{leb-true}
 use Rattle.ctl_tree.specs.declared.span.Span.{Span}
 use Rattle.ctl_tree.specs.declared.tree.Identifier.{Identifier}
@@ -9,22 +8,18 @@ use Rattle.ctl_tree.specs.declared.tree.Dotted.{Dotted}
 use Rattle.ctl_tree.specs.declared.tree.Formal.{Formal}
 use Rattle.ctl_tree.specs.declared.tree.ComponentDeclaration.{ComponentDeclaration}
 use Rattle.ctl_tree.specs.declared.tree.Choices.{Choices}
-use Rattle.ctl_tree.specs.declared.tree.Choices.TheVariants as Choices
 use Rattle.ctl_tree.specs.declared.tree.Specification.{Specification}
 use Rattle.ctl_tree.specs.declared.tree.Scheme.{Scheme}
-use Rattle.ctl_tree.specs.declared.tree.Scheme.TheVariants as Scheme
 use Rattle.ctl_tree.specs.declared.tree.Handler.{Handler, Handler'}
 use Rattle.ctl_tree.specs.declared.tree.Item as TheItem
 use Rattle.ctl_tree.specs.declared.tree.ItemKind.{ItemKind}
 use Rattle.ctl_tree.specs.declared.tree.ItemKind as Item
 use Rattle.ctl_legality.specs.declared.view.Entity.{Entity}
-use Rattle.ctl_legality.specs.declared.view.Entity.TheVariants as Entity
 use Rattle.ctl_legality.specs.declared.view.Known.{Known}
 use Rattle.ctl_legality.specs.declared.view.Declaration.{Declaration}
 use Rattle.ctl_legality.specs.declared.view.Naming.{Naming}
-use Rattle.ctl_legality.specs.declared.view.Naming.TheVariants as Naming
 use Rattle.ctl_legality.specs.View.{View, declare, with_entity_at, known_as, is_own, own_with, completed_by, complete, within, last_of, wants_body, is_incomplete}
-use Rattle.ctl_legality.specs.Sites.{declare_each, after_formals, is_some_more, after_choice, after_choice_list, after_choices, key_of, heading_key, after_item, after_components, after_item_list, in_heading, in_body, in_definition, in_record, completed_body, completed_type, name_body, in_loop, after_handler, after_handler_list}
+use Rattle.ctl_legality.specs.Sites.{declare_each, after_formals, is_some_more, after_choice, after_choice_list, after_choices, key_of, heading_key, after_item, after_components, after_item_list, in_heading, in_definition, in_record, completed_body, completed_type, in_loop, after_handler, after_handler_list}
 
 -- what stands in front of this place stays
 pub record Keeps (base : ℕ) (v w : View) : Type 0 where

@@ -1,10 +1,7 @@
 -- The sites of items and statements, read from their parts: rows of the tree as lists.
-use Rattle.std.proofs.Common.{◌≡◌, List, [], ◌∷◌, ◌++◌, Option, Some, None, refl, sym, ap, ◌∙◌}
+use Rattle.std.proofs.Common.{◌≡◌, List, ◌∷◌, ◌++◌, refl, sym, ap, ◌∙◌}
 use mathlib.Core.Former.{Count}
-use Rattle.ctl_tree.specs.declared.tree.Item.{Item}
-use Rattle.ctl_tree.specs.declared.tree.ItemKind.{ItemKind}
 use Rattle.ctl_tree.specs.declared.tree.Statement.{Statement}
-use Rattle.ctl_tree.specs.declared.tree.StatementKind as kind
 use Rattle.ctl_tree.specs.declared.tree.StatementKind.{StatementKind, If', Loop', Block'}
 use Rattle.ctl_tree.specs.declared.tree.StatementKind.TheVariants as k
 use Rattle.ctl_tree.specs.declared.tree.Branch.{Branch, Branch', out-Branch, roll-Branch, roll-out-Branch}
@@ -13,7 +10,7 @@ use Rattle.ctl_tree.specs.declared.tree.Handled.{Handled, Handled', Row_of-State
 use Rattle.ctl_tree.specs.declared.tree.BodyPart.{BodyPart, BodyPart', Row_of-Item, end_of-Item, more_of-Item, items-the_row-Item, items_hidden-the_row-Item-2, out-BodyPart, roll-BodyPart, roll-out-BodyPart}
 use Rattle.ctl_tree.specs.declared.tree.StatementKind.{Row_of-Branch, end_of-Branch, more_of-Branch, items-the_row-Branch, items_hidden-the_row-Branch-0}
 use Rattle.ctl_legality.specs.View.{View, inside, region}
-use Rattle.ctl_legality.specs.Sites.{Site, end, item_sites, item_row_sites, after_item, after_item_row, after_item_list, item_list_sites, statement_sites, statement_row_sites, statement_list_sites, branch_sites, branch_row_sites, branch_list_sites, handler_sites, after_handler, handler_row_sites, handler_list_sites, handled_sites, body_sites, part_sites, expression_sites, choices_sites, after_choices, scheme_sites, in_loop}
+use Rattle.ctl_legality.specs.Sites.{Site, end, item_sites, item_row_sites, after_item, after_item_row, after_item_list, item_list_sites, part, item_facts, effects_of, row_facts, item_list_facts, statement_sites, statement_row_sites, statement_list_sites, branch_sites, branch_row_sites, branch_list_sites, handler_sites, after_handler, handler_row_sites, handler_list_sites, handled_sites, body_sites, part_sites, expression_sites, choices_sites, after_choices, scheme_sites, in_loop}
 
 after_of_row : (n : Count) (row : Row_of-Item n) (v : View) → after_item_row row v ≡ after_item_list (items-the_row-Item n row) v
 after_of_row n end_of-Item v = refl
@@ -84,10 +81,15 @@ rolled_handled ss hs v =
 pub handled_is : (h : Handled) (v : View) → handled_sites h v ≡ statement_list_sites (out-Handled h).statements.items v ++ handler_list_sites (out-Handled h).handlers.items (region v)
 handled_is h v = ap (λ x. handled_sites x v) (sym (roll-out-Handled h)) ∙ rolled_handled (out-Handled h).statements (out-Handled h).handlers v
 
-part_of_row : (n : Count) (row : Row_of-Item n) (h : Handled) (v : View) → item_row_sites row v ++ (end (after_item_row row v) ∷ handled_sites h (after_item_row row v)) ≡ part_sites (items-the_row-Item n row) h v
+facts_of_row : (n : Count) (row : Row_of-Item n) (v : View) → row_facts row v ≡ item_list_facts (items-the_row-Item n row) v
+facts_of_row n end_of-Item v = refl
+facts_of_row n (more_of-Item s k rest) v = ap (λ fs. item_facts s k v (effects_of (item_sites s k v)) ++ fs) (facts_of_row _ rest (after_item k v))
+
+part_of_row : (n : Count) (row : Row_of-Item n) (h : Handled) (v : View) → item_row_sites row v ++ (end (after_item_row row v) ∷ part (row_facts row v) ∷ handled_sites h (after_item_row row v)) ≡ part_sites (items-the_row-Item n row) h v
 part_of_row n row h v =
-    ap (λ xs. xs ++ (end (after_item_row row v) ∷ handled_sites h (after_item_row row v))) (items_of_row n row v)
-    ∙ ap (λ w. item_list_sites (items-the_row-Item n row) v ++ (end w ∷ handled_sites h w)) (after_of_row n row v)
+    ap (λ xs. xs ++ (end (after_item_row row v) ∷ part (row_facts row v) ∷ handled_sites h (after_item_row row v))) (items_of_row n row v)
+    ∙ ap (λ w. item_list_sites (items-the_row-Item n row) v ++ (end w ∷ part (row_facts row v) ∷ handled_sites h w)) (after_of_row n row v)
+    ∙ ap (λ fs. item_list_sites (items-the_row-Item n row) v ++ (end (after_item_list (items-the_row-Item n row) v) ∷ part fs ∷ handled_sites h (after_item_list (items-the_row-Item n row) v))) (facts_of_row n row v)
 
 rolled_body : (is : _) (h : Handled) (e : _) (v : View) → body_sites (roll-BodyPart (record { items = is; handled = h; end_name = e })) v ≡ part_sites is.items h v
 unfolding roll-BodyPart denote.Hole.Carrier.roll

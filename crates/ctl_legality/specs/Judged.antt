@@ -1,22 +1,23 @@
 -- The first of the rules that are broken.
-use Rattle.std.specs.Prelude.{◌≡◌, ℕ, Bool, true, false, ◌&&◌, not, nat_lt, List, [], ◌∷◌, ◌++◌, Option, Some, None, if◌then◌else◌}
+use Rattle.std.specs.Prelude.{◌≡◌, ℕ, Bool, true, false, nat_lt, List, [], ◌∷◌, ◌++◌, Option, Some, None, if◌then◌else◌}
 use Rattle.ctl_tree.specs.declared.fault.Fault.{Fault}
 use Rattle.ctl_tree.specs.declared.fault.FaultCode.{FaultCode}
-use Rattle.ctl_tree.specs.declared.fault.FaultCode.TheVariants as FaultCode
-use Rattle.ctl_tree.specs.declared.tree.Tree.{Tree}
 use Rattle.ctl_legality.specs.declared.view.Rule.{Rule}
-use Rattle.ctl_legality.specs.declared.view.Rule.TheVariants as Rule
 use Rattle.ctl_legality.specs.declared.view.Breach.{Breach}
 use Rattle.ctl_legality.specs.declared.view.Denoted.{Denoted}
-use Rattle.ctl_legality.specs.Sites.{Site, sites}
-use Rattle.ctl_legality.specs.Rules.{breaches_at, denoted_at, Breaks}
+use Rattle.ctl_legality.specs.declared.view.Effect.{Effect}
+use Rattle.ctl_freezing.specs.declared.fact.Frozen.{Frozen}
+use Rattle.ctl_legality.specs.Sites.{Site, effects_at}
+use Rattle.ctl_legality.specs.Rules.{breaches_at, denoted_at, frozen_at, Breaks}
 
 abbrev pub number : Rule → ℕ
 number Rule.Unknown = 20
 number Rule.Duplicate = 21
 number Rule.NoBody = 22
 number Rule.Order = 23
+number Rule.Elab = 24
 number Rule.NotWithed = 25
+number Rule.LatePrimitive = 26
 
 -- The place counts first, then the number.
 abbrev pub comes_before : Breach → Breach → Bool
@@ -50,7 +51,9 @@ code_of Rule.Unknown = FaultCode.Unknown
 code_of Rule.Duplicate = FaultCode.Duplicate
 code_of Rule.NoBody = FaultCode.NoBody
 code_of Rule.Order = FaultCode.Order
+code_of Rule.Elab = FaultCode.Elab
 code_of Rule.NotWithed = FaultCode.NotWithed
+code_of Rule.LatePrimitive = FaultCode.LatePrimitive
 
 abbrev pub fault_of : Breach → Fault
 fault_of b = record { code = code_of b.rule; line = b.span.line; column = b.span.column }
@@ -60,13 +63,14 @@ pub record IsFirst (ss : List Site) (b : Breach) : Type 0 where
   pub broken : Breaks ss b
   pub first : (c : Breach) → Breaks ss c → comes_before c b ≡ false
 
--- ---- what is found on the way: the first broken rule, and what the names denote
+-- ---- what is found on the way: the first broken rule, what the names denote, what they do to the types of their part, and where types are
+-- frozen
 
 abbrev pub Findings : Type 0
-Findings = Option Breach × List Denoted
+Findings = Option Breach × List Denoted × List Effect × List Frozen
 
 abbrev pub with_site : Findings → Site → Findings
-with_site f s = (soonest f.0 (breaches_at s), f.1 ++ denoted_at s)
+with_site f s = (soonest f.0 (breaches_at s), f.1 ++ denoted_at s, f.2 ++ effects_at s, f.3 ++ frozen_at s)
 
 -- what is found once these sites are looked at too
 abbrev pub judged : Findings → List Site → Findings

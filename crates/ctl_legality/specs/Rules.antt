@@ -1,23 +1,30 @@
 -- The rules on names, order and completion: each with the places where it is broken.
-use Rattle.std.specs.Prelude.{◌≡◌, ℕ, ◌-◌, ◌==◌, Bool, true, false, ◌&&◌, ◌||◌, not, List, [], ◌∷◌, ◌++◌, drop, Option, Some, None, if◌then◌else◌, slice_get}
+use Rattle.std.specs.Prelude.{◌≡◌, ℕ, ◌-◌, ◌==◌, Bool, true, false, ◌&&◌, not, List, [], ◌∷◌, ◌++◌, drop, Option, Some, None, if◌then◌else◌, slice_get}
 use Rattle.ctl_tree.specs.declared.span.Span.{Span}
 use Rattle.ctl_tree.specs.declared.tree.Identifier.{Identifier}
 use Rattle.ctl_legality.specs.declared.library.Unit.{Unit}
+use Rattle.ctl_legality.specs.declared.library.LibraryName.{LibraryName}
+use Rattle.ctl_legality.specs.declared.library.LibraryName.TheVariants.{Integer, Boolean, Controlled, LimitedControlled, Address, StorageCount, RootStoragePool, SubpoolHandle, BlockPool, MarkReleasePool}
 use Rattle.ctl_legality.specs.declared.view.Entity.{Entity}
+use Rattle.ctl_legality.specs.declared.view.Entity.TheVariants.{«Type», Library}
+use Rattle.ctl_freezing.specs.declared.fact.Early.{Early}
+use Rattle.ctl_freezing.specs.declared.fact.Deadline.{Deadline}
+use Rattle.ctl_freezing.specs.declared.fact.Frozen.{Frozen}
+use Rattle.ctl_freezing.specs.Freezing.{late, frozen}
+use Rattle.ctl_freezing.specs.Calling.{early}
 use Rattle.ctl_legality.specs.declared.view.Known.{Known}
 use Rattle.ctl_legality.specs.declared.view.Declaration.{Declaration}
 use Rattle.ctl_legality.specs.declared.view.Denoted.{Denoted}
 use Rattle.ctl_legality.specs.declared.view.Meaning.{Meaning}
 use Rattle.ctl_legality.specs.declared.view.Meaning.TheVariants.{Means, UnknownAt, NotWithed}
 use Rattle.ctl_legality.specs.declared.view.Usage.{Usage}
-use Rattle.ctl_legality.specs.declared.view.Usage.TheVariants.{Designated, Plain}
+use Rattle.ctl_legality.specs.declared.view.Usage.TheVariants.{Designated}
 use Rattle.ctl_legality.specs.declared.view.Rule.{Rule}
-use Rattle.ctl_legality.specs.declared.view.Rule.TheVariants as Rule
 use Rattle.ctl_legality.specs.declared.view.Breach.{Breach}
 use Rattle.ctl_legality.specs.declared.view.Way.{Way}
 use Rattle.ctl_legality.specs.declared.view.Way.TheVariants.{Reaches, Stops}
-use Rattle.ctl_legality.specs.View.{View, folded, is_own, is_declared_here, last_of, meaning, completed_by, wants_body, is_incomplete, waits, is_brought, not_brought}
-use Rattle.ctl_legality.specs.Sites.{Site, named, declared, body, full_type, type_item, end, with_unit, use_unit, folded_each, way_of_path}
+use Rattle.ctl_legality.specs.View.{View, folded, is_of_part, is_declared_here, last_of, meaning, completed_by, wants_body, is_incomplete, waits, is_brought, not_brought}
+use Rattle.ctl_legality.specs.Sites.{Site, named, declared, body, full_type, type_item, clause, end, part, with_unit, use_unit, folded_each, way_of_path}
 
 -- A rule, and the places where a site breaks it.
 pub record Law : Type 0 where
@@ -96,16 +103,61 @@ no_body (end v) = unfinished (drop v.part.start v.names)
 no_body _ = []
 
 -- ORDER: a type after the first body of its part (profile); a type that is incomplete where it is used, other than as
--- a designated type (3.10.1(5))
+-- a designated type (3.10.1(5)); a clause on a type of another part, or on one that is frozen (13.1(5), 13.1(9))
 abbrev pub incomplete_use : Usage → Span → Option Known → List Span
 incomplete_use Designated at k = []
-incomplete_use Plain at None = []
-incomplete_use Plain at (Some k) = when (is_incomplete k.entity) at
+incomplete_use u at None = []
+incomplete_use u at (Some k) = when (is_incomplete k.entity) at
+
+-- the library's types
+abbrev pub is_library_type : LibraryName → Bool
+is_library_type Integer = true
+is_library_type Boolean = true
+is_library_type Controlled = true
+is_library_type LimitedControlled = true
+is_library_type Address = true
+is_library_type StorageCount = true
+is_library_type RootStoragePool = true
+is_library_type SubpoolHandle = true
+is_library_type BlockPool = true
+is_library_type MarkReleasePool = true
+is_library_type _ = false
+
+abbrev pub is_any_type : Entity → Bool
+is_any_type («Type» is_full) = true
+is_any_type (Library l) = is_library_type l
+is_any_type _ = false
+
+abbrev pub is_other_type : View → Option Known → Bool
+is_other_type v None = false
+is_other_type v (Some k) = is_any_type k.entity && not (is_of_part v k)
+
+-- where what stands too late for this rule stands
+abbrev pub is_same_early : Early → Early → Bool
+is_same_early Early.Operation Early.Operation = true
+is_same_early Early.Pool Early.Pool = true
+is_same_early _ _ = false
+
+abbrev pub deadline_spans : Early → List Deadline → List Span
+deadline_spans e [] = []
+deadline_spans e (d ∷ ds) = when (is_same_early e d.early) d.span ++ deadline_spans e ds
 
 abbrev pub order : Site → List Span
 order (type_item v at) = when v.part.has_body at
 order (named v id rest u) = incomplete_use u id.span (last_of v.names (folded id))
+order (clause v id at) = when (is_other_type v (last_of v.names (folded id))) at
+order (part fs) = deadline_spans Early.Pool (late fs)
 order _ = []
+
+-- ELAB: an object that stands before the last body of its part, and needs a subprogram of the part (7.6.1, 3.11(14))
+abbrev pub elab : Site → List Span
+elab (part fs) = early fs
+elab _ = []
+
+-- LATE_PRIMITIVE: an operation of a type that is declared after the type is frozen (13.14(16), 3.9.2(13))
+abbrev pub late_primitive : Site → List Span
+late_primitive (part fs) = deadline_spans Early.Operation (late fs)
+late_primitive _ = []
 
 -- NOT_WITHED: a library unit without its with clause (10.1.2)
 abbrev pub without : Identifier → Meaning → List Span
@@ -129,7 +181,8 @@ not_withed _ = []
 abbrev pub laws : List Law
 laws =
     (record { rule = Rule.Unknown; broken = unknown }) ∷ (record { rule = Rule.Duplicate; broken = duplicate }) ∷ (record { rule = Rule.NoBody; broken = no_body })
-    ∷ (record { rule = Rule.Order; broken = order }) ∷ (record { rule = Rule.NotWithed; broken = not_withed }) ∷ []
+    ∷ (record { rule = Rule.Order; broken = order }) ∷ (record { rule = Rule.Elab; broken = elab })
+    ∷ (record { rule = Rule.NotWithed; broken = not_withed }) ∷ (record { rule = Rule.LatePrimitive; broken = late_primitive }) ∷ []
 
 -- ---- what is broken
 
@@ -179,3 +232,15 @@ denoted_at _ = []
 abbrev pub denoted_of : List Site → List Denoted
 denoted_of [] = []
 denoted_of (s ∷ ss) = denoted_at s ++ denoted_of ss
+
+-- ---- freezing places
+
+-- the types of the part at a site, with their freezing places
+unfoldable pub frozen_at : Site → List Frozen
+frozen_at (part fs) = frozen fs
+frozen_at _ = []
+
+-- the freezing places of the parts at these sites, in the order of the ends of the parts
+abbrev pub frozen_of : List Site → List Frozen
+frozen_of [] = []
+frozen_of (s ∷ ss) = frozen_at s ++ frozen_of ss

@@ -1,25 +1,20 @@
 -- The places of a program that the rules on names look at, each with what is in view there.
-use Rattle.std.specs.Prelude.{ℕ, ◌+◌, Bool, true, false, not, List, [], ◌∷◌, ◌++◌, Option, Some, None, is_some, if◌then◌else◌}
+use Rattle.std.specs.Prelude.{ℕ, Bool, true, false, not, length, List, [], ◌∷◌, ◌++◌, Option, Some, None, is_some, if◌then◌else◌}
 use Rattle.ctl_tree.specs.declared.span.Span.{Span}
 use Rattle.ctl_tree.specs.declared.tree.Identifier.{Identifier}
 use Rattle.ctl_tree.specs.declared.tree.Dotted.{Dotted}
 use Rattle.ctl_tree.specs.declared.tree.Tree.{Tree}
 use Rattle.ctl_tree.specs.declared.tree.Context.{Context}
 use Rattle.ctl_tree.specs.declared.tree.ContextKind.{ContextKind}
-use Rattle.ctl_tree.specs.declared.tree.ContextKind.TheVariants as ContextKind
 use Rattle.ctl_tree.specs.declared.tree.Formal.{Formal}
 use Rattle.ctl_tree.specs.declared.tree.Specification.{Specification}
 use Rattle.ctl_tree.specs.declared.tree.Association.{Association}
 use Rattle.ctl_tree.specs.declared.tree.Aspect.{Aspect}
 use Rattle.ctl_tree.specs.declared.tree.ComponentDeclaration.{ComponentDeclaration}
-use Rattle.ctl_tree.specs.declared.tree.AccessDefinition.{AccessDefinition}
 use Rattle.ctl_tree.specs.declared.tree.Definition.{Definition}
-use Rattle.ctl_tree.specs.declared.tree.Definition.TheVariants as Definition
 use Rattle.ctl_tree.specs.declared.tree.Objects.{Objects}
 use Rattle.ctl_tree.specs.declared.tree.Choices.{Choices}
-use Rattle.ctl_tree.specs.declared.tree.Choices.TheVariants as Choices
 use Rattle.ctl_tree.specs.declared.tree.Scheme.{Scheme}
-use Rattle.ctl_tree.specs.declared.tree.Scheme.TheVariants as Scheme
 use Rattle.ctl_tree.specs.declared.tree.Expression.{Expression}
 use Rattle.ctl_tree.specs.declared.tree.ExpressionKind.{ExpressionKind, Logical', Relation', Sum', Product', Unary', Number, String, Null, Name', Parentheses', New', Row_of-Expression, end_of-Expression, more_of-Expression, Row_of-Addend, end_of-Addend, more_of-Addend, Row_of-Multiplicand, end_of-Multiplicand, more_of-Multiplicand, Row_of-Suffix, end_of-Suffix, more_of-Suffix}
 use Rattle.ctl_tree.specs.declared.tree.Name.{Name}
@@ -41,16 +36,19 @@ use Rattle.ctl_tree.specs.declared.tree.StatementKind.{Row_of-Branch, end_of-Bra
 use Rattle.ctl_legality.specs.declared.library.Operation.{Operation}
 use Rattle.ctl_legality.specs.declared.library.Unit.{Unit}
 use Rattle.ctl_legality.specs.declared.view.Entity.{Entity}
-use Rattle.ctl_legality.specs.declared.view.Entity.TheVariants as Entity
 use Rattle.ctl_legality.specs.declared.view.Known.{Known}
 use Rattle.ctl_legality.specs.declared.view.Naming.{Naming}
-use Rattle.ctl_legality.specs.declared.view.Naming.TheVariants as Naming
 use Rattle.ctl_legality.specs.declared.view.Usage.{Usage}
-use Rattle.ctl_legality.specs.declared.view.Usage.TheVariants.{Designated, Plain}
+use Rattle.ctl_legality.specs.declared.view.Usage.TheVariants.{Designated, Parent, Allocated, Plain}
+use Rattle.ctl_legality.specs.declared.view.Effect.{Effect}
+use Rattle.ctl_legality.specs.declared.view.Effect.TheVariants.{Has, Uses, Initializes, Makes, Extends, Calls}
+use Rattle.ctl_freezing.specs.declared.fact.Deed.TheVariants.{Freezing, Initializing}
+use Rattle.ctl_freezing.specs.declared.fact.Early.TheVariants as Early
+use Rattle.ctl_freezing.specs.declared.fact.Fact.{Fact}
 use Rattle.ctl_legality.specs.Library.{root_unit, with_ancestors, names_of, operation_named}
 use Rattle.ctl_legality.specs.declared.view.Way.{Way}
 use Rattle.ctl_legality.specs.declared.view.Way.TheVariants.{Reaches, Stops}
-use Rattle.ctl_legality.specs.View.{View, way_from, folded, is_brought, standard, declare_library, declare, complete, within, completed_by, wants_body, is_incomplete, inside, region, behind_body}
+use Rattle.ctl_legality.specs.View.{View, way_from, folded, is_brought, standard, declare_library, declare, complete, within, completed_by, wants_body, is_incomplete, type_of_part, subprogram_of_part, inside, region, behind_body}
 
 -- A site, with what is in view there.
 pub data Site : Type 0 where
@@ -64,8 +62,12 @@ pub data Site : Type 0 where
   full_type : View → List ℕ → Span → Site
   -- a declaration of a type, by its first token
   type_item : View → Span → Site
+  -- a clause on a type: the name of the type, and the clause's first token
+  clause : View → Identifier → Span → Site
   -- the end of a declarative part
   end : View → Site
+  -- what the items of a declarative part do to its types
+  part : List Fact → Site
   -- a unit that a with clause names
   with_unit : List Identifier → Site
   -- a unit that a use clause names, where the with clauses bring these
@@ -119,6 +121,11 @@ abbrev pub selected : {m : _} → Row_of-Suffix m → List Identifier
 selected (more_of-Suffix (Selector id) rest) = id ∷ selected rest
 selected _ = []
 
+-- an allocator that gives no value
+abbrev pub has_no_value : Held-Allocator-value → Bool
+has_no_value Allocator-value-None' = true
+has_no_value (Allocator-value-Some' s k) = false
+
 abbrev mutual
   pub kind_sites : ExpressionKind → View → List Site
   kind_sites (Logical' o p s k n row) v = kind_sites k v ++ expression_row_sites row v
@@ -158,7 +165,7 @@ abbrev mutual
 
   -- an allocator: the handle, the type and the value (4.8, 13.11.4)
   pub allocator_sites : Allocator → View → List Site
-  allocator_sites (Allocator' handle mark value) v = handle_sites handle v ++ (dotted_site mark v Plain ∷ value_sites value v)
+  allocator_sites (Allocator' handle mark value) v = handle_sites handle v ++ (dotted_site mark v (Allocated (has_no_value value)) ∷ value_sites value v)
 
   pub handle_sites : Held-Allocator-handle → View → List Site
   handle_sites Allocator-handle-None' v = []
@@ -258,7 +265,7 @@ abbrev pub in_record : View → Identifier → View
 in_record v id = region (within v (folded id) id.span (Entity.«Type» true) (completed_type v id))
 
 abbrev pub component_sites : ComponentDeclaration → View → List Site
-component_sites c v = (dotted_site c.mark v Plain ∷ option_sites c.default v) ++ declared_each Naming.Component Entity.Object c.names.items v
+component_sites c v = (dotted_site c.mark v (Usage.Object (not (is_some c.default))) ∷ option_sites c.default v) ++ declared_each Naming.Component Entity.Object c.names.items v
 
 abbrev pub components_sites : List ComponentDeclaration → View → List Site
 components_sites [] v = []
@@ -275,7 +282,7 @@ aspect_sites (Some a) v = dotted_site a.pool v Plain ∷ []
 -- The designated type may be incomplete (3.10.1).
 abbrev pub definition_sites : Definition → View → Identifier → List Site
 definition_sites (Definition.Record limited components) v id = components_sites components.items (in_record v id)
-definition_sites (Definition.Extension parent components) v id = dotted_site parent (in_definition v id) Plain ∷ components_sites components.items (in_record v id)
+definition_sites (Definition.Extension parent components) v id = dotted_site parent (in_definition v id) Parent ∷ components_sites components.items (in_record v id)
 definition_sites (Definition.Access a) v id = dotted_site a.designated (in_definition v id) Designated ∷ aspect_sites a.aspect (in_definition v id)
 
 -- ---- items and statements (3.11, 5.1, 11.2)
@@ -297,7 +304,7 @@ after_item_row (more_of-Item s k rest) v = after_item_row rest (after_item k v)
 
 abbrev pub objects_sites : Objects → View → List Site
 objects_sites o v =
-    (dotted_site o.mark (hide_each o.names.items v) Plain
+    (dotted_site o.mark (hide_each o.names.items v) (Usage.Object (not (is_some o.value)))
     ∷ (associations_sites o.discriminants.items (hide_each o.names.items v) ++ option_sites o.value (hide_each o.names.items v)))
     ++ declared_each Naming.Direct Entity.Object o.names.items v
 
@@ -341,6 +348,126 @@ in_loop _ v = v
 abbrev pub after_handler : Handler → View → View
 after_handler (Handler' s choices n statements) v = after_choices choices v
 
+-- ---- what the names of an item do to the types of its part (13.14)
+
+abbrev pub when_default : Bool → ℕ → List Effect
+when_default by_default p = if by_default then Initializes p ∷ [] else []
+
+-- the effects of a name that denotes the type of this number
+abbrev pub effects_on : ℕ → Usage → List Effect
+effects_on p Designated = []
+effects_on p (Usage.Object by_default) = Has p ∷ Makes p ∷ when_default by_default p
+effects_on p Parent = Has p ∷ Makes p ∷ Initializes p ∷ Extends p ∷ []
+effects_on p (Allocated by_default) = Uses p ∷ Makes p ∷ when_default by_default p
+effects_on p Plain = Uses p ∷ []
+
+abbrev pub type_effects : Usage → List Identifier → Option Known → List Effect
+type_effects u rest None = []
+type_effects u rest (Some k) = if is_some_more rest then [] else effects_on k.place u
+
+abbrev pub call_effects : Usage → Option Known → List Effect
+call_effects Plain (Some k) = Calls ∷ []
+call_effects _ _ = []
+
+-- the effects of the name at a site, on the types of the part that it stands in
+unfoldable pub effects_at : Site → List Effect
+effects_at (named v id rest u) = type_effects u rest (type_of_part v (folded id)) ++ call_effects u (subprogram_of_part v (folded id))
+effects_at _ = []
+
+abbrev pub effects_of : List Site → List Effect
+effects_of [] = []
+effects_of (s ∷ ss) = effects_at s ++ effects_of ss
+
+-- what an item with these effects does
+abbrev pub done : Effect → Fact
+done (Has p) = Fact.Does (Freezing p)
+done (Uses p) = Fact.Does (Freezing p)
+done (Initializes p) = Fact.Does (Initializing p)
+done (Makes p) = Fact.Makes p
+done (Extends p) = Fact.Does (Freezing p)
+done Calls = Fact.Calls
+
+abbrev pub done_each : List Effect → List Fact
+done_each [] = []
+done_each (e ∷ es) = done e ∷ done_each es
+
+-- What a type entails with these effects: freezing it freezes its parts, and to initialize an object of it by default evaluates the
+-- defaults of its components. An extension freezes its parent by itself (13.14(7)).
+abbrev pub entailed : ℕ → Effect → Fact
+entailed t (Has p) = Fact.Entails (Freezing t) (Freezing p)
+entailed t (Uses p) = Fact.Entails (Initializing t) (Freezing p)
+entailed t (Initializes p) = Fact.Entails (Initializing t) (Initializing p)
+entailed t (Makes p) = Fact.Contains t p
+entailed t (Extends p) = Fact.Does (Freezing p)
+entailed t Calls = Fact.CallsFor t
+
+abbrev pub entailed_each : ℕ → List Effect → List Fact
+entailed_each t [] = []
+entailed_each t (e ∷ es) = entailed t e ∷ entailed_each t es
+
+abbrev pub object_each : List Identifier → List Fact
+object_each [] = []
+object_each (id ∷ ids) = Fact.Object id.span ∷ object_each ids
+
+-- ---- the facts of an item
+
+-- the type of the part whose operation this heading declares: the name is one of the operations', and its first parameter is of the type
+abbrev pub operand : View → Option Dotted → Option Known
+operand v None = None
+operand v (Some d) = if is_some_more d.rest.items then None else type_of_part v (folded d.first)
+
+-- to make an object, or to finalize it, calls these operations (7.6)
+abbrev pub is_called : Option Operation → Bool
+is_called (Some Operation.Initialize) = true
+is_called (Some Operation.Adjust) = true
+is_called (Some Operation.Finalize) = true
+is_called _ = false
+
+abbrev pub operation_facts : Specification → Option Operation → Option Known → List Fact
+operation_facts s None k = []
+operation_facts s (Some o) None = []
+operation_facts s (Some o) (Some k) =
+    Fact.Precedes (record { early = Early.Operation; number = k.place; span = s.name.span })
+    ∷ (if is_called (Some o) then Fact.CallsFor k.place ∷ [] else [])
+
+abbrev pub heading_facts : View → Specification → List Fact
+heading_facts v s = operation_facts s (operation_named (folded s.name)) (operand v (first_mark s.formals.items))
+
+abbrev pub body_facts : List Fact → Option Known → List Fact
+body_facts fs None = fs ++ (Fact.Body ∷ [])
+body_facts fs (Some k) = Fact.Body ∷ []
+
+abbrev pub pool_facts : Span → Option Known → List Fact
+pool_facts at None = []
+pool_facts at (Some k) = Fact.Precedes (record { early = Early.Pool; number = k.place; span = at }) ∷ []
+
+abbrev pub number_in : View → Option Known → ℕ
+number_in v None = length v.names
+number_in v (Some k) = k.place
+
+-- the number of the type that an item declares in full
+abbrev pub type_number : ItemKind → View → ℕ
+type_number (Item.«Type» id definition) v = number_in v (completed_type v id)
+type_number _ v = 0
+
+-- the facts that an item has by its form
+abbrev pub form_facts : Span → ItemKind → View → List Fact
+form_facts at (Item.Declaration overriding s) v = heading_facts v s
+form_facts at (Item.Body overriding s b) v = body_facts (heading_facts v s) (completed_body v s)
+form_facts at (Item.«Type» id definition) v = Fact.Declares (type_number (Item.«Type» id definition) v) ∷ []
+form_facts at (Item.Clause id attribute pool) v = pool_facts at (type_of_part v (folded id))
+form_facts at _ v = []
+
+-- the facts that an item has by what its names do
+abbrev pub name_facts : ItemKind → ℕ → List Effect → List Fact
+name_facts (Item.Instance id unit actuals) t es = done_each es
+name_facts (Item.«Type» id definition) t es = entailed_each t es
+name_facts (Item.Objects o) t es = done_each es ++ object_each o.names.items
+name_facts _ t es = []
+
+abbrev pub item_facts : Span → ItemKind → View → List Effect → List Fact
+item_facts at k v es = form_facts at k v ++ name_facts k (type_number k v) es ++ (Fact.Next ∷ [])
+
 abbrev mutual
   pub item_sites : Span → ItemKind → View → List Site
   item_sites at (Item.Declaration overriding s) v = declared v (heading_key s) s.name.span ∷ heading_sites s v
@@ -349,7 +476,7 @@ abbrev mutual
       (dotted_site unit (hide_each (id ∷ []) v) Plain ∷ associations_sites actuals.items (hide_each (id ∷ []) v)) ++ (declared v (folded id) id.span ∷ [])
   item_sites at (Item.Incomplete id tagged) v = type_item v at ∷ declared v (folded id) id.span ∷ []
   item_sites at (Item.«Type» id definition) v = type_item v at ∷ full_type v (folded id) id.span ∷ definition_sites definition v id
-  item_sites at (Item.Clause id attribute pool) v = named v id [] Plain ∷ dotted_site pool v Plain ∷ []
+  item_sites at (Item.Clause id attribute pool) v = named v id [] Plain ∷ clause v id at ∷ dotted_site pool v Plain ∷ []
   item_sites at (Item.Exceptions ids) v = declared_each Naming.Direct Entity.Exception ids.items v
   item_sites at (Item.Objects o) v = objects_sites o v
 
@@ -357,9 +484,14 @@ abbrev mutual
   item_row_sites end_of-Item v = []
   item_row_sites (more_of-Item s k rest) v = item_sites s k v ++ item_row_sites rest (after_item k v)
 
+  -- the facts of the items of a part, in their order
+  pub row_facts : {m : _} → Row_of-Item m → View → List Fact
+  row_facts end_of-Item v = []
+  row_facts (more_of-Item s k rest) v = item_facts s k v (effects_of (item_sites s k v)) ++ row_facts rest (after_item k v)
+
   -- the declarative part, its end, and what is handled
   pub body_sites : BodyPart → View → List Site
-  body_sites (BodyPart' n items handled name) v = item_row_sites items v ++ (end (after_item_row items v) ∷ handled_sites handled (after_item_row items v))
+  body_sites (BodyPart' n items handled name) v = item_row_sites items v ++ (end (after_item_row items v) ∷ part (row_facts items v) ∷ handled_sites handled (after_item_row items v))
 
   pub handled_sites : Handled → View → List Site
   handled_sites (Handled' n statements m handlers) v = statement_row_sites statements v ++ handler_row_sites handlers (region v)
@@ -373,7 +505,7 @@ abbrev mutual
   statement_sites (Raise d) v = option_mark_sites d v
   statement_sites (If' n branches m others) v = branch_row_sites branches v ++ statement_row_sites others v
   statement_sites (Loop' scheme n statements) v = scheme_sites scheme v ++ statement_row_sites statements (in_loop scheme v)
-  statement_sites (Block' n items handled) v = item_row_sites items (inside v) ++ (end (after_item_row items (inside v)) ∷ handled_sites handled (after_item_row items (inside v)))
+  statement_sites (Block' n items handled) v = item_row_sites items (inside v) ++ (end (after_item_row items (inside v)) ∷ part (row_facts items (inside v)) ∷ handled_sites handled (after_item_row items (inside v)))
 
   pub statement_row_sites : {m : _} → Row_of-Statement m → View → List Site
   statement_row_sites end_of-Statement v = []
@@ -419,9 +551,20 @@ abbrev pub handler_list_sites : List Handler → View → List Site
 handler_list_sites [] v = []
 handler_list_sites (h ∷ more) v = handler_sites h v ++ handler_list_sites more (after_handler h v)
 
--- a declarative part, its end, and what is handled
+abbrev pub one_item_facts : Item → View → List Fact
+one_item_facts i v = item_facts i.span i.kind v (effects_of (item_sites i.span i.kind v))
+
+abbrev pub item_list_facts : List Item → View → List Fact
+item_list_facts [] v = []
+item_list_facts (i ∷ more) v = one_item_facts i v ++ item_list_facts more (after_item i.kind v)
+
+-- a declarative part, its end, and its facts
+abbrev pub ended_sites : List Item → View → List Site
+ended_sites items v = item_list_sites items v ++ (end (after_item_list items v) ∷ part (item_list_facts items v) ∷ [])
+
+-- the same, and what is handled
 abbrev pub part_sites : List Item → Handled → View → List Site
-part_sites items handled v = item_list_sites items v ++ (end (after_item_list items v) ∷ handled_sites handled (after_item_list items v))
+part_sites items handled v = item_list_sites items v ++ (end (after_item_list items v) ∷ part (item_list_facts items v) ∷ handled_sites handled (after_item_list items v))
 
 -- ---- the context and the program (10.1.1, 10.1.2, 8.4)
 

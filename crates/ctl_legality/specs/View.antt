@@ -1,5 +1,5 @@
 -- What is in view at a place of the text, and what a name denotes there (8.2, 8.3, 8.6).
-use Rattle.std.specs.Prelude.{◌≡◌, ℕ, zero, suc, ◌+◌, ◌==◌, Bool, true, false, ◌&&◌, ◌||◌, not, nat_le, nat_lt, List, [], ◌∷◌, ◌++◌, length, fold, map, min, Option, Some, None, slice_set, is_some, if◌then◌else◌}
+use Rattle.std.specs.Prelude.{ℕ, zero, suc, ◌+◌, ◌==◌, Bool, true, false, ◌&&◌, ◌||◌, not, nat_le, List, [], ◌∷◌, ◌++◌, length, fold, min, Option, Some, None, if◌then◌else◌}
 use Rattle.std.specs.Str.{bytes_eq, str_to_ascii_lowercase}
 use Rattle.std.specs.List.{list_any}
 use Rattle.ctl_tree.specs.declared.span.Span.{Span}
@@ -9,7 +9,7 @@ use Rattle.ctl_legality.specs.declared.library.Unit.TheVariants.{Ada, TextIo, Fi
 use Rattle.ctl_legality.specs.declared.library.LibraryName.{LibraryName}
 use Rattle.ctl_legality.specs.declared.library.Operation.{Operation}
 use Rattle.ctl_legality.specs.declared.view.Entity.{Entity}
-use Rattle.ctl_legality.specs.declared.view.Entity.TheVariants.{Hidden, «Type», Subprogram, Object, Exception, Instance, Library}
+use Rattle.ctl_legality.specs.declared.view.Entity.TheVariants.{Hidden, «Type», Subprogram, Library}
 use Rattle.ctl_legality.specs.declared.view.Known.{Known}
 use Rattle.ctl_legality.specs.declared.view.Declaration.{Declaration}
 use Rattle.ctl_legality.specs.declared.view.Part.{Part}
@@ -19,7 +19,7 @@ use Rattle.ctl_legality.specs.declared.view.Meaning.{Meaning}
 use Rattle.ctl_legality.specs.declared.view.Meaning.TheVariants.{Means, UnknownAt, NotWithed}
 use Rattle.ctl_legality.specs.declared.view.Way.{Way}
 use Rattle.ctl_legality.specs.declared.view.Way.TheVariants.{Reaches, Stops}
-use Rattle.ctl_legality.specs.Library.{name_spelling, root_unit, child_of, with_ancestors, name_in, standard_names, operation_named}
+use Rattle.ctl_legality.specs.Library.{name_spelling, root_unit, child_of, name_in, standard_names, operation_named}
 
 -- Declarations in the order in which they were met, the innermost last; the region that they are seen from; and the library units
 -- that the with clauses bring.
@@ -168,6 +168,32 @@ complete v n at e (Some k) = known_as v k e
 abbrev pub within : View → List ℕ → Span → Entity → Option Known → View
 within v n at e None = declare v n at e
 within v n at e (Some k) = v
+
+-- ---- the declarative part around a place
+
+abbrev pub is_type : Entity → Bool
+is_type («Type» is_full) = true
+is_type _ = false
+
+abbrev pub is_subprogram : Entity → Bool
+is_subprogram (Subprogram has_body) = true
+is_subprogram _ = false
+
+-- does the declaration stand in the declarative part around?
+abbrev pub is_of_part : View → Known → Bool
+is_of_part v k = k.level == v.part.level
+
+abbrev pub of_part : (Entity → Bool) → View → Option Known → Option Known
+of_part test v None = None
+of_part test v (Some k) = if is_of_part v k && test k.entity then Some k else None
+
+-- the type of the part that this name denotes
+abbrev pub type_of_part : View → List ℕ → Option Known
+type_of_part v n = of_part is_type v (last_of v.names n)
+
+-- the subprogram of the part that this name denotes
+abbrev pub subprogram_of_part : View → List ℕ → Option Known
+subprogram_of_part v n = of_part is_subprogram v (last_of v.names n)
 
 -- ---- regions
 

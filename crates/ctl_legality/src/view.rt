@@ -89,7 +89,30 @@ pub enum Way {
 pub enum Usage {
     /// as the designated type of an access type, which may be incomplete (RM 3.10.1)
     Designated,
+    /// as the type of an object or of a component, and whether that has no value of its own (RM 3.3.1, 3.8)
+    Object(bool),
+    /// as the parent of an extension (RM 3.9.1)
+    Parent,
+    /// as the type of an object that an allocator makes, and whether that has no value of its own (RM 4.8)
+    Allocated(bool),
     Plain,
+}
+
+/// What a use of a name does to the types of the declarative part around it.
+#[derive(Clone, Copy, Debug, PartialEq, Eq)]
+pub enum Effect {
+    /// an object or a component is of this type, or an extension has it as its parent
+    Has(usize),
+    /// an expression is of this type, or the actual of an instance names it
+    Uses(usize),
+    /// an object of this type is initialized by default
+    Initializes(usize),
+    /// an object of this type is made, and will be finalized
+    Makes(usize),
+    /// this type is extended
+    Extends(usize),
+    /// a subprogram of the part is called
+    Calls,
 }
 
 /// What a declaration is known by in its region.
@@ -110,7 +133,9 @@ pub enum Rule {
     Duplicate,
     NoBody,
     Order,
+    Elab,
     NotWithed,
+    LatePrimitive,
 }
 
 /// A rule that is broken, and the place.

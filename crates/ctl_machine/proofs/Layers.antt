@@ -1,9 +1,10 @@
 -- The layers that are still to be finalized.
-use Rattle.std.proofs.Common.{◌≡◌, ℕ, zero, suc, ◌≤◌, List, [], ◌∷◌, ◌++◌, Some, None, Bool, true, false, refl, ap, ◌∙◌, length, reverse, take, slice_get, arith}
+use Rattle.std.proofs.Common.{◌≡◌, ℕ, zero, suc, ◌+◌, ◌≤◌, List, [], ◌∷◌, ◌++◌, Some, None, Bool, true, false, refl, ap, ◌∙◌, length, reverse, take, slice_get, arith}
 use Rattle.std.proofs.lemmas.List.{reverse-append, length-reverse}
 use Rattle.ctl_meaning.specs.World.{Layer}
 use Rattle.ctl_machine.specs.declared.frame.Frame.{Frame}
-use Rattle.ctl_machine.specs.declared.frame.Frame.TheVariants.{Statements, Leaving, Creating, Initializing, Finalizing}
+use Rattle.ctl_machine.specs.declared.frame.Frame.TheVariants.{Statements, Leaving, Creating, Initializing, Finalizing, Looping, Counting}
+use Rattle.ctl_machine.specs.Turns.{left_of}
 use Rattle.ctl_machine.specs.World.{Level, first_with_layer}
 use Rattle.ctl_machine.specs.Control.{oldest, done_of, after_of, frames_of, Fits}
 use Rattle.ctl_code.specs.States as Table
@@ -37,16 +38,20 @@ oldest_stay n layers y h = ap (λ l. reverse (take n l)) (reverse-append (y ∷ 
 pub frames_stay : (b : Bool) (k : List Frame) (ls : List Level) (y : Layer) → Fits b k ls → frames_of k (first_with_layer y ls) ≡ frames_of k ls
 frames_stay b k [] y h = refl
 frames_stay b [] (l ∷ ls) y h = refl
-frames_stay b (Statements after ∷ k) (l ∷ ls) y h = refl
+frames_stay b (Statements height after ∷ k) (l ∷ ls) y h = refl
 frames_stay b (Leaving d ∷ k) (l ∷ ls) y h = ap (λ x. Table.Leaving l.number x d.has_failed (done_of d.pending) (after_of d.afterwards ls) ∷ frames_of k ls) (oldest_stay d.remaining l.layers y h.1)
 frames_stay b (Creating o t next ∷ k) (l ∷ ls) y h = ap (λ r. Table.Creating o t l.display next ∷ r) (frames_stay true k (l ∷ ls) y h.1)
 frames_stay b (Initializing o t next ∷ k) (l ∷ ls) y h = ap (λ r. Table.Initializing o t l.display next ∷ r) (frames_stay true k (l ∷ ls) y h)
 frames_stay b (Finalizing o ∷ k) (l ∷ ls) y h = ap (λ r. Table.Finalizing o ∷ r) (frames_stay false k (l ∷ ls) y h)
+frames_stay b (Looping height entry count ∷ k) (l ∷ ls) y h = ap (λ r. Table.Looping height l.display (entry + count) ∷ r) (frames_stay true k (l ∷ ls) y h)
+frames_stay b (Counting height entry count x turns ∷ k) (l ∷ ls) y h = ap (λ r. Table.Counting height l.display (entry + count) x turns.in_reverse (left_of turns) turns.value ∷ r) (frames_stay true k (l ∷ ls) y h)
 
 pub fits_stay : (b : Bool) (k : List Frame) (ls : List Level) (y : Layer) → Fits b k ls → Fits b k (first_with_layer y ls)
 fits_stay b k [] y h = h
 fits_stay b [] (l ∷ ls) y h = tt
-fits_stay b (Statements after ∷ k) (l ∷ ls) y h = h
+fits_stay b (Statements height after ∷ k) (l ∷ ls) y h = h
+fits_stay b (Looping height entry count ∷ k) (l ∷ ls) y h = fits_stay true k (l ∷ ls) y h
+fits_stay b (Counting height entry count x turns ∷ k) (l ∷ ls) y h = fits_stay true k (l ∷ ls) y h
 fits_stay b (Leaving d ∷ k) (l ∷ ls) y h = (h.0, omega (arith, h.1), h.2)
 fits_stay b (Creating o t next ∷ k) (l ∷ ls) y h = (h.0, fits_stay true k (l ∷ ls) y h.1)
 fits_stay b (Initializing o t next ∷ k) (l ∷ ls) y h = fits_stay true k (l ∷ ls) y h

@@ -2,8 +2,11 @@ pub mod Numbers
 pub mod FreshSlots
 pub mod ObjectsByNumber
 pub mod MastersByNumber
-pub mod Worlds
 pub mod Soundness
+pub mod Worlds
+pub mod SlotsWritten
+pub mod OperandLists
+pub mod Images
 pub mod Levels
 pub mod Called
 pub mod Tops
@@ -14,3 +17,7 @@ pub mod Births
 pub mod Silent
 pub mod Steps
 pub mod Ends
+pub mod Moves
+pub mod LoopMoves
+pub mod ScalarMoves
+pub mod VariableMoves

@@ -1,6 +1,8 @@
 -- Lists whose items have rising numbers, and what a binary search finds in them.
-use Rattle.std.proofs.Common.{◌≡◌, ℕ, ◌<◌, ◌≤◌, ◌≢◌, List, [], map, length, get_or, set, Result, Ok, Err, IfSome, IfNone, true, false, reverse, sym, ap, ◌∙◌, arith}
-use Rattle.std.specs.Prelude.{All, nat_eq, ◌==◌}
+use Rattle.std.proofs.Common.{◌≡◌, ℕ, ◌<◌, ◌≤◌, ◌≢◌, List, [], map, length, get_or, set, Option, Some, None, Bor, refl, Result, Ok, Err, IfSome, IfNone, Bool, true, false, reverse, sym, ap, ◌∙◌, arith}
+use Rattle.std.specs.Prelude.{All, not, nat_eq, ◌==◌, MatchOption, option_copied, slice_get, unwrap_or, HoldsAt}
+use Rattle.std.proofs.lemmas.Option.{slice_get_past, slice_get-get_or}
+use Rattle.ctl_meaning.specs.Lists.{item_or}
 use Rattle.std.specs.Result.{result_ok}
 use Rattle.std.specs.List.Sorted.{IsSearchInRange, IsBinarySearchResult}
 use Rattle.std.specs.Ordering.{nat_cmp, ordering_index}
@@ -47,6 +49,25 @@ keys_stay key xs i d y same =
 -- the same item is read twice
 pub same_item : {X : Type 0} (xs : List X) (i : ℕ) (x y : X) → i < length xs → x ≡ get_or xs i x → y ≡ get_or xs i y → x ≡ y
 same_item xs i x y in_range first second = first ∙ get_or_default xs i x y in_range ∙ sym second
+
+-- a copy of what a look-up finds
+pub copy_is_item : {X : Type 0} (xs : List X) (i : ℕ) (r : Option (Bor X)) → MatchOption r (length xs ≤ i) (λ x. (i < length xs) × HoldsAt (λ y. x.now ≡ y) xs i) → option_copied r ≡ slice_get xs i
+copy_is_item xs i None past = sym (slice_get_past xs i past)
+copy_is_item {X} xs i (Some x) here = ap (λ (y : X). Some y) (here.1 x.now) ∙ sym (slice_get-get_or xs i x.now here.0)
+
+pub unwrapped : {X : Type 0} (o : Option X) (d : X) → unwrap_or o d ≡ item_or d o
+unfolding item_or
+unwrapped None d = refl
+unwrapped (Some x) d = refl
+
+-- what a denied test says
+pub is_false : (b : Bool) → not b ≡ true → false ≡ b
+is_false true denied = absurd (cc)
+is_false false denied = refl
+
+pub is_true : (b : Bool) → not b ≡ false → true ≡ b
+is_true true denied = refl
+is_true false denied = absurd (cc)
 
 -- what a test of a length says
 pub is_empty : {X : Type 0} (xs : List X) (n : ℕ) → true ≡ (n == 0) → n ≡ length xs → xs ≡ []

@@ -1,18 +1,20 @@
 -- The machine's objects, by number and by master, as the meaning finds and changes them.
-use Rattle.std.proofs.Common.{◌≡◌, ℕ, zero, suc, ◌<◌, ◌≤◌, ◌≢◌, List, [], ◌∷◌, length, get_or, set, take, Some, None, true, false, refl, sym, ap, ◌∙◌, arith}
-use Rattle.std.specs.Prelude.{All, nat_lt, if◌then◌else◌}
+use Rattle.std.proofs.Common.{◌≡◌, ℕ, zero, suc, ◌+◌, ◌<◌, ◌≤◌, ◌≢◌, List, [], ◌∷◌, ◌++◌, length, get_or, set, take, Option, Some, None, true, false, refl, sym, ap, ◌∙◌, arith}
+use Rattle.std.specs.Prelude.{All, nat_lt, if◌then◌else◌, unwrap_or}
 use Rattle.std.specs.List.Sorted.{IsNonDecreasingBy, IsPartitionPoint}
 use Rattle.std.proofs.lemmas.List.{length-map, get_or-map, map-set}
 use Rattle.std.proofs.lemmas.List.Elements.{All-head, All-tail}
 use Rattle.std.proofs.lemmas.Bool.Decides.{nat_tests}
+use Rattle.ctl_tree.specs.declared.checked.Ty.{Ty}
 use Rattle.ctl_meaning.specs.World as W
 use Rattle.ctl_meaning.specs.Lists.{opened_lists}
-use Rattle.ctl_meaning.specs.Objects.{object_in, change_in, is_untouched, with_begun, with_finalized, opened_objects}
+use Rattle.ctl_meaning.specs.Objects.{object_in, change_in, cells_at, is_untouched, with_begun, with_cells, with_finalized, opened_objects}
+use Rattle.ctl_meaning.specs.Names.{scalar_of, opened_names}
 use Rattle.ctl_machine.specs.declared.objects.State.{State}
 use Rattle.ctl_machine.specs.declared.objects.State.TheVariants.{Untouched, Finalizing, Finalized}
 use Rattle.ctl_machine.specs.declared.objects.Object.{Object}
 use Rattle.ctl_machine.specs.Numbers.{StandsAt}
-use Rattle.ctl_machine.specs.Objects.{state_of, object_of, objects_of, homes, IsRising, InOrder, UpTo, StayInPlace, kept_without}
+use Rattle.ctl_machine.specs.Objects.{state_of, cells_of, object_of, objects_of, homes, numbers, IsRising, IsBehind, InOrder, UpTo, StayInPlace, kept_without}
 use Rattle.ctl_machine.proofs.Numbers.{eq_same, eq_differs, rises_at, keys_stay}
 
 number_of : Object → ℕ
@@ -81,15 +83,51 @@ unfolding opened_objects
 begun o = refl
 
 -- s is what a completed finalization makes of the state t
-completed : (number record_type master : ℕ) (s t : State) → state_of s ≡ (if is_untouched (state_of t) then W.Untouched else W.Finalized)
-    → object_of (record { number = number; record_type = record_type; master = master; state = s }) ≡ with_finalized (object_of (record { number = number; record_type = record_type; master = master; state = t }))
+completed : (number master : ℕ) (ty : Ty) (cell : Option ℕ) (s t : State) → state_of s ≡ (if is_untouched (state_of t) then W.Untouched else W.Finalized)
+    → object_of (record { number = number; ty = ty; cell = cell; master = master; state = s }) ≡ with_finalized (object_of (record { number = number; ty = ty; cell = cell; master = master; state = t }))
 unfolding opened_objects
-completed number record_type master s Untouched is = rw is refl
-completed number record_type master s Finalizing is = rw is refl
-completed number record_type master s Finalized is = rw is refl
+completed number master ty cell s Untouched is = rw is refl
+completed number master ty cell s Finalizing is = rw is refl
+completed number master ty cell s Finalized is = rw is refl
 
 pub ended : (o : Object) (s : State) → state_of s ≡ (if is_untouched (state_of o.state) then W.Untouched else W.Finalized) → object_of (record o { state = s }) ≡ with_finalized (object_of o)
-ended o s is = completed o.number o.record_type o.master s o.state is
+ended o s is = completed o.number o.master o.ty o.cell s o.state is
+
+-- Scalars ---------------------------------------------------------------------------------------------
+
+read_cell : (number master : ℕ) (ty : Ty) (cell : Option ℕ) (s : State) → unwrap_or cell 0 ≡ scalar_of (cells_at 0 1 (object_of (record { number = number; ty = ty; cell = cell; master = master; state = s })))
+unfolding opened_objects opened_names opened_lists
+read_cell number master ty None s = refl
+read_cell number master ty (Some x) s = refl
+
+pub cell_read : (o : Object) → unwrap_or o.cell 0 ≡ scalar_of (cells_at 0 1 (object_of o))
+cell_read o = read_cell o.number o.master o.ty o.cell o.state
+
+write_cell : (number master : ℕ) (ty : Ty) (cell : Option ℕ) (s : State) (x : ℕ) → object_of (record { number = number; ty = ty; cell = Some x; master = master; state = s }) ≡ with_cells 0 (x ∷ []) (object_of (record { number = number; ty = ty; cell = cell; master = master; state = s }))
+unfolding opened_objects
+write_cell number master ty None s x = refl
+write_cell number master ty (Some y) s x = refl
+
+pub cell_written : (o : Object) (x : ℕ) → object_of (record o { cell = Some x }) ≡ with_cells 0 (x ∷ []) (object_of o)
+cell_written o x = write_cell o.number o.master o.ty o.cell o.state x
+
+-- An object behind all others ------------------------------------------------------------------------------
+
+tail_behind : (g : ℕ) (x : Object) (xs : List Object) → IsBehind g (x ∷ xs) → IsBehind g xs
+tail_behind g x xs behind i d in_range = behind (suc i) d (omega arith)
+
+is_earlier : (g : ℕ) (x : Object) (xs : List Object) → IsBehind g (x ∷ xs) → x.number ≢ g + 1
+is_earlier g x xs behind same = let most : x.number ≤ g = behind 0 0 (omega arith) in omega arith
+
+pub newest_found : (g : ℕ) (xs : List Object) (y : W.Object) → IsBehind g xs → y.number ≡ g + 1 → object_in (g + 1) (objects_of xs ++ y ∷ []) ≡ Some y
+unfolding opened_lists opened_objects
+newest_found g [] y behind number = rw (eq_same y.number (g + 1) number) refl
+newest_found g (x ∷ xs) y behind number = rw (eq_differs x.number (g + 1) (is_earlier g x xs behind)) (newest_found g xs y (tail_behind g x xs behind) number)
+
+pub newest_changes : (g : ℕ) (f : W.Object → W.Object) (xs : List Object) (y : W.Object) → IsBehind g xs → y.number ≡ g + 1 → change_in (g + 1) f (objects_of xs ++ y ∷ []) ≡ objects_of xs ++ f y ∷ []
+unfolding opened_lists opened_objects
+newest_changes g f [] y behind number = rw (eq_same y.number (g + 1) number) refl
+newest_changes g f (x ∷ xs) y behind number = rw (eq_differs x.number (g + 1) (is_earlier g x xs behind)) (ap (λ (ys : List W.Object). object_of x ∷ ys) (newest_changes g f xs y (tail_behind g x xs behind) number))
 
 -- Objects of the newest master ---------------------------------------------------------------------------
 

@@ -1,18 +1,25 @@
 -- A step that hands on a result shows nothing.
-use Rattle.std.proofs.Common.{◌≡◌, ℕ, List, [], ◌∷◌, Option, Some, None, Bool, refl, slice_get}
-use Rattle.std.specs.Prelude.{◌||◌}
+use Rattle.std.proofs.Common.{◌≡◌, ℕ, zero, suc, ℤ, pos, negsuc, List, [], ◌∷◌, Option, Some, None, Bool, true, false, refl, slice_get}
+use Rattle.std.specs.Prelude.{◌||◌, not, ◌-ℤ◌}
 use Rattle.ctl_tree.specs.declared.checked.Ty.{Ty}
 use Rattle.ctl_tree.specs.declared.checked.Ty.TheVariants.{Integer, Count, Boolean, Address, Handle, Access, Record}
+use Rattle.ctl_tree.specs.declared.checked.Var.{Var}
+use Rattle.ctl_tree.specs.declared.checked.Shortcut.{Shortcut}
 use Rattle.ctl_tree.specs.declared.event.Event.{Event}
 use Rattle.ctl_meaning.specs.World.{Object, Layer, Single, Sets, Slot, World}
-use Rattle.ctl_meaning.specs.Changes.{object_at, begin_finalization}
+use Rattle.ctl_meaning.specs.Changes.{object_at, write_cells, begin_finalization}
+use Rattle.ctl_meaning.specs.Names.{Found, InObject, InCopy, Alone}
+use Rattle.ctl_meaning.specs.Numbers.{signed, is_true, unary, binary}
+use Rattle.ctl_meaning.specs.Expressions.{decides}
 use Rattle.ctl_meaning.specs.Outcome.{ByExit, ByReturn, ByRaise, Result, Goes, Leaves, Done}
+use Rattle.ctl_machine.specs.Machine.{gives}
 use Rattle.ctl_code.specs.declared.code.Instr.{Instr}
-use Rattle.ctl_code.specs.declared.code.Instr.TheVariants.{Start, Enter, Declare, Put, PutLine, NewLine, Leave, Missing}
+use Rattle.ctl_code.specs.declared.code.Instr.TheVariants.{Start, Enter, Declare, DeclareScalar, DeclareValue, Push, Read, Assign, Unary, Binary, Decide, Skip, Unless, Loop, Repeat, For, Next, Exit, ExitWhen, ExitUnless, Put, PutLine, NewLine, Leave, Missing}
+use Rattle.ctl_code.specs.declared.template.TextPart.{TextPart}
 use Rattle.ctl_code.specs.declared.code.Entry.{Entry}
 use Rattle.ctl_code.specs.declared.code.Code.{Code}
-use Rattle.ctl_code.specs.States.{Mode, At, Giving, Stopped, Stuck, After, Frame, InMaster, Leaving, Creating, Initializing, Finalizing, Move}
-use Rattle.ctl_code.specs.Table.{enter_body, call_operation, operation_of, by_text, by_instr, begin_object, next_layer, left_mode, come_to_life, by_frame, act}
+use Rattle.ctl_code.specs.States.{Mode, At, Giving, Stopped, Stuck, After, Frame, InMaster, Leaving, Creating, Initializing, Finalizing, Looping, Counting, Move}
+use Rattle.ctl_code.specs.Table.{enter_body, call_operation, operation_of, with_scalar, by_result, by_decision, by_held, by_read, found_by, by_kept, by_write, by_assign, by_scalar, by_value, by_declaration, by_exit, by_test, by_range, by_for, by_next, behind_loop, by_text, by_instr, begin_object, next_layer, left_mode, come_to_life, by_frame, act}
 
 -- where a result is handed on, nothing is shown
 abbrev pub silent_at : Mode → List Event → Type 0
@@ -39,37 +46,120 @@ silent_call code f e n None k ops w = tt
 silent_call code None e n (Some o) k ops w = refl
 silent_call code (Some f) e n (Some o) k ops w = silent_enter (slice_get code.entries.items f) (e ∷ []) _ _ k ops w
 
-silent_text : (v : Option (List ℕ)) (es : List Event) (d : List ℕ) (place : ℕ) (k : List Frame) (ops : List ℕ) (w : World) → IsSilent (by_text v es d place k ops w)
+silent_text : (v : Option (List TextPart)) (es : List Event) (d : List ℕ) (place : ℕ) (k : List Frame) (ops : List ℕ) (w : World) → IsSilent (by_text v es d place k ops w)
 silent_text None es d place k ops w = tt
 silent_text (Some v) es d place k ops w = tt
+
+silent_result : (x : Option ℕ) (d : List ℕ) (place : ℕ) (k : List Frame) (ops : List ℕ) (w : World) → IsSilent (by_result x d place k ops w)
+silent_result None d place k ops w = refl
+silent_result (Some x) d place k ops w = tt
+
+silent_decision : (b : Bool) (n count : ℕ) (d : List ℕ) (place : ℕ) (k : List Frame) (ops : List ℕ) (w : World) → IsSilent (by_decision b n count d place k ops w)
+silent_decision true n count d place k ops w = tt
+silent_decision false n count d place k ops w = tt
+
+silent_held : (offset : ℕ) (o : Option Object) (d : List ℕ) (place : ℕ) (k : List Frame) (ops : List ℕ) (w : World) → IsSilent (by_held offset o d place k ops w)
+silent_held offset None d place k ops w = tt
+silent_held offset (Some o) d place k ops w = tt
+
+silent_read : (f : Found) (d : List ℕ) (place : ℕ) (k : List Frame) (ops : List ℕ) (w : World) → IsSilent (by_read f d place k ops w)
+silent_read (InObject n offset path) d place k ops w = silent_held offset (object_at n w) d place k ops w
+silent_read (InCopy m i offset) d place k ops w = tt
+silent_read (Alone v) d place k ops w = tt
+
+silent_kept : (n offset x : ℕ) (o : Option Object) (d : List ℕ) (place : ℕ) (k : List Frame) (ops : List ℕ) (w : World) → IsSilent (by_kept n offset x o d place k ops w)
+silent_kept n offset x None d place k ops w = tt
+silent_kept n offset x (Some o) d place k ops w = tt
+
+silent_write : (f : Found) (x : ℕ) (d : List ℕ) (place : ℕ) (k : List Frame) (ops : List ℕ) (w : World) → IsSilent (by_write f x d place k ops w)
+silent_write (InObject n offset path) x d place k ops w = silent_kept n offset x (object_at n w) d place k ops w
+silent_write (InCopy m i offset) x d place k ops w = tt
+silent_write (Alone v) x d place k ops w = tt
+
+silent_scalar : (n : ℕ) (ty : Ty) (o : Option Object) (d : List ℕ) (place : ℕ) (k : List Frame) (ops : List ℕ) (w : World) → IsSilent (by_scalar n ty o d place k ops w)
+silent_scalar n ty None d place k ops w = tt
+silent_scalar n ty (Some o) d place k ops w = tt
+
+silent_value : (n : ℕ) (ty : Ty) (x : ℕ) (o : Option Object) (d : List ℕ) (place : ℕ) (k : List Frame) (ops : List ℕ) (w : World) → IsSilent (by_value n ty x o d place k ops w)
+silent_value n ty x None d place k ops w = tt
+silent_value n ty x (Some o) d place k ops w = silent_scalar n ty (object_at n (write_cells n 0 (x ∷ []) w)) d place k ops (write_cells n 0 (x ∷ []) w)
+
+silent_exit : (b : Bool) (d : List ℕ) (place : ℕ) (k : List Frame) (ops : List ℕ) (w : World) → IsSilent (by_exit b d place k ops w)
+silent_exit true d place k ops w = refl
+silent_exit false d place k ops w = tt
+
+silent_test : (f : Bool → Bool) (d : List ℕ) (place : ℕ) (k : List Frame) (ops : List ℕ) (w : World) → IsSilent (by_test f d place k ops w)
+silent_test f d place k [] w = tt
+silent_test f d place k (x ∷ ops) w = silent_exit (f (is_true x)) d place k ops w
+
+silent_range : (z : ℤ) (v : Var) (reverse : Bool) (low high : ℤ) (count : ℕ) (d : List ℕ) (place : ℕ) (k : List Frame) (ops : List ℕ) (w : World) → IsSilent (by_range z v reverse low high count d place k ops w)
+silent_range (pos n) v reverse low high count d place k ops w = tt
+silent_range (negsuc n) v reverse low high count d place k ops w = tt
+
+silent_next : (count : ℕ) (d : List ℕ) (place : ℕ) (k : List Frame) (ops : List ℕ) (w : World) → IsSilent (by_next count d place k ops w)
+silent_next count d place [] ops w = tt
+silent_next count d place (InMaster m h after ∷ k) ops w = tt
+silent_next count d place (Leaving m xs failed r after ∷ k) ops w = tt
+silent_next count d place (Creating n t seen behind ∷ k) ops w = tt
+silent_next count d place (Initializing n t seen behind ∷ k) ops w = tt
+silent_next count d place (Finalizing n ∷ k) ops w = tt
+silent_next count d place (Looping h seen behind ∷ k) ops w = tt
+silent_next count d place (Counting h seen behind v reverse zero z ∷ k) ops w = tt
+silent_next count d place (Counting h seen behind v reverse (suc n) z ∷ k) ops w = tt
 
 silent_instr : (code : Code) (i : Option Instr) (d : List ℕ) (place : ℕ) (k : List Frame) (ops : List ℕ) (w : World) → IsSilent (by_instr code i d place k ops w)
 silent_instr code None d place k ops w = tt
 silent_instr code (Some (Start f)) d place k ops w = silent_enter (slice_get code.entries.items f) [] d [] k ops w
 silent_instr code (Some (Enter slots n)) d place k ops w = tt
 silent_instr code (Some (Declare slot t)) d place k ops w = refl
+silent_instr code (Some (DeclareScalar slot ty)) d place k ops w = silent_scalar w.ledger.next_object ty (object_at w.ledger.next_object (with_scalar d slot ty w)) d place k ops (with_scalar d slot ty w)
+silent_instr code (Some (DeclareValue slot ty)) d place k [] w = tt
+silent_instr code (Some (DeclareValue slot ty)) d place k (x ∷ ops) w = silent_value w.ledger.next_object ty x (object_at w.ledger.next_object (with_scalar d slot ty w)) d place k ops (with_scalar d slot ty w)
+silent_instr code (Some (Push n)) d place k ops w = tt
+silent_instr code (Some (Read v)) d place k ops w = silent_read (found_by d v w) d place k ops w
+silent_instr code (Some (Assign v)) d place k [] w = tt
+silent_instr code (Some (Assign v)) d place k (x ∷ ops) w = silent_write (found_by d v w) x d place k ops w
+silent_instr code (Some (Unary op ty)) d place k [] w = tt
+silent_instr code (Some (Unary op ty)) d place k (n ∷ ops) w = silent_result (unary op ty n) d place k ops w
+silent_instr code (Some (Binary op ty)) d place k [] w = tt
+silent_instr code (Some (Binary op ty)) d place k (b ∷ []) w = tt
+silent_instr code (Some (Binary op ty)) d place k (b ∷ a ∷ ops) w = silent_result (binary op ty a b) d place k ops w
+silent_instr code (Some (Decide form count)) d place k [] w = tt
+silent_instr code (Some (Decide form count)) d place k (n ∷ ops) w = silent_decision (decides form (n ∷ [])) n count d place k ops w
+silent_instr code (Some (Skip count)) d place k ops w = tt
+silent_instr code (Some (Unless count)) d place k [] w = tt
+silent_instr code (Some (Unless count)) d place k (x ∷ ops) w = tt
+silent_instr code (Some (Loop count)) d place k ops w = tt
+silent_instr code (Some (Repeat count)) d place k ops w = tt
+silent_instr code (Some (For v reverse count)) d place k [] w = tt
+silent_instr code (Some (For v reverse count)) d place k (b ∷ []) w = tt
+silent_instr code (Some (For v reverse count)) d place k (b ∷ a ∷ ops) w = silent_range (signed b -ℤ signed a) v reverse (signed a) (signed b) count d place k ops w
+silent_instr code (Some (Next count)) d place k ops w = silent_next count d place k ops w
+silent_instr code (Some Exit) d place k ops w = refl
+silent_instr code (Some ExitWhen) d place k ops w = silent_test (λ b. b) d place k ops w
+silent_instr code (Some ExitUnless) d place k ops w = silent_test not d place k ops w
 silent_instr code (Some (Put n)) d place k ops w = silent_text (slice_get code.texts.items n) [] d place k ops w
 silent_instr code (Some (PutLine n)) d place k ops w = silent_text (slice_get code.texts.items n) _ d place k ops w
 silent_instr code (Some NewLine) d place k ops w = tt
 silent_instr code (Some Leave) d place k ops w = refl
 silent_instr code (Some Missing) d place k ops w = tt
 
+silent_object : (code : Code) (n t : ℕ) (o : Option Object) (k : List Frame) (ops : List ℕ) (w : World) → IsSilent (begin_object code (record { number = n; ty = Record t }) o k ops w)
+silent_object code n t None k ops w = tt
+silent_object code n t (Some o) k ops w = silent_call code (operation_of (λ x. x.finalize) code t) _ n (object_at n (begin_finalization n w)) (Finalizing n ∷ k) ops (begin_finalization n w)
+
 silent_layer : (code : Code) (m : ℕ) (xs : List Layer) (failed : Bool) (r : Result Done) (after : After) (k : List Frame) (ops : List ℕ) (w : World) → IsSilent (next_layer code m xs failed r after k ops w)
 silent_layer code m [] failed r after k ops w = silent_mode (left_mode after failed r)
-silent_layer code m (Single x ∷ xs) failed r after k ops w = begins (object_at x.number w) x.ty
+silent_layer code m (Single x ∷ xs) failed r after k ops w = passes x.ty
   where
-    v : World
-    v = begin_finalization x.number w
-
-    begins : (o : Option Object) (ty : Ty) → IsSilent (begin_object code (record { number = x.number; ty = ty }) o (Leaving m xs failed r after ∷ k) ops w)
-    begins None ty = tt
-    begins (Some o) (Record t) = silent_call code (operation_of (λ x. x.finalize) code t) _ x.number (object_at x.number v) (Finalizing x.number ∷ Leaving m xs failed r after ∷ k) ops v
-    begins (Some o) Integer = tt
-    begins (Some o) Count = tt
-    begins (Some o) Boolean = tt
-    begins (Some o) Address = tt
-    begins (Some o) Handle = tt
-    begins (Some o) (Access a) = tt
+    passes : (ty : Ty) → IsSilent (next_layer code m (Single (record { number = x.number; ty = ty }) ∷ xs) failed r after k ops w)
+    passes (Record t) = silent_object code x.number t (object_at x.number w) (Leaving m xs failed r after ∷ k) ops w
+    passes Integer = refl
+    passes Count = refl
+    passes Boolean = refl
+    passes Address = refl
+    passes Handle = refl
+    passes (Access a) = refl
 silent_layer code m (Sets s ∷ xs) failed r after k ops w = tt
 
 silent_birth : (code : Code) (n t : ℕ) (o : Option Object) (d : List ℕ) (place : ℕ) (k : List Frame) (ops : List ℕ) (w : World) → IsSilent (come_to_life code n t o d place k ops w)
@@ -90,6 +180,8 @@ silent_frame code (Goes b) (Finalizing n) k ops w = refl
 silent_frame code (Leaves ByExit) (Finalizing n) k ops w = refl
 silent_frame code (Leaves (ByReturn v)) (Finalizing n) k ops w = refl
 silent_frame code (Leaves (ByRaise e)) (Finalizing n) k ops w = refl
+silent_frame code r (Looping height d place) k ops w = silent_mode (behind_loop d place r)
+silent_frame code r (Counting height d place v reverse left z) k ops w = silent_mode (behind_loop d place r)
 
 pub silent : (code : Code) (m : Mode) (k : List Frame) (ops : List ℕ) (w : World) (pick : ℕ) → IsSilent (act code m k ops w pick)
 silent code (At d place) k ops w pick = silent_instr code (slice_get code.instructions.items place) d place k ops w
@@ -97,3 +189,9 @@ silent code (Giving r) [] ops w pick = refl
 silent code (Giving r) (f ∷ k) ops w pick = silent_frame code r f k ops w
 silent code (Stopped s) k ops w pick = tt
 silent code Stuck k ops w pick = tt
+
+pub shows_nothing : (m : Mode) (es : List Event) → silent_at m es → gives m ≡ true → es ≡ []
+shows_nothing (At d place) es quiet given = absurd (cc)
+shows_nothing (Giving r) es quiet given = quiet
+shows_nothing (Stopped s) es quiet given = absurd (cc)
+shows_nothing Stuck es quiet given = absurd (cc)

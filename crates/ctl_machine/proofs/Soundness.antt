@@ -1,6 +1,6 @@
 -- What the machine keeps of its masters and objects holds after each change.
-use Rattle.std.proofs.Common.{◌≡◌, ℕ, zero, suc, ◌+◌, ◌<◌, ◌≤◌, ◌≢◌, List, [], ◌∷◌, ◌++◌, map, reverse, length, get_or, take, Vec, Global, refl, sym, subst, inl, inr, add-one, arith}
-use Rattle.std.specs.Prelude.{All, Contains}
+use Rattle.std.proofs.Common.{◌≡◌, ℕ, zero, suc, ◌+◌, ◌<◌, ◌≤◌, ◌≢◌, List, [], ◌∷◌, ◌++◌, map, reverse, length, get_or, take, Bool, true, false, Vec, Global, refl, sym, ap, ◌∙◌, subst, inl, inr, add-one, arith}
+use Rattle.std.specs.Prelude.{All, Contains, slice_set}
 use Rattle.std.proofs.lemmas.List.{map-append, reverse-append, take-map, get_or-take, length-take, length-append, get_or_append_left, get_or_push}
 use Rattle.std.proofs.lemmas.List.Elements.{All-nil, All-cons, All-push, All-take, All-weaker, All-contains, All-map}
 use Rattle.std.proofs.lemmas.List.Sorted.{IsNonDecreasingBy-push, IsNonDecreasingBy-take}
@@ -10,9 +10,11 @@ use Rattle.ctl_machine.specs.declared.objects.Object.{Object}
 use Rattle.ctl_machine.specs.declared.masters.Slot.{Slot}
 use Rattle.ctl_machine.specs.declared.masters.Member.{Member}
 use Rattle.ctl_machine.specs.declared.masters.Master.{Master}
+use Rattle.ctl_meaning.specs.World as W
+use Rattle.ctl_machine.specs.Masters.{slot_of}
 use Rattle.ctl_machine.specs.Numbers.{Rises}
 use Rattle.ctl_machine.specs.Objects.{numbers, homes, UpTo, StayInPlace, IsFrontOf, kept_without}
-use Rattle.ctl_machine.specs.World.{AreNested, AreLast, AreDeclaredIn, numbers_of, IsSound}
+use Rattle.ctl_machine.specs.World.{AreNested, AreLast, AreDeclaredIn, numbers_of, layers_with, IsSound}
 use Rattle.ctl_machine.proofs.Numbers.{eq_same, eq_differs}
 use Rattle.ctl_machine.proofs.MastersByNumber.{below}
 
@@ -33,19 +35,23 @@ rises_take ns k rises i j d lt in_range =
 
 -- Masters ----------------------------------------------------------------------------------------------
 
-slots_nested : (m : Master) (s : Vec Slot Global) (ms : List Master) → AreNested m ms → AreNested (record m { slots = s }) ms
-slots_nested m s [] nested = nested
-slots_nested m s (o ∷ ms) nested = nested
+none_written : (slots : List Slot) (slot : ℕ) (x : W.Slot) → map slot_of slots ≡ slice_set [] slot x → slots ≡ []
+none_written [] slot x put = refl
+none_written (y ∷ ys) slot x put = absurd (cc)
+
+pub slots_nested : (m : Master) (s : Vec Slot Global) (slot : ℕ) (x : W.Slot) (ms : List Master) → map slot_of s.items ≡ slice_set (map slot_of m.slots.items) slot x → AreNested m ms → AreNested (record m { slots = s }) ms
+slots_nested m s slot x [] put nested = (nested.0, nested.1, nested.2, none_written s.items slot x (put ∙ ap (λ (l : List Slot). slice_set (map slot_of l) slot x) nested.3))
+slots_nested m s slot x (o ∷ ms) put nested = nested
 
 layers_nested : (m : Master) (l : Vec Member Global) (ms : List Master) → 0 < length ms → AreNested m ms → AreNested (record m { layers = l }) ms
 layers_nested m l [] inner nested = absurd (omega arith)
 layers_nested m l (o ∷ ms) inner nested = nested
 
 same_layers_nested : (m : Master) (l : Vec Member Global) (ms : List Master) → l.items ≡ m.layers.items → AreNested m ms → AreNested (record m { layers = l }) ms
-same_layers_nested m l [] same nested = (nested.0, nested.1, rw same nested.2)
+same_layers_nested m l [] same nested = (nested.0, nested.1, rw same nested.2, nested.3)
 same_layers_nested m l (o ∷ ms) same nested = nested
 
-slots_last : (m : Master) (s : Vec Slot Global) (ms : List Master) → AreLast m ms → AreLast (record m { slots = s }) ms
+pub slots_last : (m : Master) (s : Vec Slot Global) (ms : List Master) → AreLast m ms → AreLast (record m { slots = s }) ms
 slots_last m s [] last = tt
 slots_last m s (o ∷ ms) last = last
 
@@ -92,9 +98,9 @@ module _ (g h : ℕ) (m : Master) (older : List Master) (xs : List Object) (soun
   sound_same_layers l same = record { nested = same_layers_nested m l (reverse older) same sound.nested; last = layers_last m l (reverse older) sound.last; given = sound.given; rising = sound.rising; behind = sound.behind; in_order = sound.in_order; declared = sound.declared }
 
   -- an object of the newest master
-  pub sound_declared : (s : Vec Slot Global) (o : Object) → o.number ≡ g + 1 → o.master ≡ m.number → IsSound (g + 1) h (record m { slots = s }) older (xs ++ o ∷ [])
-  sound_declared s o number master = record {
-    nested = slots_nested m s (reverse older) sound.nested;
+  pub sound_declared : (s : Vec Slot Global) (slot : ℕ) (x : W.Slot) (o : Object) → map slot_of s.items ≡ slice_set (map slot_of m.slots.items) slot x → o.number ≡ g + 1 → o.master ≡ m.number → IsSound (g + 1) h (record m { slots = s }) older (xs ++ o ∷ [])
+  sound_declared s slot x o put number master = record {
+    nested = slots_nested m s slot x (reverse older) put sound.nested;
     last = slots_last m s (reverse older) sound.last;
     given = sound.given;
     rising = rw (map-append (λ (x : Object). x.number) xs (o ∷ []), number) (rises_push (numbers xs) g sound.rising sound.behind);
@@ -102,6 +108,10 @@ module _ (g h : ℕ) (m : Master) (older : List Master) (xs : List Object) (soun
     in_order = rw (map-append (λ (x : Object). x.master) xs (o ∷ []), master) (IsNonDecreasingBy-push (λ n. n) (homes xs) m.number sound.in_order (λ d some. newest_bounds _ d (omega arith)));
     declared = rw (map-append (λ (x : Object). x.master) xs (o ∷ []), master) (All-push (Contains (numbers_of m (reverse older))) (homes xs) m.number sound.declared (0, omega arith, refl));
   }
+
+  -- a slot of the newest master is written
+  pub sound_slots : (s : Vec Slot Global) (slot : ℕ) (x : W.Slot) → map slot_of s.items ≡ slice_set (map slot_of m.slots.items) slot x → IsSound g h (record m { slots = s }) older xs
+  sound_slots s slot x put = record { nested = slots_nested m s slot x (reverse older) put sound.nested; last = slots_last m s (reverse older) sound.last; given = sound.given; rising = sound.rising; behind = sound.behind; in_order = sound.in_order; declared = sound.declared }
 
   -- a master inside the newest one
   pub sound_entered : (new : Master) (all : List Master) → all ≡ older ++ m ∷ [] → new.number ≡ h + 1 → last_of new.display.items ≡ new.number → IsSound g (h + 1) new all xs
@@ -116,6 +126,11 @@ module _ (g h : ℕ) (m : Master) (older : List Master) (xs : List Object) (soun
         in_order = sound.in_order;
         declared = subst (λ ms. AreDeclaredIn (numbers_of new ms) xs) (sym turned) (All-weaker (Contains (numbers_of m (reverse older))) (Contains (numbers_of new (m ∷ reverse older))) (λ n among. (among.0 + 1, omega (arith, among.1), rw add-one among.2)) (homes xs) sound.declared);
       }
+
+-- a further layer, of an inner master
+pub sound_with : (g h : ℕ) (m : Master) (older : List Master) (xs : List Object) → IsSound g h m older xs → (l : Vec Member Global) (b : Bool) (member : Member) → l.items ≡ layers_with b member m.layers.items → (b ≡ true → 0 < length (reverse older)) → IsSound g h (record m { layers = l }) older xs
+sound_with g h m older xs sound l true member pushed inner = sound_layers g h m older xs sound l (inner refl)
+sound_with g h m older xs sound l false member pushed inner = sound_same_layers g h m older xs sound l pushed
 
 -- Leaving ----------------------------------------------------------------------------------------------
 

@@ -1,13 +1,13 @@
 -- Each change of the machine's masters and objects is the meaning's change of their world.
-use Rattle.std.proofs.Common.{◌≡◌, ℕ, ◌+◌, ◌<◌, List, [], ◌∷◌, ◌++◌, map, reverse, length, Bool, true, false, Vec, Global, refl, sym, ap, arith}
-use Rattle.std.specs.Prelude.{nat_eq, not, slice_set, if◌then◌else◌}
+use Rattle.std.proofs.Common.{◌≡◌, ℕ, ◌+◌, ◌<◌, List, [], ◌∷◌, ◌++◌, map, reverse, length, Option, Some, Bool, true, false, Vec, Global, refl, sym, ap, ◌∙◌, arith}
+use Rattle.std.specs.Prelude.{nat_eq, not, slice_set, if◌then◌else◌, is_some}
 use Rattle.std.proofs.lemmas.List.{map-append, reverse-append}
 use Rattle.ctl_meaning.specs.World as W
 use Rattle.ctl_meaning.specs.World.{opened_world}
 use Rattle.ctl_meaning.specs.Lists.{keep, last_of, opened_lists}
 use Rattle.ctl_meaning.specs.Ledger.{layers_of, with_layer, opened_ledger}
 use Rattle.ctl_meaning.specs.Activations.{change_slot, with_slot, opened_activations}
-use Rattle.ctl_meaning.specs.Objects.{change_in, ends_with_master, with_begun, with_finalized, opened_objects}
+use Rattle.ctl_meaning.specs.Objects.{change_in, ends_with_master, with_begun, with_cells, with_finalized, opened_objects}
 use Rattle.ctl_meaning.specs.Pools.{opened_pools}
 use Rattle.ctl_meaning.specs.Changes as C
 use Rattle.ctl_meaning.specs.Changes.{opened_changes}
@@ -16,11 +16,14 @@ use Rattle.ctl_machine.specs.declared.objects.Object.{Object}
 use Rattle.ctl_machine.specs.declared.masters.Slot.{Slot}
 use Rattle.ctl_machine.specs.declared.masters.Member.{Member}
 use Rattle.ctl_machine.specs.declared.masters.Master.{Master}
-use Rattle.ctl_machine.specs.Objects.{object_of, objects_of, kept_without}
+use Rattle.ctl_tree.specs.declared.checked.Ty.{Ty}
+use Rattle.ctl_machine.specs.Objects.{object_of, objects_of, cells_of, kept_without, IsBehind}
 use Rattle.ctl_machine.specs.Masters.{slot_of}
-use Rattle.ctl_machine.specs.World.{levels_of, newest_master, newest_display, newest_layers, display_at, declared_in, all_but_first, first_with_layer, layer_of, activation_of, master_of, all_but_outermost, world_from, world_of, AreNested, AreLast}
+use Rattle.ctl_machine.specs.World.{Level, first_number, levels_of, newest_master, newest_display, newest_layers, display_at, created_in, scalar_in, layers_with, all_but_first, first_with_layer, layer_of, activation_of, master_of, all_but_outermost, world_from, world_of, AreNested, AreLast}
 use Rattle.ctl_machine.proofs.Numbers.{eq_same}
 use Rattle.ctl_machine.proofs.MastersByNumber.{older_stay, older_are_kept}
+use Rattle.ctl_machine.proofs.ObjectsByNumber.{newest_found, newest_changes}
+use Rattle.ctl_machine.proofs.Soundness.{slots_nested}
 
 -- What is seen of the newest master ------------------------------------------------------------------
 
@@ -61,7 +64,7 @@ unfolding opened_changes opened_ledger opened_activations
 entered g h new m older all xs around slots more number display unset layers = rw (more, reverse-append older (m ∷ []), number, display, unset, layers) refl
 
 -- a slot of the newest master is written
-slot_written : (n slot : ℕ) (x : W.Slot) (m : Master) (s : Vec Slot Global) (ms : List Master) → AreNested m ms → n ≡ m.number
+pub slot_written : (n slot : ℕ) (x : W.Slot) (m : Master) (s : Vec Slot Global) (ms : List Master) → AreNested m ms → n ≡ m.number
     → map slot_of s.items ≡ slice_set (map slot_of m.slots.items) slot x
     → all_but_outermost activation_of (record m { slots = s }) ms ≡ change_slot n slot x (all_but_outermost activation_of m ms)
 unfolding opened_lists opened_activations
@@ -69,15 +72,15 @@ slot_written n slot x m s [] nested same put = refl
 slot_written n slot x m s (o ∷ ms) nested same put =
     rw (eq_same m.number n (sym same), older_stay activation_of (λ a. a.master) n (λ _. refl) (with_slot slot x) o ms nested.1 (omega (arith, nested.0)), put) refl
 
-abbrev pub new_at : ℕ → ℕ → ℕ → Object
-new_at g t master = record { number = g + 1; record_type = t; master = master; state = Untouched }
+abbrev pub new_at : ℕ → Ty → Option ℕ → ℕ → Object
+new_at g ty cell master = record { number = g + 1; ty = ty; cell = cell; master = master; state = Untouched }
 
-pub declared : (g h slot t : ℕ) (m : Master) (s : Vec Slot Global) (ms : List Master) (xs : List Object) → AreNested m ms
+pub declared : (g h slot : ℕ) (ty : Ty) (cell : Option ℕ) (m : Master) (s : Vec Slot Global) (ms : List Master) (xs : List Object) → AreNested m ms
     → map slot_of s.items ≡ slice_set (map slot_of m.slots.items) slot (W.Holds (g + 1))
-    → world_from (g + 1) h (record m { slots = s }) ms (xs ++ new_at g t m.number ∷ []) ≡ declared_in slot t (world_from g h m ms xs)
+    → world_from (g + 1) h (record m { slots = s }) ms (xs ++ new_at g ty cell m.number ∷ []) ≡ created_in slot ty cell (world_from g h m ms xs)
 unfolding opened_changes opened_ledger opened_lists opened_activations
-declared g h slot t m s [] xs nested put = rw (map-append object_of xs (new_at g t m.number ∷ []), nested.0) refl
-declared g h slot t m s (o ∷ ms) xs nested put = rw (map-append object_of xs (new_at g t m.number ∷ []), slot_written m.number slot (W.Holds (g + 1)) m s (o ∷ ms) nested refl put) refl
+declared g h slot ty cell m s [] xs nested put = rw (map-append object_of xs (new_at g ty cell m.number ∷ []), nested.0) refl
+declared g h slot ty cell m s (o ∷ ms) xs nested put = rw (map-append object_of xs (new_at g ty cell m.number ∷ []), slot_written m.number slot (W.Holds (g + 1)) m s (o ∷ ms) nested refl put) refl
 
 pub declared_levels : (g h g' : ℕ) (m : Master) (s : Vec Slot Global) (ms : List Master) (xs ys : List Object) → levels_of (world_from g' h (record m { slots = s }) ms ys) ≡ levels_of (world_from g h m ms xs)
 declared_levels g h g' m s [] xs ys = refl
@@ -108,6 +111,45 @@ pub no_layer_added : (g h : ℕ) (m : Master) (y : W.Layer) (older : List Master
 unfolding opened_changes opened_ledger opened_lists
 no_layer_added g h m y older xs none = rw none refl
 
+-- Scalars -----------------------------------------------------------------------------------------------
+
+scalar_layered : (g h slot : ℕ) (ty : Ty) (x : ℕ) (m : Master) (s : Vec Slot Global) (older : List Master) (xs : List Object) → AreNested m (reverse older)
+    → map slot_of s.items ≡ slice_set (map slot_of m.slots.items) slot (W.Holds (g + 1))
+    → C.add_layer (newest_master (world_of (g + 1) h (record m { slots = s }) older (xs ++ new_at g ty (Some x) m.number ∷ []))) (W.Single (record { number = g + 1; ty = ty })) (world_of (g + 1) h (record m { slots = s }) older (xs ++ new_at g ty (Some x) m.number ∷ []))
+    ≡ C.add_layer (newest_master (world_of g h m older xs)) (W.Single (record { number = g + 1; ty = ty })) (scalar_in slot ty x (world_of g h m older xs))
+scalar_layered g h slot ty x m s older xs nested put =
+    let ys = xs ++ new_at g ty (Some x) m.number ∷ [] in
+    let layer = W.Single (record { number = g + 1; ty = ty }) in
+    ap (λ n. C.add_layer n layer (world_of (g + 1) h (record m { slots = s }) older ys)) (ap (λ (ls : List Level). first_number ls) (declared_levels g h (g + 1) m s (reverse older) xs ys))
+    ∙ ap (λ (w : W.World). C.add_layer (newest_master (world_of g h m older xs)) layer w) (declared g h slot ty (Some x) m s (reverse older) xs nested put)
+
+-- a new scalar object with its layer
+pub scalar_declared : (g h slot : ℕ) (ty : Ty) (x : ℕ) (m : Master) (s : Vec Slot Global) (l : Vec Member Global) (b : Bool) (older : List Master) (xs : List Object) → AreNested m (reverse older)
+    → map slot_of s.items ≡ slice_set (map slot_of m.slots.items) slot (W.Holds (g + 1))
+    → l.items ≡ layers_with b (record { number = g + 1; ty = ty }) m.layers.items
+    → (b ≡ true → 0 < length (reverse older)) → (b ≡ false → older ≡ [])
+    → world_of (g + 1) h (record m { slots = s; layers = l }) older (xs ++ new_at g ty (Some x) m.number ∷ [])
+    ≡ C.add_layer (newest_master (world_of g h m older xs)) (W.Single (record { number = g + 1; ty = ty })) (scalar_in slot ty x (world_of g h m older xs))
+scalar_declared g h slot ty x m s l true older xs nested put pushed inner outer = layer_added (g + 1) h (record m { slots = s }) l (record { number = g + 1; ty = ty }) (reverse older) (xs ++ new_at g ty (Some x) m.number ∷ []) (slots_nested m s slot (W.Holds (g + 1)) (reverse older) put nested) (inner refl) pushed ∙ scalar_layered g h slot ty x m s older xs nested put
+scalar_declared g h slot ty x m s l false older xs nested put pushed inner outer =
+    layers_stay (g + 1) h (record m { slots = s }) l (reverse older) (xs ++ new_at g ty (Some x) m.number ∷ []) pushed
+    ∙ (no_layer_added (g + 1) h (record m { slots = s }) (W.Single (record { number = g + 1; ty = ty })) older (xs ++ new_at g ty (Some x) m.number ∷ []) (outer refl) ∙ scalar_layered g h slot ty x m s older xs nested put)
+
+pub scalar_levels : (g h : ℕ) (ty : Ty) (m : Master) (s : Vec Slot Global) (l : Vec Member Global) (b : Bool) (older : List Master) (xs ys : List Object)
+    → l.items ≡ layers_with b (record { number = g + 1; ty = ty }) m.layers.items
+    → (b ≡ true → 0 < length (reverse older)) → (b ≡ false → older ≡ [])
+    → levels_of (world_of (g + 1) h (record m { slots = s; layers = l }) older ys) ≡ first_with_layer (W.Single (record { number = g + 1; ty = ty })) (levels_of (world_of g h m older xs))
+scalar_levels g h ty m s l true older xs ys pushed inner outer = layer_levels (g + 1) h (record m { slots = s }) l (record { number = g + 1; ty = ty }) (reverse older) ys (inner refl) pushed ∙ ap (λ (ls : List Level). first_with_layer (W.Single (record { number = g + 1; ty = ty })) ls) (declared_levels g h (g + 1) m s (reverse older) xs ys)
+scalar_levels g h ty m s l false older xs ys pushed inner outer = rw (outer refl) refl
+
+pub there : (g h slot : ℕ) (ty : Ty) (x : ℕ) (m : Master) (ms : List Master) (xs : List Object) → IsBehind g xs → is_some (C.object_at (g + 1) (scalar_in slot ty x (world_from g h m ms xs))) ≡ true
+unfolding opened_changes
+there g h slot ty x m ms xs behind = rw (newest_found g xs (record { number = g + 1; ty = ty; cells = x ∷ []; state = W.Untouched; origin = W.Declared (newest_master (world_from g h m ms xs)); joined = false }) behind refl) refl
+
+pub written : (g h slot : ℕ) (ty : Ty) (x : ℕ) (m : Master) (ms : List Master) (xs : List Object) → IsBehind g xs → C.write_cells (g + 1) 0 (x ∷ []) (scalar_in slot ty 0 (world_from g h m ms xs)) ≡ scalar_in slot ty x (world_from g h m ms xs)
+unfolding opened_changes opened_objects
+written g h slot ty x m ms xs behind = rw (newest_changes g (with_cells 0 (x ∷ [])) xs (record { number = g + 1; ty = ty; cells = 0 ∷ []; state = W.Untouched; origin = W.Declared (newest_master (world_from g h m ms xs)); joined = false }) behind refl) refl
+
 pub begun : (g h n : ℕ) (m : Master) (ms : List Master) (xs ys : List Object) → objects_of ys ≡ change_in n with_begun (objects_of xs) → world_from g h m ms ys ≡ C.begin_finalization n (world_from g h m ms xs)
 unfolding opened_changes opened_ledger opened_lists
 begun g h n m ms xs ys changed = rw changed refl
@@ -115,6 +157,10 @@ begun g h n m ms xs ys changed = rw changed refl
 pub ended : (g h n : ℕ) (m : Master) (ms : List Master) (xs ys : List Object) → objects_of ys ≡ change_in n with_finalized (objects_of xs) → world_from g h m ms ys ≡ C.end_finalization n (world_from g h m ms xs)
 unfolding opened_changes
 ended g h n m ms xs ys changed = rw changed refl
+
+pub scalar_written : (g h n x : ℕ) (m : Master) (ms : List Master) (xs ys : List Object) → objects_of ys ≡ change_in n (with_cells 0 (x ∷ [])) (objects_of xs) → world_from g h m ms ys ≡ C.write_cells n 0 (x ∷ []) (world_from g h m ms xs)
+unfolding opened_changes
+scalar_written g h n x m ms xs ys changed = rw changed refl
 
 -- Leaving ----------------------------------------------------------------------------------------------
 

@@ -1,7 +1,6 @@
 -- The objects that the machine keeps, as the meaning speaks of them.
-use Rattle.std.specs.Prelude.{◌≡◌, ℕ, ◌≤◌, List, [], false, map, not, nat_eq, take, All}
+use Rattle.std.specs.Prelude.{◌≡◌, ℕ, ◌≤◌, List, [], ◌∷◌, Option, Some, None, false, map, not, nat_eq, take, All}
 use Rattle.std.specs.List.Sorted.{IsNonDecreasing}
-use Rattle.ctl_tree.specs.declared.checked.Ty.TheVariants as TyOf
 use Rattle.ctl_meaning.specs.World as W
 use Rattle.ctl_meaning.specs.Lists.{keep}
 use Rattle.ctl_machine.specs.Numbers.{Rises}
@@ -14,9 +13,14 @@ state_of Untouched = W.Untouched
 state_of Finalizing = W.Finalizing
 state_of Finalized = W.Finalized
 
+-- the value of a scalar is one cell
+abbrev pub cells_of : Option ℕ → List ℕ
+cells_of None = []
+cells_of (Some x) = x ∷ []
+
 -- an object without components that a master declares
 abbrev pub object_of : Object → W.Object
-object_of o = record { number = o.number; ty = TyOf.Record o.record_type; cells = []; state = state_of o.state; origin = W.Declared o.master; joined = false }
+object_of o = record { number = o.number; ty = o.ty; cells = cells_of o.cell; state = state_of o.state; origin = W.Declared o.master; joined = false }
 
 abbrev pub objects_of : List Object → List W.Object
 objects_of xs = map object_of xs

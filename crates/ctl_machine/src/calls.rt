@@ -1,6 +1,6 @@
 //! Calls of bodies, and of the operations that a user wrote for a type.
 
-ghost use Rattle.std.specs.Prelude.{◌≡◌, ◌+◌, ◌^◌, ◌<◌, IfOk, List, OnErr, [], is_some, slice_get};
+ghost use Rattle.std.specs.Prelude.{◌≡◌, ◌+◌, ◌^◌, ◌<◌, ℕ, IfOk, List, OnErr, is_some, slice_get};
 ghost use Rattle.ctl_tree.specs.declared.event.Event as EventOf;
 ghost use Rattle.ctl_meaning.specs.Changes.{object_at};
 ghost use Rattle.ctl_code.specs.States as T;
@@ -55,7 +55,7 @@ pub fn enter_body(
     formal: Option<u64>,
 ) -> Result<Option<usize>, AllocError>
     requires { world.old.ledger.next_master < 2 ^ 64 }
-    ensures moves { IfOk result (λ place. (es : List EventOf.Event) (k : List T.Frame) → Table.enter_body (slice_get code.now.entries.items subprogram) es (display_at home world.old) (actuals_for formal) k [] world.old ≡ move_into place es k world.new) }
+    ensures moves { IfOk result (λ place. (es : List EventOf.Event) (k : List T.Frame) (ops : List ℕ) → Table.enter_body (slice_get code.now.entries.items subprogram) es (display_at home world.old) (actuals_for formal) k ops world.old ≡ move_into place es k ops world.new) }
     ensures levels { IfOk result (λ place. levels_in place (levels_of world.new) ≡ levels_of world.old) }
     ensures err { OnErr result (world.new ≡ world.old) }
 {
@@ -81,7 +81,7 @@ pub fn call_operation(
     object: u64,
 ) -> Result<Called, AllocError>
     requires { world.old.ledger.next_master < 2 ^ 64 }
-    ensures moves { IfOk result (λ called. (e : EventOf.Event) (k : List T.Frame) → Table.call_operation code.now operation e object (object_at object world.old) k [] world.old ≡ move_by called e k world.new) }
+    ensures moves { IfOk result (λ called. (e : EventOf.Event) (k : List T.Frame) (ops : List ℕ) → Table.call_operation code.now operation e object (object_at object world.old) k ops world.old ≡ move_by called e k ops world.new) }
     ensures there { IfOk result (λ called. is_there called ≡ is_some (object_at object world.old)) }
     ensures levels { IfOk result (λ called. levels_by called (levels_of world.new) ≡ levels_of world.old) }
     ensures err { OnErr result (world.new ≡ world.old) }

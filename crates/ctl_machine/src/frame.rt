@@ -1,11 +1,15 @@
 //! Where the machine is, and what waits on the control stack for the completion of a construct.
 
+use crate::turns::Turns;
+use ctl_tree::checked::Var;
 use ctl_tree::ending::Stop;
 
 /// How the statements of a master are completed (RM 7.6.1): normally, or by a transfer of control.
 #[derive(Clone, Copy, Debug, PartialEq, Eq)]
 pub enum Completion {
     Normal,
+    /// an exit statement leaves the loop around the master (RM 5.7)
+    Exit,
     /// an exception, by its number in the table of exceptions, is propagated
     Raise(usize),
 }
@@ -16,6 +20,8 @@ pub enum Handed {
     Normal,
     /// it is complete, and a finalization in it failed
     FinalizationFailed,
+    /// an exit statement leaves the innermost loop (RM 5.7)
+    Exit,
     /// an exception, by its number in the table of exceptions, is propagated
     Raise(usize),
 }
@@ -41,10 +47,13 @@ pub struct Departure {
 }
 
 /// A construct that waits for what stands inside it.
-#[derive(Clone, Copy, Debug, PartialEq, Eq)]
+#[derive(Clone, Copy)]
 pub enum Frame {
-    /// the statements of a master: the newest one, but for those of the frames above
-    Statements(Afterwards),
+    /// the statements of a master, the newest one but for those of the frames above; it was entered over `height` operands
+    Statements {
+        height: usize,
+        afterwards: Afterwards,
+    },
     /// such a master is left
     Leaving(Departure),
     /// an object of this record type that was declared, and is to be initialized (RM 7.6); then the elaboration goes on at the
@@ -62,6 +71,21 @@ pub enum Frame {
     },
     /// the Finalize of the object of this number (RM 7.6.1)
     Finalizing(u64),
+    /// the turns of a loop that was entered over `height` operands, and has `count` instructions from the place `entry` on
+    /// (RM 5.5)
+    Looping {
+        height: usize,
+        entry: usize,
+        count: usize,
+    },
+    /// the same of a loop with a parameter
+    Counting {
+        height: usize,
+        entry: usize,
+        count: usize,
+        parameter: Var,
+        turns: Turns,
+    },
 }
 
 /// What the machine does next.

@@ -4,13 +4,20 @@
 mod advance;
 mod calls;
 mod engine;
+mod expressions;
 mod frame;
+mod loops;
 pub mod machine;
 mod masters;
 mod objects;
+mod operands;
+mod operators;
 pub mod outcome;
 mod resume;
+mod scalars;
 #[cfg(test)]
 mod tests;
 mod texts;
+mod turns;
+mod variables;
 mod world;

@@ -1,9 +1,12 @@
 //! An active master, with what its uses find and the layers that it finalizes.
 
-ghost use Rattle.std.specs.Prelude.{◌≡◌, ◌≢◌, All, IfNone, IfOk, IfSome, map, slice_set, take};
+ghost use Rattle.std.specs.Prelude.{◌≡◌, ◌≢◌, All, IfNone, IfOk, IfSome, map, slice_get, slice_set, take};
+ghost use Rattle.ctl_meaning.specs.World as W;
+ghost use Rattle.ctl_meaning.specs.Lists.{item_or};
 ghost use Rattle.ctl_machine.specs.Masters.{AreRising, slots_for, slot_of};
 ghost use Rattle.ctl_machine.specs.Numbers.{StandsAt};
 
+use ctl_tree::checked::Ty;
 use std::alloc::{AllocError, Global};
 
 /// What a use of a name finds.
@@ -15,13 +18,15 @@ pub enum Slot {
     Holds(u64),
     /// a formal parameter stands for the object of this number
     Binds(u64),
+    /// a value: that of a loop parameter
+    Copies(u64),
 }
 
-/// A declared object that a master finalizes: its number and its record type.
-#[derive(Clone, Copy, Debug, PartialEq, Eq)]
+/// A declared object that a master finalizes: its number and its type.
+#[derive(Clone, Copy)]
 pub struct Member {
     pub number: u64,
-    pub record_type: usize,
+    pub ty: Ty,
 }
 
 /// An active master: an execution of a body or a block (RM 7.6.1). The outermost one stands for what is around the main
@@ -48,6 +53,13 @@ pub fn slots_of(alloc: Global, formal: Option<u64>, count: usize) -> Result<Vec<
             Ok(slots)
         }
     }
+}
+
+/// The slot at this place; where there is none, nothing is elaborated.
+pub fn slot_in(slots: &[Slot], place: usize) -> Slot
+    ensures { slot_of result ≡ item_or W.Unset (slice_get (map slot_of slots.now) place) }
+{
+    slots.get(place).copied().unwrap_or(Slot::Unset)
 }
 
 /// The slot at this place, where there is one, has a new content.

@@ -1,11 +1,14 @@
 //! The objects that exist, in the order of their creation.
 
-ghost use Rattle.std.specs.Prelude.{◌≡◌, ◌≢◌, All, IfNone, IfSome, if◌then◌else◌};
+ghost use Rattle.std.specs.Prelude.{◌≡◌, ◌≢◌, [], ◌∷◌, All, IfNone, IfSome, if◌then◌else◌, option_map};
 ghost use Rattle.ctl_meaning.specs.World as W;
-ghost use Rattle.ctl_meaning.specs.Objects.{change_in, is_untouched, object_in, with_begun, with_finalized};
+ghost use Rattle.ctl_meaning.specs.Names.{scalar_of};
+ghost use Rattle.ctl_meaning.specs.Objects.{cells_at, change_in, is_untouched, object_in, with_begun, with_cells, with_finalized};
 ghost use Rattle.ctl_machine.specs.Numbers.{StandsAt};
 ghost use Rattle.ctl_machine.specs.Objects.{IsFrontOf, IsRising, InOrder, StayInPlace, UpTo, kept_without, objects_of, state_of};
 ghost use Rattle.ctl_machine.specs.World.{IsHome};
+
+use ctl_tree::checked::Ty;
 
 /// How far an object has come on the way to its end (RM 7.6.1).
 #[derive(Clone, Copy, Debug, PartialEq, Eq)]
@@ -28,11 +31,13 @@ impl State {
     }
 }
 
-/// An object that exists: its number, its record type, the master that declares it, and its state.
-#[derive(Clone, Copy, Debug, PartialEq, Eq)]
+/// An object that exists: its number, its type, the master that declares it, and its state.
+#[derive(Clone, Copy)]
 pub struct Object {
     pub number: u64,
-    pub record_type: usize,
+    pub ty: Ty,
+    /// the value of a scalar
+    pub cell: Option<u64>,
     pub master: u64,
     pub state: State,
 }
@@ -55,6 +60,26 @@ pub fn home_in(objects: &[Object], number: u64) -> Option<u64>
 {
     let place = place_of(objects, number)?;
     Some(objects[place].master)
+}
+
+/// The scalar in the object of this number, where that object exists: 0 in one that holds none.
+pub fn value_in(objects: &[Object], number: u64) -> Option<u64>
+    requires rising { IsRising objects.now }
+    ensures { result ≡ option_map (λ o. scalar_of (cells_at 0 1 o)) (object_in number (objects_of objects.now)) }
+{
+    let place = place_of(objects, number)?;
+    Some(objects[place].cell.unwrap_or(0))
+}
+
+/// The scalar in the object of this number is written, where that object exists (RM 5.2).
+pub fn write_scalar(objects: &mut Vec<Object>, number: u64, cell: u64)
+    requires rising { IsRising objects.old.items }
+    ensures changed { objects_of objects.new.items ≡ change_in number (with_cells 0 (cell ∷ [])) (objects_of objects.old.items) }
+    ensures others { StayInPlace objects.old.items objects.new.items }
+{
+    if let Some(place) = place_of(objects.as_slice(), number) {
+        objects[place].cell = Some(cell);
+    }
 }
 
 /// The finalization of this object begins, where it exists (RM 7.6.1).

@@ -1,6 +1,8 @@
 //! What the topmost frame makes of what is handed to it.
 
-ghost use Rattle.std.specs.Prelude.{◌≡◌, ◌+◌, ◌^◌, ◌<◌, ℕ, List, ◌∷◌, ◌++◌, [], IfOk, OnOk, OnErr, is_some, length, vec_len, vec_capacity, true, false};
+ghost use Rattle.std.specs.Prelude.{◌≡◌, ◌+◌, ◌^◌, ◌<◌, ℕ, List, ◌∷◌, ◌++◌, [], Some, IfOk, OnOk, OnErr, is_some, length, reverse, slice_get, vec_len, vec_capacity, true, false};
+ghost use Rattle.ctl_tree.specs.declared.checked.Ty.TheVariants.{Record};
+ghost use Rattle.ctl_meaning.specs.World.{Single};
 ghost use Rattle.ctl_code.specs.States.{without_flag};
 ghost use Rattle.ctl_code.specs.Table as Table;
 ghost use Rattle.ctl_machine.specs.declared.frame.Frame as FrameOf;
@@ -9,17 +11,18 @@ ghost use Rattle.ctl_machine.specs.declared.frame.Handed.TheVariants as HandedOf
 ghost use Rattle.ctl_machine.specs.declared.frame.Mode.TheVariants as ModeOf;
 ghost use Rattle.ctl_code.specs.declared.code.Code.{Code};
 ghost use Rattle.ctl_machine.specs.Calls.{frames_by, mode_by, shown_by};
-ghost use Rattle.ctl_machine.specs.Control.{IsPlace, after_of, birth_mode, done_of, finalization_result, may_raise, mode_of, result_of, says_failed};
+ghost use Rattle.ctl_machine.specs.Control.{IsPlace, after_of, birth_mode, done_of, finalization_result, is_exit, may_raise, mode_of, result_of, says_failed};
 ghost use Rattle.ctl_meaning.specs.Changes.{object_at};
-ghost use Rattle.ctl_machine.specs.World.{Level, levels_of, layered, layered_levels};
-ghost use Rattle.ctl_machine.specs.Engine.{IsTop, IsLeaving, Makes, Rests, Stays, given_to_top, leaves_on};
+ghost use Rattle.ctl_machine.specs.World.{Level, first_display, levels_of, layered, layered_levels, newest_layers};
+ghost use Rattle.ctl_machine.specs.Engine.{IsTop, IsLeaving, IsLoop, Makes, Rests, Stays, given_to_top, leaves_on};
 
 use crate::calls::{Called, call_operation, operations_of};
-use crate::engine::Engine;
+use crate::engine::{Engine, place_behind};
 use crate::frame::{Afterwards, Completion, Departure, Frame, Handed, Mode};
 use crate::masters::Member;
 use crate::world::World;
 use ctl_code::code::Code;
+use ctl_tree::checked::Ty;
 use ctl_tree::ending::Stop;
 use ctl_tree::event::{Cause, Event, Owner, Part};
 use ctl_tree::text::Path;
@@ -29,7 +32,7 @@ use std::alloc::{AllocError, Global};
 const PROGRAM_ERROR: usize = 1;
 
 /// Another frame in place of the topmost one.
-fn replace_top(control: &mut Vec<Frame>, frame: Frame)
+pub(crate) fn replace_top(control: &mut Vec<Frame>, frame: Frame)
     requires { 0 < vec_len control.old }
     ensures items { (below : List FrameOf.Frame) (top : FrameOf.Frame) → control.old.items ≡ below ++ top ∷ [] → control.new.items ≡ below ++ frame ∷ [] }
     ensures len { vec_len control.new ≡ vec_len control.old }
@@ -55,6 +58,7 @@ fn completion_of(handed: Handed) -> Completion
 {
     match handed {
         Handed::Normal | Handed::FinalizationFailed => Completion::Normal,
+        Handed::Exit => Completion::Exit,
         Handed::Raise(exception) => Completion::Raise(exception),
     }
 }
@@ -90,6 +94,17 @@ fn mode_at_birth(exists: bool, next: usize) -> Mode
     }
 }
 
+/// Where the execution goes on behind a loop: an exit statement leads there (RM 5.7), and anything else leads on.
+fn mode_behind_loop(handed: Handed, entry: usize, count: usize) -> Mode
+    ensures place { IsPlace result }
+    ensures mode { (ls : List Level) → mode_of result ls ≡ Table.behind_loop (first_display ls) (entry + count) (result_of handed) }
+{
+    match handed {
+        Handed::Exit => place_behind(entry, count),
+        _ => Mode::Giving(handed),
+    }
+}
+
 /// Where the execution goes on behind a master (RM 7.6.1): Program_Error is raised there where a finalization failed.
 fn mode_behind(departure: Departure) -> Mode
     ensures place { IsPlace result }
@@ -101,10 +116,10 @@ fn mode_behind(departure: Departure) -> Mode
     match (departure.afterwards, departure.pending) {
         (_, Completion::Raise(exception)) => Mode::Giving(Handed::Raise(exception)),
         (Afterwards::Body, Completion::Normal) => Mode::Giving(Handed::Normal),
-        (Afterwards::Block { entry, count }, Completion::Normal) => match entry.checked_add(count) {
-            Some(place) => Mode::At(place),
-            None => Mode::Beyond { entry, count },
-        },
+        // No exit statement leaves a body.
+        (Afterwards::Body, Completion::Exit) => Mode::Giving(Handed::Normal),
+        (Afterwards::Block { .. }, Completion::Exit) => Mode::Giving(Handed::Exit),
+        (Afterwards::Block { entry, count }, Completion::Normal) => place_behind(entry, count),
     }
 }
 
@@ -154,8 +169,8 @@ impl Engine {
         ensures err { OnErr result (Stays self.old self.new) }
     {
         match top {
-            Frame::Statements(afterwards) => {
-                self.begin_leaving(handed, afterwards);
+            Frame::Statements { height, afterwards } => {
+                self.begin_leaving(handed, height, afterwards);
                 Ok(())
             }
             Frame::Leaving(departure) => self.go_on_leaving(code, handed, departure),
@@ -173,22 +188,48 @@ impl Engine {
                     self.fail(object, exception);
                     Ok(())
                 }
+                Handed::Exit => {
+                    self.pass_exit();
+                    Ok(())
+                }
                 _ => self.come_to_life(code, object, record_type, next),
             },
-            Frame::Finalizing(object) => {
-                self.end_finalization(object, handed);
+            Frame::Finalizing(object) => match handed {
+                // No exit statement leaves a body, so that none is handed on here.
+                Handed::Exit => Err(AllocError),
+                _ => {
+                    self.end_finalization(object, handed);
+                    Ok(())
+                }
+            },
+            Frame::Looping {
+                height,
+                entry,
+                count,
+            } => {
+                self.end_loop(handed, height, entry, count);
+                Ok(())
+            }
+            Frame::Counting {
+                height,
+                entry,
+                count,
+                ..
+            } => {
+                self.end_loop(handed, height, entry, count);
                 Ok(())
             }
         }
     }
 
     /// The statements of the newest master are completed: it is left (RM 7.6.1).
-    fn begin_leaving(&mut self, handed: Handed, afterwards: Afterwards)
-        requires top { IsTop (Statements afterwards) self.old }
+    fn begin_leaving(&mut self, handed: Handed, height: usize, afterwards: Afterwards)
+        requires top { IsTop (Statements height afterwards) self.old }
         requires rests { Rests (may_raise (ModeOf.Giving handed)) self.old }
         ensures { (code : Code) → Makes self.old self.new (given_to_top code handed self.old) }
     {
         let remaining = self.world.layer_count();
+        self.operands.cut_back(height);
         replace_top(
             &mut self.control,
             Frame::Leaving(Departure {
@@ -234,7 +275,7 @@ impl Engine {
         }
     }
 
-    /// An object of the newest master, which is left, is finalized (RM 7.6.1).
+    /// The next layer of the newest master, which is left, is finalized: a scalar has nothing to finalize (RM 7.6.1).
     fn finalize_layer(&mut self, code: &Code, departure: Departure) -> Result<(), AllocError>
         requires top { IsLeaving departure 1 self.old }
         requires rests { Rests false self.old }
@@ -242,15 +283,34 @@ impl Engine {
         ensures ok { OnOk result (Makes self.old self.new (leaves_on code.now departure 1 self.old)) }
         ensures err { OnErr result (Stays self.old self.new) }
     {
-        let Some(
-            Member {
-                number,
-                record_type,
-            },
-        ) = self.world.layer(departure.remaining)
-        else {
+        let Some(Member { number, ty }) = self.world.layer(departure.remaining) else {
             return Ok(());
         };
+        match ty {
+            Ty::Record(record_type) => self.finalize_object(code, departure, number, record_type),
+            _ => {
+                replace_top(&mut self.control, Frame::Leaving(departure));
+                self.mode = Mode::Giving(Handed::Normal);
+                Ok(())
+            }
+        }
+    }
+
+    /// A declared object of this record type, the next layer of the newest master, is finalized (RM 7.6.1).
+    fn finalize_object(
+        &mut self,
+        code: &Code,
+        departure: Departure,
+        number: u64,
+        record_type: usize,
+    ) -> Result<(), AllocError>
+        requires top { IsLeaving departure 1 self.old }
+        requires rests { Rests false self.old }
+        requires layer { slice_get (reverse (newest_layers self.old.world)) departure.remaining ≡ Some (Single (record { number = number; ty = Record record_type })) }
+        requires masters { self.old.world.ledger.next_master < 2 ^ 64 }
+        ensures ok { OnOk result (Makes self.old self.new (leaves_on code.now departure 1 self.old)) }
+        ensures err { OnErr result (Stays self.old self.new) }
+    {
         self.control.reserve(2)?;
         self.events.reserve(1)?;
         let operation = operations_of(code, record_type).finalize;
@@ -316,7 +376,8 @@ impl Engine {
         requires control { vec_len self.old.control < vec_capacity self.old.control }
         requires events { vec_len self.old.events < vec_capacity self.old.events }
         ensures mode { self.new.mode ≡ mode_by called }
-        ensures control { self.new.control.items ≡ self.old.control.items ++ frames_by called }
+        ensures control { self.new.control.items ≡ self.old.control.items ++ frames_by (length self.old.operands) called }
+        ensures operands { self.new.operands ≡ self.old.operands }
         ensures world { self.new.world ≡ self.old.world }
         ensures events { self.new.events.items ≡ self.old.events.items ++ shown_by called event }
     {
@@ -329,8 +390,10 @@ impl Engine {
             }
             Called::Entered(Some(first)) => {
                 self.events.push_reserved(event);
-                self.control
-                    .push_reserved(Frame::Statements(Afterwards::Body));
+                self.control.push_reserved(Frame::Statements {
+                    height: self.operands.count(),
+                    afterwards: Afterwards::Body,
+                });
                 self.mode = Mode::At(first);
             }
         }
@@ -353,7 +416,7 @@ impl Engine {
         let master = self.world.newest();
         let member = Member {
             number: object,
-            record_type,
+            ty: Ty::Record(record_type),
         };
         let exists = add_existing(&mut self.world, member)?;
         let operation = operations_of(code, record_type).finalize;
@@ -375,9 +438,31 @@ impl Engine {
         self.mode = Mode::Giving(Handed::Raise(exception));
     }
 
+    /// An exit statement that left the Initialize of a declared object would lead on; none leaves a body.
+    fn pass_exit(&mut self)
+        requires top { (object record_type next : ℕ) × IsTop (Initializing object record_type next) self.old }
+        requires rests { Rests true self.old }
+        ensures { (code : Code) → Makes self.old self.new (given_to_top code HandedOf.Exit self.old) }
+    {
+        let _ = self.control.pop();
+        self.mode = Mode::Giving(Handed::Exit);
+    }
+
+    /// The turns of a loop are at their end: an exit statement leads behind it (RM 5.7), and anything else leads on.
+    fn end_loop(&mut self, handed: Handed, height: usize, entry: usize, count: usize)
+        requires top { IsLoop height entry count self.old }
+        requires rests { Rests (may_raise (ModeOf.Giving handed)) self.old }
+        ensures { (code : Code) → Makes self.old self.new (given_to_top code handed self.old) }
+    {
+        self.operands.cut_back(height);
+        let _ = self.control.pop();
+        self.mode = mode_behind_loop(handed, entry, count);
+    }
+
     /// The Finalize of an object is complete; whether it raised is handed on (RM 7.6.1).
     fn end_finalization(&mut self, object: u64, handed: Handed)
         requires top { IsTop (Finalizing object) self.old }
+        requires stays { is_exit handed ≡ false }
         requires rests { Rests (may_raise (ModeOf.Giving handed)) self.old }
         ensures { (code : Code) → Makes self.old self.new (given_to_top code handed self.old) }
     {

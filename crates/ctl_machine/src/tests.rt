@@ -1,14 +1,19 @@
-//! A small code, run to its end and to a limit.
+//! Small codes, run to their ends and to a limit.
 
 use crate::machine::Machine;
 use crate::outcome::{Outcome, Progress};
 use ctl_code::code::{Code, Entry, Instr, Operations};
+use ctl_code::template::{Template, TextPart};
+use ctl_tree::checked::{BinaryOp, Ty, Var};
 use ctl_tree::ending::{End, Stop};
 use ctl_tree::event::{Event, Owner};
 use ctl_tree::request::Order;
 use ctl_tree::text::Text;
 use std::alloc::{AllocError, Global};
 use std::test::Fail;
+
+/// The first slot of the main procedure.
+const FIRST: Var = Var { level: 1, slot: 0 };
 
 /// A main procedure with a block that declares two objects of one type, whose Finalize prints a line.
 const TWO_OBJECTS: &[Instr] = &[
@@ -22,6 +27,98 @@ const TWO_OBJECTS: &[Instr] = &[
     Instr::Leave,
 ];
 
+/// A variable is counted up to 3 in a loop with an exit statement, and its image is printed.
+const LOOP_WITH_EXIT: &[Instr] = &[
+    Instr::Start(0),
+    Instr::DeclareScalar(0, Ty::Integer),
+    Instr::Loop(9),
+    Instr::Read(FIRST),
+    Instr::Push(3),
+    Instr::Binary(BinaryOp::Equal, Ty::Boolean),
+    Instr::ExitWhen,
+    Instr::Read(FIRST),
+    Instr::Push(1),
+    Instr::Binary(BinaryOp::Add, Ty::Integer),
+    Instr::Assign(FIRST),
+    Instr::Repeat(8),
+    Instr::Read(FIRST),
+    Instr::PutLine(1),
+    Instr::Leave,
+];
+
+/// The values from 1 to 3 are printed in reverse.
+const REVERSE_LOOP: &[Instr] = &[
+    Instr::Start(0),
+    Instr::Push(1),
+    Instr::Push(3),
+    Instr::For(FIRST, true, 3),
+    Instr::Read(FIRST),
+    Instr::Put(1),
+    Instr::Next(2),
+    Instr::NewLine,
+    Instr::Leave,
+];
+
+/// An overflow in a block that declares an object, whose Finalize prints a line.
+const OVERFLOW: &[Instr] = &[
+    Instr::Start(0),
+    Instr::Enter(1, 5),
+    Instr::Declare(0, 0),
+    Instr::Push(2_147_483_647),
+    Instr::Push(1),
+    Instr::Binary(BinaryOp::Add, Ty::Integer),
+    Instr::Leave,
+    Instr::Leave,
+    Instr::PutLine(0),
+    Instr::Leave,
+];
+
+/// -7 mod 2, -7 rem 2 and whether they differ.
+const SIGNS: &[Instr] = &[
+    Instr::Start(0),
+    Instr::Push(u64::MAX - 6),
+    Instr::Push(2),
+    Instr::Binary(BinaryOp::Modulo, Ty::Integer),
+    Instr::Push(u64::MAX - 6),
+    Instr::Push(2),
+    Instr::Binary(BinaryOp::Remainder, Ty::Integer),
+    Instr::Push(1),
+    Instr::PutLine(2),
+    Instr::Leave,
+];
+
+/// A loop without an end.
+const ENDLESS: &[Instr] = &[Instr::Start(0), Instr::Loop(1), Instr::Repeat(0)];
+
+/// A text of these parts.
+fn template_of(alloc: Global, parts: Vec<TextPart>) -> Result<Template, AllocError> {
+    let mut template = Template::new(alloc);
+    for part in parts {
+        template.push(part)?;
+    }
+    Ok(template)
+}
+
+/// A farewell, an image, and three images.
+fn texts_of(alloc: Global) -> Result<Vec<Template>, AllocError> {
+    let farewell = TextPart::Literal(Text::from_slice(alloc, b"bye")?);
+    let blank = TextPart::Literal(Text::from_slice(alloc, b" ")?);
+    let texts = vec![in alloc;
+        template_of(alloc, vec![in alloc; farewell]?)?,
+        template_of(alloc, vec![in alloc; TextPart::IntegerImage]?)?,
+        template_of(
+            alloc,
+            vec![in alloc;
+                TextPart::IntegerImage,
+                TextPart::IntegerImage,
+                blank,
+                TextPart::BooleanImage
+            ]?
+        )?,
+    ]?;
+    Ok(texts)
+}
+
 /// The code of these instructions: the main procedure stands behind the first of them, and the Finalize at this place.
 fn code_of(alloc: Global, instructions: &[Instr], finalize: usize) -> Result<Code, AllocError> {
     Ok(Code {
@@ -29,7 +126,7 @@ fn code_of(alloc: Global, instructions: &[Instr], finalize: usize) -> Result<Cod
         entries: vec![in alloc;
             Entry {
                 level: 0,
-                slots: 0,
+                slots: 1,
                 place: 1
             },
             Entry {
@@ -44,8 +141,8 @@ fn code_of(alloc: Global, instructions: &[Instr], finalize: usize) -> Result<Cod
                 finalize: Some(1)
             },
         ]?,
-        texts: vec![in alloc; Text::from_slice(alloc, b"bye")?]?,
-        exceptions: Vec::new(alloc),
+        texts: texts_of(alloc)?,
+        exceptions: vec![in alloc; Text::from_slice(alloc, b"CONSTRAINT_ERROR")?]?,
     })
 }
 
@@ -72,6 +169,7 @@ fn outcome_shown(alloc: Global, outcome: &Outcome) -> Result<String, AllocError>
     }
     let end = match &outcome.end {
         End::Done => "done",
+        End::Raised(_) => "raised",
         End::Stopped(Stop::UseAfterFree) => "gone",
         End::StepLimit => "limit",
         _ => "other",
@@ -81,6 +179,32 @@ fn outcome_shown(alloc: Global, outcome: &Outcome) -> Result<String, AllocError>
         outcome.picks.len(),
         outcome.steps
     )
+}
+
+/// What a run has printed.
+fn printed(alloc: Global, outcome: &Outcome) -> Result<Vec<u8>, AllocError> {
+    let mut bytes = Vec::new(alloc);
+    for event in outcome.events.as_slice() {
+        match event {
+            Event::Print(text) => bytes.extend_from_slice(text.as_bytes())?,
+            Event::Newline => bytes.push(b'\n')?,
+            _ => (),
+        }
+    }
+    Ok(bytes)
+}
+
+/// A run of these instructions, of at most so many steps.
+fn outcome_of(
+    alloc: Global,
+    instructions: &[Instr],
+    finalize: usize,
+    steps: u64,
+) -> Result<Outcome, AllocError> {
+    let code = code_of(alloc, instructions, finalize)?;
+    let mut machine = Machine::new(alloc, &code, Order::Newest)?;
+    let _ = machine.run(steps);
+    Ok(machine.finish())
 }
 
 #[test]
@@ -116,11 +240,56 @@ fn a_run_ends_at_its_limit(rt: HostRuntime) -> Result<(), Fail> {
 #[test]
 fn a_body_that_is_missing_stops_the_run(rt: HostRuntime) -> Result<(), Fail> {
     let alloc = rt.alloc();
-    let code = code_of(alloc, &[Instr::Start(7)], 6)?;
-    let mut machine = Machine::new(alloc, &code, Order::Newest)?;
-    assert_eq!(rt; machine.step(), Progress::Ended);
-    let outcome = machine.finish();
+    let outcome = outcome_of(alloc, &[Instr::Start(7)], 6, 1)?;
     let shown = outcome_shown(alloc, &outcome)?;
     assert_eq!(rt; shown.as_str(), "gone picks=0 steps=1");
+    Ok(())
+}
+
+#[test]
+fn an_exit_statement_leaves_its_loop(rt: HostRuntime) -> Result<(), Fail> {
+    let alloc = rt.alloc();
+    let outcome = outcome_of(alloc, LOOP_WITH_EXIT, 0, 1000)?;
+    let bytes = printed(alloc, &outcome)?;
+    assert_eq!(rt; bytes.as_slice(), b" 3\n".as_slice());
+    Ok(())
+}
+
+#[test]
+fn a_loop_runs_in_reverse(rt: HostRuntime) -> Result<(), Fail> {
+    let alloc = rt.alloc();
+    let outcome = outcome_of(alloc, REVERSE_LOOP, 0, 1000)?;
+    let bytes = printed(alloc, &outcome)?;
+    assert_eq!(rt; bytes.as_slice(), b" 3 2 1\n".as_slice());
+    Ok(())
+}
+
+#[test]
+fn an_overflow_raises_and_finalizes(rt: HostRuntime) -> Result<(), Fail> {
+    let alloc = rt.alloc();
+    let outcome = outcome_of(alloc, OVERFLOW, 8, 1000)?;
+    let shown = outcome_shown(alloc, &outcome)?;
+    assert_eq!(rt;
+        shown.as_str(),
+        "live-1-m2 finalize-1-scope print newline raised picks=0 steps=18"
+    );
+    Ok(())
+}
+
+#[test]
+fn a_text_has_images(rt: HostRuntime) -> Result<(), Fail> {
+    let alloc = rt.alloc();
+    let outcome = outcome_of(alloc, SIGNS, 0, 1000)?;
+    let bytes = printed(alloc, &outcome)?;
+    assert_eq!(rt; bytes.as_slice(), b" 1-1 TRUE\n".as_slice());
+    Ok(())
+}
+
+#[test]
+fn an_endless_loop_ends_at_the_limit(rt: HostRuntime) -> Result<(), Fail> {
+    let alloc = rt.alloc();
+    let outcome = outcome_of(alloc, ENDLESS, 0, 100)?;
+    let shown = outcome_shown(alloc, &outcome)?;
+    assert_eq!(rt; shown.as_str(), "limit picks=0 steps=100");
     Ok(())
 }

@@ -2,19 +2,25 @@
 //!
 //! A contract sees a world of the meaning, and each change as one of the meaning's.
 
-ghost use Rattle.std.specs.Prelude.{◌≡◌, ◌+◌, ◌^◌, ◌<◌, IfOk, OnOk, OnErr, length, map, option_map, replicate, reverse, slice_get, take};
-ghost use Rattle.ctl_tree.specs.declared.checked.Ty.TheVariants.{Record};
+ghost use Rattle.std.specs.Prelude.{◌≡◌, ℕ, ◌+◌, ◌^◌, ◌<◌, [], ◌∷◌, IfOk, OnOk, OnErr, true, is_some, length, map, option_map, replicate, reverse, slice_get, take, vec_len, vec_capacity};
 ghost use Rattle.ctl_meaning.specs.World as W;
 ghost use Rattle.ctl_meaning.specs.Ledger.{layers_of};
 ghost use Rattle.ctl_meaning.specs.Lists.{last_of};
+ghost use Rattle.ctl_meaning.specs.Activations as A;
+ghost use Rattle.ctl_meaning.specs.Names as N;
+ghost use Rattle.ctl_meaning.specs.Objects.{cells_at};
 ghost use Rattle.ctl_meaning.specs.Changes as C;
 ghost use Rattle.ctl_machine.specs.Masters.{slots_for, slot_of};
-ghost use Rattle.ctl_machine.specs.World.{world_of, IsSound, IsHome, layer_of, levels_of, newest_display, newest_master, newest_layers, display_at, declared_in, all_but_first, first_with_layer};
+ghost use Rattle.ctl_machine.specs.World.{world_of, IsSound, IsHome, layer_of, levels_of, newest_display, newest_master, newest_layers, display_at, declared_in, scalar_in, layers_with, all_but_first, first_with_layer};
 
-use crate::masters::{Master, Member, Slot, first_of, place_of_master, put_slot, slots_of};
-use crate::objects::{
-    Object, State, begin_finalization, end_finalization, forget_declared, home_in,
+use crate::masters::{
+    Master, Member, Slot, first_of, place_of_master, put_slot, slot_in, slots_of,
 };
+use crate::objects::{
+    Object, State, begin_finalization, end_finalization, forget_declared, home_in, value_in,
+    write_scalar,
+};
+use ctl_tree::checked::{Ty, Var};
 use std::alloc::{AllocError, Global};
 use std::marker::Model;
 use std::mem;
@@ -37,6 +43,16 @@ impl Model for World {
     ghost view = { λ w. world_of w.given_objects w.given_masters w.newest w.older.items w.objects.items };
 
     ghost invariant = { λ w. IsSound w.given_objects w.given_masters w.newest w.older.items w.objects.items };
+}
+
+/// One more layer of an inner master; around the main procedure no master is active, and nothing is finalized.
+fn push_layer(layers: &mut Vec<Member>, member: Member, is_inner: bool)
+    requires { vec_len layers.old < vec_capacity layers.old }
+    ensures { layers.new.items ≡ layers_with is_inner member layers.old.items }
+{
+    if is_inner {
+        layers.push_reserved(member);
+    }
 }
 
 impl World {
@@ -168,13 +184,89 @@ impl World {
         let number = self.given_objects + 1;
         self.objects.push(Object {
             number,
-            record_type,
+            ty: Ty::Record(record_type),
+            cell: None,
             master: self.newest.number,
             state: State::Untouched,
         })?;
         put_slot(&mut self.newest.slots, slot, Slot::Holds(number));
         self.given_objects = number;
         Ok(number)
+    }
+
+    /// A new scalar object with this value is declared in the newest master, at this slot, and is its newest layer (RM 3.3.1).
+    /// Unchanged where memory is refused.
+    pub fn declare_scalar(&mut self, slot: usize, ty: Ty, cell: u64) -> Result<(), AllocError>
+        requires { self.old.ledger.next_object < 2 ^ 64 }
+        ensures ok { OnOk result (self.new ≡ C.add_layer (newest_master self.old) (W.Single (record { number = self.old.ledger.next_object; ty = ty })) (scalar_in slot ty cell self.old)) }
+        ensures levels { OnOk result (levels_of self.new ≡ first_with_layer (W.Single (record { number = self.old.ledger.next_object; ty = ty })) (levels_of self.old)) }
+        ensures there { OnOk result ((x : ℕ) → is_some (C.object_at self.old.ledger.next_object (scalar_in slot ty x self.old)) ≡ true) }
+        ensures written { OnOk result (C.write_cells self.old.ledger.next_object 0 (cell ∷ []) (scalar_in slot ty 0 self.old) ≡ scalar_in slot ty cell self.old) }
+        ensures last { OnOk result (last_of (newest_display self.old) ≡ newest_master self.old) }
+        ensures err { OnErr result (self.new ≡ self.old) }
+    {
+        let is_inner = !self.older.is_empty();
+        let number = self.given_objects + 1;
+        self.newest.layers.reserve(1)?;
+        self.objects.push(Object {
+            number,
+            ty,
+            cell: Some(cell),
+            master: self.newest.number,
+            state: State::Untouched,
+        })?;
+        put_slot(&mut self.newest.slots, slot, Slot::Holds(number));
+        push_layer(&mut self.newest.layers, Member { number, ty }, is_inner);
+        self.given_objects += 1;
+        Ok(())
+    }
+
+    /// The scalar in the object of this number, where that object exists.
+    pub fn scalar(&self, object: u64) -> Option<u64>
+        ensures { result ≡ option_map (λ o. N.scalar_of (cells_at 0 1 o)) (C.object_at object self.now) }
+    {
+        value_in(self.objects.as_slice(), object)
+    }
+
+    /// The scalar in the object of this number is written, where that object exists (RM 5.2).
+    pub fn write_scalar(&mut self, object: u64, cell: u64)
+        ensures { self.new ≡ C.write_cells object 0 (cell ∷ []) self.old }
+    {
+        write_scalar(&mut self.objects, object, cell);
+    }
+
+    /// The number of the master that a use names, where the newest master's part stands; 0 where there is none.
+    pub fn master_of(&self, variable: Var) -> u64
+        ensures { result ≡ A.master_of (newest_display self.now) variable }
+    {
+        let level = variable.level.saturating_sub(1);
+        self.newest.display.get(level).copied().unwrap_or(0)
+    }
+
+    /// What a use of this slot of this master finds.
+    pub fn slot(&self, master: u64, place: usize) -> Slot
+        ensures { slot_of result ≡ N.slot_at master place self.now }
+    {
+        if master == self.newest.number {
+            return slot_in(self.newest.slots.as_slice(), place);
+        }
+        match place_of_master(self.older.as_slice(), master) {
+            Some(position) => slot_in(self.older[position].slots.as_slice(), place),
+            None => Slot::Unset,
+        }
+    }
+
+    /// This slot of this master, where it exists, has a new content.
+    pub fn put(&mut self, master: u64, place: usize, slot: Slot)
+        ensures { self.new ≡ C.set_slot master place (slot_of slot) self.old }
+    {
+        if master == self.newest.number {
+            put_slot(&mut self.newest.slots, place, slot);
+            return;
+        }
+        if let Some(position) = place_of_master(self.older.as_slice(), master) {
+            put_slot(&mut self.older[position].slots, place, slot);
+        }
     }
 
     /// A declared object is the newest layer of the newest master. Unchanged where memory is refused.
@@ -233,17 +325,12 @@ mod tests {
         assert_eq!(rt; world.home_of(1), Some(1));
         world.add_layer(Member {
             number,
-            record_type: 7,
+            ty: Ty::Record(7),
         })?;
         assert_eq!(rt; world.layer_count(), 1);
-        assert_eq!(rt;
-            world.layer(0),
-            Some(Member {
-                number: 1,
-                record_type: 7
-            })
-        );
-        assert_eq!(rt; world.layer(1), None);
+        let layer = world.layer(0).ok_or("a layer")?;
+        assert_eq!(rt; layer.number, 1);
+        assert!(rt; world.layer(1).is_none());
         world.begin_finalization(1);
         world.end_finalization(1);
         world.close();

@@ -784,8 +784,8 @@ module _ (t : Tables) (ask other : Ask) (call spare : Caller) (Rel : (A : Type 0
     unfolding returned
     k_returned true ss (Goes a) = k_raise _
     k_returned false ss (Goes a) = k_done _
-    k_returned true ss (Leaves ByExit) = k_leave _
-    k_returned false ss (Leaves ByExit) = k_leave _
+    k_returned true ss (Leaves ByExit) = k_raise _
+    k_returned false ss (Leaves ByExit) = k_done _
     k_returned true ss (Leaves (ByReturn v)) = k_done _
     k_returned false ss (Leaves (ByReturn v)) = k_done _
     k_returned true ss (Leaves (ByRaise e)) = k_raise _

@@ -1,5 +1,5 @@
 -- What a name denotes, and how its value is read and written.
-use Rattle.std.specs.Prelude.{ℕ, zero, suc, ◌+◌, List, [], ◌∷◌, ◌++◌, take, drop, Option, Some, None, Bool, false, ◌&&◌, nat_eq, slice_get}
+use Rattle.std.specs.Prelude.{ℕ, zero, suc, ◌+◌, List, [], ◌∷◌, ◌++◌, drop, Option, Some, None, Bool, false, ◌&&◌, nat_eq, slice_get}
 use Rattle.ctl_tree.specs.declared.checked.Ty.{Ty}
 use Rattle.ctl_tree.specs.declared.checked.Var.{Var}
 use Rattle.ctl_tree.specs.declared.checked.Expr.{Held-Expr-New-2}
@@ -9,7 +9,7 @@ use Rattle.ctl_tree.specs.declared.ending.Stop.TheVariants.{UseAfterFree}
 use Rattle.ctl_meaning.specs.World.{Object, Slot, Holds, Binds, Copies, World}
 use Rattle.ctl_meaning.specs.Lists.{item_or, same_list}
 use Rattle.ctl_meaning.specs.Activations.{master_of, slot_in}
-use Rattle.ctl_meaning.specs.Objects.{cells_at, overwritten}
+use Rattle.ctl_meaning.specs.Objects.{first_cells, cells_at, overwritten}
 use Rattle.ctl_meaning.specs.Changes.{object_at, write_cells, set_slot}
 use Rattle.ctl_meaning.specs.Choice.{Ask}
 use Rattle.ctl_meaning.specs.Outcome.{constraint_error, Act, Done, ◌>>=◌, ◌>>◌, done, nothing, raise, stop, ticked, look, change, either, on_some}
@@ -71,11 +71,11 @@ scalar_of v = item_or 0 (slice_get v 0)
 unfoldable pub slot_at : ℕ → ℕ → World → Slot
 slot_at m i w = slot_in m i w.activations
 
--- n cells
+-- n cells; one that is not there counts as 0
 unfoldable pub read_found : ℕ → Found → Act (List ℕ)
 read_found n (InObject o offset path) = read_part o offset n
-read_found n (InCopy m i offset) = look (λ w. done (take n (drop offset (copy_in (slot_at m i w)))))
-read_found n (Alone v) = done (take n v)
+read_found n (InCopy m i offset) = look (λ w. done (first_cells n (drop offset (copy_in (slot_at m i w)))))
+read_found n (Alone v) = done (first_cells n v)
 
 unfoldable pub write_found : Found → List ℕ → Act Done
 write_found (InObject o offset path) v = write_part o offset v

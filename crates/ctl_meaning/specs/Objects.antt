@@ -1,5 +1,5 @@
 -- Objects by number, their values and states, and where they lie.
-use Rattle.std.specs.Prelude.{ℕ, ◌+◌, List, ◌++◌, length, Option, Some, None, Bool, true, false, nat_eq, if◌then◌else◌, take, drop}
+use Rattle.std.specs.Prelude.{ℕ, zero, suc, ◌+◌, List, [], ◌∷◌, ◌++◌, length, Option, Some, None, Bool, true, false, nat_eq, if◌then◌else◌, take, drop}
 use Rattle.ctl_meaning.specs.World.{Place, Standard, InBlock, InSubpool, Origin, Declared, Allocated, State, Untouched, Finalizing, Finalized, Object}
 use Rattle.ctl_meaning.specs.Lists.{first_with, change_each, contains}
 
@@ -9,9 +9,15 @@ object_in n os = first_with (λ o. nat_eq o.number n) os
 unfoldable pub change_in : ℕ → (Object → Object) → List Object → List Object
 change_in n f os = change_each (λ o. nat_eq o.number n) f os
 
+-- the first n cells; one that is not there counts as 0
+unfoldable pub first_cells : ℕ → List ℕ → List ℕ
+first_cells zero v = []
+first_cells (suc n) [] = 0 ∷ first_cells n []
+first_cells (suc n) (x ∷ xs) = x ∷ first_cells n xs
+
 -- the cells of a part
 unfoldable pub cells_at : ℕ → ℕ → Object → List ℕ
-cells_at offset n o = take n (drop offset o.cells)
+cells_at offset n o = first_cells n (drop offset o.cells)
 
 unfoldable pub overwritten : ℕ → List ℕ → List ℕ → List ℕ
 overwritten offset v cells = take offset cells ++ v ++ drop (offset + length v) cells
@@ -73,5 +79,5 @@ lies_there p (Some o) = p o.origin
 
 -- everything here, opened at once
 unfoldable pub opened_objects : Unit {0}
-unfolding object_in change_in cells_at overwritten with_cells with_begun with_joined is_untouched with_finalized is_finalizing is_of_set place_in_subpool lies_in_subpool place_in_pool lies_in_pool ends_with_master lies_there
+unfolding object_in change_in first_cells cells_at overwritten with_cells with_begun with_joined is_untouched with_finalized is_finalizing is_of_set place_in_subpool lies_in_subpool place_in_pool lies_in_pool ends_with_master lies_there
 opened_objects = tt

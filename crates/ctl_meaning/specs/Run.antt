@@ -29,11 +29,13 @@ use Rattle.ctl_meaning.specs.Statements.{unset_slots, exec_master, opened_statem
 
 -- Executions ------------------------------------------------------------------------------
 
--- a function that reaches its end raises Program_Error, outside its own handlers (6.5)
+-- a function that reaches its end raises Program_Error, outside its own handlers (6.5). An exit statement stands in a loop (5.7); one
+-- that stands in none would end the body
 unfoldable pub returned : Bool → List Slot → Result Done → Act Returned
 returned true slots (Goes a) = raise program_error
 returned false slots (Goes a) = done (record { cells = []; slots = slots })
-returned f slots (Leaves ByExit) = leave_by ByExit
+returned true slots (Leaves ByExit) = raise program_error
+returned false slots (Leaves ByExit) = done (record { cells = []; slots = slots })
 returned f slots (Leaves (ByReturn v)) = done (record { cells = v; slots = slots })
 returned f slots (Leaves (ByRaise e)) = raise e
 

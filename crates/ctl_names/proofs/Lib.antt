@@ -2,3 +2,4 @@ pub mod Places
 pub mod Ways
 pub mod Turns
 pub mod Whole
+pub mod ItemFacts

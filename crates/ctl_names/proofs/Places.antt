@@ -1,21 +1,18 @@
 -- What one more declaration, one less and another kind do to the last places.
-use Rattle.std.proofs.Common.{◌≡◌, ℕ, zero, suc, ◌+◌, ◌-◌, ◌<◌, ◌≤◌, ◌==◌, Bool, true, false, cond, ◌⊎◌, inl, inr, List, [], ◌∷◌, ◌++◌, length, length-append, take, refl, sym, ap, subst, ◌∙◌, arith, Vec, Option, Some, None, append_assoc, add-one}
+use Rattle.std.proofs.Common.{◌≡◌, ℕ, zero, suc, ◌+◌, ◌<◌, ◌≤◌, Bool, true, false, cond, ◌⊎◌, inl, inr, List, [], ◌∷◌, ◌++◌, length, length-append, take, refl, sym, ap, subst, ◌∙◌, arith, Vec, Option, Some, None, append_assoc, add-one}
 use Rattle.std.specs.Prelude.{if◌then◌else◌, slice_set, slice_get, slice_index, slice_index_or, fold, unwrap_or}
 use Rattle.std.specs.declared.alloc.Global.{Global}
 use Rattle.std.specs.Str.{bytes_eq}
-use Rattle.std.specs.HashMap.{HashMap, get_by, UpdatesBy}
-use Rattle.std.specs.Map.{lookup, IsKeyTest, AreApart, KeepsOthers}
-use Rattle.std.specs.Cmp.Lexicographic.{pointwise, bytes_decides, nat_list_eq_equiv}
+use Rattle.std.specs.HashMap.{HashMap, UpdatesBy}
+use Rattle.std.specs.Map.{KeepsOthers}
+use Rattle.std.specs.Cmp.Lexicographic.{bytes_decides, nat_list_eq_equiv}
 use Rattle.std.proofs.Math.Nat.{eq-or-lt_of_le}
 use Rattle.std.proofs.Math.ListN.{get_or-append}
 use Rattle.std.proofs.Math.Seq.{get_or-append_seam, take-append_seam}
-use Rattle.std.proofs.lemmas.List.{take-append-le, length-set}
+use Rattle.std.proofs.lemmas.List.{take-append-le}
 use Rattle.std.proofs.lemmas.List.{append-nil}
-use Rattle.std.proofs.lemmas.List.Sums.{fold-append}
 use Rattle.std.proofs.lemmas.Option.{slice_get-get_or}
 use Rattle.std.proofs.lemmas.Bool.{cases_Bool, cond-true, cond-false}
-use Rattle.std.proofs.lemmas.Bool.Decides.{nat_tests}
-use Rattle.std.proofs.lemmas.Grind.{common_steps}
 use Rattle.ctl_legality.specs.declared.view.Entity.{Entity}
 use Rattle.ctl_legality.specs.declared.view.Known.{Known}
 use Rattle.ctl_legality.specs.declared.view.Declaration.{Declaration}

@@ -1,12 +1,12 @@
 -- Sites that are judged one after the other, and one turn of a loop over them.
-use Rattle.std.proofs.Common.{◌≡◌, ℕ, ◌+◌, ◌<◌, ◌≤◌, List, [], ◌∷◌, ◌++◌, length, get_or, drop, take, refl, sym, ap, subst, ◌∙◌}
+use Rattle.std.proofs.Common.{◌≡◌, ℕ, ◌+◌, ◌<◌, ◌≤◌, List, [], ◌∷◌, ◌++◌, length, get_or, drop, take, refl, sym, ap, subst, ◌∙◌, append_assoc}
 use Rattle.std.proofs.lemmas.List.{at_drop_more}
 use Rattle.ctl_tree.specs.declared.tree.Item.{Item}
 use Rattle.ctl_tree.specs.declared.tree.Handled.{Handled}
 use Rattle.ctl_legality.specs.declared.view.Declaration.{Declaration}
 use Rattle.ctl_legality.specs.declared.view.Part.{Part}
 use Rattle.ctl_legality.specs.View.{View}
-use Rattle.ctl_legality.specs.Sites.{Site, end, item_list_sites, after_item_list, handled_sites, part_sites}
+use Rattle.ctl_legality.specs.Sites.{Site, end, part, item_list_facts, ended_sites, item_list_sites, after_item_list, handled_sites, part_sites}
 use Rattle.ctl_legality.specs.Judged.{Findings, judged}
 use Rattle.std.proofs.Math.Seq.{take-length}
 use Rattle.ctl_legality.proofs.Noting.{judged_append}
@@ -74,21 +74,21 @@ pub record PartJudged (w h : Walk) (p : Part) (its : List Item) (hd : Handled) :
   pub kept : Keeps p.start (view_of w p) (view_of h p)
   pub found : h.found ≡ judged w.found (part_sites its hd (view_of w p))
 
-pub part_judged : (w a e h : Walk) (p behind : Part) (its : List Item) (hd : Handled) → p.start ≤ length w.scope → view_of a behind ≡ after_item_list its (view_of w p) → a.found ≡ judged w.found (item_list_sites its (view_of w p)) → Judges a e (end (view_of a behind) ∷ []) → Judges e h (handled_sites hd (view_of e behind)) → PartJudged w h p its hd
-part_judged w a e h p behind its hd room second items ended j =
+pub part_judged : (w a h : Walk) (p behind : Part) (its : List Item) (hd : Handled) → p.start ≤ length w.scope → view_of a behind ≡ after_item_list its (view_of w p) → a.found ≡ judged w.found (ended_sites its (view_of w p)) → Judges a h (handled_sites hd (view_of a behind)) → PartJudged w h p its hd
+part_judged w a h p behind its hd room second items j =
     let v = view_of w p in
     let v2 = after_item_list its v in
-    let same : view_of e behind ≡ v2 = same_view a e behind (end (view_of a behind) ∷ []) ended ∙ second in
     let k = items_kept p.start its v refl room in
-    let names : h.scope ≡ v2.names = j.scope ∙ ended.scope ∙ ap (λ u. u.names) second in
+    let names : h.scope ≡ v2.names = j.scope ∙ ap (λ u. u.names) second in
     record {
       kept = record {
         names = ap (take p.start) names ∙ k.names;
         room = subst (λ (xs : List Declaration). p.start ≤ length xs) (sym names) k.room;
-        units = j.units ∙ ended.units ∙ ap (λ u. u.units) second ∙ k.units;
+        units = j.units ∙ ap (λ u. u.units) second ∙ k.units;
       };
       found =
-          j.found ∙ ap (λ u. judged e.found (handled_sites hd u)) same
-          ∙ ap (λ f. judged f (handled_sites hd v2)) (ended.found ∙ ap (λ u. judged a.found (end u ∷ [])) second ∙ ap (λ f. judged f (end v2 ∷ [])) items)
-          ∙ sym (judged_append w.found (item_list_sites its v) (end v2 ∷ handled_sites hd v2));
+          j.found ∙ ap (λ u. judged a.found (handled_sites hd u)) second
+          ∙ ap (λ f. judged f (handled_sites hd v2)) items
+          ∙ sym (judged_append w.found (ended_sites its v) (handled_sites hd v2))
+          ∙ ap (judged w.found) (append_assoc (item_list_sites its v) (end v2 ∷ part (item_list_facts its v) ∷ []) (handled_sites hd v2));
     }

@@ -1,12 +1,11 @@
 -- Where the identifiers of a name lead, one identifier on.
-use Rattle.std.proofs.Common.{◌≡◌, ℕ, ◌+◌, ◌<◌, List, [], ◌∷◌, length, get_or, drop, Option, None, Some, refl, sym, ap, ◌∙◌, arith}
+use Rattle.std.proofs.Common.{◌≡◌, ℕ, ◌+◌, ◌<◌, List, length, get_or, drop, Option, sym, ap, ◌∙◌}
 use Rattle.std.proofs.lemmas.List.{at_drop_more}
 use Rattle.std.proofs.Math.Seq.{drop-length}
 use Rattle.ctl_tree.specs.declared.tree.Identifier.{Identifier}
 use Rattle.ctl_legality.specs.declared.library.Unit.{Unit}
-use Rattle.ctl_legality.specs.declared.view.Way.{Way}
-use Rattle.ctl_legality.specs.declared.view.Way.TheVariants.{Reaches, Stops}
-use Rattle.ctl_legality.specs.Library.{child_of, name_in}
+use Rattle.ctl_legality.specs.declared.view.Way.TheVariants.{Reaches}
+use Rattle.ctl_legality.specs.Library.{child_of}
 use Rattle.ctl_legality.specs.View.{folded, way_on, way_from}
 use Rattle.ctl_legality.specs.Sites.{folded_each}
 

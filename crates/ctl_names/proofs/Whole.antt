@@ -1,11 +1,11 @@
 -- A whole program: what is found on the way is what its sites give.
-use Rattle.std.proofs.Common.{◌≡◌, List, [], ◌∷◌, ◌++◌, None, true, refl, sym, ap, ◌∙◌, subst}
+use Rattle.std.proofs.Common.{◌≡◌, List, [], None, true, sym, ap, ◌∙◌, subst}
 use Rattle.ctl_tree.specs.declared.tree.Tree.{Tree}
 use Rattle.ctl_tree.specs.declared.fault.Fault.{Fault}
 use Rattle.ctl_tree.specs.declared.fault.FaultCode.TheVariants.{Memory}
 use Rattle.ctl_legality.specs.declared.view.Entity.TheVariants.{Subprogram}
 use Rattle.ctl_legality.specs.Library.{standard_names}
-use Rattle.ctl_legality.specs.View.{View, library_part, declare, declare_library, folded, inside}
+use Rattle.ctl_legality.specs.View.{library_part, declare, declare_library, folded, inside}
 use Rattle.ctl_legality.specs.Sites.{Site, brought, used, units_of, main_view, contexts_sites, body_sites, sites}
 use Rattle.ctl_legality.specs.Judged.{Findings, judged}
 use Rattle.ctl_legality.proofs.Noting.{judged_append}
@@ -14,7 +14,7 @@ use Rattle.ctl_names.specs.Judging.{view_of, Judges, IsFault, memory}
 use Rattle.ctl_names.proofs.Turns.{same_view}
 
 abbrev nothing : Findings
-nothing = (None, [])
+nothing = (None, [], [], [])
 
 pub whole : (t : Tree) (w0 w1 w2 w3 w4 w5 w6 : Walk) → w0.scope ≡ [] → w0.units.items ≡ [] → w0.found ≡ nothing
     → w1.scope ≡ w0.scope → w1.found ≡ w0.found → w1.units.items ≡ brought t.contexts.items w0.units.items

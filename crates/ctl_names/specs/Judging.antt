@@ -6,7 +6,7 @@ use Rattle.ctl_legality.specs.Sites.{Site}
 use Rattle.ctl_tree.specs.declared.fault.Fault.{Fault}
 use Rattle.ctl_tree.specs.declared.fault.FaultCode.TheVariants.{Memory}
 use Rattle.ctl_legality.specs.declared.view.Breach.{Breach}
-use Rattle.ctl_legality.specs.Judged.{Findings, judged, fault_of, IsFirst}
+use Rattle.ctl_legality.specs.Judged.{judged, fault_of, IsFirst}
 use Rattle.ctl_names.specs.declared.walk.Walk.{Walk}
 
 -- what is in view, from this region

@@ -76,7 +76,7 @@ fn bring(units: &mut Vec<Unit>, unit: Option<Unit>) -> Result<(), AllocError>
 
 impl Walk {
     /// A unit that a with clause names.
-    #[tactic(auto, unfolding(ctl_legality::specs::Rules::breaches_at, ctl_legality::specs::Rules::denoted_at))]
+    #[tactic(auto, unfolding(ctl_legality::specs::Rules::breaches_at, ctl_legality::specs::Rules::denoted_at, ctl_legality::specs::Rules::frozen_at, ctl_legality::specs::Sites::effects_at))]
     fn with_unit(&mut self, name: &Dotted) -> Result<(), AllocError>
         ensures { OnOk result (Judges self.old self.new (with_unit (path_of name.now) ∷ [])) }
     {
@@ -94,7 +94,7 @@ impl Walk {
     }
 
     /// A unit that a use clause names.
-    #[tactic(auto, unfolding(ctl_legality::specs::Rules::breaches_at, ctl_legality::specs::Rules::denoted_at))]
+    #[tactic(auto, unfolding(ctl_legality::specs::Rules::breaches_at, ctl_legality::specs::Rules::denoted_at, ctl_legality::specs::Rules::frozen_at, ctl_legality::specs::Sites::effects_at))]
     fn use_unit(&mut self, name: &Dotted) -> Result<(), AllocError>
         ensures { OnOk result (Judges self.old self.new (use_unit self.old.units.items (path_of name.now) ∷ [])) }
     {

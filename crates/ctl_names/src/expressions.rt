@@ -155,7 +155,11 @@ impl Walk {
         ensures { OnOk result (Judges self.old self.new (allocator_sites allocator.now (view_of self.old part))) }
     {
         self.handle(part, &allocator.handle)?;
-        self.dotted(part, &allocator.mark, Usage::Plain)?;
+        self.dotted(
+            part,
+            &allocator.mark,
+            Usage::Allocated(allocator.value.is_none()),
+        )?;
         self.value(part, &allocator.value)?;
         Ok(())
     }

@@ -5,7 +5,7 @@ ghost use Rattle.ctl_legality.specs.declared.view.Entity.TheVariants as entity;
 ghost use Rattle.ctl_legality.specs.declared.view.Naming.TheVariants as naming;
 ghost use Rattle.ctl_legality.specs.declared.view.Usage.TheVariants as usage;
 ghost use Rattle.ctl_legality.specs.View.{declare, complete, folded, inside};
-ghost use Rattle.ctl_legality.specs.Sites.{named, declared, body, full_type, type_item, dotted_site, associations_sites, expression_sites, heading_key, heading_sites, definition_sites, completed_type, declare_each, declared_each, hide_each, name_body, after_formals, scheme_sites, in_loop, after_choice, choice_sites, after_choice_list, choice_list_sites, after_choices, choices_sites};
+ghost use Rattle.ctl_legality.specs.Sites.{named, clause, declared, body, full_type, type_item, dotted_site, associations_sites, expression_sites, heading_key, heading_sites, definition_sites, completed_type, declare_each, declared_each, hide_each, name_body, after_formals, scheme_sites, in_loop, after_choice, choice_sites, after_choice_list, choice_list_sites, after_choices, choices_sites};
 ghost use Rattle.ctl_legality.specs.Judged.{judged};
 ghost use Rattle.ctl_names.specs.Judging.{view_of, Judges};
 
@@ -88,12 +88,14 @@ impl Walk {
     pub fn clause(
         &mut self,
         part: Part,
+        span: Span,
         identifier: &Identifier,
         pool: &Dotted,
     ) -> Result<(), AllocError>
-        ensures { OnOk result (Judges self.old self.new (named (view_of self.old part) identifier.now [] usage.Plain ∷ dotted_site pool.now (view_of self.old part) usage.Plain ∷ [])) }
+        ensures { OnOk result (Judges self.old self.new (named (view_of self.old part) identifier.now [] usage.Plain ∷ clause (view_of self.old part) identifier.now span ∷ dotted_site pool.now (view_of self.old part) usage.Plain ∷ [])) }
     {
         self.named(part, identifier, &[], Usage::Plain)?;
+        self.clause_on(part, identifier, span)?;
         self.dotted(part, pool, Usage::Plain)?;
         Ok(())
     }

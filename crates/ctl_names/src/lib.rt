@@ -4,6 +4,7 @@
 pub mod context;
 pub mod declarations;
 pub mod expressions;
+mod facts;
 pub mod found;
 pub mod items;
 pub mod library;

@@ -2,11 +2,13 @@
 
 ghost use Rattle.std.specs.Prelude.{◌≡◌, ◌≤◌, ◌++◌, ◌∷◌, [], IfOk, OnOk, length};
 ghost use Rattle.ctl_legality.specs.View.{inside, region};
-ghost use Rattle.ctl_legality.specs.Sites.{after_item, item_sites, item_list_sites, after_item_list, after_formals, part_sites, body_sites, handled_sites, statement_sites, statement_list_sites, branch_sites, branch_list_sites, handler_sites, handler_list_sites, after_handler, after_handler_list, in_loop};
+ghost use Rattle.ctl_legality.specs.Sites.{after_item, item_sites, one_item_facts, item_list_facts, ended_sites, item_list_sites, after_item_list, after_formals, part_sites, body_sites, handled_sites, statement_sites, statement_list_sites, branch_sites, branch_list_sites, handler_sites, handler_list_sites, after_handler, after_handler_list, in_loop};
 ghost use Rattle.ctl_legality.specs.Judged.{judged};
 ghost use Rattle.ctl_names.specs.Judging.{view_of, Judges};
 
+use crate::facts::{effects_from, name_facts};
 use crate::walk::Walk;
+use ctl_freezing::fact::Fact;
 use ctl_legality::view::{Entity, Naming, Part};
 use ctl_tree::tree::{
     BodyPart, Branch, Handled, Handler, Item, ItemKind, Scheme, Specification, Statement,
@@ -49,7 +51,7 @@ impl Walk {
                 Ok(part)
             }
             ItemKind::Clause(identifier, _, pool) => {
-                self.clause(part, identifier, pool)?;
+                self.clause(part, item.span, identifier, pool)?;
                 Ok(part)
             }
             ItemKind::Exceptions(identifiers) => {
@@ -63,19 +65,65 @@ impl Walk {
         }
     }
 
-    /// The items of a part. The part behind them.
+    /// An item, with its facts. The part behind it.
     #[cycle(tree)]
-    fn items(&mut self, part: Part, items: &[Item]) -> Result<Part, AllocError>
+    fn item_with_facts(
+        &mut self,
+        part: Part,
+        item: &Item,
+        facts: &mut Vec<Fact>,
+    ) -> Result<Part, AllocError>
+        requires { part.start ≤ length self.old.scope }
+        ensures view { IfOk result (λ behind. view_of self.new behind ≡ after_item item.now.kind (view_of self.old part)) }
+        ensures found { OnOk result (self.new.found ≡ judged self.old.found (item_sites item.now.span item.now.kind (view_of self.old part))) }
+        ensures facts { OnOk result (facts.new.items ≡ facts.old.items ++ one_item_facts item.now (view_of self.old part)) }
+    {
+        let count = self.found.effect_count();
+        self.form_facts(part, item, facts)?;
+        let number = self.type_number(part, item)?;
+        let behind = self.item(part, item)?;
+        name_facts(
+            item,
+            number,
+            effects_from(self.found.effects(), count),
+            facts,
+        )?;
+        Ok(behind)
+    }
+
+    /// The items of a part, with their facts. The part behind them.
+    #[cycle(tree)]
+    fn items(
+        &mut self,
+        part: Part,
+        items: &[Item],
+        facts: &mut Vec<Fact>,
+    ) -> Result<Part, AllocError>
         requires { part.start ≤ length self.old.scope }
         ensures view { IfOk result (λ behind. view_of self.new behind ≡ after_item_list items.now (view_of self.old part)) }
         ensures found { OnOk result (self.new.found ≡ judged self.old.found (item_list_sites items.now (view_of self.old part))) }
+        ensures facts { OnOk result (facts.new.items ≡ facts.old.items ++ item_list_facts items.now (view_of self.old part)) }
     {
         let mut seen = part;
         for item in items {
-            let behind = self.item(seen, item)?;
+            let behind = self.item_with_facts(seen, item, facts)?;
             seen = behind;
         }
         Ok(seen)
+    }
+
+    /// The items of a part, and its end. The part behind them.
+    #[cycle(tree)]
+    fn ended_items(&mut self, part: Part, items: &[Item]) -> Result<Part, AllocError>
+        requires { part.start ≤ length self.old.scope }
+        ensures view { IfOk result (λ behind. view_of self.new behind ≡ after_item_list items.now (view_of self.old part)) }
+        ensures found { OnOk result (self.new.found ≡ judged self.old.found (ended_sites items.now (view_of self.old part))) }
+    {
+        let mut facts = Vec::new(self.alloc);
+        let behind = self.items(part, items, &mut facts)?;
+        self.end(behind);
+        self.facts(&facts)?;
+        Ok(behind)
     }
 
     /// The part of a body, with its parameters.
@@ -90,8 +138,7 @@ impl Walk {
     {
         let count = self.scope.count();
         let inner = self.enter_formals(part, heading)?;
-        let behind = self.items(inner, &body.items)?;
-        self.end(behind);
+        let behind = self.ended_items(inner, &body.items)?;
         self.handled(behind, &body.handled)?;
         self.scope.close(count);
         Ok(())
@@ -170,8 +217,7 @@ impl Walk {
             StatementKind::Block(items, handled) => {
                 let count = self.scope.count();
                 let inner = self.inside(part);
-                let behind = self.items(inner, items)?;
-                self.end(behind);
+                let behind = self.ended_items(inner, items)?;
                 self.handled(behind, handled)?;
                 self.scope.close(count);
                 Ok(())
@@ -231,8 +277,7 @@ impl Walk {
         ensures { OnOk result (self.new.found ≡ judged self.old.found (body_sites body.now (inside (view_of self.old part)))) }
     {
         let inner = self.inside(part);
-        let behind = self.items(inner, &body.items)?;
-        self.end(behind);
+        let behind = self.ended_items(inner, &body.items)?;
         self.handled(behind, &body.handled)?;
         Ok(())
     }

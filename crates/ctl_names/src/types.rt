@@ -1,6 +1,6 @@
 //! The walk over the definitions of types and over objects (RM 3.3.1, 3.8, 3.9.1, 3.10).
 
-ghost use Rattle.std.specs.Prelude.{◌≡◌, ◌++◌, ◌∷◌, [], IfOk, OnOk};
+ghost use Rattle.std.specs.Prelude.{◌≡◌, ◌++◌, ◌∷◌, [], IfOk, OnOk, not, is_some};
 ghost use Rattle.ctl_legality.specs.declared.view.Entity.TheVariants as entity;
 ghost use Rattle.ctl_legality.specs.declared.view.Naming.TheVariants as naming;
 ghost use Rattle.ctl_legality.specs.declared.view.Usage.TheVariants as usage;
@@ -23,7 +23,11 @@ impl Walk {
         ensures view { OnOk result (view_of self.new part ≡ declare_each naming.Component entity.Object component.now.names.items (view_of self.old part)) }
         ensures found { OnOk result (self.new.found ≡ judged self.old.found (component_sites component.now (view_of self.old part))) }
     {
-        self.dotted(part, &component.mark, Usage::Plain)?;
+        self.dotted(
+            part,
+            &component.mark,
+            Usage::Object(component.default.is_none()),
+        )?;
         self.option_expression(part, &component.default)?;
         self.declared_each(part, Naming::Component, Entity::Object, &component.names)?;
         Ok(())
@@ -99,11 +103,11 @@ impl Walk {
         identifier: &Identifier,
         parent: &Dotted,
     ) -> Result<(), AllocError>
-        ensures { OnOk result (Judges self.old self.new (dotted_site parent.now (in_definition (view_of self.old part) identifier.now) usage.Plain ∷ [])) }
+        ensures { OnOk result (Judges self.old self.new (dotted_site parent.now (in_definition (view_of self.old part) identifier.now) usage.Parent ∷ [])) }
     {
         let count = self.scope.count();
         self.enter_definition(part, identifier)?;
-        self.dotted(part, parent, Usage::Plain)?;
+        self.dotted(part, parent, Usage::Parent)?;
         self.scope.close(count);
         Ok(())
     }
@@ -164,9 +168,9 @@ impl Walk {
 impl Walk {
     #[tactic(auto, using(ctl_legality::proofs::Noting::judged_append))]
     fn object_parts(&mut self, part: Part, objects: &Objects) -> Result<(), AllocError>
-        ensures { OnOk result (Judges self.old self.new (dotted_site objects.now.mark (view_of self.old part) usage.Plain ∷ (associations_sites objects.now.discriminants.items (view_of self.old part) ++ option_sites objects.now.value (view_of self.old part)))) }
+        ensures { OnOk result (Judges self.old self.new (dotted_site objects.now.mark (view_of self.old part) (usage.Object (not (is_some objects.now.value))) ∷ (associations_sites objects.now.discriminants.items (view_of self.old part) ++ option_sites objects.now.value (view_of self.old part)))) }
     {
-        self.dotted(part, &objects.mark, Usage::Plain)?;
+        self.dotted(part, &objects.mark, Usage::Object(objects.value.is_none()))?;
         self.associations(part, &objects.discriminants)?;
         self.option_expression(part, &objects.value)?;
         Ok(())
@@ -174,7 +178,7 @@ impl Walk {
 
     /// The mark, the discriminants and the value of objects, which are hidden there.
     fn own_object(&mut self, part: Part, objects: &Objects) -> Result<(), AllocError>
-        ensures { OnOk result (Judges self.old self.new (dotted_site objects.now.mark (hide_each objects.now.names.items (view_of self.old part)) usage.Plain ∷ (associations_sites objects.now.discriminants.items (hide_each objects.now.names.items (view_of self.old part)) ++ option_sites objects.now.value (hide_each objects.now.names.items (view_of self.old part))))) }
+        ensures { OnOk result (Judges self.old self.new (dotted_site objects.now.mark (hide_each objects.now.names.items (view_of self.old part)) (usage.Object (not (is_some objects.now.value))) ∷ (associations_sites objects.now.discriminants.items (hide_each objects.now.names.items (view_of self.old part)) ++ option_sites objects.now.value (hide_each objects.now.names.items (view_of self.old part))))) }
     {
         let count = self.scope.count();
         self.declare_each(part, Naming::Direct, Entity::Hidden, &objects.names)?;

@@ -2,19 +2,23 @@
 
 ghost use Rattle.std.specs.Prelude.{◌≡◌, ◌≤◌, ◌∷◌, [], ◌++◌, IfOk, OnOk, length, None, Some, drop, nat_le};
 ghost use Rattle.ctl_legality.specs.declared.view.Entity.TheVariants as entity;
-ghost use Rattle.ctl_legality.specs.View.{View, folded, last_of, is_hidden, given_by, is_own, is_brought, number_of, way_from, way_meaning, not_brought, name_meaning, undeclared_meaning, declare, known_as, is_declared_here, wants_body, is_incomplete, waits, completed_by, complete, within};
+ghost use Rattle.ctl_legality.specs.View.{View, folded, type_of_part, subprogram_of_part, last_of, is_hidden, given_by, is_own, is_brought, number_of, way_from, way_meaning, not_brought, name_meaning, undeclared_meaning, declare, known_as, is_declared_here, wants_body, is_incomplete, is_type, is_subprogram, waits, completed_by, complete, within};
 ghost use Rattle.ctl_legality.specs.Library.{operation_named};
-ghost use Rattle.ctl_legality.specs.Sites.{named, declared, body, full_type, type_item, end, folded_each, key_of, dotted_site, option_mark_sites, declare_each, declared_each};
-ghost use Rattle.ctl_legality.specs.Rules.{meaning_of, identifier_at, incomplete_use, when, unfinished, at_spans};
+ghost use Rattle.ctl_legality.specs.Sites.{named, declared, body, full_type, type_item, clause, end, part as part_site, effects_at, type_effects, call_effects, folded_each, key_of, dotted_site, option_mark_sites, declare_each, declared_each};
+ghost use Rattle.ctl_legality.specs.Rules.{meaning_of, identifier_at, incomplete_use, when, unfinished, at_spans, is_any_type, is_library_type, is_other_type};
 ghost use Rattle.ctl_legality.specs.Judged.{judged};
 ghost use Rattle.ctl_names.specs.Judging.{view_of, Judges};
 
 use crate::found::Found;
 use crate::library::{child_of, name_in, operation_named, root_unit};
 use crate::scope::Scope;
+use ctl_freezing::early::early;
+use ctl_freezing::fact::{Early, Fact};
+use ctl_freezing::frozen::frozen;
+use ctl_freezing::late::late;
 use ctl_legality::library::{LibraryName, Unit};
 use ctl_legality::view::{
-    Declaration, Denoted, Entity, Known, Meaning, Naming, Part, Rule, Usage, Way,
+    Declaration, Denoted, Effect, Entity, Known, Meaning, Naming, Part, Rule, Usage, Way,
 };
 use ctl_tree::span::Span;
 use ctl_tree::tree::{Dotted, Identifier};
@@ -35,6 +39,48 @@ pub fn folded(alloc: Global, identifier: &Identifier) -> Result<Vec<u8>, AllocEr
     ensures { IfOk result (λ n. n.items ≡ folded identifier.now) }
 {
     identifier.name.as_bytes().to_ascii_lowercase(alloc)
+}
+
+fn is_type(entity: Entity) -> bool
+    ensures { result ≡ is_type entity }
+{
+    matches!(entity, Entity::Type(_))
+}
+
+fn is_subprogram(entity: Entity) -> bool
+    ensures { result ≡ is_subprogram entity }
+{
+    matches!(entity, Entity::Subprogram(_))
+}
+
+/// Whether a declaration of the library is a type.
+fn is_library_type(name: LibraryName) -> bool
+    ensures { result ≡ is_library_type name }
+{
+    matches!(
+        name,
+        LibraryName::Integer
+            | LibraryName::Boolean
+            | LibraryName::Controlled
+            | LibraryName::LimitedControlled
+            | LibraryName::Address
+            | LibraryName::StorageCount
+            | LibraryName::RootStoragePool
+            | LibraryName::SubpoolHandle
+            | LibraryName::BlockPool
+            | LibraryName::MarkReleasePool
+    )
+}
+
+/// Whether a declaration is a type.
+fn is_any_type(entity: Entity) -> bool
+    ensures { result ≡ is_any_type entity }
+{
+    match entity {
+        Entity::Type(_) => true,
+        Entity::Library(name) => is_library_type(name),
+        _ => false,
+    }
 }
 
 /// What an identifier is known by in its region.
@@ -203,7 +249,7 @@ impl Walk {
     pub fn new(alloc: Global) -> Walk
         ensures scope { result.scope ≡ [] }
         ensures units { result.units.items ≡ [] }
-        ensures found { result.found ≡ (None, []) }
+        ensures found { result.found ≡ (None, [], [], []) }
     {
         Walk {
             alloc,
@@ -242,7 +288,7 @@ impl Walk {
     {
         match usage {
             Usage::Designated => Ok(false),
-            Usage::Plain => {
+            Usage::Object(_) | Usage::Parent | Usage::Allocated(_) | Usage::Plain => {
                 let name = folded(self.alloc, first)?;
                 match self.scope.find(name.as_slice()) {
                     None => Ok(false),
@@ -278,7 +324,7 @@ impl Walk {
 // The judgement of one site.
 impl Walk {
     /// A name that is used.
-    #[tactic(auto, unfolding(ctl_legality::specs::Rules::breaches_at, ctl_legality::specs::Rules::denoted_at))]
+    #[tactic(auto, unfolding(ctl_legality::specs::Rules::breaches_at, ctl_legality::specs::Rules::denoted_at, ctl_legality::specs::Rules::frozen_at, ctl_legality::specs::Sites::effects_at))]
     pub fn named(
         &mut self,
         part: Part,
@@ -301,11 +347,12 @@ impl Walk {
             Meaning::UnknownAt(_) => {}
             Meaning::NotWithed => self.found.note(Rule::NotWithed, first.span),
         }
+        self.effects(part, first, rest, usage)?;
         Ok(())
     }
 
     /// A name that is declared.
-    #[tactic(auto, unfolding(ctl_legality::specs::Rules::breaches_at, ctl_legality::specs::Rules::denoted_at))]
+    #[tactic(auto, unfolding(ctl_legality::specs::Rules::breaches_at, ctl_legality::specs::Rules::denoted_at, ctl_legality::specs::Rules::frozen_at, ctl_legality::specs::Sites::effects_at))]
     pub fn declared(&mut self, part: Part, name: &[u8], span: Span)
         ensures { Judges self.old self.new (declared (view_of self.old part) name.now span ∷ []) }
     {
@@ -315,7 +362,7 @@ impl Walk {
     }
 
     /// The name of a body.
-    #[tactic(auto, unfolding(ctl_legality::specs::Rules::breaches_at, ctl_legality::specs::Rules::denoted_at))]
+    #[tactic(auto, unfolding(ctl_legality::specs::Rules::breaches_at, ctl_legality::specs::Rules::denoted_at, ctl_legality::specs::Rules::frozen_at, ctl_legality::specs::Sites::effects_at))]
     pub fn body(&mut self, part: Part, name: &[u8], span: Span)
         ensures { Judges self.old self.new (body (view_of self.old part) name.now span ∷ []) }
     {
@@ -325,7 +372,7 @@ impl Walk {
     }
 
     /// The name of a full type.
-    #[tactic(auto, unfolding(ctl_legality::specs::Rules::breaches_at, ctl_legality::specs::Rules::denoted_at))]
+    #[tactic(auto, unfolding(ctl_legality::specs::Rules::breaches_at, ctl_legality::specs::Rules::denoted_at, ctl_legality::specs::Rules::frozen_at, ctl_legality::specs::Sites::effects_at))]
     pub fn full_type(&mut self, part: Part, name: &[u8], span: Span)
         ensures { Judges self.old self.new (full_type (view_of self.old part) name.now span ∷ []) }
     {
@@ -334,8 +381,25 @@ impl Walk {
         }
     }
 
+    /// A clause on a type, by its first token.
+    #[tactic(auto, unfolding(ctl_legality::specs::Rules::breaches_at, ctl_legality::specs::Rules::denoted_at, ctl_legality::specs::Rules::frozen_at, ctl_legality::specs::Sites::effects_at))]
+    pub fn clause_on(
+        &mut self,
+        part: Part,
+        identifier: &Identifier,
+        span: Span,
+    ) -> Result<(), AllocError>
+        ensures { OnOk result (Judges self.old self.new (clause (view_of self.old part) identifier.now span ∷ [])) }
+    {
+        let name = folded(self.alloc, identifier)?;
+        if self.is_other_type(part, name.as_slice()) {
+            self.found.note(Rule::Order, span);
+        }
+        Ok(())
+    }
+
     /// A declaration of a type, by its first token.
-    #[tactic(auto, unfolding(ctl_legality::specs::Rules::breaches_at, ctl_legality::specs::Rules::denoted_at))]
+    #[tactic(auto, unfolding(ctl_legality::specs::Rules::breaches_at, ctl_legality::specs::Rules::denoted_at, ctl_legality::specs::Rules::frozen_at, ctl_legality::specs::Sites::effects_at))]
     pub fn type_item(&mut self, part: Part, span: Span)
         ensures { Judges self.old self.new (type_item (view_of self.old part) span ∷ []) }
     {
@@ -348,12 +412,28 @@ impl Walk {
 // Several identifiers, and the end of a part.
 impl Walk {
     /// The end of a declarative part.
-    #[tactic(auto, unfolding(ctl_legality::specs::Rules::breaches_at, ctl_legality::specs::Rules::denoted_at))]
+    #[tactic(auto, unfolding(ctl_legality::specs::Rules::breaches_at, ctl_legality::specs::Rules::denoted_at, ctl_legality::specs::Rules::frozen_at, ctl_legality::specs::Sites::effects_at))]
     pub fn end(&mut self, part: Part)
         ensures { Judges self.old self.new (end (view_of self.old part) ∷ []) }
     {
         self.found
             .note_unfinished(behind(self.scope.declarations(), part.start));
+    }
+
+    /// What the items of a part do to its types.
+    #[tactic(auto, unfolding(ctl_legality::specs::Rules::breaches_at, ctl_legality::specs::Rules::denoted_at, ctl_legality::specs::Rules::frozen_at, ctl_legality::specs::Sites::effects_at))]
+    pub fn facts(&mut self, facts: &[Fact]) -> Result<(), AllocError>
+        ensures { OnOk result (Judges self.old self.new (part_site facts.now ∷ [])) }
+    {
+        let late = late(self.alloc, facts)?;
+        let early = early(self.alloc, facts)?;
+        let frozen = frozen(self.alloc, facts)?;
+        self.found.note_late(Rule::Order, Early::Pool, &late);
+        self.found.note_each(Rule::Elab, &early);
+        self.found
+            .note_late(Rule::LatePrimitive, Early::Operation, &late);
+        self.found.extend_frozen(&frozen)?;
+        Ok(())
     }
 
     /// A name of identifiers alone.
@@ -407,6 +487,107 @@ impl Walk {
             self.declared(part, key.as_slice(), identifier.span);
             self.declare(part, key, identifier.span, entity)?;
         }
+        Ok(())
+    }
+}
+
+// The declarative part around.
+impl Walk {
+    /// The type of the part that a name denotes, by its number.
+    pub fn type_of_part(&self, part: Part, name: &[u8]) -> Option<Known>
+        ensures { result ≡ type_of_part (view_of self.now part) name.now }
+    {
+        match self.scope.find(name) {
+            None => None,
+            Some(known) => if known.level == part.level && is_type(known.entity) {
+                Some(known)
+            } else {
+                None
+            },
+        }
+    }
+
+    /// The subprogram of the part that a name denotes.
+    fn subprogram_of_part(&self, part: Part, name: &[u8]) -> Option<Known>
+        ensures { result ≡ subprogram_of_part (view_of self.now part) name.now }
+    {
+        match self.scope.find(name) {
+            None => None,
+            Some(known) => if known.level == part.level && is_subprogram(known.entity) {
+                Some(known)
+            } else {
+                None
+            },
+        }
+    }
+
+    /// Whether a name denotes a type that is not of the part.
+    fn is_other_type(&self, part: Part, name: &[u8]) -> bool
+        ensures { result ≡ is_other_type (view_of self.now part) (last_of self.now.scope name.now) }
+    {
+        match self.scope.find(name) {
+            None => false,
+            Some(known) => is_any_type(known.entity) && known.level != part.level,
+        }
+    }
+
+    /// What a name that denotes a type does to it.
+    fn type_effects(
+        &mut self,
+        usage: Usage,
+        rest: &[Identifier],
+        known: Option<Known>,
+    ) -> Result<(), AllocError>
+        ensures scope { OnOk result (self.new.scope ≡ self.old.scope) }
+        ensures units { OnOk result (self.new.units.items ≡ self.old.units.items) }
+        ensures found { OnOk result (self.new.found ≡ (self.old.found.0, self.old.found.1, self.old.found.2 ++ type_effects usage rest.now known, self.old.found.3)) }
+    {
+        match known {
+            None => Ok(()),
+            Some(known) => {
+                if rest.is_empty() {
+                    self.found.push_type(known.place, usage)?;
+                }
+                Ok(())
+            }
+        }
+    }
+
+    /// A name that denotes a subprogram of the part calls it.
+    fn call_effects(&mut self, usage: Usage, known: Option<Known>) -> Result<(), AllocError>
+        ensures scope { OnOk result (self.new.scope ≡ self.old.scope) }
+        ensures units { OnOk result (self.new.units.items ≡ self.old.units.items) }
+        ensures found { OnOk result (self.new.found ≡ (self.old.found.0, self.old.found.1, self.old.found.2 ++ call_effects usage known, self.old.found.3)) }
+    {
+        match usage {
+            Usage::Plain => {
+                if known.is_some() {
+                    self.found.push_effect(Effect::Calls)?;
+                }
+                Ok(())
+            }
+            Usage::Designated | Usage::Object(_) | Usage::Parent | Usage::Allocated(_) => Ok(()),
+        }
+    }
+
+    /// What a name does to the types of the part.
+    #[tactic(auto, unfolding(ctl_legality::specs::Sites::effects_at))]
+    fn effects(
+        &mut self,
+        part: Part,
+        first: &Identifier,
+        rest: &[Identifier],
+        usage: Usage,
+    ) -> Result<(), AllocError>
+        ensures scope { OnOk result (self.new.scope ≡ self.old.scope) }
+        ensures units { OnOk result (self.new.units.items ≡ self.old.units.items) }
+        ensures found { OnOk result (self.new.found ≡ (self.old.found.0, self.old.found.1, self.old.found.2 ++ effects_at (named (view_of self.old part) first.now rest.now usage), self.old.found.3)) }
+    {
+        let name = folded(self.alloc, first)?;
+        let known_type = self.type_of_part(part, name.as_slice());
+        let subprogram = self.subprogram_of_part(part, name.as_slice());
+        self.type_effects(usage, rest, known_type)?;
+        self.call_effects(usage, subprogram)?;
         Ok(())
     }
 }

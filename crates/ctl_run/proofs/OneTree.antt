@@ -11,7 +11,7 @@ use Rattle.ctl_grammar.specs.Text.{IsProgram}
 use Rattle.ctl_grammar.specs.Fault.{HasGrammarFault}
 use Rattle.ctl_grammar.proofs.Programs as programs
 use Rattle.ctl_grammar.proofs.Faults as faults
-use Rattle.ctl_run.specs.Source.{room, Spells, HasFirstFault, of_lexis, of_grammar, SpellsOneTree, TreeOrFault, OneOfBoth}
+use Rattle.ctl_run.specs.Source.{room, SpellsTree, HasFirstFault, of_lexis, of_grammar, SpellsOneTree, TreeOrFault, OneOfBoth}
 
 -- what holds of the text's one list of tokens
 along : (P : List Token → Type 0) (source : List ℕ) (ts us : List Token) → HasTokens source ts → HasTokens source us → P ts → P us
@@ -19,10 +19,10 @@ along P source ts us h k p = subst P (lexis.one_list source ts us h k) p
 
 -- ---- of a text whose tokens are these
 
-pub spells : (source : List ℕ) (ts : List Token) (tree : Node) → HasTokens source ts → IsProgram room tree ts → Spells source tree
+pub spells : (source : List ℕ) (ts : List Token) (tree : Node) → HasTokens source ts → IsProgram room tree ts → SpellsTree source tree
 spells source ts tree h p = record { tokens = ts; lexical = h; grammatical = p }
 
-pub program_of : (source : List ℕ) (ts : List Token) (tree : Node) → HasTokens source ts → Spells source tree → IsProgram room tree ts
+pub program_of : (source : List ℕ) (ts : List Token) (tree : Node) → HasTokens source ts → SpellsTree source tree → IsProgram room tree ts
 program_of source ts tree h s = along (λ us. IsProgram room tree us) source s.tokens ts s.lexical h s.grammatical
 
 pub fault_of : (source : List ℕ) (ts : List Token) (fault : Fault) → HasTokens source ts → HasFirstFault source fault → HasGrammarFault room ts fault
@@ -31,7 +31,7 @@ fault_of source ts fault h (of_grammar us k f) = along (λ xs. HasGrammarFault r
 
 -- ---- of a text that has a lexical fault
 
-pub no_tree : (source : List ℕ) (fault : Fault) (tree : Node) → HasFault source fault → Spells source tree → ⊥
+pub no_tree : (source : List ℕ) (fault : Fault) (tree : Node) → HasFault source fault → SpellsTree source tree → ⊥
 no_tree source fault tree f s = lexis.never_both source s.tokens fault s.lexical f
 
 pub same_fault : (source : List ℕ) (fault first : Fault) → HasFault source fault → HasFirstFault source first → fault ≡ first

@@ -1,11 +1,11 @@
 //! The stages in their order: lexis, grammar, legality, code, run.
 
-ghost use Rattle.std.specs.Prelude.{◌≡◌, ◌⊎◌, IfOk, MatchResult};
+ghost use Rattle.std.specs.Prelude.{◌≡◌, ◌⊎◌, IfErr, IfOk, MatchResult};
 ghost use Rattle.ctl_tree.specs.declared.fault.Fault.{Fault};
 ghost use Rattle.ctl_lexis.specs.Lexis.{HasFault};
 ghost use Rattle.ctl_lex.specs.Memory.{IsMemory};
 ghost use Rattle.ctl_run.specs.Headline.{Accepts, RunsSource};
-ghost use Rattle.ctl_run.specs.Source.{HasFirstFault};
+ghost use Rattle.ctl_run.specs.Source.{HasFirstFault, IsRefused};
 
 use crate::tree::tree_of;
 use ctl_check::check::check;
@@ -26,6 +26,8 @@ pub fn check_source(alloc: Global, source: &[u8]) -> Result<Checked, Fault>
     ensures lexical { (fault : Fault) → HasFault source.now fault → MatchResult result (λ _. ⊥) (λ f. (f ≡ fault) ⊎ IsMemory f) }
     // A text that spells no tree is refused with its first fault, of lexis or of grammar.
     ensures grammatical { (fault : Fault) → HasFirstFault source.now fault → MatchResult result (λ _. ⊥) (λ f. (f ≡ fault) ⊎ IsMemory f) }
+    // It is refused with nothing else than its first fault, a fault of its program, or want of memory.
+    ensures refused { IfErr result (λ fault. IsRefused source.now fault) }
     ensures accepted { IfOk result (λ program. Accepts source.now program) }
 {
     let tree = tree_of(alloc, source)?;
@@ -44,6 +46,8 @@ pub fn check_source(alloc: Global, source: &[u8]) -> Result<Checked, Fault>
 /// first step; a step that is refused memory ends the run as `HostMemory`.
 pub fn run_source(alloc: Global, source: &[u8], order: Order, steps: u64) -> Result<Outcome, Fault>
     ensures lexical { (fault : Fault) → HasFault source.now fault → MatchResult result (λ _. ⊥) (λ f. (f ≡ fault) ⊎ IsMemory f) }
+    ensures grammatical { (fault : Fault) → HasFirstFault source.now fault → MatchResult result (λ _. ⊥) (λ f. (f ≡ fault) ⊎ IsMemory f) }
+    ensures refused { IfErr result (λ fault. IsRefused source.now fault) }
     ensures headline { IfOk result (λ outcome. RunsSource source.now order steps outcome) }
 {
     let program = check_source(alloc, source)?;

@@ -4,7 +4,7 @@ ghost use Rattle.std.specs.Prelude.{◌≡◌, ◌↔◌, true, false, IfOk, IfE
 ghost use Rattle.std.specs.Io.KnownBytes.{Appends};
 ghost use Rattle.ctl_sink.specs.Prefix.{AppendsPart};
 ghost use Rattle.ctl_lexis.specs.Lexis.{HasFault};
-ghost use Rattle.ctl_serve.specs.Refusals.{IsRefusal, IsRefusalWith};
+ghost use Rattle.ctl_serve.specs.Refusals.{IsRefusal, IsRefusalWith, IsRefusedFor, WantsMemory};
 ghost use Rattle.ctl_serve.specs.Shown.{shown_by, WritesPart, WritesWhole};
 ghost use Rattle.ctl_tree.specs.declared.fault.Fault.{Fault};
 ghost use Rattle.ctl_serve.specs.declared.summary.RunFault.TheVariants.{Write};
@@ -43,6 +43,7 @@ pub fn put_run<S: Sink, A: Allocator>(
     ensures ok { OnOk result (Appends (S.taken sink.old) (S.taken sink.new) (shown_by show outcome.now)) }
     ensures write { IsErrOf result Write → AppendsPart (S.taken sink.old) (S.taken sink.new) (shown_by show outcome.now) }
     ensures refused { IfErr result (λ fault. IsRefusal fault → sink.new ≡ sink.old) }
+    ensures memory { IfErr result WantsMemory }
     ensures failed { (S.has_failed sink.new ≡ true) ↔ IsErrOf result Write }
 {
     let Ok(text) = text_of(alloc, outcome, show) else {
@@ -72,6 +73,8 @@ pub fn run_into<S: Sink>(
     ensures write { IsErrOf result Write → WritesPart source.now order steps show (S.taken sink.old) (S.taken sink.new) }
     ensures refused { IfErr result (λ fault. IsRefusal fault → sink.new ≡ sink.old) }
     ensures failed { (S.has_failed sink.new ≡ true) ↔ IsErrOf result Write }
+    // Refused with nothing else than the text's first fault, a fault of its program, or want of memory.
+    ensures because { IfErr result (IsRefusedFor source.now) }
 
     // A text with a lexical fault is refused with it.
     ensures lexical { (fault : Fault) → HasFault source.now fault → MatchResult result (λ _. ⊥) (IsRefusalWith fault) }

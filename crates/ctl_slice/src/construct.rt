@@ -2,8 +2,8 @@
 
 use ctl_tree::text::Text;
 use ctl_tree::tree::{
-    Definition, Dotted, ExpressionKind, Identifier, ItemKind, Name, Objects, Specification,
-    StatementKind, Suffix,
+    Addend, AddingOperator, Definition, Dotted, ExpressionKind, Identifier, ItemKind, Name,
+    Objects, Sign, Specification, StatementKind, Suffix, UnaryWord,
 };
 
 /// A construct.
@@ -25,7 +25,9 @@ pub enum Construct {
     Assignment,
     /// if, loop and exit
     Control,
-    /// operators, numbers, parentheses, attributes and uses of variables
+    /// numbers, uses of variables, attributes of Integer and Boolean, parentheses, and the operators that never fail
+    Scalar,
+    /// `+ - * / mod rem abs`, whose result may be out of range (RM 4.5.3 to 4.5.6)
     Arithmetic,
     Record,
     FurtherExtension,
@@ -133,7 +135,7 @@ fn of_objects(objects: &Objects) -> Construct {
 pub fn of_statement(statement: &StatementKind) -> Construct {
     match statement {
         StatementKind::Null => Construct::Null,
-        StatementKind::Assignment(..) => Construct::Assignment,
+        StatementKind::Assignment(target, _) => of_target(target),
         StatementKind::Call(name) => of_call(name),
         StatementKind::Exit(_) => Construct::Control,
         StatementKind::Return(_) => Construct::Subprogram,
@@ -162,19 +164,58 @@ fn of_call(name: &Name) -> Construct {
     }
 }
 
-/// What an expression is.
+/// An assignment is told by the name of its target.
+fn of_target(target: &Name) -> Construct {
+    match target.suffixes.first() {
+        Some(suffix) => of_suffix(suffix),
+        None => Construct::Assignment,
+    }
+}
+
+/// What a name is whose first identifier is followed by this suffix.
+fn of_suffix(suffix: &Suffix) -> Construct {
+    match suffix {
+        Suffix::Selector(_) => Construct::Record,
+        Suffix::All(_) => Construct::AccessType,
+        Suffix::Arguments(..) => Construct::Subprogram,
+        Suffix::Access(_) => Construct::GeneralAccess,
+        Suffix::Attribute(_) => Construct::Scalar,
+    }
+}
+
+/// What an expression is; its operands are looked at by themselves.
 pub fn of_expression(expression: &ExpressionKind) -> Construct {
     match expression {
         ExpressionKind::String(_) => Construct::StringLiteral,
         ExpressionKind::Null => Construct::AccessType,
         ExpressionKind::New(_) => Construct::AccessType,
-        ExpressionKind::Logical(..) => Construct::Arithmetic,
-        ExpressionKind::Relation(..) => Construct::Arithmetic,
-        ExpressionKind::Sum(..) => Construct::Arithmetic,
+        ExpressionKind::Logical(..) => Construct::Scalar,
+        ExpressionKind::Relation(..) => Construct::Scalar,
+        ExpressionKind::Sum(sign, _, more) => of_sum(*sign, more),
         ExpressionKind::Product(..) => Construct::Arithmetic,
-        ExpressionKind::Unary(..) => Construct::Arithmetic,
-        ExpressionKind::Number(_) => Construct::Arithmetic,
-        ExpressionKind::Name(_) => Construct::Arithmetic,
-        ExpressionKind::Parentheses(_) => Construct::Arithmetic,
+        ExpressionKind::Unary(UnaryWord::Abs, _) => Construct::Arithmetic,
+        ExpressionKind::Unary(UnaryWord::Not, _) => Construct::Scalar,
+        ExpressionKind::Number(_) => Construct::Scalar,
+        ExpressionKind::Name(name) => of_name(name),
+        ExpressionKind::Parentheses(_) => Construct::Scalar,
+    }
+}
+
+/// Strings that `&` joins are no arithmetic.
+fn of_sum(sign: Option<Sign>, more: &[Addend]) -> Construct {
+    let joins_strings = more
+        .iter()
+        .all(|addend| addend.operator == AddingOperator::Concatenate);
+    if sign.is_none() && joins_strings {
+        Construct::Scalar
+    } else {
+        Construct::Arithmetic
+    }
+}
+
+fn of_name(name: &Name) -> Construct {
+    match name.suffixes.first() {
+        Some(suffix) => of_suffix(suffix),
+        None => Construct::Scalar,
     }
 }

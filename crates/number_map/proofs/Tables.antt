@@ -1,13 +1,14 @@
 -- A table of entries, and the finite map that it is seen as.
-use Rattle.std.proofs.Common.{◌≡◌, ℕ, Bool, true, false, cond, List, [], ◌∷◌, Option, None, Some, IsSome, MutBor, refl, sym, ap, ◌∙◌, arith}
+use Rattle.std.proofs.Common.{◌≡◌, ℕ, zero, suc, ◌+◌, ◌<◌, length, Bool, true, false, cond, List, [], ◌∷◌, ◌++◌, Option, None, Some, IsSome, MutBor, refl, sym, ap, ◌∙◌, arith}
+use borrow.Author.Tests.{eq-eqb}
 use borrow.Follows.Closed.{read_of}
-use Rattle.std.specs.Option.{ghost_name_of}
-use Rattle.std.specs.Prelude.{nat_eq, is_some, Result, Ok, Err, IsOk, OnOk}
+use Rattle.std.specs.Option.{ghost_name_of, option_to_list}
+use Rattle.std.specs.Prelude.{nat_eq, is_some, Result, Ok, Err, IsOk, OnOk, IfSome, MatchOption}
 use Rattle.number_map.specs.Table.{Table}
 use Rattle.std.specs.Ordering.{nat_cmp, eq_by_cmp}
 use Rattle.std.specs.Cmp.{nat_cmp_total, unsigned_tied, nat_eq_equiv}
 use Rattle.std.specs.Map.{lookup}
-use Rattle.std.specs.FinMap.{FinMap, from_entries, get, insert, remove, find, get-from_entries, get-insert, get-remove, same_map, nat_cmp-IsAntisymmetric}
+use Rattle.std.specs.FinMap.{FinMap, empty, from_entries, get, insert, remove, find, get-empty, get-from_entries, get-insert, get-remove, same_map, nat_cmp-IsAntisymmetric}
 
 abbrev pub map_of : {V : Type 0} → List (ℕ × V) → FinMap nat_cmp V
 map_of es = from_entries {R = nat_cmp} es
@@ -51,5 +52,44 @@ pub by_success : {T E : Type 0} (r : Result T E) (P : Type 0) → IsOk r → OnO
 by_success (Ok x) P ok says = says
 by_success (Err e) P ok says = absurd (cc)
 
-pub same_table : {V : Type 0} (s t : Table V) → s.values ≡ t.values → s.room ≡ t.room → s ≡ t
-same_table s t values room i = record { values = values i; room = room i }
+pub same_table : {V : Type 0} (s t : Table V) → s.values ≡ t.values → s.room ≡ t.room → s.size ≡ t.size → s ≡ t
+same_table s t values room size i = record { values = values i; room = room i; size = size i }
+
+-- the last of a list is what its number gives, where no other one has that number
+pub lookup_last : {V : Type 0} (es : List (ℕ × V)) (k : ℕ) (v : V) → lookup (nat_eq k) es ≡ None → lookup (nat_eq k) (es ++ (k, v) ∷ []) ≡ Some v
+lookup_last [] k v none = ap (λ b. cond b (Some v) None) (eq-eqb k k refl)
+lookup_last {V} (e ∷ es) k v none = by (nat_eq k e.0) (lookup_last es k v) none
+  where
+    by : (b : Bool) → (lookup (nat_eq k) es ≡ None → lookup (nat_eq k) (es ++ (k, v) ∷ []) ≡ Some v)
+        → cond b (Some e.1) (lookup (nat_eq k) es) ≡ None → cond b (Some e.1) (lookup (nat_eq k) (es ++ (k, v) ∷ [])) ≡ Some v
+    by true more h = absurd (cc)
+    by false more h = more h
+
+-- a table of nothing is the empty map
+pub map_of_none : {V : Type 0} (es : List (ℕ × V)) → es ≡ [] → map_of es ≡ empty
+map_of_none {V} es none =
+    let nothing : FinMap nat_cmp V = empty in
+    ap map_of none ∙ same_map nat_cmp_total nat_cmp-IsAntisymmetric (map_of []) nothing (λ q. get_is_lookup [] q ∙ sym (get-empty nat_cmp q))
+
+nothing : (n : ℕ) → (0 < n → ⊥) → n ≡ 0
+nothing zero none = refl
+nothing (suc n) none = absurd (none (omega arith))
+
+empty_list : {X : Type 0} (xs : List X) → length xs ≡ 0 → xs ≡ []
+empty_list [] e = refl
+empty_list (x ∷ xs) e = absurd (omega arith)
+
+-- an entry that is taken out is what its number gives, and the rest is the map without it
+pub popped : {V : Type 0} (r : Option (ℕ × V)) (es fs : List (ℕ × V)) (t : Table V) → map_of es ≡ t.values → length es ≡ t.size → es ≡ fs ++ option_to_list r
+    → IfSome r (λ e. (q : ℕ) → lookup (nat_eq q) fs ≡ cond (nat_eq e.0 q) None (lookup (nat_eq q) es))
+    → length fs + cond (is_some r) 1 0 ≡ length es → (IsSome r → 0 < length es) × (0 < length es → IsSome r)
+    → MatchOption r ((t.values ≡ empty) × (t.size ≡ 0) × (map_of fs ≡ empty) × (length fs ≡ 0)) (λ e. (get t.values e.0 ≡ Some e.1) × (map_of fs ≡ remove t.values e.0) × (length fs + 1 ≡ t.size))
+popped {V} None es fs t values size e says long found =
+    let none : length es ≡ 0 = nothing (length es) (λ (h : 0 < length es). let no : IsSome {T = ℕ × V} None = found.1 h in cc) in
+    (sym values ∙ map_of_none es (empty_list es none), omega arith, map_of_none fs (empty_list fs (omega arith)), omega arith)
+popped (Some (k, v)) es fs t values size e says long found =
+    let gone : lookup (nat_eq k) fs ≡ None = says k ∙ ap (λ b. cond b None (lookup (nat_eq k) es)) (eq-eqb k k refl) in (
+      ap (λ m. get m k) (sym values) ∙ get_is_lookup es k ∙ ap (lookup (nat_eq k)) e ∙ lookup_last fs k v gone,
+      drop_is_remove es fs k says ∙ ap (λ m. remove m k) values,
+      omega arith,
+    )

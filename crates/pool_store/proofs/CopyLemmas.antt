@@ -1,16 +1,16 @@
 -- Words that are copied one after the other from one object to another.
-use Rattle.std.proofs.Common.{◌≡◌, ℕ, suc, ◌+◌, ◌-◌, ◌<◌, ◌≤◌, Bool, true, false, cond, List, [], ◌∷◌, ◌++◌, length, take, drop, get_or, Option, Some, None, refl, sym, ap, subst, ◌∙◌, arith, append_assoc, add-one, add-zero}
-use Rattle.std.specs.Prelude.{nat_eq, slice_set, slice_get}
+use Rattle.std.proofs.Common.{◌≡◌, ℕ, suc, ◌+◌, ◌-◌, ◌<◌, ◌≤◌, List, [], ◌∷◌, ◌++◌, length, take, drop, get_or, Option, Some, None, refl, sym, ap, ◌∙◌, arith, append_assoc, add-one, add-zero}
+use Rattle.std.specs.Prelude.{slice_set}
 use Rattle.std.proofs.lemmas.List.{set-append_right, take-append-drop, length-take-le, length-append, length-drop, get_or-drop}
 use Rattle.std.proofs.Math.Seq.{drop-cons, take-suc}
 use Rattle.std.specs.Ordering.{nat_cmp}
 use Rattle.std.specs.FinMap.{FinMap, get, insert}
-use borrow.Author.Tests.{ne_eqb, eq-eqb}
 use Rattle.number_map.proofs.Changes.{get_here, get_there, insert_same, insert_again}
 use Rattle.std.specs.Option.{option_map_or}
 use Rattle.number_map.specs.Table.{change}
-use Rattle.pool_store.specs.Words.{overwritten, run_of}
-use Rattle.pool_store.specs.Store.{Store, copied, words_of, with_word}
+use Rattle.pool_area.specs.Lots.{overwritten, run_of}
+use Rattle.pool_store.specs.Entries.{Stored}
+use Rattle.pool_store.specs.Store.{Store, copied, words_of, with_word, with_words}
 
 -- one word more
 pub next_word : (ts src : List ℕ) (p i : ℕ) → i < length src → p + i < length ts
@@ -47,26 +47,43 @@ length-overwritten ts xs p fits =
     let d = length-drop (p + length xs) ts in
     omega arith
 
+-- an object as it is held
+abbrev pub stored_of : ℕ → Store → Stored
+stored_of n s = option_map_or (λ o. o) (get s.objects n) (record { spot = None; words = [] })
+
 -- an object that has a word is held
-pub held : (o : Option (List ℕ)) → 0 < length (option_map_or (λ words. words) o []) → o ≡ Some (option_map_or (λ words. words) o [])
+held : (o : Option Stored) → 0 < length (option_map_or (λ x. x.words) o []) → o ≡ Some (option_map_or (λ x. x) o (record { spot = None; words = [] }))
 held None some = absurd (omega arith)
-held (Some words) some = refl
+held (Some x) some = refl
+
+words_held : (o : Option Stored) → option_map_or (λ x. x.words) o [] ≡ (option_map_or (λ x. x) o (record { spot = None; words = [] })).words
+words_held None = refl
+words_held (Some x) = refl
+
+abbrev with_stored : ℕ → Stored → Store → Store
+with_stored n o s = record s { objects = insert s.objects n o }
+
+abbrev as_words : ℕ → List ℕ → Store → Stored
+as_words n ws s = record { spot = (stored_of n s).spot; words = ws }
 
 -- what is there once some words were copied
 abbrev pub after_copy : ℕ → ℕ → ℕ → ℕ → ℕ → Store → Store
-after_copy from word to target k s = record { objects = insert s.objects to (overwritten target (take k (drop word (words_of from s))) (words_of to s)) }
+after_copy from word to target k s = with_stored to (as_words to (overwritten target (take k (drop word (words_of from s))) (words_of to s)) s) s
 
 -- before the first word nothing has changed
 pub before_copy : (from word to target : ℕ) (s : Store) → 0 < length (words_of to s) → s ≡ after_copy from word to target 0 s
 before_copy from word to target s some =
     let ts : List ℕ = words_of to s in
-    sym (ap (λ l. let r : Store = record { objects = insert s.objects to l } in r) (no_word ts (drop word (words_of from s)) target)
-    ∙ ap (λ t. let r : Store = record { objects = t } in r) (insert_same s.objects to ts (held (get s.objects to) some)))
+    let there : get s.objects to ≡ Some (stored_of to s) = held (get s.objects to) some in
+    let whole : as_words to ts s ≡ stored_of to s = ap (λ l. as_words to l s) (words_held (get s.objects to)) in
+    sym (ap (λ l. with_stored to (as_words to l s) s) (no_word ts (drop word (words_of from s)) target)
+    ∙ ap (λ o. with_stored to o s) whole
+    ∙ ap (λ t. let r : Store = record s { objects = t } in r) (insert_same s.objects to (stored_of to s) there))
 
 -- the words that are read stay
 pub source_same : (from word to target k : ℕ) (s : Store) → (from ≡ to → ⊥) → words_of from (after_copy from word to target k s) ≡ words_of from s
 source_same from word to target k s apart =
-    ap (λ o. option_map_or (λ words. words) o []) (get_there s.objects to from (overwritten target (take k (drop word (words_of from s))) (words_of to s)) apart)
+    ap (λ o. option_map_or (λ (x : Stored). x.words) o []) (get_there s.objects to from (as_words to (overwritten target (take k (drop word (words_of from s))) (words_of to s)) s) apart)
 
 -- and there are as many words as before where they are written
 pub target_long : (from word to target k : ℕ) (s : Store) → word + k ≤ length (words_of from s) → target + k ≤ length (words_of to s)
@@ -75,7 +92,7 @@ target_long from word to target k s fits_from fits_to =
     let src : List ℕ = drop word (words_of from s) in
     let long = length-drop word (words_of from s) in
     let taken : length (take k src) ≡ k = length-take-le k src (omega arith) in
-    ap (λ o. length (option_map_or (λ words. words) o [])) (get_here s.objects to (overwritten target (take k src) (words_of to s)))
+    ap (λ o. length (option_map_or (λ (x : Stored). x.words) o [])) (get_here s.objects to (as_words to (overwritten target (take k src) (words_of to s)) s))
     ∙ length-overwritten (words_of to s) (take k src) target (omega arith)
 
 -- a further word
@@ -87,34 +104,42 @@ one_more from word to target k s fits_from fits_to =
     let v : ℕ = get_or (words_of from s) (word + k) 0 in
     let long = length-drop word (words_of from s) in
     let over : List ℕ = overwritten target (take k src) ts in
-    let t : FinMap nat_cmp (List ℕ) = insert s.objects to over in
-    ap (λ o. let r : Store = record { objects = option_map_or (λ words. insert t to (slice_set words (target + k) v)) o t } in r) (get_here s.objects to over)
-    ∙ ap (λ m. let r : Store = record { objects = m } in r) (insert_again s.objects to over (slice_set over (target + k) v)
-    ∙ ap (λ l. insert s.objects to l) (ap (λ w. slice_set over (target + k) w) (sym (get_or-drop word (words_of from s) k 0))
+    let t : FinMap nat_cmp Stored = insert s.objects to (as_words to over s) in
+    ap (λ o. let r : Store = record s { objects = option_map_or (λ x. insert t to (with_words (λ words. slice_set words (target + k) v) x)) o t } in r) (get_here s.objects to (as_words to over s))
+    ∙ ap (λ m. let r : Store = record s { objects = m } in r) (insert_again s.objects to (as_words to over s) (as_words to (slice_set over (target + k) v) s)
+    ∙ ap (λ l. insert s.objects to (as_words to l s)) (ap (λ w. slice_set over (target + k) w) (sym (get_or-drop word (words_of from s) k 0))
     ∙ next_word ts src target k (omega arith) fits_to ∙ ap (λ n. overwritten target (take n src) ts) (sym (add-one k))))
 
 pub copied_is : (from word to target k : ℕ) (s : Store) → 0 < length (words_of from s) → 0 < length (words_of to s)
-    → record { objects = insert s.objects to (overwritten target (take k (drop word (words_of from s))) (words_of to s)) } ≡ copied from word to target k s
+    → after_copy from word to target k s ≡ copied from word to target k s
 copied_is from word to target k s some_from some_to =
     let over : List ℕ → List ℕ → List ℕ = λ words. overwritten target (run_of word k words) in
     let source = held (get s.objects from) some_from in
     let goal = held (get s.objects to) some_to in
-    sym (ap (λ o. option_map_or (λ words. let r : Store = record { objects = change to (over words) s.objects } in r) o s) source
-    ∙ ap (λ o. let r : Store = record { objects = option_map_or (λ v. insert s.objects to (over (words_of from s) v)) o s.objects } in r) goal)
+    let src : Stored = stored_of from s in
+    sym (ap (λ o. option_map_or (λ x. let r : Store = record s { objects = change to (with_words (over x.words)) s.objects } in r) o s) source
+    ∙ ap (λ o. let r : Store = record s { objects = option_map_or (λ x. insert s.objects to (with_words (over src.words) x)) o s.objects } in r) goal
+    ∙ ap (λ (p : List ℕ × List ℕ). with_stored to (as_words to (over p.0 p.1) s) s) (λ i. (sym (words_held (get s.objects from)) i, sym (words_held (get s.objects to)) i)))
+
+-- within one object
+pub copied_here : (n word target k : ℕ) (s : Store) (o : Stored) → get s.objects n ≡ Some o
+    → record s { objects = change n (with_words (overwritten target (run_of word k o.words))) s.objects } ≡ copied n word n target k s
+copied_here n word target k s o there =
+    sym (ap (λ m. option_map_or (λ x. let r : Store = record s { objects = change n (with_words (overwritten target (run_of word k x.words))) s.objects } in r) m s) there)
 
 -- no word copied changes nothing
-abbrev written : ℕ → ℕ → ℕ → Store → List ℕ → Option (List ℕ) → Store
-written word to target s words o = record { objects = option_map_or (λ v. insert s.objects to (overwritten target (run_of word 0 words) v)) o s.objects }
+abbrev written_over : ℕ → ℕ → ℕ → Store → Stored → Option Stored → Store
+written_over word to target s x o = record s { objects = option_map_or (λ v. insert s.objects to (with_words (overwritten target (run_of word 0 x.words)) v)) o s.objects }
 
-written_nothing : (word to target : ℕ) (s : Store) (words : List ℕ) (o : Option (List ℕ)) → get s.objects to ≡ o → s ≡ written word to target s words o
-written_nothing word to target s words None e = refl
-written_nothing word to target s words (Some ts) e =
-    sym (ap (λ l. let r : Store = record { objects = insert s.objects to l } in r) (no_word ts (drop word words) target)
-    ∙ ap (λ t. let r : Store = record { objects = t } in r) (insert_same s.objects to ts e))
+written_nothing : (word to target : ℕ) (s : Store) (x : Stored) (o : Option Stored) → get s.objects to ≡ o → s ≡ written_over word to target s x o
+written_nothing word to target s x None e = refl
+written_nothing word to target s x (Some ts) e =
+    sym (ap (λ l. let r : Store = record s { objects = insert s.objects to (record { spot = ts.spot; words = l }) } in r) (no_word ts.words (drop word x.words) target)
+    ∙ ap (λ t. let r : Store = record s { objects = t } in r) (insert_same s.objects to ts e))
 
-from_nothing : (word to target : ℕ) (s : Store) (m o : Option (List ℕ)) → get s.objects to ≡ o → s ≡ option_map_or (λ words. written word to target s words o) m s
+from_nothing : (word to target : ℕ) (s : Store) (m o : Option Stored) → get s.objects to ≡ o → s ≡ option_map_or (λ x. written_over word to target s x o) m s
 from_nothing word to target s None o e = refl
-from_nothing word to target s (Some words) o e = written_nothing word to target s words o e
+from_nothing word to target s (Some x) o e = written_nothing word to target s x o e
 
 pub copied_nothing : (from word to target : ℕ) (s : Store) → s ≡ copied from word to target 0 s
 copied_nothing from word to target s = from_nothing word to target s (get s.objects from) (get s.objects to) refl

@@ -1,1 +1,5 @@
+pub mod Areas
 pub mod CopyLemmas
+pub mod Held
+pub mod Steps
+pub mod Tied

@@ -1,3 +1,3 @@
+pub mod Entries
 pub mod Fault
 pub mod Store
-pub mod Words

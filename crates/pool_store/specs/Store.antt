@@ -1,62 +1,148 @@
--- The objects that are held, by number, each with its words.
-use Rattle.std.specs.Prelude.{◌≡◌, refl, ℕ, ◌+◌, ◌<◌, ◌≤◌, List, [], length, replicate, Option, Some, None, Result, Ok, Err, IfSome, slice_set, slice_index_or}
+-- The objects that are held, and the pools of blocks (RM 13.11).
+use Rattle.std.specs.Prelude.{refl, ℕ, ◌+◌, ◌-◌, ◌≤◌, List, [], length, replicate, Option, Some, None, Result, Ok, Err, Bool, false, ◌||◌, ◌&&◌, nat_eq, nat_lt, nat_le, is_none, IfSome, IsSome, slice_set, slice_index_or}
 use Rattle.std.specs.Ordering.{nat_cmp}
-use Rattle.std.specs.Option.{option_map_or}
-use Rattle.std.specs.Coded.{Coded, code_by, coded_ℕ, coded_list}
+use Rattle.std.specs.Option.{option_map, option_map_or}
+use Rattle.std.specs.Coded.{Coded, code_by, coded×, coded_ℕ, coded_option}
 use Rattle.std.specs.FinMap.{FinMap, code, empty, get, insert, remove}
 use Rattle.number_map.specs.Table.{change}
+use Rattle.pool_area.specs.Lots.{run_of, overwritten}
 use Rattle.pool_store.specs.declared.fault.StoreFault.{StoreFault}
-use Rattle.pool_store.specs.declared.fault.StoreFault.TheVariants.{Gone, Memory}
+use Rattle.pool_store.specs.declared.fault.StoreFault.TheVariants.{Gone}
 use Rattle.pool_store.specs.declared.store.Address.{Address}
-use Rattle.pool_store.specs.Words.{run_of, overwritten}
+use Rattle.pool_store.specs.declared.entry.Spot.{Spot}
+use Rattle.pool_store.specs.Entries.{Stored, stored_code, BlockPool}
 
 pub record Store : Type 0 where
-  pub objects : FinMap nat_cmp (List ℕ)
+  pub objects : FinMap nat_cmp Stored
+  pub blocks : FinMap nat_cmp BlockPool
+  pub given : ℕ
 
--- how the logic stores it
+abbrev pub block_pool_code : Coded BlockPool
+block_pool_code =
+    code_by (ℕ × (ℕ × FinMap nat_cmp (Option ℕ))) (coded× coded_ℕ (coded× coded_ℕ (code coded_ℕ (coded_option coded_ℕ))))
+    (λ p. (p.size, (p.free, p.out))) (λ t. record { size = t.0; free = t.1.0; out = t.1.1 }) (λ _. refl)
+
+-- how the logic stores it: as a tuple of its fields
 abbrev pub store_code : Coded Store
-store_code = code_by (FinMap nat_cmp (List ℕ)) (code coded_ℕ (coded_list coded_ℕ)) (λ s. s.objects) (λ t. record { objects = t }) (λ _. refl)
+store_code =
+    code_by (FinMap nat_cmp Stored × (FinMap nat_cmp BlockPool × ℕ)) (coded× (code coded_ℕ stored_code) (coded× (code coded_ℕ block_pool_code) coded_ℕ))
+    (λ s. (s.objects, (s.blocks, s.given))) (λ t. record { objects = t.0; blocks = t.1.0; given = t.1.1 }) (λ _. refl)
 
 abbrev pub no_store : Store
-no_store = record { objects = empty }
+no_store = record { objects = empty; blocks = empty; given = 0 }
 
--- with a new object of so many words, all of them 0
+-- Objects ------------------------------------------------------------------
+
+-- with a new object of the standard pool of so many words, all of them 0
 abbrev pub with_object : ℕ → ℕ → Store → Store
-with_object n words s = record s { objects = insert s.objects n (replicate words 0) }
-
--- without an object
-abbrev pub without_object : ℕ → Store → Store
-without_object n s = record s { objects = remove s.objects n }
+with_object n words s = record s { objects = insert s.objects n (record { spot = None; words = replicate words 0 }) }
 
 -- the words of an object, none for one that is gone
 abbrev pub words_of : ℕ → Store → List ℕ
-words_of n s = option_map_or (λ words. words) (get s.objects n) []
+words_of n s = option_map_or (λ o. o.words) (get s.objects n) []
 
 -- so many words from a place on lie within the object, where it is held
 abbrev pub IsWithin : ℕ → ℕ → ℕ → Store → Type 0
-IsWithin n place count s = IfSome (get s.objects n) (λ words. place + count ≤ length words)
+IsWithin n place count s = IfSome (get s.objects n) (λ o. place + count ≤ length o.words)
 
 -- the word of an object, or the refusal where that is gone
 abbrev pub read_word : ℕ → ℕ → Store → Result ℕ StoreFault
-read_word n place s = option_map_or (λ words. Ok (slice_index_or words place 0)) (get s.objects n) (Err Gone)
+read_word n place s = option_map_or (λ o. Ok (slice_index_or o.words place 0)) (get s.objects n) (Err Gone)
 
 -- success, or the refusal where the object is gone
 abbrev pub held_or_gone : ℕ → Store → Result (Unit {0}) StoreFault
-held_or_gone n s = option_map_or (λ words. Ok tt) (get s.objects n) (Err Gone)
+held_or_gone n s = option_map_or (λ o. Ok tt) (get s.objects n) (Err Gone)
 
 -- the same of two objects
 abbrev pub both_or_gone : ℕ → ℕ → Store → Result (Unit {0}) StoreFault
-both_or_gone m n s = option_map_or (λ words. held_or_gone n s) (get s.objects m) (Err Gone)
+both_or_gone m n s = option_map_or (λ o. held_or_gone n s) (get s.objects m) (Err Gone)
 
--- what an object leaves behind: no block, as one of the standard pool
-abbrev pub vacated : ℕ → Store → Result (Option Address) StoreFault
-vacated n s = option_map_or (λ words. Ok None) (get s.objects n) (Err Gone)
+abbrev pub with_words : (List ℕ → List ℕ) → Stored → Stored
+with_words f o = record o { words = f o.words }
 
 -- with a word of an object written
 abbrev pub with_word : ℕ → ℕ → ℕ → Store → Store
-with_word n place value s = record s { objects = change n (λ words. slice_set words place value) s.objects }
+with_word n place value s = record s { objects = change n (with_words (λ words. slice_set words place value)) s.objects }
 
 -- with words of one object written over those of another, or of the same, where both are held
 abbrev pub copied : ℕ → ℕ → ℕ → ℕ → ℕ → Store → Store
 copied from place to target count s =
-    option_map_or (λ words. record s { objects = change to (overwritten target (run_of place count words)) s.objects }) (get s.objects from) s
+    option_map_or (λ o. record s { objects = change to (with_words (overwritten target (run_of place count o.words))) s.objects }) (get s.objects from) s
+
+-- the block that an object leaves behind, none for one of the standard pool
+abbrev pub vacated : ℕ → Store → Result (Option Address) StoreFault
+vacated n s = option_map_or (λ o. Ok (option_map (λ x. record { 0 = x.address }) o.spot)) (get s.objects n) (Err Gone)
+
+-- Pools of blocks ----------------------------------------------------------
+
+abbrev pub change_pool : ℕ → (BlockPool → BlockPool) → Store → Store
+change_pool p f s = record s { blocks = change p f s.blocks }
+
+-- a new pool is open, and each of its blocks is free
+abbrev pub with_pool : ℕ → ℕ → ℕ → Store → Store
+with_pool p units count s = record s { blocks = insert s.blocks p (record { size = units; free = count; out = empty }) }
+
+-- a request is refused exactly where no block is free or it is larger than a block
+abbrev pub is_exhausted : ℕ → BlockPool → Bool
+is_exhausted units p = nat_eq p.free 0 || nat_lt p.size units
+
+abbrev pub with_block_out : ℕ → BlockPool → BlockPool
+with_block_out a p = record p { free = p.free - 1; out = insert p.out a None }
+
+-- a free block of a pool goes out under an address that was never used before
+abbrev pub take_block : ℕ → Store → Store
+take_block p s = record (change_pool p (with_block_out (s.given + 1)) s) { given = s.given + 1 }
+
+-- a block is out under an address, and holds no object
+abbrev pub is_vacant : ℕ → BlockPool → Bool
+is_vacant a p = option_map_or is_none (get p.out a) false
+
+abbrev pub with_block_back : ℕ → BlockPool → BlockPool
+with_block_back a p = record p { free = p.free + 1; out = remove p.out a }
+
+-- a block comes back
+abbrev pub give_block : ℕ → ℕ → Store → Store
+give_block p a s = change_pool p (with_block_back a) s
+
+abbrev pub with_holder : ℕ → Option ℕ → BlockPool → BlockPool
+with_holder a n p = record p { out = insert p.out a n }
+
+-- a new object of so many words, all of them 0, is put into a block
+abbrev pub hold_block : ℕ → ℕ → ℕ → ℕ → Store → Store
+hold_block p a n words s =
+    record (change_pool p (with_holder a (Some n)) s) { objects = insert s.objects n (record { spot = Some (record { pool = p; address = a }); words = replicate words 0 }) }
+
+abbrev pub freed_spot : Option Spot → FinMap nat_cmp BlockPool → FinMap nat_cmp BlockPool
+freed_spot None blocks = blocks
+freed_spot (Some x) blocks = change x.pool (with_holder x.address None) blocks
+
+-- an object is held no more; its block, where it lies in one, stays out and holds none
+abbrev pub without_object : ℕ → Store → Store
+without_object n s = record s { objects = remove s.objects n; blocks = freed_spot (option_map_or (λ o. o.spot) (get s.objects n) None) s.blocks }
+
+-- a pool is open
+abbrev pub IsOpen : ℕ → Store → Type 0
+IsOpen p s = IsSome (get s.blocks p)
+
+-- a request of an open pool is refused
+abbrev pub is_exhausted_in : ℕ → ℕ → Store → Bool
+is_exhausted_in p units s = option_map_or (is_exhausted units) (get s.blocks p) false
+
+-- the sizes that a pool may have: from 1 to 4,096 storage units in a block, and from 1 to 65,536 blocks
+abbrev pub IsPoolSize : ℕ → ℕ → Type 0
+IsPoolSize units count = (1 ≤ units) × (units ≤ 4096) × (1 ≤ count) × (count ≤ 65536)
+
+-- a block of an open pool is out under an address, and holds no object
+abbrev pub is_vacant_in : ℕ → ℕ → Store → Bool
+is_vacant_in p a s = option_map_or (is_vacant a) (get s.blocks p) false
+
+-- and it is large enough for a request
+abbrev pub is_fit : ℕ → ℕ → BlockPool → Bool
+is_fit a units p = is_vacant a p && nat_le units p.size
+
+abbrev pub is_fit_in : ℕ → ℕ → ℕ → Store → Bool
+is_fit_in p a units s = option_map_or (is_fit a units) (get s.blocks p) false
+
+-- where an object lies, None for the standard pool
+abbrev pub spot_of : ℕ → Store → Option Spot
+spot_of n s = option_map_or (λ o. o.spot) (get s.objects n) None

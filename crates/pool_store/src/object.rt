@@ -1,5 +1,5 @@
-ghost use Rattle.std.specs.Prelude.{◌≡◌, ◌+◌, ◌<◌, ◌≤◌, length, replicate, Some, slice_get, slice_set, IfOk};
-ghost use Rattle.pool_store.specs.Words.{overwritten, run_of};
+ghost use Rattle.std.specs.Prelude.{◌≡◌, ◌+◌, ◌<◌, ◌≤◌, length, replicate, slice_index_or, slice_set, IfOk};
+ghost use Rattle.pool_area.specs.Lots.{overwritten, run_of};
 
 use std::alloc::{AllocError, Allocator, Global};
 use std::marker::Model;
@@ -38,7 +38,7 @@ impl<A: Allocator> Object<A> {
     /// The word at this place.
     pub fn word(&self, place: usize) -> u64
         requires { place < length self.now }
-        ensures { Some result ≡ slice_get self.now place }
+        ensures { result ≡ slice_index_or self.now place 0 }
     {
         self.words[place]
     }

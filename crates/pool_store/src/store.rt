@@ -1,10 +1,13 @@
-ghost use Rattle.std.specs.Prelude.{◌≡◌, ℕ, ◌+◌, ◌<◌, ◌≤◌, length, None, slice_index_or, OnOk, OnErr, IfErr, IfSome, IsTrue};
+ghost use Rattle.std.specs.Prelude.{◌≡◌, ℕ, ◌+◌, ◌-◌, ◌*◌, ◌/◌, ◌^◌, ◌<◌, ◌≤◌, length, None, Some, Ok, Err, true, false, if◌then◌else◌, slice_index_or, OnOk, OnErr, IfOk, IfErr, IfSome, IsTrue, is_some, ◌↔◌, ◌≢◌};
 ghost use Rattle.std.specs.FinMap.{get};
-ghost use Rattle.pool_store.specs.Store.{no_store, with_object, without_object, with_word, copied, IsWithin, read_word, held_or_gone, both_or_gone, vacated, words_of};
+ghost use Rattle.pool_store.specs.Store.{no_store, with_object, without_object, with_word, copied, IsWithin, read_word, held_or_gone, both_or_gone, vacated, words_of, IsOpen, IsPoolSize, with_pool, take_block, is_exhausted_in, is_vacant_in, give_block, is_fit_in, hold_block, spot_of};
 
+use crate::entry::{Entry, Spot};
 use crate::fault::StoreFault;
 use crate::object::Object;
+use crate::spots::{copy_within_at, len_at, set_word_at, word_at};
 use number_map::NumberMap;
+use pool_area::BlockArea;
 use std::alloc::{Allocator, Global};
 use std::marker::Model;
 
@@ -12,30 +15,43 @@ use std::marker::Model;
 #[derive(Clone, Copy, Debug, PartialEq, Eq)]
 pub struct Address(pub u64);
 
-/// The objects that are held, by their numbers. It ends by `close`.
+/// The objects that are held, by their numbers, and the pools of blocks. It ends by `close`.
 pub struct PoolStore<A: Allocator = Global> {
     alloc: A,
-    objects: NumberMap<Object<A>, A>,
+    objects: NumberMap<Entry<A>, A>,
+    blocks: NumberMap<BlockArea<A>, A>,
+    // The address that was given last.
+    given: u64,
 }
 
 impl<A: Allocator> Model for PoolStore<A> {
+    ghost use Rattle.number_map.specs.Table.{mapped};
+    ghost use Rattle.pool_store.specs.Entries.{stored_in, pool_of, Ties};
     ghost use Rattle.pool_store.specs.Store.{Store, store_code};
 
     ghost Value = { Store };
 
     ghost coded = { store_code };
 
-    ghost view = { λ s. record { objects = s.objects.values } };
+    ghost view = { λ s. record {
+      objects = mapped (stored_in s.blocks.values) s.objects.values;
+      blocks = mapped pool_of s.blocks.values;
+      given = s.given;
+    } };
+
+    ghost invariant = { λ s. Ties s.objects.values s.blocks.values s.given };
 }
 
 impl<A: Allocator + Copy> PoolStore<A> {
-    /// No object yet. It takes no memory.
+    /// No object and no pool yet. It takes no memory.
     pub fn new(alloc: A) -> PoolStore<A>
         ensures { result ≡ no_store }
     {
         PoolStore {
             alloc,
             objects: NumberMap::new(alloc),
+            blocks: NumberMap::new(alloc),
+            given: 0,
         }
     }
 
@@ -51,13 +67,111 @@ impl<A: Allocator + Copy> PoolStore<A> {
         ensures fault { IfErr result (λ fault. fault ≡ StoreFault.Memory) }
     {
         self.objects.reserve()?;
-        self.objects.put(object, Object::new(self.alloc, words)?);
+        let words = Object::new(self.alloc, words)?;
+        self.objects.put(object, Entry::Standard(words));
+        Ok(())
+    }
+
+    /// Opens a pool of `count` blocks, from 1 to 65,536, of `units` storage units each, from 1 to 4,096. All are free.
+    ///
+    /// # Errors
+    ///
+    /// `Memory` where the allocator refuses the memory. Nothing changes then.
+    pub fn open_block(&mut self, pool: u64, units: u64, count: usize) -> Result<(), StoreFault>
+        requires size { IsPoolSize units count }
+        requires new { get self.old.blocks pool ≡ None }
+        ensures ok { OnOk result (self.new ≡ with_pool pool units count self.old) }
+        ensures err { OnErr result (self.new ≡ self.old) }
+        ensures fault { IfErr result (λ fault. fault ≡ StoreFault.Memory) }
+    {
+        self.blocks.reserve()?;
+        let area = BlockArea::new(self.alloc, units, count)?;
+        self.blocks.put_new(pool, area);
+        Ok(())
+    }
+
+    /// A free block of a pool goes out, for a request of so many storage units, under an address that no block had before.
+    ///
+    /// # Errors
+    ///
+    /// `Exhausted` where no block is free or the request is larger than a block, then `Memory` where the allocator
+    /// refuses the memory. Nothing changes then.
+    pub fn allocate(&mut self, pool: u64, units: u64) -> Result<Address, StoreFault>
+        requires open { IsOpen pool self.old }
+        requires addresses { self.old.given < 2 ^ 64 - 1 }
+        ensures ok { IfOk result (λ a. (is_exhausted_in pool units self.old ≡ false) × (a.0 ≡ self.old.given + 1) × (self.new ≡ take_block pool self.old)) }
+        ensures err { OnErr result (self.new ≡ self.old) }
+        ensures fault { IfErr result (λ fault. fault ≡ (if is_exhausted_in pool units self.old then StoreFault.Exhausted else StoreFault.Memory)) }
+    {
+        if self.is_exhausted(pool, units) {
+            return Err(StoreFault::Exhausted);
+        }
+        let address = self.given + 1;
+        let Some(area) = self.blocks.get_mut(pool) else {
+            unreachable!();
+        };
+        area.allocate(address)?;
+        self.given = address;
+        Ok(Address(address))
+    }
+
+    /// Puts a new object into a block that is out and holds none, under this address: as many words as lie in so many
+    /// storage units, all of them 0.
+    ///
+    /// # Errors
+    ///
+    /// `BadAddress` where no such block is out or it is smaller than that, then `Memory` where the allocator refuses
+    /// the memory. Nothing changes then.
+    pub fn occupy(
+        &mut self,
+        pool: u64,
+        address: Address,
+        object: u64,
+        units: u64,
+    ) -> Result<(), StoreFault>
+        requires { get self.old.objects object ≡ None }
+        ensures ok { OnOk result ((is_fit_in pool address.0 units self.old ≡ true) × (self.new ≡ hold_block pool address.0 object (units / 8) self.old)) }
+        ensures err { OnErr result (self.new ≡ self.old) }
+        ensures fault { IfErr result (λ fault. fault ≡ (if is_fit_in pool address.0 units self.old then StoreFault.Memory else StoreFault.BadAddress)) }
+    {
+        let Address(address) = address;
+        if !self.is_fit(pool, address, units) {
+            return Err(StoreFault::BadAddress);
+        }
+        self.objects.reserve()?;
+        let Some(area) = self.blocks.get_mut(pool) else {
+            unreachable!();
+        };
+        area.occupy(address, object, (units / 8) as usize);
+        self.objects
+            .put(object, Entry::InBlock(Spot { pool, address }));
         Ok(())
     }
 }
 
 impl<A: Allocator> PoolStore<A> {
+    /// A block of a pool comes back.
+    ///
+    /// # Errors
+    ///
+    /// `BadAddress` where no block of the pool is out under this address, or it holds an object. Nothing changes then.
+    pub fn deallocate(&mut self, pool: u64, address: Address) -> Result<(), StoreFault>
+        ensures result { result ≡ (if is_vacant_in pool address.0 self.old then Ok tt else Err StoreFault.BadAddress) }
+        ensures store { self.new ≡ (if is_vacant_in pool address.0 self.old then give_block pool address.0 self.old else self.old) }
+    {
+        let Address(address) = address;
+        if !self.is_vacant(pool, address) {
+            return Err(StoreFault::BadAddress);
+        }
+        let Some(area) = self.blocks.get_mut(pool) else {
+            unreachable!();
+        };
+        area.deallocate(address);
+        Ok(())
+    }
+
     /// The object is held no more. It answers the address of its block, which an object of the standard pool has not.
+    /// The block stays out.
     ///
     /// # Errors
     ///
@@ -67,7 +181,14 @@ impl<A: Allocator> PoolStore<A> {
         ensures store { self.new ≡ without_object object self.old }
     {
         match self.objects.remove(object) {
-            Some(_) => Ok(None),
+            Some(Entry::Standard(_words)) => Ok(None),
+            Some(Entry::InBlock(spot)) => {
+                let Some(area) = self.blocks.get_mut(spot.pool) else {
+                    unreachable!();
+                };
+                area.vacate(spot.address);
+                Ok(Some(Address(spot.address)))
+            }
             None => Err(StoreFault::Gone),
         }
     }
@@ -81,10 +202,10 @@ impl<A: Allocator> PoolStore<A> {
         requires { IsWithin object word 1 self.now }
         ensures { result ≡ read_word object word self.now }
     {
-        match self.objects.get(object) {
-            Some(held) => Ok(held.word(word)),
-            None => Err(StoreFault::Gone),
+        if !self.is_held(object) {
+            return Err(StoreFault::Gone);
         }
+        Ok(self.word(object, word))
     }
 
     /// Writes a word of an object.
@@ -97,13 +218,11 @@ impl<A: Allocator> PoolStore<A> {
         ensures result { result ≡ held_or_gone object self.old }
         ensures store { self.new ≡ with_word object word value self.old }
     {
-        match self.objects.get_mut(object) {
-            Some(held) => {
-                held.set_word(word, value);
-                Ok(())
-            }
-            None => Err(StoreFault::Gone),
+        if !self.is_held(object) {
+            return Err(StoreFault::Gone);
         }
+        self.set_word(object, word, value);
+        Ok(())
     }
 
     /// Writes `count` words of one object, from the place `word` on, over those of another or of the same, from the
@@ -125,7 +244,10 @@ impl<A: Allocator> PoolStore<A> {
         ensures result { result ≡ both_or_gone from to self.old }
         ensures store { self.new ≡ copied from word to target count self.old }
     {
-        if !self.objects.contains(from) || !self.objects.contains(to) {
+        if !self.is_held(from) {
+            return Err(StoreFault::Gone);
+        }
+        if !self.is_held(to) {
             return Err(StoreFault::Gone);
         }
         if count == 0 {
@@ -133,39 +255,26 @@ impl<A: Allocator> PoolStore<A> {
         }
         if from == to {
             self.copy_within(to, word, target, count);
-        } else {
-            self.copy_between(from, word, to, target, count);
+            return Ok(());
         }
+        self.copy_between(from, word, to, target, count);
         Ok(())
     }
 
-    /// Whether so many words from a place on lie within the object, where it is held.
-    #[cfg(test)]
-    pub(crate) fn allows(&self, object: u64, place: usize, count: usize) -> bool
-        ensures { IsTrue result → IsWithin object place count self.now }
-    {
-        match self.objects.get(object) {
-            Some(held) => held.len() >= count && place <= held.len() - count,
-            None => true,
-        }
-    }
-
-    /// Whether no object of this number is held.
-    #[cfg(test)]
-    pub(crate) fn is_free(&self, object: u64) -> bool
-        ensures { IsTrue result → get self.now.objects object ≡ None }
-    {
-        !self.objects.contains(object)
-    }
-
     fn copy_within(&mut self, object: u64, word: usize, target: usize, count: usize)
-        requires from { IsWithin object word count self.old }
-        requires to { IsWithin object target count self.old }
+        requires some { 0 < count }
+        requires from { word + count ≤ length (words_of object self.old) }
+        requires to { target + count ≤ length (words_of object self.old) }
         ensures { self.new ≡ copied object word object target count self.old }
     {
-        if let Some(held) = self.objects.get_mut(object) {
-            held.copy_within(word, target, count);
+        if let Some(spot) = self.spot_of(object) {
+            copy_within_at(&mut self.blocks, spot, word, target, count);
+            return;
         }
+        let Some(entry) = self.objects.get_mut(object) else {
+            unreachable!();
+        };
+        entry.copy_within(word, target, count);
     }
 
     fn copy_between(&mut self, from: u64, word: usize, to: u64, target: usize, count: usize)
@@ -184,11 +293,20 @@ impl<A: Allocator> PoolStore<A> {
         }
     }
 
+    // Whether an object of this number is held.
+    fn is_held(&self, object: u64) -> bool
+        ensures { result ≡ is_some (get self.now.objects object) }
+    {
+        self.objects.contains(object)
+    }
+
+    // How many words an object has, none where it is gone.
     fn len_of(&self, object: u64) -> usize
         ensures { result ≡ length (words_of object self.now) }
     {
         match self.objects.get(object) {
-            Some(held) => held.len(),
+            Some(Entry::Standard(words)) => words.len(),
+            Some(Entry::InBlock(spot)) => len_at(&self.blocks, *spot),
             None => 0,
         }
     }
@@ -198,7 +316,8 @@ impl<A: Allocator> PoolStore<A> {
         ensures { result ≡ slice_index_or (words_of object self.now) place 0 }
     {
         match self.objects.get(object) {
-            Some(held) => held.word(place),
+            Some(Entry::Standard(words)) => words.word(place),
+            Some(Entry::InBlock(spot)) => word_at(&self.blocks, *spot, place),
             None => 0,
         }
     }
@@ -207,9 +326,31 @@ impl<A: Allocator> PoolStore<A> {
         requires { place < length (words_of object self.old) }
         ensures { self.new ≡ with_word object place value self.old }
     {
-        if let Some(held) = self.objects.get_mut(object) {
-            held.set_word(place, value);
+        if let Some(spot) = self.spot_of(object) {
+            set_word_at(&mut self.blocks, spot, place, value);
+            return;
         }
+        let Some(entry) = self.objects.get_mut(object) else {
+            unreachable!();
+        };
+        entry.set_word(place, value);
+    }
+
+    // Where the object lies, unless in the standard pool.
+    fn spot_of(&self, object: u64) -> Option<Spot>
+        ensures { result ≡ spot_of object self.now }
+    {
+        match self.objects.get(object) {
+            Some(entry) => entry.spot(),
+            None => None,
+        }
+    }
+
+    /// Whether the pool is open.
+    pub fn is_open(&self, pool: u64) -> bool
+        ensures { result ≡ is_some (get self.now.blocks pool) }
+    {
+        self.blocks.contains(pool)
     }
 
     /// Frees all memory.
@@ -217,6 +358,76 @@ impl<A: Allocator> PoolStore<A> {
         let PoolStore {
             alloc: _alloc,
             objects: _objects,
+            blocks,
+            given: _,
         } = self;
+        let mut blocks = blocks;
+        while let Some((_, area)) = blocks.pop() {
+            area.close();
+        }
+        blocks.destroy_empty();
+    }
+
+    /// Whether so many words from a place on lie within the object, where it is held.
+    #[cfg(test)]
+    pub(crate) fn allows(&self, object: u64, place: usize, count: usize) -> bool
+        ensures { IsTrue result → IsWithin object place count self.now }
+    {
+        let len = self.len_of(object);
+        let held = self.is_held(object);
+        !held || len >= count && place <= len - count
+    }
+
+    /// Whether no object of this number is held.
+    #[cfg(test)]
+    pub(crate) fn is_free(&self, object: u64) -> bool
+        ensures { IsTrue result → get self.now.objects object ≡ None }
+    {
+        !self.is_held(object)
+    }
+
+    /// Whether no pool of this number is open.
+    #[cfg(test)]
+    pub(crate) fn is_new(&self, pool: u64) -> bool
+        ensures { IsTrue result → get self.now.blocks pool ≡ None }
+    {
+        !self.is_open(pool)
+    }
+
+    /// Whether the pool is open, and another address can be given.
+    #[cfg(test)]
+    pub(crate) fn can_allocate(&self, pool: u64) -> bool
+        ensures open { IsTrue result → IsOpen pool self.now }
+        ensures addresses { IsTrue result → self.now.given < 2 ^ 64 - 1 }
+    {
+        self.is_open(pool) && self.given < u64::MAX
+    }
+
+    fn is_exhausted(&self, pool: u64, units: u64) -> bool
+        ensures { result ≡ is_exhausted_in pool units self.now }
+    {
+        match self.blocks.get(pool) {
+            Some(area) => area.is_exhausted(units),
+            None => false,
+        }
+    }
+
+    fn is_vacant(&self, pool: u64, address: u64) -> bool
+        ensures { result ≡ is_vacant_in pool address self.now }
+    {
+        match self.blocks.get(pool) {
+            Some(area) => area.is_vacant(address),
+            None => false,
+        }
+    }
+
+    // Whether the block at this address holds no object and has so many storage units.
+    fn is_fit(&self, pool: u64, address: u64, units: u64) -> bool
+        ensures { result ≡ is_fit_in pool address units self.now }
+    {
+        match self.blocks.get(pool) {
+            Some(area) => area.is_vacant(address) && area.has(units),
+            None => false,
+        }
     }
 }

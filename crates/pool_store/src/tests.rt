@@ -127,6 +127,155 @@ fn grow_on(heap: &LocalHeap) -> [bool; 2] {
     [first == 0 && second == 0, same && other]
 }
 
+fn open_block<A: Allocator + Copy>(
+    store: &mut PoolStore<A>,
+    pool: u64,
+    units: u64,
+    count: usize,
+) -> u32 {
+    let sizes = units >= 1 && units <= 4096 && count >= 1 && count <= 65536;
+    if !store.is_new(pool) || !sizes {
+        return 1000;
+    }
+    match store.open_block(pool, units, count) {
+        Ok(()) => 0,
+        Err(fault) => fault.code(),
+    }
+}
+
+/// The address, from 1, or a fault's number and 1000.
+fn allocate<A: Allocator + Copy>(store: &mut PoolStore<A>, pool: u64, units: u64) -> u64 {
+    if !store.can_allocate(pool) {
+        return 2000;
+    }
+    match store.allocate(pool, units) {
+        Ok(Address(address)) => address,
+        Err(fault) => fault.code() as u64 + 1000,
+    }
+}
+
+fn occupy<A: Allocator + Copy>(
+    store: &mut PoolStore<A>,
+    [pool, address]: [u64; 2],
+    object: u64,
+    units: u64,
+) -> u32 {
+    if !store.is_free(object) {
+        return 1000;
+    }
+    match store.occupy(pool, Address(address), object, units) {
+        Ok(()) => 0,
+        Err(fault) => fault.code(),
+    }
+}
+
+fn deallocate<A: Allocator>(store: &mut PoolStore<A>, pool: u64, address: u64) -> u32 {
+    match store.deallocate(pool, Address(address)) {
+        Ok(()) => 0,
+        Err(fault) => fault.code(),
+    }
+}
+
+/// The address of the block that an object leaves behind, 0 for none, or a fault's number and 1000.
+fn vacate<A: Allocator>(store: &mut PoolStore<A>, object: u64) -> u64 {
+    match store.vacate(object) {
+        Ok(Some(Address(address))) => address,
+        Ok(None) => 0,
+        Err(fault) => fault.code() as u64 + 1000,
+    }
+}
+
+/// Pool 1 has one block of 16 storage units. Object 7 is put there and vacated.
+fn life_in_a_block<A: Allocator + Copy>(store: &mut PoolStore<A>) -> ([u64; 7], [u32; 9]) {
+    let opened = open_block(store, 1, 16, 1);
+    let large = allocate(store, 1, 24);
+    let address = allocate(store, 1, 16);
+    let held = occupy(store, [1, address], 7, 16);
+    let written = write(store, 7, 1, 5);
+    let word = read(store, 7, 1);
+    let full = allocate(store, 1, 8);
+    let busy = deallocate(store, 1, address);
+    let made = standard(store, 9, 2);
+    let copied = copy(store, [7, 9], [1, 0], 1);
+    let copy = read(store, 9, 0);
+    let left = vacate(store, 7);
+    let gone = read(store, 7, 1);
+    let back = deallocate(store, 1, address);
+    let bad = occupy(store, [1, address], 8, 16);
+    let again = deallocate(store, 1, address);
+    (
+        [large, address, word, full, copy, left, gone],
+        [opened, held, written, busy, made, copied, back, bad, again],
+    )
+}
+
+#[test]
+fn an_object_lives_in_a_block(rt: HostRuntime) {
+    let mut store = PoolStore::new(rt.alloc());
+    let (words, faults) = life_in_a_block(&mut store);
+    store.close();
+    assert_eq!(rt; words, [1060, 1, 5, 1060, 5, 1, 64]);
+    assert_eq!(rt; faults, [0, 0, 0, 63, 0, 0, 0, 63, 63]);
+}
+
+/// A block that was given back goes out again under another address, with words that are 0.
+#[test]
+fn an_address_is_used_once(rt: HostRuntime) {
+    let mut store = PoolStore::new(rt.alloc());
+    let _ = open_block(&mut store, 1, 16, 1);
+    let first = allocate(&mut store, 1, 16);
+    let _ = occupy(&mut store, [1, first], 7, 16);
+    let _ = write(&mut store, 7, 0, 3);
+    let _ = vacate(&mut store, 7);
+    let _ = deallocate(&mut store, 1, first);
+    let second = allocate(&mut store, 1, 9);
+    let held = occupy(&mut store, [1, second], 7, 16);
+    let word = read(&store, 7, 0);
+    store.close();
+    assert_eq!(rt; [first, second], [1, 2]);
+    assert_eq!(rt; held, 0);
+    assert_eq!(rt; word, 0);
+}
+
+/// A pool of two blocks with two objects over a heap: whether all was made, and whether what a call refused was not
+/// there and what was there before stayed.
+fn grow_in_blocks(heap: &LocalHeap) -> [bool; 2] {
+    let mut store = PoolStore::new(heap);
+    let opened = open_block(&mut store, 1, 16, 2);
+    let first = allocate(&mut store, 1, 16);
+    let held = occupy(&mut store, [1, first], 7, 16);
+    let _ = write(&mut store, 7, 1, 6);
+    let second = allocate(&mut store, 1, 16);
+    let also = occupy(&mut store, [1, second], 8, 16);
+    let kept = read(&store, 7, 1) == if held == 0 { 6 } else { 64 };
+    let new = read(&store, 8, 1) == if also == 0 { 0 } else { 64 };
+    // A block of which occupy was refused is still out, and vacant.
+    let vacant = held == 0 || first > 999 || deallocate(&mut store, 1, first) == 0;
+    let open = store.is_open(1) == (opened == 0);
+    store.close();
+    [
+        opened == 0 && held == 0 && also == 0,
+        kept && new && vacant && open,
+    ]
+}
+
+#[test]
+fn each_growth_of_pools_is_refused(rt: HostRuntime) -> Result<(), Fail> {
+    let mut refused = 0;
+    let mut made = false;
+    for size in 0..200 {
+        let heap = LocalHeap::new(rt.alloc(), 64 * size)?;
+        let [all, same] = grow_in_blocks(&heap);
+        assert!(rt; same);
+        assert_eq!(rt; heap.used(), 0);
+        made = made || all;
+        refused = if all { refused } else { size };
+    }
+    assert!(rt; refused > 4);
+    assert!(rt; made);
+    Ok(())
+}
+
 #[test]
 fn each_growth_is_refused(rt: HostRuntime) -> Result<(), Fail> {
     let mut refused = false;

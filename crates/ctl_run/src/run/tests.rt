@@ -16,6 +16,29 @@ const TWO_OBJECTS_TRACE: &str =
 const ENDLESS: &[u8] =
     b"with Ada.Finalization; use Ada.Finalization; with Ada.Text_IO; use Ada.Text_IO; procedure Main is type A is new Controlled with null record; overriding procedure Finalize (X : in out A); procedure Finalize (X : in out A) is V : A; begin Put (\"x\"); end Finalize; V : A; begin null; end Main;";
 
+/// An exit statement leaves a loop, and two blocks in it (RM 5.7, 7.6.1).
+const EXIT: &[u8] =
+    b"with Ada.Finalization; use Ada.Finalization; with Ada.Text_IO; use Ada.Text_IO; procedure Main is type A is new Controlled with null record; overriding procedure Finalize (X : in out A); procedure Finalize (X : in out A) is begin Put_Line (\"a\"); end Finalize; begin loop declare V : A; begin declare W : A; begin exit; end; end; end loop; Put_Line (\"out\"); end Main;";
+
+const EXIT_TRACE: &str =
+    "live 1 m2\nlive 2 m3\nfinalize 2 scope\nprint a\nnewline\nfinalize 1 scope\nprint a\nnewline\nprint out\nnewline\nend done\n";
+
+/// A sum beyond Integer'Last raises Constraint_Error, which leaves the main procedure (RM 3.5.4, 4.5.3).
+const OVERFLOW: &[u8] =
+    b"with Ada.Finalization; use Ada.Finalization; with Ada.Text_IO; use Ada.Text_IO; procedure Main is type A is new Controlled with null record; overriding procedure Finalize (X : in out A); procedure Finalize (X : in out A) is begin Put_Line (\"a\"); end Finalize; V : A; N : Integer := Integer'Last; begin N := N + 1; Put_Line (\"no\"); end Main;";
+
+const OVERFLOW_TRACE: &str =
+    "live 1 m1\nfinalize 1 scope\nprint a\nnewline\nend raised Constraint_Error\n";
+
+/// The bounds of a loop are evaluated once, and `mod` has the sign of the right operand (RM 5.5, 4.5.5).
+const COUNTED: &[u8] =
+    b"with Ada.Text_IO; use Ada.Text_IO; procedure Main is N : Integer := 2; begin for I in reverse 1 .. N loop N := 5; Put (Integer'Image (I) & Boolean'Image (I > 1) & Integer'Image ((-7) mod N)); end loop; end Main;";
+
+const COUNTED_TRACE: &str = "print  2TRUE 3\nprint  1FALSE 3\nend done\n";
+
+/// A loop without an end.
+const TURNS: &[u8] = b"procedure Main is begin loop null; end loop; end Main;";
+
 #[test]
 fn traces_of_runs(rt: HostRuntime) -> Result<(), Fail> {
     let alloc = rt.alloc();
@@ -24,6 +47,10 @@ fn traces_of_runs(rt: HostRuntime) -> Result<(), Fail> {
         (EMPTY, 0, "end limit\n"),
         (TWO_OBJECTS, 1000, TWO_OBJECTS_TRACE),
         (ENDLESS, 5, "live 1 m1\nend limit\n"),
+        (EXIT, 1000, EXIT_TRACE),
+        (OVERFLOW, 1000, OVERFLOW_TRACE),
+        (COUNTED, 1000, COUNTED_TRACE),
+        (TURNS, 100, "end limit\n"),
     ] {
         let outcome = run_source(alloc, source, Order::Newest, steps).map_err(|_| "refused")?;
         let text = trace_text(alloc, &outcome.events, &outcome.end)?;
@@ -47,7 +74,7 @@ fn faults_of_texts(rt: HostRuntime) -> Result<(), Fail> {
             "1:19: 12 LEFT_OUT",
         ),
         (
-            b"procedure Main is X : Integer; begin null; end Main;",
+            b"procedure Main is type R is record N : Integer; end record; begin null; end Main;",
             "1:19: 12 LEFT_OUT",
         ),
         (

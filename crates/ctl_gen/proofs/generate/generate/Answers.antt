@@ -14,4 +14,4 @@ if_laid_out program (Ok code) laid = λ slice. behaves program code laid slice
 if_laid_out program (Err e) laid = laid
 
 pub returns-clause-behaves : goal.returns-clause-behaves
-returns-clause-behaves c = if_laid_out c.args.program.now c.assemble.result c.assemble.ensures
+returns-clause-behaves c = if_laid_out c.args.program.now c.assemble.result c.assemble.ensures.laid_out

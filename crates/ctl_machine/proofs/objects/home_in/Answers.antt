@@ -1,4 +1,5 @@
-use Rattle.std.proofs.Common.{refl}
+use Rattle.std.proofs.Common.{refl, None}
+use Rattle.ctl_tree.specs.declared.checked.Ty.TheVariants.{Integer}
 use Rattle.ctl_machine.specs.declared.objects.State.TheVariants.{Untouched}
 use Rattle.ctl_machine.proofs.ObjectsByNumber.{none_found, one_found}
 use Rattle.ctl_machine.proofs.objects.home_in.Goals as goal
@@ -9,4 +10,4 @@ returns-in_err-place c = rw (c.from_residual.ensures, none_found c.args.number c
 
 -- its master is read at its place
 pub returns : goal.returns
-returns c = rw (one_found c.args.number c.args.objects.now c.in_ok-place.place (record { number = 0; record_type = 0; master = 0; state = Untouched }) c.requires.rising c.in_ok-place.ensures.found) (_, refl, refl)
+returns c = rw (one_found c.args.number c.args.objects.now c.in_ok-place.place (record { number = 0; ty = Integer; cell = None; master = 0; state = Untouched }) c.requires.rising c.in_ok-place.ensures.found) (_, refl, refl)

@@ -1,15 +1,15 @@
-use Rattle.std.proofs.Common.{◌≡◌, List, [], None, true, sym, ap, ◌∙◌, subst}
+use Rattle.std.proofs.Common.{◌≡◌, List, [], None, true, ap, ◌∙◌, subst}
 use Rattle.ctl_tree.specs.declared.tree.Context.{Context}
 use Rattle.ctl_legality.specs.declared.view.Entity.TheVariants.{Subprogram}
 use Rattle.ctl_legality.specs.View.{library_part, declare, declare_library}
 use Rattle.ctl_legality.specs.Sites.{brought, used, contexts_sites, sites}
 use Rattle.ctl_legality.specs.Judged.{judged}
-use Rattle.ctl_legality.proofs.Noting.{judged_least, judged_denoted}
+use Rattle.ctl_legality.proofs.Noting.{judged_least, judged_denoted, judged_frozen}
 use Rattle.ctl_names.specs.Judging.{view_of, Judges}
 use Rattle.ctl_names.proofs.Whole.{whole}
 use Rattle.ctl_names.proofs.resolve.judged.Goals as goal
 
-found : (c : goal.After-drop-walk-8) → c.main_body.new.self.found ≡ judged (None, []) (sites c.args.tree.now)
+found : (c : goal.After-drop-walk-8) → c.main_body.new.self.found ≡ judged (None, [], [], []) (sites c.args.tree.now)
 found c =
     let t = c.args.tree.now in
     let w0 = c.new-walk.result in
@@ -28,7 +28,10 @@ found c =
     c.in_ok-main_body.ensures
 
 pub returns-clause-least : goal.returns-clause-least
-returns-clause-least c = c.parts.ensures.least ∙ ap (λ f. f.0) (found c) ∙ judged_least (None, []) (sites c.args.tree.now)
+returns-clause-least c = c.parts.ensures.least ∙ ap (λ f. f.0) (found c) ∙ judged_least (None, [], [], []) (sites c.args.tree.now)
 
 pub returns-clause-uses : goal.returns-clause-uses
-returns-clause-uses c = c.parts.ensures.uses ∙ ap (λ f. f.1) (found c) ∙ judged_denoted (None, []) (sites c.args.tree.now)
+returns-clause-uses c = c.parts.ensures.uses ∙ ap (λ f. f.1) (found c) ∙ judged_denoted (None, [], [], []) (sites c.args.tree.now)
+
+pub returns-clause-frozen : goal.returns-clause-frozen
+returns-clause-frozen c = c.parts.ensures.frozen ∙ ap (λ f. f.3) (found c) ∙ judged_frozen (None, [], [], []) (sites c.args.tree.now)

@@ -1,4 +1,4 @@
-use Rattle.std.proofs.Common.{◌≡◌, List, ℕ, refl, sym, ap, ◌∙◌, arith, ◌+◌}
+use Rattle.std.proofs.Common.{◌≡◌, sym, ap, ◌∙◌, arith, ◌+◌}
 use Rattle.ctl_legality.specs.declared.view.Way.TheVariants.{Stops}
 use Rattle.ctl_legality.specs.Library.{child_of, name_in}
 use Rattle.ctl_legality.specs.View.{folded}

@@ -4,6 +4,8 @@ use Rattle.ctl_code.specs.declared.code.Code.{Code}
 use Rattle.ctl_gen.specs.Correct.{Behaves}
 use Rattle.ctl_machine.specs.Machine.{Running}
 use Rattle.ctl_run.specs.Headline.{Headline}
+use Rattle.std.proofs.lemmas.Result.{err_from_is_err_and}
+use Rattle.ctl_run.specs.Source.{by_memory}
 use Rattle.ctl_run.proofs.Composed.{composed}
 use Rattle.ctl_run.proofs.run.run_source.Goals as goal
 
@@ -23,3 +25,15 @@ returns-clause-headline c =
       accepted = c.in_ok-program.ensures.accepted;
       headline = subst (λ (x : Order). Headline program x c.args.steps c.finish.result) order (composed program m c.args.steps c.finish.result behaves c.finish.ensures within counted);
     }
+
+-- behind the check of the text only memory is wanting
+
+pub returns-in_err-code-clause-refused : goal.returns-in_err-code-clause-refused
+returns-in_err-code-clause-refused c =
+    let p = err_from_is_err_and c.from_residual-in_err-code.result c.from_residual-in_err-code.ensures.1 in
+    rw (p.1, p.2) (by_memory c.in_err-code.ensures.memory)
+
+pub returns-in_err-machine-clause-refused : goal.returns-in_err-machine-clause-refused
+returns-in_err-machine-clause-refused c =
+    let p = err_from_is_err_and c.from_residual-in_err-machine.result c.from_residual-in_err-machine.ensures.1 in
+    rw p.1 (by_memory p.2)

@@ -14,7 +14,7 @@ returns c code =
     let control = c.args.self.now.control in
     let world = c.args.self.now.world in
     let rest = popped control.len control.items c.pop.new.self.items t.0 frame control.ok.0 c.pop.ensures.rest t.1 in
-    let moves = by_top code c.args.handed c.args.self.now t.0 frame t.1 ∙ finalized c.args.handed c.args.object (frames_of (reverse t.0) (levels_of world)) world in
+    let moves = by_top code c.args.handed c.args.self.now t.0 frame t.1 ∙ finalized c.args.handed c.args.object (frames_of (reverse t.0) (levels_of world)) c.args.self.now.operands world c.requires.stays in
     let fits = fits_top (may_raise (Giving c.args.handed)) c.args.self.now t.0 frame t.1 c.requires.rests in
     makes_by _ _ _ _ moves (record {
       sound = record { place = tt; rests = rw (rest, c.end_finalization.ensures, levels_ended, c.finalization_of.ensures, calm) fits };

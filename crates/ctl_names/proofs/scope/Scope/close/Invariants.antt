@@ -1,4 +1,4 @@
-use Rattle.std.proofs.Common.{◌≡◌, ◌≤◌, length, take}
+use Rattle.std.proofs.Common.{◌≡◌, length, take}
 use Rattle.ctl_names.proofs.scope.Scope.close.Given as goal
 
 abbrev pub invariant-loop-self : goal.invariant-loop-self

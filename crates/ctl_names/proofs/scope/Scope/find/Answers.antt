@@ -1,5 +1,5 @@
-use Rattle.std.proofs.Common.{◌≡◌, refl, sym, ap, ◌∙◌}
-use Rattle.ctl_legality.specs.View.{last_of, with_entity_at}
+use Rattle.std.proofs.Common.{ap, ◌∙◌}
+use Rattle.ctl_legality.specs.View.{last_of}
 use Rattle.ctl_names.specs.Scope.{known_at, place_or_none}
 use Rattle.ctl_names.proofs.Places.{known_last}
 use Rattle.ctl_names.proofs.scope.Scope.find.Goals as goal

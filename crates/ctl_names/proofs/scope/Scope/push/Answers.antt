@@ -1,5 +1,4 @@
-use Rattle.std.proofs.Common.{◌≡◌, ℕ, refl, sym, ap, ◌∙◌, ◌∷◌, [], ◌++◌, ◌+◌, arith, length, subst, List}
-use Rattle.std.specs.Prelude.{unwrap_or}
+use Rattle.std.proofs.Common.{◌≡◌, ℕ, sym, ap, ◌∙◌, ◌∷◌, [], ◌++◌, ◌+◌, arith, length, subst, List}
 use Rattle.ctl_legality.specs.declared.view.Declaration.{Declaration}
 use Rattle.ctl_names.specs.Scope.{IsIndexed, place_or_none, places_of}
 use Rattle.ctl_names.proofs.Places.{indexed_push, places_put, place_is}

@@ -1,4 +1,4 @@
-use Rattle.std.proofs.Common.{◌≡◌, ℕ, List, [], ◌∷◌, ◌++◌, refl, sym, ap, ◌∙◌, subst}
+use Rattle.std.proofs.Common.{◌≡◌, List, ◌++◌, refl, sym, ap, ◌∙◌, subst}
 use Rattle.ctl_tree.specs.declared.tree.Expression.{Expression}
 use Rattle.ctl_legality.specs.Sites.{Site, kind_sites, expression_sites, expression_list_sites, addend_list_sites, multiplicand_list_sites, suffix_sites, suffix_list_sites}
 use Rattle.ctl_legality.proofs.ExpressionRows.{logical_is, sum_is, product_is, arguments_is}

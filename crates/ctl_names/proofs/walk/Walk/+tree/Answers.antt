@@ -1,15 +1,16 @@
-use Rattle.std.proofs.Common.{◌≡◌, ℕ, ◌≤◌, List, [], ◌∷◌, ◌++◌, length, take, refl, sym, ap, subst, ◌∙◌, arith, rules}
+use Rattle.std.proofs.Common.{◌≡◌, ℕ, ◌≤◌, List, ◌∷◌, ◌++◌, length, take, drop, refl, sym, ap, subst, ◌∙◌, arith}
 use Rattle.ctl_tree.specs.declared.tree.BodyPart.{out-BodyPart}
 use Rattle.ctl_tree.specs.declared.tree.Branch.{Branch}
 use Rattle.ctl_tree.specs.declared.tree.Statement.{Statement}
-use Rattle.ctl_legality.specs.declared.view.Declaration.{Declaration}
+use Rattle.ctl_legality.specs.declared.view.Effect.{Effect}
 use Rattle.ctl_legality.specs.View.{View, inside, region}
-use Rattle.ctl_legality.specs.Sites.{Site, end, body, heading_key, heading_sites, name_body, in_body, scheme_sites, item_sites, after_item, item_list_sites, after_item_list, after_formals, part_sites, body_sites, handled_sites, statement_sites, statement_list_sites, branch_sites, branch_list_sites, handler_sites, handler_list_sites, after_handler, after_handler_list, in_loop}
+use Rattle.ctl_legality.specs.Sites.{Site, body, heading_key, heading_sites, name_body, in_body, scheme_sites, item_sites, after_item, item_list_sites, ended_sites, item_list_facts, effects_of, after_item_list, after_formals, part_sites, body_sites, statement_sites, statement_list_sites, branch_sites, branch_list_sites, handler_sites, handler_list_sites, after_handler, after_handler_list, in_loop}
 use Rattle.ctl_legality.specs.Judged.{judged}
 use Rattle.ctl_legality.proofs.Noting.{judged_append}
-use Rattle.ctl_legality.proofs.Kept.{Keeps, then_kept, formals_kept, formals_start, items_kept, room_after, handlers_kept, loop_kept}
+use Rattle.ctl_legality.proofs.Kept.{Keeps, then_kept, formals_kept, formals_start, room_after, handlers_kept, loop_kept}
 use Rattle.ctl_legality.proofs.StatementRows.{body_is, if_is, loop_is, block_is}
 use Rattle.ctl_names.specs.Judging.{view_of, Judges}
+use Rattle.ctl_names.proofs.ItemFacts.{facts_turn, effects_since, effects_room, item_together, ended}
 use Rattle.ctl_names.proofs.Turns.{part_judged, same_view, two, turn, closed, region_judges, view_turn, turn_with}
 use Rattle.ctl_names.proofs.walk.Walk.+tree.Goals as goal
 
@@ -19,11 +20,12 @@ items-loop-item-preserved t c =
     let kept = c.loop-item.invariant in
     let i = c.item-item.result in
     let v = view_of c.loop-item.self c.loop-item.seen in
-    let w = view_of c.item.new.self c.in_ok-behind.behind in
+    let w = view_of c.item_with_facts.new.self c.in_ok-behind.behind in
     record {
       room = room_after i.kind v w kept.room done.view;
       view = view_turn after_item_list (λ x u. after_item x.kind u) (λ x xs u. refl) c.args.items.now c.loop-item.item-index i c.loop-item-test.true c.item-item.is v w done.view ∙ kept.view;
-      found = turn_with item_list_sites (λ x u. item_sites x.span x.kind u) (λ x u. after_item x.kind u) (λ x xs u. refl) c.args.items.now c.loop-item.item-index i c.loop-item-test.true c.item-item.is v w done.view c.loop-item.self.found c.item.new.self.found done.found ∙ kept.found;
+      found = turn_with item_list_sites (λ x u. item_sites x.span x.kind u) (λ x u. after_item x.kind u) (λ x xs u. refl) c.args.items.now c.loop-item.item-index i c.loop-item-test.true c.item-item.is v w done.view c.loop-item.self.found c.item_with_facts.new.self.found done.found ∙ kept.found;
+      facts = facts_turn c.args.items.now c.loop-item.item-index i c.loop-item-test.true c.item-item.is v w done.view c.loop-item.facts.items c.item_with_facts.new.facts.items done.facts ∙ kept.facts;
     }
 
 pub handler_list-loop-handler-preserved : goal.handler_list-loop-handler-preserved
@@ -76,7 +78,7 @@ body_region-returns t c =
     let hd = (out-BodyPart body).handled in
     let inner = c.in_ok-inner.inner in
     let b = c.enter_formals.new.self in
-    let a = c.items.new.self in
+    let a = c.ended_items.new.self in
     let m = c.handled.new.self in
     let v1 = after_formals fs (inside v) in
     let first : view_of b inner ≡ v1 = c.in_ok-inner.ensures.view in
@@ -85,10 +87,10 @@ body_region-returns t c =
     let outer : Keeps base v v1 = record { names = k.names; room = k.room; units = k.units } in
     let one : Keeps base v (view_of b inner) = subst (λ (u : View). Keeps base v u) (sym first) outer in
     let room : inner.start ≤ length b.scope = subst (λ (n : ℕ). n ≤ length b.scope) (sym start) one.room in
-    let done = part_judged b a c.end.new.self m inner c.in_ok-behind.behind its hd room
+    let done = part_judged b a m inner c.in_ok-behind.behind its hd room
     (c.in_ok-behind.ensures.view ∙ ap (λ xs. after_item_list xs (view_of b inner)) c.deref.ensures.value)
-    (c.in_ok-behind.ensures.found ∙ ap (λ xs. judged b.found (item_list_sites xs (view_of b inner))) c.deref.ensures.value)
-    c.end.ensures c.in_ok-handled.ensures in
+    (c.in_ok-behind.ensures.found ∙ ap (λ xs. judged b.found (ended_sites xs (view_of b inner))) c.deref.ensures.value)
+    c.in_ok-handled.ensures in
     let rest : Keeps base (view_of b inner) (view_of m inner) = subst (λ (n : ℕ). Keeps n (view_of b inner) (view_of m inner)) start done.kept in
     closed w (record m { scope = c.close.new.self }) c.args.part (view_of m inner) (body_sites body v1)
     (c.close.ensures ∙ ap (λ n. take n m.scope) c.count-count.ensures) refl
@@ -150,10 +152,10 @@ statement-returns-in_ok-handled-in-Block t c =
     let m = c.handled.new.self in
     let first : view_of w inner ≡ inside v = ap (λ p. view_of w p) c.inside-inner.ensures in
     let start : inner.start ≡ base = ap (λ p. p.start) c.inside-inner.ensures in
-    let done = part_judged w c.items.new.self c.end.new.self m inner c.in_ok-behind-in-Block.behind its hd (omega (arith, start))
+    let done = part_judged w c.ended_items.new.self m inner c.in_ok-behind-in-Block.behind its hd (omega (arith, start))
     (c.in_ok-behind-in-Block.ensures.view ∙ ap (λ xs. after_item_list xs (view_of w inner)) c.deref-in-Block.ensures.value)
-    (c.in_ok-behind-in-Block.ensures.found ∙ ap (λ xs. judged w.found (item_list_sites xs (view_of w inner))) c.deref-in-Block.ensures.value)
-    c.end.ensures c.in_ok-handled-in-Block.ensures in
+    (c.in_ok-behind-in-Block.ensures.found ∙ ap (λ xs. judged w.found (ended_sites xs (view_of w inner))) c.deref-in-Block.ensures.value)
+    c.in_ok-handled-in-Block.ensures in
     let k : Keeps base (view_of w inner) (view_of m inner) = subst (λ (n : ℕ). Keeps n (view_of w inner) (view_of m inner)) start done.kept in
     let same : statement_sites c.args.statement.now.kind v ≡ part_sites its hd (inside v) = ap (λ x. statement_sites x v) c.in-Block.is ∙ block_is c.in-Block.items hd v in
     closed w (record m { scope = c.close.new.self }) c.args.part (view_of m inner) (statement_sites c.args.statement.now.kind v)
@@ -178,3 +180,24 @@ handlers-returns t c =
     (ap (λ u. u.units) second)
     (record { names = k.names; room = k.room; units = k.units })
     (c.in_ok-handler_list.ensures.found ∙ ap (λ u. judged w.found (handler_list_sites hs u)) first)
+
+pub ended_items-returns-clause-found : goal.ended_items-returns-clause-found
+ended_items-returns-clause-found t c =
+    let w = c.args.self.now in
+    let v = view_of w c.args.part in
+    let listed : c.deref.result.now ≡ item_list_facts c.args.items.now v = c.deref.ensures.value ∙ c.in_ok-behind.ensures.facts ∙ ap (λ fs. fs ++ item_list_facts c.args.items.now v) c.new-facts.ensures.items in
+    ended w c.items.new.self c.end.new.self c.facts.new.self c.args.part c.in_ok-behind.behind c.args.items.now c.deref.result.now c.in_ok-behind.ensures.view c.in_ok-behind.ensures.found c.end.ensures c.in_ok-facts.ensures listed
+
+pub item_with_facts-effects_from-requires : goal.item_with_facts-effects_from-requires
+item_with_facts-effects_from-requires t c =
+    let item = c.args.item.now in
+    subst (λ (es : List Effect). c.effect_count-count.result ≤ length es) (sym c.effects.ensures)
+    (effects_room c.args.self.now.found c.item.new.self.found (item_sites item.span item.kind (view_of c.args.self.now c.args.part)) c.effect_count-count.result c.effect_count-count.ensures c.in_ok-behind.ensures.found)
+
+pub item_with_facts-returns-clause-facts : goal.item_with_facts-returns-clause-facts
+item_with_facts-returns-clause-facts t c =
+    let item = c.args.item.now in
+    let v = view_of c.args.self.now c.args.part in
+    let count = c.effect_count-count.result in
+    let since : c.effects_from.result.now ≡ effects_of (item_sites item.span item.kind v) = c.effects_from.ensures ∙ ap (drop count) c.effects.ensures ∙ effects_since c.args.self.now.found c.item.new.self.found (item_sites item.span item.kind v) count c.effect_count-count.ensures c.in_ok-behind.ensures.found in
+    item_together item v c.args.facts.now.items c.form_facts.new.facts.items c.name_facts.new.facts.items c.in_ok-number.number c.effects_from.result.now c.in_ok-form_facts.ensures c.in_ok-number.ensures since c.in_ok-name_facts.ensures

@@ -1,5 +1,5 @@
-use Rattle.std.proofs.Common.{◌≡◌, ◌≤◌, drop, length}
-use Rattle.ctl_legality.specs.Sites.{item_list_sites, after_item_list, statement_list_sites, branch_list_sites, handler_list_sites, after_handler_list}
+use Rattle.std.proofs.Common.{◌≡◌, ◌≤◌, ◌++◌, drop, length}
+use Rattle.ctl_legality.specs.Sites.{item_list_facts, item_list_sites, after_item_list, statement_list_sites, branch_list_sites, handler_list_sites, after_handler_list}
 use Rattle.ctl_legality.specs.Judged.{judged}
 use Rattle.ctl_names.specs.Judging.{view_of}
 use Rattle.ctl_names.proofs.walk.Walk.+tree.Given as goal
@@ -9,6 +9,7 @@ invariant-items-loop-item l = record {
   room : l.seen.start ≤ length l.self.scope;
   view : after_item_list (drop l.item-index l.items) (view_of l.self l.seen) ≡ after_item_list l.items (view_of l.initial.self l.initial.seen);
   found : judged l.self.found (item_list_sites (drop l.item-index l.items) (view_of l.self l.seen)) ≡ judged l.initial.self.found (item_list_sites l.items (view_of l.initial.self l.initial.seen));
+  facts : l.facts.items ++ item_list_facts (drop l.item-index l.items) (view_of l.self l.seen) ≡ l.initial.facts.items ++ item_list_facts l.items (view_of l.initial.self l.initial.seen);
 }
 
 abbrev pub invariant-handler_list-loop-handler : goal.invariant-handler_list-loop-handler

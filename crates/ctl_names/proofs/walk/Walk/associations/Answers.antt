@@ -1,4 +1,4 @@
-use Rattle.std.proofs.Common.{◌≡◌, refl, ◌∙◌}
+use Rattle.std.proofs.Common.{refl, ◌∙◌}
 use Rattle.ctl_legality.specs.Sites.{expression_sites, associations_sites}
 use Rattle.ctl_names.proofs.Turns.{turn}
 use Rattle.ctl_names.proofs.walk.Walk.associations.Goals as goal

@@ -1,6 +1,5 @@
 use Rattle.std.proofs.Common.{◌≡◌, drop}
 use Rattle.ctl_legality.specs.Sites.{bring_each}
-use Rattle.ctl_names.specs.Judging.{view_of}
 use Rattle.ctl_names.proofs.walk.Walk.bring_each.Given as goal
 
 abbrev pub invariant-loop-name : goal.invariant-loop-name

@@ -1,6 +1,5 @@
 use Rattle.std.proofs.Common.{◌≡◌, drop}
 use Rattle.ctl_legality.specs.Sites.{brought}
-use Rattle.ctl_names.specs.Judging.{view_of}
 use Rattle.ctl_names.proofs.walk.Walk.brought.Given as goal
 
 abbrev pub invariant-loop-context : goal.invariant-loop-context

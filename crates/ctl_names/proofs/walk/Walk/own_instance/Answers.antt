@@ -1,12 +1,11 @@
-use Rattle.std.proofs.Common.{◌≡◌, ℕ, ◌≤◌, List, [], ◌∷◌, ◌++◌, length, take, refl, sym, ap, subst, ◌∙◌, arith}
+use Rattle.std.proofs.Common.{◌∷◌, length, take, refl, ap, ◌∙◌, arith}
 use Rattle.ctl_legality.specs.declared.view.Entity.TheVariants as Entity
 use Rattle.ctl_legality.specs.declared.view.Usage.TheVariants.{Plain}
-use Rattle.ctl_legality.specs.View.{View, declare, folded}
-use Rattle.ctl_legality.specs.Sites.{Site, dotted_site, hide_each, associations_sites, expression_sites, after_choice, choice_sites, after_choice_list, choice_list_sites}
-use Rattle.ctl_legality.specs.Judged.{judged}
-use Rattle.ctl_legality.proofs.Kept.{Keeps, declare_kept}
-use Rattle.ctl_names.specs.Judging.{view_of, Judges}
-use Rattle.ctl_names.proofs.Turns.{region_judges, view_turn, turn_with}
+use Rattle.ctl_legality.specs.View.{declare, folded}
+use Rattle.ctl_legality.specs.Sites.{dotted_site, associations_sites}
+use Rattle.ctl_legality.proofs.Kept.{declare_kept}
+use Rattle.ctl_names.specs.Judging.{view_of}
+use Rattle.ctl_names.proofs.Turns.{region_judges}
 use Rattle.ctl_names.proofs.walk.Walk.own_instance.Goals as goal
 
 pub returns : goal.returns

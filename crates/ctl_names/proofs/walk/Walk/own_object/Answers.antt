@@ -1,20 +1,18 @@
-use Rattle.std.proofs.Common.{◌≡◌, ℕ, ◌≤◌, List, [], ◌∷◌, ◌++◌, length, take, refl, sym, ap, subst, ◌∙◌, arith}
+use Rattle.std.proofs.Common.{◌∷◌, ◌++◌, length, take, refl, ap, ◌∙◌, arith}
 use Rattle.ctl_legality.specs.declared.view.Entity.TheVariants as Entity
 use Rattle.ctl_legality.specs.declared.view.Naming.TheVariants as Naming
-use Rattle.ctl_legality.specs.declared.view.Usage.TheVariants.{Plain, Designated}
-use Rattle.ctl_legality.specs.View.{View, declare, folded}
-use Rattle.ctl_legality.specs.Sites.{Site, dotted_site, hide_each, declare_each, declared_each, formal_sites, formals_sites, after_formals, heading_sites, option_mark_sites, in_heading, associations_sites, option_sites, in_definition, in_record, aspect_sites, components_sites, component_sites, after_components, definition_sites}
-use Rattle.ctl_legality.specs.Judged.{judged}
-use Rattle.ctl_legality.proofs.Noting.{judged_append}
-use Rattle.ctl_legality.proofs.Kept.{Keeps, then_kept, declare_kept, each_kept, formals_kept, heading_kept, definition_kept, record_kept, components_kept}
-use Rattle.ctl_names.specs.Judging.{view_of, Judges}
-use Rattle.ctl_names.proofs.Turns.{two, closed, region_judges, view_turn, turn_with}
+use Rattle.std.specs.Prelude.{not, is_some}
+use Rattle.ctl_legality.specs.declared.view.Usage.TheVariants as Usage
+use Rattle.ctl_legality.specs.Sites.{dotted_site, hide_each, associations_sites, option_sites}
+use Rattle.ctl_legality.proofs.Kept.{each_kept}
+use Rattle.ctl_names.specs.Judging.{view_of}
+use Rattle.ctl_names.proofs.Turns.{region_judges}
 use Rattle.ctl_names.proofs.walk.Walk.own_object.Goals as goal
 
 pub returns : goal.returns
 returns c =
     let v = view_of c.args.self.now c.args.part in
-    region_judges c.args.self.now c.declare_each.new.self c.object_parts.new.self (record c.object_parts.new.self { scope = c.close.new.self }) c.args.part c.args.part (hide_each c.args.objects.now.names.items v) (λ u. dotted_site c.args.objects.now.mark u Plain ∷ (associations_sites c.args.objects.now.discriminants.items u ++ option_sites c.args.objects.now.value u))
+    region_judges c.args.self.now c.declare_each.new.self c.object_parts.new.self (record c.object_parts.new.self { scope = c.close.new.self }) c.args.part c.args.part (hide_each c.args.objects.now.names.items v) (λ u. dotted_site c.args.objects.now.mark u (Usage.Object (not (is_some c.args.objects.now.value))) ∷ (associations_sites c.args.objects.now.discriminants.items u ++ option_sites c.args.objects.now.value u))
     (c.in_ok-declare_each.ensures.view ∙ ap (λ xs. hide_each xs v) c.deref.ensures.value) c.in_ok-declare_each.ensures.found c.in_ok-object_parts.ensures
     (c.close.ensures ∙ ap (λ n. take n c.object_parts.new.self.scope) c.count-count.ensures) refl refl
     (each_kept (length v.names) Naming.Direct Entity.Hidden c.args.objects.now.names.items v (omega arith))

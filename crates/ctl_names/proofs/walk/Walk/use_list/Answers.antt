@@ -1,6 +1,6 @@
-use Rattle.std.proofs.Common.{◌≡◌, [], ◌∷◌, refl, ◌∙◌}
-use Rattle.ctl_legality.specs.View.{View, library_part}
-use Rattle.ctl_legality.specs.Sites.{Site, with_unit, use_unit, path_of, with_sites, use_sites, context_sites, contexts_sites}
+use Rattle.std.proofs.Common.{[], ◌∷◌, refl, ◌∙◌}
+use Rattle.ctl_legality.specs.View.{library_part}
+use Rattle.ctl_legality.specs.Sites.{use_unit, path_of, use_sites}
 use Rattle.ctl_names.proofs.Turns.{turn}
 use Rattle.ctl_names.proofs.walk.Walk.use_list.Goals as goal
 

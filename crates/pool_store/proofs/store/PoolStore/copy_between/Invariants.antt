@@ -1,10 +1,6 @@
-use Rattle.std.proofs.Common.{◌≡◌, take, drop}
-use Rattle.std.specs.FinMap.{insert}
-use Rattle.pool_store.specs.Words.{overwritten}
-use Rattle.pool_store.specs.Store.{Store, words_of}
+use Rattle.std.proofs.Common.{◌≡◌}
+use Rattle.pool_store.proofs.CopyLemmas.{after_copy}
 use Rattle.pool_store.proofs.store.PoolStore.copy_between.Given as goal
 
 abbrev pub invariant-loop-k : goal.invariant-loop-k
-invariant-loop-k g l =
-    let s : Store = l.fn.self in
-    l.self ≡ record { objects = insert s.objects l.to (overwritten l.target (take l.k (drop l.word (words_of l.from s))) (words_of l.to s)) }
+invariant-loop-k g l = l.self ≡ after_copy l.from l.word l.to l.target l.k l.fn.self

@@ -1,0 +1,53 @@
+//! Why the check refuses a text.
+
+use ctl_tree::fault::{Fault, FaultCode};
+use ctl_tree::span::Span;
+use std::alloc::{AllocError, AllocFailed};
+
+/// Why the check refuses a text that the grammar spells.
+#[derive(Clone, Copy, Debug, PartialEq, Eq)]
+pub enum Refusal {
+    /// a rule of legality is broken; which, and where, is not told yet
+    Illegal,
+    /// a construct that this version does not run begins here
+    LeftOut(Span),
+    /// the host refused memory
+    Memory,
+}
+
+impl From<Refusal> for Fault {
+    ghost use Rattle.std.specs.Prelude.{◌≡◌};
+    ghost use Rattle.ctl_check.specs.Refusals.{fault_of};
+
+    ghost from_gives = { λ refusal fault. fault ≡ fault_of refusal };
+
+    fn from(refusal: Refusal) -> Fault {
+        match refusal {
+            Refusal::Illegal => Fault::at(FaultCode::Type, Span { line: 1, column: 1 }),
+            Refusal::LeftOut(place) => Fault::at(FaultCode::LeftOut, place),
+            Refusal::Memory => Fault::memory(),
+        }
+    }
+}
+
+impl From<AllocError> for Refusal {
+    ghost use Rattle.std.specs.Prelude.{◌≡◌};
+    ghost use Rattle.ctl_check.specs.declared.refusal.Refusal.TheVariants.{Memory};
+
+    ghost from_gives = { λ _ refusal. refusal ≡ Memory };
+
+    fn from(_e: AllocError) -> Refusal {
+        Refusal::Memory
+    }
+}
+
+impl<T: Drop> From<AllocFailed<T>> for Refusal {
+    ghost use Rattle.std.specs.Prelude.{◌≡◌};
+    ghost use Rattle.ctl_check.specs.declared.refusal.Refusal.TheVariants.{Memory};
+
+    ghost from_gives = { λ _ refusal. refusal ≡ Memory };
+
+    fn from(_e: AllocFailed<T>) -> Refusal {
+        Refusal::Memory
+    }
+}

@@ -1,0 +1,59 @@
+//! The types of the language, and what may be done with their values (RM 3.2, 4.5).
+
+ghost use Rattle.std.specs.Prelude.{◌≡◌, ◌↔◌, IsTrue};
+ghost use Rattle.ctl_tree.specs.declared.checked.Ty.TheVariants.{Boolean};
+ghost use Rattle.ctl_check.specs.Types.{IsNumeric, IsScalar, HasEquality};
+
+use ctl_tree::checked::Ty;
+
+/// Whether both are one type.
+pub fn is_same(left: Ty, right: Ty) -> bool
+    ensures { IsTrue result ↔ (left ≡ right) }
+{
+    match left {
+        Ty::Integer => matches!(right, Ty::Integer),
+        Ty::Count => matches!(right, Ty::Count),
+        Ty::Boolean => matches!(right, Ty::Boolean),
+        Ty::Address => matches!(right, Ty::Address),
+        Ty::Handle => matches!(right, Ty::Handle),
+        Ty::Access(number) => matches!(right, Ty::Access(other) if other == number),
+        Ty::Record(number) => matches!(right, Ty::Record(other) if other == number),
+    }
+}
+
+/// Whether arithmetic takes its values: Integer and Storage_Count (RM 4.5.3 to 4.5.6).
+pub fn is_numeric(ty: Ty) -> bool
+    ensures { IsTrue result ↔ IsNumeric ty }
+{
+    match ty {
+        Ty::Integer | Ty::Count => true,
+        Ty::Boolean | Ty::Address | Ty::Handle | Ty::Access(_) | Ty::Record(_) => false,
+    }
+}
+
+/// Whether `<`, `<=`, `>` and `>=` take its values: numbers and Booleans (RM 4.5.2).
+pub fn is_ordered(ty: Ty) -> bool
+    ensures { IsTrue result ↔ IsScalar ty }
+{
+    match ty {
+        Ty::Integer | Ty::Count | Ty::Boolean => true,
+        Ty::Address | Ty::Handle | Ty::Access(_) | Ty::Record(_) => false,
+    }
+}
+
+/// Whether `=` and `/=` take its values: all but records, whose equality is no part of the language (RM 4.5.2).
+pub fn has_equality(ty: Ty) -> bool
+    ensures { IsTrue result ↔ HasEquality ty }
+{
+    match ty {
+        Ty::Record(_) => false,
+        Ty::Integer | Ty::Count | Ty::Boolean | Ty::Address | Ty::Handle | Ty::Access(_) => true,
+    }
+}
+
+/// Whether it is Boolean (RM 3.5.3).
+pub fn is_boolean(ty: Ty) -> bool
+    ensures { IsTrue result ↔ (ty ≡ Boolean) }
+{
+    is_same(ty, Ty::Boolean)
+}

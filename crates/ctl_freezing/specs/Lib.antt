@@ -1,0 +1,4 @@
+pub mod Freezing
+pub mod Calling
+pub mod Tables
+pub mod Happens

@@ -1,0 +1,10 @@
+use Rattle.std.proofs.Common.{reverse}
+use Rattle.ctl_machine.proofs.Worlds.{scalar_written}
+use Rattle.ctl_machine.proofs.Soundness.{sound_in_place}
+use Rattle.ctl_machine.proofs.world.World.write_scalar.Goals as goal
+
+pub invariant_of-self : goal.invariant_of-self
+invariant_of-self c = sound_in_place _ _ c.self.inside.newest _ _ c.self.invariant _ c.write_scalar.ensures.others
+
+pub returns : goal.returns
+returns c = rw (← c.self.view_is) (scalar_written c.self.inside.given_objects c.self.inside.given_masters c.args.object c.args.cell c.self.inside.newest (reverse c.self.inside.older.items) c.self.inside.objects.items _ c.write_scalar.ensures.changed)

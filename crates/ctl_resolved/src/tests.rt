@@ -1,0 +1,187 @@
+use super::*;
+use std::test::Fail;
+
+/// The lines of a text that stand before a procedure whose types are controlled.
+const FINALIZATION: &str =
+    "with Ada.Finalization; use Ada.Finalization;\nprocedure Main is\ntype T is new Controlled with null record;\n";
+
+#[test]
+fn names_and_their_faults(rt: HostRuntime) -> Result<(), Fail> {
+    for (source, wanted) in [
+        ("procedure Main is begin null; end Main;", ""),
+        (
+            "procedure Main is begin Put_Line (\"x\"); end Main;",
+            "1:25: 20 UNKNOWN",
+        ),
+        (
+            "procedure Main is begin Ada.Text_IO.Put_Line (\"x\"); end Main;",
+            "1:25: 25 NOT_WITHED",
+        ),
+        (
+            "procedure Main is X, X : Integer; begin null; end Main;",
+            "1:22: 21 DUPLICATE",
+        ),
+        (
+            "procedure Main is X, X : Integer; begin Put_Line (\"x\"); end Main;",
+            "1:22: 21 DUPLICATE",
+        ),
+        (
+            "procedure Main is procedure P; begin null; end Main;",
+            "1:29: 22 NO_BODY",
+        ),
+        (
+            "procedure Main is procedure P is begin null; end P; type R is record N : Integer; end record; begin null; end Main;",
+            "1:53: 23 ORDER",
+        ),
+        (
+            "procedure Main is type N; type L is access N; type N is record X : L := new N; end record; begin null; end Main;",
+            "1:77: 23 ORDER",
+        ),
+        (
+            "procedure Main is begin declare X : Integer; begin null; end; X := 1; end Main;",
+            "1:63: 20 UNKNOWN",
+        ),
+        (
+            "procedure Main is procedure P (X : Integer) is X : Integer; begin null; end P; begin null; end Main;",
+            "1:48: 21 DUPLICATE",
+        ),
+    ] {
+        let shown = answer(rt.alloc(), source)?;
+        assert_eq!(rt; shown.as_str(), wanted);
+    }
+    Ok(())
+}
+
+#[test]
+fn freezing_and_its_faults(rt: HostRuntime) -> Result<(), Fail> {
+    for (source, wanted) in [
+        // an operation behind the first body, which froze its type
+        (
+            "procedure P is begin null; end P;\noverriding procedure Finalize (X : in out T);\nprocedure Finalize (X : in out T) is begin null; end Finalize;\nbegin null; end Main;",
+            "5:22: 26 LATE_PRIMITIVE",
+        ),
+        // an object before the operation that finalizes it
+        (
+            "V : T;\noverriding procedure Finalize (X : in out T);\nprocedure Finalize (X : in out T) is begin null; end Finalize;\nbegin null; end Main;",
+            "4:1: 24 ELAB",
+        ),
+        (
+            "overriding procedure Finalize (X : in out T);\nprocedure Finalize (X : in out T) is begin null; end Finalize;\nV : T;\nbegin null; end Main;",
+            "",
+        ),
+        // the same for an object that has the type's as a part
+        (
+            "type R is record C : T; end record;\noverriding procedure Finalize (X : in out T);\nV : R;\nprocedure Finalize (X : in out T) is begin null; end Finalize;\nbegin null; end Main;",
+            "6:1: 24 ELAB",
+        ),
+        // to have the type as a part of another does not freeze it
+        (
+            "type R is record C : T; end record;\noverriding procedure Finalize (X : in out T);\nprocedure Finalize (X : in out T) is begin null; end Finalize;\nV : R;\nbegin null; end Main;",
+            "",
+        ),
+        // an object of the other type does, and the operation has no body
+        (
+            "type R is record C : T; end record;\nV : R;\noverriding procedure Adjust (X : in out T);\nbegin null; end Main;",
+            "6:22: 22 NO_BODY",
+        ),
+        // an extension freezes its parent
+        (
+            "type S is new T with null record;\noverriding procedure Adjust (X : in out T);\nprocedure Adjust (X : in out T) is begin null; end Adjust;\nbegin null; end Main;",
+            "5:22: 26 LATE_PRIMITIVE",
+        ),
+        // an access type freezes nothing, an instance that names it does
+        (
+            "type A is access T;\noverriding procedure Adjust (X : in out T);\nprocedure Adjust (X : in out T) is begin null; end Adjust;\nbegin null; end Main;",
+            "",
+        ),
+    ] {
+        let whole = join(rt.alloc(), FINALIZATION, source)?;
+        let shown = answer(rt.alloc(), whole.as_str())?;
+        assert_eq!(rt; shown.as_str(), wanted);
+    }
+    Ok(())
+}
+
+#[test]
+fn objects_that_call(rt: HostRuntime) -> Result<(), Fail> {
+    for (source, wanted) in [
+        (
+            "procedure Main is\nfunction F return Integer;\nV : Integer := F;\nfunction F return Integer is begin return 1; end F;\nbegin null; end Main;",
+            "3:1: 24 ELAB",
+        ),
+        (
+            "procedure Main is\nfunction F return Integer;\nfunction F return Integer is begin return 1; end F;\nV : Integer := F;\nbegin null; end Main;",
+            "",
+        ),
+        (
+            "procedure Main is\nfunction F return Integer;\ntype R is record N : Integer := F; end record;\nV : R;\nfunction F return Integer is begin return 1; end F;\nbegin null; end Main;",
+            "4:1: 24 ELAB",
+        ),
+    ] {
+        let shown = answer(rt.alloc(), source)?;
+        assert_eq!(rt; shown.as_str(), wanted);
+    }
+    Ok(())
+}
+
+#[test]
+fn storage_pools(rt: HostRuntime) -> Result<(), Fail> {
+    const BEGIN: &str =
+        "with Block_Pools; use Block_Pools; with Ada.Unchecked_Deallocation;\nprocedure Main is\nP : Block_Pool (16, 4);\ntype R is record N : Integer; end record;\ntype A is access R;\n";
+    for (source, wanted) in [
+        (
+            "for A'Storage_Pool use P;\nV : A;\nbegin null; end Main;",
+            "",
+        ),
+        (
+            "V : A;\nfor A'Storage_Pool use P;\nbegin null; end Main;",
+            "7:1: 23 ORDER",
+        ),
+        (
+            "procedure Free is new Ada.Unchecked_Deallocation (R, A);\nfor A'Storage_Pool use P;\nbegin null; end Main;",
+            "7:1: 23 ORDER",
+        ),
+        (
+            "begin declare\nfor A'Storage_Pool use P;\nbegin null; end; end Main;",
+            "7:1: 23 ORDER",
+        ),
+        (
+            "for Integer'Storage_Pool use P;\nbegin null; end Main;",
+            "6:1: 23 ORDER",
+        ),
+        // an allocator freezes what it makes, and with it the parts of that
+        (
+            "type L is record X : A; end record;\ntype M is access L;\nV : M := new L;\nfor A'Storage_Pool use P;\nbegin null; end Main;",
+            "9:1: 23 ORDER",
+        ),
+        // the default of a component freezes what it makes where it is used
+        (
+            "type L is record X : A; end record;\ntype M is access L;\ntype K is record Y : M := new L; end record;\nV : K;\nfor A'Storage_Pool use P;\nbegin null; end Main;",
+            "10:1: 23 ORDER",
+        ),
+        (
+            "type L is record X : A; end record;\ntype M is access L;\ntype K is record Y : M := new L; end record;\nV : K := (null);\nfor A'Storage_Pool use P;\nbegin null; end Main;",
+            "",
+        ),
+    ] {
+        let whole = join(rt.alloc(), BEGIN, source)?;
+        let shown = answer(rt.alloc(), whole.as_str())?;
+        assert_eq!(rt; shown.as_str(), wanted);
+    }
+    Ok(())
+}
+
+/// The first fault of a text, or nothing.
+fn answer(alloc: Global, source: &str) -> Result<String, Fail> {
+    match resolved(alloc, source.as_bytes()) {
+        Ok(_) => Ok(String::new(alloc)),
+        Err(fault) => Ok(fault.to_string(alloc)?),
+    }
+}
+
+fn join(alloc: Global, first: &str, second: &str) -> Result<String, Fail> {
+    let mut whole = String::new(alloc);
+    whole.push_str(first)?;
+    whole.push_str(second)?;
+    Ok(whole)
+}
