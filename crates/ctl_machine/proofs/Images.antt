@@ -1,5 +1,5 @@
 -- Images of values, and texts with them.
-use Rattle.std.proofs.Common.{◌≡◌, ℤ, ℕ, pos, negsuc, List, [], ◌∷◌, ◌++◌, refl, sym, ap, add-one}
+use Rattle.std.proofs.Common.{◌≡◌, ℤ, pos, negsuc, ◌∷◌, refl, sym, ap, add-one}
 use Rattle.std.specs.Prelude.{decimal, unsigned_abs}
 use Rattle.ctl_meaning.specs.Numbers.{image_of}
 use Rattle.ctl_machine.specs.Images.{sign_of}

@@ -13,12 +13,11 @@ use Rattle.ctl_code.specs.declared.code.Code.{Code}
 use Rattle.ctl_code.specs.States as T
 use Rattle.ctl_code.specs.States.{Move}
 use Rattle.ctl_code.specs.Table as Table
-use Rattle.ctl_machine.specs.declared.masters.Member.{Member}
 use Rattle.ctl_machine.specs.declared.engine.Engine.{Engine}
 use Rattle.ctl_machine.specs.declared.frame.Frame.{Frame}
 use Rattle.ctl_machine.specs.declared.frame.Frame.TheVariants.{Leaving}
 use Rattle.ctl_machine.specs.declared.frame.Departure.{Departure}
-use Rattle.ctl_machine.specs.World.{Level, levels_of, layer_of, all_but_first, newest_master, newest_layers, first_number, first_layers}
+use Rattle.ctl_machine.specs.World.{Level, levels_of, all_but_first, newest_master, newest_layers, first_number, first_layers}
 use Rattle.ctl_machine.specs.Control.{frames_of, oldest, done_of, after_of, may_raise, result_of, says_failed, Fits}
 use Rattle.ctl_machine.specs.declared.frame.Handed.{Handed}
 use Rattle.ctl_machine.specs.declared.frame.Handed.TheVariants as HandedOf

@@ -14,7 +14,7 @@ use Rattle.ctl_machine.specs.declared.objects.State.{State}
 use Rattle.ctl_machine.specs.declared.objects.State.TheVariants.{Untouched, Finalizing, Finalized}
 use Rattle.ctl_machine.specs.declared.objects.Object.{Object}
 use Rattle.ctl_machine.specs.Numbers.{StandsAt}
-use Rattle.ctl_machine.specs.Objects.{state_of, cells_of, object_of, objects_of, homes, numbers, IsRising, IsBehind, InOrder, UpTo, StayInPlace, kept_without}
+use Rattle.ctl_machine.specs.Objects.{state_of, object_of, objects_of, homes, IsRising, IsBehind, InOrder, UpTo, StayInPlace, kept_without}
 use Rattle.ctl_machine.proofs.Numbers.{eq_same, eq_differs, rises_at, keys_stay}
 
 number_of : Object → ℕ

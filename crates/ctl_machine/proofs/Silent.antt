@@ -4,7 +4,6 @@ use Rattle.std.specs.Prelude.{◌||◌, not, ◌-ℤ◌}
 use Rattle.ctl_tree.specs.declared.checked.Ty.{Ty}
 use Rattle.ctl_tree.specs.declared.checked.Ty.TheVariants.{Integer, Count, Boolean, Address, Handle, Access, Record}
 use Rattle.ctl_tree.specs.declared.checked.Var.{Var}
-use Rattle.ctl_tree.specs.declared.checked.Shortcut.{Shortcut}
 use Rattle.ctl_tree.specs.declared.event.Event.{Event}
 use Rattle.ctl_meaning.specs.World.{Object, Layer, Single, Sets, Slot, World}
 use Rattle.ctl_meaning.specs.Changes.{object_at, write_cells, begin_finalization}
@@ -19,7 +18,7 @@ use Rattle.ctl_code.specs.declared.template.TextPart.{TextPart}
 use Rattle.ctl_code.specs.declared.code.Entry.{Entry}
 use Rattle.ctl_code.specs.declared.code.Code.{Code}
 use Rattle.ctl_code.specs.States.{Mode, At, Giving, Stopped, Stuck, After, Frame, InMaster, Leaving, Creating, Initializing, Finalizing, Looping, Counting, Move}
-use Rattle.ctl_code.specs.Table.{enter_body, call_operation, operation_of, with_scalar, by_result, by_decision, by_held, by_read, found_by, by_kept, by_write, by_assign, by_scalar, by_value, by_declaration, by_exit, by_test, by_range, by_for, by_next, behind_loop, by_text, by_instr, begin_object, next_layer, left_mode, come_to_life, by_frame, act}
+use Rattle.ctl_code.specs.Table.{enter_body, call_operation, operation_of, with_scalar, by_result, by_decision, by_held, by_read, found_by, by_kept, by_write, by_scalar, by_value, by_exit, by_test, by_range, by_next, behind_loop, by_text, by_instr, begin_object, next_layer, left_mode, come_to_life, by_frame, act}
 
 -- where a result is handed on, nothing is shown
 abbrev pub silent_at : Mode → List Event → Type 0

@@ -1,12 +1,12 @@
 -- A slot of an active master is written.
-use Rattle.std.proofs.Common.{◌≡◌, ℕ, zero, suc, ◌<◌, ◌≢◌, List, [], ◌∷◌, ◌++◌, map, reverse, length, get_or, set, Vec, Global, refl, sym, ap, ◌∙◌, subst, add-one, arith}
-use Rattle.std.specs.Prelude.{All, nat_eq, slice_set, if◌then◌else◌}
+use Rattle.std.proofs.Common.{◌≡◌, ℕ, zero, suc, ◌<◌, ◌≢◌, List, [], ◌∷◌, ◌++◌, map, reverse, length, get_or, set, Vec, Global, refl, sym, ap, ◌∙◌, subst, arith}
+use Rattle.std.specs.Prelude.{All, slice_set}
 use Rattle.std.proofs.lemmas.List.{reverse-append, append_assoc}
 use Rattle.std.proofs.lemmas.List.Elements.{All-head, All-tail}
 use Rattle.std.proofs.lemmas.List.Sorted.{All-permutation, IsPermutation-reverse}
 use Rattle.ctl_meaning.specs.World as W
 use Rattle.ctl_meaning.specs.Lists.{opened_lists}
-use Rattle.ctl_meaning.specs.Activations.{change_slot, with_slot, opened_activations}
+use Rattle.ctl_meaning.specs.Activations.{change_slot, opened_activations}
 use Rattle.ctl_meaning.specs.Changes as C
 use Rattle.ctl_meaning.specs.Changes.{opened_changes}
 use Rattle.ctl_machine.specs.declared.objects.Object.{Object}
@@ -14,7 +14,7 @@ use Rattle.ctl_machine.specs.declared.masters.Slot.{Slot}
 use Rattle.ctl_machine.specs.declared.masters.Master.{Master}
 use Rattle.ctl_machine.specs.Masters.{slot_of}
 use Rattle.ctl_machine.specs.World.{activation_of, master_of, all_but_outermost, numbers_of, world_from, world_of, AreNested, AreLast, AreDeclaredIn, IsSound}
-use Rattle.ctl_machine.proofs.Numbers.{eq_same, eq_differs}
+use Rattle.ctl_machine.proofs.Numbers.{eq_differs}
 use Rattle.ctl_machine.proofs.Soundness.{slots_nested, slots_last}
 use Rattle.ctl_machine.proofs.Worlds.{slot_written}
 

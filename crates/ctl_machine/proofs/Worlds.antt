@@ -17,7 +17,7 @@ use Rattle.ctl_machine.specs.declared.masters.Slot.{Slot}
 use Rattle.ctl_machine.specs.declared.masters.Member.{Member}
 use Rattle.ctl_machine.specs.declared.masters.Master.{Master}
 use Rattle.ctl_tree.specs.declared.checked.Ty.{Ty}
-use Rattle.ctl_machine.specs.Objects.{object_of, objects_of, cells_of, kept_without, IsBehind}
+use Rattle.ctl_machine.specs.Objects.{object_of, objects_of, kept_without, IsBehind}
 use Rattle.ctl_machine.specs.Masters.{slot_of}
 use Rattle.ctl_machine.specs.World.{Level, first_number, levels_of, newest_master, newest_display, newest_layers, display_at, created_in, scalar_in, layers_with, all_but_first, first_with_layer, layer_of, activation_of, master_of, all_but_outermost, world_from, world_of, AreNested, AreLast}
 use Rattle.ctl_machine.proofs.Numbers.{eq_same}

@@ -1,5 +1,5 @@
 -- Scalars that names denote (4.1, 5.2).
-use Rattle.std.specs.Prelude.{ℕ, List, [], ◌∷◌, Option, Some, None, option_map, drop}
+use Rattle.std.specs.Prelude.{ℕ, [], ◌∷◌, Option, Some, option_map, drop}
 use Rattle.ctl_meaning.specs.World.{Copies, World}
 use Rattle.ctl_meaning.specs.Objects.{first_cells, cells_at, overwritten}
 use Rattle.ctl_meaning.specs.Changes.{object_at, write_cells, set_slot}

@@ -1,11 +1,10 @@
 -- What the code of a program does, and what a machine reports of it, make up what its run shows.
-use Rattle.std.proofs.Common.{◌≡◌, ◌≢◌, ℕ, zero, suc, ◌+◌, ◌-◌, ◌*◌, ◌≤◌, List, [], ◌∷◌, ◌++◌, Option, Some, None, Bool, true, false, refl, sym, ap, ◌∙◌, subst, arith}
+use Rattle.std.proofs.Common.{◌≡◌, ℕ, zero, suc, ◌+◌, ◌-◌, ◌≤◌, List, [], ◌∷◌, Option, Some, false, refl, sym, ap, ◌∙◌, subst, arith}
 use Rattle.ctl_tree.specs.declared.checked.Checked.{Checked}
 use Rattle.ctl_tree.specs.declared.ending.End.{End}
 use Rattle.ctl_tree.specs.declared.ending.End.TheVariants.{Done, Raised, Stopped, StepLimit, HostMemory}
-use Rattle.ctl_tree.specs.declared.request.Order.{Order}
-use Rattle.ctl_meaning.specs.World.{Pick, Log, World}
-use Rattle.ctl_meaning.specs.Choice.{Ask, Obeys, answer, picked, replayed}
+use Rattle.ctl_meaning.specs.World.{Log, World}
+use Rattle.ctl_meaning.specs.Choice.{Ask, answer, picked, replayed}
 use Rattle.ctl_meaning.specs.Run as Meaning
 use Rattle.ctl_meaning.specs.Run.{outcome}
 use Rattle.ctl_code.specs.declared.code.Code.{Code}
@@ -13,7 +12,7 @@ use Rattle.ctl_code.specs.States as T
 use Rattle.ctl_code.specs.States.{State}
 use Rattle.ctl_code.specs.Steps.{step, machine, end_at, end_of}
 use Rattle.ctl_code.specs.Laws.{IsPrefix}
-use Rattle.ctl_gen.specs.Correct.{Behaves, RunsAs, HasReached}
+use Rattle.ctl_gen.specs.Correct.{Behaves, HasReached}
 use Rattle.ctl_machine.specs.declared.outcome.Outcome.{Outcome}
 use Rattle.ctl_machine.specs.Machine.{Running, Reports, Ends, after_steps, chosen}
 use Rattle.ctl_run.specs.Headline.{ByItself, Reaches, Headline}

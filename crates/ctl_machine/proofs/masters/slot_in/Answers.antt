@@ -1,4 +1,4 @@
-use Rattle.std.proofs.Common.{◌≡◌, Option, Some, None, map, ap, sym, ◌∙◌, refl, slice_get}
+use Rattle.std.proofs.Common.{◌≡◌, Option, Some, None, ap, ◌∙◌, refl}
 use Rattle.std.specs.Prelude.{option_map, unwrap_or}
 use Rattle.std.proofs.lemmas.Option.{slice_get-map}
 use Rattle.ctl_meaning.specs.World as W

@@ -1,4 +1,4 @@
-use Rattle.std.proofs.Common.{◌≡◌, Some, None, refl, ap, ◌∙◌}
+use Rattle.std.proofs.Common.{Some, None, refl, ap, ◌∙◌}
 use Rattle.ctl_tree.specs.declared.checked.Ty.TheVariants.{Integer}
 use Rattle.ctl_machine.specs.declared.objects.State.TheVariants.{Untouched}
 use Rattle.ctl_machine.proofs.ObjectsByNumber.{none_found, one_found, cell_read}

@@ -1,8 +1,4 @@
-use Rattle.std.proofs.Common.{◌≡◌, ℕ, ◌∷◌, [], Some, None, refl, sym, ap, ◌∙◌}
-use Rattle.std.specs.Prelude.{option_map}
-use Rattle.ctl_meaning.specs.Objects.{cells_at}
-use Rattle.ctl_meaning.specs.Names.{scalar_of}
-use Rattle.ctl_meaning.specs.Changes.{object_at, write_cells}
+use Rattle.std.proofs.Common.{sym, ap, ◌∙◌}
 use Rattle.ctl_machine.specs.declared.masters.Slot.TheVariants.{Unset, Holds, Binds, Copies}
 use Rattle.ctl_machine.specs.Masters.{slot_of}
 use Rattle.ctl_machine.proofs.VariableMoves.{slot_read}

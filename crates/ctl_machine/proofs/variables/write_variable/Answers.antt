@@ -1,8 +1,6 @@
-use Rattle.std.proofs.Common.{◌≡◌, Some, None, sym, ap, ◌∙◌}
+use Rattle.std.proofs.Common.{Some, None, sym, ap, ◌∙◌}
 use Rattle.std.specs.Bool.{OnTrue, OnFalse}
-use Rattle.std.specs.Prelude.{Bool, true, false, option_map}
-use Rattle.ctl_meaning.specs.World.{World}
-use Rattle.ctl_machine.specs.declared.masters.Slot.TheVariants.{Unset, Copies}
+use Rattle.std.specs.Prelude.{Bool, true, false}
 use Rattle.ctl_machine.specs.Masters.{slot_of}
 use Rattle.ctl_machine.proofs.VariableMoves.{unset_written, copy_written, held_written, bound_written}
 use Rattle.ctl_machine.proofs.variables.write_variable.Goals as goal

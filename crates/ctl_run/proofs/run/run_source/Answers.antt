@@ -1,4 +1,4 @@
-use Rattle.std.proofs.Common.{◌≡◌, ◌+◌, ◌-◌, ◌^◌, ◌≤◌, ap, sym, subst, ◌∙◌, arith, false, min}
+use Rattle.std.proofs.Common.{◌≡◌, ◌≤◌, ap, sym, subst, ◌∙◌, arith, false}
 use Rattle.ctl_tree.specs.declared.request.Order.{Order}
 use Rattle.ctl_code.specs.declared.code.Code.{Code}
 use Rattle.ctl_gen.specs.Correct.{Behaves}

@@ -12,7 +12,7 @@ at_the_end t k e b f i (Freezing p) = ap (min t.body) (nothing_there t.frozen.va
 at_the_end t k e b f i (Initializing p) = nothing_there t.initialized.values t.end p i ∙ e
 
 pub returns-clause-times : goal.returns-clause-times
-returns-clause-times c = at_the_end (record { end = c.args.end; body = c.args.end; frozen = c.new.result; initialized = c.new-2.result; places = c.new-3.result }) c.args.end refl refl c.new.ensures c.new-2.ensures
+returns-clause-times c = at_the_end (record { end = c.args.end; body = c.args.end; frozen = c.new.result; initialized = c.new-2.result; places = c.new-3.result }) c.args.end refl refl c.new.ensures.values c.new-2.ensures.values
 
 pub returns-clause-places : goal.returns-clause-places
-returns-clause-places c = λ p. nothing_there c.new-3.result.values c.args.end p c.new-3.ensures
+returns-clause-places c = λ p. nothing_there c.new-3.result.values c.args.end p c.new-3.ensures.values

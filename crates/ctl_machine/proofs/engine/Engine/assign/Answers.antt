@@ -1,4 +1,4 @@
-use Rattle.std.proofs.Common.{◌≡◌, ◌+◌, ◌∷◌, refl, sym, ap, ◌∙◌, drop}
+use Rattle.std.proofs.Common.{◌+◌, refl, ap, ◌∙◌, drop}
 use Rattle.ctl_tree.specs.declared.ending.Stop.TheVariants.{UseAfterFree}
 use Rattle.ctl_code.specs.States as T
 use Rattle.ctl_code.specs.Table as Table

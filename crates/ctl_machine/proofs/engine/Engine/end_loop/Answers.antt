@@ -1,4 +1,4 @@
-use Rattle.std.proofs.Common.{◌≡◌, ◌+◌, refl, sym, ◌∙◌, reverse}
+use Rattle.std.proofs.Common.{refl, sym, ◌∙◌, reverse}
 use Rattle.std.proofs.lemmas.List.{append-nil}
 use Rattle.ctl_machine.specs.World.{levels_of}
 use Rattle.ctl_machine.specs.Control.{may_raise}

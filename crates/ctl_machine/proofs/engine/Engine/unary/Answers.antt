@@ -1,11 +1,8 @@
-use Rattle.std.proofs.Common.{◌≡◌, ◌+◌, ◌∷◌, refl, sym, ap, ◌∙◌, drop}
-use Rattle.std.specs.Prelude.{if◌then◌else◌, not}
-use Rattle.ctl_code.specs.States as T
+use Rattle.std.proofs.Common.{refl}
 use Rattle.ctl_code.specs.Table as Table
-use Rattle.ctl_machine.specs.World.{newest_display, levels_of}
+use Rattle.ctl_machine.specs.World.{newest_display}
 use Rattle.ctl_machine.specs.Engine.{control_of}
-use Rattle.ctl_machine.proofs.Moves.{stuck, stays}
-use Rattle.ctl_machine.proofs.Tops.{makes_by}
+use Rattle.ctl_machine.proofs.Moves.{stuck}
 use Rattle.ctl_machine.proofs.engine.Engine.unary.Goals as goal
 
 -- there is no operand

@@ -1,4 +1,4 @@
-use Rattle.std.proofs.Common.{◌≡◌, ◌-◌, reverse, ap, ◌∙◌, slice_get}
+use Rattle.std.proofs.Common.{◌-◌, reverse, ap, ◌∙◌}
 use Rattle.ctl_meaning.specs.Lists.{item_or}
 use Rattle.ctl_meaning.specs.Activations.{master_of}
 use Rattle.ctl_machine.proofs.Numbers.{copy_is_item, unwrapped}

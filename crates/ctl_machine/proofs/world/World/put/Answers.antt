@@ -1,4 +1,4 @@
-use Rattle.std.proofs.Common.{◌≡◌, sym, ap, ◌∙◌, reverse}
+use Rattle.std.proofs.Common.{sym, ap, ◌∙◌, reverse}
 use Rattle.ctl_machine.specs.declared.masters.Master.{Master}
 use Rattle.ctl_machine.specs.Masters.{slot_of}
 use Rattle.ctl_machine.proofs.MastersByNumber.{older_rise}

@@ -1,10 +1,8 @@
-use Rattle.std.proofs.Common.{◌≡◌, Option, map, sym, ap, ◌∙◌, slice_get}
+use Rattle.std.proofs.Common.{Option, sym, ◌∙◌, slice_get}
 use Rattle.ctl_meaning.specs.World as W
 use Rattle.ctl_meaning.specs.Lists.{item_or}
 use Rattle.ctl_meaning.specs.Activations.{slots_in, slot_in}
 use Rattle.ctl_meaning.specs.Names.{slot_at}
-use Rattle.ctl_machine.specs.declared.masters.Slot.{Slot}
-use Rattle.ctl_machine.specs.Masters.{slot_of}
 use Rattle.ctl_machine.proofs.MastersByNumber.{older_rise, shown, shown_at, shown_nowhere, nothing_named}
 use Rattle.ctl_machine.proofs.world.World.slot.Goals as goal
 
