@@ -41,7 +41,7 @@ fn is_end(fact: Fact) -> bool
 }
 
 /// The number of the item that the next fact belongs to.
-pub fn number_behind(fact: Fact, number: usize) -> usize
+pub(crate) fn number_behind(fact: Fact, number: usize) -> usize
     requires { number < usize.MAX }
     ensures { result ≡ number_behind fact number }
 {
