@@ -495,7 +495,7 @@ module _ (t : Tables) (ask other : Ask) (call spare : Caller) (Rel : (A : Type 0
 
     k_dropped : (n s : ℕ) (b : Bool) (p : MarkPoolRecord) → Same (dropped n s b p) (dropped n s b p)
     unfolding dropped
-    k_dropped n s b p = k_either _ (k_then (closed.looks (λ w. closed.counts _ (closed.changes (stores _)))) (k_done b)) (k_done true)
+    k_dropped n s b p = k_either _ (k_then (closed.looks (λ w. closed.counts _ (closed.changes (stores _)))) (k_done b)) (k_then (closed.changes (stores _)) (k_done true))
 
     k_release : (m : Act Done) → Same m m → (s : ℕ) → Same (release k m s) (release j m s)
     unfolding release release_from

@@ -64,7 +64,7 @@ with_mark n p = record p { marks = n ∷ p.marks }
 unfoldable pub push_subpool : ℕ → ℕ → Pools → Pools
 push_subpool pool start x =
     let y = change_mark_pool pool (with_mark x.next_subpool) x in
-    record y { next_subpool = x.next_subpool + 1; subpools = (record { number = x.next_subpool; pool = pool; start = start; belongs = true }) ∷ x.subpools }
+    record y { next_subpool = x.next_subpool + 1; subpools = (record { number = x.next_subpool; pool = pool; start = start; belongs = true; is_dead = false }) ∷ x.subpools }
 
 -- a new pool is open and has one subpool
 unfoldable pub push_mark_pool : ℕ → ℕ → Pools → Pools
@@ -102,19 +102,35 @@ drop_last n s x =
     let y = change_mark_pool n (without_last (start_of (subpool_at s x))) x in
     record y { subpools = keep (λ z. not (nat_eq z.number s)) x.subpools }
 
-unfoldable pub is_dead : Option Subpool → Bool
-is_dead None = false
-is_dead (Some s) = not s.belongs
+unfoldable pub dead : Subpool → Subpool
+dead s = record s { is_dead = true }
+
+-- the release of a subpool is over while another one stands behind it (profile)
+unfoldable pub keep_dead : ℕ → Pools → Pools
+keep_dead n x = record x { subpools = change_each (λ s. nat_eq s.number n) dead x.subpools }
+
+unfoldable pub is_dead_now : Option Subpool → Bool
+is_dead_now None = false
+is_dead_now (Some s) = s.is_dead
 
 -- the dead ones among these marks are dropped, from the last on; where none stays, the first is there again under a new number
 unfoldable pub drop_dead : ℕ → List ℕ → Pools → Pools
 drop_dead n [] x = push_subpool n 0 x
-drop_dead n (s ∷ ss) x = if is_dead (subpool_at s x) then drop_dead n ss (drop_last n s x) else x
+drop_dead n (s ∷ ss) x = if is_dead_now (subpool_at s x) then drop_dead n ss (drop_last n s x) else x
+
+-- the last of these marks is dropped, whose release is over, and the dead ones before it
+unfoldable pub drop_released : ℕ → List ℕ → Pools → Pools
+drop_released n [] x = x
+drop_released n (s ∷ ss) x = drop_dead n ss (drop_last n s x)
 
 -- how many of these marks are dropped so
-unfoldable pub dead_before : List ℕ → Pools → ℕ
-dead_before [] x = 0
-dead_before (s ∷ ss) x = if is_dead (subpool_at s x) then 1 + dead_before ss x else 0
+unfoldable pub dead_among : List ℕ → Pools → ℕ
+dead_among [] x = 0
+dead_among (s ∷ ss) x = if is_dead_now (subpool_at s x) then 1 + dead_among ss x else 0
+
+unfoldable pub dropped_among : List ℕ → Pools → ℕ
+dropped_among [] x = 0
+dropped_among (s ∷ ss) x = 1 + dead_among ss x
 
 -- Either kind --------------------------------------------------------------
 
@@ -136,5 +152,5 @@ keep_pools stays x = record x { block_pools = keep (λ p. stays p.object) x.bloc
 
 -- everything here, opened at once
 unfoldable pub opened_pools : Unit {0}
-unfolding block_pool_at change_block_pool push_block_pool with_block_out take_block without_block with_block_back give_block with_holder hold_block block_at mark_pool_at change_mark_pool subpool_at last_mark with_mark push_subpool push_mark_pool with_used set_used not_belonging detach belongs_now start_of without_last drop_last is_dead drop_dead dead_before closed_block_pool closed_mark_pool shut keep_pools
+unfolding block_pool_at change_block_pool push_block_pool with_block_out take_block without_block with_block_back give_block with_holder hold_block block_at mark_pool_at change_mark_pool subpool_at last_mark with_mark push_subpool push_mark_pool with_used set_used not_belonging detach belongs_now start_of without_last drop_last dead keep_dead is_dead_now drop_dead drop_released dead_among dropped_among closed_block_pool closed_mark_pool shut keep_pools
 opened_pools = tt

@@ -13,7 +13,7 @@ use Rattle.ctl_meaning.specs.Objects.{opened_objects}
 use Rattle.ctl_meaning.specs.Pools.{opened_pools}
 use Rattle.ctl_meaning.specs.Changes.{opened_changes}
 use Rattle.ctl_meaning.specs.Choice.{Ask, opened_choice}
-use Rattle.ctl_meaning.specs.Outcome.{program_error, Way, ByExit, ByReturn, ByRaise, Result, Goes, Leaves, Out, Gives, Stops, Cut, Act, Done, ◌>>=◌, ◌>>◌, done, leave_by, raise, ticked, spend, on_some, opened_outcome}
+use Rattle.ctl_meaning.specs.Outcome.{program_error, Way, ByExit, ByReturn, ByRaise, Result, Goes, Leaves, Out, Gives, Stops, Cut, Act, Done, ◌>>=◌, ◌>>◌, done, raise, ticked, spend, on_some, opened_outcome}
 use Rattle.ctl_meaning.specs.Numbers.{opened_numbers}
 use Rattle.ctl_meaning.specs.Types.{Tables, tables_of, opened_types}
 use Rattle.ctl_meaning.specs.Names.{Execution, OfSubprogram, OfAllocator, Returned, Call, Tools, gone, opened_names}

@@ -9,7 +9,7 @@ use Rattle.ctl_tree.specs.declared.event.Event.TheVariants.{Allocate, Deallocate
 use Rattle.ctl_meaning.specs.World.{Place, Standard, InBlock, InSubpool, Slot, Unset, Binds, Copies, BlockPool, Pools, World}
 use Rattle.ctl_meaning.specs.World as W
 use Rattle.ctl_meaning.specs.Lists.{item_or}
-use Rattle.ctl_meaning.specs.Pools.{block_pool_at, take_block, give_block, block_at, mark_pool_at, subpool_at, last_mark, set_used, detach, belongs_now, drop_dead, dead_before}
+use Rattle.ctl_meaning.specs.Pools.{block_pool_at, take_block, give_block, block_at, mark_pool_at, subpool_at, last_mark, set_used, detach, belongs_now, keep_dead, drop_released, dropped_among}
 use Rattle.ctl_meaning.specs.Objects.{lies_in_subpool, lies_in_pool}
 use Rattle.ctl_meaning.specs.Changes.{in_pools, is_vacant, is_busy, empty_subpool, close_pool_at, count_of, OfSubpool}
 use Rattle.ctl_meaning.specs.Outcome.{constraint_error, program_error, storage_error, Act, Done, ◌>>=◌, ◌>>◌, done, nothing, raise, stop, counted, look, change, show, either, on_some}
@@ -75,9 +75,9 @@ subpool_storage n s size =
 
 -- Release (13.11.5) -------------------------------------------------------------------
 
--- the last subpool is dropped, with the dead ones before it; another one is dead, which is Program_Error
+-- when its release is over: the last subpool is dropped, with the dead ones before it; another one is dead, which is Program_Error
 unfoldable pub dropped : ℕ → ℕ → Bool → W.MarkPool → Act Bool
-dropped n s failed p = either (nat_eq s (last_mark p)) (look (λ w. counted (dead_before p.marks w.pools) (change (in_pools (drop_dead n p.marks)))) >> done failed) (done true)
+dropped n s failed p = either (nat_eq s (last_mark p)) (look (λ w. counted (dropped_among p.marks w.pools) (change (in_pools (drop_released n p.marks)))) >> done failed) (change (in_pools (keep_dead s)) >> done true)
 
 -- the subpool belongs to no pool; its members are finalized; its objects are gone; the handle is cleared; whether Program_Error is due
 unfoldable pub release_from : Tools → Act Done → ℕ → ℕ → Act Bool

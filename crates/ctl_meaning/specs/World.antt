@@ -104,12 +104,14 @@ pub record MarkPool : Type 0 where
   pub used : ℕ
   pub marks : List ℕ
 
--- a subpool that was not dropped: its pool, where it starts, and whether it still belongs to the pool (13.11.4)
+-- a subpool that was not dropped: its pool, where it starts, whether it still belongs to the pool (13.11.4), and whether it is dead:
+-- its release is over, and another one stood behind it
 pub record Subpool : Type 0 where
   pub number : ℕ
   pub pool : ℕ
   pub start : ℕ
   pub belongs : Bool
+  pub is_dead : Bool
 
 -- the storage pools
 pub record Pools : Type 0 where
