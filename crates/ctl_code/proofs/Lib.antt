@@ -1,2 +1,12 @@
+pub mod Elements
+pub mod Fitting
+pub mod FittingFrames
+pub mod FittingInstructions
+pub mod Links
+pub mod Lists
 pub mod Logs
+pub mod Numbers
+pub mod SingleLayers
 pub mod Small
+pub mod Texts
+pub mod Whole

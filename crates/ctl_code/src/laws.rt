@@ -1,8 +1,10 @@
 //! What holds of every run of every code.
 
 ghost use Rattle.ctl_code.specs.Laws.{IsSmall, IsLogged};
+ghost use Rattle.ctl_code.specs.Fits.{KeepsToItsCode};
 
 use crate::code::Code;
+use crate::valid::ValidCode;
 
 /// A step shows at most two events, opens at most one master and creates at most one object.
 pub fn every_step_is_small(code: &Code)
@@ -17,4 +19,11 @@ pub fn every_run_is_logged(code: &Code)
     ensures { IsLogged code.now }
 {
     let _ = code;
+}
+
+/// Valid code is never stuck: each instruction finds the operands, the place and the frame that it needs.
+pub fn valid_code_keeps_to_its_code(code: &ValidCode)
+    ensures { KeepsToItsCode code.now }
+{
+    let _ = code.code();
 }

@@ -2,5 +2,14 @@
 #![tactic(auto)]
 
 pub mod code;
+mod fine;
+mod images;
+pub mod kinds;
 pub mod laws;
+mod stacks;
 pub mod template;
+#[cfg(test)]
+mod tests;
+mod types;
+pub mod valid;
+mod validate;

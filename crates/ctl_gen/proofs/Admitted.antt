@@ -2,9 +2,10 @@
 use Rattle.std.proofs.Common.{◌≡◌, ℕ, zero, suc, ◌<◌, List, [], ◌∷◌, Some, length, refl, sym, ap, ◌∙◌, subst, arith, slice_get, false}
 use Rattle.ctl_tree.specs.declared.checked.Stmt.{items_shown-the_row-Stmt-0}
 use Rattle.ctl_tree.specs.declared.checked.Master.{Master, Master', Row_of-Handler, end_of-Handler, more_of-Handler, items-the_row-Handler, items_shown-the_row-Handler-2, out-Master}
+use Rattle.ctl_tree.specs.declared.checked.RecordType.{RecordType}
 use Rattle.ctl_tree.specs.declared.checked.Subprogram.{Subprogram}
 use Rattle.ctl_meaning.specs.Types.{Tables}
-use Rattle.ctl_gen.specs.Slice.{BodiesInSlice, ItemsInSlice, MasterInSlice, NoHandlers, RowsInSlice}
+use Rattle.ctl_gen.specs.Slice.{BodiesInSlice, ItemsInSlice, MasterInSlice, NoHandlers, OperationsInSlice, RecordsInSlice, RowsInSlice}
 use Rattle.ctl_gen.proofs.AdmittedParts.{row_in_slice, rows_of_row}
 
 -- what a place in a list has
@@ -26,6 +27,12 @@ pub body_at : (k : Tables) (xs : List Subprogram) → BodiesInSlice k xs → (f 
 body_at k [] h f s e = absurd (cc)
 body_at k (x ∷ xs) h zero s e = let same : x ≡ s = search (e) in subst (λ (y : Subprogram). (y.is_function ≡ false) × MasterInSlice k y.body) same (h.0, h.1)
 body_at k (x ∷ xs) h (suc f) s e = body_at k xs h.2 f s e
+
+-- each type of the table
+pub record_at : (ss : List Subprogram) (rs : List RecordType) → RecordsInSlice ss rs → (t : ℕ) (r : RecordType) → slice_get rs t ≡ Some r → OperationsInSlice ss r
+record_at ss [] h t r e = absurd (cc)
+record_at ss (x ∷ rs) h zero r e = let same : x ≡ r = search (e) in subst (OperationsInSlice ss) same h.0
+record_at ss (x ∷ rs) h (suc t) r e = record_at ss rs h.1 t r e
 
 pub no_items : {A : Type 0} (xs : List A) → length xs ≡ 0 → xs ≡ []
 no_items [] h = refl
@@ -51,6 +58,10 @@ parts_in_slice k (Master' slots items s body t handlers) h =
 pub bodies_of : (k : Tables) (xs : List Subprogram) → ((f : ℕ) (s : Subprogram) → slice_get xs f ≡ Some s → (s.is_function ≡ false) × MasterInSlice k s.body) → BodiesInSlice k xs
 bodies_of k [] h = tt
 bodies_of k (x ∷ xs) h = ((h 0 x refl).0, (h 0 x refl).1, bodies_of k xs (λ f s e. h (suc f) s e))
+
+pub records_listed : (ss : List Subprogram) (rs : List RecordType) → ((t : ℕ) (r : RecordType) → slice_get rs t ≡ Some r → OperationsInSlice ss r) → RecordsInSlice ss rs
+records_listed ss [] h = tt
+records_listed ss (x ∷ rs) h = (h 0 x refl, records_listed ss rs (λ t r e. h (suc t) r e))
 
 -- a list of which one item was looked at last
 pub none_left : {A : Type 0} (xs : List A) → xs ≡ [] → length xs ≡ 0

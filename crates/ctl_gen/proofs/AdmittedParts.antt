@@ -1,53 +1,71 @@
 -- What was looked through as lists is in the slice as rows, and what is in the slice as rows is found in the lists.
-use Rattle.std.proofs.Common.{◌≡◌, sym, subst}
+use Rattle.std.proofs.Common.{◌≡◌, List, sym, subst}
+use Rattle.ctl_tree.specs.declared.checked.Ty.{Ty}
+use Rattle.ctl_tree.specs.declared.checked.Ty.TheVariants.{Boolean, Integer}
+use Rattle.ctl_tree.specs.declared.checked.Operand.{Operand}
 use mathlib.Core.Former.{Count}
 use Rattle.ctl_tree.specs.declared.checked.Expr.{Expr, Row_of-Expr, end_of-Expr, more_of-Expr, items-the_row-Expr, items_hidden-the_row-Expr-2, Row_of-Operand, end_of-Operand, more_of-Operand, items-the_row-Operand, items_hidden-the_row-Operand-1}
 use Rattle.ctl_tree.specs.declared.checked.Expr.TheVariants as e
 use Rattle.ctl_tree.specs.declared.checked.Stmt.{Stmt, Row_of-Stmt, end_of-Stmt, more_of-Stmt, items-the_row-Stmt, items_shown-the_row-Stmt-0, items_hidden-the_row-Stmt-0, Row_of-Arm, end_of-Arm, more_of-Arm, items-the_row-Arm, items_hidden-the_row-Arm-1}
 use Rattle.ctl_tree.specs.declared.checked.Stmt.TheVariants as s
 use Rattle.ctl_meaning.specs.Types.{Tables}
-use Rattle.ctl_gen.specs.Slice.{ExprInSlice, OperandsInSlice, OthersInSlice, OperandListInSlice, OtherListInSlice, StmtInSlice, RowInSlice, RowsInSlice, ArmsInSlice, ArmListInSlice}
+use Rattle.ctl_gen.specs.Typing.{AreConditions, AreListConditions, AreListTyped, AreTyped, first_type, IsTyped}
+use Rattle.ctl_gen.specs.Slice.{StmtInSlice, RowInSlice, RowsInSlice, ArmsInSlice, ArmListInSlice}
 use Rattle.ctl_gen.proofs.Rows.{operand_row, other_row, arm_row, body_row}
 
 -- Expressions ----------------------------------------------------------------------------------
 
-operands_in_slice : (m : Count) (row : Row_of-Operand m) → OperandListInSlice (items-the_row-Operand m row) → OperandsInSlice row
-operands_in_slice m end_of-Operand h = tt
-operands_in_slice m (more_of-Operand op ty right rest) h = (h.0, operands_in_slice _ rest h.1)
+operands_typed : (left ty : Ty) (m : Count) (row : Row_of-Operand m) → AreListTyped left ty (items-the_row-Operand m row) → AreTyped left ty row
+operands_typed left ty m end_of-Operand h = h
+operands_typed left ty m (more_of-Operand op t right rest) h = (h.0.0, h.0.1, operands_typed t ty _ rest h.1)
 
-operands_listed : (m : Count) (row : Row_of-Operand m) → OperandsInSlice row → OperandListInSlice (items-the_row-Operand m row)
-operands_listed m end_of-Operand h = tt
-operands_listed m (more_of-Operand op ty right rest) h = (h.0, operands_listed _ rest h.1)
+operands_listed : (left ty : Ty) (m : Count) (row : Row_of-Operand m) → AreTyped left ty row → AreListTyped left ty (items-the_row-Operand m row)
+operands_listed left ty m end_of-Operand h = h
+operands_listed left ty m (more_of-Operand op t right rest) h = ((h.0, h.1), operands_listed t ty _ rest h.2)
 
-others_in_slice : (m : Count) (row : Row_of-Expr m) → OtherListInSlice (items-the_row-Expr m row) → OthersInSlice row
-others_in_slice m end_of-Expr h = tt
-others_in_slice m (more_of-Expr x rest) h = (h.0, others_in_slice _ rest h.1)
+conditions_typed : (m : Count) (row : Row_of-Expr m) → AreListConditions (items-the_row-Expr m row) → AreConditions row
+conditions_typed m end_of-Expr h = tt
+conditions_typed m (more_of-Expr x rest) h = (h.0, conditions_typed _ rest h.1)
 
-others_listed : (m : Count) (row : Row_of-Expr m) → OthersInSlice row → OtherListInSlice (items-the_row-Expr m row)
-others_listed m end_of-Expr h = tt
-others_listed m (more_of-Expr x rest) h = (h.0, others_listed _ rest h.1)
+conditions_listed : (m : Count) (row : Row_of-Expr m) → AreConditions row → AreListConditions (items-the_row-Expr m row)
+conditions_listed m end_of-Expr h = tt
+conditions_listed m (more_of-Expr x rest) h = (h.0, conditions_listed _ rest h.1)
 
-pub chain_in_slice : (first : _) (operands : _) (x : Expr) → x ≡ e.Chain first operands → ExprInSlice first.value → OperandListInSlice operands.items → ExprInSlice x
-chain_in_slice first operands x is a b =
+-- a first operand and those behind it
+abbrev pub IsChain : Ty → Expr → List Operand → Type 0
+IsChain ty first operands = IsTyped (first_type ty first operands) first × AreListTyped (first_type ty first operands) ty operands
+
+pub chain_in_slice : (ty : Ty) (first : _) (operands : _) (x : Expr) → x ≡ e.Chain first operands → IsChain ty first.value operands.items → IsTyped ty x
+chain_in_slice ty first operands x is h =
     let r = operand_row (e.Chain first operands) in
-    subst ExprInSlice (sym is) (a, operands_in_slice r.0 r.1 (subst OperandListInSlice (sym (items_hidden-the_row-Operand-1 operands)) b))
+    let g : IsChain ty first.value (items-the_row-Operand r.0 r.1) = subst (IsChain ty first.value) (sym (items_hidden-the_row-Operand-1 operands)) h in
+    subst (IsTyped ty) (sym is) (g.0, operands_typed (first_type ty first.value (items-the_row-Operand r.0 r.1)) ty r.0 r.1 g.1)
 
-pub chain_parts : (first : _) (operands : _) (x : Expr) → x ≡ e.Chain first operands → ExprInSlice x → ExprInSlice first.value × OperandListInSlice operands.items
-chain_parts first operands x is known =
+pub chain_parts : (ty : Ty) (first : _) (operands : _) (x : Expr) → x ≡ e.Chain first operands → IsTyped ty x → IsChain ty first.value operands.items
+chain_parts ty first operands x is known =
     let r = operand_row (e.Chain first operands) in
-    let h : ExprInSlice (e.Chain first operands) = subst ExprInSlice is known in
-    (h.0, subst OperandListInSlice (items_hidden-the_row-Operand-1 operands) (operands_listed r.0 r.1 h.1))
+    let h : IsTyped ty (e.Chain first operands) = subst (IsTyped ty) is known in
+    subst (IsChain ty first.value) (items_hidden-the_row-Operand-1 operands) (h.0, operands_listed (first_type ty first.value (items-the_row-Operand r.0 r.1)) ty r.0 r.1 h.1)
 
-pub short_in_slice : (form : _) (first : _) (others : _) (x : Expr) → x ≡ e.Short form first others → ExprInSlice first.value → OtherListInSlice others.items → ExprInSlice x
-short_in_slice form first others x is a b =
-    let r = other_row (e.Short form first others) in
-    subst ExprInSlice (sym is) (a, others_in_slice r.0 r.1 (subst OtherListInSlice (sym (items_hidden-the_row-Expr-2 others)) b))
+-- the same of what was looked at under other names
+pub chain_looked_at : (ty left : Ty) (first x : Expr) (operands xs : List Operand) → left ≡ first_type ty first operands → x ≡ first → xs ≡ operands → IsTyped left x → AreListTyped left ty xs → IsChain ty first operands
+chain_looked_at ty left first x operands xs same same_x same_xs a b = subst (λ u. IsTyped u first × AreListTyped u ty operands) same (subst (IsTyped left) same_x a, subst (AreListTyped left ty) same_xs b)
 
-pub short_parts : (form : _) (first : _) (others : _) (x : Expr) → x ≡ e.Short form first others → ExprInSlice x → ExprInSlice first.value × OtherListInSlice others.items
-short_parts form first others x is known =
+pub chain_to_look_at : (ty left : Ty) (first x : Expr) (operands xs : List Operand) → left ≡ first_type ty first operands → x ≡ first → xs ≡ operands → IsChain ty first operands → IsTyped left x × AreListTyped left ty xs
+chain_to_look_at ty left first x operands xs same same_x same_xs h =
+    let g = subst (λ u. IsTyped u first × AreListTyped u ty operands) (sym same) h in
+    (subst (IsTyped left) (sym same_x) g.0, subst (AreListTyped left ty) (sym same_xs) g.1)
+
+pub short_in_slice : (ty : Ty) (form : _) (first : _) (others : _) (x : Expr) → x ≡ e.Short form first others → Boolean ≡ ty → IsTyped Boolean first.value → AreListConditions others.items → IsTyped ty x
+short_in_slice ty form first others x is same a b =
     let r = other_row (e.Short form first others) in
-    let h : ExprInSlice (e.Short form first others) = subst ExprInSlice is known in
-    (h.0, subst OtherListInSlice (items_hidden-the_row-Expr-2 others) (others_listed r.0 r.1 h.1))
+    subst (IsTyped ty) (sym is) (same, a, conditions_typed r.0 r.1 (subst AreListConditions (sym (items_hidden-the_row-Expr-2 others)) b))
+
+pub short_parts : (ty : Ty) (form : _) (first : _) (others : _) (x : Expr) → x ≡ e.Short form first others → IsTyped ty x → (Boolean ≡ ty) × IsTyped Boolean first.value × AreListConditions others.items
+short_parts ty form first others x is known =
+    let r = other_row (e.Short form first others) in
+    let h : IsTyped ty (e.Short form first others) = subst (IsTyped ty) is known in
+    (h.0, h.1, subst AreListConditions (items_hidden-the_row-Expr-2 others) (conditions_listed r.0 r.1 h.2))
 
 -- Statements -----------------------------------------------------------------------------------
 
@@ -96,23 +114,23 @@ loop_parts k body x is known =
     let q = body_row (s.Loop body) in
     hidden_listed k _ q.0 q.1 (items_hidden-the_row-Stmt-0 body) (subst (StmtInSlice k) is known)
 
-pub while_in_slice : (k : Tables) (test : _) (body : _) (x : Stmt) → x ≡ s.While test body → ExprInSlice test → RowsInSlice k body.items → StmtInSlice k x
+pub while_in_slice : (k : Tables) (test : _) (body : _) (x : Stmt) → x ≡ s.While test body → IsTyped Boolean test → RowsInSlice k body.items → StmtInSlice k x
 while_in_slice k test body x is a b =
     let q = body_row (s.While test body) in
     subst (StmtInSlice k) (sym is) (a, hidden_in_slice k _ q.0 q.1 (items_hidden-the_row-Stmt-0 body) b)
 
-pub while_parts : (k : Tables) (test : _) (body : _) (x : Stmt) → x ≡ s.While test body → StmtInSlice k x → ExprInSlice test × RowsInSlice k body.items
+pub while_parts : (k : Tables) (test : _) (body : _) (x : Stmt) → x ≡ s.While test body → StmtInSlice k x → IsTyped Boolean test × RowsInSlice k body.items
 while_parts k test body x is known =
     let q = body_row (s.While test body) in
     let h : StmtInSlice k (s.While test body) = subst (StmtInSlice k) is known in
     (h.0, hidden_listed k _ q.0 q.1 (items_hidden-the_row-Stmt-0 body) h.1)
 
-pub for_in_slice : (k : Tables) (v : _) (down : _) (low : _) (high : _) (body : _) (x : Stmt) → x ≡ s.For v down low high body → ExprInSlice low → ExprInSlice high → RowsInSlice k body.items → StmtInSlice k x
+pub for_in_slice : (k : Tables) (v : _) (down : _) (low : _) (high : _) (body : _) (x : Stmt) → x ≡ s.For v down low high body → IsTyped Integer low → IsTyped Integer high → RowsInSlice k body.items → StmtInSlice k x
 for_in_slice k v down low high body x is a b d =
     let q = body_row (s.For v down low high body) in
     subst (StmtInSlice k) (sym is) (a, b, hidden_in_slice k _ q.0 q.1 (items_hidden-the_row-Stmt-0 body) d)
 
-pub for_parts : (k : Tables) (v : _) (down : _) (low : _) (high : _) (body : _) (x : Stmt) → x ≡ s.For v down low high body → StmtInSlice k x → ExprInSlice low × ExprInSlice high × RowsInSlice k body.items
+pub for_parts : (k : Tables) (v : _) (down : _) (low : _) (high : _) (body : _) (x : Stmt) → x ≡ s.For v down low high body → StmtInSlice k x → IsTyped Integer low × IsTyped Integer high × RowsInSlice k body.items
 for_parts k v down low high body x is known =
     let q = body_row (s.For v down low high body) in
     let h : StmtInSlice k (s.For v down low high body) = subst (StmtInSlice k) is known in

@@ -19,7 +19,8 @@ use Rattle.ctl_code.specs.States.{Frame, State}
 use Rattle.ctl_code.specs.Table.{by_kept, by_write, found_by}
 use Rattle.ctl_code.specs.Steps.{moved, step}
 use Rattle.ctl_gen.specs.Layout.{expr_code, assign_code}
-use Rattle.ctl_gen.specs.Slice.{IsVariable, ExprInSlice}
+use Rattle.ctl_gen.specs.Typing.{IsVariable}
+use Rattle.ctl_gen.proofs.Simple.{ExprInSlice}
 use Rattle.ctl_gen.proofs.Place.{has_front, has_back}
 use Rattle.ctl_gen.proofs.Worlds.{Fits, fits_write, fits_slot}
 use Rattle.ctl_gen.proofs.Setting.{tools_with, by_code}

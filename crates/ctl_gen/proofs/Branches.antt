@@ -17,7 +17,7 @@ use Rattle.ctl_code.specs.declared.code.Code.{Code}
 use Rattle.ctl_code.specs.States.{Frame}
 use Rattle.ctl_code.specs.Steps.{step, steps}
 use Rattle.ctl_gen.specs.Layout.{expr_code, guarded_turn}
-use Rattle.ctl_gen.specs.Slice.{ExprInSlice}
+use Rattle.ctl_gen.proofs.Simple.{ExprInSlice}
 use Rattle.ctl_gen.proofs.Place.{HasAt, has_front, has_back}
 use Rattle.ctl_gen.proofs.Worlds.{Fits}
 use Rattle.ctl_gen.proofs.Setting.{tools_with, by_code}

@@ -23,7 +23,8 @@ use Rattle.ctl_code.specs.States.{Frame, State}
 use Rattle.ctl_code.specs.Table.{by_result, by_read, by_held, by_decision, found_by}
 use Rattle.ctl_code.specs.Steps.{moved, step}
 use Rattle.ctl_gen.specs.Layout.{read_code, expr_code, operands_code, other_code, others_code}
-use Rattle.ctl_gen.specs.Slice.{IsScalar, IsVariable, ExprInSlice, OperandsInSlice, OthersInSlice}
+use Rattle.ctl_gen.specs.Typing.{IsScalar, IsVariable}
+use Rattle.ctl_gen.proofs.Simple.{ExprInSlice, OperandsInSlice, OthersInSlice}
 use Rattle.ctl_gen.proofs.Place.{HasAt, has_front, has_back}
 use Rattle.ctl_gen.proofs.Worlds.{Fits}
 use Rattle.ctl_gen.proofs.Setting.{tools_with, by_code}

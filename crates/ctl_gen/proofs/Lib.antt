@@ -1,3 +1,12 @@
+pub mod Simple
+pub mod Formed
+pub mod FormedExpressions
+pub mod FormedTexts
+pub mod FormedStatements
+pub mod KindLengths
+pub mod KindRows
+pub mod Notes
+pub mod FormedWhole
 pub mod Rows
 pub mod Follow
 pub mod Place

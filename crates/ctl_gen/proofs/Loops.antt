@@ -19,7 +19,7 @@ use Rattle.ctl_code.specs.States.{Frame, Looping, Counting, State}
 use Rattle.ctl_code.specs.Table.{cut_back, by_exit, by_range, next_value, with_parameter}
 use Rattle.ctl_code.specs.Steps.{moved, step}
 use Rattle.ctl_gen.specs.Layout.{expr_code, loop_code, while_code, turns_code, for_code}
-use Rattle.ctl_gen.specs.Slice.{ExprInSlice}
+use Rattle.ctl_gen.proofs.Simple.{ExprInSlice}
 use Rattle.ctl_gen.proofs.Place.{HasAt, has_front, has_back}
 use Rattle.ctl_gen.proofs.Worlds.{Fits, fits_slot}
 use Rattle.ctl_gen.proofs.Setting.{tools_with, by_code}

@@ -23,7 +23,9 @@ use Rattle.ctl_code.specs.States.{Frame, State}
 use Rattle.ctl_code.specs.Table.{by_scalar, by_value, with_scalar}
 use Rattle.ctl_code.specs.Steps.{moved, step}
 use Rattle.ctl_gen.specs.Layout.{expr_code}
-use Rattle.ctl_gen.specs.Slice.{IsScalar, IsKnownType, ExprInSlice}
+use Rattle.ctl_gen.specs.Typing.{IsScalar}
+use Rattle.ctl_gen.specs.Slice.{IsKnownType}
+use Rattle.ctl_gen.proofs.Simple.{ExprInSlice}
 use Rattle.ctl_gen.proofs.Place.{has_front, has_back}
 use Rattle.ctl_gen.proofs.Worlds.{Fits, fits_create, fits_slot, fits_write, fits_layer}
 use Rattle.ctl_gen.proofs.Setting.{tools_with, by_code}

@@ -27,6 +27,8 @@ use Rattle.ctl_code.specs.Table.{behind}
 use Rattle.ctl_code.specs.Steps.{step}
 use Rattle.ctl_gen.specs.Layout.{expr_code, item_code, items_code, guarded_turn, block_code, slots_of, stmt_texts, row_texts, arms_texts, master_texts, stmt_code, row_code, if_code, arms_code, master_code}
 use Rattle.ctl_gen.specs.Slice.{ItemInSlice, ItemsInSlice, NoHandlers, StmtInSlice, RowInSlice, ArmsInSlice, MasterInSlice}
+use Rattle.ctl_gen.specs.Typing.{value_type}
+use Rattle.ctl_gen.proofs.Simple.{simple}
 use Rattle.ctl_gen.proofs.Place.{HasAt, has_front, has_back}
 use Rattle.ctl_gen.proofs.Worlds.{Fits, fits_open}
 use Rattle.ctl_gen.proofs.Setting.{Setting, tools_with, Calls, by_code}
@@ -64,7 +66,7 @@ module _ (ask : Ask) (k : Tables) (code : Code) (setting : Setting k code) (call
   item_runs (Object slot Address None) known v place ks ops c l w le stands fits has = absurd known
   item_runs (Object slot Handle None) known v place ks ops c l w le stands fits has = absurd known
   item_runs (Object slot (Access a) None) known v place ks ops c l w le stands fits has = absurd known
-  item_runs (Object slot ty (Some e)) known v place ks ops c l w le stands fits has = valued_runs ask k code call bound slot ty e known.0 known.1 v place ks ops c l w le stands fits has
+  item_runs (Object slot ty (Some e)) known v place ks ops c l w le stands fits has = valued_runs ask k code call bound slot ty e known.0 (simple ty e known.1) v place ks ops c l w le stands fits has
   item_runs (Collections accesses) known v place ks ops c l w le stands fits has = absurd known
   item_runs (Pool slot t ds) known v place ks ops c l w le stands fits has = absurd known
   item_runs Silent known v place ks ops c l w le stands fits has = still_there 1 v place ks ops c l w fits
@@ -110,19 +112,19 @@ module _ (ask : Ask) (k : Tables) (code : Code) (setting : Setting k code) (call
 
     pub exec_runs : (s : Stmt) → StmtInSlice k s → (n : ℕ) → HasAt code.texts.items n (stmt_texts s) → (caught : ℕ) → Does ask k code bound (stmt_code n s) (λ v. exec K v caught s)
     exec_runs Null known n texts caught v place ks ops c l w le stands fits has = still_there 1 v place ks ops c l w fits
-    exec_runs (Assign x e) known n texts caught v place ks ops c l w le stands fits has = assign_runs ask k code call bound x.head x.steps.items e known.0 known.1 v place ks ops c l w le stands fits has
+    exec_runs (Assign x e) known n texts caught v place ks ops c l w le stands fits has = assign_runs ask k code call bound x.head x.steps.items e known.0 (simple (value_type e) e known.1) v place ks ops c l w le stands fits has
     exec_runs (Put pieces) known n texts caught v place ks ops c l w le stands fits has = print_runs ask k code call bound false pieces.items known n texts v place ks ops c l w le stands fits has
     exec_runs (PutLine pieces) known n texts caught v place ks ops c l w le stands fits has = print_runs ask k code call bound true pieces.items known n texts v place ks ops c l w le stands fits has
     exec_runs NewLine known n texts caught v place ks ops c l w le stands fits has = last_step ask code (Fits k) 0 0 _ c 1 (arrives v (place + 1) ks ops) (Goes tt) (tell Newline l) w (omega arith) fits (by_code ask code v place ks ops l w InstrOf.NewLine has.0)
     exec_runs (Exit None) known n texts caught v place ks ops c l w le stands fits has = exit_runs ask k code call bound v place ks ops c l w le stands fits has
-    exec_runs (Exit (Some e)) known n texts caught v place ks ops c l w le stands fits has = exit_when_runs ask k code call bound e known v place ks ops c l w le stands fits has
+    exec_runs (Exit (Some e)) known n texts caught v place ks ops c l w le stands fits has = exit_when_runs ask k code call bound e (simple Boolean e known) v place ks ops c l w le stands fits has
     exec_runs (If' s arms t others) known n texts caught v place ks ops c l w le stands fits has =
         added ask code (Fits k) 1 1 1 0 0 _ c _ _ (omega arith) (omega arith)
         (left_behind ask code (Fits k) 0 0 1 1 _ c _ _ (omega arith) (omega arith)
         (if_runs arms known.0 n (has_front code.texts.items n (arms_texts arms) (row_texts others) texts) caught (row_code (n + length (arms_texts arms)) others) (λ v1. exec_all K v1 caught others) (rows_run others known.1 (n + length (arms_texts arms)) (has_back code.texts.items n (arms_texts arms) (row_texts others) texts) caught) v place ks ops c l w le stands fits has))
     exec_runs (Loop' s row) known n texts caught v place ks ops c l w le stands fits has = loop_runs ask k code call bound (row_code n row) (λ v1. exec_all K v1 caught row) (rows_run row known n texts caught) v place ks ops c l w le stands fits has
-    exec_runs (While' e s row) known n texts caught v place ks ops c l w le stands fits has = while_runs ask k code call bound e known.0 (row_code n row) (λ v1. exec_all K v1 caught row) (rows_run row known.1 n texts caught) v place ks ops c l w le stands fits has
-    exec_runs (For' x down low high s row) known n texts caught v place ks ops c l w le stands fits has = for_runs ask k code call bound x down low high known.0 known.1 (row_code n row) (λ v1. exec_all K v1 caught row) (rows_run row known.2 n texts caught) v place ks ops c l w le stands fits has
+    exec_runs (While' e s row) known n texts caught v place ks ops c l w le stands fits has = while_runs ask k code call bound e (simple Boolean e known.0) (row_code n row) (λ v1. exec_all K v1 caught row) (rows_run row known.1 n texts caught) v place ks ops c l w le stands fits has
+    exec_runs (For' x down low high s row) known n texts caught v place ks ops c l w le stands fits has = for_runs ask k code call bound x down low high (simple Integer low known.0) (simple Integer high known.1) (row_code n row) (λ v1. exec_all K v1 caught row) (rows_run row known.2 n texts caught) v place ks ops c l w le stands fits has
     exec_runs (Block' p m) known n texts caught v place ks ops c l w le stands fits has =
         let e : place + 1 + length (master_code n m) ≡ place + length (block_code (slots_of m) (master_code n m)) = omega arith in
         added ask code (Fits k) 1 0 1 0 0 _ c _ _ (omega arith) (omega arith)
@@ -157,7 +159,7 @@ module _ (ask : Ask) (k : Tables) (code : Code) (setting : Setting k code) (call
         let e1 : place + length (gt ++ skip ∷ []) ≡ q + 1 = omega (arith, length-append gt (skip ∷ [])) in
         let tail = subst (λ p. HasAt code.instructions.items p (further ++ others)) e1 (has_back code.instructions.items place (gt ++ skip ∷ []) (further ++ others) has) in
         arriving ask code (Fits k) 0 0 _ c _ _ _ (λ r l1 w1. ap (λ p. arrives v p ks ops r l1 w1) behind)
-        (arm_runs ask k code call bound e known.0 (row_code n body) (λ v1. exec_all K v1 caught body) (rows_run body known.1 n (has_front code.texts.items n (row_texts body) (arms_texts rest) texts) caught) (exec_arms K v caught rest (act v)) v place (q + 1 + length (further ++ others)) ks ops c l w le stands fits (has_front code.instructions.items place gt (skip ∷ []) front)
+        (arm_runs ask k code call bound e (simple Boolean e known.0) (row_code n body) (λ v1. exec_all K v1 caught body) (rows_run body known.1 n (has_front code.texts.items n (row_texts body) (arms_texts rest) texts) caught) (exec_arms K v caught rest (act v)) v place (q + 1 + length (further ++ others)) ks ops c l w le stands fits (has_front code.instructions.items place gt (skip ∷ []) front)
         (λ l1 w1. (1, omega arith, by_code ask code v q ks ops l1 w1 skip here))
         (arms_run rest known.2 n1 (has_back code.texts.items n (row_texts body) (arms_texts rest) texts) caught others act does 1 q (q + 1 + length (further ++ others)) (length (further ++ others)) v ks ops c l w le stands fits here refl tail (omega (arith, length-append further others))))
 
@@ -184,7 +186,7 @@ module _ (ask : Ask) (k : Tables) (code : Code) (setting : Setting k code) (call
         let e3 : end + more ≡ q + 1 = omega (arith, e0) in
         let tail = subst (λ p. HasAt code.instructions.items p (further ++ others)) e2 (has_back code.instructions.items (end + back) (gt ++ again ∷ []) (further ++ others) has1) in
         let last1 : end + more + length further + length others ≡ behind = omega (arith, last, e2, length-append (gt ++ again ∷ []) further) in
-        arm_runs ask k code call bound e known.0 (row_code n body) (λ v1. exec_all K v1 caught body) (rows_run body known.1 n (has_front code.texts.items n (row_texts body) (arms_texts rest) texts) caught) (exec_arms K v caught rest (act v)) v (end + back) behind ks ops c l w le stands fits (has_front code.instructions.items (end + back) gt (again ∷ []) front)
+        arm_runs ask k code call bound e (simple Boolean e known.0) (row_code n body) (λ v1. exec_all K v1 caught body) (rows_run body known.1 n (has_front code.texts.items n (row_texts body) (arms_texts rest) texts) caught) (exec_arms K v caught rest (act v)) v (end + back) behind ks ops c l w le stands fits (has_front code.instructions.items (end + back) gt (again ∷ []) front)
         (λ l1 w1. (2, omega arith, ap (step ask code) (by_code ask code v q ks ops l1 w1 again there ∙ ap (λ p. at v p ks ops l1 w1) e1) ∙ by_code ask code v end ks ops l1 w1 (InstrOf.Skip size) here ∙ ap (λ p. at v p ks ops l1 w1) far))
         (subst (λ p. Runs ask code (Fits k) 0 0 (at v p ks ops l w) c (arrives v behind ks ops) (exec_arms K v caught rest (act v) c l w)) e3
         (arms_run rest known.2 n1 (has_back code.texts.items n (row_texts body) (arms_texts rest) texts) caught others act does more end behind size v ks ops c l w le stands fits here far tail last1))

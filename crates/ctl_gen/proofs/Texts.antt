@@ -25,6 +25,8 @@ use Rattle.ctl_code.specs.Table.{images_in, text_of, showing, by_text}
 use Rattle.ctl_code.specs.Steps.{moved}
 use Rattle.ctl_gen.specs.Layout.{part_of, parts_of, piece_code, pieces_code, print_of, print_code, expr_code}
 use Rattle.ctl_gen.specs.Slice.{PieceInSlice, PiecesInSlice}
+use Rattle.ctl_tree.specs.declared.checked.Ty.TheVariants.{Integer, Boolean}
+use Rattle.ctl_gen.proofs.Simple.{simple}
 use Rattle.ctl_gen.proofs.Place.{HasAt, has_front, has_back}
 use Rattle.ctl_gen.proofs.Worlds.{Fits}
 use Rattle.ctl_gen.proofs.Setting.{tools_with, by_code}
@@ -107,8 +109,8 @@ module _ (ask : Ask) (k : Tables) (code : Code) (call : Call) (bound : ℕ) wher
   piece_runs (PieceOf.IntegerImage e) known qs rs u holds f v place behind ks ops c l w stands fits has fails more =
       subst (λ o. Runs ask code (Fits k) 1 1 (at v place ks (rs ++ ops) l w) c (arrives v behind ks ops) o) (sym (bind_add 1 (bind (eval K v e c l w) (on_goes (λ x. done (integer_image (scalar_of x))))) f ∙ ap (add 1) (bind_bind (eval K v e c l w) (on_goes (λ x. done (integer_image (scalar_of x)))) f)))
       (added ask code (Fits k) 1 1 1 1 1 _ c (arrives v behind ks ops) _ (omega arith) (omega arith)
-      (both_plain ask code (Fits k) 0 0 1 1 1 1 _ c l w (values v (place + length (expr_code e)) ks ops (rs ++ ops)) (arrives v behind ks ops) (eval K v e c l w) _ (omega arith) (omega arith) (omega arith) (eval_plain ask k call e known v c l w)
-      (eval_runs ask k code call e known v place ks ops rs c l w stands fits has)
+      (both_plain ask code (Fits k) 0 0 1 1 1 1 _ c l w (values v (place + length (expr_code e)) ks ops (rs ++ ops)) (arrives v behind ks ops) (eval K v e c l w) _ (omega arith) (omega arith) (omega arith) (eval_plain ask k call e (simple Integer e known) v c l w)
+      (eval_runs ask k code call e (simple Integer e known) v place ks ops rs c l w stands fits has)
       (λ n fits1. added ask code (Fits k) 0 1 1 1 1 _ c (arrives v behind ks ops) _ (omega arith) (omega arith) (more (n ∷ rs) (integer_image n) (hold_integer qs rs u n holds) fits1))
       (λ fits1. failing fits1)))
     where
@@ -117,8 +119,8 @@ module _ (ask : Ask) (k : Tables) (code : Code) (call : Call) (bound : ℕ) wher
   piece_runs (PieceOf.BooleanImage e) known qs rs u holds f v place behind ks ops c l w stands fits has fails more =
       subst (λ o. Runs ask code (Fits k) 1 1 (at v place ks (rs ++ ops) l w) c (arrives v behind ks ops) o) (sym (bind_add 1 (bind (eval K v e c l w) (on_goes (λ x. done (boolean_image (scalar_of x))))) f ∙ ap (add 1) (bind_bind (eval K v e c l w) (on_goes (λ x. done (boolean_image (scalar_of x)))) f)))
       (added ask code (Fits k) 1 1 1 1 1 _ c (arrives v behind ks ops) _ (omega arith) (omega arith)
-      (both_plain ask code (Fits k) 0 0 1 1 1 1 _ c l w (values v (place + length (expr_code e)) ks ops (rs ++ ops)) (arrives v behind ks ops) (eval K v e c l w) _ (omega arith) (omega arith) (omega arith) (eval_plain ask k call e known v c l w)
-      (eval_runs ask k code call e known v place ks ops rs c l w stands fits has)
+      (both_plain ask code (Fits k) 0 0 1 1 1 1 _ c l w (values v (place + length (expr_code e)) ks ops (rs ++ ops)) (arrives v behind ks ops) (eval K v e c l w) _ (omega arith) (omega arith) (omega arith) (eval_plain ask k call e (simple Boolean e known) v c l w)
+      (eval_runs ask k code call e (simple Boolean e known) v place ks ops rs c l w stands fits has)
       (λ n fits1. added ask code (Fits k) 0 1 1 1 1 _ c (arrives v behind ks ops) _ (omega arith) (omega arith) (more (n ∷ rs) (boolean_image n) (hold_boolean qs rs u n holds) fits1))
       (λ fits1. failing fits1)))
     where

@@ -19,7 +19,8 @@ use Rattle.ctl_meaning.specs.Types.{Tables, cells_of, opened_types}
 use Rattle.ctl_meaning.specs.Names.{Call, Tools, Found, InObject, InCopy, Alone, gone, copy_in, slot_at, scalar_of, read_found, walk, or_constraint_error, opened_names}
 use Rattle.ctl_meaning.specs.Expressions.{decides, var_part, eval, eval_head, eval_operands, eval_others}
 use Rattle.ctl_code.specs.Table.{found_by}
-use Rattle.ctl_gen.specs.Slice.{IsScalar, IsVariable, ExprInSlice, OperandsInSlice, OthersInSlice}
+use Rattle.ctl_gen.specs.Typing.{IsScalar, IsVariable}
+use Rattle.ctl_gen.proofs.Simple.{ExprInSlice, OperandsInSlice, OthersInSlice}
 use Rattle.ctl_gen.proofs.Setting.{tools_with}
 use Rattle.ctl_gen.proofs.Worth.{Is, Fails, Lost, IsPlain}
 

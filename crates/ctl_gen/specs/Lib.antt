@@ -1,3 +1,5 @@
+pub mod Typing
 pub mod Layout
+pub mod KindLayout
 pub mod Slice
 pub mod Correct

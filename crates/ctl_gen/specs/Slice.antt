@@ -1,13 +1,10 @@
 -- The programs that this version runs: types that extend Controlled without components, their Initialize and Finalize, objects of
--- such types, of Integer and of Boolean, expressions over these, assignments, texts with images, control, and blocks.
+-- such types, of Integer and of Boolean, typed expressions over these, assignments, texts with images, control, and blocks.
 use Rattle.std.specs.Prelude.{◌≡◌, ℕ, List, [], ◌∷◌, Option, Some, None, false, slice_get}
 use Rattle.ctl_tree.specs.declared.checked.Ty.{Ty}
 use Rattle.ctl_tree.specs.declared.checked.Ty.TheVariants.{Integer, Boolean, Record}
-use Rattle.ctl_tree.specs.declared.checked.Step.{Step}
-use Rattle.ctl_tree.specs.declared.checked.Operand.{Operand}
 use Rattle.ctl_tree.specs.declared.checked.Arm.{Arm}
-use Rattle.ctl_tree.specs.declared.checked.Expr.{Expr, Constant, Read', Unary', Chain', Short', Row_of-Expr, end_of-Expr, more_of-Expr, Row_of-Operand, end_of-Operand, more_of-Operand}
-use Rattle.ctl_tree.specs.declared.checked.Head.{Head, Variable}
+use Rattle.ctl_tree.specs.declared.checked.Expr.{Expr}
 use Rattle.ctl_tree.specs.declared.checked.Root.TheVariants.{Controlled}
 use Rattle.ctl_tree.specs.declared.checked.Piece.{Piece}
 use Rattle.ctl_tree.specs.declared.checked.Piece.TheVariants.{Text, IntegerImage, BooleanImage}
@@ -19,50 +16,13 @@ use Rattle.ctl_tree.specs.declared.checked.RecordType.{RecordType}
 use Rattle.ctl_tree.specs.declared.checked.Subprogram.{Subprogram}
 use Rattle.ctl_tree.specs.declared.checked.Checked.{Checked}
 use Rattle.ctl_meaning.specs.Types.{Tables, tables_of}
+use Rattle.ctl_gen.specs.Typing.{IsScalar, IsTyped, IsVariable, value_type}
 
--- a scalar type of this version
-abbrev pub IsScalar : Ty → Type 0
-IsScalar Integer = Unit {0}
-IsScalar Boolean = Unit {0}
-IsScalar _ = ⊥
-
--- a name that is a variable alone
-abbrev pub IsVariable : Head → List Step → Type 0
-IsVariable (Variable v) [] = Unit {0}
-IsVariable _ _ = ⊥
-
--- constants, variables and operators
-abbrev mutual
-  pub ExprInSlice : Expr → Type 0
-  ExprInSlice (Constant n) = Unit {0}
-  ExprInSlice (Read' head steps ty) = IsVariable head steps.items × IsScalar ty
-  ExprInSlice (Unary' op ty p e) = ExprInSlice e
-  ExprInSlice (Chain' p e s row) = ExprInSlice e × OperandsInSlice row
-  ExprInSlice (Short' form p e s row) = ExprInSlice e × OthersInSlice row
-  ExprInSlice _ = ⊥
-
-  pub OperandsInSlice : {m : _} → Row_of-Operand m → Type 0
-  OperandsInSlice end_of-Operand = Unit {0}
-  OperandsInSlice (more_of-Operand op ty right rest) = ExprInSlice right × OperandsInSlice rest
-
-  pub OthersInSlice : {m : _} → Row_of-Expr m → Type 0
-  OthersInSlice end_of-Expr = Unit {0}
-  OthersInSlice (more_of-Expr e rest) = ExprInSlice e × OthersInSlice rest
-
--- the same of operands in a list
-abbrev pub OperandListInSlice : List Operand → Type 0
-OperandListInSlice [] = Unit {0}
-OperandListInSlice (x ∷ xs) = ExprInSlice x.right × OperandListInSlice xs
-
-abbrev pub OtherListInSlice : List Expr → Type 0
-OtherListInSlice [] = Unit {0}
-OtherListInSlice (e ∷ es) = ExprInSlice e × OtherListInSlice es
-
--- a literal, or an image of such an expression
+-- a literal, or the image of a value
 abbrev pub PieceInSlice : Piece → Type 0
 PieceInSlice (Text v) = Unit {0}
-PieceInSlice (IntegerImage e) = ExprInSlice e
-PieceInSlice (BooleanImage e) = ExprInSlice e
+PieceInSlice (IntegerImage e) = IsTyped Integer e
+PieceInSlice (BooleanImage e) = IsTyped Boolean e
 
 abbrev pub PiecesInSlice : List Piece → Type 0
 PiecesInSlice [] = Unit {0}
@@ -71,7 +31,7 @@ PiecesInSlice (p ∷ ps) = PieceInSlice p × PiecesInSlice ps
 -- a condition that may be absent
 abbrev pub TestInSlice : Option Expr → Type 0
 TestInSlice None = Unit {0}
-TestInSlice (Some e) = ExprInSlice e
+TestInSlice (Some e) = IsTyped Boolean e
 
 -- a subprogram of the table
 abbrev pub IsBody : List Subprogram → ℕ → Type 0
@@ -81,6 +41,10 @@ IsBody subprograms f = (s : Subprogram) × (slice_get subprograms f ≡ Some s)
 abbrev pub IsWritten : List Subprogram → Option ℕ → Type 0
 IsWritten subprograms None = Unit {0}
 IsWritten subprograms (Some f) = IsBody subprograms f
+
+-- the operations of a record type
+abbrev pub OperationsInSlice : List Subprogram → RecordType → Type 0
+OperationsInSlice subprograms r = IsWritten subprograms r.operations.initialize × IsWritten subprograms r.operations.finalize
 
 -- a type that extends Controlled, or Limited_Controlled, without components (7.6)
 pub record IsPlain (subprograms : List Subprogram) (r : RecordType) : Type 0 where
@@ -103,7 +67,7 @@ IsKnownType k ty = IsScalar ty
 -- an object of such a type, a scalar one with its value, or a declaration that does nothing
 abbrev pub ItemInSlice : Tables → Item → Type 0
 ItemInSlice k (Object slot ty None) = IsKnownType k ty
-ItemInSlice k (Object slot ty (Some e)) = IsScalar ty × ExprInSlice e
+ItemInSlice k (Object slot ty (Some e)) = IsScalar ty × IsTyped ty e
 ItemInSlice k Silent = Unit {0}
 ItemInSlice k _ = ⊥
 
@@ -118,15 +82,15 @@ NoHandlers (more_of-Handler choices s body rest) = ⊥
 abbrev mutual
   pub StmtInSlice : Tables → Stmt → Type 0
   StmtInSlice k Null = Unit {0}
-  StmtInSlice k (Assign name e) = IsVariable name.head name.steps.items × ExprInSlice e
+  StmtInSlice k (Assign name e) = IsVariable name.head name.steps.items × IsTyped (value_type e) e
   StmtInSlice k (Put pieces) = PiecesInSlice pieces.items
   StmtInSlice k (PutLine pieces) = PiecesInSlice pieces.items
   StmtInSlice k NewLine = Unit {0}
   StmtInSlice k (Exit condition) = TestInSlice condition
   StmtInSlice k (If' s arms t others) = ArmsInSlice k arms × RowInSlice k others
   StmtInSlice k (Loop' s row) = RowInSlice k row
-  StmtInSlice k (While' e s row) = ExprInSlice e × RowInSlice k row
-  StmtInSlice k (For' v down low high s row) = ExprInSlice low × ExprInSlice high × RowInSlice k row
+  StmtInSlice k (While' e s row) = IsTyped Boolean e × RowInSlice k row
+  StmtInSlice k (For' v down low high s row) = IsTyped Integer low × IsTyped Integer high × RowInSlice k row
   StmtInSlice k (Block' p m) = MasterInSlice k m
   StmtInSlice k _ = ⊥
 
@@ -136,7 +100,7 @@ abbrev mutual
 
   pub ArmsInSlice : {m : _} → Tables → Row_of-Arm m → Type 0
   ArmsInSlice k end_of-Arm = Unit {0}
-  ArmsInSlice k (more_of-Arm test s body rest) = ExprInSlice test × RowInSlice k body × ArmsInSlice k rest
+  ArmsInSlice k (more_of-Arm test s body rest) = IsTyped Boolean test × RowInSlice k body × ArmsInSlice k rest
 
   -- a part, statements, and no handler
   pub MasterInSlice : Tables → Master → Type 0
@@ -147,6 +111,12 @@ pub record InSlice (program : Checked) : Type 0 where
   pub main : IsBody program.subprograms.items program.main
   pub procedures : (f : ℕ) (s : Subprogram) → slice_get program.subprograms.items f ≡ Some s → s.is_function ≡ false
   pub bodies : (f : ℕ) (s : Subprogram) → slice_get program.subprograms.items f ≡ Some s → MasterInSlice (tables_of program) s.body
+  pub records : (t : ℕ) (r : RecordType) → slice_get program.records.items t ≡ Some r → OperationsInSlice program.subprograms.items r
+
+-- the operations of each of these types
+abbrev pub RecordsInSlice : List Subprogram → List RecordType → Type 0
+RecordsInSlice subprograms [] = Unit {0}
+RecordsInSlice subprograms (r ∷ rs) = OperationsInSlice subprograms r × RecordsInSlice subprograms rs
 
 -- the same of statements in a list
 abbrev pub RowsInSlice : Tables → List Stmt → Type 0
@@ -154,7 +124,7 @@ RowsInSlice k [] = Unit {0}
 RowsInSlice k (s ∷ ss) = StmtInSlice k s × RowsInSlice k ss
 
 abbrev pub ArmInSlice : Tables → Arm → Type 0
-ArmInSlice k a = ExprInSlice a.test × RowsInSlice k a.body.items
+ArmInSlice k a = IsTyped Boolean a.test × RowsInSlice k a.body.items
 
 abbrev pub ArmListInSlice : Tables → List Arm → Type 0
 ArmListInSlice k [] = Unit {0}

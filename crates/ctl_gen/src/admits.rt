@@ -3,11 +3,12 @@
 ghost use Rattle.std.specs.Prelude.{◌≡◌, IsTrue, false};
 ghost use Rattle.ctl_tree.specs.declared.checked.Root.TheVariants.{Controlled};
 ghost use Rattle.ctl_meaning.specs.Types.{tables_of};
-ghost use Rattle.ctl_gen.specs.Slice.{InSlice, ArmInSlice, ArmListInSlice, BodiesInSlice, IsBody, IsKnownType, IsPlain, IsPlainType, IsWritten, ItemInSlice, ItemsInSlice, MasterInSlice, RowsInSlice, StmtInSlice};
+ghost use Rattle.ctl_gen.specs.Slice.{InSlice, ArmInSlice, ArmListInSlice, BodiesInSlice, IsBody, IsKnownType, IsPlain, IsPlainType, IsWritten, ItemInSlice, ItemsInSlice, MasterInSlice, OperationsInSlice, RecordsInSlice, RowsInSlice, StmtInSlice};
 
 use crate::admits_expressions::{
     bounds_fit, condition_fits, expression_fits, is_scalar, is_variable, pieces_fit,
 };
+use crate::typing::value_type;
 use ctl_tree::checked::{Arm, Checked, Item, Master, RecordType, Root, Stmt, Subprogram, Ty};
 
 /// Whether this version runs the program.
@@ -15,7 +16,37 @@ pub fn admits(program: &Checked) -> bool
     ensures sound { IsTrue result → InSlice program.now }
     ensures whole { InSlice program.now → IsTrue result }
 {
-    has_body(&program.subprograms, program.main) && bodies_fit(program)
+    has_body(&program.subprograms, program.main) && tables_fit(program)
+}
+
+/// The subprograms, and the operations of the record types.
+fn tables_fit(program: &Checked) -> bool
+    ensures bodies { IsTrue result → BodiesInSlice (tables_of program.now) program.now.subprograms.items }
+    ensures records { IsTrue result → RecordsInSlice program.now.subprograms.items program.now.records.items }
+    ensures whole { BodiesInSlice (tables_of program.now) program.now.subprograms.items → RecordsInSlice program.now.subprograms.items program.now.records.items → IsTrue result }
+{
+    bodies_fit(program) && records_fit(&program.subprograms, &program.records)
+}
+
+fn records_fit(subprograms: &[Subprogram], records: &[RecordType]) -> bool
+    ensures sound { IsTrue result → RecordsInSlice subprograms.now records.now }
+    ensures whole { RecordsInSlice subprograms.now records.now → IsTrue result }
+{
+    for record_type in records {
+        if !operations_fit(subprograms, record_type) {
+            return false;
+        }
+    }
+    true
+}
+
+/// The operations that the user wrote for a type are subprograms of the table.
+fn operations_fit(subprograms: &[Subprogram], record_type: &RecordType) -> bool
+    ensures sound { IsTrue result → OperationsInSlice subprograms.now record_type.now }
+    ensures whole { OperationsInSlice subprograms.now record_type.now → IsTrue result }
+{
+    is_written(subprograms, record_type.operations.initialize)
+        && is_written(subprograms, record_type.operations.finalize)
 }
 
 fn bodies_fit(program: &Checked) -> bool
@@ -131,7 +162,7 @@ fn item_fits(program: &Checked, item: &Item) -> bool
 {
     match item {
         Item::Object(_, ty, None) => is_known_type(program, *ty),
-        Item::Object(_, ty, Some(value)) => is_scalar(*ty) && expression_fits(value),
+        Item::Object(_, ty, Some(value)) => is_scalar(*ty) && expression_fits(*ty, value),
         Item::Silent => true,
         _ => false,
     }
@@ -157,12 +188,13 @@ fn statement_fits(program: &Checked, statement: &Stmt) -> bool
 {
     match statement {
         Stmt::Null | Stmt::NewLine => true,
-        Stmt::Assign(name, value) => is_variable(name) && expression_fits(value),
+        Stmt::Assign(name, value) => is_variable(name) && expression_fits(value_type(value), value),
         Stmt::Put(pieces) | Stmt::PutLine(pieces) => pieces_fit(pieces),
         Stmt::Exit(condition) => condition_fits(condition),
         Stmt::If(arms, others) => arms_fit(program, arms) && statements_fit(program, others),
         Stmt::Loop(body) => statements_fit(program, body),
-        Stmt::While(test, body) => expression_fits(test) && statements_fit(program, body),
+        Stmt::While(test, body) => expression_fits(Ty::Boolean, test)
+            && statements_fit(program, body),
         Stmt::For(_, _, low, high, body) => bounds_fit(low, high) && statements_fit(program, body),
         Stmt::Block(master) => master_fits(program, master),
         Stmt::AssignRecord(..)
@@ -196,5 +228,5 @@ fn arm_fits(program: &Checked, arm: &Arm) -> bool
     ensures sound { IsTrue result → ArmInSlice (tables_of program.now) arm.now }
     ensures whole { ArmInSlice (tables_of program.now) arm.now → IsTrue result }
 {
-    expression_fits(&arm.test) && statements_fit(program, &arm.body)
+    expression_fits(Ty::Boolean, &arm.test) && statements_fit(program, &arm.body)
 }

@@ -1,46 +1,67 @@
 //! Which expressions and texts this version runs.
 
 ghost use Rattle.std.specs.Prelude.{IsTrue};
-ghost use Rattle.ctl_gen.specs.Slice.{ExprInSlice, IsScalar, IsVariable, OperandListInSlice, OtherListInSlice, PieceInSlice, PiecesInSlice, TestInSlice};
+ghost use Rattle.ctl_tree.specs.declared.checked.Ty.TheVariants.{Boolean, Integer};
+ghost use Rattle.ctl_gen.specs.Typing.{AreListConditions, AreListTyped, IsOperandTyped, IsScalar, IsTyped, IsVariable};
+ghost use Rattle.ctl_gen.specs.Slice.{PieceInSlice, PiecesInSlice, TestInSlice};
 
+use crate::typing::{binary_fits, first_type, is_cell_of, is_same, unary_fits};
 use ctl_tree::checked::{Expr, Head, Name, Operand, Piece, Ty};
 
-/// Constants, variables and operators alone.
+/// A constant, a variable, or operators on such expressions, whose value has this type.
 #[cycle(expressions_fit)]
-pub fn expression_fits(expression: &Expr) -> bool
-    ensures sound { IsTrue result → ExprInSlice expression.now }
-    ensures whole { ExprInSlice expression.now → IsTrue result }
+pub fn expression_fits(ty: Ty, expression: &Expr) -> bool
+    ensures sound { IsTrue result → IsTyped ty expression.now }
+    ensures whole { IsTyped ty expression.now → IsTrue result }
 {
     match expression {
-        Expr::Constant(_) => true,
-        Expr::Read(name, ty) => is_variable(name) && is_scalar(*ty),
-        Expr::Unary(_, _, operand) => expression_fits(operand),
-        Expr::Chain(first, operands) => expression_fits(first) && operands_fit(operands),
-        Expr::Short(_, first, others) => expression_fits(first) && others_fit(others),
+        Expr::Constant(cell) => is_cell_of(ty, *cell),
+        Expr::Read(name, own) => is_variable(name) && is_scalar(*own) && is_same(*own, ty),
+        Expr::Unary(op, own, operand) => {
+            unary_fits(*op, *own) && is_same(*own, ty) && expression_fits(*own, operand)
+        }
+        Expr::Chain(first, operands) => {
+            let left = first_type(ty, first, operands);
+            expression_fits(left, first) && operands_fit(left, ty, operands)
+        }
+        Expr::Short(_, first, others) => {
+            is_same(Ty::Boolean, ty) && expression_fits(Ty::Boolean, first) && others_fit(others)
+        }
         _ => false,
     }
 }
 
+/// Operators of one precedence over an operand of the first type, the last of which gives the other.
 #[cycle(expressions_fit)]
-fn operands_fit(operands: &[Operand]) -> bool
-    ensures sound { IsTrue result → OperandListInSlice operands.now }
-    ensures whole { OperandListInSlice operands.now → IsTrue result }
+fn operands_fit(left: Ty, ty: Ty, operands: &[Operand]) -> bool
+    ensures sound { IsTrue result → AreListTyped left ty operands.now }
+    ensures whole { AreListTyped left ty operands.now → IsTrue result }
 {
+    let mut left = left;
     for operand in operands {
-        if !expression_fits(&operand.right) {
+        if !operand_fits(left, operand) {
             return false;
         }
+        left = operand.ty;
     }
-    true
+    is_same(left, ty)
+}
+
+#[cycle(expressions_fit)]
+fn operand_fits(left: Ty, operand: &Operand) -> bool
+    ensures sound { IsTrue result → IsOperandTyped left operand.now }
+    ensures whole { IsOperandTyped left operand.now → IsTrue result }
+{
+    binary_fits(operand.op, left, operand.ty) && expression_fits(left, &operand.right)
 }
 
 #[cycle(expressions_fit)]
 fn others_fit(others: &[Expr]) -> bool
-    ensures sound { IsTrue result → OtherListInSlice others.now }
-    ensures whole { OtherListInSlice others.now → IsTrue result }
+    ensures sound { IsTrue result → AreListConditions others.now }
+    ensures whole { AreListConditions others.now → IsTrue result }
 {
     for other in others {
-        if !expression_fits(other) {
+        if !expression_fits(Ty::Boolean, other) {
             return false;
         }
     }
@@ -76,20 +97,20 @@ pub fn condition_fits(condition: &Option<Expr>) -> bool
 {
     match condition {
         None => true,
-        Some(test) => expression_fits(test),
+        Some(test) => expression_fits(Ty::Boolean, test),
     }
 }
 
 /// The bounds of a loop.
 pub fn bounds_fit(low: &Expr, high: &Expr) -> bool
-    ensures low { IsTrue result → ExprInSlice low.now }
-    ensures high { IsTrue result → ExprInSlice high.now }
-    ensures whole { ExprInSlice low.now → ExprInSlice high.now → IsTrue result }
+    ensures low { IsTrue result → IsTyped Integer low.now }
+    ensures high { IsTrue result → IsTyped Integer high.now }
+    ensures whole { IsTyped Integer low.now → IsTyped Integer high.now → IsTrue result }
 {
-    expression_fits(low) && expression_fits(high)
+    expression_fits(Ty::Integer, low) && expression_fits(Ty::Integer, high)
 }
 
-/// Literals, and images of such expressions.
+/// Literals, and images of typed expressions.
 pub fn pieces_fit(pieces: &[Piece]) -> bool
     ensures sound { IsTrue result → PiecesInSlice pieces.now }
     ensures whole { PiecesInSlice pieces.now → IsTrue result }
@@ -108,6 +129,7 @@ fn piece_fits(piece: &Piece) -> bool
 {
     match piece {
         Piece::Text(_) => true,
-        Piece::IntegerImage(value) | Piece::BooleanImage(value) => expression_fits(value),
+        Piece::IntegerImage(value) => expression_fits(Ty::Integer, value),
+        Piece::BooleanImage(value) => expression_fits(Ty::Boolean, value),
     }
 }

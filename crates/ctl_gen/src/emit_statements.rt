@@ -2,11 +2,19 @@
 
 ghost use Rattle.std.specs.Prelude.{◌≡◌, ◌<◌, ◌≤◌, ◌∷◌, [], ◌++◌, OnOk, IfOk, length, unwrap_or};
 ghost use Rattle.std.specs.Option.{ForSome};
+ghost use Rattle.ctl_code.specs.Kinds.{below_newest};
+ghost use Rattle.ctl_code.specs.declared.kinds.Kind.TheVariants.{Block, Operand};
+ghost use Rattle.ctl_code.specs.declared.kinds.Kind.TheVariants as KindOf;
+ghost use Rattle.ctl_tree.specs.declared.checked.Ty.TheVariants.{Boolean, Integer};
+ghost use Rattle.ctl_gen.specs.KindLayout.{arm_list_kinds, assign_kinds, exit_kinds, expr_kinds, item_kinds, items_kinds, loop_kinds, master_kinds, noted, print_kinds, rows_kinds, stmt_kinds, tested_kinds, turns_kinds, with_pieces, without_images};
+ghost use Rattle.ctl_gen.specs.Typing.{value_type};
 ghost use Rattle.ctl_gen.specs.Layout as Layout;
 ghost use Rattle.ctl_gen.specs.Layout.{arm_list_texts, assign_code, block_code, exit_code, expr_code, first_end, guarded_turn, item_code, items_code, loop_code, master_code, master_texts, open_arms_code, parts_of, print_code, repeated_from, rows_code, rows_texts, skipping_from, slots_of, stmt_code, stmt_texts, turns_code, while_code};
 
 use crate::emit::{Emitter, template_of};
+use crate::typing;
 use ctl_code::code::Instr;
+use ctl_code::kinds::Kind;
 use ctl_tree::checked::{Arm, Expr, Head, Item, Master, Name, Piece, Stmt, Ty, Var};
 use std::alloc::AllocError;
 
@@ -16,6 +24,7 @@ impl Emitter {
     pub fn master(&mut self, master: &Master) -> Result<(), AllocError>
         ensures instructions { OnOk result (self.new.instructions.items ≡ self.old.instructions.items ++ master_code (length self.old.texts.items) master.now) }
         ensures texts { OnOk result (self.new.texts.items ≡ self.old.texts.items ++ master_texts master.now) }
+        ensures kinds { OnOk result (self.new.notes ≡ noted self.old.notes (master_kinds self.old.notes.standing master.now) (self.old.notes.standing)) }
     {
         self.items(&master.items)?;
         self.statements(&master.body)?;
@@ -25,6 +34,7 @@ impl Emitter {
     fn items(&mut self, items: &[Item]) -> Result<(), AllocError>
         ensures instructions { OnOk result (self.new.instructions.items ≡ self.old.instructions.items ++ items_code items.now) }
         ensures texts { OnOk result (self.new.texts.items ≡ self.old.texts.items) }
+        ensures kinds { OnOk result (self.new.notes ≡ noted self.old.notes (items_kinds self.old.notes.standing items.now) (self.old.notes.standing)) }
     {
         for item in items {
             self.item(item)?;
@@ -35,6 +45,7 @@ impl Emitter {
     fn item(&mut self, item: &Item) -> Result<(), AllocError>
         ensures instructions { OnOk result (self.new.instructions.items ≡ self.old.instructions.items ++ item_code item.now) }
         ensures texts { OnOk result (self.new.texts.items ≡ self.old.texts.items) }
+        ensures kinds { OnOk result (self.new.notes ≡ noted self.old.notes (item_kinds self.old.notes.standing item.now) (self.old.notes.standing)) }
     {
         match item {
             Item::Object(slot, Ty::Record(record), None) => {
@@ -42,8 +53,8 @@ impl Emitter {
             }
             Item::Object(slot, ty, None) => self.put(Instr::DeclareScalar(*slot, *ty)),
             Item::Object(slot, ty, Some(value)) => {
-                self.expression(value)?;
-                self.put(Instr::DeclareValue(*slot, *ty))
+                self.expression(*ty, value)?;
+                self.take(Instr::DeclareValue(*slot, *ty))
             }
             Item::Silent => Ok(()),
             _ => self.put(Instr::Missing),
@@ -54,6 +65,7 @@ impl Emitter {
     fn statements(&mut self, statements: &[Stmt]) -> Result<(), AllocError>
         ensures instructions { OnOk result (self.new.instructions.items ≡ self.old.instructions.items ++ rows_code (length self.old.texts.items) statements.now) }
         ensures texts { OnOk result (self.new.texts.items ≡ self.old.texts.items ++ rows_texts statements.now) }
+        ensures kinds { OnOk result (self.new.notes ≡ noted self.old.notes (rows_kinds self.old.notes.standing statements.now) (self.old.notes.standing)) }
     {
         for statement in statements {
             self.statement(statement)?;
@@ -65,6 +77,7 @@ impl Emitter {
     fn statement(&mut self, statement: &Stmt) -> Result<(), AllocError>
         ensures instructions { OnOk result (self.new.instructions.items ≡ self.old.instructions.items ++ stmt_code (length self.old.texts.items) statement.now) }
         ensures texts { OnOk result (self.new.texts.items ≡ self.old.texts.items ++ stmt_texts statement.now) }
+        ensures kinds { OnOk result (self.new.notes ≡ noted self.old.notes (stmt_kinds self.old.notes.standing statement.now) (self.old.notes.standing)) }
     {
         match statement {
             Stmt::Null => Ok(()),
@@ -82,8 +95,8 @@ impl Emitter {
             Stmt::Loop(body) => self.endless(body),
             Stmt::While(test, body) => self.while_loop(body, test),
             Stmt::For(parameter, is_reverse, low, high, body) => {
-                self.expression(low)?;
-                self.expression(high)?;
+                self.expression(Ty::Integer, low)?;
+                self.expression(Ty::Integer, high)?;
                 self.for_loop(*parameter, *is_reverse, body)
             }
             Stmt::Block(master) => self.block(master),
@@ -104,11 +117,12 @@ impl Emitter {
     fn assign(&mut self, name: &Name, value: &Expr) -> Result<(), AllocError>
         ensures instructions { OnOk result (self.new.instructions.items ≡ self.old.instructions.items ++ assign_code name.now.head name.now.steps.items (expr_code value.now)) }
         ensures texts { OnOk result (self.new.texts.items ≡ self.old.texts.items) }
+        ensures kinds { OnOk result (self.new.notes ≡ noted self.old.notes (assign_kinds self.old.notes.standing (value_type value.now) name.now.head name.now.steps.items (expr_kinds (value_type value.now) self.old.notes.standing value.now)) (self.old.notes.standing)) }
     {
         match &name.head {
             Head::Variable(variable) if name.steps.is_empty() => {
-                self.expression(value)?;
-                self.put(Instr::Assign(*variable))
+                self.expression(typing::value_type(value), value)?;
+                self.take(Instr::Assign(*variable))
             }
             _ => self.put(Instr::Missing),
         }
@@ -117,12 +131,13 @@ impl Emitter {
     fn exit(&mut self, condition: &Option<Expr>) -> Result<(), AllocError>
         ensures instructions { OnOk result (self.new.instructions.items ≡ self.old.instructions.items ++ exit_code condition.now) }
         ensures texts { OnOk result (self.new.texts.items ≡ self.old.texts.items) }
+        ensures kinds { OnOk result (self.new.notes ≡ noted self.old.notes (exit_kinds self.old.notes.standing condition.now) (self.old.notes.standing)) }
     {
         match condition {
             None => self.put(Instr::Exit),
             Some(test) => {
-                self.expression(test)?;
-                self.put(Instr::ExitWhen)
+                self.expression(Ty::Boolean, test)?;
+                self.take(Instr::ExitWhen)
             }
         }
     }
@@ -132,6 +147,7 @@ impl Emitter {
     fn arms(&mut self, arms: &[Arm]) -> Result<Option<usize>, AllocError>
         ensures instructions { OnOk result (self.new.instructions.items ≡ self.old.instructions.items ++ open_arms_code (length self.old.texts.items) arms.now) }
         ensures texts { OnOk result (self.new.texts.items ≡ self.old.texts.items ++ arm_list_texts arms.now) }
+        ensures kinds { OnOk result (self.new.notes ≡ noted self.old.notes (arm_list_kinds self.old.notes.standing arms.now) (self.old.notes.standing)) }
         ensures end { IfOk result (λ end. end ≡ first_end (length self.old.instructions.items) (length self.old.texts.items) arms.now) }
     {
         let mut end = None;
@@ -147,6 +163,7 @@ impl Emitter {
         requires { ForSome first (λ place. place ≤ length self.old.instructions.items) }
         ensures instructions { OnOk result (self.new.instructions.items ≡ self.old.instructions.items ++ Layout.arm_end first (length self.old.instructions.items) ∷ []) }
         ensures texts { OnOk result (self.new.texts.items ≡ self.old.texts.items) }
+        ensures kinds { OnOk result (self.new.notes ≡ noted self.old.notes (self.old.notes.standing ∷ []) (self.old.notes.standing)) }
         ensures first { IfOk result (λ place. place ≡ unwrap_or first (length self.old.instructions.items)) }
     {
         let place = self.place();
@@ -167,6 +184,7 @@ impl Emitter {
         requires { ForSome end (λ place. place < length self.old.instructions.items) }
         ensures instructions { self.new.instructions.items ≡ skipping_from end self.old.instructions.items }
         ensures texts { self.new.texts.items ≡ self.old.texts.items }
+        ensures kinds { self.new.notes ≡ self.old.notes }
     {
         if let Some(end) = end {
             let length = self.place() - end - 1;
@@ -179,10 +197,11 @@ impl Emitter {
     fn guarded(&mut self, arm: &Arm) -> Result<(), AllocError>
         ensures instructions { OnOk result (self.new.instructions.items ≡ self.old.instructions.items ++ guarded_turn (expr_code arm.now.test) (rows_code (length self.old.texts.items) arm.now.body.items)) }
         ensures texts { OnOk result (self.new.texts.items ≡ self.old.texts.items ++ rows_texts arm.now.body.items) }
+        ensures kinds { OnOk result (self.new.notes ≡ noted self.old.notes (tested_kinds self.old.notes.standing (expr_kinds Boolean self.old.notes.standing arm.now.test) (rows_kinds self.old.notes.standing arm.now.body.items)) (self.old.notes.standing)) }
     {
-        self.expression(&arm.test)?;
+        self.expression(Ty::Boolean, &arm.test)?;
         let head = self.place();
-        self.put(Instr::Unless(0))?;
+        self.take(Instr::Unless(0))?;
         self.statements(&arm.body)?;
         let length = self.place() - head;
         self.instructions[head] = Instr::Unless(length);
@@ -193,9 +212,11 @@ impl Emitter {
     fn endless(&mut self, body: &[Stmt]) -> Result<(), AllocError>
         ensures instructions { OnOk result (self.new.instructions.items ≡ self.old.instructions.items ++ loop_code (rows_code (length self.old.texts.items) body.now)) }
         ensures texts { OnOk result (self.new.texts.items ≡ self.old.texts.items ++ rows_texts body.now) }
+        ensures kinds { OnOk result (self.new.notes ≡ noted self.old.notes (loop_kinds self.old.notes.standing (rows_kinds (KindOf.Loop ∷ self.old.notes.standing) body.now)) (self.old.notes.standing)) }
     {
         let head = self.place();
         self.put(Instr::Loop(0))?;
+        self.enter(Kind::Loop)?;
         self.statements(body)?;
         self.repeat(head)
     }
@@ -205,11 +226,13 @@ impl Emitter {
     fn while_loop(&mut self, body: &[Stmt], test: &Expr) -> Result<(), AllocError>
         ensures instructions { OnOk result (self.new.instructions.items ≡ self.old.instructions.items ++ while_code (expr_code test.now) (rows_code (length self.old.texts.items) body.now)) }
         ensures texts { OnOk result (self.new.texts.items ≡ self.old.texts.items ++ rows_texts body.now) }
+        ensures kinds { OnOk result (self.new.notes ≡ noted self.old.notes (loop_kinds self.old.notes.standing (tested_kinds (KindOf.Loop ∷ self.old.notes.standing) (expr_kinds Boolean (KindOf.Loop ∷ self.old.notes.standing) test.now) (rows_kinds (KindOf.Loop ∷ self.old.notes.standing) body.now))) (self.old.notes.standing)) }
     {
         let head = self.place();
         self.put(Instr::Loop(0))?;
-        self.expression(test)?;
-        self.put(Instr::ExitUnless)?;
+        self.enter(Kind::Loop)?;
+        self.expression(Ty::Boolean, test)?;
+        self.take(Instr::ExitUnless)?;
         self.statements(body)?;
         self.repeat(head)
     }
@@ -219,10 +242,11 @@ impl Emitter {
         requires { head < length self.old.instructions.items }
         ensures instructions { OnOk result (self.new.instructions.items ≡ repeated_from head self.old.instructions.items) }
         ensures texts { OnOk result (self.new.texts.items ≡ self.old.texts.items) }
+        ensures kinds { OnOk result (self.new.notes ≡ noted self.old.notes (self.old.notes.standing ∷ []) (below_newest self.old.notes.standing)) }
     {
         let length = self.place() - head;
         self.instructions[head] = Instr::Loop(length);
-        self.put(Instr::Repeat(length - 1))
+        self.take(Instr::Repeat(length - 1))
     }
 
     /// The turns of a loop whose bounds are operands.
@@ -233,15 +257,19 @@ impl Emitter {
         is_reverse: bool,
         body: &[Stmt],
     ) -> Result<(), AllocError>
+        requires { self.old.notes.standing ≡ Operand Integer ∷ Operand Integer ∷ below_newest (below_newest self.old.notes.standing) }
         ensures instructions { OnOk result (self.new.instructions.items ≡ self.old.instructions.items ++ turns_code parameter is_reverse (rows_code (length self.old.texts.items) body.now)) }
         ensures texts { OnOk result (self.new.texts.items ≡ self.old.texts.items ++ rows_texts body.now) }
+        ensures kinds { OnOk result (self.new.notes ≡ noted self.old.notes (turns_kinds (below_newest (below_newest self.old.notes.standing)) (rows_kinds (KindOf.Counting ∷ below_newest (below_newest self.old.notes.standing)) body.now)) (below_newest (below_newest self.old.notes.standing))) }
     {
         let head = self.place();
-        self.put(Instr::For(parameter, is_reverse, 0))?;
+        self.take(Instr::For(parameter, is_reverse, 0))?;
+        self.leave();
+        self.enter(Kind::Counting)?;
         self.statements(body)?;
         let length = self.place() - head;
         self.instructions[head] = Instr::For(parameter, is_reverse, length);
-        self.put(Instr::Next(length - 1))
+        self.take(Instr::Next(length - 1))
     }
 
     /// A block: its entry says how long it is, which is known at its end.
@@ -249,10 +277,13 @@ impl Emitter {
     fn block(&mut self, master: &Master) -> Result<(), AllocError>
         ensures instructions { OnOk result (self.new.instructions.items ≡ self.old.instructions.items ++ block_code (slots_of master.now) (master_code (length self.old.texts.items) master.now)) }
         ensures texts { OnOk result (self.new.texts.items ≡ self.old.texts.items ++ master_texts master.now) }
+        ensures kinds { OnOk result (self.new.notes ≡ noted self.old.notes (self.old.notes.standing ∷ master_kinds (Block ∷ self.old.notes.standing) master.now) (self.old.notes.standing)) }
     {
         let head = self.place();
         self.put(Instr::Enter(master.slots, 0))?;
+        self.enter(Kind::Block)?;
         self.master(master)?;
+        self.leave();
         let length = self.place() - head - 1;
         self.instructions[head] = Instr::Enter(master.slots, length);
         Ok(())
@@ -262,6 +293,7 @@ impl Emitter {
     fn print(&mut self, ends_line: bool, pieces: &[Piece]) -> Result<(), AllocError>
         ensures instructions { OnOk result (self.new.instructions.items ≡ self.old.instructions.items ++ print_code ends_line (length self.old.texts.items) pieces.now) }
         ensures texts { OnOk result (self.new.texts.items ≡ self.old.texts.items ++ parts_of pieces.now ∷ []) }
+        ensures kinds { OnOk result (self.new.notes ≡ noted self.old.notes (print_kinds self.old.notes.standing pieces.now) (self.old.notes.standing)) }
     {
         self.pieces(pieces)?;
         let number = self.texts.len();
@@ -270,6 +302,22 @@ impl Emitter {
             Instr::PutLine(number)
         } else {
             Instr::Put(number)
-        })
+        })?;
+        self.leave_images(pieces);
+        Ok(())
+    }
+
+    /// The values of images stand there no more.
+    fn leave_images(&mut self, pieces: &[Piece])
+        ensures instructions { self.new.instructions.items ≡ self.old.instructions.items }
+        ensures texts { self.new.texts.items ≡ self.old.texts.items }
+        ensures kinds { self.new.notes ≡ noted self.old.notes [] (without_images pieces.now self.old.notes.standing) }
+    {
+        for piece in pieces {
+            match piece {
+                Piece::Text(_) => {}
+                Piece::IntegerImage(_) | Piece::BooleanImage(_) => self.leave(),
+            }
+        }
     }
 }

@@ -1,34 +1,54 @@
 //! The code of a whole program.
 
-ghost use Rattle.std.specs.Prelude.{◌≡◌, IfErr, IfOk, length};
-ghost use Rattle.ctl_tree.specs.declared.fault.FaultCode.TheVariants.{Memory};
+ghost use Rattle.std.specs.Prelude.{◌≡◌, ◌⊎◌, IfErr, IfOk, length};
+ghost use Rattle.ctl_tree.specs.declared.fault.FaultCode.TheVariants.{LeftOut, Memory};
 ghost use Rattle.ctl_gen.specs.Correct.{Behaves};
 ghost use Rattle.ctl_gen.specs.Slice.{InSlice};
+ghost use Rattle.ctl_gen.specs.KindLayout.{HasKinds};
 ghost use Rattle.ctl_gen.specs.Layout.{IsLaidOut, entry_at, operations_of};
 
 use crate::emit::Emitter;
 use ctl_code::code::{Code, Entry, Instr, Operations};
+use ctl_code::valid::ValidCode;
 use ctl_tree::checked::{Checked, RecordType, Subprogram};
-use ctl_tree::fault::Fault;
+use ctl_tree::fault::{Fault, FaultCode};
 use ctl_tree::text::Text;
 use std::alloc::{AllocError, Global};
 
-/// The code of a checked program. The only fault is MEMORY.
+/// The code of a checked program, validated. The fault is MEMORY, or LEFT_OUT at the beginning of the text where this version has no
+/// well-formed code for the program.
 ///
 /// The contract says how the instructions stand, and that they do what a program of this version means: after every number of steps
 /// and under every order the machine has shown a beginning of what the program's meaning shows for the picks that were taken, it
-/// has shown all of it where it has ended, it is never stuck, and each outcome is reached in 64 steps a tick.
-pub fn generate(alloc: Global, program: &Checked) -> Result<Code, Fault>
+/// has shown all of it where it has ended, it is never stuck, and each outcome is reached in 64 steps a tick. The code of a program
+/// of this version is well formed.
+pub fn generate(alloc: Global, program: &Checked) -> Result<ValidCode, Fault>
     ensures layout { IfOk result (λ code. IsLaidOut program.now code) }
     ensures behaves { IfOk result (λ code. InSlice program.now → Behaves program.now code) }
-    ensures memory { IfErr result (λ fault. fault ≡ record { code = Memory; line = 1; column = 1 }) }
+    ensures memory { InSlice program.now → IfErr result (λ fault. fault ≡ record { code = Memory; line = 1; column = 1 }) }
+    ensures refused { IfErr result (λ fault. (fault ≡ record { code = Memory; line = 1; column = 1 }) ⊎ (fault ≡ record { code = LeftOut; line = 1; column = 1 })) }
 {
-    assemble(alloc, program)
+    match assemble(alloc, program)?.validate() {
+        Some(code) => Ok(code),
+        None => Err(left_out()),
+    }
+}
+
+/// No part of the text is to blame more than another.
+fn left_out() -> Fault
+    ensures { result ≡ record { code = LeftOut; line = 1; column = 1 } }
+{
+    Fault {
+        code: FaultCode::LeftOut,
+        line: 1,
+        column: 1,
+    }
 }
 
 /// The instructions, and the tables that they name.
 fn assemble(alloc: Global, program: &Checked) -> Result<Code, Fault>
     ensures laid_out { IfOk result (λ code. IsLaidOut program.now code) }
+    ensures kinds { IfOk result (λ code. HasKinds program.now code) }
     ensures memory { IfErr result (λ fault. fault ≡ record { code = Memory; line = 1; column = 1 }) }
 {
     let mut emitter = Emitter::new(alloc);
@@ -40,9 +60,10 @@ fn assemble(alloc: Global, program: &Checked) -> Result<Code, Fault>
     }
     let records = records_of(alloc, &program.records)?;
     let exceptions = names_of(alloc, &program.exceptions)?;
-    let (instructions, texts) = emitter.finish();
+    let (instructions, texts, kinds) = emitter.finish();
     Ok(Code {
         instructions,
+        kinds,
         entries,
         records,
         texts,

@@ -7,3 +7,4 @@ mod emit;
 mod emit_expressions;
 mod emit_statements;
 pub mod generate;
+mod typing;

@@ -1,5 +1,5 @@
 -- The layers that are still to be finalized.
-use Rattle.std.proofs.Common.{◌≡◌, ℕ, zero, suc, ◌+◌, ◌≤◌, List, [], ◌∷◌, ◌++◌, Some, None, Bool, true, false, refl, ap, ◌∙◌, length, reverse, take, slice_get, arith}
+use Rattle.std.proofs.Common.{◌≡◌, ℕ, zero, suc, ◌≤◌, List, [], ◌∷◌, ◌++◌, Some, None, Bool, true, false, refl, ap, ◌∙◌, length, reverse, take, slice_get, arith}
 use Rattle.std.proofs.lemmas.List.{reverse-append, length-reverse}
 use Rattle.ctl_meaning.specs.World.{Layer}
 use Rattle.ctl_machine.specs.declared.frame.Frame.{Frame}
@@ -43,15 +43,15 @@ frames_stay b (Leaving d ∷ k) (l ∷ ls) y h = ap (λ x. Table.Leaving l.numbe
 frames_stay b (Creating o t next ∷ k) (l ∷ ls) y h = ap (λ r. Table.Creating o t l.display next ∷ r) (frames_stay true k (l ∷ ls) y h.1)
 frames_stay b (Initializing o t next ∷ k) (l ∷ ls) y h = ap (λ r. Table.Initializing o t l.display next ∷ r) (frames_stay true k (l ∷ ls) y h)
 frames_stay b (Finalizing o ∷ k) (l ∷ ls) y h = ap (λ r. Table.Finalizing o ∷ r) (frames_stay false k (l ∷ ls) y h)
-frames_stay b (Looping height entry count ∷ k) (l ∷ ls) y h = ap (λ r. Table.Looping height l.display (entry + count) ∷ r) (frames_stay true k (l ∷ ls) y h)
-frames_stay b (Counting height entry count x turns ∷ k) (l ∷ ls) y h = ap (λ r. Table.Counting height l.display (entry + count) x turns.in_reverse (left_of turns) turns.value ∷ r) (frames_stay true k (l ∷ ls) y h)
+frames_stay b (Looping height behind ∷ k) (l ∷ ls) y h = ap (λ r. Table.Looping height l.display behind ∷ r) (frames_stay true k (l ∷ ls) y h)
+frames_stay b (Counting height behind x turns ∷ k) (l ∷ ls) y h = ap (λ r. Table.Counting height l.display behind x turns.in_reverse (left_of turns) turns.value ∷ r) (frames_stay true k (l ∷ ls) y h)
 
 pub fits_stay : (b : Bool) (k : List Frame) (ls : List Level) (y : Layer) → Fits b k ls → Fits b k (first_with_layer y ls)
 fits_stay b k [] y h = h
 fits_stay b [] (l ∷ ls) y h = tt
 fits_stay b (Statements height after ∷ k) (l ∷ ls) y h = h
-fits_stay b (Looping height entry count ∷ k) (l ∷ ls) y h = fits_stay true k (l ∷ ls) y h
-fits_stay b (Counting height entry count x turns ∷ k) (l ∷ ls) y h = fits_stay true k (l ∷ ls) y h
+fits_stay b (Looping height behind ∷ k) (l ∷ ls) y h = fits_stay true k (l ∷ ls) y h
+fits_stay b (Counting height behind x turns ∷ k) (l ∷ ls) y h = fits_stay true k (l ∷ ls) y h
 fits_stay b (Leaving d ∷ k) (l ∷ ls) y h = (h.0, omega (arith, h.1), h.2)
 fits_stay b (Creating o t next ∷ k) (l ∷ ls) y h = (h.0, fits_stay true k (l ∷ ls) y h.1)
 fits_stay b (Initializing o t next ∷ k) (l ∷ ls) y h = fits_stay true k (l ∷ ls) y h

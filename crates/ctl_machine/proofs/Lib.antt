@@ -10,6 +10,7 @@ pub mod Images
 pub mod Levels
 pub mod Called
 pub mod Tops
+pub mod Needed
 pub mod Begun
 pub mod Layers
 pub mod Leaving

@@ -1,5 +1,5 @@
 -- What a call comes to, as a move of the instruction table.
-use Rattle.std.specs.Prelude.{ℕ, List, [], ◌∷◌, length, Option, Some, None, Bool, true, false}
+use Rattle.std.specs.Prelude.{ℕ, List, [], ◌∷◌, length, Bool, true, false}
 use Rattle.ctl_tree.specs.declared.event.Event.{Event}
 use Rattle.ctl_tree.specs.declared.ending.Stop.TheVariants.{UseAfterFree}
 use Rattle.ctl_meaning.specs.World.{World}
@@ -16,10 +16,9 @@ use Rattle.ctl_machine.specs.declared.frame.Mode as M
 use Rattle.ctl_machine.specs.declared.frame.Mode.TheVariants as ModeOf
 use Rattle.ctl_machine.specs.World.{Level, newest_master, newest_display, all_but_first}
 
--- a body was entered at this place, or there is none
-abbrev pub move_into : Option ℕ → List Event → List Frame → List ℕ → World → Move
-move_into None es k ops w = showing es (Stopped UseAfterFree) k ops w
-move_into (Some place) es k ops w = showing es (At (newest_display w) place) (InMaster (newest_master w) (length ops) AfterBody ∷ k) ops w
+-- a body was entered at this place
+abbrev pub move_into : ℕ → List Event → List Frame → List ℕ → World → Move
+move_into place es k ops w = showing es (At (newest_display w) place) (InMaster (newest_master w) (length ops) AfterBody ∷ k) ops w
 
 abbrev pub move_by : Called → Event → List Frame → List ℕ → World → Move
 move_by Gone e k ops w = quiet (Stopped UseAfterFree) k ops w
@@ -27,33 +26,21 @@ move_by Nothing e k ops w = quiet (Giving (Goes false)) k ops w
 move_by (Entered place) e k ops w = move_into place (e ∷ []) k ops w
 
 -- the masters around
-abbrev pub levels_in : Option ℕ → List Level → List Level
-levels_in None ls = ls
-levels_in (Some place) ls = all_but_first ls
-
 abbrev pub levels_by : Called → List Level → List Level
 levels_by Gone ls = ls
 levels_by Nothing ls = ls
-levels_by (Entered place) ls = levels_in place ls
+levels_by (Entered place) ls = all_but_first ls
 
 -- the machine's part of it: where it goes on, the frame of the body, entered over so many operands, and what is shown
-abbrev pub place_by : Option ℕ → M.Mode
-place_by None = ModeOf.Stopped UseAfterFree
-place_by (Some place) = ModeOf.At place
-
 abbrev pub mode_by : Called → M.Mode
 mode_by Gone = ModeOf.Stopped UseAfterFree
 mode_by Nothing = ModeOf.Giving HandedOf.Normal
-mode_by (Entered place) = place_by place
-
-abbrev pub frames_at : ℕ → Option ℕ → List F.Frame
-frames_at height None = []
-frames_at height (Some place) = Statements height Body ∷ []
+mode_by (Entered place) = ModeOf.At place
 
 abbrev pub frames_by : ℕ → Called → List F.Frame
 frames_by height Gone = []
 frames_by height Nothing = []
-frames_by height (Entered place) = frames_at height place
+frames_by height (Entered place) = Statements height Body ∷ []
 
 abbrev pub shown_by : Called → Event → List Event
 shown_by Gone e = []

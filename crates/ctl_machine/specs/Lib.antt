@@ -10,3 +10,4 @@ pub mod Control
 pub mod Calls
 pub mod Engine
 pub mod Machine
+pub mod Needs

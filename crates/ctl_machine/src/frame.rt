@@ -29,9 +29,8 @@ pub enum Handed {
 /// Where the execution goes on when a master has been left.
 #[derive(Clone, Copy, Debug, PartialEq, Eq)]
 pub enum Afterwards {
-    /// behind a block, which has `count` instructions from the place `entry` on, where it was completed normally; else its
-    /// completion is handed on
-    Block { entry: usize, count: usize },
+    /// at the place `behind` the block where it was completed normally; else its completion is handed on
+    Block { behind: usize },
     /// behind a body: its completion is handed on
     Body,
 }
@@ -71,18 +70,15 @@ pub enum Frame {
     },
     /// the Finalize of the object of this number (RM 7.6.1)
     Finalizing(u64),
-    /// the turns of a loop that was entered over `height` operands, and has `count` instructions from the place `entry` on
-    /// (RM 5.5)
+    /// the turns of a loop that was entered over `height` operands; `behind` it the execution goes on (RM 5.5)
     Looping {
         height: usize,
-        entry: usize,
-        count: usize,
+        behind: usize,
     },
     /// the same of a loop with a parameter
     Counting {
         height: usize,
-        entry: usize,
-        count: usize,
+        behind: usize,
         parameter: Var,
         turns: Turns,
     },
@@ -93,12 +89,8 @@ pub enum Frame {
 pub enum Mode {
     /// the instruction at this place
     At(usize),
-    /// nothing: `count` instructions behind the place `entry` no code has an instruction
-    Beyond { entry: usize, count: usize },
     /// hand this to the topmost frame
     Giving(Handed),
     /// nothing: the program is erroneous at this point (RM 13.11.2)
     Stopped(Stop),
-    /// nothing: the code has no instruction for it
-    Stuck,
 }

@@ -1,12 +1,13 @@
 //! Instructions that choose what comes next (RM 5.3, 5.5, 5.7).
 
-ghost use Rattle.std.specs.Prelude.{◌≡◌, ◌+◌, ◌^◌, ◌<◌, Some, OnOk, OnErr, not, true};
+ghost use Rattle.std.specs.Prelude.{◌≡◌, ◌+◌, ◌^◌, ◌<◌, ◌≤◌, Some, OnOk, OnErr, length, not, reverse, true};
 ghost use Rattle.ctl_code.specs.Table as Table;
 ghost use Rattle.ctl_code.specs.declared.code.Code.{Code};
 ghost use Rattle.ctl_code.specs.declared.code.Instr.TheVariants as InstrOf;
 ghost use Rattle.ctl_machine.specs.Engine.{Rests, Makes, Stays, made_by};
+ghost use Rattle.ctl_machine.specs.Needs.{IsLoopOnTop};
 
-use crate::engine::{Engine, place_behind};
+use crate::engine::Engine;
 use crate::frame::{Frame, Handed, Mode};
 use crate::operators::is_true;
 use crate::resume::replace_top;
@@ -18,33 +19,30 @@ use std::alloc::AllocError;
 impl Engine {
     /// Instructions are skipped unless the newest operand is True (RM 5.3).
     pub(crate) fn skip_unless(&mut self, count: usize, place: usize)
+        requires operand { 1 ≤ length self.old.operands }
         requires rests { Rests true self.old }
-        requires place { place + 1 < 2 ^ 64 }
+        requires behind { place + 1 + count < 2 ^ 64 }
         ensures { Makes self.old self.new (made_by (Table.by_unless count) place self.old) }
     {
-        let Some(cell) = self.operands.top() else {
-            self.mode = Mode::Stuck;
-            return;
-        };
+        let cell = self.operands.top();
         self.operands.drop_newest(1);
         if is_true(cell) {
             self.mode = Mode::At(place + 1);
         } else {
-            self.mode = place_behind(place + 1, count);
+            self.mode = Mode::At(place + 1 + count);
         }
     }
 
     /// A loop is entered (RM 5.5).
     pub(crate) fn enter_loop(&mut self, count: usize, place: usize) -> Result<(), AllocError>
         requires rests { Rests true self.old }
-        requires place { place + 1 < 2 ^ 64 }
+        requires behind { place + 1 + count < 2 ^ 64 }
         ensures ok { OnOk result ((code : Code) → Makes self.old self.new (made_by (Table.by_instr code (Some (InstrOf.Loop count))) place self.old)) }
         ensures err { OnErr result (Stays self.old self.new) }
     {
         self.control.push(Frame::Looping {
             height: self.operands.count(),
-            entry: place + 1,
-            count,
+            behind: place + 1 + count,
         })?;
         self.mode = Mode::At(place + 1);
         Ok(())
@@ -58,25 +56,22 @@ impl Engine {
         count: usize,
         place: usize,
     ) -> Result<(), AllocError>
+        requires operands { 2 ≤ length self.old.operands }
         requires rests { Rests true self.old }
-        requires place { place + 1 < 2 ^ 64 }
+        requires behind { place + 1 + count < 2 ^ 64 }
         ensures ok { OnOk result (Makes self.old self.new (made_by (Table.by_for parameter in_reverse count) place self.old)) }
         ensures err { OnErr result (Stays self.old self.new) }
     {
-        let Some((high, low)) = self.operands.top_two() else {
-            self.mode = Mode::Stuck;
-            return Ok(());
-        };
+        let (high, low) = self.operands.top_two();
         self.control.reserve(1)?;
         self.operands.drop_newest(2);
         let Some(turns) = turns_between(low, high, in_reverse) else {
-            self.mode = place_behind(place + 1, count);
+            self.mode = Mode::At(place + 1 + count);
             return Ok(());
         };
         self.control.push_reserved(Frame::Counting {
             height: self.operands.count(),
-            entry: place + 1,
-            count,
+            behind: place + 1 + count,
             parameter,
             turns,
         });
@@ -87,67 +82,61 @@ impl Engine {
 
     /// The next turn of the innermost loop, which has a parameter, or the end of that loop (RM 5.5).
     pub(crate) fn next(&mut self, back: usize, place: usize)
+        requires top { IsLoopOnTop (reverse self.old.control.items) }
         requires rests { Rests true self.old }
-        requires place { place + 1 < 2 ^ 64 }
+        requires back { back ≤ place }
         ensures { Makes self.old self.new (made_by (Table.by_next back) place self.old) }
     {
         let Some(
             Frame::Counting {
                 height,
-                entry,
-                count,
+                behind,
                 parameter,
                 turns,
             },
         ) = self.control.last().copied()
         else {
-            self.mode = Mode::Stuck;
-            return;
+            unreachable!()
         };
         self.operands.cut_back(height);
         let Some(turns) = next_turn(turns) else {
             let _ = self.control.pop();
-            self.mode = place_behind(entry, count);
+            self.mode = Mode::At(behind);
             return;
         };
         replace_top(
             &mut self.control,
             Frame::Counting {
                 height,
-                entry,
-                count,
+                behind,
                 parameter,
                 turns,
             },
         );
         set_parameter(&mut self.world, parameter, turns);
-        self.mode = Mode::At(place.saturating_sub(back));
+        self.mode = Mode::At(place - back);
     }
 
     /// The innermost loop is left if the newest operand is True (RM 5.7).
     pub(crate) fn exit_when(&mut self, place: usize)
+        requires operand { 1 ≤ length self.old.operands }
         requires rests { Rests true self.old }
         requires place { place + 1 < 2 ^ 64 }
         ensures { (code : Code) → Makes self.old self.new (made_by (Table.by_instr code (Some InstrOf.ExitWhen)) place self.old) }
     {
-        let Some(cell) = self.operands.top() else {
-            self.mode = Mode::Stuck;
-            return;
-        };
+        let cell = self.operands.top();
         self.operands.drop_newest(1);
         self.exit_if(is_true(cell), place);
     }
 
     /// The innermost loop is left unless the newest operand is True (RM 5.5).
     pub(crate) fn exit_unless(&mut self, place: usize)
+        requires operand { 1 ≤ length self.old.operands }
         requires rests { Rests true self.old }
         requires place { place + 1 < 2 ^ 64 }
         ensures { (code : Code) → Makes self.old self.new (made_by (Table.by_instr code (Some InstrOf.ExitUnless)) place self.old) }
     {
-        let Some(cell) = self.operands.top() else {
-            self.mode = Mode::Stuck;
-            return;
-        };
+        let cell = self.operands.top();
         self.operands.drop_newest(1);
         self.exit_if(!is_true(cell), place);
     }

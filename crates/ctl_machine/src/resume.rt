@@ -4,20 +4,22 @@ ghost use Rattle.std.specs.Prelude.{◌≡◌, ◌+◌, ◌^◌, ◌<◌, ℕ, L
 ghost use Rattle.ctl_tree.specs.declared.checked.Ty.TheVariants.{Record};
 ghost use Rattle.ctl_meaning.specs.World.{Single};
 ghost use Rattle.ctl_code.specs.States.{without_flag};
+ghost use Rattle.ctl_code.specs.Fits.{HaveSingle, MayTake, SpeakOfKnown};
 ghost use Rattle.ctl_code.specs.Table as Table;
+ghost use Rattle.ctl_code.specs.Valid.{IsValid};
 ghost use Rattle.ctl_machine.specs.declared.frame.Frame as FrameOf;
 ghost use Rattle.ctl_machine.specs.declared.frame.Frame.TheVariants.{Statements, Creating, Initializing, Finalizing, Leaving};
 ghost use Rattle.ctl_machine.specs.declared.frame.Handed.TheVariants as HandedOf;
 ghost use Rattle.ctl_machine.specs.declared.frame.Mode.TheVariants as ModeOf;
 ghost use Rattle.ctl_code.specs.declared.code.Code.{Code};
 ghost use Rattle.ctl_machine.specs.Calls.{frames_by, mode_by, shown_by};
-ghost use Rattle.ctl_machine.specs.Control.{IsPlace, after_of, birth_mode, done_of, finalization_result, is_exit, may_raise, mode_of, result_of, says_failed};
+ghost use Rattle.ctl_machine.specs.Control.{after_of, birth_mode, done_of, finalization_result, is_exit, may_raise, mode_of, result_of, says_failed};
 ghost use Rattle.ctl_meaning.specs.Changes.{object_at};
 ghost use Rattle.ctl_machine.specs.World.{Level, first_display, levels_of, layered, layered_levels, newest_layers};
-ghost use Rattle.ctl_machine.specs.Engine.{IsTop, IsLeaving, IsLoop, Makes, Rests, Stays, given_to_top, leaves_on};
+ghost use Rattle.ctl_machine.specs.Engine.{IsTop, IsLeaving, IsLoop, Makes, Rests, Stays, control_of, given_to_top, leaves_on};
 
 use crate::calls::{Called, call_operation, operations_of};
-use crate::engine::{Engine, place_behind};
+use crate::engine::Engine;
 use crate::frame::{Afterwards, Completion, Departure, Frame, Handed, Mode};
 use crate::masters::Member;
 use crate::world::World;
@@ -95,20 +97,18 @@ fn mode_at_birth(exists: bool, next: usize) -> Mode
 }
 
 /// Where the execution goes on behind a loop: an exit statement leads there (RM 5.7), and anything else leads on.
-fn mode_behind_loop(handed: Handed, entry: usize, count: usize) -> Mode
-    ensures place { IsPlace result }
-    ensures mode { (ls : List Level) → mode_of result ls ≡ Table.behind_loop (first_display ls) (entry + count) (result_of handed) }
+fn mode_behind_loop(handed: Handed, behind: usize) -> Mode
+    ensures { (ls : List Level) → mode_of result ls ≡ Table.behind_loop (first_display ls) behind (result_of handed) }
 {
     match handed {
-        Handed::Exit => place_behind(entry, count),
+        Handed::Exit => Mode::At(behind),
         _ => Mode::Giving(handed),
     }
 }
 
 /// Where the execution goes on behind a master (RM 7.6.1): Program_Error is raised there where a finalization failed.
 fn mode_behind(departure: Departure) -> Mode
-    ensures place { IsPlace result }
-    ensures mode { (ls : List Level) → mode_of result ls ≡ Table.left_mode (after_of departure.afterwards ls) departure.has_failed (done_of departure.pending) }
+    ensures { (ls : List Level) → mode_of result ls ≡ Table.left_mode (after_of departure.afterwards ls) departure.has_failed (done_of departure.pending) }
 {
     if departure.has_failed {
         return Mode::Giving(Handed::Raise(PROGRAM_ERROR));
@@ -119,7 +119,7 @@ fn mode_behind(departure: Departure) -> Mode
         // No exit statement leaves a body.
         (Afterwards::Body, Completion::Exit) => Mode::Giving(Handed::Normal),
         (Afterwards::Block { .. }, Completion::Exit) => Mode::Giving(Handed::Exit),
-        (Afterwards::Block { entry, count }, Completion::Normal) => place_behind(entry, count),
+        (Afterwards::Block { behind }, Completion::Normal) => Mode::At(behind),
     }
 }
 
@@ -162,12 +162,17 @@ impl Engine {
         handed: Handed,
         top: Frame,
     ) -> Result<(), AllocError>
+        requires valid { IsValid code.now }
+        requires takes { MayTake (result_of handed) (control_of self.old) }
+        requires frames { SpeakOfKnown code.now (control_of self.old) }
+        requires layers { HaveSingle code.now self.old.world.ledger.masters }
         requires top { IsTop top self.old }
         requires rests { Rests (may_raise (ModeOf.Giving handed)) self.old }
         requires masters { self.old.world.ledger.next_master < 2 ^ 64 }
         ensures ok { OnOk result (Makes self.old self.new (given_to_top code.now handed self.old)) }
         ensures err { OnErr result (Stays self.old self.new) }
     {
+        // No exit statement leaves a body, so that none is handed to the frame of an operation.
         match top {
             Frame::Statements { height, afterwards } => {
                 self.begin_leaving(handed, height, afterwards);
@@ -188,35 +193,22 @@ impl Engine {
                     self.fail(object, exception);
                     Ok(())
                 }
-                Handed::Exit => {
-                    self.pass_exit();
-                    Ok(())
-                }
+                Handed::Exit => unreachable!(),
                 _ => self.come_to_life(code, object, record_type, next),
             },
             Frame::Finalizing(object) => match handed {
-                // No exit statement leaves a body, so that none is handed on here.
-                Handed::Exit => Err(AllocError),
+                Handed::Exit => unreachable!(),
                 _ => {
                     self.end_finalization(object, handed);
                     Ok(())
                 }
             },
-            Frame::Looping {
-                height,
-                entry,
-                count,
-            } => {
-                self.end_loop(handed, height, entry, count);
+            Frame::Looping { height, behind } => {
+                self.end_loop(handed, height, behind);
                 Ok(())
             }
-            Frame::Counting {
-                height,
-                entry,
-                count,
-                ..
-            } => {
-                self.end_loop(handed, height, entry, count);
+            Frame::Counting { height, behind, .. } => {
+                self.end_loop(handed, height, behind);
                 Ok(())
             }
         }
@@ -249,6 +241,8 @@ impl Engine {
         handed: Handed,
         departure: Departure,
     ) -> Result<(), AllocError>
+        requires valid { IsValid code.now }
+        requires layers { HaveSingle code.now self.old.world.ledger.masters }
         requires top { IsTop (Leaving departure) self.old }
         requires rests { Rests (may_raise (ModeOf.Giving handed)) self.old }
         requires masters { self.old.world.ledger.next_master < 2 ^ 64 }
@@ -277,6 +271,8 @@ impl Engine {
 
     /// The next layer of the newest master, which is left, is finalized: a scalar has nothing to finalize (RM 7.6.1).
     fn finalize_layer(&mut self, code: &Code, departure: Departure) -> Result<(), AllocError>
+        requires valid { IsValid code.now }
+        requires layers { HaveSingle code.now self.old.world.ledger.masters }
         requires top { IsLeaving departure 1 self.old }
         requires rests { Rests false self.old }
         requires masters { self.old.world.ledger.next_master < 2 ^ 64 }
@@ -284,7 +280,7 @@ impl Engine {
         ensures err { OnErr result (Stays self.old self.new) }
     {
         let Some(Member { number, ty }) = self.world.layer(departure.remaining) else {
-            return Ok(());
+            unreachable!()
         };
         match ty {
             Ty::Record(record_type) => self.finalize_object(code, departure, number, record_type),
@@ -304,6 +300,8 @@ impl Engine {
         number: u64,
         record_type: usize,
     ) -> Result<(), AllocError>
+        requires valid { IsValid code.now }
+        requires known { record_type < length code.now.records.items }
         requires top { IsLeaving departure 1 self.old }
         requires rests { Rests false self.old }
         requires layer { slice_get (reverse (newest_layers self.old.world)) departure.remaining ≡ Some (Single (record { number = number; ty = Record record_type })) }
@@ -349,6 +347,8 @@ impl Engine {
         record_type: usize,
         next: usize,
     ) -> Result<(), AllocError>
+        requires valid { IsValid code.now }
+        requires known { record_type < length code.now.records.items }
         requires top { IsTop (Creating object record_type next) self.old }
         requires rests { Rests false self.old }
         requires masters { self.old.world.ledger.next_master < 2 ^ 64 }
@@ -384,11 +384,7 @@ impl Engine {
         match called {
             Called::Gone => self.mode = Mode::Stopped(Stop::UseAfterFree),
             Called::Nothing => self.mode = Mode::Giving(Handed::Normal),
-            Called::Entered(None) => {
-                self.events.push_reserved(event);
-                self.mode = Mode::Stopped(Stop::UseAfterFree);
-            }
-            Called::Entered(Some(first)) => {
+            Called::Entered(first) => {
                 self.events.push_reserved(event);
                 self.control.push_reserved(Frame::Statements {
                     height: self.operands.count(),
@@ -407,6 +403,8 @@ impl Engine {
         record_type: usize,
         next: usize,
     ) -> Result<(), AllocError>
+        requires valid { IsValid code.now }
+        requires known { record_type < length code.now.records.items }
         requires top { IsTop (Initializing object record_type next) self.old }
         requires rests { Rests false self.old }
         ensures ok { OnOk result (Makes self.old self.new (given_to_top code.now HandedOf.Normal self.old)) }
@@ -438,25 +436,15 @@ impl Engine {
         self.mode = Mode::Giving(Handed::Raise(exception));
     }
 
-    /// An exit statement that left the Initialize of a declared object would lead on; none leaves a body.
-    fn pass_exit(&mut self)
-        requires top { (object record_type next : ℕ) × IsTop (Initializing object record_type next) self.old }
-        requires rests { Rests true self.old }
-        ensures { (code : Code) → Makes self.old self.new (given_to_top code HandedOf.Exit self.old) }
-    {
-        let _ = self.control.pop();
-        self.mode = Mode::Giving(Handed::Exit);
-    }
-
     /// The turns of a loop are at their end: an exit statement leads behind it (RM 5.7), and anything else leads on.
-    fn end_loop(&mut self, handed: Handed, height: usize, entry: usize, count: usize)
-        requires top { IsLoop height entry count self.old }
+    fn end_loop(&mut self, handed: Handed, height: usize, behind: usize)
+        requires top { IsLoop height behind self.old }
         requires rests { Rests (may_raise (ModeOf.Giving handed)) self.old }
         ensures { (code : Code) → Makes self.old self.new (given_to_top code handed self.old) }
     {
         self.operands.cut_back(height);
         let _ = self.control.pop();
-        self.mode = mode_behind_loop(handed, entry, count);
+        self.mode = mode_behind_loop(handed, behind);
     }
 
     /// The Finalize of an object is complete; whether it raised is handed on (RM 7.6.1).

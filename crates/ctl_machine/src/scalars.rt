@@ -1,6 +1,6 @@
 //! Instructions that declare scalar objects (RM 3.3.1).
 
-ghost use Rattle.std.specs.Prelude.{◌≡◌, ◌+◌, ◌^◌, ◌<◌, Some, OnOk, OnErr, true};
+ghost use Rattle.std.specs.Prelude.{◌≡◌, ◌+◌, ◌^◌, ◌<◌, ◌≤◌, Some, OnOk, OnErr, length, true};
 ghost use Rattle.ctl_code.specs.Table as Table;
 ghost use Rattle.ctl_code.specs.declared.code.Code.{Code};
 ghost use Rattle.ctl_code.specs.declared.code.Instr.TheVariants as InstrOf;
@@ -37,16 +37,14 @@ impl Engine {
         ty: Ty,
         place: usize,
     ) -> Result<(), AllocError>
+        requires operand { 1 ≤ length self.old.operands }
         requires rests { Rests true self.old }
         requires place { place + 1 < 2 ^ 64 }
         requires objects { self.old.world.ledger.next_object < 2 ^ 64 }
         ensures ok { OnOk result (Makes self.old self.new (made_by (Table.by_declaration slot ty) place self.old)) }
         ensures err { OnErr result (Stays self.old self.new) }
     {
-        let Some(cell) = self.operands.top() else {
-            self.mode = Mode::Stuck;
-            return Ok(());
-        };
+        let cell = self.operands.top();
         self.world.declare_scalar(slot, ty, cell)?;
         self.operands.drop_newest(1);
         self.mode = Mode::At(place + 1);

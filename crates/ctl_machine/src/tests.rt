@@ -3,7 +3,9 @@
 use crate::machine::Machine;
 use crate::outcome::{Outcome, Progress};
 use ctl_code::code::{Code, Entry, Instr, Operations};
+use ctl_code::kinds::{Kind, KindNotes, Kinds};
 use ctl_code::template::{Template, TextPart};
+use ctl_code::valid::ValidCode;
 use ctl_tree::checked::{BinaryOp, Ty, Var};
 use ctl_tree::ending::{End, Stop};
 use ctl_tree::event::{Event, Owner};
@@ -14,6 +16,19 @@ use std::test::Fail;
 
 /// The first slot of the main procedure.
 const FIRST: Var = Var { level: 1, slot: 0 };
+
+/// What stands on the stacks, from the oldest.
+const NONE: &[Kind] = &[];
+
+const NUMBER: &[Kind] = &[Kind::Operand(Ty::Integer)];
+
+const NUMBERS: &[Kind] = &[Kind::Operand(Ty::Integer), Kind::Operand(Ty::Integer)];
+
+const BLOCK: &[Kind] = &[Kind::Block];
+
+const LOOP: &[Kind] = &[Kind::Loop];
+
+const COUNTING: &[Kind] = &[Kind::Counting];
 
 /// A main procedure with a block that declares two objects of one type, whose Finalize prints a line.
 const TWO_OBJECTS: &[Instr] = &[
@@ -26,6 +41,8 @@ const TWO_OBJECTS: &[Instr] = &[
     Instr::PutLine(0),
     Instr::Leave,
 ];
+
+const TWO_OBJECTS_KINDS: &[&[Kind]] = &[NONE, NONE, BLOCK, BLOCK, BLOCK, NONE, NONE, NONE];
 
 /// A variable is counted up to 3 in a loop with an exit statement, and its image is printed.
 const LOOP_WITH_EXIT: &[Instr] = &[
@@ -46,6 +63,32 @@ const LOOP_WITH_EXIT: &[Instr] = &[
     Instr::Leave,
 ];
 
+const LOOP_WITH_EXIT_KINDS: &[&[Kind]] = &[
+    NONE,
+    NONE,
+    NONE,
+    LOOP,
+    &[Kind::Loop, Kind::Operand(Ty::Integer)],
+    &[
+        Kind::Loop,
+        Kind::Operand(Ty::Integer),
+        Kind::Operand(Ty::Integer),
+    ],
+    &[Kind::Loop, Kind::Operand(Ty::Boolean)],
+    LOOP,
+    &[Kind::Loop, Kind::Operand(Ty::Integer)],
+    &[
+        Kind::Loop,
+        Kind::Operand(Ty::Integer),
+        Kind::Operand(Ty::Integer),
+    ],
+    &[Kind::Loop, Kind::Operand(Ty::Integer)],
+    LOOP,
+    NONE,
+    NUMBER,
+    NONE,
+];
+
 /// The values from 1 to 3 are printed in reverse.
 const REVERSE_LOOP: &[Instr] = &[
     Instr::Start(0),
@@ -59,18 +102,49 @@ const REVERSE_LOOP: &[Instr] = &[
     Instr::Leave,
 ];
 
+const REVERSE_LOOP_KINDS: &[&[Kind]] = &[
+    NONE,
+    NONE,
+    NUMBER,
+    NUMBERS,
+    COUNTING,
+    &[Kind::Counting, Kind::Operand(Ty::Integer)],
+    COUNTING,
+    NONE,
+    NONE,
+];
+
 /// An overflow in a block that declares an object, whose Finalize prints a line.
 const OVERFLOW: &[Instr] = &[
     Instr::Start(0),
-    Instr::Enter(1, 5),
+    Instr::Enter(1, 6),
     Instr::Declare(0, 0),
     Instr::Push(2_147_483_647),
     Instr::Push(1),
     Instr::Binary(BinaryOp::Add, Ty::Integer),
+    Instr::Assign(FIRST),
     Instr::Leave,
     Instr::Leave,
     Instr::PutLine(0),
     Instr::Leave,
+];
+
+const OVERFLOW_KINDS: &[&[Kind]] = &[
+    NONE,
+    NONE,
+    BLOCK,
+    BLOCK,
+    &[Kind::Block, Kind::Operand(Ty::Integer)],
+    &[
+        Kind::Block,
+        Kind::Operand(Ty::Integer),
+        Kind::Operand(Ty::Integer),
+    ],
+    &[Kind::Block, Kind::Operand(Ty::Integer)],
+    BLOCK,
+    NONE,
+    NONE,
+    NONE,
 ];
 
 /// -7 mod 2, -7 rem 2 and whether they differ.
@@ -87,8 +161,36 @@ const SIGNS: &[Instr] = &[
     Instr::Leave,
 ];
 
+const SIGNS_KINDS: &[&[Kind]] = &[
+    NONE,
+    NONE,
+    NUMBER,
+    NUMBERS,
+    NUMBER,
+    NUMBERS,
+    &[
+        Kind::Operand(Ty::Integer),
+        Kind::Operand(Ty::Integer),
+        Kind::Operand(Ty::Integer),
+    ],
+    NUMBERS,
+    &[
+        Kind::Operand(Ty::Integer),
+        Kind::Operand(Ty::Integer),
+        Kind::Operand(Ty::Boolean),
+    ],
+    NONE,
+];
+
 /// A loop without an end.
-const ENDLESS: &[Instr] = &[Instr::Start(0), Instr::Loop(1), Instr::Repeat(0)];
+const ENDLESS: &[Instr] = &[
+    Instr::Start(0),
+    Instr::Loop(1),
+    Instr::Repeat(0),
+    Instr::Leave,
+];
+
+const ENDLESS_KINDS: &[&[Kind]] = &[NONE, NONE, LOOP, NONE];
 
 /// A text of these parts.
 fn template_of(alloc: Global, parts: Vec<TextPart>) -> Result<Template, AllocError> {
@@ -119,10 +221,31 @@ fn texts_of(alloc: Global) -> Result<Vec<Template>, AllocError> {
     Ok(texts)
 }
 
+/// The table of these stacks, one before each instruction.
+fn kinds_of(alloc: Global, stacks: &[&[Kind]]) -> Result<Kinds, AllocError> {
+    let mut notes = KindNotes::new(alloc);
+    for stack in stacks {
+        for kind in *stack {
+            notes.enter(*kind)?;
+        }
+        notes.note()?;
+        for _ in 0..stack.len() {
+            notes.leave();
+        }
+    }
+    Ok(notes.finish())
+}
+
 /// The code of these instructions: the main procedure stands behind the first of them, and the Finalize at this place.
-fn code_of(alloc: Global, instructions: &[Instr], finalize: usize) -> Result<Code, AllocError> {
+fn code_of(
+    alloc: Global,
+    instructions: &[Instr],
+    stacks: &[&[Kind]],
+    finalize: usize,
+) -> Result<Code, AllocError> {
     Ok(Code {
         instructions: Vec::from_slice(alloc, instructions)?,
+        kinds: kinds_of(alloc, stacks)?,
         entries: vec![in alloc;
             Entry {
                 level: 0,
@@ -144,6 +267,20 @@ fn code_of(alloc: Global, instructions: &[Instr], finalize: usize) -> Result<Cod
         texts: texts_of(alloc)?,
         exceptions: vec![in alloc; Text::from_slice(alloc, b"CONSTRAINT_ERROR")?]?,
     })
+}
+
+/// Such code, which is well formed.
+fn valid_code_of(
+    alloc: Global,
+    instructions: &[Instr],
+    stacks: &[&[Kind]],
+    finalize: usize,
+) -> Result<ValidCode, Fail> {
+    let code = code_of(alloc, instructions, stacks, finalize)?;
+    match code.validate() {
+        Some(valid) => Ok(valid),
+        None => Err(Fail::new("the code is not well formed")),
+    }
 }
 
 /// One thing that was shown, as a word.
@@ -198,10 +335,11 @@ fn printed(alloc: Global, outcome: &Outcome) -> Result<Vec<u8>, AllocError> {
 fn outcome_of(
     alloc: Global,
     instructions: &[Instr],
+    stacks: &[&[Kind]],
     finalize: usize,
     steps: u64,
-) -> Result<Outcome, AllocError> {
-    let code = code_of(alloc, instructions, finalize)?;
+) -> Result<Outcome, Fail> {
+    let code = valid_code_of(alloc, instructions, stacks, finalize)?;
     let mut machine = Machine::new(alloc, &code, Order::Newest)?;
     let _ = machine.run(steps);
     Ok(machine.finish())
@@ -210,7 +348,7 @@ fn outcome_of(
 #[test]
 fn objects_are_finalized_newest_first(rt: HostRuntime) -> Result<(), Fail> {
     let alloc = rt.alloc();
-    let code = code_of(alloc, TWO_OBJECTS, 6)?;
+    let code = valid_code_of(alloc, TWO_OBJECTS, TWO_OBJECTS_KINDS, 6)?;
     let mut machine = Machine::new(alloc, &code, Order::Newest)?;
     let progress = machine.run(1000);
     assert_eq!(rt; progress, Progress::Ended);
@@ -227,7 +365,7 @@ fn objects_are_finalized_newest_first(rt: HostRuntime) -> Result<(), Fail> {
 #[test]
 fn a_run_ends_at_its_limit(rt: HostRuntime) -> Result<(), Fail> {
     let alloc = rt.alloc();
-    let code = code_of(alloc, TWO_OBJECTS, 6)?;
+    let code = valid_code_of(alloc, TWO_OBJECTS, TWO_OBJECTS_KINDS, 6)?;
     let mut machine = Machine::new(alloc, &code, Order::Oldest)?;
     assert_eq!(rt; machine.run(7), Progress::Running);
     assert_eq!(rt; machine.step(), Progress::Running);
@@ -238,18 +376,17 @@ fn a_run_ends_at_its_limit(rt: HostRuntime) -> Result<(), Fail> {
 }
 
 #[test]
-fn a_body_that_is_missing_stops_the_run(rt: HostRuntime) -> Result<(), Fail> {
+fn a_body_that_is_missing_is_refused(rt: HostRuntime) -> Result<(), Fail> {
     let alloc = rt.alloc();
-    let outcome = outcome_of(alloc, &[Instr::Start(7)], 6, 1)?;
-    let shown = outcome_shown(alloc, &outcome)?;
-    assert_eq!(rt; shown.as_str(), "gone picks=0 steps=1");
+    let code = code_of(alloc, &[Instr::Start(7), Instr::Leave], &[NONE, NONE], 0)?;
+    assert!(rt; code.validate().is_none());
     Ok(())
 }
 
 #[test]
 fn an_exit_statement_leaves_its_loop(rt: HostRuntime) -> Result<(), Fail> {
     let alloc = rt.alloc();
-    let outcome = outcome_of(alloc, LOOP_WITH_EXIT, 0, 1000)?;
+    let outcome = outcome_of(alloc, LOOP_WITH_EXIT, LOOP_WITH_EXIT_KINDS, 0, 1000)?;
     let bytes = printed(alloc, &outcome)?;
     assert_eq!(rt; bytes.as_slice(), b" 3\n".as_slice());
     Ok(())
@@ -258,7 +395,7 @@ fn an_exit_statement_leaves_its_loop(rt: HostRuntime) -> Result<(), Fail> {
 #[test]
 fn a_loop_runs_in_reverse(rt: HostRuntime) -> Result<(), Fail> {
     let alloc = rt.alloc();
-    let outcome = outcome_of(alloc, REVERSE_LOOP, 0, 1000)?;
+    let outcome = outcome_of(alloc, REVERSE_LOOP, REVERSE_LOOP_KINDS, 0, 1000)?;
     let bytes = printed(alloc, &outcome)?;
     assert_eq!(rt; bytes.as_slice(), b" 3 2 1\n".as_slice());
     Ok(())
@@ -267,7 +404,7 @@ fn a_loop_runs_in_reverse(rt: HostRuntime) -> Result<(), Fail> {
 #[test]
 fn an_overflow_raises_and_finalizes(rt: HostRuntime) -> Result<(), Fail> {
     let alloc = rt.alloc();
-    let outcome = outcome_of(alloc, OVERFLOW, 8, 1000)?;
+    let outcome = outcome_of(alloc, OVERFLOW, OVERFLOW_KINDS, 9, 1000)?;
     let shown = outcome_shown(alloc, &outcome)?;
     assert_eq!(rt;
         shown.as_str(),
@@ -279,7 +416,7 @@ fn an_overflow_raises_and_finalizes(rt: HostRuntime) -> Result<(), Fail> {
 #[test]
 fn a_text_has_images(rt: HostRuntime) -> Result<(), Fail> {
     let alloc = rt.alloc();
-    let outcome = outcome_of(alloc, SIGNS, 0, 1000)?;
+    let outcome = outcome_of(alloc, SIGNS, SIGNS_KINDS, 0, 1000)?;
     let bytes = printed(alloc, &outcome)?;
     assert_eq!(rt; bytes.as_slice(), b" 1-1 TRUE\n".as_slice());
     Ok(())
@@ -288,7 +425,7 @@ fn a_text_has_images(rt: HostRuntime) -> Result<(), Fail> {
 #[test]
 fn an_endless_loop_ends_at_the_limit(rt: HostRuntime) -> Result<(), Fail> {
     let alloc = rt.alloc();
-    let outcome = outcome_of(alloc, ENDLESS, 0, 100)?;
+    let outcome = outcome_of(alloc, ENDLESS, ENDLESS_KINDS, 0, 100)?;
     let shown = outcome_shown(alloc, &outcome)?;
     assert_eq!(rt; shown.as_str(), "limit picks=0 steps=100");
     Ok(())

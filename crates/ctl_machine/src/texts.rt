@@ -1,6 +1,6 @@
 //! Texts that the program prints, with the images of values (RM 3.5), and names that the code gives by number.
 
-ghost use Rattle.std.specs.Prelude.{◌≡◌, ◌++◌, IfOk, OnOk, slice_get};
+ghost use Rattle.std.specs.Prelude.{◌≡◌, ◌≤◌, ◌++◌, IfOk, OnOk, length, slice_get};
 ghost use Rattle.ctl_meaning.specs.Numbers.{integer_image, boolean_image};
 ghost use Rattle.ctl_code.specs.Table.{images_in, text_of};
 ghost use Rattle.ctl_machine.specs.Images as Sign;
@@ -54,8 +54,9 @@ pub fn count_images(parts: &[TextPart]) -> usize
     images
 }
 
-/// A text, whose images take these values in turn; it ends before an image that has none.
+/// A text, whose images take these values in turn.
 pub fn text_with(alloc: Global, parts: &[TextPart], values: &[u64]) -> Result<Text, AllocError>
+    requires { images_in parts.now ≤ length values.now }
     ensures { IfOk result (λ text. text ≡ text_of parts.now values.now) }
 {
     let mut text = Text::new(alloc);
@@ -64,17 +65,11 @@ pub fn text_with(alloc: Global, parts: &[TextPart], values: &[u64]) -> Result<Te
         match part {
             TextPart::Literal(literal) => text.push_all(literal.as_bytes())?,
             TextPart::IntegerImage => {
-                let Some(value) = values.get(used) else {
-                    return Ok(text);
-                };
-                push_integer_image(&mut text, *value)?;
+                push_integer_image(&mut text, values[used])?;
                 used += 1;
             }
             TextPart::BooleanImage => {
-                let Some(value) = values.get(used) else {
-                    return Ok(text);
-                };
-                push_boolean_image(&mut text, *value)?;
+                push_boolean_image(&mut text, values[used])?;
                 used += 1;
             }
         }

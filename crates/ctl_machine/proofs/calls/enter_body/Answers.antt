@@ -3,7 +3,7 @@ use Rattle.ctl_machine.proofs.Levels.{body_entered, levels_opened}
 use Rattle.ctl_machine.proofs.calls.enter_body.Goals as goal
 
 pub returns-clause-moves : goal.returns-clause-moves
-returns-clause-moves c es k ops = rw (c.in_ok-enter_body.ensures.ok, ← c.entry_at.ensures, c.in-Some.is) (body_entered _ es _ _ k ops _)
+returns-clause-moves c es k ops = rw (c.in_ok-enter_body.ensures.ok, c.entry_at-level.ensures) (body_entered _ es _ _ k ops _)
 
 pub returns-clause-levels : goal.returns-clause-levels
 returns-clause-levels c = rw (c.in_ok-enter_body.ensures.ok, levels_opened) refl

@@ -31,7 +31,7 @@ returns-clause-headline c =
 pub returns-in_err-code-clause-refused : goal.returns-in_err-code-clause-refused
 returns-in_err-code-clause-refused c =
     let p = err_from_is_err_and c.from_residual-in_err-code.result c.from_residual-in_err-code.ensures.1 in
-    rw (p.1, p.2) (by_memory c.in_err-code.ensures.memory)
+    rw (p.1, p.2) (by_memory (c.in_err-code.ensures.memory c.in_ok-program.ensures.accepted.in_slice))
 
 pub returns-in_err-machine-clause-refused : goal.returns-in_err-machine-clause-refused
 returns-in_err-machine-clause-refused c =

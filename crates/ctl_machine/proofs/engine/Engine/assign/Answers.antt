@@ -4,16 +4,10 @@ use Rattle.ctl_code.specs.States as T
 use Rattle.ctl_code.specs.Table as Table
 use Rattle.ctl_machine.specs.World.{newest_display}
 use Rattle.ctl_machine.specs.Engine.{control_of}
-use Rattle.ctl_machine.proofs.Moves.{stuck, stays, goes}
+use Rattle.ctl_machine.proofs.Moves.{stays, goes}
 use Rattle.ctl_machine.proofs.Tops.{makes_by}
 use Rattle.ctl_machine.proofs.VariableMoves.{write_gone, write_goes, written_levels}
 use Rattle.ctl_machine.proofs.engine.Engine.assign.Goals as goal
-
--- there is no operand
-pub returns-in_default : goal.returns-in_default
-returns-in_default c =
-    let e = c.args.self.now in
-    stuck _ _ (λ ops. Table.by_assign c.args.variable (newest_display e.world) c.args.place (control_of e) ops e.world) c.requires.rests c.in_default.ensures.none refl refl refl refl refl refl
 
 pub returns-then-write_variable : goal.returns-then-write_variable
 returns-then-write_variable c =
@@ -21,15 +15,15 @@ returns-then-write_variable c =
     let d = newest_display e.world in
     let found = Table.found_by d c.args.variable e.world in
     let ops = drop 1 e.operands in
-    let moves = ap (λ o. Table.by_assign c.args.variable d c.args.place (control_of e) o e.world) c.in-Some.ensures.some
-    ∙ write_goes found c.in-Some.cell d c.args.place (control_of e) ops e.world c.write_variable.new.world c.if-write_variable.ensures.exists in
-    makes_by _ _ _ _ moves (goes _ _ (T.At d (c.args.place + 1)) ops c.write_variable.new.world c.requires.rests tt refl (written_levels found c.in-Some.cell e.world c.write_variable.new.world c.if-write_variable.ensures.exists) refl c.drop_newest.ensures refl refl)
+    let moves = ap (λ o. Table.by_assign c.args.variable d c.args.place (control_of e) o e.world) c.top-cell.ensures
+    ∙ write_goes found c.top-cell.result d c.args.place (control_of e) ops e.world c.write_variable.new.world c.if-write_variable.ensures.exists in
+    makes_by _ _ _ _ moves (goes _ _ (T.At d (c.args.place + 1)) ops c.write_variable.new.world c.requires.rests refl (written_levels found c.top-cell.result e.world c.write_variable.new.world c.if-write_variable.ensures.exists) refl c.drop_newest.ensures refl refl)
 
 pub returns-else-write_variable : goal.returns-else-write_variable
 returns-else-write_variable c =
     let e = c.args.self.now in
     let d = newest_display e.world in
     let ops = drop 1 e.operands in
-    let moves = ap (λ o. Table.by_assign c.args.variable d c.args.place (control_of e) o e.world) c.in-Some.ensures.some
-    ∙ write_gone (Table.found_by d c.args.variable e.world) c.in-Some.cell d c.args.place (control_of e) ops e.world c.if-write_variable.ensures.gone in
-    makes_by _ _ _ _ moves (stays _ _ (T.Stopped UseAfterFree) ops c.requires.rests tt refl refl c.drop_newest.ensures c.if-write_variable.ensures.kept refl)
+    let moves = ap (λ o. Table.by_assign c.args.variable d c.args.place (control_of e) o e.world) c.top-cell.ensures
+    ∙ write_gone (Table.found_by d c.args.variable e.world) c.top-cell.result d c.args.place (control_of e) ops e.world c.if-write_variable.ensures.gone in
+    makes_by _ _ _ _ moves (stays _ _ (T.Stopped UseAfterFree) ops c.requires.rests refl refl c.drop_newest.ensures c.if-write_variable.ensures.kept refl)

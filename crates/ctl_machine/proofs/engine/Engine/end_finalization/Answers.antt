@@ -17,7 +17,7 @@ returns c code =
     let moves = by_top code c.args.handed c.args.self.now t.0 frame t.1 ∙ finalized c.args.handed c.args.object (frames_of (reverse t.0) (levels_of world)) c.args.self.now.operands world c.requires.stays in
     let fits = fits_top (may_raise (Giving c.args.handed)) c.args.self.now t.0 frame t.1 c.requires.rests in
     makes_by _ _ _ _ moves (record {
-      sound = record { place = tt; rests = rw (rest, c.end_finalization.ensures, levels_ended, c.finalization_of.ensures, calm) fits };
+      sound = rw (rest, c.end_finalization.ensures, levels_ended, c.finalization_of.ensures, calm) fits;
       mode = rw c.finalization_of.ensures refl;
       control = rw (rest, c.end_finalization.ensures, levels_ended) refl;
       operands = refl;

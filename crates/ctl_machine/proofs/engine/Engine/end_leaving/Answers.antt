@@ -15,8 +15,8 @@ returns c code =
     let rest = popped control.len control.items c.pop.new.self.items t.1.0 frame control.ok.0 c.pop.ensures.rest t.1.1 in
     let fits = fits_top false c.args.self.now t.1.0 frame t.1.1 c.requires.rests in
     makes_by _ _ _ _ (ends code d c.args.self.now t.1.0 t.0 c.requires.none t.1.1) (record {
-      sound = record { place = c.mode_behind-self.ensures.place; rests = rw (rest, c.close.ensures.levels) (any_fits (may_raise c.mode_behind-self.result) (reverse t.1.0) (all_but_first (levels_of c.args.self.now.world)) fits.2) };
-      mode = rw c.close.ensures.levels (c.mode_behind-self.ensures.mode _);
+      sound = rw (rest, c.close.ensures.levels) (any_fits (may_raise c.mode_behind-self.result) (reverse t.1.0) (all_but_first (levels_of c.args.self.now.world)) fits.2);
+      mode = rw c.close.ensures.levels (c.mode_behind-self.ensures _);
       control = rw (rest, c.close.ensures.levels) refl;
       operands = refl;
       world = c.close.ensures.closed;

@@ -15,10 +15,10 @@ returns c code =
     let ls = levels_of e.world in
     let below = t.top.0 in
     let rest = popped e.control.len e.control.items c.pop.new.self.items below t.frame e.control.ok.0 c.pop.ensures.rest t.top.1 in
-    let fits = below_loop (may_raise (Giving c.args.handed)) t.frame (reverse below) ls c.args.height c.args.entry c.args.count t.is_loop (fits_top (may_raise (Giving c.args.handed)) e below t.frame t.top.1 c.requires.rests) in
-    makes_by _ _ _ _ (by_top code c.args.handed e below t.frame t.top.1 ∙ loop_left code c.args.handed t.frame (reverse below) ls e.operands e.world c.args.height c.args.entry c.args.count t.is_loop) (record {
-      sound = record { place = c.mode_behind_loop-self.ensures.place; rests = rw rest (any_fits (may_raise c.mode_behind_loop-self.result) (reverse below) ls fits) };
-      mode = c.mode_behind_loop-self.ensures.mode ls;
+    let fits = below_loop (may_raise (Giving c.args.handed)) t.frame (reverse below) ls c.args.height c.args.behind t.is_loop (fits_top (may_raise (Giving c.args.handed)) e below t.frame t.top.1 c.requires.rests) in
+    makes_by _ _ _ _ (by_top code c.args.handed e below t.frame t.top.1 ∙ loop_left code c.args.handed t.frame (reverse below) ls e.operands e.world c.args.height c.args.behind t.is_loop) (record {
+      sound = rw rest (any_fits (may_raise c.mode_behind_loop-self.result) (reverse below) ls fits);
+      mode = c.mode_behind_loop-self.ensures ls;
       control = rw rest refl;
       operands = c.cut_back.ensures;
       world = refl;

@@ -12,7 +12,7 @@ returns c code =
     let control = c.args.self.now.control in
     let rest = popped control.len control.items c.pop.new.self.items t.2.0 frame control.ok.0 c.pop.ensures.rest t.2.1 in
     makes_by _ _ _ _ (by_top code (Raise c.args.exception) c.args.self.now t.2.0 frame t.2.1) (record {
-      sound = record { place = tt; rests = rw (rest, c.end_finalization.ensures, c.begin_finalization.ensures, levels_ended, levels_begun) (fits_top true c.args.self.now t.2.0 frame t.2.1 c.requires.rests) };
+      sound = rw (rest, c.end_finalization.ensures, c.begin_finalization.ensures, levels_ended, levels_begun) (fits_top true c.args.self.now t.2.0 frame t.2.1 c.requires.rests);
       mode = refl;
       control = rw (rest, c.end_finalization.ensures, c.begin_finalization.ensures, levels_ended, levels_begun) refl;
       operands = refl;

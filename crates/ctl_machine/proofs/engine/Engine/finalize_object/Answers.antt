@@ -14,7 +14,7 @@ use Rattle.ctl_machine.proofs.Levels.{topped}
 use Rattle.ctl_machine.proofs.Tops.{fits_top, makes_by, levels_begun}
 use Rattle.ctl_machine.proofs.Begun.{begun}
 use Rattle.ctl_machine.proofs.Leaving.{leaving_frame, goes_on, gone_object, gone_world, begun_object, fits_on}
-use Rattle.ctl_machine.proofs.Called.{followed_mode, followed_shows, followed_world, followed_operands, followed_control, followed_fits, followed_place, stays_there}
+use Rattle.ctl_machine.proofs.Called.{followed_mode, followed_shows, followed_world, followed_operands, followed_control, followed_fits, stays_there}
 use Rattle.ctl_machine.proofs.engine.Engine.finalize_object.Goals as goal
 
 -- an object that does not exist stops the run
@@ -32,7 +32,7 @@ returns-in-Gone-clause-ok c =
     let fits = fits_on d t.1.0 (levels_of world) t.0 (fits_top false c.args.self.now t.1.0 (leaving_frame d 1 t.0) t.1.1 c.requires.rests) in
     let same = sym (gone_world code _ Newline n (object_at n world) frames ops world missing) ∙ (ap (λ (x : Move). x.world) (c.in_ok-called.ensures.moves Newline frames ops) ∙ followed_world c.in_ok-called.called Newline frames ops c.call_operation.new.world) in
     makes_by _ _ _ _ (goes_on code d c.args.self.now t.1.0 t.0 n c.args.record_type c.requires.layer t.1.1 ∙ gone_object code n c.args.record_type (object_at n world) frames ops world missing) (record {
-      sound = record { place = tt; rests = rw (control, topped t.1.0 (Leaving d), ← same) fits };
+      sound = rw (control, topped t.1.0 (Leaving d), ← same) fits;
       mode = refl;
       control = rw (control, topped t.1.0 (Leaving d), ← same) refl;
       operands = refl;
@@ -68,10 +68,7 @@ returns-clause-ok c =
     let fits_below : Fits true (reverse below) (levels_of world) = rw turned fits in
     let frames_below : frames_of (reverse below) (levels_of world) ≡ waits = ap (λ l. frames_of l (levels_of world)) turned in
     makes_by _ _ _ _ moves (record {
-      sound = record {
-        place = rw c.follow.ensures.mode (followed_place x);
-        rests = rw (c.follow.ensures.mode, items, levels) (followed_fits x below (length ops) (levels_of world) entered c.in_ok-called.ensures.levels fits_below);
-      };
+      sound = rw (c.follow.ensures.mode, items, levels) (followed_fits x below (length ops) (levels_of world) entered c.in_ok-called.ensures.levels fits_below);
       mode = rw (c.follow.ensures.mode, levels) (followed_mode x event waits ops entered);
       control = rw (items, levels) (followed_control x event below ops (levels_of world) entered c.in_ok-called.ensures.levels ∙ ap (λ k. (move_by x event k ops entered).control) frames_below);
       operands = c.follow.ensures.operands ∙ followed_operands x event waits ops entered;
