@@ -1,5 +1,7 @@
 pub mod Areas
+pub mod ClosedPools
 pub mod CopyLemmas
 pub mod Held
+pub mod KeptLemmas
 pub mod Steps
 pub mod Tied

@@ -1,9 +1,9 @@
 -- The objects that are held, by the pools in which they lie.
-use Rattle.std.specs.Prelude.{◌≡◌, refl, ℕ, List, [], Option, Some, None, IfSome}
+use Rattle.std.specs.Prelude.{◌≡◌, refl, ℕ, List, [], Option, Some, None, Bool, true, false, cond, not, nat_eq, IfSome}
 use Rattle.std.specs.Ordering.{nat_cmp}
 use Rattle.std.specs.Coded.{Coded, code_by, coded×, coded_ℕ, coded_list, coded_option}
 use Rattle.std.specs.Option.{option_map, option_map_or}
-use Rattle.std.specs.FinMap.{FinMap, get}
+use Rattle.std.specs.FinMap.{FinMap, get, remove}
 use Rattle.number_map.specs.Table.{mapped, AreGiven}
 use Rattle.pool_area.specs.Lots.{Held}
 use Rattle.pool_area.specs.Blocks.{Blocks}
@@ -64,6 +64,28 @@ with_own_words f (InBlock s) = InBlock s
 abbrev pub spot_in : {A : Type 0} → Entry A → Option Spot
 spot_in (Standard words) = None
 spot_in (InBlock s) = Some s
+
+-- an object lies in a block of this pool
+abbrev pub is_in : {A : Type 0} → ℕ → Entry A → Bool
+is_in p (Standard words) = false
+is_in p (InBlock s) = nat_eq s.pool p
+
+abbrev pub is_elsewhere : {A : Type 0} → ℕ → Entry A → Bool
+is_elsewhere p e = not (is_in p e)
+
+-- an object is held no more, where it lies in this pool
+abbrev pub forgotten : {A : Type 0} → ℕ → Option ℕ → FinMap nat_cmp (Entry A) → FinMap nat_cmp (Entry A)
+forgotten p None objects = objects
+forgotten p (Some n) objects = cond (option_map_or (is_in p) (get objects n) false) (remove objects n) objects
+
+-- an object that lies in this pool is held by its block
+abbrev pub IsHeldBy : {A : Type 0} → ℕ → Blocks → ℕ → Entry A → Type 0
+IsHeldBy p b n (Standard words) = Unit {0}
+IsHeldBy p b n (InBlock s) = nat_eq s.pool p ≡ true → object_in (get b.out s.address) ≡ Some n
+
+-- as is each that lies in it
+abbrev pub AreHeldBy : {A : Type 0} → ℕ → Blocks → FinMap nat_cmp (Entry A) → Type 0
+AreHeldBy p b objects = (n : ℕ) → IfSome (get objects n) (IsHeldBy p b n)
 
 -- the block of an object holds it
 abbrev pub IsTied : {A : Type 0} → FinMap nat_cmp Blocks → ℕ → Entry A → Type 0

@@ -1,3 +1,4 @@
 pub mod Entries
 pub mod Fault
+pub mod Kept
 pub mod Store

@@ -1,5 +1,5 @@
 -- The objects that are held, and the pools of blocks (RM 13.11).
-use Rattle.std.specs.Prelude.{refl, ℕ, ◌+◌, ◌-◌, ◌≤◌, List, [], length, replicate, Option, Some, None, Result, Ok, Err, Bool, false, ◌||◌, ◌&&◌, nat_eq, nat_lt, nat_le, is_none, IfSome, IsSome, slice_set, slice_index_or}
+use Rattle.std.specs.Prelude.{refl, ℕ, ◌+◌, ◌-◌, ◌≤◌, List, [], length, replicate, Option, Some, None, Result, Ok, Err, Bool, false, ◌||◌, ◌&&◌, not, nat_eq, nat_lt, nat_le, is_none, IfSome, IsSome, slice_set, slice_index_or}
 use Rattle.std.specs.Ordering.{nat_cmp}
 use Rattle.std.specs.Option.{option_map, option_map_or}
 use Rattle.std.specs.Coded.{Coded, code_by, coded×, coded_ℕ, coded_option}
@@ -11,6 +11,7 @@ use Rattle.pool_store.specs.declared.fault.StoreFault.TheVariants.{Gone}
 use Rattle.pool_store.specs.declared.store.Address.{Address}
 use Rattle.pool_store.specs.declared.entry.Spot.{Spot}
 use Rattle.pool_store.specs.Entries.{Stored, stored_code, BlockPool}
+use Rattle.pool_store.specs.Kept.{kept}
 
 pub record Store : Type 0 where
   pub objects : FinMap nat_cmp Stored
@@ -146,3 +147,11 @@ is_fit_in p a units s = option_map_or (is_fit a units) (get s.blocks p) false
 -- where an object lies, None for the standard pool
 abbrev pub spot_of : ℕ → Store → Option Spot
 spot_of n s = option_map_or (λ o. o.spot) (get s.objects n) None
+
+-- an object lies in a block of this pool
+abbrev pub lies_in : ℕ → Stored → Bool
+lies_in p o = option_map_or (λ x. nat_eq x.pool p) o.spot false
+
+-- a pool closes: the objects in it are gone, and its addresses are out no more
+abbrev pub without_pool : ℕ → Store → Store
+without_pool p s = record s { objects = kept (λ o. not (lies_in p o)) s.objects; blocks = remove s.blocks p }

@@ -21,7 +21,7 @@ pub enum Entry<A: Allocator = Global> {
 }
 
 impl<A: Allocator> Entry<A> {
-    ghost use Rattle.pool_store.specs.Entries.{own_words, with_own_words, spot_in};
+    ghost use Rattle.pool_store.specs.Entries.{own_words, with_own_words, spot_in, is_in};
 
     /// Where it lies, unless in the standard pool.
     pub fn spot(&self) -> Option<Spot>
@@ -30,6 +30,16 @@ impl<A: Allocator> Entry<A> {
         match self {
             Entry::Standard(_) => None,
             Entry::InBlock(spot) => Some(*spot),
+        }
+    }
+
+    /// Whether it lies in a block of this pool.
+    pub fn is_in(&self, pool: u64) -> bool
+        ensures { result ≡ is_in pool self.now }
+    {
+        match self {
+            Entry::Standard(_) => false,
+            Entry::InBlock(spot) => spot.pool == pool,
         }
     }
 

@@ -1,6 +1,7 @@
 //! Objects by number: their words, and where these lie.
 #![tactic(auto)]
 
+mod closing;
 mod entry;
 mod fault;
 mod object;

@@ -1,7 +1,8 @@
 ghost use Rattle.std.specs.Prelude.{◌≡◌, ℕ, ◌+◌, ◌-◌, ◌*◌, ◌/◌, ◌^◌, ◌<◌, ◌≤◌, length, None, Some, Ok, Err, true, false, if◌then◌else◌, slice_index_or, OnOk, OnErr, IfOk, IfErr, IfSome, IsTrue, is_some, ◌↔◌, ◌≢◌};
 ghost use Rattle.std.specs.FinMap.{get};
-ghost use Rattle.pool_store.specs.Store.{no_store, with_object, without_object, with_word, copied, IsWithin, read_word, held_or_gone, both_or_gone, vacated, words_of, IsOpen, IsPoolSize, with_pool, take_block, is_exhausted_in, is_vacant_in, give_block, is_fit_in, hold_block, spot_of};
+ghost use Rattle.pool_store.specs.Store.{no_store, with_object, without_object, with_word, copied, IsWithin, read_word, held_or_gone, both_or_gone, vacated, words_of, IsOpen, IsPoolSize, with_pool, take_block, is_exhausted_in, is_vacant_in, give_block, is_fit_in, hold_block, spot_of, without_pool};
 
+use crate::closing::close_area;
 use crate::entry::{Entry, Spot};
 use crate::fault::StoreFault;
 use crate::object::Object;
@@ -351,6 +352,17 @@ impl<A: Allocator> PoolStore<A> {
         ensures { result ≡ is_some (get self.now.blocks pool) }
     {
         self.blocks.contains(pool)
+    }
+
+    /// Closes a pool and frees it: the objects in it are gone, and its addresses are out no more. It takes no memory.
+    pub fn close_pool(&mut self, pool: u64)
+        requires { IsOpen pool self.old }
+        ensures { self.new ≡ without_pool pool self.old }
+    {
+        match self.blocks.remove(pool) {
+            Some(area) => close_area(&mut self.objects, pool, area),
+            None => unreachable!(),
+        }
     }
 
     /// Frees all memory.

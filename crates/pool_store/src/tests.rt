@@ -237,6 +237,81 @@ fn an_address_is_used_once(rt: HostRuntime) {
     assert_eq!(rt; word, 0);
 }
 
+fn close_pool<A: Allocator>(store: &mut PoolStore<A>, pool: u64) -> bool {
+    if !store.is_open(pool) {
+        return false;
+    }
+    store.close_pool(pool);
+    !store.is_open(pool)
+}
+
+/// Pool 1 has the object 7 in one of its two blocks, and none in the other, pool 2 has 8, and 9 lies in no block: what
+/// stays when pool 1 closes.
+fn what_a_closed_pool_leaves<A: Allocator + Copy>(
+    store: &mut PoolStore<A>,
+) -> ([u64; 4], [u32; 8]) {
+    let first_pool = open_block(store, 1, 16, 2);
+    let second_pool = open_block(store, 2, 16, 1);
+    let first = allocate(store, 1, 16);
+    let vacant = allocate(store, 1, 16);
+    let other = allocate(store, 2, 16);
+    let held = occupy(store, [1, first], 7, 16);
+    let also = occupy(store, [2, other], 8, 16);
+    let made = standard(store, 9, 2);
+    let written = write(store, 8, 1, 3);
+    let last = write(store, 9, 1, 4);
+    let closed = close_pool(store, 1);
+    let gone = read(store, 7, 1);
+    let refused = deallocate(store, 1, vacant);
+    let words = [gone, read(store, 8, 1), read(store, 9, 1), closed as u64];
+    (
+        words,
+        [
+            first_pool,
+            second_pool,
+            held,
+            also,
+            made,
+            written,
+            last,
+            refused,
+        ],
+    )
+}
+
+#[test]
+fn a_pool_closes(rt: HostRuntime) {
+    let mut store = PoolStore::new(rt.alloc());
+    let (words, faults) = what_a_closed_pool_leaves(&mut store);
+    let unavailable = allocate(&mut store, 1, 16);
+    let reopened = open_block(&mut store, 1, 8, 1);
+    let address = allocate(&mut store, 1, 8);
+    store.close();
+    assert_eq!(rt; words, [64, 3, 4, 1]);
+    assert_eq!(rt; faults, [0, 0, 0, 0, 0, 0, 0, 63]);
+    assert_eq!(rt; unavailable, 2000);
+    assert_eq!(rt; reopened, 0);
+    assert_eq!(rt; address, 4);
+}
+
+/// A pool that closes gives its region back.
+#[test]
+fn a_closed_pool_is_freed(rt: HostRuntime) -> Result<(), Fail> {
+    let heap = LocalHeap::new(rt.alloc(), 16384)?;
+    let mut store = PoolStore::new(&heap);
+    let opened = open_block(&mut store, 1, 4096, 2);
+    let open = heap.used();
+    let closed = close_pool(&mut store, 1);
+    let left = heap.used();
+    store.close();
+    assert_eq!(rt; opened, 0);
+    assert!(rt; closed);
+    // Two blocks of 4,096 storage units each.
+    assert!(rt; left < open && open - left >= 8192);
+    assert_eq!(rt; heap.used(), 0);
+    Ok(())
+}
+
 /// A pool of two blocks with two objects over a heap: whether all was made, and whether what a call refused was not
 /// there and what was there before stayed.
 fn grow_in_blocks(heap: &LocalHeap) -> [bool; 2] {
