@@ -15,11 +15,12 @@ use Rattle.ctl_tree.specs.declared.tree.Item as TheItem
 use Rattle.ctl_tree.specs.declared.tree.ItemKind.{ItemKind}
 use Rattle.ctl_tree.specs.declared.tree.ItemKind as Item
 use Rattle.ctl_legality.specs.declared.view.Entity.{Entity}
+use Rattle.ctl_legality.specs.declared.view.Form.{Form}
 use Rattle.ctl_legality.specs.declared.view.Known.{Known}
 use Rattle.ctl_legality.specs.declared.view.Declaration.{Declaration}
 use Rattle.ctl_legality.specs.declared.view.Naming.{Naming}
-use Rattle.ctl_legality.specs.View.{View, declare, with_entity_at, known_as, is_own, own_with, completed_by, complete, within, last_of, wants_body, is_incomplete}
-use Rattle.ctl_legality.specs.Sites.{declare_each, after_formals, is_some_more, after_choice, after_choice_list, after_choices, key_of, heading_key, after_item, after_components, after_item_list, in_heading, in_definition, in_record, completed_body, completed_type, in_loop, after_handler, after_handler_list}
+use Rattle.ctl_legality.specs.View.{View, declare, with_entity_at, known_as, is_own, own_with, completed_by, complete, within, last_of, wants_body, is_incomplete, folded, is_some_more}
+use Rattle.ctl_legality.specs.Sites.{declare_each, after_formals, declared_number, form_in, written_components, after_choice, after_choice_list, after_choices, key_of, heading_key, after_item, after_components, after_item_list, in_heading, in_definition, in_record, completed_body, completed_type, in_loop, after_handler, after_handler_list}
 
 -- what stands in front of this place stays
 pub record Keeps (base : ℕ) (v w : View) : Type 0 where
@@ -97,23 +98,26 @@ pub choices_kept : (base : ℕ) (c : Choices) (v : View) → base ≤ length v.n
 choices_kept base Choices.Others v h = same_kept base v h
 choices_kept base (Choices.Exceptions ds) v h = choice_list_kept base ds.items v h
 
+pub components_kept : (base : ℕ) (p : ℕ) (cs : List ComponentDeclaration) (v : View) → base ≤ length v.names → Keeps base v (after_components p cs v)
+components_kept base p [] v h = same_kept base v h
+components_kept base p (c ∷ cs) v h =
+    let one = each_kept base (Naming.Component p) Entity.Object c.names.items v h in
+    let u = declare_each (Naming.Component p) Entity.Object c.names.items v in
+    then_kept base v u (after_components p cs u) one (components_kept base p cs u one.room)
+
 -- an item keeps what stands around its part, and where the part starts
 pub item_kept : (i : ItemKind) (v : View) → v.part.start ≤ length v.names → Keeps v.part.start v (after_item i v)
 item_kept (Item.Declaration o s) v h = declare_kept v.part.start (heading_key s) s.name.span (Entity.Subprogram false) v h
 item_kept (Item.Body o s b) v h = let k = complete_kept wants_body (heading_key s) s.name.span (Entity.Subprogram true) v h in record { names = k.names; room = k.room; units = k.units }
 item_kept (Item.Instance id unit actuals) v h = declare_kept v.part.start _ id.span Entity.Instance v h
-item_kept (Item.Incomplete id tagged) v h = declare_kept v.part.start _ id.span (Entity.«Type» false) v h
-item_kept (Item.«Type» id d) v h = complete_kept is_incomplete _ id.span (Entity.«Type» true) v h
+item_kept (Item.Incomplete id tagged) v h = declare_kept v.part.start _ id.span (Entity.«Type» Form.Incomplete) v h
+item_kept (Item.«Type» id d) v h =
+    let u = complete v (folded id) id.span (Entity.«Type» (form_in d v id)) (completed_type v id) in
+    let one = complete_kept is_incomplete (folded id) id.span (Entity.«Type» (form_in d v id)) v h in
+    then_kept v.part.start v u (after_item (Item.«Type» id d) v) one (components_kept v.part.start (declared_number v id) (written_components d) u one.room)
 item_kept (Item.Clause id attribute pool) v h = same_kept v.part.start v h
 item_kept (Item.Exceptions ids) v h = each_kept v.part.start Naming.Direct Entity.Exception ids.items v h
 item_kept (Item.Objects o) v h = each_kept v.part.start Naming.Direct Entity.Object o.names.items v h
-
-pub components_kept : (base : ℕ) (cs : List ComponentDeclaration) (v : View) → base ≤ length v.names → Keeps base v (after_components cs v)
-components_kept base [] v h = same_kept base v h
-components_kept base (c ∷ cs) v h =
-    let one = each_kept base Naming.Component Entity.Object c.names.items v h in
-    let u = declare_each Naming.Component Entity.Object c.names.items v in
-    then_kept base v u (after_components cs u) one (components_kept base cs u one.room)
 
 pub heading_kept : (s : Specification) (v : View) → Keeps (length v.names) v (in_heading v s)
 heading_kept s v = let k = within_kept (length v.names) (completed_body v s) (heading_key s) s.name.span Entity.Hidden v (omega arith) in record { names = k.names; room = k.room; units = k.units }
@@ -122,7 +126,7 @@ pub definition_kept : (id : Identifier) (v : View) → Keeps (length v.names) v 
 definition_kept id v = within_kept (length v.names) (completed_type v id) _ id.span Entity.Hidden v (omega arith)
 
 pub record_kept : (id : Identifier) (v : View) → Keeps (length v.names) v (in_record v id)
-record_kept id v = let k = within_kept (length v.names) (completed_type v id) _ id.span (Entity.«Type» true) v (omega arith) in record { names = k.names; room = k.room; units = k.units }
+record_kept id v = let k = within_kept (length v.names) (completed_type v id) _ id.span (Entity.«Type» Form.Underived) v (omega arith) in record { names = k.names; room = k.room; units = k.units }
 
 pub loop_kept : (c : Scheme) (v : View) → Keeps (length v.names) v (in_loop c v)
 loop_kept Scheme.Endless v = same_kept (length v.names) v (omega arith)
@@ -141,13 +145,19 @@ pub formals_start : (fs : List Formal) (v : View) → (after_formals fs v).part.
 formals_start [] v = refl
 formals_start (f ∷ fs) v = formals_start fs (declare_each Naming.Direct Entity.Object f.names.items v) ∙ each_start Naming.Direct Entity.Object f.names.items v
 
+components_start : (p : ℕ) (cs : List ComponentDeclaration) (v : View) → (after_components p cs v).part.start ≡ v.part.start
+components_start p [] v = refl
+components_start p (c ∷ cs) v = components_start p cs (declare_each (Naming.Component p) Entity.Object c.names.items v) ∙ each_start (Naming.Component p) Entity.Object c.names.items v
+
 -- an item leaves where its part starts
 pub item_start : (i : ItemKind) (v : View) → (after_item i v).part.start ≡ v.part.start
 item_start (Item.Declaration o s) v = refl
 item_start (Item.Body o s b) v = complete_start (completed_body v s) (heading_key s) s.name.span (Entity.Subprogram true) v
 item_start (Item.Instance id unit actuals) v = refl
 item_start (Item.Incomplete id tagged) v = refl
-item_start (Item.«Type» id d) v = complete_start (completed_type v id) _ id.span (Entity.«Type» true) v
+item_start (Item.«Type» id d) v =
+    let u = complete v (folded id) id.span (Entity.«Type» (form_in d v id)) (completed_type v id) in
+    components_start (declared_number v id) (written_components d) u ∙ complete_start (completed_type v id) (folded id) id.span (Entity.«Type» (form_in d v id)) v
 item_start (Item.Clause id attribute pool) v = refl
 item_start (Item.Exceptions ids) v = each_start Naming.Direct Entity.Exception ids.items v
 item_start (Item.Objects o) v = each_start Naming.Direct Entity.Object o.names.items v

@@ -1,5 +1,6 @@
 pub mod Library
 pub mod View
+pub mod Types
 pub mod Sites
 pub mod Rules
 pub mod Judged

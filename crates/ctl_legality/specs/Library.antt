@@ -1,11 +1,13 @@
 -- The library units, and what they declare (A.1, 10.1.1).
-use Rattle.std.specs.Prelude.{ℕ, Bool, List, [], ◌∷◌, Option, codes}
-use Rattle.std.specs.List.{find}
+use Rattle.std.specs.Prelude.{ℕ, Bool, true, false, List, [], ◌∷◌, Option, codes}
+use Rattle.std.specs.List.{find, list_any}
 use Rattle.std.specs.Str.{bytes_eq}
 use Rattle.ctl_legality.specs.declared.library.Unit.{Unit}
 use Rattle.ctl_legality.specs.declared.library.Unit.TheVariants.{Ada, TextIo, Finalization, UncheckedDeallocation, UncheckedDeallocateSubpool, System, StorageElements, StoragePools, Subpools, BlockPools, MarkReleasePools}
 use Rattle.ctl_legality.specs.declared.library.LibraryName.{LibraryName}
 use Rattle.ctl_legality.specs.declared.library.LibraryName.TheVariants.{Integer, Boolean, True, False, ConstraintError, ProgramError, StorageError, Put, PutLine, NewLine, Controlled, LimitedControlled, Address, NullAddress, StorageCount, RootStoragePool, SubpoolHandle, BlockPool, MarkReleasePool, Mark, DefaultSubpool}
+use Rattle.ctl_legality.specs.declared.library.Discriminant.{Discriminant}
+use Rattle.ctl_legality.specs.declared.library.Discriminant.TheVariants.{BlockSize, BlockCount, PoolSize}
 use Rattle.ctl_legality.specs.declared.library.Operation.{Operation}
 use Rattle.ctl_legality.specs.declared.library.Operation.TheVariants.{Initialize, Adjust, Finalize, Allocate, Deallocate}
 
@@ -47,12 +49,26 @@ name_spelling MarkReleasePool = codes "mark_release_pool"
 name_spelling Mark = codes "mark"
 name_spelling DefaultSubpool = codes "default_subpool_for_pool"
 
+abbrev pub discriminant_spelling : Discriminant → List ℕ
+discriminant_spelling BlockSize = codes "block_size"
+discriminant_spelling BlockCount = codes "block_count"
+discriminant_spelling PoolSize = codes "pool_size"
+
 abbrev pub operation_spelling : Operation → List ℕ
 operation_spelling Initialize = codes "initialize"
 operation_spelling Adjust = codes "adjust"
 operation_spelling Finalize = codes "finalize"
 operation_spelling Allocate = codes "allocate"
 operation_spelling Deallocate = codes "deallocate"
+
+-- the controlled types; a storage pool is one of them (7.6(5), 13.11(5))
+abbrev pub is_controlled : LibraryName → Bool
+is_controlled Controlled = true
+is_controlled LimitedControlled = true
+is_controlled RootStoragePool = true
+is_controlled BlockPool = true
+is_controlled MarkReleasePool = true
+is_controlled _ = false
 
 -- What declares what ------------------------------------------------------------------------------
 
@@ -96,6 +112,23 @@ names_of BlockPools = BlockPool ∷ []
 names_of MarkReleasePools = MarkReleasePool ∷ Mark ∷ DefaultSubpool ∷ []
 names_of _ = []
 
+-- the discriminants of a library type, which an extension inherits as components (3.7, 3.9.1)
+abbrev pub discriminants : LibraryName → List Discriminant
+discriminants BlockPool = BlockSize ∷ BlockCount ∷ []
+discriminants MarkReleasePool = PoolSize ∷ []
+discriminants _ = []
+
+-- which operations an extension of a library type has (7.6(4), 13.11(6)): a limited type has no Adjust
+abbrev pub has_operation : Operation → LibraryName → Bool
+has_operation Initialize l = is_controlled l
+has_operation Adjust Controlled = true
+has_operation Adjust _ = false
+has_operation Finalize l = is_controlled l
+has_operation Allocate BlockPool = true
+has_operation Allocate _ = false
+has_operation Deallocate BlockPool = true
+has_operation Deallocate _ = false
+
 -- the operations that a type may override (7.6, 13.11)
 abbrev pub operations : List Operation
 operations = Initialize ∷ Adjust ∷ Finalize ∷ Allocate ∷ Deallocate ∷ []
@@ -122,6 +155,13 @@ child_of u n = find (is_unit n) (children u)
 -- what a unit declares under a name
 unfoldable pub name_in : Unit → List ℕ → Option LibraryName
 name_in u n = find (is_name n) (names_of u)
+
+unfoldable pub is_discriminant : List ℕ → Discriminant → Bool
+is_discriminant n d = bytes_eq n (discriminant_spelling d)
+
+-- does a library type have a discriminant of this name?
+abbrev pub has_discriminant : List ℕ → LibraryName → Bool
+has_discriminant n l = list_any (is_discriminant n) (discriminants l)
 
 -- the operation of this name
 unfoldable pub operation_named : List ℕ → Option Operation

@@ -1,5 +1,5 @@
 -- The rules on names, order and completion: each with the places where it is broken.
-use Rattle.std.specs.Prelude.{◌≡◌, ℕ, ◌-◌, ◌==◌, Bool, true, false, ◌&&◌, not, List, [], ◌∷◌, ◌++◌, drop, Option, Some, None, if◌then◌else◌, slice_get}
+use Rattle.std.specs.Prelude.{◌≡◌, ℕ, ◌-◌, ◌==◌, Bool, true, false, ◌&&◌, ◌||◌, not, List, [], ◌∷◌, ◌++◌, drop, Option, Some, None, if◌then◌else◌, slice_get}
 use Rattle.ctl_tree.specs.declared.span.Span.{Span}
 use Rattle.ctl_tree.specs.declared.tree.Identifier.{Identifier}
 use Rattle.ctl_legality.specs.declared.library.Unit.{Unit}
@@ -23,8 +23,9 @@ use Rattle.ctl_legality.specs.declared.view.Rule.{Rule}
 use Rattle.ctl_legality.specs.declared.view.Breach.{Breach}
 use Rattle.ctl_legality.specs.declared.view.Way.{Way}
 use Rattle.ctl_legality.specs.declared.view.Way.TheVariants.{Reaches, Stops}
-use Rattle.ctl_legality.specs.View.{View, folded, is_of_part, is_declared_here, last_of, meaning, completed_by, wants_body, is_incomplete, waits, is_brought, not_brought}
-use Rattle.ctl_legality.specs.Sites.{Site, named, declared, body, full_type, type_item, clause, end, part, with_unit, use_unit, folded_each, way_of_path}
+use Rattle.ctl_legality.specs.Types.{component_key, is_inherited}
+use Rattle.ctl_legality.specs.View.{View, folded, folded_each, is_of_part, is_declared_here, last_of, meaning, completed_by, wants_body, is_incomplete, waits, is_brought, not_brought}
+use Rattle.ctl_legality.specs.Sites.{Site, named, declared, component, body, full_type, type_item, clause, end, part, with_unit, use_unit, way_of_path}
 
 -- A rule, and the places where a site breaks it.
 pub record Law : Type 0 where
@@ -82,13 +83,15 @@ unknown (with_unit path) = with_broken path
 unknown (use_unit units path) = use_broken units path
 unknown _ = []
 
--- DUPLICATE: a second declaration of a name in one region (8.3(26)); a body or a full type may complete one
+-- DUPLICATE: a second declaration of a name in one region (8.3(26)), or a component that an extension inherits already (3.9.1); a body or a
+-- full type may complete one
 abbrev pub is_nothing : Option Known → Bool
 is_nothing None = true
 is_nothing (Some k) = false
 
 abbrev pub duplicate : Site → List Span
 duplicate (declared v n at) = when (is_declared_here v n) at
+duplicate (component v p ms id) = when (is_declared_here v (component_key p (folded id)) || is_inherited v.names (folded id) ms) id.span
 duplicate (body v n at) = when (is_declared_here v n && is_nothing (completed_by wants_body v n)) at
 duplicate (full_type v n at) = when (is_declared_here v n && is_nothing (completed_by is_incomplete v n)) at
 duplicate _ = []
@@ -124,7 +127,7 @@ is_library_type MarkReleasePool = true
 is_library_type _ = false
 
 abbrev pub is_any_type : Entity → Bool
-is_any_type («Type» is_full) = true
+is_any_type («Type» form) = true
 is_any_type (Library l) = is_library_type l
 is_any_type _ = false
 

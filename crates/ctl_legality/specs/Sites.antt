@@ -37,6 +37,8 @@ use Rattle.ctl_legality.specs.declared.library.Operation.{Operation}
 use Rattle.ctl_legality.specs.declared.library.Unit.{Unit}
 use Rattle.ctl_legality.specs.declared.view.Entity.{Entity}
 use Rattle.ctl_legality.specs.declared.view.Known.{Known}
+use Rattle.ctl_legality.specs.declared.view.Form.{Form}
+use Rattle.ctl_legality.specs.declared.view.Mark.{Mark}
 use Rattle.ctl_legality.specs.declared.view.Naming.{Naming}
 use Rattle.ctl_legality.specs.declared.view.Usage.{Usage}
 use Rattle.ctl_legality.specs.declared.view.Usage.TheVariants.{Designated, Parent, Allocated, Plain}
@@ -48,7 +50,8 @@ use Rattle.ctl_freezing.specs.declared.fact.Fact.{Fact}
 use Rattle.ctl_legality.specs.Library.{root_unit, with_ancestors, names_of, operation_named}
 use Rattle.ctl_legality.specs.declared.view.Way.{Way}
 use Rattle.ctl_legality.specs.declared.view.Way.TheVariants.{Reaches, Stops}
-use Rattle.ctl_legality.specs.View.{View, way_from, folded, is_brought, standard, declare_library, declare, complete, within, completed_by, wants_body, is_incomplete, type_of_part, subprogram_of_part, inside, region, behind_body}
+use Rattle.ctl_legality.specs.Types.{component_key, lineage, mark_in, overrides}
+use Rattle.ctl_legality.specs.View.{View, way_from, folded, folded_each, is_some_more, is_brought, standard, declare_library, declare, complete, within, completed_by, wants_body, is_incomplete, type_of_part, subprogram_of_part, inside, region, behind_body}
 
 -- A site, with what is in view there.
 pub data Site : Type 0 where
@@ -56,6 +59,8 @@ pub data Site : Type 0 where
   named : View → Identifier → List Identifier → Usage → Site
   -- a name that is declared
   declared : View → List ℕ → Span → Site
+  -- a component that the type of this number declares, where it extends the first of these types and with it the others
+  component : View → ℕ → List Mark → Identifier → Site
   -- the name of a body
   body : View → List ℕ → Span → Site
   -- the name of a full type
@@ -91,10 +96,11 @@ override_key n (Some d) = n ++ (40 ∷ folded (last_identifier d.first d.rest.it
 abbrev pub heading_key : Specification → List ℕ
 heading_key s = if is_some (operation_named (folded s.name)) then override_key (folded s.name) (first_mark s.formals.items) else folded s.name
 
--- A component is no direct name (8.3, 4.1.3), nor is a choice of a handler (11.2): they are known by their names behind a dot, or a bar.
+-- A component is no direct name (8.3, 4.1.3), nor is a choice of a handler (11.2): the one is known by its type and its name, the other by its
+-- name behind a bar.
 abbrev pub key_of : Naming → Identifier → List ℕ
 key_of Naming.Direct id = folded id
-key_of Naming.Component id = 46 ∷ folded id
+key_of (Naming.Component p) id = component_key p (folded id)
 key_of Naming.Choice id = 124 ∷ folded id
 
 -- ---- several identifiers of one declaration (3.3.1(7))
@@ -262,18 +268,36 @@ abbrev pub in_definition : View → Identifier → View
 in_definition v id = within v (folded id) id.span Entity.Hidden (completed_type v id)
 
 abbrev pub in_record : View → Identifier → View
-in_record v id = region (within v (folded id) id.span (Entity.«Type» true) (completed_type v id))
+in_record v id = region (within v (folded id) id.span (Entity.«Type» Form.Underived) (completed_type v id))
 
-abbrev pub component_sites : ComponentDeclaration → View → List Site
-component_sites c v = (dotted_site c.mark v (Usage.Object (not (is_some c.default))) ∷ option_sites c.default v) ++ declared_each Naming.Component Entity.Object c.names.items v
+-- the names of components, each beside those before it
+abbrev pub component_names : ℕ → List Mark → List Identifier → View → List Site
+component_names p ms [] v = []
+component_names p ms (id ∷ ids) v = (component v p ms id ∷ []) ++ component_names p ms ids (declare v (key_of (Naming.Component p) id) id.span Entity.Object)
 
-abbrev pub components_sites : List ComponentDeclaration → View → List Site
-components_sites [] v = []
-components_sites (c ∷ cs) v = component_sites c v ++ components_sites cs (declare_each Naming.Component Entity.Object c.names.items v)
+abbrev pub component_sites : ℕ → List Mark → ComponentDeclaration → View → List Site
+component_sites p ms c v = (dotted_site c.mark v (Usage.Object (not (is_some c.default))) ∷ option_sites c.default v) ++ component_names p ms c.names.items v
 
-abbrev pub after_components : List ComponentDeclaration → View → View
-after_components [] v = v
-after_components (c ∷ cs) v = after_components cs (declare_each Naming.Component Entity.Object c.names.items v)
+abbrev pub components_sites : ℕ → List Mark → List ComponentDeclaration → View → List Site
+components_sites p ms [] v = []
+components_sites p ms (c ∷ cs) v = component_sites p ms c v ++ components_sites p ms cs (declare_each (Naming.Component p) Entity.Object c.names.items v)
+
+-- what is in view behind components of the type of this number
+abbrev pub after_components : ℕ → List ComponentDeclaration → View → View
+after_components p [] v = v
+after_components p (c ∷ cs) v = after_components p cs (declare_each (Naming.Component p) Entity.Object c.names.items v)
+
+abbrev pub number_in : View → Option Known → ℕ
+number_in v None = length v.names
+number_in v (Some k) = k.place
+
+-- the number of the type that this identifier declares in full
+abbrev pub declared_number : View → Identifier → ℕ
+declared_number v id = number_in v (completed_type v id)
+
+-- the parent of an extension, and its ancestors
+abbrev pub parents : View → Identifier → Dotted → List Mark
+parents v id parent = lineage v.names (mark_in (in_definition v id) parent)
 
 abbrev pub aspect_sites : Option Aspect → View → List Site
 aspect_sites None v = []
@@ -281,9 +305,25 @@ aspect_sites (Some a) v = dotted_site a.pool v Plain ∷ []
 
 -- The designated type may be incomplete (3.10.1).
 abbrev pub definition_sites : Definition → View → Identifier → List Site
-definition_sites (Definition.Record limited components) v id = components_sites components.items (in_record v id)
-definition_sites (Definition.Extension parent components) v id = dotted_site parent (in_definition v id) Parent ∷ components_sites components.items (in_record v id)
+definition_sites (Definition.Record limited components) v id = components_sites (declared_number v id) [] components.items (in_record v id)
+definition_sites (Definition.Extension parent components) v id = dotted_site parent (in_definition v id) Parent ∷ components_sites (declared_number v id) (parents v id parent) components.items (in_record v id)
 definition_sites (Definition.Access a) v id = dotted_site a.designated (in_definition v id) Designated ∷ aspect_sites a.aspect (in_definition v id)
+
+-- what its definition makes a type
+abbrev pub form_in : Definition → View → Identifier → Form
+form_in (Definition.Record limited components) v id = Form.Underived
+form_in (Definition.Extension parent components) v id = Form.Extension (mark_in (in_definition v id) parent)
+form_in (Definition.Access a) v id = Form.Underived
+
+-- the components that a definition writes
+abbrev pub written_components : Definition → List ComponentDeclaration
+written_components (Definition.Record limited components) = components.items
+written_components (Definition.Extension parent components) = components.items
+written_components (Definition.Access a) = []
+
+-- A type's components stay in view with it (8.3(2)).
+abbrev pub after_type : View → Identifier → Definition → View
+after_type v id d = after_components (declared_number v id) (written_components d) (complete v (folded id) id.span (Entity.«Type» (form_in d v id)) (completed_type v id))
 
 -- ---- items and statements (3.11, 5.1, 11.2)
 
@@ -292,8 +332,8 @@ abbrev pub after_item : ItemKind → View → View
 after_item (Item.Declaration overriding s) v = declare v (heading_key s) s.name.span (Entity.Subprogram false)
 after_item (Item.Body overriding s b) v = behind_body (name_body v s)
 after_item (Item.Instance id unit actuals) v = declare v (folded id) id.span Entity.Instance
-after_item (Item.Incomplete id tagged) v = declare v (folded id) id.span (Entity.«Type» false)
-after_item (Item.«Type» id definition) v = complete v (folded id) id.span (Entity.«Type» true) (completed_type v id)
+after_item (Item.Incomplete id tagged) v = declare v (folded id) id.span (Entity.«Type» Form.Incomplete)
+after_item (Item.«Type» id definition) v = after_type v id definition
 after_item (Item.Clause id attribute pool) v = v
 after_item (Item.Exceptions ids) v = declare_each Naming.Direct Entity.Exception ids.items v
 after_item (Item.Objects o) v = declare_each Naming.Direct Entity.Object o.names.items v
@@ -307,10 +347,6 @@ objects_sites o v =
     (dotted_site o.mark (hide_each o.names.items v) (Usage.Object (not (is_some o.value)))
     ∷ (associations_sites o.discriminants.items (hide_each o.names.items v) ++ option_sites o.value (hide_each o.names.items v)))
     ++ declared_each Naming.Direct Entity.Object o.names.items v
-
-abbrev pub is_some_more : List Identifier → Bool
-is_some_more [] = false
-is_some_more (x ∷ xs) = true
 
 -- A choice that is an identifier alone is declared among the choices of the part.
 abbrev pub after_choice : Dotted → View → View
@@ -423,15 +459,19 @@ is_called (Some Operation.Adjust) = true
 is_called (Some Operation.Finalize) = true
 is_called _ = false
 
-abbrev pub operation_facts : Specification → Option Operation → Option Known → List Fact
-operation_facts s None k = []
-operation_facts s (Some o) None = []
-operation_facts s (Some o) (Some k) =
-    Fact.Precedes (record { early = Early.Operation; number = k.place; span = s.name.span })
-    ∷ (if is_called (Some o) then Fact.CallsFor k.place ∷ [] else [])
+-- the facts of an override of this operation, for the type of this number
+abbrev pub override_facts : Specification → Operation → ℕ → List Fact
+override_facts s o p =
+    Fact.Precedes (record { early = Early.Operation; number = p; span = s.name.span })
+    ∷ (if is_called (Some o) then Fact.CallsFor p ∷ [] else [])
+
+abbrev pub operation_facts : View → Specification → Option Operation → Option Known → List Fact
+operation_facts v s None k = []
+operation_facts v s (Some o) None = []
+operation_facts v s (Some o) (Some k) = if overrides v s o k.place then override_facts s o k.place else []
 
 abbrev pub heading_facts : View → Specification → List Fact
-heading_facts v s = operation_facts s (operation_named (folded s.name)) (operand v (first_mark s.formals.items))
+heading_facts v s = operation_facts v s (operation_named (folded s.name)) (operand v (first_mark s.formals.items))
 
 abbrev pub body_facts : List Fact → Option Known → List Fact
 body_facts fs None = fs ++ (Fact.Body ∷ [])
@@ -441,13 +481,9 @@ abbrev pub pool_facts : Span → Option Known → List Fact
 pool_facts at None = []
 pool_facts at (Some k) = Fact.Precedes (record { early = Early.Pool; number = k.place; span = at }) ∷ []
 
-abbrev pub number_in : View → Option Known → ℕ
-number_in v None = length v.names
-number_in v (Some k) = k.place
-
 -- the number of the type that an item declares in full
 abbrev pub type_number : ItemKind → View → ℕ
-type_number (Item.«Type» id definition) v = number_in v (completed_type v id)
+type_number (Item.«Type» id definition) v = declared_number v id
 type_number _ v = 0
 
 -- the facts that an item has by its form
@@ -570,10 +606,6 @@ part_sites items handled v = item_list_sites items v ++ (end (after_item_list it
 
 abbrev pub path_of : Dotted → List Identifier
 path_of d = d.first ∷ d.rest.items
-
-abbrev pub folded_each : List Identifier → List (List ℕ)
-folded_each [] = []
-folded_each (id ∷ ids) = folded id ∷ folded_each ids
 
 -- the unit that a path leads to
 abbrev pub way_of_root : List (List ℕ) → Option Unit → Option Way

@@ -10,6 +10,7 @@ use Rattle.ctl_legality.specs.declared.library.LibraryName.{LibraryName}
 use Rattle.ctl_legality.specs.declared.library.Operation.{Operation}
 use Rattle.ctl_legality.specs.declared.view.Entity.{Entity}
 use Rattle.ctl_legality.specs.declared.view.Entity.TheVariants.{Hidden, «Type», Subprogram, Library}
+use Rattle.ctl_legality.specs.declared.view.Form.TheVariants.{Incomplete}
 use Rattle.ctl_legality.specs.declared.view.Known.{Known}
 use Rattle.ctl_legality.specs.declared.view.Declaration.{Declaration}
 use Rattle.ctl_legality.specs.declared.view.Part.{Part}
@@ -33,6 +34,14 @@ pub record View : Type 0 where
 -- case does not count (2.3)
 abbrev pub folded : Identifier → List ℕ
 folded id = str_to_ascii_lowercase id.name
+
+abbrev pub folded_each : List Identifier → List (List ℕ)
+folded_each [] = []
+folded_each (id ∷ ids) = folded id ∷ folded_each ids
+
+abbrev pub is_some_more : List Identifier → Bool
+is_some_more [] = false
+is_some_more (x ∷ xs) = true
 
 -- The innermost declaration of a name hides the others (8.3).
 abbrev pub last_of : List Declaration → List ℕ → Option Known
@@ -143,7 +152,7 @@ wants_body _ = false
 
 -- an incomplete type (3.10.1)
 abbrev pub is_incomplete : Entity → Bool
-is_incomplete («Type» is_full) = not is_full
+is_incomplete («Type» Incomplete) = true
 is_incomplete _ = false
 
 -- a declaration that wants a completion (3.11.1)
@@ -172,7 +181,7 @@ within v n at e (Some k) = v
 -- ---- the declarative part around a place
 
 abbrev pub is_type : Entity → Bool
-is_type («Type» is_full) = true
+is_type («Type» form) = true
 is_type _ = false
 
 abbrev pub is_subprogram : Entity → Bool

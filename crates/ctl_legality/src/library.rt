@@ -51,6 +51,14 @@ pub enum LibraryName {
     DefaultSubpool,
 }
 
+/// A discriminant of a pool type of the library (RM 3.7).
+#[derive(Clone, Copy, Debug, PartialEq, Eq)]
+pub enum Discriminant {
+    BlockSize,
+    BlockCount,
+    PoolSize,
+}
+
 /// An operation that a type may override (RM 7.6, 13.11).
 #[derive(Clone, Copy, Debug, PartialEq, Eq)]
 pub enum Operation {

@@ -3,14 +3,36 @@
 use crate::library::{LibraryName, Operation, Unit};
 use ctl_tree::span::Span;
 use ctl_tree::text::Text;
+use ctl_tree::tree::Mode;
+
+/// What a mark denotes, where that is a full type of the text or a declaration of the library.
+#[derive(Clone, Copy, Debug, PartialEq, Eq)]
+pub enum Mark {
+    /// neither of them
+    Other,
+    /// a type of the text, by the place of its declaration among those in view
+    Declared(usize),
+    Library(LibraryName),
+}
+
+/// What the declaration of a type makes it.
+#[derive(Clone, Copy, Debug, PartialEq, Eq)]
+pub enum Form {
+    /// its full declaration has not ended (RM 3.10.1)
+    Incomplete,
+    /// a record or an access type, derived from no other type (RM 3.8, 3.10)
+    Underived,
+    /// an extension of this parent (RM 3.9.1)
+    Extension(Mark),
+}
 
 /// What a declaration declares.
 #[derive(Clone, Copy, Debug, PartialEq, Eq)]
 pub enum Entity {
     /// not visible yet: its own declaration has not ended (RM 8.3(17))
     Hidden,
-    /// a type, and whether its full declaration has ended (RM 3.10.1)
-    Type(bool),
+    /// a type (RM 3.2.1)
+    Type(Form),
     /// a subprogram, and whether its body was met (RM 6.1, 6.3)
     Subprogram(bool),
     /// a variable, a constant, a parameter or a component
@@ -120,10 +142,18 @@ pub enum Effect {
 pub enum Naming {
     /// by its name, which a use may give
     Direct,
-    /// by its name behind a dot: a component is no direct name
-    Component,
+    /// by the number of its type and its name: a component is no direct name
+    Component(usize),
     /// by its name behind a bar: a choice of an exception handler
     Choice,
+}
+
+/// A parameter of a subprogram (RM 6.1).
+#[derive(Clone, Copy, Debug, PartialEq, Eq)]
+pub struct Parameter {
+    pub mode: Mode,
+    /// what the mark of its type denotes
+    pub mark: Mark,
 }
 
 /// A rule of legality that is judged with the names.

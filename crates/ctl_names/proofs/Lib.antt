@@ -3,3 +3,4 @@ pub mod Ways
 pub mod Turns
 pub mod Whole
 pub mod ItemFacts
+pub mod Ancestors

@@ -6,8 +6,7 @@ use Rattle.ctl_tree.specs.declared.tree.Identifier.{Identifier}
 use Rattle.ctl_legality.specs.declared.library.Unit.{Unit}
 use Rattle.ctl_legality.specs.declared.view.Way.TheVariants.{Reaches}
 use Rattle.ctl_legality.specs.Library.{child_of}
-use Rattle.ctl_legality.specs.View.{folded, way_on, way_from}
-use Rattle.ctl_legality.specs.Sites.{folded_each}
+use Rattle.ctl_legality.specs.View.{folded, folded_each, way_on, way_from}
 
 pub way_step : (u : Unit) (i : ℕ) (rest : List Identifier) (x : Identifier) (o : Option Unit) → i < length rest → x ≡ get_or rest i x → child_of u (folded x) ≡ o → way_from u (i + 1) (folded_each (drop i rest)) ≡ way_on u (i + 1) (folded x) (λ c. way_from c (i + 1 + 1) (folded_each (drop (i + 1) rest))) o
 way_step u i rest x o lt at e =

@@ -2,8 +2,8 @@
 
 ghost use Rattle.std.specs.Prelude.{◌≡◌, ◌++◌, ◌∷◌, [], IfOk, OnOk};
 ghost use Rattle.ctl_legality.specs.declared.view.Entity.TheVariants as entity;
-ghost use Rattle.ctl_legality.specs.View.{declare_library};
-ghost use Rattle.ctl_legality.specs.Sites.{with_unit, use_unit, path_of, folded_each, way_of_path, unit_of_path, bring, bring_each, brought_by, brought, use_names, use_each, used_by, used, with_sites, use_sites, context_sites, contexts_sites};
+ghost use Rattle.ctl_legality.specs.View.{folded_each, declare_library};
+ghost use Rattle.ctl_legality.specs.Sites.{with_unit, use_unit, path_of, way_of_path, unit_of_path, bring, bring_each, brought_by, brought, use_names, use_each, used_by, used, with_sites, use_sites, context_sites, contexts_sites};
 ghost use Rattle.ctl_legality.specs.Rules.{used_meaning};
 ghost use Rattle.ctl_legality.specs.Judged.{judged};
 ghost use Rattle.ctl_names.specs.Judging.{view_of, Judges};

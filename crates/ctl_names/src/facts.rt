@@ -3,7 +3,7 @@
 ghost use Rattle.std.specs.Prelude.{◌≡◌, ◌≤◌, ◌++◌, ◌∷◌, [], IfOk, OnOk, length, drop};
 ghost use Rattle.ctl_legality.specs.Library.{operation_named};
 ghost use Rattle.ctl_legality.specs.View.{folded, type_of_part};
-ghost use Rattle.ctl_legality.specs.Sites.{done, done_each, entailed, entailed_each, object_each, operand, first_mark, is_called, operation_facts, heading_facts, body_facts, completed_body, completed_type, pool_facts, number_in, type_number, form_facts, name_facts};
+ghost use Rattle.ctl_legality.specs.Sites.{done, done_each, entailed, entailed_each, object_each, operand, first_mark, is_called, override_facts, operation_facts, heading_facts, body_facts, completed_body, pool_facts, declared_number, type_number, form_facts, name_facts};
 ghost use Rattle.ctl_names.specs.Judging.{view_of};
 ghost use Rattle.ctl_freezing.specs.declared.fact.Fact.TheVariants as fact;
 
@@ -119,27 +119,22 @@ fn is_called(operation: Operation) -> bool
     )
 }
 
-fn operation_facts(
+/// The facts of an override of this operation, for the type of this number.
+fn override_facts(
     heading: &Specification,
-    operation: Option<Operation>,
-    known: Option<Known>,
+    operation: Operation,
+    number: usize,
     facts: &mut Vec<Fact>,
 ) -> Result<(), AllocError>
-    ensures { OnOk result (facts.new.items ≡ facts.old.items ++ operation_facts heading.now operation known) }
+    ensures { OnOk result (facts.new.items ≡ facts.old.items ++ override_facts heading.now operation number) }
 {
-    let Some(operation) = operation else {
-        return Ok(());
-    };
-    let Some(known) = known else {
-        return Ok(());
-    };
     facts.push(Fact::Precedes(Deadline {
         early: Early::Operation,
-        number: known.place,
+        number,
         span: heading.name.span,
     }))?;
     if is_called(operation) {
-        facts.push(Fact::CallsFor(known.place))?;
+        facts.push(Fact::CallsFor(number))?;
     }
     Ok(())
 }
@@ -161,6 +156,28 @@ impl Walk {
         }
     }
 
+    fn operation_facts(
+        &self,
+        part: Part,
+        heading: &Specification,
+        operation: Option<Operation>,
+        known: Option<Known>,
+        facts: &mut Vec<Fact>,
+    ) -> Result<(), AllocError>
+        ensures { OnOk result (facts.new.items ≡ facts.old.items ++ operation_facts (view_of self.now part) heading.now operation known) }
+    {
+        let Some(operation) = operation else {
+            return Ok(());
+        };
+        let Some(known) = known else {
+            return Ok(());
+        };
+        if self.overrides(part, heading, operation, known.place)? {
+            override_facts(heading, operation, known.place, facts)?;
+        }
+        Ok(())
+    }
+
     fn heading_facts(
         &self,
         part: Part,
@@ -172,7 +189,7 @@ impl Walk {
         let name = folded(self.alloc, &heading.name)?;
         let operation = operation_named(name.as_slice());
         let known = self.operand(part, heading)?;
-        operation_facts(heading, operation, known, facts)
+        self.operation_facts(part, heading, operation, known, facts)
     }
 
     fn body_facts(
@@ -212,9 +229,9 @@ impl Walk {
         Ok(())
     }
 
-    /// The number of the type that is declared in full by this identifier.
-    fn number_in(&self, part: Part, identifier: &Identifier) -> Result<usize, AllocError>
-        ensures { IfOk result (λ n. n ≡ number_in (view_of self.now part) (completed_type (view_of self.now part) identifier.now)) }
+    /// The number of the type that this identifier declares in full.
+    pub fn declared_number(&self, part: Part, identifier: &Identifier) -> Result<usize, AllocError>
+        ensures { IfOk result (λ n. n ≡ declared_number (view_of self.now part) identifier.now) }
     {
         let name = folded(self.alloc, identifier)?;
         match self.completed_type(part, name.as_slice()) {
@@ -228,7 +245,7 @@ impl Walk {
         ensures { IfOk result (λ n. n ≡ type_number item.now.kind (view_of self.now part)) }
     {
         match &item.kind {
-            ItemKind::Type(identifier, _) => self.number_in(part, identifier),
+            ItemKind::Type(identifier, _) => self.declared_number(part, identifier),
             _ => Ok(0),
         }
     }
@@ -246,7 +263,7 @@ impl Walk {
             ItemKind::Declaration(_, heading) => self.heading_facts(part, heading, facts),
             ItemKind::Body(_, heading, _) => self.body_facts(part, heading, facts),
             ItemKind::Type(identifier, _) => {
-                let number = self.number_in(part, identifier)?;
+                let number = self.declared_number(part, identifier)?;
                 facts.push(Fact::Declares(number))?;
                 Ok(())
             }

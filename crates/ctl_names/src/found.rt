@@ -8,7 +8,7 @@ ghost use Rattle.ctl_legality.specs.Rules.{unfinished, at_spans, deadline_spans,
 ghost use Rattle.ctl_legality.specs.Judged.{number, comes_before, sooner, soonest};
 
 use ctl_freezing::fact::{Deadline, Early, Frozen};
-use ctl_legality::view::{Breach, Declaration, Denoted, Effect, Entity, Rule, Usage};
+use ctl_legality::view::{Breach, Declaration, Denoted, Effect, Entity, Form, Rule, Usage};
 use ctl_tree::span::Span;
 use std::alloc::{AllocError, Global};
 use std::marker::Model;
@@ -189,7 +189,7 @@ fn waits(entity: Entity) -> bool
 {
     match entity {
         Entity::Subprogram(has_body) => !has_body,
-        Entity::Type(is_full) => !is_full,
+        Entity::Type(form) => matches!(form, Form::Incomplete),
         _ => false,
     }
 }

@@ -2,16 +2,17 @@
 
 ghost use Rattle.std.specs.Prelude.{◌≡◌, ◌++◌, ◌∷◌, [], IfOk, OnOk, true, false};
 ghost use Rattle.ctl_legality.specs.declared.view.Entity.TheVariants as entity;
+ghost use Rattle.ctl_legality.specs.declared.view.Form.TheVariants as form;
 ghost use Rattle.ctl_legality.specs.declared.view.Naming.TheVariants as naming;
 ghost use Rattle.ctl_legality.specs.declared.view.Usage.TheVariants as usage;
 ghost use Rattle.ctl_legality.specs.View.{declare, complete, folded, inside};
-ghost use Rattle.ctl_legality.specs.Sites.{named, clause, declared, body, full_type, type_item, dotted_site, associations_sites, expression_sites, heading_key, heading_sites, definition_sites, completed_type, declare_each, declared_each, hide_each, name_body, after_formals, scheme_sites, in_loop, after_choice, choice_sites, after_choice_list, choice_list_sites, after_choices, choices_sites};
+ghost use Rattle.ctl_legality.specs.Sites.{named, clause, declared, body, full_type, type_item, dotted_site, associations_sites, expression_sites, heading_key, heading_sites, definition_sites, after_type, declare_each, declared_each, hide_each, name_body, after_formals, scheme_sites, in_loop, after_choice, choice_sites, after_choice_list, choice_list_sites, after_choices, choices_sites};
 ghost use Rattle.ctl_legality.specs.Judged.{judged};
 ghost use Rattle.ctl_names.specs.Judging.{view_of, Judges};
 
 use crate::declarations::heading_key;
 use crate::walk::{Walk, folded, key_of};
-use ctl_legality::view::{Entity, Naming, Part, Usage};
+use ctl_legality::view::{Entity, Form, Naming, Part, Usage};
 use ctl_tree::span::Span;
 use ctl_tree::tree::{
     Association, Choices, Definition, Dotted, Expression, Identifier, Scheme, Specification,
@@ -52,13 +53,13 @@ impl Walk {
         span: Span,
         identifier: &Identifier,
     ) -> Result<(), AllocError>
-        ensures view { OnOk result (view_of self.new part ≡ declare (view_of self.old part) (folded identifier.now) identifier.now.span (entity.«Type» false)) }
+        ensures view { OnOk result (view_of self.new part ≡ declare (view_of self.old part) (folded identifier.now) identifier.now.span (entity.«Type» form.Incomplete)) }
         ensures found { OnOk result (self.new.found ≡ judged self.old.found (type_item (view_of self.old part) span ∷ declared (view_of self.old part) (folded identifier.now) identifier.now.span ∷ [])) }
     {
         let key = folded(self.alloc, identifier)?;
         self.type_item(part, span);
         self.declared(part, key.as_slice(), identifier.span);
-        self.declare(part, key, identifier.span, Entity::Type(false))?;
+        self.declare(part, key, identifier.span, Entity::Type(Form::Incomplete))?;
         Ok(())
     }
 
@@ -71,15 +72,17 @@ impl Walk {
         identifier: &Identifier,
         definition: &Definition,
     ) -> Result<(), AllocError>
-        ensures view { OnOk result (view_of self.new part ≡ complete (view_of self.old part) (folded identifier.now) identifier.now.span (entity.«Type» true) (completed_type (view_of self.old part) identifier.now)) }
+        ensures view { OnOk result (view_of self.new part ≡ after_type (view_of self.old part) identifier.now definition.now) }
         ensures found { OnOk result (self.new.found ≡ judged self.old.found (type_item (view_of self.old part) span ∷ full_type (view_of self.old part) (folded identifier.now) identifier.now.span ∷ definition_sites definition.now (view_of self.old part) identifier.now)) }
     {
         let key = folded(self.alloc, identifier)?;
+        let number = self.declared_number(part, identifier)?;
         self.type_item(part, span);
         self.full_type(part, key.as_slice(), identifier.span);
-        self.definition(part, identifier, definition)?;
+        let form = self.definition(part, identifier, definition)?;
         let completed = self.completed_type(part, key.as_slice());
-        self.complete(part, key, identifier.span, Entity::Type(true), completed)?;
+        self.complete(part, key, identifier.span, Entity::Type(form), completed)?;
+        self.keep_components(part, number, definition)?;
         Ok(())
     }
 

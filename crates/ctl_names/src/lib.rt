@@ -8,6 +8,8 @@ mod facts;
 pub mod found;
 pub mod items;
 pub mod library;
+pub mod lineage;
+mod overriding;
 pub mod resolve;
 pub mod scope;
 pub mod statements;

@@ -1,9 +1,9 @@
 //! The library units and their names, as the definitions have them.
 
 ghost use Rattle.std.specs.Prelude.{◌≡◌, IfOk};
-ghost use Rattle.ctl_legality.specs.Library.{unit_spelling, name_spelling, operation_spelling, roots, children, with_ancestors, standard_names, names_of, operations, is_unit, is_name, is_operation, root_unit, child_of, name_in, operation_named};
+ghost use Rattle.ctl_legality.specs.Library.{unit_spelling, name_spelling, discriminant_spelling, operation_spelling, discriminants, is_discriminant, has_discriminant, roots, children, with_ancestors, standard_names, names_of, operations, is_unit, is_name, is_operation, root_unit, child_of, name_in, operation_named};
 
-use ctl_legality::library::{LibraryName, Operation, Unit};
+use ctl_legality::library::{Discriminant, LibraryName, Operation, Unit};
 
 fn unit_spelling(unit: Unit) -> &'static [u8]
     ensures { result.now ≡ unit_spelling unit }
@@ -49,6 +49,27 @@ pub fn name_spelling(name: LibraryName) -> &'static [u8]
         LibraryName::MarkReleasePool => b"mark_release_pool",
         LibraryName::Mark => b"mark",
         LibraryName::DefaultSubpool => b"default_subpool_for_pool",
+    }
+}
+
+fn discriminant_spelling(discriminant: Discriminant) -> &'static [u8]
+    ensures { result.now ≡ discriminant_spelling discriminant }
+{
+    match discriminant {
+        Discriminant::BlockSize => b"block_size",
+        Discriminant::BlockCount => b"block_count",
+        Discriminant::PoolSize => b"pool_size",
+    }
+}
+
+/// The discriminants of a library type.
+fn discriminants(name: LibraryName) -> &'static [Discriminant]
+    ensures { result.now ≡ discriminants name }
+{
+    match name {
+        LibraryName::BlockPool => &[Discriminant::BlockSize, Discriminant::BlockCount],
+        LibraryName::MarkReleasePool => &[Discriminant::PoolSize],
+        _ => &[],
     }
 }
 
@@ -216,6 +237,22 @@ pub fn name_in(unit: Unit, name: &[u8]) -> Option<LibraryName>
         }
     }
     None
+}
+
+#[tactic(auto, unfolding(ctl_legality::specs::Library::is_discriminant))]
+fn is_discriminant(name: &[u8], discriminant: Discriminant) -> bool
+    ensures { result ≡ is_discriminant name.now discriminant }
+{
+    name == discriminant_spelling(discriminant)
+}
+
+/// Whether a library type has a discriminant of this name.
+pub fn has_discriminant(name: &[u8], library: LibraryName) -> bool
+    ensures { result ≡ has_discriminant name.now library }
+{
+    discriminants(library)
+        .iter()
+        .any(|discriminant| is_discriminant(name, *discriminant))
 }
 
 /// The operation of this name.

@@ -2,26 +2,53 @@
 
 ghost use Rattle.std.specs.Prelude.{◌≡◌, ◌++◌, ◌∷◌, [], IfOk, OnOk, not, is_some};
 ghost use Rattle.ctl_legality.specs.declared.view.Entity.TheVariants as entity;
+ghost use Rattle.ctl_legality.specs.declared.view.Form.TheVariants as form;
 ghost use Rattle.ctl_legality.specs.declared.view.Naming.TheVariants as naming;
 ghost use Rattle.ctl_legality.specs.declared.view.Usage.TheVariants as usage;
+ghost use Rattle.ctl_legality.specs.Types.{mark_in};
 ghost use Rattle.ctl_legality.specs.View.{inside, region};
-ghost use Rattle.ctl_legality.specs.Sites.{component_sites, components_sites, after_components, declare_each, declared_each, aspect_sites, definition_sites, in_definition, in_record, objects_sites, hide_each, dotted_site, associations_sites, option_sites};
+ghost use Rattle.ctl_legality.specs.Sites.{component_names, component_sites, components_sites, after_components, written_components, parents, form_in, declare_each, declared_each, aspect_sites, definition_sites, in_definition, in_record, objects_sites, hide_each, dotted_site, associations_sites, option_sites};
 ghost use Rattle.ctl_legality.specs.Judged.{judged};
 ghost use Rattle.ctl_names.specs.Judging.{view_of, Judges};
 
-use crate::walk::{Walk, folded};
-use ctl_legality::view::{Entity, Naming, Part, Usage};
+use crate::walk::{Walk, folded, key_of};
+use ctl_legality::view::{Entity, Form, Mark, Naming, Part, Usage};
 use ctl_tree::tree::{
     AccessDefinition, Aspect, ComponentDeclaration, Definition, Dotted, Identifier, Objects,
 };
 use std::alloc::AllocError;
 
 impl Walk {
+    /// The names of components, judged and declared.
+    fn component_names(
+        &mut self,
+        part: Part,
+        number: usize,
+        parents: &[Mark],
+        identifiers: &[Identifier],
+    ) -> Result<(), AllocError>
+        ensures view { OnOk result (view_of self.new part ≡ declare_each (naming.Component number) entity.Object identifiers.now (view_of self.old part)) }
+        ensures found { OnOk result (self.new.found ≡ judged self.old.found (component_names number parents.now identifiers.now (view_of self.old part))) }
+    {
+        for identifier in identifiers {
+            self.component_name(part, number, parents, identifier)?;
+            let key = key_of(self.alloc, Naming::Component(number), identifier)?;
+            self.declare(part, key, identifier.span, Entity::Object)?;
+        }
+        Ok(())
+    }
+
     /// Components of one type.
     #[tactic(auto, using(ctl_legality::proofs::Noting::judged_append))]
-    fn component(&mut self, part: Part, component: &ComponentDeclaration) -> Result<(), AllocError>
-        ensures view { OnOk result (view_of self.new part ≡ declare_each naming.Component entity.Object component.now.names.items (view_of self.old part)) }
-        ensures found { OnOk result (self.new.found ≡ judged self.old.found (component_sites component.now (view_of self.old part))) }
+    fn component(
+        &mut self,
+        part: Part,
+        number: usize,
+        parents: &[Mark],
+        component: &ComponentDeclaration,
+    ) -> Result<(), AllocError>
+        ensures view { OnOk result (view_of self.new part ≡ declare_each (naming.Component number) entity.Object component.now.names.items (view_of self.old part)) }
+        ensures found { OnOk result (self.new.found ≡ judged self.old.found (component_sites number parents.now component.now (view_of self.old part))) }
     {
         self.dotted(
             part,
@@ -29,7 +56,7 @@ impl Walk {
             Usage::Object(component.default.is_none()),
         )?;
         self.option_expression(part, &component.default)?;
-        self.declared_each(part, Naming::Component, Entity::Object, &component.names)?;
+        self.component_names(part, number, parents, &component.names)?;
         Ok(())
     }
 
@@ -38,15 +65,56 @@ impl Walk {
     fn components(
         &mut self,
         part: Part,
+        number: usize,
+        parents: &[Mark],
         components: &[ComponentDeclaration],
     ) -> Result<(), AllocError>
-        ensures view { OnOk result (view_of self.new part ≡ after_components components.now (view_of self.old part)) }
-        ensures found { OnOk result (self.new.found ≡ judged self.old.found (components_sites components.now (view_of self.old part))) }
+        ensures view { OnOk result (view_of self.new part ≡ after_components number components.now (view_of self.old part)) }
+        ensures found { OnOk result (self.new.found ≡ judged self.old.found (components_sites number parents.now components.now (view_of self.old part))) }
     {
         for component in components {
-            self.component(part, component)?;
+            self.component(part, number, parents, component)?;
         }
         Ok(())
+    }
+
+    /// Components of the type of this number, declared.
+    fn declare_components(
+        &mut self,
+        part: Part,
+        number: usize,
+        components: &[ComponentDeclaration],
+    ) -> Result<(), AllocError>
+        ensures view { OnOk result (view_of self.new part ≡ after_components number components.now (view_of self.old part)) }
+        ensures found { OnOk result (self.new.found ≡ self.old.found) }
+    {
+        for component in components {
+            self.declare_each(
+                part,
+                Naming::Component(number),
+                Entity::Object,
+                &component.names,
+            )?;
+        }
+        Ok(())
+    }
+
+    /// The components that a definition writes stay in view.
+    pub fn keep_components(
+        &mut self,
+        part: Part,
+        number: usize,
+        definition: &Definition,
+    ) -> Result<(), AllocError>
+        ensures view { OnOk result (view_of self.new part ≡ after_components number (written_components definition.now) (view_of self.old part)) }
+        ensures found { OnOk result (self.new.found ≡ self.old.found) }
+    {
+        match definition {
+            Definition::Record(_, components) | Definition::Extension(_, components) => {
+                self.declare_components(part, number, components)
+            }
+            Definition::Access(_) => Ok(()),
+        }
     }
 
     /// The pool of an access type, where its definition names one.
@@ -76,7 +144,13 @@ impl Walk {
     {
         let key = folded(self.alloc, identifier)?;
         let completed = self.completed_type(part, key.as_slice());
-        self.within(part, key, identifier.span, Entity::Type(true), completed)?;
+        self.within(
+            part,
+            key,
+            identifier.span,
+            Entity::Type(Form::Underived),
+            completed,
+        )?;
         Ok(self.region(part))
     }
 
@@ -85,31 +159,54 @@ impl Walk {
         &mut self,
         part: Part,
         identifier: &Identifier,
+        number: usize,
+        parents: &[Mark],
         components: &[ComponentDeclaration],
     ) -> Result<(), AllocError>
-        ensures { OnOk result (Judges self.old self.new (components_sites components.now (in_record (view_of self.old part) identifier.now))) }
+        ensures { OnOk result (Judges self.old self.new (components_sites number parents.now components.now (in_record (view_of self.old part) identifier.now))) }
     {
         let count = self.scope.count();
         let inner = self.enter_record(part, identifier)?;
-        self.components(inner, components)?;
+        self.components(inner, number, parents, components)?;
         self.scope.close(count);
         Ok(())
     }
 
-    /// The parent of an extension.
+    /// The parent of an extension: what its mark denotes.
     fn parent(
         &mut self,
         part: Part,
         identifier: &Identifier,
         parent: &Dotted,
-    ) -> Result<(), AllocError>
-        ensures { OnOk result (Judges self.old self.new (dotted_site parent.now (in_definition (view_of self.old part) identifier.now) usage.Parent ∷ [])) }
+    ) -> Result<Mark, AllocError>
+        ensures judges { OnOk result (Judges self.old self.new (dotted_site parent.now (in_definition (view_of self.old part) identifier.now) usage.Parent ∷ [])) }
+        ensures mark { IfOk result (λ m. m ≡ mark_in (in_definition (view_of self.old part) identifier.now) parent.now) }
     {
         let count = self.scope.count();
         self.enter_definition(part, identifier)?;
+        let mark = self.mark(part, parent)?;
         self.dotted(part, parent, Usage::Parent)?;
         self.scope.close(count);
-        Ok(())
+        Ok(mark)
+    }
+
+    /// An extension: what it makes the type.
+    #[tactic(auto, using(ctl_legality::proofs::Noting::judged_append))]
+    fn extension(
+        &mut self,
+        part: Part,
+        identifier: &Identifier,
+        number: usize,
+        parent: &Dotted,
+        components: &[ComponentDeclaration],
+    ) -> Result<Form, AllocError>
+        ensures judges { OnOk result (Judges self.old self.new (dotted_site parent.now (in_definition (view_of self.old part) identifier.now) usage.Parent ∷ components_sites number (parents (view_of self.old part) identifier.now parent.now) components.now (in_record (view_of self.old part) identifier.now))) }
+        ensures form { IfOk result (λ f. f ≡ form.Extension (mark_in (in_definition (view_of self.old part) identifier.now) parent.now)) }
+    {
+        let mark = self.parent(part, identifier, parent)?;
+        let parents = self.lineage(mark)?;
+        self.record_components(part, identifier, number, &parents, components)?;
+        Ok(Form::Extension(mark))
     }
 
     /// What an access type designates, and its pool.
@@ -138,29 +235,31 @@ impl Walk {
         Ok(())
     }
 
-    /// The definition of a type.
+    /// The definition of the type of this number: what it makes the type.
     #[tactic(auto, using(ctl_legality::proofs::Noting::judged_append))]
     pub fn definition(
         &mut self,
         part: Part,
         identifier: &Identifier,
         definition: &Definition,
-    ) -> Result<(), AllocError>
-        ensures { OnOk result (Judges self.old self.new (definition_sites definition.now (view_of self.old part) identifier.now)) }
+    ) -> Result<Form, AllocError>
+        ensures judges { OnOk result (Judges self.old self.new (definition_sites definition.now (view_of self.old part) identifier.now)) }
+        ensures form { IfOk result (λ f. f ≡ form_in definition.now (view_of self.old part) identifier.now) }
     {
+        let number = self.declared_number(part, identifier)?;
         match definition {
             Definition::Record(_, components) => {
-                self.record_components(part, identifier, components)?;
+                self.record_components(part, identifier, number, &[], components)?;
+                Ok(Form::Underived)
             }
             Definition::Extension(parent, components) => {
-                self.parent(part, identifier, parent)?;
-                self.record_components(part, identifier, components)?;
+                self.extension(part, identifier, number, parent, components)
             }
             Definition::Access(definition) => {
                 self.access_definition(part, identifier, definition)?;
+                Ok(Form::Underived)
             }
         }
-        Ok(())
     }
 }
 

@@ -2,9 +2,10 @@
 
 ghost use Rattle.std.specs.Prelude.{◌≡◌, ◌≤◌, ◌∷◌, [], ◌++◌, IfOk, OnOk, length, None, Some, drop, nat_le};
 ghost use Rattle.ctl_legality.specs.declared.view.Entity.TheVariants as entity;
-ghost use Rattle.ctl_legality.specs.View.{View, folded, type_of_part, subprogram_of_part, last_of, is_hidden, given_by, is_own, is_brought, number_of, way_from, way_meaning, not_brought, name_meaning, undeclared_meaning, declare, known_as, is_declared_here, wants_body, is_incomplete, is_type, is_subprogram, waits, completed_by, complete, within};
+ghost use Rattle.ctl_legality.specs.Types.{component_key, is_inherited};
+ghost use Rattle.ctl_legality.specs.View.{View, folded, folded_each, type_of_part, subprogram_of_part, last_of, is_hidden, given_by, is_own, is_brought, number_of, way_from, way_meaning, not_brought, name_meaning, undeclared_meaning, declare, known_as, is_declared_here, wants_body, is_incomplete, is_type, is_subprogram, waits, completed_by, complete, within};
 ghost use Rattle.ctl_legality.specs.Library.{operation_named};
-ghost use Rattle.ctl_legality.specs.Sites.{named, declared, body, full_type, type_item, clause, end, part as part_site, effects_at, type_effects, call_effects, folded_each, key_of, dotted_site, option_mark_sites, declare_each, declared_each};
+ghost use Rattle.ctl_legality.specs.Sites.{named, declared, component, body, full_type, type_item, clause, end, part as part_site, effects_at, type_effects, call_effects, key_of, dotted_site, option_mark_sites, declare_each, declared_each};
 ghost use Rattle.ctl_legality.specs.Rules.{meaning_of, identifier_at, incomplete_use, when, unfinished, at_spans, is_any_type, is_library_type, is_other_type};
 ghost use Rattle.ctl_legality.specs.Judged.{judged};
 ghost use Rattle.ctl_names.specs.Judging.{view_of, Judges};
@@ -18,7 +19,8 @@ use ctl_freezing::frozen::frozen;
 use ctl_freezing::late::late;
 use ctl_legality::library::{LibraryName, Unit};
 use ctl_legality::view::{
-    Declaration, Denoted, Effect, Entity, Known, Meaning, Naming, Part, Rule, Usage, Way,
+    Declaration, Denoted, Effect, Entity, Form, Known, Mark, Meaning, Naming, Part, Rule, Usage,
+    Way,
 };
 use ctl_tree::span::Span;
 use ctl_tree::tree::{Dotted, Identifier};
@@ -90,9 +92,20 @@ pub fn key_of(alloc: Global, naming: Naming, identifier: &Identifier) -> Result<
     let name = folded(alloc, identifier)?;
     match naming {
         Naming::Direct => Ok(name),
-        Naming::Component => with_mark(alloc, b'.', name.as_slice()),
+        Naming::Component(number) => component_key(alloc, number, name.as_slice()),
         Naming::Choice => with_mark(alloc, b'|', name.as_slice()),
     }
+}
+
+/// What a component of the type of this number is known by.
+pub fn component_key(alloc: Global, number: usize, name: &[u8]) -> Result<Vec<u8>, AllocError>
+    ensures { IfOk result (λ n. n.items ≡ component_key number name.now) }
+{
+    let mut key = Vec::new(alloc);
+    key.push(b'.')?;
+    key.extend_from_slice(&(number as u64).to_be_bytes())?;
+    key.extend_from_slice(name)?;
+    Ok(key)
 }
 
 /// A name behind a mark.
@@ -148,7 +161,7 @@ fn is_incomplete(entity: Entity) -> bool
     ensures { result ≡ is_incomplete entity }
 {
     match entity {
-        Entity::Type(is_full) => !is_full,
+        Entity::Type(form) => matches!(form, Form::Incomplete),
         _ => false,
     }
 }
@@ -263,7 +276,7 @@ impl Walk {
 // What names mean.
 impl Walk {
     /// What a name means that begins with these identifiers.
-    fn meaning(
+    pub fn meaning(
         &self,
         part: Part,
         first: &Identifier,
@@ -359,6 +372,27 @@ impl Walk {
         if self.is_declared_here(part, name) {
             self.found.note(Rule::Duplicate, span);
         }
+    }
+
+    /// A component that the type of this number declares, where it extends the first of these types and with it the others.
+    #[tactic(auto, unfolding(ctl_legality::specs::Rules::breaches_at, ctl_legality::specs::Rules::denoted_at, ctl_legality::specs::Rules::frozen_at, ctl_legality::specs::Sites::effects_at))]
+    pub fn component_name(
+        &mut self,
+        part: Part,
+        number: usize,
+        parents: &[Mark],
+        identifier: &Identifier,
+    ) -> Result<(), AllocError>
+        ensures { OnOk result (Judges self.old self.new (component (view_of self.old part) number parents.now identifier.now ∷ [])) }
+    {
+        let name = folded(self.alloc, identifier)?;
+        let key = component_key(self.alloc, number, name.as_slice())?;
+        if self.is_declared_here(part, key.as_slice())
+            || self.is_inherited(name.as_slice(), parents)?
+        {
+            self.found.note(Rule::Duplicate, identifier.span);
+        }
+        Ok(())
     }
 
     /// The name of a body.

@@ -1,4 +1,5 @@
 use super::*;
+use ctl_legality::view::Denoted;
 use std::test::Fail;
 
 /// The lines of a text that stand before a procedure whose types are controlled.
@@ -41,6 +42,24 @@ fn names_and_their_faults(rt: HostRuntime) -> Result<(), Fail> {
             "procedure Main is begin declare X : Integer; begin null; end; X := 1; end Main;",
             "1:63: 20 UNKNOWN",
         ),
+        // a name hides itself, and the one around it, in its own declaration
+        (
+            "procedure Main is X : Integer; begin declare X : Integer := X; begin null; end; end Main;",
+            "1:61: 20 UNKNOWN",
+        ),
+        // a use clause needs its with clause, which may stand behind it
+        (
+            "use Ada.Text_IO; procedure Main is begin New_Line; end Main;",
+            "1:5: 25 NOT_WITHED",
+        ),
+        (
+            "use Ada.Text_IO; with Ada.Text_IO; procedure Main is begin New_Line; end Main;",
+            "",
+        ),
+        (
+            "with Ada.Text_IO; procedure Main is begin Ada.Nothing; end Main;",
+            "1:47: 20 UNKNOWN",
+        ),
         (
             "procedure Main is procedure P (X : Integer) is X : Integer; begin null; end P; begin null; end Main;",
             "1:48: 21 DUPLICATE",
@@ -48,6 +67,28 @@ fn names_and_their_faults(rt: HostRuntime) -> Result<(), Fail> {
     ] {
         let shown = answer(rt.alloc(), source)?;
         assert_eq!(rt; shown.as_str(), wanted);
+    }
+    Ok(())
+}
+
+/// A declaration of the text hides the library's name that a use clause makes direct.
+#[test]
+fn own_names_hide_used_ones(rt: HostRuntime) -> Result<(), Fail> {
+    for (source, is_own) in [
+        (
+            "with Ada.Text_IO; use Ada.Text_IO; procedure Main is procedure New_Line is begin null; end New_Line; begin New_Line; end Main;",
+            true,
+        ),
+        (
+            "with Ada.Text_IO; use Ada.Text_IO; procedure Main is begin New_Line; end Main;",
+            false,
+        ),
+    ] {
+        let found = match resolved(rt.alloc(), source.as_bytes()) {
+            Ok(named) => matches!(named.uses.first(), Some(Denoted::Declared(_, 1))),
+            Err(_) => !is_own,
+        };
+        assert_eq!(rt; found, is_own);
     }
     Ok(())
 }
@@ -162,6 +203,110 @@ fn storage_pools(rt: HostRuntime) -> Result<(), Fail> {
         (
             "type L is record X : A; end record;\ntype M is access L;\ntype K is record Y : M := new L; end record;\nV : K := (null);\nfor A'Storage_Pool use P;\nbegin null; end Main;",
             "",
+        ),
+    ] {
+        let whole = join(rt.alloc(), BEGIN, source)?;
+        let shown = answer(rt.alloc(), whole.as_str())?;
+        assert_eq!(rt; shown.as_str(), wanted);
+    }
+    Ok(())
+}
+
+#[test]
+fn inherited_components(rt: HostRuntime) -> Result<(), Fail> {
+    const BEGIN: &str =
+        "with Ada.Finalization; use Ada.Finalization; with Block_Pools; use Block_Pools;\nprocedure Main is\ntype T is new Controlled with record N : Integer; end record;\n";
+    for (source, wanted) in [
+        // the second of two identifiers repeats the parent's component
+        (
+            "type U is new T with record M, N : Integer; end record;\nbegin null; end Main;",
+            "4:32: 21 DUPLICATE",
+        ),
+        // the component of a parent's parent, in other letters
+        (
+            "type U is new T with null record;\ntype W is new U with record n : Integer; end record;\nbegin null; end Main;",
+            "5:29: 21 DUPLICATE",
+        ),
+        // the component of a type of the part around
+        (
+            "begin declare\ntype U is new T with record N : Integer; end record;\nbegin null; end; end Main;",
+            "5:29: 21 DUPLICATE",
+        ),
+        // a parent that was declared incomplete first
+        (
+            "type I;\ntype L is access I;\ntype I is new T with record M : L; end record;\ntype U is new I with record M : L; end record;\nbegin null; end Main;",
+            "7:29: 21 DUPLICATE",
+        ),
+        // two extensions of one parent, and a type that is derived from none, share no component
+        (
+            "type U is new T with record M : Integer; end record;\ntype W is new T with record M : Integer; end record;\ntype R is record N, M : Integer; end record;\nbegin null; end Main;",
+            "",
+        ),
+        // a pool's discriminants are components of its extensions
+        (
+            "type K is new Block_Pool with record Block_Size : Integer; end record;\nbegin null; end Main;",
+            "4:38: 21 DUPLICATE",
+        ),
+        (
+            "type K is new Block_Pools.Block_Pool with null record;\ntype M is new K with record Block_Count : Integer; end record;\nbegin null; end Main;",
+            "5:29: 21 DUPLICATE",
+        ),
+        (
+            "type K is new Block_Pool with record Pool_Size : Integer; end record;\nbegin null; end Main;",
+            "",
+        ),
+    ] {
+        let whole = join(rt.alloc(), BEGIN, source)?;
+        let shown = answer(rt.alloc(), whole.as_str())?;
+        assert_eq!(rt; shown.as_str(), wanted);
+    }
+    Ok(())
+}
+
+#[test]
+fn operations_by_profile(rt: HostRuntime) -> Result<(), Fail> {
+    const BEGIN: &str =
+        "with Ada.Finalization; use Ada.Finalization; with Block_Pools; use Block_Pools; with System; with System.Storage_Elements; use System.Storage_Elements;\nprocedure Main is\n";
+    for (source, wanted) in [
+        // a second parameter, another mode or a result makes no operation of the type
+        (
+            "type T is new Controlled with null record;\nV : T;\nprocedure Finalize (X : in out T; Y : Integer);\nprocedure Finalize (X : in out T; Y : Integer) is begin null; end Finalize;\nbegin null; end Main;",
+            "",
+        ),
+        (
+            "type T is new Controlled with null record;\nV : T;\nprocedure Finalize (X : T);\nprocedure Finalize (X : T) is begin null; end Finalize;\nbegin null; end Main;",
+            "",
+        ),
+        (
+            "type T is new Controlled with null record;\nV : T;\nfunction Finalize (X : in out T) return Integer;\nfunction Finalize (X : in out T) return Integer is begin return 1; end Finalize;\nbegin null; end Main;",
+            "",
+        ),
+        // a type that is not controlled has none, and a limited one no Adjust
+        (
+            "type R is record N : Integer; end record;\nV : R;\nprocedure Finalize (X : in out R);\nprocedure Finalize (X : in out R) is begin null; end Finalize;\nbegin null; end Main;",
+            "",
+        ),
+        (
+            "type T is new Limited_Controlled with null record;\nV : T;\nprocedure Adjust (X : in out T);\nprocedure Adjust (X : in out T) is begin null; end Adjust;\nbegin null; end Main;",
+            "",
+        ),
+        // an extension of an extension has what its parent has
+        (
+            "type T is new Controlled with null record;\ntype U is new T with null record;\nV : U;\nprocedure Adjust (X : in out U);\nprocedure Adjust (X : in out U) is begin null; end Adjust;\nbegin null; end Main;",
+            "5:1: 24 ELAB",
+        ),
+        // a pool's Allocate, once with its profile and once with another mode of the address
+        (
+            "type K is new Block_Pool with null record;\nP : K (16, 4);\nprocedure Allocate (Pool : in out K; A : out System.Address; S, L : Storage_Count);\nprocedure Allocate (Pool : in out K; A : out System.Address; S, L : Storage_Count) is begin null; end Allocate;\nbegin null; end Main;",
+            "5:11: 26 LATE_PRIMITIVE",
+        ),
+        (
+            "type K is new Block_Pool with null record;\nP : K (16, 4);\nprocedure Allocate (Pool : in out K; A : System.Address; S, L : Storage_Count);\nprocedure Allocate (Pool : in out K; A : System.Address; S, L : Storage_Count) is begin null; end Allocate;\nbegin null; end Main;",
+            "",
+        ),
+        (
+            "type K is new Block_Pool with null record;\nP : K (16, 4);\nprocedure Deallocate (Pool : in out K; A : System.Address; S : in Storage_Count; L : Storage_Count);\nprocedure Deallocate (Pool : in out K; A : System.Address; S : in Storage_Count; L : Storage_Count) is begin null; end Deallocate;\nbegin null; end Main;",
+            "5:11: 26 LATE_PRIMITIVE",
         ),
     ] {
         let whole = join(rt.alloc(), BEGIN, source)?;

@@ -1,6 +1,5 @@
 use Rattle.std.proofs.Common.{◌≡◌, ◌+◌, drop}
-use Rattle.ctl_legality.specs.View.{way_from}
-use Rattle.ctl_legality.specs.Sites.{folded_each}
+use Rattle.ctl_legality.specs.View.{folded_each, way_from}
 use Rattle.ctl_names.proofs.walk.way_from.Given as goal
 
 abbrev pub invariant-loop-index : goal.invariant-loop-index

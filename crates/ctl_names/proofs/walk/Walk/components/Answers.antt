@@ -10,9 +10,11 @@ pub loop-component-preserved : goal.loop-component-preserved
 loop-component-preserved c =
     let done = c.in_ok-component.ensures in
     let kept = c.loop-component.invariant in
+    let p = c.args.number in
+    let ms = c.args.parents.now in
     let v = view_of c.loop-component.self c.args.part in
     let w = view_of c.component.new.self c.args.part in
     record {
-      view = view_turn after_components (λ f u. declare_each Naming.Component Entity.Object f.names.items u) (λ x xs u. refl) c.args.components.now c.loop-component.component-index c.component-item.result c.loop-component-test.true c.component-item.is v w done.view ∙ kept.view;
-      found = turn_with components_sites component_sites (λ f u. declare_each Naming.Component Entity.Object f.names.items u) (λ x xs u. refl) c.args.components.now c.loop-component.component-index c.component-item.result c.loop-component-test.true c.component-item.is v w done.view c.loop-component.self.found c.component.new.self.found done.found ∙ kept.found;
+      view = view_turn (after_components p) (λ f u. declare_each (Naming.Component p) Entity.Object f.names.items u) (λ x xs u. refl) c.args.components.now c.loop-component.component-index c.component-item.result c.loop-component-test.true c.component-item.is v w done.view ∙ kept.view;
+      found = turn_with (components_sites p ms) (component_sites p ms) (λ f u. declare_each (Naming.Component p) Entity.Object f.names.items u) (λ x xs u. refl) c.args.components.now c.loop-component.component-index c.component-item.result c.loop-component-test.true c.component-item.is v w done.view c.loop-component.self.found c.component.new.self.found done.found ∙ kept.found;
     }

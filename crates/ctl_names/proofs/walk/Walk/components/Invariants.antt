@@ -6,6 +6,6 @@ use Rattle.ctl_names.proofs.walk.Walk.components.Given as goal
 
 abbrev pub invariant-loop-component : goal.invariant-loop-component
 invariant-loop-component l = record {
-  view : after_components (drop l.component-index l.components) (view_of l.self l.part) ≡ after_components l.components (view_of l.initial.self l.part);
-  found : judged l.self.found (components_sites (drop l.component-index l.components) (view_of l.self l.part)) ≡ judged l.initial.self.found (components_sites l.components (view_of l.initial.self l.part));
+  view : after_components l.number (drop l.component-index l.components) (view_of l.self l.part) ≡ after_components l.number l.components (view_of l.initial.self l.part);
+  found : judged l.self.found (components_sites l.number l.parents (drop l.component-index l.components) (view_of l.self l.part)) ≡ judged l.initial.self.found (components_sites l.number l.parents l.components (view_of l.initial.self l.part));
 }
