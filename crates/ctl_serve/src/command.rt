@@ -3,12 +3,12 @@
 ghost use Rattle.std.specs.Prelude.{◌≡◌, codes, false, true};
 ghost use Rattle.std.specs.Io.KnownBytes.{Appends};
 ghost use Rattle.ctl_serve.specs.Served.{IsRunStatus, WritesFor, WritesRun};
-ghost use Rattle.ctl_serve.specs.Statuses.{fault_status};
+ghost use Rattle.ctl_serve.specs.Statuses.{exit_code, fault_status, usage_status};
 
 use crate::into::run_into;
 use crate::report::{Picks, say, say_end};
 use crate::source::{ReadFault, read_source};
-use crate::status::{Status, status_of_end, status_of_fault};
+use crate::status::{Status, status_of_end, status_of_fault, status_of_usage};
 use crate::summary::RunFault;
 use ctl_job::{Job, UsageFault};
 use ctl_run::run::check_source;
@@ -40,29 +40,31 @@ const USAGE: &str = "usage: adactl check FILE
 ";
 
 /// Says why the words of a command line ask for no job, and answers the exit status: 64 with the usage, or 5.
-pub fn refuse_words<E: Write>(fault: UsageFault, err: &mut E) -> u8 {
-    let status = match fault {
+pub fn refuse_words<E: Write>(fault: UsageFault, err: &mut E) -> u8
+    ensures { result ≡ exit_code (usage_status fault) }
+{
+    match fault {
         UsageFault::Usage => {
             let _ = err.write_all(USAGE.as_bytes());
-            Status::Usage
         }
-        UsageFault::Memory => {
-            say(err, "host memory");
-            Status::HostMemory
-        }
-    };
-    status as u8
+        UsageFault::Memory => say(err, "host memory"),
+    }
+    status_of_usage(fault).code()
 }
 
 /// Says that a file was not read, and answers the exit status.
-pub fn refuse_file<E: Write>(err: &mut E) -> u8 {
+pub fn refuse_file<E: Write>(err: &mut E) -> u8
+    ensures { result ≡ exit_code Status.InputOutput }
+{
     say(err, "read failed");
-    Status::InputOutput as u8
+    Status::InputOutput.code()
 }
 
 /// Says that the output was not written, and answers the exit status.
-pub fn refuse_output<E: Write>(err: &mut E) -> u8 {
-    fail_write(err) as u8
+pub fn refuse_output<E: Write>(err: &mut E) -> u8
+    ensures { result ≡ exit_code Status.InputOutput }
+{
+    fail_write(err).code()
 }
 
 /// Says that a write failed.
@@ -73,6 +75,18 @@ fn fail_write<E: Write>(err: &mut E) -> Status
     Status::InputOutput
 }
 
+/// Prints `ok`.
+fn put_ok<S: Sink, E: Write>(sink: &mut S, err: &mut E) -> Status
+    requires { S.has_failed sink.old ≡ false }
+    ensures written { result ≡ Status.Done → Appends (S.taken sink.old) (S.taken sink.new) (codes "ok\n") }
+    ensures told { S.has_failed sink.new ≡ true → result ≡ Status.InputOutput }
+{
+    match put_all(sink, b"ok\n") {
+        Ok(()) => Status::Done,
+        Err(_) => fail_write(err),
+    }
+}
+
 /// Checks a source text, and prints `ok` where it is accepted.
 fn check<S: Sink, E: Write>(alloc: Global, source: &[u8], sink: &mut S, err: &mut E) -> Status
     requires { S.has_failed sink.old ≡ false }
@@ -80,10 +94,7 @@ fn check<S: Sink, E: Write>(alloc: Global, source: &[u8], sink: &mut S, err: &mu
     ensures told { S.has_failed sink.new ≡ true → result ≡ Status.InputOutput }
 {
     match check_source(alloc, source) {
-        Ok(_) => match put_all(sink, b"ok\n") {
-            Ok(()) => Status::Done,
-            Err(_) => fail_write(err),
-        },
+        Ok(_) => put_ok(sink, err),
         Err(fault) => refuse(fault, err),
     }
 }
@@ -174,5 +185,6 @@ pub fn serve<R: Read, W: Write, E: Write>(
         source,
         &mut Through::new(out),
         err,
-    ) as u8
+    )
+    .code()
 }

@@ -4,8 +4,9 @@ ghost use Rattle.std.specs.Prelude.{◌≡◌, ◌↔◌, true, false, IfOk, IfE
 ghost use Rattle.std.specs.Io.KnownBytes.{Appends};
 ghost use Rattle.ctl_sink.specs.Prefix.{AppendsPart};
 ghost use Rattle.ctl_lexis.specs.Lexis.{HasFault};
+ghost use Rattle.ctl_run.specs.Source.{HasFirstFault};
 ghost use Rattle.ctl_serve.specs.Refusals.{IsRefusal, IsRefusalWith, IsRefusedFor, WantsMemory};
-ghost use Rattle.ctl_serve.specs.Shown.{shown_by, WritesPart, WritesWhole};
+ghost use Rattle.ctl_serve.specs.Shown.{shown_by, Summarizes, WritesPart, WritesWhole};
 ghost use Rattle.ctl_tree.specs.declared.fault.Fault.{Fault};
 ghost use Rattle.ctl_serve.specs.declared.summary.RunFault.TheVariants.{Write};
 
@@ -55,6 +56,25 @@ pub fn put_run<S: Sink, A: Allocator>(
     }
 }
 
+/// Puts the text of a run into a sink, and answers what is known of the run.
+fn show_run<S: Sink, A: Allocator>(
+    alloc: A,
+    outcome: Outcome,
+    show: Show,
+    sink: &mut S,
+) -> Result<Summary, RunFault>
+    requires { S.has_failed sink.old ≡ false }
+    ensures whole { OnOk result (Appends (S.taken sink.old) (S.taken sink.new) (shown_by show outcome)) }
+    ensures summary { IfOk result (Summarizes outcome) }
+    ensures write { IsErrOf result Write → AppendsPart (S.taken sink.old) (S.taken sink.new) (shown_by show outcome) }
+    ensures refused { IfErr result (λ fault. IsRefusal fault → sink.new ≡ sink.old) }
+    ensures memory { IfErr result WantsMemory }
+    ensures failed { (S.has_failed sink.new ≡ true) ↔ IsErrOf result Write }
+{
+    put_run(alloc, &outcome, show, sink)?;
+    Ok(Summary::from(outcome))
+}
+
 /// Runs a source text to its end, by at most so many steps, and then puts the text that shows the run into a sink that
 /// has not failed.
 ///
@@ -78,15 +98,12 @@ pub fn run_into<S: Sink>(
 
     // A text with a lexical fault is refused with it.
     ensures lexical { (fault : Fault) → HasFault source.now fault → MatchResult result (λ _. ⊥) (IsRefusalWith fault) }
+
+    // A text that spells no tree is refused with its first fault, of lexis or of grammar.
+    ensures grammatical { (fault : Fault) → HasFirstFault source.now fault → MatchResult result (λ _. ⊥) (IsRefusalWith fault) }
 {
-    let outcome = match run_source(alloc, source, order, steps) {
-        Ok(outcome) => outcome,
-        Err(fault) => return Err(RunFault::Refused(fault)),
-    };
-    put_run(alloc, &outcome, show, sink)?;
-    Ok(Summary {
-        picks: outcome.picks,
-        end: outcome.end,
-        steps: outcome.steps,
-    })
+    match run_source(alloc, source, order, steps) {
+        Ok(outcome) => show_run(alloc, outcome, show, sink),
+        Err(fault) => Err(RunFault::from(fault)),
+    }
 }

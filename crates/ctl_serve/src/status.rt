@@ -1,12 +1,13 @@
 //! Exit statuses.
 
 ghost use Rattle.std.specs.Prelude.{◌≡◌};
-ghost use Rattle.ctl_serve.specs.Statuses.{end_status, fault_status};
+ghost use Rattle.ctl_serve.specs.Statuses.{end_status, exit_code, fault_status, usage_status};
 
+use ctl_job::UsageFault;
 use ctl_tree::ending::End;
 use ctl_tree::fault::{Fault, FaultCode};
 
-/// How the program ends; `status as u8` is its exit status.
+/// How the program ends.
 #[derive(Clone, Copy, Debug, PartialEq, Eq)]
 pub enum Status {
     /// all was done
@@ -25,6 +26,25 @@ pub enum Status {
     Usage = 64,
     /// reading the file or writing the output failed
     InputOutput = 74,
+}
+
+impl Status {
+    /// The number that the program hands to its caller.
+    pub fn code(self) -> u8
+        ensures { result ≡ exit_code self }
+    {
+        self as u8
+    }
+}
+
+/// The status for words that ask for no job.
+pub fn status_of_usage(fault: UsageFault) -> Status
+    ensures { result ≡ usage_status fault }
+{
+    match fault {
+        UsageFault::Usage => Status::Usage,
+        UsageFault::Memory => Status::HostMemory,
+    }
 }
 
 /// The status for a run that ended so.

@@ -1,5 +1,6 @@
 //! What is known of a run whose text has been written, and why none was.
 
+use ctl_machine::outcome::Outcome;
 use ctl_tree::ending::End;
 use ctl_tree::fault::Fault;
 use thiserror::Error;
@@ -14,6 +15,20 @@ pub struct Summary {
     pub steps: u64,
 }
 
+impl From<Outcome> for Summary {
+    ghost use Rattle.ctl_serve.specs.Shown.{Summarizes};
+
+    ghost from_gives = { Summarizes };
+
+    fn from(outcome: Outcome) -> Summary {
+        Summary {
+            picks: outcome.picks,
+            end: outcome.end,
+            steps: outcome.steps,
+        }
+    }
+}
+
 /// Why the text of a run was not written whole.
 #[derive(Clone, Copy, Debug, PartialEq, Eq, Error)]
 pub enum RunFault {
@@ -23,4 +38,15 @@ pub enum RunFault {
     /// the sink failed; what it took is a prefix of the text
     #[error("write failed")]
     Write,
+}
+
+impl From<Fault> for RunFault {
+    ghost use Rattle.std.specs.Prelude.{◌≡◌};
+    ghost use Rattle.ctl_serve.specs.declared.summary.RunFault.TheVariants.{Refused};
+
+    ghost from_gives = { λ fault given. given ≡ Refused fault };
+
+    fn from(fault: Fault) -> RunFault {
+        RunFault::Refused(fault)
+    }
 }

@@ -1,16 +1,36 @@
-use Rattle.std.proofs.Common.{rules, ℕ, List}
-use Rattle.std.proofs.lemmas.Result.{err_from_is_err_and}
+use Rattle.std.proofs.Common.{ℕ, List, Option, OnOk, IfOk, Result, Ok, Err}
+use Rattle.std.proofs.lemmas.Result.{IfErr-weaker}
+use Rattle.std.specs.Io.KnownBytes.{Appends}
+use Rattle.ctl_machine.specs.declared.outcome.Outcome.{Outcome}
+use Rattle.ctl_run.specs.Headline.{RunsSource}
 use Rattle.ctl_run.specs.Source.{by_memory}
 use Rattle.ctl_serve.specs.declared.summary.RunFault.{RunFault}
 use Rattle.ctl_serve.specs.declared.summary.RunFault.TheVariants.{Refused, Write}
+use Rattle.ctl_serve.specs.declared.summary.Summary.{Summary}
 use Rattle.ctl_serve.specs.Refusals.{IsRefusedFor, WantsMemory}
+use Rattle.ctl_serve.specs.Shown.{shown_by, Summarizes, WritesWhole}
+use Rattle.ctl_tree.specs.declared.request.Order.{Order}
+use Rattle.ctl_tree.specs.declared.request.Show.{Show}
 use Rattle.ctl_serve.proofs.into.run_into.Goals as goal
 
-pub returns-in_err-put_run-clause-write : goal.returns-in_err-put_run-clause-write
-returns-in_err-put_run-clause-write g c = λ is. record {
+-- the whole text of a run was put, and this is its summary
+shown_whole : (source : List ℕ) (order : Order) (limit : ℕ) (show : Show) (old new : Option (List ℕ)) (outcome : Outcome) (r : Result Summary RunFault)
+    → RunsSource source order limit outcome → OnOk r (Appends old new (shown_by show outcome)) → IfOk r (Summarizes outcome)
+    → IfOk r (WritesWhole source order limit show old new)
+shown_whole source order limit show old new outcome (Ok summary) runs whole summarized =
+    record { outcome = outcome; runs = runs; summarized = summarized; whole = whole }
+shown_whole source order limit show old new outcome (Err fault) runs whole summarized = tt
+
+pub returns-in-Ok-clause-ok : goal.returns-in-Ok-clause-ok
+returns-in-Ok-clause-ok g c =
+    shown_whole c.args.source.now c.args.order c.args.steps c.args.show _ _ c.in-Ok.outcome c.show_run.result c.in-Ok.ensures.headline
+    c.show_run.ensures.whole c.show_run.ensures.summary
+
+pub returns-in-Ok-clause-write : goal.returns-in-Ok-clause-write
+returns-in-Ok-clause-write g c = λ is. record {
   outcome = c.in-Ok.outcome;
   runs = c.in-Ok.ensures.headline;
-  part = c.in_err-put_run.ensures.write (search rules);
+  part = c.show_run.ensures.write is;
 }
 
 -- want of memory is a reason
@@ -18,7 +38,21 @@ a_reason : (source : List ℕ) (fault : RunFault) → WantsMemory fault → IsRe
 a_reason source (Refused fault) h = by_memory h
 a_reason source Write h = tt
 
-pub returns-in_err-put_run-clause-because : goal.returns-in_err-put_run-clause-because
-returns-in_err-put_run-clause-because g c =
-    let p = err_from_is_err_and c.from_residual.result c.from_residual.ensures.1 in
-    rw (p.1, p.2) (a_reason c.args.source.now _ c.in_err-put_run.ensures.memory)
+pub returns-in-Ok-clause-because : goal.returns-in-Ok-clause-because
+returns-in-Ok-clause-because g c =
+    IfErr-weaker c.show_run.result WantsMemory (IsRefusedFor c.args.source.now) (a_reason c.args.source.now) c.show_run.ensures.memory
+
+pub returns-in-Ok-clause-lexical : goal.returns-in-Ok-clause-lexical
+returns-in-Ok-clause-lexical g c = λ fault has. absurd (c.in-Ok.ensures.lexical fault has)
+
+pub returns-in-Ok-clause-grammatical : goal.returns-in-Ok-clause-grammatical
+returns-in-Ok-clause-grammatical g c = λ fault has. absurd (c.in-Ok.ensures.grammatical fault has)
+
+pub returns-in-Err-clause-because : goal.returns-in-Err-clause-because
+returns-in-Err-clause-because g c = rw c.from.ensures c.in-Err.ensures.refused
+
+pub returns-in-Err-clause-lexical : goal.returns-in-Err-clause-lexical
+returns-in-Err-clause-lexical g c = λ fault has. rw c.from.ensures (c.in-Err.ensures.lexical fault has)
+
+pub returns-in-Err-clause-grammatical : goal.returns-in-Err-clause-grammatical
+returns-in-Err-clause-grammatical g c = λ fault has. rw c.from.ensures (c.in-Err.ensures.grammatical fault has)
