@@ -2,6 +2,9 @@
 //! `adactl check FILE`, or `adactl run FILE [--trace] [--order newest|oldest] [--steps N]`.
 #![tactic(auto)]
 
+ghost use Rattle.std.specs.Prelude.{◌≡◌};
+ghost use Rattle.adactl.specs.Files.{file_named};
+
 use ctl_job::{Job, UsageFault, job_of};
 use ctl_serve::{Status, refuse_file, refuse_output, refuse_words, serve};
 use std::alloc::Alloc;
@@ -17,7 +20,9 @@ fn asked_job(rt: &HostRuntime) -> Result<Job, UsageFault> {
 }
 
 /// The file that a job names.
-fn file_of(job: &Job) -> &str {
+fn file_of(job: &Job) -> &str
+    ensures { result.now ≡ file_named job.now }
+{
     match job {
         Job::Check { file } | Job::Run { file, .. } => file.as_str(),
     }
