@@ -1,0 +1,3 @@
+pub mod First
+pub mod ExpressionRows
+pub mod StatementRows

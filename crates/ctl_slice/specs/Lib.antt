@@ -1,1 +1,3 @@
+pub mod Constructs
+pub mod Places
 pub mod Refused
