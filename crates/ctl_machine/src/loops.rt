@@ -18,14 +18,14 @@ use std::alloc::AllocError;
 
 impl Engine {
     /// Instructions are skipped unless the newest operand is True (RM 5.3).
+    #[inline(always)]
     pub(crate) fn skip_unless(&mut self, count: usize, place: usize)
         requires operand { 1 ≤ length self.old.operands }
         requires rests { Rests true self.old }
         requires behind { place + 1 + count < 2 ^ 64 }
         ensures { Makes self.old self.new (made_by (Table.by_unless count) place self.old) }
     {
-        let cell = self.operands.top();
-        self.operands.drop_newest(1);
+        let cell = self.operands.take_top();
         if is_true(cell) {
             self.mode = Mode::At(place + 1);
         } else {
@@ -34,6 +34,7 @@ impl Engine {
     }
 
     /// A loop is entered (RM 5.5).
+    #[inline(never)]
     pub(crate) fn enter_loop(&mut self, count: usize, place: usize) -> Result<(), AllocError>
         requires rests { Rests true self.old }
         requires behind { place + 1 + count < 2 ^ 64 }
@@ -49,6 +50,7 @@ impl Engine {
     }
 
     /// A loop over the values between the two newest operands is entered, or skipped where there is none (RM 5.5).
+    #[inline(never)]
     pub(crate) fn enter_for(
         &mut self,
         parameter: Var,
@@ -81,6 +83,7 @@ impl Engine {
     }
 
     /// The next turn of the innermost loop, which has a parameter, or the end of that loop (RM 5.5).
+    #[inline(always)]
     pub(crate) fn next(&mut self, back: usize, place: usize)
         requires top { IsLoopOnTop (reverse self.old.control.items) }
         requires rests { Rests true self.old }
@@ -118,30 +121,31 @@ impl Engine {
     }
 
     /// The innermost loop is left if the newest operand is True (RM 5.7).
+    #[inline(always)]
     pub(crate) fn exit_when(&mut self, place: usize)
         requires operand { 1 ≤ length self.old.operands }
         requires rests { Rests true self.old }
         requires place { place + 1 < 2 ^ 64 }
         ensures { (code : Code) → Makes self.old self.new (made_by (Table.by_instr code (Some InstrOf.ExitWhen)) place self.old) }
     {
-        let cell = self.operands.top();
-        self.operands.drop_newest(1);
+        let cell = self.operands.take_top();
         self.exit_if(is_true(cell), place);
     }
 
     /// The innermost loop is left unless the newest operand is True (RM 5.5).
+    #[inline(always)]
     pub(crate) fn exit_unless(&mut self, place: usize)
         requires operand { 1 ≤ length self.old.operands }
         requires rests { Rests true self.old }
         requires place { place + 1 < 2 ^ 64 }
         ensures { (code : Code) → Makes self.old self.new (made_by (Table.by_instr code (Some InstrOf.ExitUnless)) place self.old) }
     {
-        let cell = self.operands.top();
-        self.operands.drop_newest(1);
+        let cell = self.operands.take_top();
         self.exit_if(!is_true(cell), place);
     }
 
     /// The innermost loop is left, or not.
+    #[inline(always)]
     fn exit_if(&mut self, leaves: bool, place: usize)
         requires rests { Rests true self.old }
         requires place { place + 1 < 2 ^ 64 }

@@ -56,6 +56,7 @@ pub fn slots_of(alloc: Global, formal: Option<u64>, count: usize) -> Result<Vec<
 }
 
 /// The slot at this place; where there is none, nothing is elaborated.
+#[inline(always)]
 pub fn slot_in(slots: &[Slot], place: usize) -> Slot
     ensures { slot_of result ≡ item_or W.Unset (slice_get (map slot_of slots.now) place) }
 {
@@ -63,6 +64,7 @@ pub fn slot_in(slots: &[Slot], place: usize) -> Slot
 }
 
 /// The slot at this place, where there is one, has a new content.
+#[inline(always)]
 pub fn put_slot(slots: &mut Vec<Slot>, place: usize, slot: Slot)
     ensures { map slot_of slots.new.items ≡ slice_set (map slot_of slots.old.items) place (slot_of slot) }
 {
@@ -71,7 +73,33 @@ pub fn put_slot(slots: &mut Vec<Slot>, place: usize, slot: Slot)
     }
 }
 
+/// This place, if the master of this number stands there.
+#[inline(always)]
+fn place_if_there(masters: &[Master], number: u64, place: usize) -> Option<usize>
+    ensures { IfSome result (StandsAt (λ m. m.number) masters.now number) }
+{
+    if place < masters.len() && masters[place].number == number {
+        Some(place)
+    } else {
+        None
+    }
+}
+
+/// The place of the master of this number, which is looked for at this place first.
+#[inline(always)]
+pub fn place_of_master_near(masters: &[Master], number: u64, first: usize) -> Option<usize>
+    requires rising { AreRising masters.now }
+    ensures found { IfSome result (StandsAt (λ m. m.number) masters.now number) }
+    ensures absent { IfNone result (All (λ m. m.number ≢ number) masters.now) }
+{
+    match place_if_there(masters, number, first) {
+        Some(place) => Some(place),
+        None => place_of_master(masters, number),
+    }
+}
+
 /// The place of the master of this number.
+#[inline(never)]
 pub fn place_of_master(masters: &[Master], number: u64) -> Option<usize>
     requires rising { AreRising masters.now }
     ensures found { IfSome result (StandsAt (λ m. m.number) masters.now number) }

@@ -42,8 +42,55 @@ pub struct Object {
     pub state: State,
 }
 
+/// This place, if the object of this number stands there.
+#[inline(always)]
+fn place_if_there(objects: &[Object], number: u64, place: usize) -> Option<usize>
+    ensures { IfSome result (StandsAt (λ o. o.number) objects.now number) }
+{
+    if place < objects.len() && objects[place].number == number {
+        Some(place)
+    } else {
+        None
+    }
+}
+
 /// The place of the object of this number. Numbers rise in the order of creation.
+#[inline(always)]
 pub fn place_of(objects: &[Object], number: u64) -> Option<usize>
+    requires rising { IsRising objects.now }
+    ensures found { IfSome result (StandsAt (λ o. o.number) objects.now number) }
+    ensures absent { IfNone result (All (λ o. o.number ≢ number) objects.now) }
+{
+    // So it stands unless an older object has ceased to exist: the first object has number 1.
+    let from_oldest = number.saturating_sub(1) as usize;
+    match place_if_there(objects, number, from_oldest) {
+        Some(place) => Some(place),
+        None => place_behind_gaps(objects, number),
+    }
+}
+
+/// Such a place, where objects before it may have ceased to exist.
+#[inline(never)]
+fn place_behind_gaps(objects: &[Object], number: u64) -> Option<usize>
+    requires rising { IsRising objects.now }
+    ensures found { IfSome result (StandsAt (λ o. o.number) objects.now number) }
+    ensures absent { IfNone result (All (λ o. o.number ≢ number) objects.now) }
+{
+    // So it stands if all objects from it to the newest one exist.
+    let newest = match objects.last() {
+        Some(object) => object.number,
+        None => 0,
+    };
+    let behind = newest.saturating_sub(number) as usize;
+    let from_newest = objects.len().saturating_sub(1).saturating_sub(behind);
+    match place_if_there(objects, number, from_newest) {
+        Some(place) => Some(place),
+        None => searched_place(objects, number),
+    }
+}
+
+/// Such a place, by a binary search.
+fn searched_place(objects: &[Object], number: u64) -> Option<usize>
     requires rising { IsRising objects.now }
     ensures found { IfSome result (StandsAt (λ o. o.number) objects.now number) }
     ensures absent { IfNone result (All (λ o. o.number ≢ number) objects.now) }
@@ -63,6 +110,7 @@ pub fn home_in(objects: &[Object], number: u64) -> Option<u64>
 }
 
 /// The scalar in the object of this number, where that object exists: 0 in one that holds none.
+#[inline(always)]
 pub fn value_in(objects: &[Object], number: u64) -> Option<u64>
     requires rising { IsRising objects.now }
     ensures { result ≡ option_map (λ o. scalar_of (cells_at 0 1 o)) (object_in number (objects_of objects.now)) }
@@ -72,6 +120,7 @@ pub fn value_in(objects: &[Object], number: u64) -> Option<u64>
 }
 
 /// The scalar in the object of this number is written, where that object exists (RM 5.2).
+#[inline(always)]
 pub fn write_scalar(objects: &mut Vec<Object>, number: u64, cell: u64)
     requires rising { IsRising objects.old.items }
     ensures changed { objects_of objects.new.items ≡ change_in number (with_cells 0 (cell ∷ [])) (objects_of objects.old.items) }

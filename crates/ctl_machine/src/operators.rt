@@ -136,6 +136,7 @@ fn divided(op: BinaryOp, ty: Ty, left: u64, right: u64) -> Option<u64>
 }
 
 /// An operator with two operands (RM 4.5); none where Constraint_Error is raised.
+#[inline(always)]
 pub fn binary(op: BinaryOp, ty: Ty, left: u64, right: u64) -> Option<u64>
     ensures { result ≡ Numbers.binary op ty left right }
 {

@@ -34,6 +34,7 @@ use std::alloc::{AllocError, Global};
 const PROGRAM_ERROR: usize = 1;
 
 /// Another frame in place of the topmost one.
+#[inline(always)]
 pub(crate) fn replace_top(control: &mut Vec<Frame>, frame: Frame)
     requires { 0 < vec_len control.old }
     ensures items { (below : List FrameOf.Frame) (top : FrameOf.Frame) → control.old.items ≡ below ++ top ∷ [] → control.new.items ≡ below ++ frame ∷ [] }
@@ -156,6 +157,7 @@ fn show_birth(
 
 impl Engine {
     /// What the topmost frame makes of what is handed to it.
+    #[inline(never)]
     pub(crate) fn resume(
         &mut self,
         code: &Code,

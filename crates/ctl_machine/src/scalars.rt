@@ -13,6 +13,7 @@ use std::alloc::AllocError;
 
 impl Engine {
     /// A scalar object without a value is declared: it begins at 0 or False.
+    #[inline(never)]
     pub(crate) fn declare_scalar(
         &mut self,
         slot: usize,
@@ -31,6 +32,7 @@ impl Engine {
     }
 
     /// A scalar object with the value of the newest operand is declared.
+    #[inline(never)]
     pub(crate) fn declare_value(
         &mut self,
         slot: usize,

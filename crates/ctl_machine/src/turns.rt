@@ -51,6 +51,7 @@ pub fn turns_between(low: u64, high: u64, in_reverse: bool) -> Option<Turns>
 }
 
 /// The turn after this one; none where this is the last.
+#[inline(always)]
 pub fn next_turn(turn: Turns) -> Option<Turns>
     ensures none { IfNone result (left_of turn ≡ 0) }
     ensures left { IfSome result (λ t. left_of turn ≡ suc (left_of t)) }

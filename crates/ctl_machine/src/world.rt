@@ -14,7 +14,8 @@ ghost use Rattle.ctl_machine.specs.Masters.{slots_for, slot_of};
 ghost use Rattle.ctl_machine.specs.World.{world_of, IsSound, IsHome, layer_of, levels_of, newest_display, newest_master, newest_layers, display_at, declared_in, scalar_in, layers_with, all_but_first, first_with_layer};
 
 use crate::masters::{
-    Master, Member, Slot, first_of, place_of_master, put_slot, slot_in, slots_of,
+    Master, Member, Slot, first_of, place_of_master, place_of_master_near, put_slot, slot_in,
+    slots_of,
 };
 use crate::objects::{
     Object, State, begin_finalization, end_finalization, forget_declared, home_in, value_in,
@@ -222,6 +223,7 @@ impl World {
     }
 
     /// The scalar in the object of this number, where that object exists.
+    #[inline(always)]
     pub fn scalar(&self, object: u64) -> Option<u64>
         ensures { result ≡ option_map (λ o. N.scalar_of (cells_at 0 1 o)) (C.object_at object self.now) }
     {
@@ -229,6 +231,7 @@ impl World {
     }
 
     /// The scalar in the object of this number is written, where that object exists (RM 5.2).
+    #[inline(always)]
     pub fn write_scalar(&mut self, object: u64, cell: u64)
         ensures { self.new ≡ C.write_cells object 0 (cell ∷ []) self.old }
     {
@@ -236,6 +239,7 @@ impl World {
     }
 
     /// The number of the master that a use names, where the newest master's part stands; 0 where there is none.
+    #[inline(always)]
     pub fn master_of(&self, variable: Var) -> u64
         ensures { result ≡ A.master_of (newest_display self.now) variable }
     {
@@ -243,29 +247,36 @@ impl World {
         self.newest.display.get(level).copied().unwrap_or(0)
     }
 
-    /// What a use of this slot of this master finds.
-    pub fn slot(&self, master: u64, place: usize) -> Slot
-        ensures { slot_of result ≡ N.slot_at master place self.now }
+    /// What a use of this variable of this master finds.
+    #[inline(always)]
+    pub fn slot(&self, master: u64, variable: Var) -> Slot
+        ensures { slot_of result ≡ N.slot_at master variable.slot self.now }
     {
         if master == self.newest.number {
-            return slot_in(self.newest.slots.as_slice(), place);
+            return slot_in(self.newest.slots.as_slice(), variable.slot);
         }
-        match place_of_master(self.older.as_slice(), master) {
-            Some(position) => slot_in(self.older[position].slots.as_slice(), place),
+        // Where no call stands in between, a master stands at its level.
+        match place_of_master_near(self.older.as_slice(), master, variable.level) {
+            Some(position) => slot_in(self.older[position].slots.as_slice(), variable.slot),
             None => Slot::Unset,
         }
     }
 
-    /// This slot of this master, where it exists, has a new content.
-    pub fn put(&mut self, master: u64, place: usize, slot: Slot)
-        ensures { self.new ≡ C.set_slot master place (slot_of slot) self.old }
+    /// The slot of this variable of this master, where it exists, has a new content.
+    #[inline(always)]
+    pub fn put(&mut self, master: u64, variable: Var, slot: Slot)
+        ensures { self.new ≡ C.set_slot master variable.slot (slot_of slot) self.old }
     {
         if master == self.newest.number {
-            put_slot(&mut self.newest.slots, place, slot);
+            put_slot(&mut self.newest.slots, variable.slot, slot);
             return;
         }
-        if let Some(position) = place_of_master(self.older.as_slice(), master) {
-            put_slot(&mut self.older[position].slots, place, slot);
+        if let Some(position) = place_of_master_near(
+            self.older.as_slice(),
+            master,
+            variable.level,
+        ) {
+            put_slot(&mut self.older[position].slots, variable.slot, slot);
         }
     }
 

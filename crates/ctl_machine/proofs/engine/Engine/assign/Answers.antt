@@ -15,15 +15,15 @@ returns-then-write_variable c =
     let d = newest_display e.world in
     let found = Table.found_by d c.args.variable e.world in
     let ops = drop 1 e.operands in
-    let moves = ap (λ o. Table.by_assign c.args.variable d c.args.place (control_of e) o e.world) c.top-cell.ensures
-    ∙ write_goes found c.top-cell.result d c.args.place (control_of e) ops e.world c.write_variable.new.world c.if-write_variable.ensures.exists in
-    makes_by _ _ _ _ moves (goes _ _ (T.At d (c.args.place + 1)) ops c.write_variable.new.world c.requires.rests refl (written_levels found c.top-cell.result e.world c.write_variable.new.world c.if-write_variable.ensures.exists) refl c.drop_newest.ensures refl refl)
+    let moves = ap (λ o. Table.by_assign c.args.variable d c.args.place (control_of e) o e.world) c.take_top-cell.ensures.newest
+    ∙ write_goes found c.take_top-cell.result d c.args.place (control_of e) ops e.world c.write_variable.new.world c.if-write_variable.ensures.exists in
+    makes_by _ _ _ _ moves (goes _ _ (T.At d (c.args.place + 1)) ops c.write_variable.new.world c.requires.rests refl (written_levels found c.take_top-cell.result e.world c.write_variable.new.world c.if-write_variable.ensures.exists) refl c.take_top-cell.ensures.rest refl refl)
 
 pub returns-else-write_variable : goal.returns-else-write_variable
 returns-else-write_variable c =
     let e = c.args.self.now in
     let d = newest_display e.world in
     let ops = drop 1 e.operands in
-    let moves = ap (λ o. Table.by_assign c.args.variable d c.args.place (control_of e) o e.world) c.top-cell.ensures
-    ∙ write_gone (Table.found_by d c.args.variable e.world) c.top-cell.result d c.args.place (control_of e) ops e.world c.if-write_variable.ensures.gone in
-    makes_by _ _ _ _ moves (stays _ _ (T.Stopped UseAfterFree) ops c.requires.rests refl refl c.drop_newest.ensures c.if-write_variable.ensures.kept refl)
+    let moves = ap (λ o. Table.by_assign c.args.variable d c.args.place (control_of e) o e.world) c.take_top-cell.ensures.newest
+    ∙ write_gone (Table.found_by d c.args.variable e.world) c.take_top-cell.result d c.args.place (control_of e) ops e.world c.if-write_variable.ensures.gone in
+    makes_by _ _ _ _ moves (stays _ _ (T.Stopped UseAfterFree) ops c.requires.rests refl refl c.take_top-cell.ensures.rest c.if-write_variable.ensures.kept refl)

@@ -2,7 +2,7 @@
 use Rattle.std.proofs.Common.{rules}
 use Rattle.std.proofs.lemmas.List.Sorted.{answers_always}
 use Rattle.ctl_machine.proofs.Numbers.{searched}
-use Rattle.ctl_machine.proofs.objects.place_of.Goals as goal
+use Rattle.ctl_machine.proofs.objects.searched_place.Goals as goal
 
 pub returns : goal.returns
 returns c =
