@@ -1,3 +1,9 @@
 pub mod BlockLemmas
 pub mod BlockViews
+pub mod EmptyLemmas
 pub mod LotLemmas
+pub mod RowLemmas
+pub mod SettledLemmas
+pub mod StackLemmas
+pub mod StandsLemmas
+pub mod SubpoolViews

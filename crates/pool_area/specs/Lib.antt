@@ -1,2 +1,4 @@
 pub mod Blocks
 pub mod Lots
+pub mod Rows
+pub mod Subpools

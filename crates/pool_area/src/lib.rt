@@ -3,6 +3,12 @@
 
 mod block_area;
 mod lot;
+mod mark_area;
+mod subpool;
+#[cfg(test)]
+mod tests;
 
 pub use block_area::{BlockArea, Returned};
 pub use lot::{Lot, Occupant};
+pub use mark_area::MarkArea;
+pub use subpool::{Standing, Subpool};

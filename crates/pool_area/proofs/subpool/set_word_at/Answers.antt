@@ -1,0 +1,60 @@
+use Rattle.std.proofs.Common.{◌≡◌, ◌<◌, ◌≤◌, length, List, Option, Some, refl, subst, ◌∙◌, arith}
+use Rattle.std.specs.Prelude.{slice_get, IfSome}
+use Rattle.std.specs.Option.{option_map}
+use Rattle.std.proofs.lemmas.Option.{slice_get_read, slice_get_past}
+use Rattle.pool_area.specs.declared.lot.Lot.{Lot}
+use Rattle.pool_area.specs.declared.subpool.Subpool.{Subpool}
+use Rattle.pool_area.specs.Lots.{Held, IsFilled, with_word}
+use Rattle.pool_area.specs.Rows.{NoneHas, IsFirst, lot_of, lot_words}
+use Rattle.pool_area.proofs.RowLemmas.{lot_here, no_lot_here, edited_here, edited_missing, not_edited}
+use Rattle.pool_area.proofs.subpool.set_word_at.Goals as goal
+
+pub returns-in_default-clause-edited : goal.returns-in_default-clause-edited
+returns-in_default-clause-edited g c =
+    let rows : List (Subpool g.row.A.Denot) = c.args.subpools.now.items in
+    let none : NoneHas c.args.number rows = subst (NoneHas c.args.number) c.as_slice.ensures.value c.in_default.ensures in
+    not_edited c.args.number c.args.index (λ (h : Option Held). option_map (with_word c.args.place c.args.value) h) rows (no_lot_here c.args.number c.args.index rows none)
+
+pub returns-then-index-len-clause-edited : goal.returns-then-index-len-clause-edited
+returns-then-index-len-clause-edited g c =
+    let rows : List (Subpool g.row.A.Denot) = c.args.subpools.now.items in
+    let first : IsFirst c.args.number c.in-Some.row rows = subst (IsFirst c.args.number c.in-Some.row) c.as_slice.ensures.value c.in-Some.ensures in
+    let r : Subpool g.row.A.Denot = c.index_mut.result.now in
+    let lot : Lot = c.index_mut-then-index-len.result.now in
+    let there : slice_get rows c.in-Some.row ≡ Some r = slice_get_read rows (length rows) c.in-Some.row r refl first.0 c.index_mut.ensures.value in
+    let within : c.args.index < length r.lots.items = omega (arith, r.lots.ok.0) in
+    let at : slice_get r.lots.items c.args.index ≡ Some lot = slice_get_read r.lots.items (length r.lots.items) c.args.index lot refl within c.index_mut-then-index-len.ensures.value in
+    edited_here c.args.number c.in-Some.row c.args.index (λ (h : Option Held). option_map (with_word c.args.place c.args.value) h) rows _ r lot c.set_word.new.self first there at c.set_word.ensures.block c.set_word.ensures.filled c.set_word.ensures.held refl
+
+pub returns-else-index-len-clause-edited : goal.returns-else-index-len-clause-edited
+returns-else-index-len-clause-edited g c =
+    let rows : List (Subpool g.row.A.Denot) = c.args.subpools.now.items in
+    let first : IsFirst c.args.number c.in-Some.row rows = subst (IsFirst c.args.number c.in-Some.row) c.as_slice.ensures.value c.in-Some.ensures in
+    let r : Subpool g.row.A.Denot = c.index_mut.result.now in
+    let there : slice_get rows c.in-Some.row ≡ Some r = slice_get_read rows (length rows) c.in-Some.row r refl first.0 c.index_mut.ensures.value in
+    let past : length r.lots.items ≤ c.args.index = omega (arith, r.lots.ok.0) in
+    edited_missing c.args.number c.in-Some.row c.args.index (λ (h : Option Held). option_map (with_word c.args.place c.args.value) h) rows r first there (slice_get_past r.lots.items c.args.index past)
+
+pub set_word-requires-clause-filled : goal.set_word-requires-clause-filled
+set_word-requires-clause-filled g c =
+    let rows : List (Subpool g.row.A.Denot) = c.args.subpools.now.items in
+    let first : IsFirst c.args.number c.in-Some.row rows = subst (IsFirst c.args.number c.in-Some.row) c.as_slice.ensures.value c.in-Some.ensures in
+    let r : Subpool g.row.A.Denot = c.index_mut.result.now in
+    let lot : Lot = c.index_mut-then-index-len.result.now in
+    let there : slice_get rows c.in-Some.row ≡ Some r = slice_get_read rows (length rows) c.in-Some.row r refl first.0 c.index_mut.ensures.value in
+    let within : c.args.index < length r.lots.items = omega (arith, r.lots.ok.0) in
+    let at : slice_get r.lots.items c.args.index ≡ Some lot = slice_get_read r.lots.items (length r.lots.items) c.args.index lot refl within c.index_mut-then-index-len.ensures.value in
+    let here : lot_of c.args.number c.args.index rows ≡ Some lot = lot_here c.args.number c.in-Some.row c.args.index rows r first there ∙ at in
+    subst (λ (o : Option Lot). IfSome o IsFilled) here (c.requires.filled c.args.number c.args.index)
+
+pub set_word-requires-clause-place : goal.set_word-requires-clause-place
+set_word-requires-clause-place g c =
+    let rows : List (Subpool g.row.A.Denot) = c.args.subpools.now.items in
+    let first : IsFirst c.args.number c.in-Some.row rows = subst (IsFirst c.args.number c.in-Some.row) c.as_slice.ensures.value c.in-Some.ensures in
+    let r : Subpool g.row.A.Denot = c.index_mut.result.now in
+    let lot : Lot = c.index_mut-then-index-len.result.now in
+    let there : slice_get rows c.in-Some.row ≡ Some r = slice_get_read rows (length rows) c.in-Some.row r refl first.0 c.index_mut.ensures.value in
+    let within : c.args.index < length r.lots.items = omega (arith, r.lots.ok.0) in
+    let at : slice_get r.lots.items c.args.index ≡ Some lot = slice_get_read r.lots.items (length r.lots.items) c.args.index lot refl within c.index_mut-then-index-len.ensures.value in
+    let here : lot_of c.args.number c.args.index rows ≡ Some lot = lot_here c.args.number c.in-Some.row c.args.index rows r first there ∙ at in
+    subst (λ (o : Option Lot). c.args.place < length (lot_words o)) here c.requires.place
