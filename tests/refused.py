@@ -86,6 +86,17 @@ TEXTS = [
     ("procedure Main is begin null end Main;", 10, 1, 30),
     ("procedure Main is begin null; end Main; null;", 10, 1, 41),
     ("procedure Main is task T; begin null; end Main;", 12, 1, 19),
+    # a broken rule on names comes before a construct that is left out, wherever they stand
+    ("procedure Main is begin Put_Line (\"x\"); end Main;", 20, 1, 25),
+    (ITEM + "type R is record N : Integer; end record; begin null; end Main;", 12, 1, 19),
+    (ITEM + "type R is record N : Integer; end record; begin X := 1; end Main;", 20, 1, 67),
+    (ITEM + "X, X : Integer; begin null; end Main;", 21, 1, 22),
+    (ITEM + "procedure P; begin null; end Main;", 22, 1, 29),
+    (ITEM + "procedure P is begin null; end P; type R is record N : Integer; end record; begin null; end Main;", 23, 1, 53),
+    (ITEM + "begin Ada.Text_IO.New_Line; end Main;", 25, 1, 25),
+    # and before a broken rule on types, which has no place yet
+    (ITEM + "N : Integer; begin N := True; end Main;", 30, 1, 1),
+    (ITEM + "N : Integer; begin N := True; M := 1; end Main;", 20, 1, 49),
 ]
 
 

@@ -1,2 +1,4 @@
 pub mod Composed
+pub mod FirstBreach
+pub mod NamedTexts
 pub mod OneTree

@@ -1,13 +1,17 @@
 -- What a run shows: the promise of the whole product.
-use Rattle.std.specs.Prelude.{◌≡◌, ◌≢◌, ℕ, ◌*◌, ◌≤◌, List, Some}
+use Rattle.std.specs.Prelude.{◌≡◌, ◌≢◌, ℕ, ◌*◌, ◌≤◌, List, Some, None}
 use Rattle.ctl_tree.specs.declared.checked.Checked.{Checked}
 use Rattle.ctl_tree.specs.declared.ending.End.{End}
 use Rattle.ctl_tree.specs.declared.ending.End.TheVariants.{Done, Raised, Stopped, StepLimit, HostMemory}
 use Rattle.ctl_tree.specs.declared.token.Token.{Token}
+use Rattle.ctl_tree.specs.declared.tree.Tree.{Tree}
 use Rattle.ctl_tree.specs.declared.request.Order.{Order}
 use Rattle.ctl_lexis.specs.Lexis.{HasTokens}
-use Rattle.ctl_grammar.specs.Form.{Node}
 use Rattle.ctl_grammar.specs.Text.{IsProgram}
+use Rattle.ctl_legality.specs.Sites.{sites}
+use Rattle.ctl_legality.specs.Judged.{IsLegal}
+use Rattle.ctl_parse.specs.View.{tree_node}
+use Rattle.ctl_slice.specs.Places.{left_out_of}
 use Rattle.ctl_meaning.specs.World.{Pick}
 use Rattle.ctl_meaning.specs.Choice.{Ask, Obeys, answer, replayed}
 use Rattle.ctl_meaning.specs.Run as Meaning
@@ -19,13 +23,15 @@ use Rattle.ctl_gen.specs.Slice.{InSlice}
 use Rattle.ctl_machine.specs.declared.outcome.Outcome.{Outcome}
 use Rattle.ctl_machine.specs.Machine.{after_steps, chosen}
 
--- a source text is accepted, and this is its program: the text spells these tokens, which spell this tree of the grammar, and the
--- program is one that this version runs
+-- a source text is accepted, and this is its program: the text spells these tokens, which spell this tree of the grammar, the tree breaks no
+-- rule on names, order, completion, library units or freezing, each of its constructs is run, and the program is one that this version runs
 pub record Accepts (source : List ℕ) (program : Checked) : Type 0 where
   pub tokens : List Token
-  pub tree : Node
+  pub tree : Tree
   pub lexical : HasTokens source tokens
-  pub grammatical : IsProgram 100 tree tokens
+  pub grammatical : IsProgram 100 (tree_node tree) tokens
+  pub legal : IsLegal (sites tree)
+  pub all_run : left_out_of tree ≡ None
   pub in_slice : InSlice program
 
 -- the run ended by itself

@@ -2,5 +2,6 @@
 #![tactic(auto)]
 
 pub mod laws;
+pub mod named;
 pub mod run;
 pub mod tree;

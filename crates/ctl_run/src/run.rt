@@ -1,13 +1,15 @@
-//! The stages in their order: lexis, grammar, legality, code, run.
+//! The stages in their order: lexis, grammar, names, constructs, types, code, run.
 
 ghost use Rattle.std.specs.Prelude.{◌≡◌, ◌⊎◌, IfErr, IfOk, MatchResult};
 ghost use Rattle.ctl_tree.specs.declared.fault.Fault.{Fault};
 ghost use Rattle.ctl_lexis.specs.Lexis.{HasFault};
 ghost use Rattle.ctl_lex.specs.Memory.{IsMemory};
+ghost use Rattle.ctl_legality.specs.declared.view.Breach.{Breach};
+ghost use Rattle.ctl_legality.specs.Judged.{fault_of};
 ghost use Rattle.ctl_run.specs.Headline.{Accepts, RunsSource};
-ghost use Rattle.ctl_run.specs.Source.{HasFirstFault, IsRefused};
+ghost use Rattle.ctl_run.specs.Source.{HasFirstFault, IsIllegalText, IsLeftOutText, IsRefused};
 
-use crate::tree::tree_of;
+use crate::named::named_of;
 use ctl_check::check::check;
 use ctl_gen::admits::admits;
 use ctl_gen::generate::generate;
@@ -26,15 +28,19 @@ pub fn check_source(alloc: Global, source: &[u8]) -> Result<Checked, Fault>
     ensures lexical { (fault : Fault) → HasFault source.now fault → MatchResult result (λ _. ⊥) (λ f. (f ≡ fault) ⊎ IsMemory f) }
     // A text that spells no tree is refused with its first fault, of lexis or of grammar.
     ensures grammatical { (fault : Fault) → HasFirstFault source.now fault → MatchResult result (λ _. ⊥) (λ f. (f ≡ fault) ⊎ IsMemory f) }
-    // It is refused with nothing else than its first fault, a fault of its program, or want of memory.
+    // A text that breaks a rule on names, order, completion or freezing is refused with the first one.
+    ensures illegal { (breach : Breach) → IsIllegalText source.now breach → MatchResult result (λ _. ⊥) (λ f. (f ≡ fault_of breach) ⊎ IsMemory f) }
+    // A text that breaks none and has a construct that is not run is refused with LEFT_OUT at the first one.
+    ensures left_out { (fault : Fault) → IsLeftOutText source.now fault → MatchResult result (λ _. ⊥) (λ f. (f ≡ fault) ⊎ IsMemory f) }
+    // It is refused with nothing else than its first fault, the first such rule or construct, a fault of its program, or want of memory.
     ensures refused { IfErr result (λ fault. IsRefused source.now fault) }
     ensures accepted { IfOk result (λ program. Accepts source.now program) }
 {
-    let tree = tree_of(alloc, source)?;
-    if let Some(fault) = left_out(&tree) {
+    let named = named_of(alloc, source)?;
+    if let Some(fault) = left_out(&named.tree) {
         return Err(fault);
     }
-    let program = check(alloc, &tree)?;
+    let program = check(alloc, &named.tree)?;
     // The table of constructs has let through what this version cannot run.
     if !admits(&program) {
         return Err(Fault::at(FaultCode::LeftOut, Span { line: 1, column: 1 }));
@@ -47,6 +53,8 @@ pub fn check_source(alloc: Global, source: &[u8]) -> Result<Checked, Fault>
 pub fn run_source(alloc: Global, source: &[u8], order: Order, steps: u64) -> Result<Outcome, Fault>
     ensures lexical { (fault : Fault) → HasFault source.now fault → MatchResult result (λ _. ⊥) (λ f. (f ≡ fault) ⊎ IsMemory f) }
     ensures grammatical { (fault : Fault) → HasFirstFault source.now fault → MatchResult result (λ _. ⊥) (λ f. (f ≡ fault) ⊎ IsMemory f) }
+    ensures illegal { (breach : Breach) → IsIllegalText source.now breach → MatchResult result (λ _. ⊥) (λ f. (f ≡ fault_of breach) ⊎ IsMemory f) }
+    ensures left_out { (fault : Fault) → IsLeftOutText source.now fault → MatchResult result (λ _. ⊥) (λ f. (f ≡ fault) ⊎ IsMemory f) }
     ensures refused { IfErr result (λ fault. IsRefused source.now fault) }
     ensures headline { IfOk result (λ outcome. RunsSource source.now order steps outcome) }
 {

@@ -77,8 +77,25 @@ fn faults_of_texts(rt: HostRuntime) -> Result<(), Fail> {
             b"procedure Main is type R is record N : Integer; end record; begin null; end Main;",
             "1:19: 12 LEFT_OUT",
         ),
+        // a rule on names is judged before a construct is left out, wherever they stand
         (
             b"procedure Main is begin begin Put_Line (\"x\"); end; end Main;",
+            "1:31: 20 UNKNOWN",
+        ),
+        (
+            b"procedure Main is type R is record N : Integer; end record; begin X := 1; end Main;",
+            "1:67: 20 UNKNOWN",
+        ),
+        (
+            b"procedure Main is X, X : Integer; begin null; end Main;",
+            "1:22: 21 DUPLICATE",
+        ),
+        (
+            b"procedure Main is begin Ada.Text_IO.New_Line; end Main;",
+            "1:25: 25 NOT_WITHED",
+        ),
+        (
+            b"procedure Main is N : Integer; begin N := True; end Main;",
             "1:1: 30 TYPE",
         ),
     ] {

@@ -1,53 +1,133 @@
 use Rattle.std.proofs.lemmas.Result.{err_from_is_err_and}
-use Rattle.std.proofs.Common.{◌≡◌, ℕ, List, sym, ap, subst, ◌⊎◌, inl, inr}
+use Rattle.std.proofs.Common.{◌≡◌, ℕ, List, Option, Some, None, sym, ap, subst, ◌∙◌, ◌⊎◌, inl, inr, rules}
 use Rattle.ctl_tree.specs.declared.fault.Fault.{Fault}
 use Rattle.ctl_tree.specs.declared.fault.FaultCode.TheVariants.{LeftOut}
+use Rattle.ctl_tree.specs.declared.checked.Checked.{Checked}
+use Rattle.ctl_tree.specs.declared.tree.Tree.{Tree}
 use Rattle.ctl_lex.specs.Memory.{IsMemory}
 use Rattle.ctl_check.specs.Refusals.{IsProgramCode, IsOfProgram}
-use Rattle.ctl_run.specs.Source.{of_lexis, HasFirstFault, IsRefused, by_text, by_program, by_memory}
+use Rattle.ctl_gen.specs.Slice.{InSlice}
+use Rattle.ctl_slice.specs.Places.{left_out_of}
+use Rattle.ctl_run.specs.Headline.{Accepts}
+use Rattle.ctl_run.specs.Source.{of_lexis, of_text, of_names, HasEarlyFault, LeavesOut, SpellsLegalTree, IsRefused, by_text, by_names, by_construct, by_program, by_memory}
 use Rattle.ctl_run.proofs.run.check_source.Goals as goal
 
 -- a lexical fault is the first one, so a text that has one spells no tree
 
-pub returns-in_err-tree-clause-lexical : goal.returns-in_err-tree-clause-lexical
-returns-in_err-tree-clause-lexical c = λ fault has.
+pub returns-in_err-named-clause-lexical : goal.returns-in_err-named-clause-lexical
+returns-in_err-named-clause-lexical c = λ fault has.
     let p = err_from_is_err_and c.from_residual.result c.from_residual.ensures.1 in
-    rw (p.1, p.2) (c.in_err-tree.ensures.all_faults fault (of_lexis has))
+    rw (p.1, p.2) (c.in_err-named.ensures.all_faults fault (of_lexis has))
 
 pub returns-in-Some-clause-lexical : goal.returns-in-Some-clause-lexical
-returns-in-Some-clause-lexical c = λ fault has. absurd (c.in_ok-tree.ensures.all_faults fault (of_lexis has))
+returns-in-Some-clause-lexical c = λ fault has. absurd (c.in_ok-named.ensures.all_faults fault (of_lexis has))
 
 pub returns-in_err-program-clause-lexical : goal.returns-in_err-program-clause-lexical
-returns-in_err-program-clause-lexical c = λ fault has. absurd (c.in_ok-tree.ensures.all_faults fault (of_lexis has))
+returns-in_err-program-clause-lexical c = λ fault has. absurd (c.in_ok-named.ensures.all_faults fault (of_lexis has))
 
 pub returns-then-not-admits-clause-lexical : goal.returns-then-not-admits-clause-lexical
-returns-then-not-admits-clause-lexical c = λ fault has. absurd (c.in_ok-tree.ensures.all_faults fault (of_lexis has))
+returns-then-not-admits-clause-lexical c = λ fault has. absurd (c.in_ok-named.ensures.all_faults fault (of_lexis has))
 
 pub returns-clause-lexical : goal.returns-clause-lexical
-returns-clause-lexical c = λ fault has. absurd (c.in_ok-tree.ensures.all_faults fault (of_lexis has))
+returns-clause-lexical c = λ fault has. absurd (c.in_ok-named.ensures.all_faults fault (of_lexis has))
 
--- a text is refused with its first fault, for its program, or for want of memory
+-- nor does a text that breaks a rule on names go on
 
-because : (source : List ℕ) (fault : Fault) → HasFirstFault source fault ⊎ IsMemory fault → IsRefused source fault
-because source fault (inl h) = by_text h
+pub returns-in_err-named-clause-illegal : goal.returns-in_err-named-clause-illegal
+returns-in_err-named-clause-illegal c = λ breach text.
+    let p = err_from_is_err_and c.from_residual.result c.from_residual.ensures.1 in
+    rw (p.1, p.2) (c.in_err-named.ensures.all_breaches breach text)
+
+pub returns-in-Some-clause-illegal : goal.returns-in-Some-clause-illegal
+returns-in-Some-clause-illegal c = λ breach text. absurd (c.in_ok-named.ensures.all_breaches breach text)
+
+pub returns-in_err-program-clause-illegal : goal.returns-in_err-program-clause-illegal
+returns-in_err-program-clause-illegal c = λ breach text. absurd (c.in_ok-named.ensures.all_breaches breach text)
+
+pub returns-then-not-admits-clause-illegal : goal.returns-then-not-admits-clause-illegal
+returns-then-not-admits-clause-illegal c = λ breach text. absurd (c.in_ok-named.ensures.all_breaches breach text)
+
+pub returns-clause-illegal : goal.returns-clause-illegal
+returns-clause-illegal c = λ breach text. absurd (c.in_ok-named.ensures.all_breaches breach text)
+
+-- nor does a text with a construct that is not run
+
+pub returns-in_err-named-clause-left_out : goal.returns-in_err-named-clause-left_out
+returns-in_err-named-clause-left_out c = λ fault text.
+    let p = err_from_is_err_and c.from_residual.result c.from_residual.ensures.1 in
+    rw (p.1, p.2) (inr (c.in_err-named.ensures.all_legal text.text))
+
+abbrev fault_in : Fault → Option Fault → Fault
+fault_in other None = other
+fault_in other (Some fault) = fault
+
+same_fault : (a b : Fault) (found : Option Fault) → found ≡ Some a → found ≡ Some b → a ≡ b
+same_fault a b found e f = ap (fault_in a) (sym e ∙ f)
+
+pub returns-in-Some-clause-left_out : goal.returns-in-Some-clause-left_out
+returns-in-Some-clause-left_out c = λ fault text.
+    let tree = c.in_ok-named.named.tree in
+    inl (same_fault c.in-Some.fault fault (left_out_of tree) (sym c.left_out.ensures.first ∙ c.in-Some.is) (text.first tree (c.in_ok-named.ensures.all_legal text.text)))
+
+none_left : (fault : Fault) (found : Option Fault) → found ≡ None → found ≡ Some fault → ⊥
+none_left fault found e f = absurd (cc)
+
+pub returns-in_err-program-clause-left_out : goal.returns-in_err-program-clause-left_out
+returns-in_err-program-clause-left_out c = λ fault text.
+    let tree = c.in_ok-named.named.tree in
+    absurd (none_left fault (left_out_of tree) (sym c.left_out.ensures.first ∙ c.in_default.is) (text.first tree (c.in_ok-named.ensures.all_legal text.text)))
+
+pub returns-then-not-admits-clause-left_out : goal.returns-then-not-admits-clause-left_out
+returns-then-not-admits-clause-left_out c = λ fault text.
+    let tree = c.in_ok-named.named.tree in
+    absurd (none_left fault (left_out_of tree) (sym c.left_out.ensures.first ∙ c.in_default.is) (text.first tree (c.in_ok-named.ensures.all_legal text.text)))
+
+pub returns-clause-left_out : goal.returns-clause-left_out
+returns-clause-left_out c = λ fault text.
+    let tree = c.in_ok-named.named.tree in
+    absurd (none_left fault (left_out_of tree) (sym c.left_out.ensures.first ∙ c.in_default.is) (text.first tree (c.in_ok-named.ensures.all_legal text.text)))
+
+-- a text is refused with its first fault, for a rule on names, for a construct that is not run, for its program, or for want of memory
+
+because : (source : List ℕ) (fault : Fault) → HasEarlyFault source fault ⊎ IsMemory fault → IsRefused source fault
+because source fault (inl (of_text h)) = by_text h
+because source fault (inl (of_names b h)) = by_names b h
 because source fault (inr h) = by_memory h
 
 -- a construct that is left out is a matter of the program
 left_out_is : (fault : Fault) → fault.code ≡ LeftOut → IsOfProgram fault
 left_out_is fault e = subst IsProgramCode (sym e) tt
 
-pub returns-in_err-tree-clause-refused : goal.returns-in_err-tree-clause-refused
-returns-in_err-tree-clause-refused c =
+pub returns-in_err-named-clause-refused : goal.returns-in_err-named-clause-refused
+returns-in_err-named-clause-refused c =
     let p = err_from_is_err_and c.from_residual.result c.from_residual.ensures.1 in
-    rw (p.1, p.2) (because c.args.source.now _ c.in_err-tree.ensures.refused)
+    rw (p.1, p.2) (because c.args.source.now _ c.in_err-named.ensures.refused)
 
 pub returns-in-Some-clause-refused : goal.returns-in-Some-clause-refused
-returns-in-Some-clause-refused c = by_program _ c.in_ok-tree.ensures.found (left_out_is c.in-Some.fault c.in-Some.ensures.refused)
+returns-in-Some-clause-refused c = by_construct (record { tree = c.in_ok-named.named.tree; legal = c.in_ok-named.ensures.found; first = sym c.left_out.ensures.first ∙ c.in-Some.is })
 
 pub returns-in_err-program-clause-refused : goal.returns-in_err-program-clause-refused
 returns-in_err-program-clause-refused c =
     let p = err_from_is_err_and c.from_residual-in_err-program.result c.from_residual-in_err-program.ensures.1 in
-    rw (p.1, p.2) (by_program _ c.in_ok-tree.ensures.found c.in_err-program.ensures.refused)
+    rw (p.1, p.2) (by_program c.in_ok-named.named.tree c.in_ok-named.ensures.found (sym c.left_out.ensures.first ∙ c.in_default.is) c.in_err-program.ensures.refused)
 
 pub returns-then-not-admits-clause-refused : goal.returns-then-not-admits-clause-refused
-returns-then-not-admits-clause-refused c = by_program _ c.in_ok-tree.ensures.found (left_out_is c.at.result (ap (λ (f : Fault). f.code) c.at.ensures))
+returns-then-not-admits-clause-refused c = by_program c.in_ok-named.named.tree c.in_ok-named.ensures.found (sym c.left_out.ensures.first ∙ c.in_default.is) (left_out_is c.at.result (ap (λ (f : Fault). f.code) c.at.ensures))
+
+-- an accepted text
+
+accepts : (source : List ℕ) (tree : Tree) (program : Checked) → SpellsLegalTree source tree → left_out_of tree ≡ None → InSlice program → Accepts source program
+accepts source tree program s none within = record {
+  tokens = s.spelled.tokens;
+  tree = tree;
+  lexical = s.spelled.lexical;
+  grammatical = s.spelled.grammatical;
+  legal = s.legal;
+  all_run = none;
+  in_slice = within;
+}
+
+pub returns-clause-accepted : goal.returns-clause-accepted
+returns-clause-accepted c =
+    let within : InSlice c.in_ok-program.program = search (rules, c.admits.ensures, c.if-not-admits) in
+    accepts c.args.source.now c.in_ok-named.named.tree c.in_ok-program.program c.in_ok-named.ensures.found (sym c.left_out.ensures.first ∙ c.in_default.is) within

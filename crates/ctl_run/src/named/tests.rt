@@ -84,7 +84,7 @@ fn own_names_hide_used_ones(rt: HostRuntime) -> Result<(), Fail> {
             false,
         ),
     ] {
-        let found = match resolved(rt.alloc(), source.as_bytes()) {
+        let found = match named_of(rt.alloc(), source.as_bytes()) {
             Ok(named) => matches!(named.uses.first(), Some(Denoted::Declared(_, 1))),
             Err(_) => !is_own,
         };
@@ -318,7 +318,7 @@ fn operations_by_profile(rt: HostRuntime) -> Result<(), Fail> {
 
 /// The first fault of a text, or nothing.
 fn answer(alloc: Global, source: &str) -> Result<String, Fail> {
-    match resolved(alloc, source.as_bytes()) {
+    match named_of(alloc, source.as_bytes()) {
         Ok(_) => Ok(String::new(alloc)),
         Err(fault) => Ok(fault.to_string(alloc)?),
     }
