@@ -1,4 +1,4 @@
-ghost use Rattle.std.specs.Prelude.{◌≡◌, ℕ, ◌+◌, ◌-◌, ◌*◌, ◌^◌, ◌<◌, ◌≤◌, length, true, false, OnErr, IfOk, IsTrue, slice_get, slice_index_or, None};
+ghost use Rattle.std.specs.Prelude.{◌≡◌, ℕ, ◌+◌, ◌-◌, ◌*◌, ◌^◌, ◌<◌, ◌≤◌, length, true, false, OnErr, IfOk, IsSome, IsTrue, slice_get, slice_index_or, None};
 ghost use Rattle.std.specs.Option.{option_map};
 ghost use Rattle.pool_area.specs.Lots.{with_word, with_words_over, run_of};
 ghost use Rattle.pool_area.specs.Subpools.{IsMarkSize, new_area, is_overfull, is_last, last_of, with_new_block, count_of, with_subpool, standing_of, with_standing, object_of, block_words, with_block, without_last, is_last_dead, settled, with_no_objects};
@@ -129,9 +129,17 @@ impl<A: Allocator> MarkArea<A> {
         }
     }
 
-    /// The number of the last subpool.
+    /// The number that was given to a subpool last.
+    pub fn given(&self) -> u64
+        ensures { result ≡ self.now.given }
+    {
+        self.given
+    }
+
+    /// The number of the last subpool. One stands at all times.
     pub fn last_number(&self) -> Option<u64>
-        ensures { result ≡ option_map (λ x. x.number) (last_of self.now.subpools) }
+        ensures some { IsSome result }
+        ensures value { result ≡ option_map (λ x. x.number) (last_of self.now.subpools) }
     {
         match self.subpools.last() {
             Some(last) => Some(last.number),

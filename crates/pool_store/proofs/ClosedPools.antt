@@ -1,10 +1,10 @@
 -- A pool that closes, and the objects that lie in it.
-use Rattle.std.proofs.Common.{◌≡◌, ℕ, zero, suc, ◌-◌, ◌<◌, Bool, true, false, cond, Option, Some, None, refl, sym, ap, subst, ◌∙◌, arith}
+use Rattle.std.proofs.Common.{◌≡◌, ℕ, zero, suc, ◌-◌, ◌<◌, [], Bool, true, false, cond, Option, Some, None, refl, sym, ap, subst, ◌∙◌, arith}
 use Rattle.std.specs.Prelude.{nat_eq, not, is_some, IfSome}
 use Rattle.std.specs.Cmp.{nat_cmp_total}
 use Rattle.std.specs.Ordering.{nat_cmp}
 use Rattle.std.specs.Option.{option_map, option_map_or}
-use Rattle.std.specs.FinMap.{empty, get, remove, len, get-empty, len-remove, empty_of_len}
+use Rattle.std.specs.FinMap.{FinMap, empty, get, remove, len, get-empty, len-remove, empty_of_len}
 use borrow.Author.Tests.{eqb-true, eq-eqb}
 use Rattle.number_map.specs.Table.{mapped}
 use Rattle.number_map.proofs.Changes.{get_dropped, equal_maps}
@@ -16,6 +16,7 @@ use Rattle.pool_store.specs.declared.entry.Entry.{Entry}
 use Rattle.pool_store.specs.declared.entry.Entry.TheVariants.{Standard, InBlock}
 use Rattle.pool_store.specs.Entries.{Stored, pool_of, lot_at, object_in, words_in, stored_in, is_in, is_elsewhere, forgotten, IsHeldBy, AreHeldBy, IsTied, Ties}
 use Rattle.pool_store.specs.Kept.{kept, kept_if}
+use Rattle.pool_store.specs.Marks.{MarkPool}
 use Rattle.pool_store.specs.Store as store
 use Rattle.pool_store.specs.Store.{Store}
 use Rattle.pool_store.proofs.KeptLemmas.{get_kept, kept_again}
@@ -129,6 +130,16 @@ fewer_out a b out =
 
 -- The store ----------------------------------------------------------------
 
+-- an empty map stays so
+pub nothing_removed : {V : Type 0} (p : ℕ) → (let none : FinMap nat_cmp V = empty in remove none p ≡ none)
+nothing_removed {V} p =
+    let none : FinMap nat_cmp V = empty in
+    equal_maps (remove none p) none (λ q. get_dropped none p q ∙ by q (nat_eq q p))
+  where
+    by : (q : ℕ) (b : Bool) → (let none : FinMap nat_cmp V = empty in cond b None (get none q)) ≡ (let none : FinMap nat_cmp V = empty in get none q)
+    by q true = sym (get-empty nat_cmp q)
+    by q false = refl
+
 abbrev lies_elsewhere : ℕ → Stored → Bool
 lies_elsewhere p x = not (store.lies_in p x)
 
@@ -145,6 +156,25 @@ module _ {A : Type 0} (objects : Objects A) (blocks : Pools) (g : ℕ) (ties : T
       each : (o : Option (Entry A)) → IfSome o (IsTied blocks n) → IfSome o (IsHeldBy p b n)
       each None h = tt
       each (Some e) h = one e h
+
+  -- where no pool is open, nothing lies in it
+  pub none_in : get blocks p ≡ None → kept (is_elsewhere p) objects ≡ objects
+  none_in none = equal_maps (kept (is_elsewhere p) objects) objects (λ q. get_kept (is_elsewhere p) objects q ∙ by q (get objects q) (ties.tied q))
+    where
+      in_none : (q : ℕ) (e : Entry A) → IsTied blocks q e → is_in p e ≡ true → ⊥
+      in_none q (Standard ws) h is = let no : true ≡ false = sym is in cc
+      in_none q (InBlock s) h is =
+          let lot : lot_at s blocks ≡ None = ap (λ o. option_map_or (λ (d : Blocks). get d.out s.address) o None) (ap (get blocks) (eqb-true s.pool p is) ∙ none) in
+          let no : ◌≡◌ {A = Option ℕ} None (Some q) = sym (ap object_in lot) ∙ h in
+          cc
+
+      stays : (q : ℕ) (e : Entry A) (t : Bool) → is_in p e ≡ t → IsTied blocks q e → cond (not t) (Some e) None ≡ Some e
+      stays q e true is h = absurd (in_none q e h is)
+      stays q e false is h = refl
+
+      by : (q : ℕ) (o : Option (Entry A)) → IfSome o (IsTied blocks q) → kept_if (is_elsewhere p) o ≡ o
+      by q None h = refl
+      by q (Some e) h = stays q e (is_in p e) refl h
 
   abbrev others : Objects A
   others = kept (is_elsewhere p) objects
@@ -172,14 +202,15 @@ module _ {A : Type 0} (objects : Objects A) (blocks : Pools) (g : ℕ) (ties : T
   closed_seen =
       let o = equal_maps (mapped (stored_in (remove blocks p)) others) (kept (lies_elsewhere p) (mapped (stored_in blocks) objects)) same in
       let q = mapped_drop pool_of blocks p in
-      λ i. record { objects = o i; blocks = q i; given = g }
+      let m = sym (nothing_removed {V = MarkPool} p) in
+      λ i. record { objects = o i; blocks = q i; given = g; marks = m i; opened = []; numbered = 0 }
     where
       one : (e : Entry A) (t : Bool) → is_in p e ≡ t → option_map (stored_in (remove blocks p)) (cond (not t) (Some e) None) ≡ kept_if (lies_elsewhere p) (Some (stored_in blocks e))
       one (Standard ws) true is = let no : true ≡ false = sym is in absurd (cc)
       one (Standard ws) false is = refl
       one (InBlock s) true is = sym (ap (λ t. cond (not t) (Some (stored_in blocks (let e : Entry A = InBlock s in e))) None) is)
       one (InBlock s) false is =
-          ap (λ l. Some (let r : Stored = record { spot = Some s; words = words_in l } in r)) (lot_elsewhere s is)
+          ap (λ l. Some (let r : Stored = record { spot = Some s; site = None; words = words_in l } in r)) (lot_elsewhere s is)
           ∙ sym (ap (λ t. cond (not t) (Some (stored_in blocks (let e : Entry A = InBlock s in e))) None) is)
 
       each : (o : Option (Entry A)) → option_map (stored_in (remove blocks p)) (kept_if (is_elsewhere p) o) ≡ kept_if (lies_elsewhere p) (option_map (stored_in blocks) o)

@@ -49,14 +49,14 @@ length-overwritten ts xs p fits =
 
 -- an object as it is held
 abbrev pub stored_of : ℕ → Store → Stored
-stored_of n s = option_map_or (λ o. o) (get s.objects n) (record { spot = None; words = [] })
+stored_of n s = option_map_or (λ o. o) (get s.objects n) (record { spot = None; site = None; words = [] })
 
 -- an object that has a word is held
-held : (o : Option Stored) → 0 < length (option_map_or (λ x. x.words) o []) → o ≡ Some (option_map_or (λ x. x) o (record { spot = None; words = [] }))
+held : (o : Option Stored) → 0 < length (option_map_or (λ x. x.words) o []) → o ≡ Some (option_map_or (λ x. x) o (record { spot = None; site = None; words = [] }))
 held None some = absurd (omega arith)
 held (Some x) some = refl
 
-words_held : (o : Option Stored) → option_map_or (λ x. x.words) o [] ≡ (option_map_or (λ x. x) o (record { spot = None; words = [] })).words
+words_held : (o : Option Stored) → option_map_or (λ x. x.words) o [] ≡ (option_map_or (λ x. x) o (record { spot = None; site = None; words = [] })).words
 words_held None = refl
 words_held (Some x) = refl
 
@@ -64,7 +64,7 @@ abbrev with_stored : ℕ → Stored → Store → Store
 with_stored n o s = record s { objects = insert s.objects n o }
 
 abbrev as_words : ℕ → List ℕ → Store → Stored
-as_words n ws s = record { spot = (stored_of n s).spot; words = ws }
+as_words n ws s = record { spot = (stored_of n s).spot; site = (stored_of n s).site; words = ws }
 
 -- what is there once some words were copied
 abbrev pub after_copy : ℕ → ℕ → ℕ → ℕ → ℕ → Store → Store
@@ -134,7 +134,7 @@ written_over word to target s x o = record s { objects = option_map_or (λ v. in
 written_nothing : (word to target : ℕ) (s : Store) (x : Stored) (o : Option Stored) → get s.objects to ≡ o → s ≡ written_over word to target s x o
 written_nothing word to target s x None e = refl
 written_nothing word to target s x (Some ts) e =
-    sym (ap (λ l. let r : Store = record s { objects = insert s.objects to (record { spot = ts.spot; words = l }) } in r) (no_word ts.words (drop word x.words) target)
+    sym (ap (λ l. let r : Store = record s { objects = insert s.objects to (record { spot = ts.spot; site = ts.site; words = l }) } in r) (no_word ts.words (drop word x.words) target)
     ∙ ap (λ t. let r : Store = record s { objects = t } in r) (insert_same s.objects to ts e))
 
 from_nothing : (word to target : ℕ) (s : Store) (m o : Option Stored) → get s.objects to ≡ o → s ≡ option_map_or (λ x. written_over word to target s x o) m s

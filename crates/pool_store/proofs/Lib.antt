@@ -5,3 +5,8 @@ pub mod Held
 pub mod KeptLemmas
 pub mod Steps
 pub mod Tied
+mod MarkViews
+mod Placed
+mod MarkSteps
+mod Sides
+mod Forgotten

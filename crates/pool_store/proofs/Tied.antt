@@ -54,7 +54,7 @@ pub spared : {A : Type 0} (P : ℕ → Type 0) (old new : Pools) (m : ℕ) (e : 
 spared P old new m (Standard words) is sp tied = (refl, tt)
 spared P old new m (InBlock s) is sp tied =
     let same = sp s m is tied in
-    (ap (λ l. let r : Stored = record { spot = Some s; words = words_in l } in r) same, ap object_in same ∙ tied)
+    (ap (λ l. let r : Stored = record { spot = Some s; site = None; words = words_in l } in r) same, ap object_in same ∙ tied)
 
 abbrev pub Tied : {A : Type 0} → Objects A → Pools → Type 0
 Tied objects blocks = (n : ℕ) → IfSome (get objects n) (IsTied blocks n)

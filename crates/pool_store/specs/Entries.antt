@@ -11,17 +11,28 @@ use Rattle.pool_store.specs.declared.entry.Spot.{Spot}
 use Rattle.pool_store.specs.declared.entry.Entry.{Entry}
 use Rattle.pool_store.specs.declared.entry.Entry.TheVariants.{Standard, InBlock}
 
--- an object that is held: where it lies, None for the standard pool, and its words
+-- where an object lies in a subpool: the numbers of its pool and of the subpool
+pub record Site : Type 0 where
+  pub pool : ℕ
+  pub subpool : ℕ
+
+-- an object that is held: where it lies in a block or in a subpool, None and None for the standard pool, and its words of 8 bytes each
 pub record Stored : Type 0 where
   pub spot : Option Spot
+  pub site : Option Site
   pub words : List ℕ
 
 abbrev pub spot_code : Coded Spot
 spot_code = code_by (ℕ × ℕ) (coded× coded_ℕ coded_ℕ) (λ s. (s.pool, s.address)) (λ t. record { pool = t.0; address = t.1 }) (λ _. refl)
 
--- how the logic stores it: as a pair
+abbrev pub site_code : Coded Site
+site_code = code_by (ℕ × ℕ) (coded× coded_ℕ coded_ℕ) (λ s. (s.pool, s.subpool)) (λ t. record { pool = t.0; subpool = t.1 }) (λ _. refl)
+
+-- how the logic stores it: as a tuple of its fields
 abbrev pub stored_code : Coded Stored
-stored_code = code_by (Option Spot × List ℕ) (coded× (coded_option spot_code) (coded_list coded_ℕ)) (λ o. (o.spot, o.words)) (λ t. record { spot = t.0; words = t.1 }) (λ _. refl)
+stored_code =
+    code_by (Option Spot × (Option Site × List ℕ)) (coded× (coded_option spot_code) (coded× (coded_option site_code) (coded_list coded_ℕ)))
+    (λ o. (o.spot, (o.site, o.words))) (λ t. record { spot = t.0; site = t.1.0; words = t.1.1 }) (λ _. refl)
 
 -- a pool of blocks: how many storage units a block has, how many blocks are free, and those that are out, by address, each with the number of the object that it holds
 pub record BlockPool : Type 0 where
@@ -49,8 +60,8 @@ words_in lot = option_map_or (λ h. option_map_or (λ x. x.words) h []) lot []
 
 -- an object with its words
 abbrev pub stored_in : {A : Type 0} → FinMap nat_cmp Blocks → Entry A → Stored
-stored_in blocks (Standard words) = record { spot = None; words = words }
-stored_in blocks (InBlock s) = record { spot = Some s; words = words_in (lot_at s blocks) }
+stored_in blocks (Standard words) = record { spot = None; site = None; words = words }
+stored_in blocks (InBlock s) = record { spot = Some s; site = None; words = words_in (lot_at s blocks) }
 
 -- the words that an object of the standard pool has
 abbrev pub own_words : {A : Type 0} → Entry A → List ℕ

@@ -1,4 +1,7 @@
+pub mod Cells
 pub mod Entries
 pub mod Fault
+pub mod Joined
 pub mod Kept
+pub mod Marks
 pub mod Store

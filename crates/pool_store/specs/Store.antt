@@ -1,22 +1,29 @@
--- The objects that are held, and the pools of blocks (RM 13.11).
-use Rattle.std.specs.Prelude.{refl, ℕ, ◌+◌, ◌-◌, ◌≤◌, List, [], length, replicate, Option, Some, None, Result, Ok, Err, Bool, false, ◌||◌, ◌&&◌, not, nat_eq, nat_lt, nat_le, is_none, IfSome, IsSome, slice_set, slice_index_or}
+-- The objects that are held, the pools of blocks (RM 13.11), and the pools with marks and their subpools (RM 13.11.4 to 13.11.6).
+use Rattle.std.specs.Prelude.{◌≡◌, refl, filter, ℕ, ◌+◌, ◌-◌, ◌*◌, ◌/◌, ◌<◌, ◌≤◌, List, [], ◌∷◌, ◌++◌, length, replicate, Option, Some, None, Result, Ok, Err, Bool, false, cond, ◌||◌, ◌&&◌, not, nat_eq, nat_lt, nat_le, is_none, is_some, IfSome, IsSome, slice_set, slice_index_or, option_and_then}
 use Rattle.std.specs.Ordering.{nat_cmp}
 use Rattle.std.specs.Option.{option_map, option_map_or}
-use Rattle.std.specs.Coded.{Coded, code_by, coded×, coded_ℕ, coded_option}
+use Rattle.std.specs.Coded.{Coded, code_by, coded×, coded_ℕ, coded_list, coded_option}
 use Rattle.std.specs.FinMap.{FinMap, code, empty, get, insert, remove}
 use Rattle.number_map.specs.Table.{change}
 use Rattle.pool_area.specs.Lots.{run_of, overwritten}
 use Rattle.pool_store.specs.declared.fault.StoreFault.{StoreFault}
-use Rattle.pool_store.specs.declared.fault.StoreFault.TheVariants.{Gone}
-use Rattle.pool_store.specs.declared.store.Address.{Address}
+use Rattle.pool_store.specs.declared.fault.StoreFault.TheVariants.{Exhausted, Gone, Released, Foreign, NotTop}
+use Rattle.pool_store.specs.declared.block_store.Address.{Address}
 use Rattle.pool_store.specs.declared.entry.Spot.{Spot}
 use Rattle.pool_store.specs.Entries.{Stored, stored_code, BlockPool}
 use Rattle.pool_store.specs.Kept.{kept}
+use Rattle.pool_area.specs.declared.subpool.Standing.{Standing}
+use Rattle.pool_area.specs.declared.subpool.Standing.TheVariants.{Detached}
+use Rattle.pool_store.specs.Marks.{MarkPool, mark_pool_code, new_mark_pool, has_subpool, standing_in, belongs, is_last_in, is_overfull, with_subpool, with_standing, with_words_used, released, is_renewed_by}
 
+-- The objects by their numbers; the open pools of blocks by theirs, and the address that was given last; the open pools with marks by theirs, these numbers in the order in which the pools were opened, and how many subpool numbers were given.
 pub record Store : Type 0 where
   pub objects : FinMap nat_cmp Stored
   pub blocks : FinMap nat_cmp BlockPool
   pub given : ℕ
+  pub marks : FinMap nat_cmp MarkPool
+  pub opened : List ℕ
+  pub numbered : ℕ
 
 abbrev pub block_pool_code : Coded BlockPool
 block_pool_code =
@@ -26,17 +33,19 @@ block_pool_code =
 -- how the logic stores it: as a tuple of its fields
 abbrev pub store_code : Coded Store
 store_code =
-    code_by (FinMap nat_cmp Stored × (FinMap nat_cmp BlockPool × ℕ)) (coded× (code coded_ℕ stored_code) (coded× (code coded_ℕ block_pool_code) coded_ℕ))
-    (λ s. (s.objects, (s.blocks, s.given))) (λ t. record { objects = t.0; blocks = t.1.0; given = t.1.1 }) (λ _. refl)
+    code_by (FinMap nat_cmp Stored × (FinMap nat_cmp BlockPool × (ℕ × (FinMap nat_cmp MarkPool × (List ℕ × ℕ)))))
+    (coded× (code coded_ℕ stored_code) (coded× (code coded_ℕ block_pool_code) (coded× coded_ℕ (coded× (code coded_ℕ mark_pool_code) (coded× (coded_list coded_ℕ) coded_ℕ)))))
+    (λ s. (s.objects, (s.blocks, (s.given, (s.marks, (s.opened, s.numbered))))))
+    (λ t. record { objects = t.0; blocks = t.1.0; given = t.1.1.0; marks = t.1.1.1.0; opened = t.1.1.1.1.0; numbered = t.1.1.1.1.1 }) (λ _. refl)
 
 abbrev pub no_store : Store
-no_store = record { objects = empty; blocks = empty; given = 0 }
+no_store = record { objects = empty; blocks = empty; given = 0; marks = empty; opened = []; numbered = 0 }
 
 -- Objects ------------------------------------------------------------------
 
 -- with a new object of the standard pool of so many words, all of them 0
 abbrev pub with_object : ℕ → ℕ → Store → Store
-with_object n words s = record s { objects = insert s.objects n (record { spot = None; words = replicate words 0 }) }
+with_object n words s = record s { objects = insert s.objects n (record { spot = None; site = None; words = replicate words 0 }) }
 
 -- the words of an object, none for one that is gone
 abbrev pub words_of : ℕ → Store → List ℕ
@@ -111,7 +120,7 @@ with_holder a n p = record p { out = insert p.out a n }
 -- a new object of so many words, all of them 0, is put into a block
 abbrev pub hold_block : ℕ → ℕ → ℕ → ℕ → Store → Store
 hold_block p a n words s =
-    record (change_pool p (with_holder a (Some n)) s) { objects = insert s.objects n (record { spot = Some (record { pool = p; address = a }); words = replicate words 0 }) }
+    record (change_pool p (with_holder a (Some n)) s) { objects = insert s.objects n (record { spot = Some (record { pool = p; address = a }); site = None; words = replicate words 0 }) }
 
 abbrev pub freed_spot : Option Spot → FinMap nat_cmp BlockPool → FinMap nat_cmp BlockPool
 freed_spot None blocks = blocks
@@ -121,9 +130,9 @@ freed_spot (Some x) blocks = change x.pool (with_holder x.address None) blocks
 abbrev pub without_object : ℕ → Store → Store
 without_object n s = record s { objects = remove s.objects n; blocks = freed_spot (option_map_or (λ o. o.spot) (get s.objects n) None) s.blocks }
 
--- a pool is open
-abbrev pub IsOpen : ℕ → Store → Type 0
-IsOpen p s = IsSome (get s.blocks p)
+-- a pool of blocks is open
+abbrev pub IsBlockPool : ℕ → Store → Type 0
+IsBlockPool p s = IsSome (get s.blocks p)
 
 -- a request of an open pool is refused
 abbrev pub is_exhausted_in : ℕ → ℕ → Store → Bool
@@ -148,10 +157,112 @@ is_fit_in p a units s = option_map_or (is_fit a units) (get s.blocks p) false
 abbrev pub spot_of : ℕ → Store → Option Spot
 spot_of n s = option_map_or (λ o. o.spot) (get s.objects n) None
 
--- an object lies in a block of this pool
+-- an object lies in this pool, in a block or in a subpool
 abbrev pub lies_in : ℕ → Stored → Bool
-lies_in p o = option_map_or (λ x. nat_eq x.pool p) o.spot false
+lies_in p o = option_map_or (λ x. nat_eq x.pool p) o.site false || option_map_or (λ x. nat_eq x.pool p) o.spot false
 
--- a pool closes: the objects in it are gone, and its addresses are out no more
+-- Pools with marks ---------------------------------------------------------
+
+-- a pool with marks is open
+abbrev pub IsMarkPool : ℕ → Store → Type 0
+IsMarkPool p s = IsSome (get s.marks p)
+
+abbrev pub change_marks : ℕ → (MarkPool → MarkPool) → Store → Store
+change_marks p f s = record s { marks = change p f s.marks }
+
+-- a new pool with marks is open, with its first subpool
+abbrev pub with_mark_pool : ℕ → ℕ → Store → Store
+with_mark_pool p units s = record s { marks = insert s.marks p (new_mark_pool units s.numbered); opened = s.opened ++ p ∷ []; numbered = s.numbered + 1 }
+
+-- of the open pools, the first in which a subpool of this number stands
+abbrev pub pool_among : ℕ → FinMap nat_cmp MarkPool → List ℕ → Option ℕ
+pool_among n marks [] = None
+pool_among n marks (p ∷ ps) = cond (option_map_or (has_subpool n) (get marks p) false) (Some p) (pool_among n marks ps)
+
+abbrev pub pool_with : ℕ → Store → Option ℕ
+pool_with n s = pool_among n s.marks s.opened
+
+-- a subpool belongs to this pool (RM 13.11.5)
+abbrev pub belongs_to : ℕ → ℕ → Store → Bool
+belongs_to n p s = option_map_or (belongs n) (get s.marks p) false
+
+-- it is the last one of this pool
+abbrev pub is_last_of : ℕ → ℕ → Store → Bool
+is_last_of n p s = option_map_or (is_last_in n) (get s.marks p) false
+
+-- a request of this pool is larger than what is left
+abbrev pub is_overfull_in : ℕ → ℕ → Store → Bool
+is_overfull_in p units s = option_map_or (is_overfull units) (get s.marks p) false
+
+-- as many subpools stand in it as may, ten
+abbrev pub is_full : ℕ → Store → Bool
+is_full p s = option_map_or (λ m. nat_le 10 (length m.subpools)) (get s.marks p) false
+
+-- why a request in a subpool of a pool is refused, in this order: it stands in no pool, it does not belong to this one, it is not the last, its pool has not so many storage units left
+abbrev pub refusal_in : ℕ → ℕ → ℕ → Store → Option StoreFault
+refusal_in n p units s =
+    cond (is_none (pool_with n s)) (Some Released)
+    (cond (not (belongs_to n p s)) (Some Foreign) (cond (not (is_last_of n p s)) (Some NotTop) (cond (is_overfull_in p units s) (Some Exhausted) None)))
+
+-- storage units that are whole words, of 8 each, and at least one word
+abbrev pub IsWholeWords : ℕ → Type 0
+IsWholeWords units = (0 < units) × (units / 8 * 8 ≡ units)
+
+-- a new object of so many words, all of them 0, is put into a subpool
+abbrev pub hold_in : ℕ → ℕ → ℕ → ℕ → Store → Store
+hold_in n p object words s =
+    record (change_marks p (with_words_used words) s) { objects = insert s.objects object (record { spot = None; site = Some (record { pool = p; subpool = n }); words = replicate words 0 }) }
+
+-- a pool has a further subpool, the last
+abbrev pub with_new_subpool : ℕ → Store → Store
+with_new_subpool p s = record (change_marks p (with_subpool s.numbered) s) { numbered = s.numbered + 1 }
+
+-- whether a subpool belongs to its pool, None where it stands in none
+abbrev pub standing_of : ℕ → Store → Option Standing
+standing_of n s = option_and_then (λ p. option_and_then (standing_in n) (get s.marks p)) (pool_with n s)
+
+-- a subpool is the last of the pool in which it stands
+abbrev pub is_last : ℕ → Store → Bool
+is_last n s = option_map_or (λ p. is_last_of n p s) (pool_with n s) false
+
+-- a subpool belongs to a pool
+abbrev pub is_attached : ℕ → Store → Bool
+is_attached n s = option_map_or (λ p. belongs_to n p s) (pool_with n s) false
+
+-- a subpool belongs to no pool from now on
+abbrev pub detached : ℕ → Store → Store
+detached n s = option_map_or (λ p. change_marks p (with_standing n Detached) s) (pool_with n s) s
+
+-- a subpool that belongs to no pool, and is not released
+abbrev pub IsDetached : ℕ → Store → Type 0
+IsDetached n s = standing_of n s ≡ Some Detached
+
+-- an object lies in this subpool of this pool
+abbrev pub lies_in_subpool : ℕ → ℕ → Stored → Bool
+lies_in_subpool p n o = option_map_or (λ x. nat_eq x.pool p && nat_eq x.subpool n) o.site false
+
+-- a subpool of a pool is released: its objects are gone, and it is dead; where it is the last it is dropped, with the dead ones before it
+abbrev pub released_in : ℕ → ℕ → Store → Store
+released_in p n s =
+    record (change_marks p (released n s.numbered) s) {
+      objects = kept (λ o. not (lies_in_subpool p n o)) s.objects;
+      numbered = s.numbered + cond (option_map_or (is_renewed_by n) (get s.marks p) false) 1 0;
+    }
+
+abbrev pub released_subpool : ℕ → Store → Store
+released_subpool n s = option_map_or (λ p. released_in p n s) (pool_with n s) s
+
+-- Both kinds of pools ------------------------------------------------------
+
+-- a pool is open
+abbrev pub is_open : ℕ → Store → Bool
+is_open p s = is_some (get s.blocks p) || is_some (get s.marks p)
+
+-- the numbers in a list but one
+abbrev pub others : ℕ → List ℕ → List ℕ
+others p qs = filter (λ q. not (nat_eq q p)) qs
+
+-- a pool closes: the objects in it are gone, its addresses are out no more, and none of its subpools stands
 abbrev pub without_pool : ℕ → Store → Store
-without_pool p s = record s { objects = kept (λ o. not (lies_in p o)) s.objects; blocks = remove s.blocks p }
+without_pool p s =
+    record s { objects = kept (λ o. not (lies_in p o)) s.objects; blocks = remove s.blocks p; marks = remove s.marks p; opened = others p s.opened }

@@ -1,46 +1,40 @@
-ghost use Rattle.std.specs.Prelude.{◌≡◌, ℕ, ◌+◌, ◌-◌, ◌*◌, ◌/◌, ◌^◌, ◌<◌, ◌≤◌, length, None, Some, Ok, Err, true, false, if◌then◌else◌, slice_index_or, OnOk, OnErr, IfOk, IfErr, IfSome, IsTrue, is_some, ◌↔◌, ◌≢◌};
+ghost use Rattle.std.specs.Prelude.{◌≡◌, ℕ, ◌+◌, ◌-◌, ◌*◌, ◌/◌, ◌^◌, ◌<◌, ◌≤◌, length, None, Some, Ok, Err, true, false, if◌then◌else◌, slice_index_or, option_and_then, OnOk, OnErr, IfOk, IfErr, IfSome, IsTrue, is_some, ◌↔◌, ◌≢◌};
+ghost use Rattle.std.specs.Option.{option_map_or};
 ghost use Rattle.std.specs.FinMap.{get};
-ghost use Rattle.pool_store.specs.Store.{no_store, with_object, without_object, with_word, copied, IsWithin, read_word, held_or_gone, both_or_gone, vacated, words_of, IsOpen, IsPoolSize, with_pool, take_block, is_exhausted_in, is_vacant_in, give_block, is_fit_in, hold_block, spot_of, without_pool};
+ghost use Rattle.pool_area.specs.Subpools.{IsMarkSize};
+ghost use Rattle.pool_store.specs.Marks.{default_of};
+ghost use Rattle.pool_store.specs.Store.{no_store, with_object, without_object, with_word, copied, IsWithin, read_word, held_or_gone, both_or_gone, vacated, words_of, IsBlockPool, IsPoolSize, with_pool, take_block, is_exhausted_in, is_vacant_in, give_block, is_fit_in, hold_block, IsMarkPool, IsWholeWords, with_mark_pool, is_full, refusal_in, hold_in, with_new_subpool, is_attached, detached, IsDetached, is_last, released_subpool, is_open, without_pool};
 
-use crate::closing::close_area;
-use crate::entry::{Entry, Spot};
+use crate::block_store::{Address, BlockStore};
 use crate::fault::StoreFault;
-use crate::object::Object;
-use crate::spots::{copy_within_at, len_at, set_word_at, word_at};
-use number_map::NumberMap;
-use pool_area::BlockArea;
+use crate::mark_store::MarkStore;
+#[cfg(test)]
+use pool_area::Standing;
 use std::alloc::{Allocator, Global};
 use std::marker::Model;
 
-/// The address of a block. Each names one successful allocation.
+/// The number of a subpool. Each names one subpool, and none is used again (RM 13.11.4).
 #[derive(Clone, Copy, Debug, PartialEq, Eq)]
-pub struct Address(pub u64);
+pub struct SubpoolNo(pub u64);
 
-/// The objects that are held, by their numbers, and the pools of blocks. It ends by `close`.
+/// The objects that are held, by their numbers, the pools of blocks, and the pools with marks with their subpools. It
+/// ends by `close`.
 pub struct PoolStore<A: Allocator = Global> {
-    alloc: A,
-    objects: NumberMap<Entry<A>, A>,
-    blocks: NumberMap<BlockArea<A>, A>,
-    // The address that was given last.
-    given: u64,
+    blocks: BlockStore<A>,
+    marks: MarkStore<A>,
 }
 
 impl<A: Allocator> Model for PoolStore<A> {
-    ghost use Rattle.number_map.specs.Table.{mapped};
-    ghost use Rattle.pool_store.specs.Entries.{stored_in, pool_of, Ties};
+    ghost use Rattle.pool_store.specs.Joined.{side_by_side, AreApart};
     ghost use Rattle.pool_store.specs.Store.{Store, store_code};
 
     ghost Value = { Store };
 
     ghost coded = { store_code };
 
-    ghost view = { λ s. record {
-      objects = mapped (stored_in s.blocks.values) s.objects.values;
-      blocks = mapped pool_of s.blocks.values;
-      given = s.given;
-    } };
+    ghost view = { λ s. side_by_side s.blocks s.marks };
 
-    ghost invariant = { λ s. Ties s.objects.values s.blocks.values s.given };
+    ghost invariant = { λ s. AreApart s.blocks s.marks };
 }
 
 impl<A: Allocator + Copy> PoolStore<A> {
@@ -49,10 +43,8 @@ impl<A: Allocator + Copy> PoolStore<A> {
         ensures { result ≡ no_store }
     {
         PoolStore {
-            alloc,
-            objects: NumberMap::new(alloc),
-            blocks: NumberMap::new(alloc),
-            given: 0,
+            blocks: BlockStore::new(alloc),
+            marks: MarkStore::new(alloc),
         }
     }
 
@@ -67,10 +59,7 @@ impl<A: Allocator + Copy> PoolStore<A> {
         ensures err { OnErr result (self.new ≡ self.old) }
         ensures fault { IfErr result (λ fault. fault ≡ StoreFault.Memory) }
     {
-        self.objects.reserve()?;
-        let words = Object::new(self.alloc, words)?;
-        self.objects.put(object, Entry::Standard(words));
-        Ok(())
+        self.blocks.standard(object, words)
     }
 
     /// Opens a pool of `count` blocks, from 1 to 65,536, of `units` storage units each, from 1 to 4,096. All are free.
@@ -85,10 +74,7 @@ impl<A: Allocator + Copy> PoolStore<A> {
         ensures err { OnErr result (self.new ≡ self.old) }
         ensures fault { IfErr result (λ fault. fault ≡ StoreFault.Memory) }
     {
-        self.blocks.reserve()?;
-        let area = BlockArea::new(self.alloc, units, count)?;
-        self.blocks.put_new(pool, area);
-        Ok(())
+        self.blocks.open_block(pool, units, count)
     }
 
     /// A free block of a pool goes out, for a request of so many storage units, under an address that no block had before.
@@ -98,22 +84,13 @@ impl<A: Allocator + Copy> PoolStore<A> {
     /// `Exhausted` where no block is free or the request is larger than a block, then `Memory` where the allocator
     /// refuses the memory. Nothing changes then.
     pub fn allocate(&mut self, pool: u64, units: u64) -> Result<Address, StoreFault>
-        requires open { IsOpen pool self.old }
+        requires open { IsBlockPool pool self.old }
         requires addresses { self.old.given < 2 ^ 64 - 1 }
         ensures ok { IfOk result (λ a. (is_exhausted_in pool units self.old ≡ false) × (a.0 ≡ self.old.given + 1) × (self.new ≡ take_block pool self.old)) }
         ensures err { OnErr result (self.new ≡ self.old) }
         ensures fault { IfErr result (λ fault. fault ≡ (if is_exhausted_in pool units self.old then StoreFault.Exhausted else StoreFault.Memory)) }
     {
-        if self.is_exhausted(pool, units) {
-            return Err(StoreFault::Exhausted);
-        }
-        let address = self.given + 1;
-        let Some(area) = self.blocks.get_mut(pool) else {
-            unreachable!();
-        };
-        area.allocate(address)?;
-        self.given = address;
-        Ok(Address(address))
+        self.blocks.allocate(pool, units)
     }
 
     /// Puts a new object into a block that is out and holds none, under this address: as many words as lie in so many
@@ -135,18 +112,68 @@ impl<A: Allocator + Copy> PoolStore<A> {
         ensures err { OnErr result (self.new ≡ self.old) }
         ensures fault { IfErr result (λ fault. fault ≡ (if is_fit_in pool address.0 units self.old then StoreFault.Memory else StoreFault.BadAddress)) }
     {
-        let Address(address) = address;
-        if !self.is_fit(pool, address, units) {
-            return Err(StoreFault::BadAddress);
+        self.blocks.occupy(pool, address, object, units)
+    }
+
+    /// Opens a pool with marks, of `units` storage units, from 8 to 16,777,216. It answers the number of its first
+    /// subpool, which is there from the start.
+    ///
+    /// # Errors
+    ///
+    /// `Memory` where the allocator refuses the memory. Nothing changes then.
+    pub fn open_mark(&mut self, pool: u64, units: u64) -> Result<SubpoolNo, StoreFault>
+        requires size { IsMarkSize units }
+        requires new { get self.old.marks pool ≡ None }
+        requires numbers { self.old.numbered < 2 ^ 64 - 1 }
+        ensures ok { IfOk result (λ n. (n.0 ≡ self.old.numbered) × (self.new ≡ with_mark_pool pool units self.old)) }
+        ensures err { OnErr result (self.new ≡ self.old) }
+        ensures fault { IfErr result (λ fault. fault ≡ StoreFault.Memory) }
+    {
+        let number = self.marks.open(pool, units)?;
+        Ok(SubpoolNo(number))
+    }
+
+    /// Puts a new object into a subpool of a pool (RM 13.11.4): as many words as lie in so many storage units, a
+    /// positive multiple of 8, all of them 0. The pool may be closed.
+    ///
+    /// # Errors
+    ///
+    /// `Released` where the subpool stands in no open pool, then `Foreign` where it does not belong to this one, then
+    /// `NotTop` where it is not the last, then `Exhausted` where the pool has not so many storage units left, then
+    /// `Memory` where the allocator refuses the memory. Nothing changes then.
+    pub fn allocate_in(
+        &mut self,
+        subpool: SubpoolNo,
+        pool: u64,
+        object: u64,
+        units: u64,
+    ) -> Result<(), StoreFault>
+        requires new { get self.old.objects object ≡ None }
+        requires units { IsWholeWords units }
+        ensures ok { OnOk result ((refusal_in subpool.0 pool units self.old ≡ None) × (self.new ≡ hold_in subpool.0 pool object (units / 8) self.old)) }
+        ensures err { OnErr result (self.new ≡ self.old) }
+        ensures fault { IfErr result (λ fault. fault ≡ option_map_or (λ x. x) (refusal_in subpool.0 pool units self.old) StoreFault.Memory) }
+    {
+        let SubpoolNo(number) = subpool;
+        self.marks.allocate(number, pool, object, units)
+    }
+
+    /// Adds a subpool to a pool, its last from then on (RM 13.11.4). It takes no memory.
+    ///
+    /// # Errors
+    ///
+    /// `TooManyMarks` exactly where ten subpools stand in the pool. Nothing changes then.
+    pub fn create_subpool(&mut self, pool: u64) -> Result<SubpoolNo, StoreFault>
+        requires open { IsMarkPool pool self.old }
+        requires numbers { self.old.numbered < 2 ^ 64 - 1 }
+        ensures ok { IfOk result (λ n. (is_full pool self.old ≡ false) × (n.0 ≡ self.old.numbered) × (self.new ≡ with_new_subpool pool self.old)) }
+        ensures err { OnErr result ((is_full pool self.old ≡ true) × (self.new ≡ self.old)) }
+        ensures fault { IfErr result (λ fault. fault ≡ StoreFault.TooManyMarks) }
+    {
+        match self.marks.create(pool) {
+            Ok(number) => Ok(SubpoolNo(number)),
+            Err(fault) => Err(fault),
         }
-        self.objects.reserve()?;
-        let Some(area) = self.blocks.get_mut(pool) else {
-            unreachable!();
-        };
-        area.occupy(address, object, (units / 8) as usize);
-        self.objects
-            .put(object, Entry::InBlock(Spot { pool, address }));
-        Ok(())
     }
 }
 
@@ -160,19 +187,47 @@ impl<A: Allocator> PoolStore<A> {
         ensures result { result ≡ (if is_vacant_in pool address.0 self.old then Ok tt else Err StoreFault.BadAddress) }
         ensures store { self.new ≡ (if is_vacant_in pool address.0 self.old then give_block pool address.0 self.old else self.old) }
     {
-        let Address(address) = address;
-        if !self.is_vacant(pool, address) {
-            return Err(StoreFault::BadAddress);
-        }
-        let Some(area) = self.blocks.get_mut(pool) else {
-            unreachable!();
-        };
-        area.deallocate(address);
-        Ok(())
+        self.blocks.deallocate(pool, address)
     }
 
-    /// The object is held no more. It answers the address of its block, which an object of the standard pool has not.
-    /// The block stays out.
+    /// The subpool of a pool that is its default, the last one (RM 13.11.4).
+    pub fn default_subpool(&self, pool: u64) -> SubpoolNo
+        requires { IsMarkPool pool self.now }
+        ensures { option_and_then default_of (get self.now.marks pool) ≡ Some result.0 }
+    {
+        SubpoolNo(self.marks.default_subpool(pool))
+    }
+
+    /// A subpool belongs to no pool from then on (RM 13.11.5). Its objects stay, until it is released.
+    ///
+    /// # Errors
+    ///
+    /// `Released` where it already belongs to none. Nothing changes then.
+    pub fn detach_subpool(&mut self, subpool: SubpoolNo) -> Result<(), StoreFault>
+        ensures result { result ≡ (if is_attached subpool.0 self.old then Ok tt else Err StoreFault.Released) }
+        ensures store { self.new ≡ (if is_attached subpool.0 self.old then detached subpool.0 self.old else self.old) }
+    {
+        let SubpoolNo(number) = subpool;
+        self.marks.detach(number)
+    }
+
+    /// Releases a subpool that belongs to no pool (RM 13.11.5): its objects are gone, and it is dead. Where it is the last
+    /// of its pool it is dropped, with the dead ones before it, and as many words are used as were when it was made; the
+    /// first subpool of a pool comes back, empty, under a new number. It answers whether it was the last. It takes no
+    /// memory.
+    pub fn release_subpool(&mut self, subpool: SubpoolNo) -> bool
+        requires detached { IsDetached subpool.0 self.old }
+        requires numbers { self.old.numbered < 2 ^ 64 - 1 }
+        ensures last { result ≡ is_last subpool.0 self.old }
+        ensures store { self.new ≡ released_subpool subpool.0 self.old }
+    {
+        let SubpoolNo(number) = subpool;
+        self.blocks.lies_outside_subpools();
+        self.marks.release(number)
+    }
+
+    /// The object is held no more. It answers the address of its block, which an object of the standard pool or of a
+    /// subpool has not. The block stays out; the words of a subpool stay used.
     ///
     /// # Errors
     ///
@@ -181,16 +236,10 @@ impl<A: Allocator> PoolStore<A> {
         ensures result { result ≡ vacated object self.old }
         ensures store { self.new ≡ without_object object self.old }
     {
-        match self.objects.remove(object) {
-            Some(Entry::Standard(_words)) => Ok(None),
-            Some(Entry::InBlock(spot)) => {
-                let Some(area) = self.blocks.get_mut(spot.pool) else {
-                    unreachable!();
-                };
-                area.vacate(spot.address);
-                Ok(Some(Address(spot.address)))
-            }
-            None => Err(StoreFault::Gone),
+        if self.marks.is_held(object) {
+            self.marks.vacate(object)
+        } else {
+            self.blocks.vacate(object)
         }
     }
 
@@ -262,22 +311,6 @@ impl<A: Allocator> PoolStore<A> {
         Ok(())
     }
 
-    fn copy_within(&mut self, object: u64, word: usize, target: usize, count: usize)
-        requires some { 0 < count }
-        requires from { word + count ≤ length (words_of object self.old) }
-        requires to { target + count ≤ length (words_of object self.old) }
-        ensures { self.new ≡ copied object word object target count self.old }
-    {
-        if let Some(spot) = self.spot_of(object) {
-            copy_within_at(&mut self.blocks, spot, word, target, count);
-            return;
-        }
-        let Some(entry) = self.objects.get_mut(object) else {
-            unreachable!();
-        };
-        entry.copy_within(word, target, count);
-    }
-
     fn copy_between(&mut self, from: u64, word: usize, to: u64, target: usize, count: usize)
         requires apart { ¬ (from ≡ to) }
         requires some { 0 < count }
@@ -298,17 +331,17 @@ impl<A: Allocator> PoolStore<A> {
     fn is_held(&self, object: u64) -> bool
         ensures { result ≡ is_some (get self.now.objects object) }
     {
-        self.objects.contains(object)
+        self.marks.is_held(object) || self.blocks.is_held(object)
     }
 
     // How many words an object has, none where it is gone.
     fn len_of(&self, object: u64) -> usize
         ensures { result ≡ length (words_of object self.now) }
     {
-        match self.objects.get(object) {
-            Some(Entry::Standard(words)) => words.len(),
-            Some(Entry::InBlock(spot)) => len_at(&self.blocks, *spot),
-            None => 0,
+        if self.marks.is_held(object) {
+            self.marks.len_of(object)
+        } else {
+            self.blocks.len_of(object)
         }
     }
 
@@ -316,10 +349,10 @@ impl<A: Allocator> PoolStore<A> {
         requires { place < length (words_of object self.now) }
         ensures { result ≡ slice_index_or (words_of object self.now) place 0 }
     {
-        match self.objects.get(object) {
-            Some(Entry::Standard(words)) => words.word(place),
-            Some(Entry::InBlock(spot)) => word_at(&self.blocks, *spot, place),
-            None => 0,
+        if self.marks.is_held(object) {
+            self.marks.word(object, place)
+        } else {
+            self.blocks.word(object, place)
         }
     }
 
@@ -327,57 +360,48 @@ impl<A: Allocator> PoolStore<A> {
         requires { place < length (words_of object self.old) }
         ensures { self.new ≡ with_word object place value self.old }
     {
-        if let Some(spot) = self.spot_of(object) {
-            set_word_at(&mut self.blocks, spot, place, value);
-            return;
+        if self.marks.is_held(object) {
+            self.marks.set_word(object, place, value);
+        } else {
+            self.blocks.set_word(object, place, value);
         }
-        let Some(entry) = self.objects.get_mut(object) else {
-            unreachable!();
-        };
-        entry.set_word(place, value);
     }
 
-    // Where the object lies, unless in the standard pool.
-    fn spot_of(&self, object: u64) -> Option<Spot>
-        ensures { result ≡ spot_of object self.now }
+    fn copy_within(&mut self, object: u64, word: usize, target: usize, count: usize)
+        requires some { 0 < count }
+        requires from { word + count ≤ length (words_of object self.old) }
+        requires to { target + count ≤ length (words_of object self.old) }
+        ensures { self.new ≡ copied object word object target count self.old }
     {
-        match self.objects.get(object) {
-            Some(entry) => entry.spot(),
-            None => None,
+        if self.marks.is_held(object) {
+            self.marks.copy_within(object, word, target, count);
+        } else {
+            self.blocks.copy_within(object, word, target, count);
         }
     }
 
-    /// Whether the pool is open.
+    /// Whether a pool of this number is open.
     pub fn is_open(&self, pool: u64) -> bool
-        ensures { result ≡ is_some (get self.now.blocks pool) }
+        ensures { result ≡ is_open pool self.now }
     {
-        self.blocks.contains(pool)
+        self.blocks.is_open(pool) || self.marks.is_open(pool)
     }
 
-    /// Closes a pool and frees it: the objects in it are gone, and its addresses are out no more. It takes no memory.
+    /// Closes a pool and frees it: the objects in it are gone, its addresses are out no more, and none of its subpools
+    /// stands. It takes no memory.
     pub fn close_pool(&mut self, pool: u64)
-        requires { IsOpen pool self.old }
+        requires { is_open pool self.old ≡ true }
         ensures { self.new ≡ without_pool pool self.old }
     {
-        match self.blocks.remove(pool) {
-            Some(area) => close_area(&mut self.objects, pool, area),
-            None => unreachable!(),
-        }
+        self.blocks.close_pool(pool);
+        self.marks.close_pool(pool);
     }
 
     /// Frees all memory.
     pub fn close(self) {
-        let PoolStore {
-            alloc: _alloc,
-            objects: _objects,
-            blocks,
-            given: _,
-        } = self;
-        let mut blocks = blocks;
-        while let Some((_, area)) = blocks.pop() {
-            area.close();
-        }
-        blocks.destroy_empty();
+        let PoolStore { blocks, marks } = self;
+        blocks.close();
+        marks.close();
     }
 
     /// Whether so many words from a place on lie within the object, where it is held.
@@ -401,45 +425,45 @@ impl<A: Allocator> PoolStore<A> {
     /// Whether no pool of this number is open.
     #[cfg(test)]
     pub(crate) fn is_new(&self, pool: u64) -> bool
-        ensures { IsTrue result → get self.now.blocks pool ≡ None }
+        ensures blocks { IsTrue result → get self.now.blocks pool ≡ None }
+        ensures marks { IsTrue result → get self.now.marks pool ≡ None }
     {
-        !self.is_open(pool)
+        !self.blocks.is_open(pool) && !self.marks.is_open(pool)
     }
 
-    /// Whether the pool is open, and another address can be given.
+    /// Whether a pool of blocks is open, and another address can be given.
     #[cfg(test)]
     pub(crate) fn can_allocate(&self, pool: u64) -> bool
-        ensures open { IsTrue result → IsOpen pool self.now }
+        ensures open { IsTrue result → IsBlockPool pool self.now }
         ensures addresses { IsTrue result → self.now.given < 2 ^ 64 - 1 }
     {
-        self.is_open(pool) && self.given < u64::MAX
+        self.blocks.can_allocate(pool)
     }
 
-    fn is_exhausted(&self, pool: u64, units: u64) -> bool
-        ensures { result ≡ is_exhausted_in pool units self.now }
+    /// Whether a pool with marks is open.
+    #[cfg(test)]
+    pub(crate) fn is_mark(&self, pool: u64) -> bool
+        ensures { IsTrue result → IsMarkPool pool self.now }
     {
-        match self.blocks.get(pool) {
-            Some(area) => area.is_exhausted(units),
-            None => false,
-        }
+        self.marks.is_open(pool)
     }
 
-    fn is_vacant(&self, pool: u64, address: u64) -> bool
-        ensures { result ≡ is_vacant_in pool address self.now }
+    /// Whether a further subpool can have a number.
+    #[cfg(test)]
+    pub(crate) fn can_number(&self) -> bool
+        ensures { IsTrue result → self.now.numbered < 2 ^ 64 - 1 }
     {
-        match self.blocks.get(pool) {
-            Some(area) => area.is_vacant(address),
-            None => false,
-        }
+        self.marks.can_number()
     }
 
-    // Whether the block at this address holds no object and has so many storage units.
-    fn is_fit(&self, pool: u64, address: u64, units: u64) -> bool
-        ensures { result ≡ is_fit_in pool address units self.now }
+    /// Whether a subpool belongs to no pool, and is not released.
+    #[cfg(test)]
+    pub(crate) fn is_detached(&self, subpool: SubpoolNo) -> bool
+        ensures { IsTrue result → IsDetached subpool.0 self.now }
     {
-        match self.blocks.get(pool) {
-            Some(area) => area.is_vacant(address) && area.has(units),
-            None => false,
+        match self.marks.standing(subpool.0) {
+            Some(Standing::Detached) => true,
+            _ => false,
         }
     }
 }

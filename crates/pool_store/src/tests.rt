@@ -1,4 +1,4 @@
-use crate::{Address, PoolStore};
+use crate::{Address, PoolStore, SubpoolNo};
 use linked_list_allocator::LocalHeap;
 use std::alloc::Allocator;
 use std::test::Fail;
@@ -364,6 +364,183 @@ fn each_growth_is_refused(rt: HostRuntime) -> Result<(), Fail> {
         refused = refused || !all;
     }
     assert!(rt; refused);
+    assert!(rt; made);
+    Ok(())
+}
+
+// Pools with marks. A number that is given is the answer, a fault's number comes with 1000, 2000 stands for a condition
+// that does not hold.
+
+fn open_mark<A: Allocator + Copy>(store: &mut PoolStore<A>, pool: u64, units: u64) -> u64 {
+    if !store.is_new(pool) || units < 8 || units > 16777216 || !store.can_number() {
+        return 2000;
+    }
+    match store.open_mark(pool, units) {
+        Ok(SubpoolNo(number)) => number,
+        Err(fault) => fault.code() as u64 + 1000,
+    }
+}
+
+fn allocate_in<A: Allocator + Copy>(
+    store: &mut PoolStore<A>,
+    subpool: u64,
+    pool: u64,
+    object: u64,
+    words: u64,
+) -> u32 {
+    if !store.is_free(object) || words < 1 || words > 4096 {
+        return 2000;
+    }
+    match store.allocate_in(SubpoolNo(subpool), pool, object, words * 8) {
+        Ok(()) => 0,
+        Err(fault) => fault.code(),
+    }
+}
+
+fn create_subpool<A: Allocator + Copy>(store: &mut PoolStore<A>, pool: u64) -> u64 {
+    if !store.is_mark(pool) || !store.can_number() {
+        return 2000;
+    }
+    match store.create_subpool(pool) {
+        Ok(SubpoolNo(number)) => number,
+        Err(fault) => fault.code() as u64 + 1000,
+    }
+}
+
+fn detach<A: Allocator>(store: &mut PoolStore<A>, subpool: u64) -> u32 {
+    match store.detach_subpool(SubpoolNo(subpool)) {
+        Ok(()) => 0,
+        Err(fault) => fault.code(),
+    }
+}
+
+fn release<A: Allocator>(store: &mut PoolStore<A>, subpool: u64) -> Option<bool> {
+    if !store.is_detached(SubpoolNo(subpool)) || !store.can_number() {
+        return None;
+    }
+    Some(store.release_subpool(SubpoolNo(subpool)))
+}
+
+fn default_subpool<A: Allocator>(store: &PoolStore<A>, pool: u64) -> u64 {
+    if !store.is_mark(pool) {
+        return 2000;
+    }
+    store.default_subpool(pool).0
+}
+
+/// Pool 2 has 32 storage units: 16 of them in its first subpool, and a second subpool that is released.
+fn life_in_subpools<A: Allocator + Copy>(
+    store: &mut PoolStore<A>,
+) -> ([u64; 5], [u32; 7], Option<bool>) {
+    let first = open_mark(store, 2, 32);
+    let held = allocate_in(store, first, 2, 10, 2);
+    let second = create_subpool(store, 2);
+    let below = allocate_in(store, first, 2, 11, 1);
+    let large = allocate_in(store, second, 2, 11, 3);
+    let last = default_subpool(store, 2);
+    let detached = detach(store, second);
+    let foreign = allocate_in(store, second, 2, 11, 1);
+    let released = release(store, second);
+    let gone = allocate_in(store, second, 2, 11, 1);
+    let again = detach(store, second);
+    let mut made = 0;
+    for _ in 0..9 {
+        made = create_subpool(store, 2);
+    }
+    let eleventh = create_subpool(store, 2);
+    (
+        [first, second, last, made, eleventh],
+        [held, below, large, detached, foreign, gone, again],
+        released,
+    )
+}
+
+#[test]
+fn objects_live_in_subpools(rt: HostRuntime) {
+    let mut store = PoolStore::new(rt.alloc());
+    let (numbers, faults, released) = life_in_subpools(&mut store);
+    store.close();
+    assert_eq!(rt; numbers, [0, 1, 1, 10, 1065]);
+    assert_eq!(rt; faults, [0, 61, 60, 0, 62, 66, 66]);
+    assert_eq!(rt; released, Some(true));
+}
+
+/// The objects 10 and 11 lie in the first subpool of pool 2 and in a further one, and 9 in the standard pool.
+fn three_objects<A: Allocator + Copy>(store: &mut PoolStore<A>) -> [u32; 6] {
+    let first = open_mark(store, 2, 64);
+    let below = allocate_in(store, first, 2, 10, 2);
+    let second = create_subpool(store, 2);
+    let above = allocate_in(store, second, 2, 11, 2);
+    let made = standard(store, 9, 2);
+    let written = [
+        write(store, 10, 1, 5),
+        write(store, 11, 1, 6),
+        write(store, 9, 0, 7),
+    ];
+    [below, above, made, written[0], written[1], written[2]]
+}
+
+/// What is read of the second word of each.
+fn second_words<A: Allocator>(store: &PoolStore<A>) -> [u64; 3] {
+    [read(store, 10, 1), read(store, 11, 1), read(store, 9, 1)]
+}
+
+#[test]
+fn a_release_takes_the_objects_of_its_subpool(rt: HostRuntime) {
+    let mut store = PoolStore::new(rt.alloc());
+    let made = three_objects(&mut store);
+    let copied = copy(&mut store, [10, 9], [1, 1], 1);
+    let within = copy(&mut store, [10, 10], [1, 0], 1);
+    let moved = read(&store, 10, 0);
+    let left = vacate(&mut store, 11);
+    let vacated = second_words(&store);
+    let detached = detach(&mut store, 0);
+    let below = release(&mut store, 0);
+    let released = second_words(&store);
+    let closed = close_pool(&mut store, 2);
+    let word = read(&store, 9, 1);
+    store.close();
+    assert_eq!(rt; made, [0, 0, 0, 0, 0, 0]);
+    assert_eq!(rt; [copied, within, detached], [0, 0, 0]);
+    assert_eq!(rt; [moved, left], [5, 0]);
+    assert_eq!(rt; vacated, [5, 64, 5]);
+    assert_eq!(rt; below, Some(false));
+    assert_eq!(rt; released, [64, 64, 5]);
+    assert!(rt; closed);
+    assert_eq!(rt; word, 5);
+}
+
+/// A pool with two subpools over a heap: whether all was made, and whether what was refused was not there and what was
+/// there before stayed.
+fn grow_in_subpools(heap: &LocalHeap) -> [bool; 2] {
+    let mut store = PoolStore::new(heap);
+    let first = open_mark(&mut store, 2, 32);
+    let held = allocate_in(&mut store, first, 2, 7, 2);
+    let _ = write(&mut store, 7, 1, 6);
+    let second = create_subpool(&mut store, 2);
+    let also = allocate_in(&mut store, second, 2, 8, 2);
+    let kept = read(&store, 7, 1) == if held == 0 { 6 } else { 64 };
+    let new = read(&store, 8, 1) == if also == 0 { 0 } else { 64 };
+    let open = store.is_open(2) == (first < 1000);
+    // What a refused request did not take can be taken.
+    let room = first > 999 || also == 0 || default_subpool(&store, 2) == second;
+    store.close();
+    [held == 0 && also == 0, kept && new && open && room]
+}
+
+#[test]
+fn each_growth_of_subpools_is_refused(rt: HostRuntime) -> Result<(), Fail> {
+    let mut refused = 0;
+    let mut made = false;
+    for size in 0..160 {
+        let heap = LocalHeap::new(rt.alloc(), 64 * size)?;
+        let [all, same] = grow_in_subpools(&heap);
+        assert!(rt; same);
+        assert_eq!(rt; heap.used(), 0);
+        made = made || all;
+        refused = if all { refused } else { size };
+    }
+    assert!(rt; refused > 4);
     assert!(rt; made);
     Ok(())
 }

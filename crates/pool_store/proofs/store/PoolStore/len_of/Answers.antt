@@ -1,28 +1,17 @@
-use Rattle.std.proofs.Common.{length, Some, sym, ap, ◌∙◌}
-use Rattle.pool_store.specs.declared.entry.Entry.TheVariants.{Standard, InBlock}
+use Rattle.std.proofs.Common.{length, sym, ap, ◌∙◌}
 use Rattle.pool_store.specs.Store as store
 use Rattle.pool_store.specs.Store.{Store}
-use Rattle.pool_store.proofs.Steps.{words_seen, no_words_seen}
+use Rattle.pool_store.proofs.Sides.{not_left, not_right, words_left, words_right}
 use Rattle.pool_store.proofs.store.PoolStore.len_of.Goals as goal
 
-pub returns-in-Some-Standard : goal.returns-in-Some-Standard
-returns-in-Some-Standard g c =
+pub returns-then-is_held : goal.returns-then-is_held
+returns-then-is_held g c =
     let s = c.self.inside in
-    let here = sym c.in-Some-Standard.ensures ∙ ap (λ e. Some e) c.in-Some-Standard.field-0-is in
-    c.len.ensures
-    ∙ ap length (sym (words_seen s.objects.values s.blocks.values s.given c.self.invariant c.args.object (Standard c.in-Some-Standard.words) here)
-    ∙ ap (store.words_of c.args.object) c.self.view_is)
+    let n = c.args.object in
+    c.len_of.ensures ∙ ap length (sym (words_right s.blocks s.marks n (not_left s.blocks.objects s.marks.objects n c.self.invariant (sym c.is_held.ensures ∙ c.if-is_held.true))) ∙ ap (store.words_of n) c.self.view_is)
 
-pub returns-in-Some-InBlock : goal.returns-in-Some-InBlock
-returns-in-Some-InBlock g c =
+pub returns-else-is_held : goal.returns-else-is_held
+returns-else-is_held g c =
     let s = c.self.inside in
-    let here = sym c.in-Some-InBlock.ensures ∙ ap (λ e. Some e) c.in-Some-InBlock.field-0-is in
-    c.len_at.ensures
-    ∙ ap length (sym (words_seen s.objects.values s.blocks.values s.given c.self.invariant c.args.object (InBlock c.in-Some-InBlock.spot) here)
-    ∙ ap (store.words_of c.args.object) c.self.view_is)
-
-pub returns-in-None : goal.returns-in-None
-returns-in-None g c =
-    let s = c.self.inside in
-    ap length (sym (no_words_seen s.objects.values s.blocks.values s.given c.self.invariant c.args.object (sym c.in-None.ensures))
-    ∙ ap (store.words_of c.args.object) c.self.view_is)
+    let n = c.args.object in
+    c.len_of-else-is_held.ensures ∙ ap length (sym (words_left s.blocks s.marks n (not_right s.marks.objects n (sym c.is_held.ensures ∙ c.if-is_held.false))) ∙ ap (store.words_of n) c.self.view_is)

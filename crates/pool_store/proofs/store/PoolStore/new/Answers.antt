@@ -1,23 +1,22 @@
-use Rattle.std.proofs.Common.{sym, ap, subst, ◌∙◌}
+use Rattle.std.proofs.Common.{◌≡◌, Option, None, sym, ap, subst, ◌∙◌}
+use Rattle.std.specs.FinMap.{get}
+use Rattle.pool_store.specs.Entries.{Stored}
+use Rattle.pool_store.specs.Joined.{side_by_side, AreApart}
+use Rattle.pool_store.specs.Store as store
+use Rattle.pool_store.specs.Store.{Store}
 use Rattle.std.specs.Prelude.{IfSome}
 use Rattle.std.specs.Ordering.{nat_cmp}
-use Rattle.std.specs.FinMap.{get, get-empty}
-use Rattle.number_map.specs.Table.{mapped, AreGiven}
-use Rattle.number_map.proofs.Mapped.{mapped_none}
-use Rattle.pool_store.specs.Entries.{pool_of, stored_in, IsTied}
+use Rattle.std.specs.FinMap.{get-empty}
+use Rattle.pool_store.proofs.Sides.{none_joined}
 use Rattle.pool_store.proofs.store.PoolStore.new.Goals as goal
+
+apart : AreApart store.no_store store.no_store
+apart n = subst (λ (o : Option Stored). IfSome o (λ x. get (store.no_store).objects n ≡ None)) (sym (get-empty nat_cmp n)) tt
 
 pub invariant_of-result : goal.invariant_of-result
 invariant_of-result g c =
-    let o = c.new.ensures.values in
-    let b = c.new-2.ensures.values in
-    record {
-      tied = λ n. subst (λ t. IfSome (get t n) (IsTied c.new-2.result.values n)) (sym o) (subst (λ x. IfSome x (IsTied c.new-2.result.values n)) (sym (get-empty nat_cmp n)) tt);
-      addresses = λ p. subst (λ t. IfSome (get t p) (λ x. AreGiven 0 x.out)) (sym b) (subst (λ x. IfSome x (λ y. AreGiven 0 y.out)) (sym (get-empty nat_cmp p)) tt);
-    }
+    subst (λ a. AreApart a c.new-2.result) (sym c.new.ensures) (subst (λ b. AreApart store.no_store b) (sym c.new-2.ensures) apart)
 
 pub returns : goal.returns
 returns g c =
-    let o = ap (mapped (stored_in c.new-2.result.values)) c.new.ensures.values ∙ mapped_none (stored_in c.new-2.result.values) in
-    let b = ap (mapped pool_of) c.new-2.ensures.values ∙ mapped_none pool_of in
-    λ i. record { objects = o i; blocks = b i; given = 0 }
+    ap (λ a. side_by_side a c.new-2.result) c.new.ensures ∙ ap (λ b. side_by_side store.no_store b) c.new-2.ensures ∙ none_joined

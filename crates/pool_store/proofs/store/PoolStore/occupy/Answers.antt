@@ -1,61 +1,31 @@
-use Rattle.std.proofs.Common.{◌/◌, ◌≤◌, Some, None, sym, ap, subst, ◌∙◌, arith}
-use Rattle.std.specs.Prelude.{nat_le}
-use Rattle.std.specs.FinMap.{insert}
-use Rattle.pool_area.specs.Blocks as area
-use Rattle.pool_area.specs.Blocks.{Blocks}
-use Rattle.pool_store.specs.declared.entry.Entry.{Entry}
-use Rattle.pool_store.specs.declared.entry.Entry.TheVariants.{InBlock}
-use Rattle.pool_store.specs.Entries.{Ties}
+use Rattle.std.proofs.Common.{◌/◌, sym, ap, ◌∙◌}
+use Rattle.std.specs.FinMap.{get}
+use Rattle.std.proofs.lemmas.Result.{on_ok_weaker}
+use Rattle.pool_store.specs.Joined.{side_by_side}
 use Rattle.pool_store.specs.Store as store
 use Rattle.pool_store.specs.Store.{Store}
-use Rattle.pool_store.proofs.Areas.{vacant_lot, fit_in, both, fits_of}
-use Rattle.pool_store.proofs.Steps.{seen, filled_ties, filled_seen}
+use Rattle.pool_store.proofs.Sides.{free_left, free_right, put_apart_left, after_left, held_side}
 use Rattle.pool_store.proofs.store.PoolStore.occupy.Goals as goal
-
-pub unreachable-requires : goal.unreachable-requires
-unreachable-requires g c =
-    let a = c.args in
-    let none = fit_in c.self.inside.blocks.values a.pool a.address.0 a.units None (sym c.in_default.ensures.value) in
-    let is = ap (λ v. store.is_fit_in a.pool a.address.0 a.units v) c.self.view_is ∙ sym c.is_fit.ensures ∙ c.if-not-is_fit.false in
-    absurd (cc (none, is))
 
 pub occupy-requires : goal.occupy-requires
 occupy-requires g c =
-    let a = c.args in
-    let b = c.in-Some.area.now in
-    let is = sym (fit_in c.self.inside.blocks.values a.pool a.address.0 a.units (Some b) (sym c.in-Some.ensures.value))
-    ∙ ap (λ v. store.is_fit_in a.pool a.address.0 a.units v) c.self.view_is ∙ sym c.is_fit.ensures ∙ c.if-not-is_fit.false in
-    let parts = both (area.is_vacant a.address.0 b) (nat_le a.units b.size) is in
-    let fits : a.units ≤ b.size = fits_of a.units b.size parts.1 in
-    record { vacant = parts.0; fits = omega arith }
+    let s = c.self.inside in
+    free_left s.blocks.objects s.marks.objects c.args.object (ap (λ v. get v.objects c.args.object) c.self.view_is ∙ c.requires)
 
-pub invariant_of-self-2 : goal.invariant_of-self-2
-invariant_of-self-2 g c =
+pub invariant_of-self : goal.invariant_of-self
+invariant_of-self g c =
     let s = c.self.inside in
     let a = c.args in
-    let b = c.in-Some.area.now in
-    let there = sym c.in-Some.ensures.value in
-    let vacant = vacant_lot b a.address.0 (both (area.is_vacant a.address.0 b) (nat_le a.units b.size) (sym (fit_in s.blocks.values a.pool a.address.0 a.units (Some b) there)
-    ∙ ap (λ v. store.is_fit_in a.pool a.address.0 a.units v) c.self.view_is ∙ sym c.is_fit.ensures ∙ c.if-not-is_fit.false)).0 in
-    let entry : Entry g.row.A.Denot = InBlock (record { pool = a.pool; address = a.address.0 }) in
-    let put = c.put.ensures.values ∙ ap (λ t. insert t a.object entry) c.reserve.ensures.values in
-    subst (λ o. Ties o (insert s.blocks.values a.pool c.occupy.new.self) s.given) (sym put)
-    (subst (λ d. Ties (insert s.objects.values a.object entry) (insert s.blocks.values a.pool d) s.given) (sym c.occupy.ensures)
-    (filled_ties s.objects.values s.blocks.values s.given c.self.invariant a.pool a.address.0 a.object (a.units / 8) b there vacant))
+    let n = a.object in
+    let none = free_right s.blocks.objects s.marks.objects n (ap (λ v. get v.objects n) c.self.view_is ∙ c.requires) in
+    after_left c.occupy.result c.occupy.new.self (store.hold_block a.pool a.address.0 n (a.units / 8) s.blocks) s.blocks s.marks (on_ok_weaker c.occupy.result (λ e. e.1) c.occupy.ensures.ok) c.occupy.ensures.err
+    (put_apart_left s.blocks.objects s.marks.objects n _ none c.self.invariant) c.self.invariant
 
 pub returns-clause-ok : goal.returns-clause-ok
 returns-clause-ok g c =
     let s = c.self.inside in
     let a = c.args in
-    let b = c.in-Some.area.now in
-    let there = sym c.in-Some.ensures.value in
-    let vacant = vacant_lot b a.address.0 (both (area.is_vacant a.address.0 b) (nat_le a.units b.size) (sym (fit_in s.blocks.values a.pool a.address.0 a.units (Some b) there)
-    ∙ ap (λ v. store.is_fit_in a.pool a.address.0 a.units v) c.self.view_is ∙ sym c.is_fit.ensures ∙ c.if-not-is_fit.false)).0 in
-    let entry : Entry g.row.A.Denot = InBlock (record { pool = a.pool; address = a.address.0 }) in
-    let put = c.put.ensures.values ∙ ap (λ t. insert t a.object entry) c.reserve.ensures.values in (
-      sym c.is_fit.ensures ∙ c.if-not-is_fit.false,
-      ap (λ o. seen o (insert s.blocks.values a.pool c.occupy.new.self) s.given) put
-          ∙ ap (λ d. seen (insert s.objects.values a.object entry) (insert s.blocks.values a.pool d) s.given) c.occupy.ensures
-          ∙ filled_seen s.objects.values s.blocks.values s.given c.self.invariant a.pool a.address.0 a.object (a.units / 8) b there vacant
-          ∙ ap (store.hold_block a.pool a.address.0 a.object (a.units / 8)) c.self.view_is,
-    )
+    on_ok_weaker c.occupy.result (λ e. (
+      ap (store.is_fit_in a.pool a.address.0 a.units) (sym c.self.view_is) ∙ e.0,
+      ap (λ v. side_by_side v s.marks) e.1 ∙ held_side s.blocks s.marks a.pool a.address.0 a.object (a.units / 8) ∙ ap (store.hold_block a.pool a.address.0 a.object (a.units / 8)) c.self.view_is,
+    )) c.occupy.ensures.ok

@@ -1,90 +1,45 @@
-use Rattle.std.proofs.Common.{◌≡◌, ℕ, ◌<◌, length, List, [], Some, refl, sym, ap, subst, ◌∙◌, arith}
-use Rattle.std.specs.Prelude.{slice_set}
-use Rattle.std.specs.FinMap.{insert}
-use Rattle.pool_area.specs.Lots.{with_word}
-use Rattle.pool_store.specs.declared.entry.Entry.TheVariants.{InBlock}
-use Rattle.pool_store.specs.Entries.{lot_at, words_in, stored_in, Ties, own_words, with_own_words}
+use Rattle.std.proofs.Common.{ℕ, ◌<◌, length, List, sym, ap, subst, ◌∙◌}
+use Rattle.pool_store.specs.Joined.{side_by_side, AreApart}
 use Rattle.pool_store.specs.Store as store
 use Rattle.pool_store.specs.Store.{Store}
-use Rattle.pool_store.proofs.Steps.{seen, words_seen, no_words_seen, standard_ties, standard_written, written, spot_is, standard_is, spot_of_entry}
+use Rattle.std.specs.Prelude.{slice_set}
+use Rattle.pool_store.proofs.Sides.{not_left, not_right, words_left, words_right, changed_left, changed_right, less_left, less_right, less_change}
 use Rattle.pool_store.proofs.store.PoolStore.set_word.Goals as goal
-
-pub set_word_at-requires : goal.set_word_at-requires
-set_word_at-requires g c =
-    let s = c.self.inside in
-    let n = c.args.object in
-    let a = c.args in
-    let here = spot_is s.objects.values s.blocks.values n c.in-Some.spot (ap (store.spot_of n) c.self.view_is ∙ sym c.in-Some.ensures) in
-    subst (λ (ws : List ℕ). a.place < length ws) (ap (store.words_of n) (sym c.self.view_is)
-    ∙ words_seen s.objects.values s.blocks.values s.given c.self.invariant n (InBlock c.in-Some.spot) here) c.requires
 
 pub set_word-requires : goal.set_word-requires
 set_word-requires g c =
     let s = c.self.inside in
     let n = c.args.object in
-    let a = c.args in
-    let e = c.in-Some-get_mut.entry.now in
-    let there = sym c.in-Some-get_mut.ensures.value in
-    let outside = sym (spot_of_entry s.objects.values s.blocks.values n e there) ∙ ap (store.spot_of n) c.self.view_is ∙ sym c.spot_of.ensures ∙ c.in_default.is in
-    let is = standard_is s.blocks.values e outside in
-    subst (λ (ws : List ℕ). a.place < length ws) (ap (store.words_of n) (sym c.self.view_is)
-    ∙ words_seen s.objects.values s.blocks.values s.given c.self.invariant n e there ∙ ap (λ x. (stored_in s.blocks.values x).words) is) c.requires
+    subst (λ (l : List ℕ). c.args.place < length l) (ap (store.words_of n) (sym c.self.view_is) ∙ words_right s.blocks s.marks n (not_left s.blocks.objects s.marks.objects n c.self.invariant (sym c.is_held.ensures ∙ c.if-is_held.true))) c.requires
 
-pub unreachable-requires : goal.unreachable-requires
-unreachable-requires g c =
+pub set_word-requires-else-is_held : goal.set_word-requires-else-is_held
+set_word-requires-else-is_held g c =
     let s = c.self.inside in
     let n = c.args.object in
-    let none : store.words_of n c.args.self.now ≡ [] = ap (store.words_of n) (sym c.self.view_is) ∙ no_words_seen s.objects.values s.blocks.values s.given c.self.invariant n (sym c.in_default-get_mut.ensures.value) in
-    let long : length (store.words_of n c.args.self.now) ≡ 0 = ap length none in
-    omega arith
+    subst (λ (l : List ℕ). c.args.place < length l) (ap (store.words_of n) (sym c.self.view_is) ∙ words_left s.blocks s.marks n (not_right s.marks.objects n (sym c.is_held.ensures ∙ c.if-is_held.false))) c.requires
 
 pub invariant_of-self : goal.invariant_of-self
 invariant_of-self g c =
     let s = c.self.inside in
     let n = c.args.object in
-    let a = c.args in
-    let x = c.in-Some.spot in
-    let here = spot_is s.objects.values s.blocks.values n x (ap (store.spot_of n) c.self.view_is ∙ sym c.in-Some.ensures) in
-    let ws : List ℕ = words_in (lot_at x s.blocks.values) in
-    let is = written s.objects.values s.blocks.values s.given c.self.invariant n x here (with_word a.place a.value) (λ (l : List ℕ). slice_set l a.place a.value) (λ h. refl) (λ h. refl) in
-    subst (λ b. Ties s.objects.values b s.given) (sym c.set_word_at.ensures) is.0
+    subst (AreApart s.blocks) (sym c.set_word.ensures) (less_right s.blocks.objects s.marks.objects _ (less_change s.marks.objects n (store.with_words (λ (l : List ℕ). slice_set l c.args.place c.args.value))) c.self.invariant)
 
-pub returns-in-Some : goal.returns-in-Some
-returns-in-Some g c =
+pub invariant_of-self-else-is_held : goal.invariant_of-self-else-is_held
+invariant_of-self-else-is_held g c =
     let s = c.self.inside in
     let n = c.args.object in
-    let a = c.args in
-    let x = c.in-Some.spot in
-    let here = spot_is s.objects.values s.blocks.values n x (ap (store.spot_of n) c.self.view_is ∙ sym c.in-Some.ensures) in
-    let ws : List ℕ = words_in (lot_at x s.blocks.values) in
-    let is = written s.objects.values s.blocks.values s.given c.self.invariant n x here (with_word a.place a.value) (λ (l : List ℕ). slice_set l a.place a.value) (λ h. refl) (λ h. refl) in
-    ap (λ b. seen s.objects.values b s.given) c.set_word_at.ensures ∙ is.1 ∙ ap (λ v. store.with_word n a.place a.value v) c.self.view_is
+    subst (λ a. AreApart a s.marks) (sym c.set_word-else-is_held.ensures) (less_left s.blocks.objects _ s.marks.objects (less_change s.blocks.objects n (store.with_words (λ (l : List ℕ). slice_set l c.args.place c.args.value))) c.self.invariant)
 
-pub invariant_of-self-2 : goal.invariant_of-self-2
-invariant_of-self-2 g c =
+pub returns-then-is_held : goal.returns-then-is_held
+returns-then-is_held g c =
     let s = c.self.inside in
     let n = c.args.object in
-    let a = c.args in
-    let e = c.in-Some-get_mut.entry.now in
-    let there = sym c.in-Some-get_mut.ensures.value in
-    let outside = sym (spot_of_entry s.objects.values s.blocks.values n e there) ∙ ap (store.spot_of n) c.self.view_is ∙ sym c.spot_of.ensures ∙ c.in_default.is in
-    let is = standard_is s.blocks.values e outside in
-    let ws = own_words e in
-    let new = c.set_word.ensures ∙ ap (λ y. with_own_words (λ (l : List ℕ). slice_set l a.place a.value) y) is in
-    subst (λ y. Ties (insert s.objects.values n y) s.blocks.values s.given) (sym new)
-    (standard_ties s.objects.values s.blocks.values s.given c.self.invariant n ws (there ∙ ap (λ y. Some y) is) (λ (l : List ℕ). slice_set l a.place a.value))
+    ap (side_by_side s.blocks) c.set_word.ensures ∙ changed_right s.blocks s.marks n (store.with_words (λ (l : List ℕ). slice_set l c.args.place c.args.value)) (not_left s.blocks.objects s.marks.objects n c.self.invariant (sym c.is_held.ensures ∙ c.if-is_held.true))
+    ∙ ap (store.with_word n c.args.place c.args.value) c.self.view_is
 
-pub returns : goal.returns
-returns g c =
+pub returns-else-is_held : goal.returns-else-is_held
+returns-else-is_held g c =
     let s = c.self.inside in
     let n = c.args.object in
-    let a = c.args in
-    let e = c.in-Some-get_mut.entry.now in
-    let there = sym c.in-Some-get_mut.ensures.value in
-    let outside = sym (spot_of_entry s.objects.values s.blocks.values n e there) ∙ ap (store.spot_of n) c.self.view_is ∙ sym c.spot_of.ensures ∙ c.in_default.is in
-    let is = standard_is s.blocks.values e outside in
-    let ws = own_words e in
-    let new = c.set_word.ensures ∙ ap (λ y. with_own_words (λ (l : List ℕ). slice_set l a.place a.value) y) is in
-    ap (λ y. seen (insert s.objects.values n y) s.blocks.values s.given) new
-    ∙ standard_written s.objects.values s.blocks.values s.given c.self.invariant n ws (there ∙ ap (λ y. Some y) is) (λ (l : List ℕ). slice_set l a.place a.value)
-    ∙ ap (λ v. store.with_word n a.place a.value v) c.self.view_is
+    ap (λ a. side_by_side a s.marks) c.set_word-else-is_held.ensures ∙ changed_left s.blocks s.marks n (store.with_words (λ (l : List ℕ). slice_set l c.args.place c.args.value)) (not_right s.marks.objects n (sym c.is_held.ensures ∙ c.if-is_held.false))
+    ∙ ap (store.with_word n c.args.place c.args.value) c.self.view_is

@@ -1,30 +1,27 @@
-use Rattle.std.proofs.Common.{None, sym, ap, subst, ◌∙◌}
-use Rattle.std.specs.FinMap.{insert}
-use Rattle.number_map.specs.Table.{mapped}
-use Rattle.pool_store.specs.declared.entry.Entry.TheVariants.{Standard}
-use Rattle.pool_store.specs.Entries.{Stored, pool_of, stored_in}
+use Rattle.std.proofs.Common.{ap, ◌∙◌}
+use Rattle.std.specs.FinMap.{get}
+use Rattle.std.proofs.lemmas.Result.{on_ok_weaker}
+use Rattle.pool_store.specs.Joined.{side_by_side}
 use Rattle.pool_store.specs.Store as store
 use Rattle.pool_store.specs.Store.{Store}
-use Rattle.pool_store.proofs.Tied.{Other, Tied, put_seen, put_tied, spares_same}
+use Rattle.pool_store.proofs.Sides.{free_left, free_right, put_apart_left, after_left, standard_side}
 use Rattle.pool_store.proofs.store.PoolStore.standard.Goals as goal
 
-pub invariant_of-self-2 : goal.invariant_of-self-2
-invariant_of-self-2 g c =
+pub standard-requires : goal.standard-requires
+standard-requires g c =
     let s = c.self.inside in
-    let blocks = s.blocks.values in
-    let e = c.put.ensures.values ∙ ap (λ t. insert t c.args.object (Standard c.in_ok-words.words)) c.reserve.ensures.values in
-    record {
-      tied = subst (λ t. Tied t blocks) (sym e) (put_tied s.objects.values blocks blocks c.args.object (Standard c.in_ok-words.words) (spares_same (Other c.args.object) blocks) c.self.invariant.tied tt);
-      addresses = c.self.invariant.addresses;
-    }
+    free_left s.blocks.objects s.marks.objects c.args.object (ap (λ v. get v.objects c.args.object) c.self.view_is ∙ c.requires)
+
+pub invariant_of-self : goal.invariant_of-self
+invariant_of-self g c =
+    let s = c.self.inside in
+    let n = c.args.object in
+    let none = free_right s.blocks.objects s.marks.objects n (ap (λ v. get v.objects n) c.self.view_is ∙ c.requires) in
+    after_left c.standard.result c.standard.new.self (store.with_object n c.args.words s.blocks) s.blocks s.marks c.standard.ensures.ok c.standard.ensures.err
+    (put_apart_left s.blocks.objects s.marks.objects n _ none c.self.invariant) c.self.invariant
 
 pub returns-clause-ok : goal.returns-clause-ok
 returns-clause-ok g c =
     let s = c.self.inside in
-    let blocks = s.blocks.values in
     let n = c.args.object in
-    let e = c.put.ensures.values ∙ ap (λ t. insert t n (Standard c.in_ok-words.words)) c.reserve.ensures.values in
-    let seen = ap (mapped (stored_in blocks)) e ∙ put_seen s.objects.values blocks blocks n (Standard c.in_ok-words.words) (spares_same (Other n) blocks) c.self.invariant.tied
-    ∙ ap (λ ws. insert (mapped (stored_in blocks) s.objects.values) n (let r : Stored = record { spot = None; words = ws } in r)) c.in_ok-words.ensures in
-    ap (λ o. let r : Store = record { objects = o; blocks = mapped pool_of blocks; given = s.given } in r) seen
-    ∙ ap (λ v. store.with_object n c.args.words v) c.self.view_is
+    on_ok_weaker c.standard.result (λ e. ap (λ v. side_by_side v s.marks) e ∙ standard_side s.blocks s.marks n c.args.words ∙ ap (store.with_object n c.args.words) c.self.view_is) c.standard.ensures.ok

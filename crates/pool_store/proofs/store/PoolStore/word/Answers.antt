@@ -1,43 +1,30 @@
-use Rattle.std.proofs.Common.{ℕ, ◌<◌, length, List, Some, sym, ap, subst, ◌∙◌}
+use Rattle.std.proofs.Common.{ℕ, ◌<◌, length, List, sym, ap, subst, ◌∙◌}
 use Rattle.std.specs.Prelude.{slice_index_or}
-use Rattle.pool_store.specs.declared.entry.Entry.TheVariants.{Standard, InBlock}
 use Rattle.pool_store.specs.Store as store
 use Rattle.pool_store.specs.Store.{Store}
-use Rattle.pool_store.proofs.Steps.{words_seen, no_words_seen}
+use Rattle.pool_store.proofs.Sides.{not_left, not_right, words_left, words_right}
 use Rattle.pool_store.proofs.store.PoolStore.word.Goals as goal
 
 pub word-requires : goal.word-requires
 word-requires g c =
     let s = c.self.inside in
-    let here = sym c.in-Some-Standard.ensures ∙ ap (λ e. Some e) c.in-Some-Standard.field-0-is in
-    subst (λ (ws : List ℕ). c.args.place < length ws) (ap (store.words_of c.args.object) (sym c.self.view_is)
-    ∙ words_seen s.objects.values s.blocks.values s.given c.self.invariant c.args.object (Standard c.in-Some-Standard.words) here) c.requires
+    let n = c.args.object in
+    subst (λ (l : List ℕ). c.args.place < length l) (ap (store.words_of n) (sym c.self.view_is) ∙ words_right s.blocks s.marks n (not_left s.blocks.objects s.marks.objects n c.self.invariant (sym c.is_held.ensures ∙ c.if-is_held.true))) c.requires
 
-pub word_at-requires : goal.word_at-requires
-word_at-requires g c =
+pub word-requires-else-is_held : goal.word-requires-else-is_held
+word-requires-else-is_held g c =
     let s = c.self.inside in
-    let here = sym c.in-Some-InBlock.ensures ∙ ap (λ e. Some e) c.in-Some-InBlock.field-0-is in
-    subst (λ (ws : List ℕ). c.args.place < length ws) (ap (store.words_of c.args.object) (sym c.self.view_is)
-    ∙ words_seen s.objects.values s.blocks.values s.given c.self.invariant c.args.object (InBlock c.in-Some-InBlock.spot) here) c.requires
+    let n = c.args.object in
+    subst (λ (l : List ℕ). c.args.place < length l) (ap (store.words_of n) (sym c.self.view_is) ∙ words_left s.blocks s.marks n (not_right s.marks.objects n (sym c.is_held.ensures ∙ c.if-is_held.false))) c.requires
 
-pub returns-in-Some-Standard : goal.returns-in-Some-Standard
-returns-in-Some-Standard g c =
+pub returns-then-is_held : goal.returns-then-is_held
+returns-then-is_held g c =
     let s = c.self.inside in
-    let here = sym c.in-Some-Standard.ensures ∙ ap (λ e. Some e) c.in-Some-Standard.field-0-is in
-    c.word.ensures
-    ∙ ap (λ (ws : List ℕ). slice_index_or ws c.args.place 0) (sym (words_seen s.objects.values s.blocks.values s.given c.self.invariant c.args.object (Standard c.in-Some-Standard.words) here)
-    ∙ ap (store.words_of c.args.object) c.self.view_is)
+    let n = c.args.object in
+    c.word.ensures ∙ ap (λ (l : List ℕ). slice_index_or l c.args.place 0) (sym (words_right s.blocks s.marks n (not_left s.blocks.objects s.marks.objects n c.self.invariant (sym c.is_held.ensures ∙ c.if-is_held.true))) ∙ ap (store.words_of n) c.self.view_is)
 
-pub returns-in-Some-InBlock : goal.returns-in-Some-InBlock
-returns-in-Some-InBlock g c =
+pub returns-else-is_held : goal.returns-else-is_held
+returns-else-is_held g c =
     let s = c.self.inside in
-    let here = sym c.in-Some-InBlock.ensures ∙ ap (λ e. Some e) c.in-Some-InBlock.field-0-is in
-    c.word_at.ensures
-    ∙ ap (λ (ws : List ℕ). slice_index_or ws c.args.place 0) (sym (words_seen s.objects.values s.blocks.values s.given c.self.invariant c.args.object (InBlock c.in-Some-InBlock.spot) here)
-    ∙ ap (store.words_of c.args.object) c.self.view_is)
-
-pub returns-in-None : goal.returns-in-None
-returns-in-None g c =
-    let s = c.self.inside in
-    ap (λ (ws : List ℕ). slice_index_or ws c.args.place 0) (sym (no_words_seen s.objects.values s.blocks.values s.given c.self.invariant c.args.object (sym c.in-None.ensures))
-    ∙ ap (store.words_of c.args.object) c.self.view_is)
+    let n = c.args.object in
+    c.word-else-is_held.ensures ∙ ap (λ (l : List ℕ). slice_index_or l c.args.place 0) (sym (words_left s.blocks s.marks n (not_right s.marks.objects n (sym c.is_held.ensures ∙ c.if-is_held.false))) ∙ ap (store.words_of n) c.self.view_is)

@@ -1,4 +1,0 @@
-use Rattle.pool_store.proofs.store.PoolStore.close.Given as goal
-
-abbrev pub decreases-loop-area : goal.decreases-loop-area
-decreases-loop-area g l = l.blocks.size
