@@ -1,0 +1,15 @@
+pub mod Names
+pub mod ExpressionRows
+pub mod TextRows
+pub mod Turns
+pub mod Refused
+pub mod Growing
+pub mod Completed
+pub mod Following
+pub mod StatementRows
+pub mod Kept
+pub mod Regions
+pub mod WholeBodies
+pub mod Compound
+pub mod Outset
+pub mod Whole

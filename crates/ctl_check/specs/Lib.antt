@@ -1,5 +1,15 @@
 pub mod Types
 pub mod Operators
-pub mod Images
+pub mod Environment
+pub mod Marks
+pub mod Expressions
+pub mod Meaning
+pub mod Texts
+pub mod State
+pub mod Objects
+pub mod Statements
+pub mod Parts
+pub mod Program
+pub mod Reading
 pub mod Standard
 pub mod Refusals

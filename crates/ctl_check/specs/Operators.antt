@@ -1,5 +1,5 @@
 -- Operators: how they are written, which operands they take, and the type of what they give (4.5).
-use Rattle.std.specs.Prelude.{◌≡◌, Option, Some, None}
+use Rattle.std.specs.Prelude.{Bool, ◌&&◌, Option, Some, None, if◌then◌else◌}
 use Rattle.ctl_tree.specs.declared.checked.Ty.{Ty}
 use Rattle.ctl_tree.specs.declared.checked.Ty.TheVariants.{Boolean}
 use Rattle.ctl_tree.specs.declared.checked.UnaryOp.{UnaryOp}
@@ -21,7 +21,7 @@ use Rattle.ctl_tree.specs.declared.tree.UnaryWord.{UnaryWord}
 use Rattle.ctl_tree.specs.declared.tree.UnaryWord.TheVariants as word
 use Rattle.ctl_check.specs.declared.operators.Joint.{Joint}
 use Rattle.ctl_check.specs.declared.operators.Joint.TheVariants.{Operator, Shortcut}
-use Rattle.ctl_check.specs.Types.{IsNumeric, IsScalar, HasEquality}
+use Rattle.ctl_check.specs.Types.{is_same, is_numeric, is_scalar, has_equality, is_boolean}
 
 -- Operators as they are written ----------------------------------------------
 
@@ -62,23 +62,23 @@ word_operator word.Not = Not
 
 -- Operands and results ---------------------------------------------------------
 
--- an operator with one operand gives what it takes (4.5.4, 4.5.6)
-abbrev pub TakesOne : UnaryOp → Ty → Type 0
-TakesOne Not t = t ≡ Boolean
-TakesOne _ t = IsNumeric t
+-- whether an operator takes an operand of this type (4.5.4, 4.5.6)
+abbrev pub takes_one : UnaryOp → Ty → Bool
+takes_one Not t = is_boolean t
+takes_one _ t = is_numeric t
 
 -- whether an operator takes two operands of this type (4.5.1 to 4.5.5)
-abbrev pub TakesTwo : BinaryOp → Ty → Type 0
-TakesTwo And t = t ≡ Boolean
-TakesTwo Or t = t ≡ Boolean
-TakesTwo Xor t = t ≡ Boolean
-TakesTwo Equal t = HasEquality t
-TakesTwo Unequal t = HasEquality t
-TakesTwo Less t = IsScalar t
-TakesTwo LessEqual t = IsScalar t
-TakesTwo Greater t = IsScalar t
-TakesTwo GreaterEqual t = IsScalar t
-TakesTwo _ t = IsNumeric t
+abbrev pub takes_two : BinaryOp → Ty → Bool
+takes_two And t = is_boolean t
+takes_two Or t = is_boolean t
+takes_two Xor t = is_boolean t
+takes_two Equal t = has_equality t
+takes_two Unequal t = has_equality t
+takes_two Less t = is_scalar t
+takes_two LessEqual t = is_scalar t
+takes_two Greater t = is_scalar t
+takes_two GreaterEqual t = is_scalar t
+takes_two _ t = is_numeric t
 
 -- arithmetic stays in its type, all else gives a Boolean
 abbrev pub given_type : BinaryOp → Ty → Ty
@@ -89,3 +89,13 @@ given_type Divide t = t
 given_type Modulo t = t
 given_type Remainder t = t
 given_type _ t = Boolean
+
+-- an operator with one operand gives what it takes
+abbrev pub one_operand : UnaryOp → Option Ty → Option Ty
+one_operand op None = None
+one_operand op (Some t) = if takes_one op t then Some t else None
+
+-- both operands have one type, which the operator takes
+abbrev pub two_operands : BinaryOp → Option Ty → Option Ty → Option Ty
+two_operands op (Some t) (Some u) = if is_same t u && takes_two op t then Some (given_type op t) else None
+two_operands op _ _ = None

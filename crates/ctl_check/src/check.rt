@@ -1,18 +1,23 @@
 //! The check of a whole text.
 
-ghost use Rattle.std.specs.Prelude.{◌≡◌, [], IfOk, IfErr};
-ghost use Rattle.ctl_check.specs.Refusals.{IsOfProgram};
+ghost use Rattle.std.specs.Prelude.{◌≡◌, [], IfOk, IfErr, true, false};
+ghost use Rattle.ctl_check.specs.Refusals.{IsOfProgram, IsAnswered, IsTypeFault};
+ghost use Rattle.ctl_legality.specs.View.{library_part};
+ghost use Rattle.ctl_names.specs.Judging.{view_of};
+ghost use Rattle.ctl_check.specs.State.{state_of};
+ghost use Rattle.ctl_check.specs.Program.{others, context_view, context_state, is_legal, IsProgram};
 ghost use Rattle.ctl_check.specs.Standard.{predefined_names};
 
 use crate::checker::Checker;
-use crate::library::Library;
-use crate::names::is_operation_name;
+use crate::kinds::Kind;
 use crate::refusal::Refusal;
-use crate::scope::{Entity, Scope};
+use ctl_legality::view::{Declaration, Entity, Part};
+use ctl_names::library::standard_names;
+use ctl_names::walk::{Walk, folded};
 use ctl_tree::checked::{Checked, Subprogram};
 use ctl_tree::fault::Fault;
 use ctl_tree::text::Text;
-use ctl_tree::tree::Tree;
+use ctl_tree::tree::{Context, Tree};
 use std::alloc::{AllocError, Global};
 
 /// The checked program of a text whose constructs this version runs.
@@ -25,6 +30,9 @@ pub fn check(alloc: Global, tree: &Tree) -> Result<Checked, Fault>
     ensures exceptions { IfOk result (λ program. program.exceptions.items ≡ predefined_names) }
     ensures accesses { IfOk result (λ program. program.accesses.items ≡ []) }
     ensures refused { IfErr result (λ fault. IsOfProgram fault) }
+    ensures legal { IfOk result (λ program. is_legal tree.now ≡ true) }
+    ensures program { IfOk result (λ program. IsProgram tree.now program) }
+    ensures illegal { IfErr result (λ fault. IsTypeFault fault → is_legal tree.now ≡ false) }
 {
     Ok(checked(alloc, tree)?)
 }
@@ -32,17 +40,17 @@ pub fn check(alloc: Global, tree: &Tree) -> Result<Checked, Fault>
 fn checked(alloc: Global, tree: &Tree) -> Result<Checked, Refusal>
     ensures exceptions { IfOk result (λ program. program.exceptions.items ≡ predefined_names) }
     ensures accesses { IfOk result (λ program. program.accesses.items ≡ []) }
+    ensures legal { IfOk result (λ program. is_legal tree.now ≡ true) }
+    ensures program { IfOk result (λ program. IsProgram tree.now program) }
+    ensures illegal { IfErr result (IsAnswered (is_legal tree.now)) }
 {
-    let library = Library::of_context(alloc, &tree.contexts)?;
-    let mut scope = Scope::new(alloc);
-    scope.open_part()?;
-    if is_operation_name(&tree.name) {
-        return Err(Refusal::Illegal);
-    }
-    scope.declare(&tree.name, Entity::Procedure)?;
-    let mut checker = Checker::new(alloc, library, scope);
+    let library = library();
+    let mut checker = Checker::new(alloc, &tree.contexts)?;
     let main = checker.new_subprogram(0)?;
-    let body = checker.master(&tree.body, None, 1)?;
+    let name = folded(alloc, &tree.name)?;
+    let entity = Entity::Subprogram(true);
+    checker.declare(library, name, tree.name.span, entity, Kind::Other)?;
+    let body = checker.inner_body(library, &[], 0, &tree.body)?;
     checker.complete(main, body)?;
     let (records, subprograms) = checker.finish()?;
     Ok(Checked {
@@ -52,6 +60,60 @@ fn checked(alloc: Global, tree: &Tree) -> Result<Checked, Refusal>
         subprograms,
         main,
     })
+}
+
+/// Where the main procedure is declared.
+fn library() -> Part
+    ensures { result ≡ library_part }
+{
+    Part {
+        start: 0,
+        level: 0,
+        has_body: false,
+    }
+}
+
+/// What declarations of the library are here: none that has a slot, or is a type of the text.
+fn others(alloc: Global, declarations: &[Declaration]) -> Result<Vec<Kind>, AllocError>
+    ensures { IfOk result (λ kinds. kinds.items ≡ others declarations.now) }
+{
+    let mut kinds = Vec::new(alloc);
+    for _declaration in declarations {
+        kinds.push(Kind::Other)?;
+    }
+    Ok(kinds)
+}
+
+/// Standard and the names of the units that are used (RM 8.4, A.1).
+fn context(alloc: Global, contexts: &[Context]) -> Result<Walk, AllocError>
+    ensures { IfOk result (λ walk. view_of walk library_part ≡ context_view contexts.now) }
+{
+    let library = library();
+    let mut walk = Walk::new(alloc);
+    walk.brought(contexts)?;
+    walk.declare_library(library, standard_names())?;
+    walk.used(library, contexts)?;
+    Ok(walk)
+}
+
+impl Checker {
+    /// Nothing of the text was read, and what its context clauses say is in view.
+    fn new(alloc: Global, contexts: &[Context]) -> Result<Checker, AllocError>
+        ensures state { IfOk result (λ checker. state_of checker library_part ≡ context_state contexts.now) }
+        ensures records { IfOk result (λ checker. checker.records.items ≡ []) }
+        ensures subprograms { IfOk result (λ checker. checker.subprograms.items ≡ []) }
+    {
+        let walk = context(alloc, contexts)?;
+        let kinds = others(alloc, walk.scope.declarations())?;
+        Ok(Checker {
+            alloc,
+            walk,
+            kinds,
+            records: Vec::new(alloc),
+            subprograms: Vec::new(alloc),
+            slots: 0,
+        })
+    }
 }
 
 /// The exceptions of Standard (RM 11.1), in the order of their numbers.

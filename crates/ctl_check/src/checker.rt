@@ -1,28 +1,147 @@
-//! What was read of a text so far: its library units, the names in view, and the tables of the checked program.
+//! How far a text was read: what is in view with what it declares, and the tables of the checked program.
 
-use crate::library::Library;
+ghost use Rattle.std.specs.Prelude.{◌≡◌, [], List, IfOk, IfErr, OnOk, length, true, is_some, slice_get};
+ghost use Rattle.ctl_legality.specs.declared.view.Part.{Part};
+ghost use Rattle.ctl_check.specs.Environment.{env_of, declared, closed};
+ghost use Rattle.ctl_check.specs.State.{state_of, promises_of, with_promise, with_body_at, lacks_body, are_complete};
+ghost use Rattle.ctl_check.specs.Parts.{BodyText};
+ghost use Rattle.ctl_check.specs.Program.{TextMeans, AreProcedures, AreBodies};
+ghost use Rattle.ctl_check.specs.Reading.{Grows, AreRead, IsReadAt, IsCompleted};
+ghost use Rattle.ctl_check.specs.Refusals.{IsAnswered};
+
+use crate::kinds::Kind;
 use crate::refusal::Refusal;
-use crate::scope::Scope;
+use ctl_legality::view::{Entity, Part};
+use ctl_names::walk::Walk;
 use ctl_tree::checked::{Master, RecordType, Subprogram};
-use ctl_tree::tree::Identifier;
+use ctl_tree::span::Span;
 use std::alloc::{AllocError, Global};
 
 /// A subprogram that is declared, and its body once that was read.
 #[derive(Drop)]
 pub struct Pending {
-    level: usize,
-    /// the name of its formal parameter
-    pub formal: Vec<u8>,
+    /// how many masters stand around its declaration
+    pub level: usize,
     pub body: Option<Master>,
 }
 
+/// How many declarations are in view, and of how many it is known what they declare.
+#[derive(Clone, Copy)]
+pub struct Count {
+    pub names: usize,
+    pub kinds: usize,
+}
+
+/// What was read so far.
+#[derive(Drop)]
+pub struct Checker {
+    pub alloc: Global,
+    /// the declarations in view
+    pub walk: Walk,
+    /// what each of them declares
+    pub kinds: Vec<Kind>,
+    pub records: Vec<RecordType>,
+    pub subprograms: Vec<Pending>,
+    /// how many slots the declarations of the innermost master take so far
+    pub slots: usize,
+}
+
+impl Checker {
+    /// One more declaration in view.
+    pub fn declare(
+        &mut self,
+        part: Part,
+        name: Vec<u8>,
+        span: Span,
+        entity: Entity,
+        kind: Kind,
+    ) -> Result<(), AllocError>
+        ensures { OnOk result (Grows self.old self.new part (record (state_of self.old part) { env = declared (env_of self.old part) name.items span entity kind })) }
+    {
+        self.walk.declare(part, name, span, entity)?;
+        self.kinds.push(kind)?;
+        Ok(())
+    }
+
+    /// How many declarations are in view.
+    pub fn count(&self) -> Count
+        ensures names { result.names ≡ length self.now.walk.scope }
+        ensures kinds { result.kinds ≡ length self.now.kinds.items }
+    {
+        Count {
+            names: self.walk.scope.count(),
+            kinds: self.kinds.len(),
+        }
+    }
+
+    /// Only so many declarations stay in view, the outermost.
+    pub fn close(&mut self, part: Part, count: Count)
+        ensures { Grows self.old self.new part (record (state_of self.old part) { env = closed (env_of self.old part) count }) }
+    {
+        self.walk.scope.close(count.names);
+        self.kinds.truncate(count.kinds);
+    }
+
+    /// The number of a subprogram whose declaration stands at this level.
+    #[tactic(auto, using(crate::proofs::Growing::promises_append, crate::proofs::Growing::read_append))]
+    pub fn new_subprogram(&mut self, level: usize) -> Result<usize, AllocError>
+        ensures number { IfOk result (λ n. n ≡ length self.old.subprograms.items) }
+        ensures grows { OnOk result ((part : Part) → Grows self.old self.new part (with_promise (state_of self.old part) level)) }
+    {
+        let number = self.subprograms.len();
+        self.subprograms.push(Pending { level, body: None })?;
+        Ok(number)
+    }
+
+    /// The body of a subprogram, which must have none yet.
+    pub fn complete(&mut self, number: usize, body: Master) -> Result<(), Refusal>
+        ensures first { OnOk result (lacks_body (slice_get (promises_of self.old.subprograms.items) number) ≡ true) }
+        ensures grows { OnOk result ((part : Part) → Grows self.old self.new part (record (state_of self.old part) { promises = with_body_at (promises_of self.old.subprograms.items) number })) }
+        ensures read { OnOk result ((b : BodyText) → b.number ≡ number → TextMeans b.state b.text body → IsReadAt b (slice_get self.new.subprograms.items number)) }
+        ensures err { IfErr result (IsAnswered (lacks_body (slice_get (promises_of self.old.subprograms.items) number))) }
+    {
+        match self.subprograms.get_mut(number) {
+            None => Err(Refusal::Illegal),
+            Some(pending) => {
+                if pending.body.is_some() {
+                    return Err(Refusal::Illegal);
+                }
+                pending.body = Some(body);
+                Ok(())
+            }
+        }
+    }
+
+    /// The tables of types and subprograms.
+    pub fn finish(self) -> Result<(Vec<RecordType>, Vec<Subprogram>), Refusal>
+        ensures complete { OnOk result (are_complete (promises_of self.subprograms.items) ≡ true) }
+        ensures records { IfOk result (λ tables. tables.0.items ≡ self.records.items) }
+        ensures procedures { IfOk result (λ tables. AreProcedures (promises_of self.subprograms.items) tables.1.items) }
+        ensures bodies { IfOk result (λ tables. (bs : List BodyText) → AreRead bs self.subprograms.items → AreBodies bs tables.1.items) }
+        ensures err { IfErr result (IsAnswered (are_complete (promises_of self.subprograms.items))) }
+    {
+        let Checker {
+            alloc,
+            walk: _,
+            kinds: _,
+            records,
+            subprograms,
+            slots: _,
+        } = self;
+        let mut all = Vec::new(alloc);
+        for pending in subprograms {
+            all.push(completed(pending)?)?;
+        }
+        Ok((records, all))
+    }
+}
+
 /// The subprogram, once its body was read.
-fn completed(pending: Pending) -> Result<Subprogram, Refusal> {
-    let Pending {
-        level,
-        formal: _,
-        body,
-    } = pending;
+fn completed(pending: Pending) -> Result<Subprogram, Refusal>
+    ensures completed { IfOk result (IsCompleted pending) }
+    ensures err { IfErr result (IsAnswered (is_some pending.body)) }
+{
+    let Pending { level, body } = pending;
     match body {
         Some(body) => Ok(Subprogram {
             level,
@@ -30,84 +149,5 @@ fn completed(pending: Pending) -> Result<Subprogram, Refusal> {
             body,
         }),
         None => Err(Refusal::Illegal),
-    }
-}
-
-/// What is known of a record type beside its place in the table.
-#[derive(Clone, Copy)]
-pub struct Declaration {
-    /// how many parts were open where it is declared
-    pub part: usize,
-    pub is_frozen: bool,
-}
-
-/// What was read so far.
-#[derive(Drop)]
-pub struct Checker {
-    pub alloc: Global,
-    pub library: Library,
-    pub scope: Scope,
-    pub records: Vec<RecordType>,
-    pub declarations: Vec<Declaration>,
-    pub subprograms: Vec<Pending>,
-}
-
-impl Checker {
-    pub fn new(alloc: Global, library: Library, scope: Scope) -> Checker {
-        Checker {
-            alloc,
-            library,
-            scope,
-            records: Vec::new(alloc),
-            declarations: Vec::new(alloc),
-            subprograms: Vec::new(alloc),
-        }
-    }
-
-    /// The number of a subprogram whose declaration stands at this level.
-    pub fn new_subprogram(&mut self, level: usize) -> Result<usize, AllocError> {
-        let number = self.subprograms.len();
-        self.subprograms.push(Pending {
-            level,
-            formal: Vec::new(self.alloc),
-            body: None,
-        })?;
-        Ok(number)
-    }
-
-    pub fn set_formal(&mut self, number: usize, formal: &Identifier) -> Result<(), Refusal> {
-        let name = Vec::from_slice(self.alloc, formal.name.as_bytes())?;
-        if let Some(pending) = self.subprograms.get_mut(number) {
-            pending.formal = name;
-        }
-        Ok(())
-    }
-
-    /// The body of a subprogram, which must have none yet.
-    pub fn complete(&mut self, number: usize, body: Master) -> Result<(), Refusal> {
-        match self.subprograms.get_mut(number) {
-            Some(pending) if pending.body.is_none() => {
-                pending.body = Some(body);
-                Ok(())
-            }
-            _ => Err(Refusal::Illegal),
-        }
-    }
-
-    /// The tables of types and subprograms.
-    pub fn finish(self) -> Result<(Vec<RecordType>, Vec<Subprogram>), Refusal> {
-        let Checker {
-            alloc,
-            library: _,
-            scope: _,
-            records,
-            declarations: _,
-            subprograms,
-        } = self;
-        let mut all = Vec::new(alloc);
-        for pending in subprograms {
-            all.push(completed(pending)?)?;
-        }
-        Ok((records, all))
     }
 }

@@ -1,32 +1,38 @@
 //! Declarations of types and of their operations (RM 7.6, 13.14).
 
-use crate::checker::{Checker, Declaration};
-use crate::library::{Unit, is_word};
-use crate::names::{is_operation_name, path_of, same_name};
-use crate::part::Part;
+ghost use Rattle.std.specs.Prelude.{◌≡◌, IfOk, IfErr, OnOk, length, true, is_some, Some};
+ghost use Rattle.ctl_legality.specs.Sites.{completed_body};
+ghost use Rattle.ctl_check.specs.Environment.{env_of};
+ghost use Rattle.ctl_check.specs.State.{state_of, promises_of, no_operations, parent_in, is_plain_extension, is_controlled_type, mark_of, with_type, overridden_type, overridden_in, with_operation, new_operation, with_heading, with_declaration, entered, entered_for};
+ghost use Rattle.ctl_check.specs.Reading.{Grows, IsPlain};
+ghost use Rattle.ctl_check.specs.Refusals.{IsAnswered};
+
+use crate::checker::Checker;
+use crate::kinds::Kind;
+use crate::marks::kind_at;
 use crate::refusal::Refusal;
-use crate::scope::Entity;
+use ctl_legality::library::{LibraryName, Operation};
+use ctl_legality::view::{Entity, Form, Mark, Part};
+use ctl_names::declarations::heading_key;
+use ctl_names::library::operation_named;
+use ctl_names::walk::folded;
 use ctl_tree::checked::{Operations, RecordType, Root};
-use ctl_tree::tree::{Dotted, Formal, Identifier, Mode, Specification};
-use std::alloc::Global;
+use ctl_tree::tree::{ComponentDeclaration, Dotted, Identifier, Specification};
+use std::alloc::{AllocError, Global};
 
-/// Which of the operations of a controlled type.
-#[derive(Clone, Copy, PartialEq, Eq)]
-pub enum Operation {
-    Initialize,
-    Finalize,
-}
-
-/// An operation that a heading overrides: of which type, and with which formal parameter.
+/// An operation that a heading overrides, and the number of the type.
 #[derive(Clone, Copy)]
-pub struct Overridden<'s> {
+pub struct Overridden {
     pub operation: Operation,
-    pub record: usize,
-    pub formal: &'s Identifier,
+    pub number: usize,
 }
 
 /// A type that extends Controlled or Limited_Controlled by no component.
-fn extension(alloc: Global, level: usize) -> RecordType {
+fn extension(alloc: Global, level: usize) -> RecordType
+    ensures level { result.level ≡ level }
+    ensures operations { result.operations ≡ no_operations }
+    ensures plain { IsPlain result }
+{
     RecordType {
         level,
         root: Root::Controlled,
@@ -42,125 +48,215 @@ fn extension(alloc: Global, level: usize) -> RecordType {
     }
 }
 
-/// The name and the mark of a formal that stands alone and has mode `in out`.
-fn single_formal(formals: &[Formal]) -> Option<(&Identifier, &Dotted)> {
-    let [formal] = formals else {
-        return None;
-    };
-    let [name] = formal.names.as_slice() else {
-        return None;
-    };
-    (formal.mode == Mode::InOut).then_some((name, &formal.mark))
+/// The operations, with this subprogram as one of them. Each is overridden once, and this version runs Initialize and Finalize.
+fn with_operation(operations: Operations, operation: Operation, number: usize) -> Option<Operations>
+    ensures { result ≡ with_operation operations operation number }
+{
+    match operation {
+        Operation::Initialize if operations.initialize.is_none() => Some(Operations {
+            initialize: Some(number),
+            ..operations
+        }),
+        Operation::Finalize if operations.finalize.is_none() => Some(Operations {
+            finalize: Some(number),
+            ..operations
+        }),
+        _ => None,
+    }
+}
+
+fn overridden_type(operation: Operation, kind: Kind) -> Option<Overridden>
+    ensures { result ≡ overridden_type operation kind }
+{
+    match kind {
+        Kind::Type(record) => Some(Overridden {
+            operation,
+            number: record,
+        }),
+        _ => None,
+    }
+}
+
+/// Whether it is one of the two types whose extensions this version runs.
+fn is_controlled_type(parent: Option<LibraryName>) -> bool
+    ensures { result ≡ is_controlled_type parent }
+{
+    matches!(
+        parent,
+        Some(LibraryName::Controlled | LibraryName::LimitedControlled)
+    )
+}
+
+fn mark_of(parent: Option<LibraryName>) -> Mark
+    ensures { result ≡ mark_of parent }
+{
+    match parent {
+        Some(library) => Mark::Library(library),
+        None => Mark::Other,
+    }
 }
 
 impl Checker {
-    /// An extension of a controlled type of the library. Until its declaration ends its own name hides all others (RM 8.3).
-    pub fn declare_type(
+    /// An extension of a controlled type of the library by no component.
+    pub fn extension(
         &mut self,
-        part: &Part,
+        part: Part,
         name: &Identifier,
         parent: &Dotted,
-    ) -> Result<(), Refusal> {
-        if part.has_body || is_operation_name(name) || same_name(name, &parent.first) {
+        components: &[ComponentDeclaration],
+    ) -> Result<(), Refusal>
+        ensures legal { OnOk result (is_plain_extension (parent_in (state_of self.old part) name.now parent.now) components.now ≡ true) }
+        ensures grows { OnOk result (Grows self.old self.new part (with_type (state_of self.old part) name.now (parent_in (state_of self.old part) name.now parent.now))) }
+        ensures err { IfErr result (IsAnswered (is_plain_extension (parent_in (state_of self.old part) name.now parent.now) components.now)) }
+    {
+        let library = self.parent(part, name, parent)?;
+        if !components.is_empty() || !is_controlled_type(library) {
             return Err(Refusal::Illegal);
         }
-        let path = path_of(self.alloc, parent)?;
-        let is_controlled = path.last().is_some_and(|last| is_word(last, b"controlled")
-            || is_word(last, b"limited_controlled"));
-        if !is_controlled || !self.is_in_unit(Unit::Finalization, path.as_slice())? {
-            return Err(Refusal::Illegal);
-        }
-        let record = self.records.len();
-        self.scope.declare(name, Entity::Type(record))?;
-        self.records.push(extension(self.alloc, part.level))?;
-        self.declarations.push(Declaration {
-            part: self.scope.part(),
-            is_frozen: false,
-        })?;
+        self.declare_type(part, name, library)?;
         Ok(())
     }
 
-    /// Which operation of which type of this part a heading overrides.
-    pub fn overridden<'s>(
-        &self,
-        specification: &'s Specification,
-    ) -> Result<Overridden<'s>, Refusal> {
-        let operation = if is_word(&specification.name, b"initialize") {
-            Operation::Initialize
-        } else if is_word(&specification.name, b"finalize") {
-            Operation::Finalize
-        } else {
-            return Err(Refusal::Illegal);
-        };
-        let Some((formal, mark)) = single_formal(&specification.formals) else {
-            return Err(Refusal::Illegal);
-        };
-        let (record, declaration) = self.record_of(mark)?;
-        if declaration.part != self.scope.part() || same_name(formal, &mark.first) {
-            return Err(Refusal::Illegal);
-        }
-        Ok(Overridden {
-            operation,
-            record,
-            formal,
-        })
-    }
-
-    pub fn operation_of(&self, record: usize, operation: Operation) -> Option<usize> {
-        let operations = self.records.get(record)?.operations;
-        match operation {
-            Operation::Initialize => operations.initialize,
-            Operation::Finalize => operations.finalize,
-        }
-    }
-
-    /// An operation overrides the inherited one of a type that is not frozen, and only once.
-    pub fn declare_operation(
+    /// A new record type comes into view.
+    #[tactic(auto, using(crate::proofs::Growing::shapes_append, crate::proofs::Growing::shapes_length, crate::proofs::Growing::plain_append))]
+    fn declare_type(
         &mut self,
-        part: &mut Part,
-        overridden: Overridden<'_>,
-    ) -> Result<usize, Refusal> {
+        part: Part,
+        name: &Identifier,
+        parent: Option<LibraryName>,
+    ) -> Result<(), AllocError>
+        ensures { OnOk result (Grows self.old self.new part (with_type (state_of self.old part) name.now parent)) }
+    {
+        let record = self.records.len();
+        let key = folded(self.alloc, name)?;
+        let entity = Entity::Type(Form::Extension(mark_of(parent)));
+        self.declare(part, key, name.span, entity, Kind::Type(record))?;
+        self.records.push(extension(self.alloc, part.level))?;
+        Ok(())
+    }
+
+    /// The library type that is the parent of an extension, whose own name is hidden there (RM 8.3(17)).
+    fn parent(
+        &mut self,
+        part: Part,
+        name: &Identifier,
+        parent: &Dotted,
+    ) -> Result<Option<LibraryName>, AllocError>
+        ensures library { IfOk result (λ l. l ≡ parent_in (state_of self.old part) name.now parent.now) }
+        ensures grows { OnOk result (Grows self.old self.new part (state_of self.old part)) }
+    {
+        let count = self.count();
+        self.hide(part, name)?;
+        let library = self.library_name(part, &parent.first, &parent.rest)?;
+        self.close(part, count);
+        Ok(library)
+    }
+
+    /// Which operation of which type of this part a heading overrides (RM 7.6).
+    pub fn overridden(
+        &self,
+        part: Part,
+        heading: &Specification,
+    ) -> Result<Option<Overridden>, AllocError>
+        ensures { IfOk result (λ o. o ≡ overridden_in (env_of self.now part) heading.now) }
+    {
+        let name = folded(self.alloc, &heading.name)?;
+        let Some(operation) = operation_named(name.as_slice()) else {
+            return Ok(None);
+        };
+        let Some(known) = self.walk.operand(part, heading)? else {
+            return Ok(None);
+        };
+        if self.walk.overrides(part, heading, operation, known.place)? {
+            Ok(overridden_type(operation, kind_at(&self.kinds, known.place)))
+        } else {
+            Ok(None)
+        }
+    }
+
+    /// A new subprogram is this operation. Its number.
+    fn new_operation(&mut self, part: Part, overridden: Overridden) -> Result<usize, Refusal>
+        ensures number { IfOk result (λ n. n ≡ length (promises_of self.old.subprograms.items)) }
+        ensures state { OnOk result (new_operation (state_of self.old part) overridden ≡ Some (state_of self.new part)) }
+        ensures grows { OnOk result (Grows self.old self.new part (state_of self.new part)) }
+        ensures err { IfErr result (IsAnswered (is_some (new_operation (state_of self.old part) overridden))) }
+    {
         let Overridden {
             operation,
-            record,
-            formal,
+            number: record,
         } = overridden;
-        let declaration = self.declaration_of(record)?;
-        if part.has_body
-            || declaration.is_frozen
-            || self.operation_of(record, operation).is_some()
-        {
-            return Err(Refusal::Illegal);
-        }
         let number = self.new_subprogram(part.level)?;
-        self.set_formal(number, formal)?;
-        if let Some(found) = self.records.get_mut(record) {
-            match operation {
-                Operation::Initialize => found.operations.initialize = Some(number),
-                Operation::Finalize => found.operations.finalize = Some(number),
-            }
+        match self.records.get_mut(record) {
+            None => Err(Refusal::Illegal),
+            Some(found) => match with_operation(found.operations, operation, number) {
+                None => Err(Refusal::Illegal),
+                Some(operations) => {
+                    found.operations = operations;
+                    Ok(number)
+                }
+            },
         }
-        part.subprograms.push(number)?;
-        Ok(number)
     }
 
-    /// The number of the operation that a body completes, or declares itself; a completing body repeats the formal's name.
+    /// The declaration of an operation.
+    pub fn operation(&mut self, part: Part, heading: &Specification) -> Result<(), Refusal>
+        ensures state { OnOk result (with_declaration (state_of self.old part) heading.now ≡ Some (state_of self.new part)) }
+        ensures grows { OnOk result (Grows self.old self.new part (state_of self.new part)) }
+        ensures err { IfErr result (IsAnswered (is_some (with_declaration (state_of self.old part) heading.now))) }
+    {
+        let Some(overridden) = self.overridden(part, heading)? else {
+            return Err(Refusal::Illegal);
+        };
+        let number = self.new_operation(part, overridden)?;
+        self.declare_operation(part, heading, false, number)?;
+        Ok(())
+    }
+
+    fn declare_operation(
+        &mut self,
+        part: Part,
+        heading: &Specification,
+        has_body: bool,
+        number: usize,
+    ) -> Result<(), AllocError>
+        ensures { OnOk result (Grows self.old self.new part (with_heading (state_of self.old part) heading.now has_body number)) }
+    {
+        let key = heading_key(self.alloc, heading)?;
+        let entity = Entity::Subprogram(has_body);
+        self.declare(
+            part,
+            key,
+            heading.name.span,
+            entity,
+            Kind::Operation(number),
+        )
+    }
+
+    /// The number of the operation that a body completes, or declares itself (RM 6.1, 6.3).
     pub fn operation_of_body(
         &mut self,
-        part: &mut Part,
-        overridden: Overridden<'_>,
-    ) -> Result<usize, Refusal> {
-        let Some(number) = self.operation_of(overridden.record, overridden.operation) else {
-            return self.declare_operation(part, overridden);
-        };
-        let repeats = self.subprograms.get(number).is_some_and(|pending| is_word(
-            overridden.formal,
-            pending.formal.as_slice(),
-        ));
-        if repeats {
-            Ok(number)
-        } else {
-            Err(Refusal::Illegal)
+        part: Part,
+        heading: &Specification,
+        overridden: Overridden,
+    ) -> Result<usize, Refusal>
+        ensures entered { IfOk result (λ number. entered_for (state_of self.old part) heading.now overridden (completed_body (env_of self.old part).view heading.now) ≡ Some (entered (state_of self.new part) number heading.now overridden.number)) }
+        ensures grows { OnOk result (Grows self.old self.new part (state_of self.new part)) }
+        ensures err { IfErr result (IsAnswered (is_some (entered_for (state_of self.old part) heading.now overridden (completed_body (env_of self.old part).view heading.now)))) }
+    {
+        let key = heading_key(self.alloc, heading)?;
+        match self.walk.completed_body(part, key.as_slice()) {
+            None => {
+                let number = self.new_operation(part, overridden)?;
+                self.declare_operation(part, heading, true, number)?;
+                Ok(number)
+            }
+            Some(known) => {
+                self.walk.name_body(part, heading)?;
+                match kind_at(&self.kinds, known.place) {
+                    Kind::Operation(number) => Ok(number),
+                    _ => Err(Refusal::Illegal),
+                }
+            }
         }
     }
 }

@@ -1,89 +1,166 @@
 //! Declarations of objects (RM 3.3.1).
 
+ghost use Rattle.std.specs.Prelude.{◌≡◌, ◌++◌, ◌∷◌, [], ◌&&◌, List, IfOk, IfErr, OnOk, Some, is_some, not, true};
+ghost use Rattle.ctl_check.specs.Environment.{env_of};
+ghost use Rattle.ctl_check.specs.Marks.{marked_type};
+ghost use Rattle.ctl_check.specs.Objects.{Made, made_by, made_each, after_objects, objects_type, legal_objects, legal_as, has_form, value_fits, values_fit, ValueMeans, AreMade};
+ghost use Rattle.ctl_check.specs.State.{state_of, hidden_each, with_object, with_objects};
+ghost use Rattle.ctl_check.specs.Reading.{Grows};
+ghost use Rattle.ctl_check.specs.Refusals.{IsAnswered};
+
 use crate::checker::Checker;
-use crate::declarations::Operation;
-use crate::names::{is_operation_name, same_name};
-use crate::part::Part;
+use crate::expressions::Typed;
+use crate::kinds::{Kind, Object};
 use crate::refusal::Refusal;
-use crate::scope::{Entity, Object};
 use crate::types::is_same;
-use ctl_tree::checked::{Expr, Item, Ty};
+use ctl_legality::view::{Entity, Part};
+use ctl_names::walk::folded;
+use ctl_tree::checked::{Expr, Item, Ty, Var};
 use ctl_tree::span::Span;
-use ctl_tree::tree::{Identifier, Objects};
+use ctl_tree::tree::{Expression, Identifier, Objects};
+use std::alloc::AllocError;
 
 impl Checker {
-    /// The objects of one declaration, which is one for each name. A record's freezes its type (RM 13.14).
-    pub fn declare_objects(
+    /// The objects of one declaration, which is one for each name (RM 3.3.1(7)).
+    pub fn objects(
         &mut self,
-        part: &mut Part,
+        part: Part,
         objects: &Objects,
         place: Span,
-    ) -> Result<(), Refusal> {
-        let ty = self.type_of(&objects.mark)?;
+        items: &mut Vec<Item>,
+    ) -> Result<(), Refusal>
+        ensures legal { OnOk result (legal_objects (state_of self.old part) objects.now ≡ true) }
+        ensures grows { OnOk result (Grows self.old self.new part (after_objects (state_of self.old part) objects.now)) }
+        ensures made { OnOk result ((done : List Made) → AreMade done items.old.items → AreMade (done ++ made_by (state_of self.old part) objects.now) items.new.items) }
+        ensures err { IfErr result (IsAnswered (legal_objects (state_of self.old part) objects.now)) }
+    {
+        let count = self.count();
+        self.hide_each(part, &objects.names)?;
+        let ty = self.object_type(part, objects, place)?;
+        self.object_items(part, objects, ty, items)?;
+        self.close(part, count);
+        self.declare_objects(part, &objects.names, ty, !objects.is_constant)?;
+        Ok(())
+    }
+
+    /// The type of objects, which may have a value where it is a scalar type, and must where they are constants.
+    fn object_type(&self, part: Part, objects: &Objects, place: Span) -> Result<Ty, Refusal>
+        ensures ty { IfOk result (λ t. marked_type (env_of self.now part) objects.now.mark ≡ Some t) }
+        ensures legal { OnOk result (has_form objects.now ≡ true) }
+        ensures err { IfErr result (IsAnswered (is_some (marked_type (env_of self.now part) objects.now.mark) && has_form objects.now)) }
+    {
+        let Some(ty) = self.marked_type(part, &objects.mark)? else {
+            return Err(Refusal::Illegal);
+        };
         let lacks_value = objects.is_constant && objects.value.is_none();
         if lacks_value || !objects.discriminants.is_empty() {
             return Err(Refusal::Illegal);
         }
-        if let Ty::Record(record) = ty {
-            if objects.value.is_some() {
-                return Err(Refusal::LeftOut(place));
-            }
-            self.freeze_by_object(part, record)?;
+        match ty {
+            Ty::Record(_) if objects.value.is_some() => Err(Refusal::LeftOut(place)),
+            _ => Ok(ty),
         }
-        for name in &objects.names {
-            self.declare_object(part, objects, name, ty)?;
+    }
+
+    /// Objects are hidden in their own declaration (RM 8.3(17)).
+    pub fn hide_each(&mut self, part: Part, names: &[Identifier]) -> Result<(), AllocError>
+        ensures { OnOk result (Grows self.old self.new part (record (state_of self.old part) { env = hidden_each names.now (env_of self.old part) })) }
+    {
+        for name in names {
+            self.hide(part, name)?;
         }
         Ok(())
     }
 
-    fn declare_object(
-        &mut self,
-        part: &mut Part,
-        objects: &Objects,
-        name: &Identifier,
-        ty: Ty,
-    ) -> Result<(), Refusal> {
-        if is_operation_name(name) || same_name(name, &objects.mark.first) {
-            return Err(Refusal::Illegal);
-        }
-        self.scope.declare(name, Entity::Unfinished)?;
-        let value = self.initial_value(objects, ty)?;
-        let var = part.new_variable();
-        let is_variable = !objects.is_constant;
-        self.scope.finish(
-            name,
-            Entity::Object(Object {
-                var,
-                ty,
-                is_variable,
-            }),
-        )?;
-        part.items.push(Item::Object(var.slot, ty, value))?;
-        Ok(())
+    /// A name is hidden in its own declaration (RM 8.3(17)).
+    pub fn hide(&mut self, part: Part, name: &Identifier) -> Result<(), AllocError>
+        ensures { OnOk result (Grows self.old self.new part (record (state_of self.old part) { env = hidden_each (name.now ∷ []) (env_of self.old part) })) }
+    {
+        let key = folded(self.alloc, name)?;
+        self.declare(part, key, name.span, Entity::Hidden, Kind::Other)
     }
 
     /// The value that each object of a declaration begins with is evaluated for it alone.
-    fn initial_value(&self, objects: &Objects, ty: Ty) -> Result<Option<Expr>, Refusal> {
-        let Some(value) = objects.value.as_ref() else {
+    fn object_items(
+        &self,
+        part: Part,
+        objects: &Objects,
+        ty: Ty,
+        items: &mut Vec<Item>,
+    ) -> Result<(), Refusal>
+        ensures legal { OnOk result (values_fit (env_of self.now part) ty objects.now.value objects.now.names.items ≡ true) }
+        ensures made { OnOk result ((done : List Made) → AreMade done items.old.items → AreMade (done ++ made_each ty objects.now.value (env_of self.now part) self.now.slots objects.now.names.items) items.new.items) }
+        ensures err { IfErr result (IsAnswered (values_fit (env_of self.now part) ty objects.now.value objects.now.names.items)) }
+    {
+        let mut slot = self.slots;
+        for _name in &objects.names {
+            let value = self.initial_value(part, &objects.value, ty)?;
+            items.push(Item::Object(slot, ty, value))?;
+            slot = slot.saturating_add(1);
+        }
+        Ok(())
+    }
+
+    fn initial_value(
+        &self,
+        part: Part,
+        value: &Option<Expression>,
+        object: Ty,
+    ) -> Result<Option<Expr>, Refusal>
+        ensures legal { OnOk result (value_fits (env_of self.now part) object value.now ≡ true) }
+        ensures means { IfOk result (λ x. ValueMeans (env_of self.now part) value.now x) }
+        ensures err { IfErr result (IsAnswered (value_fits (env_of self.now part) object value.now)) }
+    {
+        let Some(value) = value else {
             return Ok(None);
         };
-        let value = self.expression(value)?;
-        if is_same(value.ty, ty) {
-            Ok(Some(value.expr))
+        let Typed { expr, ty } = self.expression(part, value)?;
+        if is_same(ty, object) {
+            Ok(Some(expr))
         } else {
             Err(Refusal::Illegal)
         }
     }
 
-    fn freeze_by_object(&mut self, part: &mut Part, record: usize) -> Result<(), Refusal> {
-        let declaration = self.declaration_of(record)?;
-        if let Some(found) = self.declarations.get_mut(record) {
-            found.is_frozen = true;
+    /// Several objects of one type come into view, each in a slot of its own.
+    pub fn declare_objects(
+        &mut self,
+        part: Part,
+        names: &[Identifier],
+        ty: Ty,
+        is_variable: bool,
+    ) -> Result<(), AllocError>
+        ensures { OnOk result (Grows self.old self.new part (with_objects (state_of self.old part) names.now ty is_variable)) }
+    {
+        for name in names {
+            self.declare_object(part, name, ty, is_variable)?;
         }
-        let is_local = declaration.part == self.scope.part();
-        let has_operation = self.operation_of(record, Operation::Initialize).is_some()
-            || self.operation_of(record, Operation::Finalize).is_some();
-        part.has_early_object = part.has_early_object || (is_local && has_operation);
         Ok(())
+    }
+
+    /// An object comes into view, in the next slot of the innermost master.
+    pub fn declare_object(
+        &mut self,
+        part: Part,
+        name: &Identifier,
+        ty: Ty,
+        is_variable: bool,
+    ) -> Result<Var, AllocError>
+        ensures var { IfOk result (λ v. v ≡ record { level = part.level; slot = self.old.slots }) }
+        ensures grows { OnOk result (Grows self.old self.new part (with_object (state_of self.old part) name.now ty is_variable)) }
+    {
+        let key = folded(self.alloc, name)?;
+        let var = Var {
+            level: part.level,
+            slot: self.slots,
+        };
+        let kind = Kind::Object(Object {
+            var,
+            ty,
+            is_variable,
+        });
+        self.declare(part, key, name.span, Entity::Object, kind)?;
+        self.slots = self.slots.saturating_add(1);
+        Ok(var)
     }
 }

@@ -1,10 +1,10 @@
 //! Operators, literals and the bounds of Integer (RM 2.4, 3.5.4, 4.5).
 
-ghost use Rattle.std.specs.Prelude.{◌≡◌, ◌≤◌};
+ghost use Rattle.std.specs.Prelude.{◌≡◌, ◌≤◌, Some};
 ghost use Rattle.std.specs.Option.{SomeIff};
-ghost use Rattle.ctl_check.specs.Operators.{adding_operator, multiplying_operator, relational_operator, logical_operator, sign_operator, word_operator, TakesOne, TakesTwo, given_type};
+ghost use Rattle.ctl_check.specs.Operators.{adding_operator, multiplying_operator, relational_operator, logical_operator, sign_operator, word_operator, takes_one, takes_two, given_type, one_operand, two_operands};
 
-use crate::types::{has_equality, is_boolean, is_numeric, is_ordered};
+use crate::types::{has_equality, is_boolean, is_numeric, is_ordered, is_same};
 use ctl_tree::checked::{BinaryOp, Shortcut, Ty, UnaryOp};
 use ctl_tree::tree::{
     AddingOperator, LogicalOperator, MultiplyingOperator, RelationalOperator, Sign, UnaryWord,
@@ -105,20 +105,17 @@ pub fn prefixing(word: UnaryWord) -> UnaryOp
     }
 }
 
-/// The type of the result of an operator with one operand of this type; none where it takes no such operand (RM 4.5.4, 4.5.6).
-pub fn unary_result(operator: UnaryOp, operand: Ty) -> Option<Ty>
-    ensures { SomeIff result (TakesOne operator operand) operand }
+fn takes_one(operator: UnaryOp, operand: Ty) -> bool
+    ensures { result ≡ takes_one operator operand }
 {
-    let takes = match operator {
+    match operator {
         UnaryOp::Plus | UnaryOp::Minus | UnaryOp::Abs => is_numeric(operand),
         UnaryOp::Not => is_boolean(operand),
-    };
-    takes.then_some(operand)
+    }
 }
 
-/// The type of the result of an operator whose operands both have this type; none where it takes no such operands (RM 4.5.1 to 4.5.5).
-pub fn binary_result(operator: BinaryOp, operands: Ty) -> Option<Ty>
-    ensures { SomeIff result (TakesTwo operator operands) (given_type operator operands) }
+fn takes_two(operator: BinaryOp, operands: Ty) -> bool
+    ensures { result ≡ takes_two operator operands }
 {
     match operator {
         BinaryOp::Add
@@ -126,13 +123,47 @@ pub fn binary_result(operator: BinaryOp, operands: Ty) -> Option<Ty>
         | BinaryOp::Multiply
         | BinaryOp::Divide
         | BinaryOp::Modulo
-        | BinaryOp::Remainder => is_numeric(operands).then_some(operands),
-        BinaryOp::And | BinaryOp::Or | BinaryOp::Xor => {
-            is_boolean(operands).then_some(Ty::Boolean)
-        }
-        BinaryOp::Equal | BinaryOp::Unequal => has_equality(operands).then_some(Ty::Boolean),
+        | BinaryOp::Remainder => is_numeric(operands),
+        BinaryOp::And | BinaryOp::Or | BinaryOp::Xor => is_boolean(operands),
+        BinaryOp::Equal | BinaryOp::Unequal => has_equality(operands),
         BinaryOp::Less | BinaryOp::LessEqual | BinaryOp::Greater | BinaryOp::GreaterEqual => {
-            is_ordered(operands).then_some(Ty::Boolean)
+            is_ordered(operands)
         }
+    }
+}
+
+fn given_type(operator: BinaryOp, operands: Ty) -> Ty
+    ensures { result ≡ given_type operator operands }
+{
+    match operator {
+        BinaryOp::Add
+        | BinaryOp::Subtract
+        | BinaryOp::Multiply
+        | BinaryOp::Divide
+        | BinaryOp::Modulo
+        | BinaryOp::Remainder => operands,
+        _ => Ty::Boolean,
+    }
+}
+
+/// The type of the result of an operator with one operand of this type; none where it takes no such operand (RM 4.5.4, 4.5.6).
+pub fn unary_result(operator: UnaryOp, operand: Ty) -> Option<Ty>
+    ensures { result ≡ one_operand operator (Some operand) }
+{
+    if takes_one(operator, operand) {
+        Some(operand)
+    } else {
+        None
+    }
+}
+
+/// The type of the result of an operator with operands of these types; none where it takes no such operands (RM 4.5.1 to 4.5.5).
+pub fn binary_result(operator: BinaryOp, left: Ty, right: Ty) -> Option<Ty>
+    ensures { result ≡ two_operands operator (Some left) (Some right) }
+{
+    if is_same(left, right) && takes_two(operator, left) {
+        Some(given_type(operator, left))
+    } else {
+        None
     }
 }

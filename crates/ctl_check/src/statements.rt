@@ -1,51 +1,76 @@
 //! Statements (RM 5).
 
+ghost use Rattle.std.specs.Prelude.{◌≡◌, IfOk, IfErr, OnOk, true, Some};
+ghost use Rattle.ctl_check.specs.Environment.{env_of};
+ghost use Rattle.ctl_check.specs.Meaning.{Means};
+ghost use Rattle.ctl_check.specs.State.{state_of, in_loop, behind_loop};
+ghost use Rattle.ctl_check.specs.Objects.{ValueMeans};
+ghost use Rattle.ctl_check.specs.Statements.{target, legal_assignment, AssignmentMeans, legal_condition, legal_exit, ExitMeans};
+ghost use Rattle.ctl_check.specs.Parts.{after_statement, after_statement_list, after_branch_list, after_loop, legal_statement, legal_statement_list, legal_branch_list, legal_loop, StatementMeans, StatementListMeans, BranchListMeans, LoopMeans, statement_bodies, statement_list_bodies, branch_list_bodies, loop_bodies};
+ghost use Rattle.ctl_check.specs.Reading.{Reads};
+ghost use Rattle.ctl_check.specs.Refusals.{IsAnswered, IsNoTarget};
+
 use crate::checker::Checker;
-use crate::expressions::variable;
-use crate::part::Part;
+use crate::expressions::{Typed, variable};
+use crate::kinds::{Kind, Object, Used};
 use crate::refusal::Refusal;
 use crate::types::is_same;
-use ctl_tree::checked::{Arm, Stmt, Ty};
+use ctl_legality::view::Part;
+use ctl_tree::checked::{Arm, Expr, Stmt, Ty, Var};
 use ctl_tree::span::Span;
-use ctl_tree::tree::{Branch, Expression, Name, Statement, StatementKind};
+use ctl_tree::tree::{Branch, Expression, Identifier, Name, Scheme, Statement, StatementKind};
 
 impl Checker {
+    /// Statements, inside a loop of the same body or not.
     #[cycle(check)]
     pub fn statements(
         &mut self,
-        part: &mut Part,
+        part: Part,
+        in_loop: bool,
         statements: &[Statement],
-    ) -> Result<Vec<Stmt>, Refusal> {
+    ) -> Result<Vec<Stmt>, Refusal>
+        ensures legal { OnOk result (legal_statement_list (state_of self.old part) in_loop statements.now ≡ true) }
+        ensures reads { OnOk result (Reads self.old self.new part (after_statement_list (state_of self.old part) statements.now) (statement_list_bodies (state_of self.old part) statements.now)) }
+        ensures means { IfOk result (λ all. StatementListMeans (state_of self.old part) statements.now all.items) }
+        ensures err { IfErr result (IsAnswered (legal_statement_list (state_of self.old part) in_loop statements.now)) }
+    {
         let mut all = Vec::new(self.alloc);
         for statement in statements {
-            all.push(self.statement(part, statement)?)?;
+            all.push(self.statement(part, in_loop, statement)?)?;
         }
         Ok(all)
     }
 
     #[cycle(check)]
-    fn statement(&mut self, part: &mut Part, statement: &Statement) -> Result<Stmt, Refusal> {
+    fn statement(
+        &mut self,
+        part: Part,
+        in_loop: bool,
+        statement: &Statement,
+    ) -> Result<Stmt, Refusal>
+        ensures legal { OnOk result (legal_statement (state_of self.old part) in_loop statement.now.kind ≡ true) }
+        ensures reads { OnOk result (Reads self.old self.new part (after_statement (state_of self.old part) statement.now.kind) (statement_bodies (state_of self.old part) statement.now.kind)) }
+        ensures means { IfOk result (λ x. StatementMeans (state_of self.old part) statement.now.kind x) }
+        ensures err { IfErr result (IsAnswered (legal_statement (state_of self.old part) in_loop statement.now.kind)) }
+    {
         match &statement.kind {
             StatementKind::Null => Ok(Stmt::Null),
             StatementKind::Assignment(target, value) => {
-                self.assignment(target, value, statement.span)
+                self.assignment(part, target, value, statement.span)
             }
-            StatementKind::Call(name) => self.output(name),
-            StatementKind::Exit(condition) => self.exit(part, condition.as_ref()),
+            StatementKind::Call(name) => self.output(part, name),
+            StatementKind::Exit(condition) => self.exit(part, in_loop, condition),
             StatementKind::If(branches, others) => {
-                let arms = self.arms(part, branches)?;
-                Ok(Stmt::If(arms, self.statements(part, others)?))
+                let arms = self.arms(part, in_loop, branches)?;
+                Ok(Stmt::If(arms, self.statements(part, in_loop, others)?))
             }
-            StatementKind::Loop(scheme, statements) => {
-                let heading = self.open_loop(part, scheme)?;
-                let statements = self.statements(part, statements)?;
-                Ok(self.close_loop(part, heading, statements))
-            }
+            StatementKind::Loop(scheme, statements) => self.a_loop(part, scheme, statements),
             StatementKind::Block(items, handled) => {
-                let mut inner = self.open_part(part.level.saturating_add(1), part.loops)?;
-                self.items(&mut inner, items)?;
-                let statements = self.statements(&mut inner, &handled.statements)?;
-                let master = self.close_part(inner, statements, &handled.handlers)?;
+                let region = self.open(part);
+                let mut all = Vec::new(self.alloc);
+                let behind = self.items(region.inner, items, &mut all)?;
+                let body = self.handled(behind, in_loop, handled)?;
+                let master = self.leave(part, region, all, body);
                 Ok(Stmt::Block(Box::new(self.alloc, master)?))
             }
             StatementKind::Return(_) | StatementKind::Raise(_) => Err(Refusal::Illegal),
@@ -54,41 +79,137 @@ impl Checker {
 
     /// The conditions of an if statement with their statements (RM 5.3).
     #[cycle(check)]
-    fn arms(&mut self, part: &mut Part, branches: &[Branch]) -> Result<Vec<Arm>, Refusal> {
+    fn arms(&mut self, part: Part, in_loop: bool, branches: &[Branch]) -> Result<Vec<Arm>, Refusal>
+        ensures legal { OnOk result (legal_branch_list (state_of self.old part) in_loop branches.now ≡ true) }
+        ensures reads { OnOk result (Reads self.old self.new part (after_branch_list (state_of self.old part) branches.now) (branch_list_bodies (state_of self.old part) branches.now)) }
+        ensures means { IfOk result (λ arms. BranchListMeans (state_of self.old part) branches.now arms.items) }
+        ensures err { IfErr result (IsAnswered (legal_branch_list (state_of self.old part) in_loop branches.now)) }
+    {
         let mut arms = Vec::new(self.alloc);
         for branch in branches {
-            let test = self.condition(&branch.condition)?;
-            let body = self.statements(part, &branch.statements)?;
+            let test = self.condition(part, &branch.condition)?;
+            let body = self.statements(part, in_loop, &branch.statements)?;
             arms.push(Arm { test, body })?;
         }
         Ok(arms)
     }
 
-    /// The target must be a variable, and the value of its type (RM 5.2). Those of records are not run yet.
-    fn assignment(&self, target: &Name, value: &Expression, place: Span) -> Result<Stmt, Refusal> {
-        if !target.suffixes.is_empty() {
-            return Err(Refusal::Illegal);
+    /// A loop (RM 5.5).
+    #[cycle(check)]
+    fn a_loop(
+        &mut self,
+        part: Part,
+        scheme: &Scheme,
+        statements: &[Statement],
+    ) -> Result<Stmt, Refusal>
+        ensures legal { OnOk result (legal_loop (state_of self.old part) scheme.now statements.now ≡ true) }
+        ensures reads { OnOk result (Reads self.old self.new part (after_loop (state_of self.old part) scheme.now statements.now) (loop_bodies (state_of self.old part) scheme.now statements.now)) }
+        ensures means { IfOk result (λ x. LoopMeans (state_of self.old part) scheme.now statements.now x) }
+        ensures err { IfErr result (IsAnswered (legal_loop (state_of self.old part) scheme.now statements.now)) }
+    {
+        match scheme {
+            Scheme::Endless => Ok(Stmt::Loop(self.statements(part, true, statements)?)),
+            Scheme::While(condition) => {
+                let condition = self.condition(part, condition)?;
+                Ok(Stmt::While(condition, self.statements(part, true, statements)?))
+            }
+            Scheme::For(name, is_reverse, low, high) => {
+                let (low, high) = self.bounds(part, name, low, high)?;
+                let (var, statements) = self.counted(part, name, statements)?;
+                Ok(Stmt::For(var, *is_reverse, low, high, statements))
+            }
         }
-        let object = self.object_of(&target.first)?;
+    }
+
+    /// The statements of a loop with a parameter, which is a constant.
+    #[cycle(check)]
+    fn counted(
+        &mut self,
+        part: Part,
+        name: &Identifier,
+        statements: &[Statement],
+    ) -> Result<(Var, Vec<Stmt>), Refusal>
+        ensures legal { OnOk result (legal_statement_list (in_loop (state_of self.old part) name.now) true statements.now ≡ true) }
+        ensures reads { OnOk result (Reads self.old self.new part (behind_loop (state_of self.old part) (after_statement_list (in_loop (state_of self.old part) name.now) statements.now)) (statement_list_bodies (in_loop (state_of self.old part) name.now) statements.now)) }
+        ensures var { IfOk result (λ counted. counted.0 ≡ record { level = part.level; slot = self.old.slots }) }
+        ensures means { IfOk result (λ counted. StatementListMeans (in_loop (state_of self.old part) name.now) statements.now counted.1.items) }
+        ensures err { IfErr result (IsAnswered (legal_statement_list (in_loop (state_of self.old part) name.now) true statements.now)) }
+    {
+        let count = self.count();
+        let inner = self.walk.region(part);
+        let var = self.declare_object(inner, name, Ty::Integer, false)?;
+        let statements = self.statements(inner, true, statements)?;
+        self.close(part, count);
+        Ok((var, statements))
+    }
+
+    /// The target must be a variable, and the value of its type (RM 5.2). Those of records are not run yet.
+    fn assignment(
+        &self,
+        part: Part,
+        target: &Name,
+        value: &Expression,
+        place: Span,
+    ) -> Result<Stmt, Refusal>
+        ensures legal { OnOk result (legal_assignment (env_of self.now part) target.now value.now ≡ true) }
+        ensures means { IfOk result (λ x. AssignmentMeans (env_of self.now part) target.now value.now x) }
+        ensures err { IfErr result (IsAnswered (legal_assignment (env_of self.now part) target.now value.now)) }
+    {
+        let object = self.target(part, target)?;
         if let Ty::Record(_) = object.ty {
             return Err(Refusal::LeftOut(place));
         }
-        let value = self.expression(value)?;
-        if object.is_variable && is_same(object.ty, value.ty) {
-            Ok(Stmt::Assign(variable(self.alloc, object), value.expr))
+        let Typed { expr, ty } = self.expression(part, value)?;
+        if object.is_variable && is_same(ty, object.ty) {
+            Ok(Stmt::Assign(variable(self.alloc, object), expr))
         } else {
             Err(Refusal::Illegal)
         }
     }
 
-    /// An exit leaves the innermost loop of its body (RM 5.7).
-    fn exit(&self, part: &Part, condition: Option<&Expression>) -> Result<Stmt, Refusal> {
-        if part.loops == 0 {
+    /// The object that a name without a suffix denotes.
+    fn target(&self, part: Part, name: &Name) -> Result<Object, Refusal>
+        ensures object { IfOk result (λ o. target (env_of self.now part) name.now ≡ Some o) }
+        ensures err { IfErr result (IsNoTarget (target (env_of self.now part) name.now)) }
+    {
+        if !name.suffixes.is_empty() {
             return Err(Refusal::Illegal);
         }
+        match self.used(part, &name.first)? {
+            Used::Declared(Kind::Object(object)) => Ok(object),
+            _ => Err(Refusal::Illegal),
+        }
+    }
+
+    /// An exit leaves the innermost loop of its body (RM 5.7).
+    fn exit(
+        &self,
+        part: Part,
+        in_loop: bool,
+        condition: &Option<Expression>,
+    ) -> Result<Stmt, Refusal>
+        ensures legal { OnOk result (legal_exit (env_of self.now part) in_loop condition.now ≡ true) }
+        ensures means { IfOk result (λ x. ExitMeans (env_of self.now part) condition.now x) }
+        ensures err { IfErr result (IsAnswered (legal_exit (env_of self.now part) in_loop condition.now)) }
+    {
+        if !in_loop {
+            return Err(Refusal::Illegal);
+        }
+        Ok(Stmt::Exit(self.optional_condition(part, condition)?))
+    }
+
+    fn optional_condition(
+        &self,
+        part: Part,
+        condition: &Option<Expression>,
+    ) -> Result<Option<Expr>, Refusal>
+        ensures legal { OnOk result (legal_condition (env_of self.now part) condition.now ≡ true) }
+        ensures means { IfOk result (λ x. ValueMeans (env_of self.now part) condition.now x) }
+        ensures err { IfErr result (IsAnswered (legal_condition (env_of self.now part) condition.now)) }
+    {
         match condition {
-            Some(condition) => Ok(Stmt::Exit(Some(self.condition(condition)?))),
-            None => Ok(Stmt::Exit(None)),
+            Some(condition) => Ok(Some(self.condition(part, condition)?)),
+            None => Ok(None),
         }
     }
 }

@@ -1,14 +1,13 @@
 //! The types of the language, and what may be done with their values (RM 3.2, 4.5).
 
-ghost use Rattle.std.specs.Prelude.{◌≡◌, ◌↔◌, IsTrue};
-ghost use Rattle.ctl_tree.specs.declared.checked.Ty.TheVariants.{Boolean};
-ghost use Rattle.ctl_check.specs.Types.{IsNumeric, IsScalar, HasEquality};
+ghost use Rattle.std.specs.Prelude.{◌≡◌};
+ghost use Rattle.ctl_check.specs.Types.{is_same, is_numeric, is_scalar, has_equality, is_boolean};
 
 use ctl_tree::checked::Ty;
 
 /// Whether both are one type.
 pub fn is_same(left: Ty, right: Ty) -> bool
-    ensures { IsTrue result ↔ (left ≡ right) }
+    ensures { result ≡ is_same left right }
 {
     match left {
         Ty::Integer => matches!(right, Ty::Integer),
@@ -23,7 +22,7 @@ pub fn is_same(left: Ty, right: Ty) -> bool
 
 /// Whether arithmetic takes its values: Integer and Storage_Count (RM 4.5.3 to 4.5.6).
 pub fn is_numeric(ty: Ty) -> bool
-    ensures { IsTrue result ↔ IsNumeric ty }
+    ensures { result ≡ is_numeric ty }
 {
     match ty {
         Ty::Integer | Ty::Count => true,
@@ -33,7 +32,7 @@ pub fn is_numeric(ty: Ty) -> bool
 
 /// Whether `<`, `<=`, `>` and `>=` take its values: numbers and Booleans (RM 4.5.2).
 pub fn is_ordered(ty: Ty) -> bool
-    ensures { IsTrue result ↔ IsScalar ty }
+    ensures { result ≡ is_scalar ty }
 {
     match ty {
         Ty::Integer | Ty::Count | Ty::Boolean => true,
@@ -43,7 +42,7 @@ pub fn is_ordered(ty: Ty) -> bool
 
 /// Whether `=` and `/=` take its values: all but records, whose equality is no part of the language (RM 4.5.2).
 pub fn has_equality(ty: Ty) -> bool
-    ensures { IsTrue result ↔ HasEquality ty }
+    ensures { result ≡ has_equality ty }
 {
     match ty {
         Ty::Record(_) => false,
@@ -53,7 +52,7 @@ pub fn has_equality(ty: Ty) -> bool
 
 /// Whether it is Boolean (RM 3.5.3).
 pub fn is_boolean(ty: Ty) -> bool
-    ensures { IsTrue result ↔ (ty ≡ Boolean) }
+    ensures { result ≡ is_boolean ty }
 {
-    is_same(ty, Ty::Boolean)
+    matches!(ty, Ty::Boolean)
 }

@@ -24,7 +24,7 @@ fn copied(alloc: Global, identifier: &Identifier) -> Result<Identifier, AllocErr
 }
 
 /// The identifiers that are selected at the beginning of a name.
-fn leading(alloc: Global, suffixes: &[Suffix]) -> Result<Vec<Identifier>, AllocError>
+pub fn leading(alloc: Global, suffixes: &[Suffix]) -> Result<Vec<Identifier>, AllocError>
     ensures { IfOk result (λ ids. ids.items ≡ leading suffixes.now) }
 {
     let mut identifiers = Vec::new(alloc);

@@ -141,7 +141,7 @@ fn override_facts(
 
 impl Walk {
     /// The type of the part that this name denotes.
-    fn operand(&self, part: Part, heading: &Specification) -> Result<Option<Known>, AllocError>
+    pub fn operand(&self, part: Part, heading: &Specification) -> Result<Option<Known>, AllocError>
         ensures { IfOk result (λ k. k ≡ operand (view_of self.now part) (first_mark heading.now.formals.items)) }
     {
         match heading.formals.first() {

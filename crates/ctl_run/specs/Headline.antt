@@ -1,5 +1,5 @@
 -- What a run shows: the promise of the whole product.
-use Rattle.std.specs.Prelude.{◌≡◌, ◌≢◌, ℕ, ◌*◌, ◌≤◌, List, Some, None}
+use Rattle.std.specs.Prelude.{◌≡◌, ◌≢◌, ℕ, ◌*◌, ◌≤◌, List, [], Some, None, true}
 use Rattle.ctl_tree.specs.declared.checked.Checked.{Checked}
 use Rattle.ctl_tree.specs.declared.ending.End.{End}
 use Rattle.ctl_tree.specs.declared.ending.End.TheVariants.{Done, Raised, Stopped, StepLimit, HostMemory}
@@ -12,6 +12,8 @@ use Rattle.ctl_legality.specs.Sites.{sites}
 use Rattle.ctl_legality.specs.Judged.{IsLegal}
 use Rattle.ctl_parse.specs.View.{tree_node}
 use Rattle.ctl_slice.specs.Places.{left_out_of}
+use Rattle.ctl_check.specs.Program.{is_legal, IsProgram as IsProgramOf}
+use Rattle.ctl_check.specs.Standard.{predefined_names}
 use Rattle.ctl_meaning.specs.World.{Pick}
 use Rattle.ctl_meaning.specs.Choice.{Ask, Obeys, answer, replayed}
 use Rattle.ctl_meaning.specs.Run as Meaning
@@ -24,7 +26,8 @@ use Rattle.ctl_machine.specs.declared.outcome.Outcome.{Outcome}
 use Rattle.ctl_machine.specs.Machine.{after_steps, chosen}
 
 -- a source text is accepted, and this is its program: the text spells these tokens, which spell this tree of the grammar, the tree breaks no
--- rule on names, order, completion, library units or freezing, each of its constructs is run, and the program is one that this version runs
+-- rule on names, order, completion, library units or freezing, each of its constructs is run, it breaks no rule on types, operations and exits,
+-- the program says what the tree says, with the predefined exceptions and no access types, and it is one that this version runs
 pub record Accepts (source : List ℕ) (program : Checked) : Type 0 where
   pub tokens : List Token
   pub tree : Tree
@@ -32,6 +35,10 @@ pub record Accepts (source : List ℕ) (program : Checked) : Type 0 where
   pub grammatical : IsProgram 100 (tree_node tree) tokens
   pub legal : IsLegal (sites tree)
   pub all_run : left_out_of tree ≡ None
+  pub typed : is_legal tree ≡ true
+  pub checked : IsProgramOf tree program
+  pub exceptions : program.exceptions.items ≡ predefined_names
+  pub accesses : program.accesses.items ≡ []
   pub in_slice : InSlice program
 
 -- the run ended by itself

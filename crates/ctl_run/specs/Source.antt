@@ -1,12 +1,13 @@
 -- The bytes of a text and the tree that they spell (RM 2, and the grammar), or the first fault of the text; and the first rule on names that
 -- its tree breaks, or the first construct in it that this version does not run.
-use Rattle.std.specs.Prelude.{◌≡◌, ℕ, List, ◌⊎◌, Some, None}
+use Rattle.std.specs.Prelude.{◌≡◌, ℕ, List, ◌⊎◌, Some, None, false}
 use Rattle.ctl_tree.specs.declared.fault.Fault.{Fault}
 use Rattle.ctl_tree.specs.declared.token.Token.{Token}
 use Rattle.ctl_tree.specs.declared.tree.Tree.{Tree}
 use Rattle.ctl_lexis.specs.Lexis.{HasTokens, HasFault}
 use Rattle.ctl_lex.specs.Memory.{IsMemory}
-use Rattle.ctl_check.specs.Refusals.{IsOfProgram}
+use Rattle.ctl_check.specs.Refusals.{IsOfProgram, IsTypeFault}
+use Rattle.ctl_check.specs.Program.{is_legal}
 use Rattle.ctl_grammar.specs.Form.{Node}
 use Rattle.ctl_grammar.specs.Text.{IsProgram}
 use Rattle.ctl_grammar.specs.Fault.{HasGrammarFault}
@@ -77,13 +78,13 @@ pub record IsLeftOutText (source : List ℕ) (fault : Fault) : Type 0 where
   pub first : (tree : Tree) → tree_node tree ≡ text.node → left_out_of tree ≡ Some fault
 
 -- Why a text is refused: this is its first fault; or it spells a tree, and this is the first rule on names that the tree breaks; or the tree
--- breaks none of them, and this stands at its first construct that is not run; or all its constructs are run, and its program is refused so;
--- or the host refused memory.
+-- breaks none of them, and this stands at its first construct that is not run; or all its constructs are run, and its program is refused so,
+-- with TYPE only where the tree breaks a rule on types, operations or exits; or the host refused memory.
 pub data IsRefused : List ℕ → Fault → Type 0 where
   by_text : {source : List ℕ} {fault : Fault} → HasFirstFault source fault → IsRefused source fault
   by_names : {source : List ℕ} (breach : Breach) → BreaksFirst source breach → IsRefused source (fault_of breach)
   by_construct : {source : List ℕ} {fault : Fault} → LeavesOut source fault → IsRefused source fault
-  by_program : {source : List ℕ} {fault : Fault} (tree : Tree) → SpellsLegalTree source tree → left_out_of tree ≡ None → IsOfProgram fault → IsRefused source fault
+  by_program : {source : List ℕ} {fault : Fault} (tree : Tree) → SpellsLegalTree source tree → left_out_of tree ≡ None → IsOfProgram fault → (IsTypeFault fault → is_legal tree ≡ false) → IsRefused source fault
   by_memory : {source : List ℕ} {fault : Fault} → IsMemory fault → IsRefused source fault
 
 -- ---- the laws

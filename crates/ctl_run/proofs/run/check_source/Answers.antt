@@ -1,11 +1,13 @@
 use Rattle.std.proofs.lemmas.Result.{err_from_is_err_and}
-use Rattle.std.proofs.Common.{◌≡◌, ℕ, List, Option, Some, None, sym, ap, subst, ◌∙◌, ◌⊎◌, inl, inr, rules}
+use Rattle.std.proofs.Common.{◌≡◌, ℕ, List, [], Option, Some, None, Bool, true, false, sym, ap, subst, ◌∙◌, ◌⊎◌, inl, inr, rules}
 use Rattle.ctl_tree.specs.declared.fault.Fault.{Fault}
 use Rattle.ctl_tree.specs.declared.fault.FaultCode.TheVariants.{LeftOut}
 use Rattle.ctl_tree.specs.declared.checked.Checked.{Checked}
 use Rattle.ctl_tree.specs.declared.tree.Tree.{Tree}
 use Rattle.ctl_lex.specs.Memory.{IsMemory}
-use Rattle.ctl_check.specs.Refusals.{IsProgramCode, IsOfProgram}
+use Rattle.ctl_check.specs.Refusals.{IsProgramCode, IsOfProgram, IsTypeFault}
+use Rattle.ctl_check.specs.Program.{is_legal, IsProgram}
+use Rattle.ctl_check.specs.Standard.{predefined_names}
 use Rattle.ctl_gen.specs.Slice.{InSlice}
 use Rattle.ctl_slice.specs.Places.{left_out_of}
 use Rattle.ctl_run.specs.Headline.{Accepts}
@@ -98,6 +100,10 @@ because source fault (inr h) = by_memory h
 left_out_is : (fault : Fault) → fault.code ≡ LeftOut → IsOfProgram fault
 left_out_is fault e = subst IsProgramCode (sym e) tt
 
+-- and no broken rule
+no_rule : (fault : Fault) (b : Bool) → fault.code ≡ LeftOut → IsTypeFault fault → b ≡ false
+no_rule fault b e is = absurd (cc)
+
 pub returns-in_err-named-clause-refused : goal.returns-in_err-named-clause-refused
 returns-in_err-named-clause-refused c =
     let p = err_from_is_err_and c.from_residual.result c.from_residual.ensures.1 in
@@ -109,25 +115,29 @@ returns-in-Some-clause-refused c = by_construct (record { tree = c.in_ok-named.n
 pub returns-in_err-program-clause-refused : goal.returns-in_err-program-clause-refused
 returns-in_err-program-clause-refused c =
     let p = err_from_is_err_and c.from_residual-in_err-program.result c.from_residual-in_err-program.ensures.1 in
-    rw (p.1, p.2) (by_program c.in_ok-named.named.tree c.in_ok-named.ensures.found (sym c.left_out.ensures.first ∙ c.in_default.is) c.in_err-program.ensures.refused)
+    rw (p.1, p.2) (by_program c.in_ok-named.named.tree c.in_ok-named.ensures.found (sym c.left_out.ensures.first ∙ c.in_default.is) c.in_err-program.ensures.refused c.in_err-program.ensures.illegal)
 
 pub returns-then-not-admits-clause-refused : goal.returns-then-not-admits-clause-refused
-returns-then-not-admits-clause-refused c = by_program c.in_ok-named.named.tree c.in_ok-named.ensures.found (sym c.left_out.ensures.first ∙ c.in_default.is) (left_out_is c.at.result (ap (λ (f : Fault). f.code) c.at.ensures))
+returns-then-not-admits-clause-refused c = by_program c.in_ok-named.named.tree c.in_ok-named.ensures.found (sym c.left_out.ensures.first ∙ c.in_default.is) (left_out_is c.at.result (ap (λ (f : Fault). f.code) c.at.ensures)) (no_rule c.at.result _ (ap (λ (f : Fault). f.code) c.at.ensures))
 
 -- an accepted text
 
-accepts : (source : List ℕ) (tree : Tree) (program : Checked) → SpellsLegalTree source tree → left_out_of tree ≡ None → InSlice program → Accepts source program
-accepts source tree program s none within = record {
+accepts : (source : List ℕ) (tree : Tree) (program : Checked) → SpellsLegalTree source tree → left_out_of tree ≡ None → is_legal tree ≡ true → IsProgram tree program → program.exceptions.items ≡ predefined_names → program.accesses.items ≡ [] → InSlice program → Accepts source program
+accepts source tree program s none typed checked named bare within = record {
   tokens = s.spelled.tokens;
   tree = tree;
   lexical = s.spelled.lexical;
   grammatical = s.spelled.grammatical;
   legal = s.legal;
   all_run = none;
+  typed = typed;
+  checked = checked;
+  exceptions = named;
+  accesses = bare;
   in_slice = within;
 }
 
 pub returns-clause-accepted : goal.returns-clause-accepted
 returns-clause-accepted c =
     let within : InSlice c.in_ok-program.program = search (rules, c.admits.ensures, c.if-not-admits) in
-    accepts c.args.source.now c.in_ok-named.named.tree c.in_ok-program.program c.in_ok-named.ensures.found (sym c.left_out.ensures.first ∙ c.in_default.is) within
+    accepts c.args.source.now c.in_ok-named.named.tree c.in_ok-program.program c.in_ok-named.ensures.found (sym c.left_out.ensures.first ∙ c.in_default.is) c.in_ok-program.ensures.legal c.in_ok-program.ensures.program c.in_ok-program.ensures.exceptions c.in_ok-program.ensures.accesses within

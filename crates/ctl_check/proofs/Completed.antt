@@ -1,0 +1,59 @@
+-- The table of subprograms at the end of a text, with the body that was read for each.
+use Rattle.std.proofs.Common.{rules, ◌≡◌, ℕ, zero, suc, List, [], ◌∷◌, ◌++◌, refl, ap, map, Option, Some, None}
+use Rattle.std.specs.Prelude.{slice_get, is_some, true, false}
+use Rattle.ctl_tree.specs.declared.checked.Subprogram.{Subprogram}
+use Rattle.ctl_tree.specs.declared.checked.Master.{Master}
+use Rattle.ctl_check.specs.declared.checker.Pending.{Pending}
+use Rattle.ctl_check.specs.declared.refusal.Refusal.{Refusal}
+use Rattle.ctl_check.specs.declared.refusal.Refusal.TheVariants.{Illegal, LeftOut, Memory}
+use Rattle.ctl_check.specs.Refusals.{IsAnswered}
+use Rattle.ctl_check.specs.State.{promises_of, are_complete}
+use Rattle.ctl_check.specs.Parts.{BodyText}
+use Rattle.ctl_check.specs.Program.{AreProcedures, AreBodies, IsBodyOf}
+use Rattle.ctl_check.specs.Reading.{AreRead, IsReadAt, IsCompleted, AreCompleted}
+
+pub completed_more : (ps : List Pending) (xs : List Subprogram) (p : Pending) (x : Subprogram) → AreCompleted ps xs → IsCompleted p x → AreCompleted (ps ++ p ∷ []) (xs ++ x ∷ [])
+completed_more [] [] p x h i = (i, tt)
+completed_more [] (y ∷ xs) p x h i = absurd h
+completed_more (q ∷ ps) [] p x h i = absurd h
+completed_more (q ∷ ps) (y ∷ xs) p x h i = (h.0, completed_more ps xs p x h.1 i)
+
+pub all_complete : (ps : List Pending) (xs : List Subprogram) → AreCompleted ps xs → are_complete (promises_of ps) ≡ true
+all_complete [] xs h = refl
+all_complete (p ∷ ps) [] h = absurd h
+all_complete (p ∷ ps) (x ∷ xs) h = rw (h.0.body, all_complete ps xs h.1)
+
+pub all_procedures : (ps : List Pending) (xs : List Subprogram) → AreCompleted ps xs → AreProcedures (promises_of ps) xs
+all_procedures [] [] h = tt
+all_procedures [] (x ∷ xs) h = absurd h
+all_procedures (p ∷ ps) [] h = absurd h
+all_procedures (p ∷ ps) (x ∷ xs) h = (h.0.level, h.0.is_procedure, all_procedures ps xs h.1)
+
+body_at : (b : BodyText) (ps : List Pending) (xs : List Subprogram) (n : ℕ) → AreCompleted ps xs → IsReadAt b (slice_get ps n) → IsBodyOf b (slice_get xs n)
+body_at b [] xs n h r = absurd r
+body_at b (p ∷ ps) [] n h r = absurd h
+body_at b (p ∷ ps) (x ∷ xs) zero h r = rw h.0.body at r
+body_at b (p ∷ ps) (x ∷ xs) (suc n) h r = body_at b ps xs n h.1 r
+
+pub all_bodies : (bs : List BodyText) (ps : List Pending) (xs : List Subprogram) → AreCompleted ps xs → AreRead bs ps → AreBodies bs xs
+all_bodies [] ps xs h r = tt
+all_bodies (b ∷ bs) ps xs h r = (body_at b ps xs b.number h r.0, all_bodies bs ps xs h r.1)
+
+-- a subprogram without a body
+pub incomplete : (ps : List Pending) (n : ℕ) (p : Pending) → slice_get ps n ≡ Some p → p.body ≡ None → are_complete (promises_of ps) ≡ false
+incomplete [] n p e f = cc
+incomplete (x ∷ ps) zero p e f = let same : x.body ≡ None = cc in rw same
+incomplete (x ∷ ps) (suc n) p e f = rw (incomplete ps n p e f) (search rules)
+
+no_body : (b : Option Master) → is_some b ≡ false → b ≡ None
+no_body None e = refl
+no_body (Some m) e = cc
+
+pub refused_with : (ps : List Pending) (n : ℕ) (p : Pending) (e : Refusal) → slice_get ps n ≡ Some p → IsAnswered (is_some p.body) e → IsAnswered (are_complete (promises_of ps)) e
+refused_with ps n p Illegal f h = incomplete ps n p f (no_body p.body h)
+refused_with ps n p (LeftOut place) f h = tt
+refused_with ps n p Memory f h = tt
+
+pub map_same : {A : Type 0} (xs : List A) → map (λ y. y) xs ≡ xs
+map_same [] = refl
+map_same (x ∷ xs) = ap (λ ys. x ∷ ys) (map_same xs)

@@ -1,0 +1,87 @@
+use Rattle.std.proofs.Common.{rules, ◌≡◌, List, [], length, sym, ap, subst, ◌∙◌, Some}
+use Rattle.std.specs.Prelude.{slice_get}
+use Rattle.ctl_check.specs.Refusals.{IsAnswered}
+use Rattle.ctl_check.specs.State.{State, Shape, Promise, state_of, shapes_of, promises_of, with_body_at, are_complete, in_block}
+use Rattle.ctl_check.specs.Parts.{own_bodies, text_bodies}
+use Rattle.ctl_check.specs.Program.{is_legal, end_state, main_body, AreShapes, AreProcedures}
+use Rattle.ctl_check.specs.Reading.{ArePlain, AreRead, IsReadAt}
+use Rattle.ctl_check.proofs.Outset.{main_is}
+use Rattle.ctl_check.proofs.Whole.{at_end, legal_all, refused_within, refused_twice, refused_incomplete, end_shapes, end_promises, all_shapes, all_read}
+use Rattle.ctl_check.proofs.check.checked.Goals as goal
+
+pub returns-in_err-body-clause-illegal : goal.returns-in_err-body-clause-illegal
+returns-in_err-body-clause-illegal c =
+    let t = c.args.tree.now in
+    let p = c.library-library.result in
+    let s = state_of c.declare.new.self p in
+    let start = main_is c.in_ok-checker.checker c.new_subprogram.new.self c.declare.new.self p t c.deref.result.now c.in_ok-name.name.items c.library-library.ensures c.deref.ensures.value c.in_ok-name.ensures c.in_ok-checker.ensures.state (c.in_ok-main.ensures.grows p) c.in_ok-declare.ensures in
+    let h : IsAnswered (is_legal t) c.in_err-body.field-0.0 = refused_within t s c.in_err-body.field-0.0 start c.in_err-body.ensures.err in
+    search rules
+
+pub returns-in_err-complete-clause-illegal : goal.returns-in_err-complete-clause-illegal
+returns-in_err-complete-clause-illegal c =
+    let t = c.args.tree.now in
+    let p = c.library-library.result in
+    let s = state_of c.declare.new.self p in
+    let start = main_is c.in_ok-checker.checker c.new_subprogram.new.self c.declare.new.self p t c.deref.result.now c.in_ok-name.name.items c.library-library.ensures c.deref.ensures.value c.in_ok-name.ensures c.in_ok-checker.ensures.state (c.in_ok-main.ensures.grows p) c.in_ok-declare.ensures in
+    let ps = promises_of c.inner_body.new.self.subprograms.items in
+    let behind = c.in_ok-body.ensures.reads.state in
+    let found : ps ≡ (at_end s t.body).promises = ap (λ (u : State). u.promises) behind in
+    let zero : c.in_ok-main.main ≡ 0 = c.in_ok-main.ensures.number ∙ ap length c.in_ok-checker.ensures.subprograms in
+    let h : IsAnswered (is_legal t) c.in_err-complete.field-0.0 = refused_twice t s ps c.in_err-complete.field-0.0 start found (rw zero at c.in_err-complete.ensures.err) in
+    search rules
+
+pub returns-in_err-records-clause-illegal : goal.returns-in_err-records-clause-illegal
+returns-in_err-records-clause-illegal c =
+    let t = c.args.tree.now in
+    let p = c.library-library.result in
+    let s = state_of c.declare.new.self p in
+    let start = main_is c.in_ok-checker.checker c.new_subprogram.new.self c.declare.new.self p t c.deref.result.now c.in_ok-name.name.items c.library-library.ensures c.deref.ensures.value c.in_ok-name.ensures c.in_ok-checker.ensures.state (c.in_ok-main.ensures.grows p) c.in_ok-declare.ensures in
+    let ps = promises_of c.inner_body.new.self.subprograms.items in
+    let behind = c.in_ok-body.ensures.reads.state in
+    let found : ps ≡ (at_end s t.body).promises = ap (λ (u : State). u.promises) behind in
+    let zero : c.in_ok-main.main ≡ 0 = c.in_ok-main.ensures.number ∙ ap length c.in_ok-checker.ensures.subprograms in
+    let done : promises_of c.complete.new.self.subprograms.items ≡ with_body_at ps 0 = rw zero at (ap (λ (u : State). u.promises) (c.in_ok-complete.ensures.grows p).state) in
+    let h : IsAnswered (is_legal t) c.in_err-records.field-0.0 = refused_incomplete t s ps c.in_err-records.field-0.0 start found (rw done at c.in_err-records.ensures.err) in
+    search rules
+
+pub returns-clause-legal : goal.returns-clause-legal
+returns-clause-legal c =
+    let t = c.args.tree.now in
+    let p = c.library-library.result in
+    let s = state_of c.declare.new.self p in
+    let start = main_is c.in_ok-checker.checker c.new_subprogram.new.self c.declare.new.self p t c.deref.result.now c.in_ok-name.name.items c.library-library.ensures c.deref.ensures.value c.in_ok-name.ensures c.in_ok-checker.ensures.state (c.in_ok-main.ensures.grows p) c.in_ok-declare.ensures in
+    let ps = promises_of c.inner_body.new.self.subprograms.items in
+    let behind = c.in_ok-body.ensures.reads.state in
+    let found : ps ≡ (at_end s t.body).promises = ap (λ (u : State). u.promises) behind in
+    let zero : c.in_ok-main.main ≡ 0 = c.in_ok-main.ensures.number ∙ ap length c.in_ok-checker.ensures.subprograms in
+    let done : promises_of c.complete.new.self.subprograms.items ≡ with_body_at ps 0 = rw zero at (ap (λ (u : State). u.promises) (c.in_ok-complete.ensures.grows p).state) in
+    legal_all t s ps start found c.in_ok-body.ensures.legal (rw zero at c.in_ok-complete.ensures.first) (ap are_complete (sym done) ∙ c.in_ok-records.ensures.complete)
+
+pub returns-clause-program : goal.returns-clause-program
+returns-clause-program c =
+    let t = c.args.tree.now in
+    let p = c.library-library.result in
+    let s = state_of c.declare.new.self p in
+    let start = main_is c.in_ok-checker.checker c.new_subprogram.new.self c.declare.new.self p t c.deref.result.now c.in_ok-name.name.items c.library-library.ensures c.deref.ensures.value c.in_ok-name.ensures c.in_ok-checker.ensures.state (c.in_ok-main.ensures.grows p) c.in_ok-declare.ensures in
+    let ps = promises_of c.inner_body.new.self.subprograms.items in
+    let behind = c.in_ok-body.ensures.reads.state in
+    let found : ps ≡ (at_end s t.body).promises = ap (λ (u : State). u.promises) behind in
+    let zero : c.in_ok-main.main ≡ 0 = c.in_ok-main.ensures.number ∙ ap length c.in_ok-checker.ensures.subprograms in
+    let done : promises_of c.complete.new.self.subprograms.items ≡ with_body_at ps 0 = rw zero at (ap (λ (u : State). u.promises) (c.in_ok-complete.ensures.grows p).state) in
+    let last = c.complete.new.self in
+    let closing = c.in_ok-complete.ensures.grows p in
+    let reads = c.in_ok-body.ensures.reads in
+    let none : ArePlain c.in_ok-checker.checker.records.items = rw c.in_ok-checker.ensures.records tt in
+    let plain : ArePlain last.records.items = closing.plain (reads.plain (c.in_ok-declare.ensures.plain ((c.in_ok-main.ensures.grows p).plain none))) in
+    let shapes : shapes_of last.records.items ≡ (end_state t).shapes = ap (λ (u : State). u.shapes) closing.state ∙ ap (λ (u : State). u.shapes) behind ∙ sym (end_shapes t s start) in
+    let promises : promises_of last.subprograms.items ≡ (end_state t).promises = done ∙ ap (λ (qs : List Promise). with_body_at qs 0) found ∙ sym (end_promises t s start) in
+    let inner : AreRead (text_bodies (in_block s) t.body) last.subprograms.items = closing.kept _ (reads.kept [] tt) in
+    let main : IsReadAt (record { number = 0; state = in_block s; text = t.body }) (slice_get last.subprograms.items 0) =
+    rw zero at (c.in_ok-complete.ensures.read (record { number = 0; state = in_block s; text = t.body }) (sym zero) c.in_ok-body.ensures.means) in
+    record {
+      main = zero;
+      records = rw c.in_ok-records.ensures.records (subst (λ (xs : List Shape). AreShapes xs last.records.items) shapes (all_shapes last.records.items plain));
+      procedures = subst (λ (xs : List Promise). AreProcedures xs c.in_ok-records.subprograms.items) promises c.in_ok-records.ensures.procedures;
+      bodies = c.in_ok-records.ensures.bodies (own_bodies (Some (main_body t)) t.body) (all_read t s last.subprograms.items start inner main);
+    }
