@@ -23,6 +23,8 @@ LINE_ENDS = ["\n", "\x0b", "\x0c", "\r", "\r\n"]
 
 ITEM = "procedure Main is "
 
+CONTROLLED = "with Ada.Finalization; use Ada.Finalization; procedure Main is "
+
 NESTED = "procedure Main is X : Integer; begin X := {}1{}; end Main;"
 
 # a text, and the code, line and column of its fault
@@ -97,6 +99,19 @@ TEXTS = [
     # and before a broken rule on types, which has no place yet
     (ITEM + "N : Integer; begin N := True; end Main;", 30, 1, 1),
     (ITEM + "N : Integer; begin N := True; M := 1; end Main;", 20, 1, 49),
+    # the five names of operations name no type, object or main procedure; formals and loop parameters may have them
+    ("procedure Finalize is begin null; end Finalize;", 30, 1, 1),
+    (ITEM + "A, Adjust : Integer; begin null; end Main;", 30, 1, 1),
+    (CONTROLLED + "type Initialize is new Controlled with null record; begin null; end Main;", 30, 1, 1),
+    (ITEM + "begin for Allocate in 1 .. 2 loop null; end loop; end Main;", ACCEPTED, 1, 1),
+    (
+        CONTROLLED
+        + "type T is new Controlled with null record; procedure Finalize (Deallocate : in out T) is begin null;"
+        + " end Finalize; X : T; begin null; end Main;",
+        ACCEPTED,
+        1,
+        1,
+    ),
 ]
 
 

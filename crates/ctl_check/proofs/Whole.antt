@@ -7,6 +7,7 @@ use Rattle.ctl_tree.specs.declared.tree.Tree.{Tree}
 use Rattle.ctl_check.specs.declared.checker.Pending.{Pending}
 use Rattle.ctl_check.specs.declared.refusal.Refusal.{Refusal}
 use Rattle.ctl_check.specs.declared.refusal.Refusal.TheVariants.{Illegal, LeftOut, Memory}
+use Rattle.ctl_check.specs.Marks.{is_own_name}
 use Rattle.ctl_check.specs.Refusals.{IsAnswered}
 use Rattle.ctl_check.specs.State.{State, Promise, Entered, in_block, shapes_of, lacks_body, are_complete, with_body_at, behind_whole_body}
 use Rattle.ctl_check.specs.Parts.{legal_body, legal_text, after_body, after_text, own_bodies, text_bodies}
@@ -34,8 +35,8 @@ legal_is s b =
     ap (λ (x : Bool). x && are_complete (after_body s (Some e) b).promises) (legal_entered e b)
     ∙ ap (λ ps. (legal_within s b && lacks_body (slice_get (at_end s b).promises 0)) && are_complete ps) last
 
-pub is_legal_by : (t : Tree) (s : State) → s ≡ main_state t → is_legal t ≡ legal_whole s t.body
-is_legal_by t s e = legal_is (main_state t) t.body ∙ ap (λ (u : State). legal_whole u t.body) (sym e)
+pub is_legal_by : (t : Tree) (s : State) → s ≡ main_state t → is_legal t ≡ (is_own_name t.name && legal_whole s t.body)
+is_legal_by t s e = ap (λ (x : Bool). is_own_name t.name && x) (legal_is (main_state t) t.body ∙ ap (λ (u : State). legal_whole u t.body) (sym e))
 
 both : (a b : Bool) → a ≡ true → b ≡ true → (a && b) ≡ true
 both true b e f = f
@@ -48,11 +49,11 @@ nor : (a b : Bool) → b ≡ false → (a && b) ≡ false
 nor true b e = e
 nor false b e = refl
 
-pub legal_all : (t : Tree) (s : State) (ps : List Promise) → s ≡ main_state t → ps ≡ (at_end s t.body).promises → legal_within s t.body ≡ true → lacks_body (slice_get ps 0) ≡ true → are_complete (with_body_at ps 0) ≡ true → is_legal t ≡ true
-legal_all t s ps e f l m n =
+pub legal_all : (t : Tree) (s : State) (ps : List Promise) → is_own_name t.name ≡ true → s ≡ main_state t → ps ≡ (at_end s t.body).promises → legal_within s t.body ≡ true → lacks_body (slice_get ps 0) ≡ true → are_complete (with_body_at ps 0) ≡ true → is_legal t ≡ true
+legal_all t s ps o e f l m n =
     let lacks : lacks_body (slice_get (at_end s t.body).promises 0) ≡ true = ap (λ qs. lacks_body (slice_get qs 0)) (sym f) ∙ m in
     let complete : are_complete (with_body_at (at_end s t.body).promises 0) ≡ true = ap (λ qs. are_complete (with_body_at qs 0)) (sym f) ∙ n in
-    is_legal_by t s e ∙ both _ _ (both _ _ l lacks) complete
+    is_legal_by t s e ∙ both _ _ o (both _ _ (both _ _ l lacks) complete)
 
 answered : (x y : Bool) (r : Refusal) → (x ≡ false → y ≡ false) → IsAnswered x r → IsAnswered y r
 answered x y Illegal f h = f h
@@ -60,13 +61,13 @@ answered x y (LeftOut place) f h = tt
 answered x y Memory f h = tt
 
 pub refused_within : (t : Tree) (s : State) (r : Refusal) → s ≡ main_state t → IsAnswered (legal_within s t.body) r → IsAnswered (is_legal t) r
-refused_within t s r e h = answered _ _ r (λ x. is_legal_by t s e ∙ neither _ _ (neither _ _ x)) h
+refused_within t s r e h = answered _ _ r (λ x. is_legal_by t s e ∙ nor _ _ (neither _ _ (neither _ _ x))) h
 
 pub refused_twice : (t : Tree) (s : State) (ps : List Promise) (r : Refusal) → s ≡ main_state t → ps ≡ (at_end s t.body).promises → IsAnswered (lacks_body (slice_get ps 0)) r → IsAnswered (is_legal t) r
-refused_twice t s ps r e f h = answered _ _ r (λ x. is_legal_by t s e ∙ neither _ _ (nor _ _ (ap (λ qs. lacks_body (slice_get qs 0)) (sym f) ∙ x))) h
+refused_twice t s ps r e f h = answered _ _ r (λ x. is_legal_by t s e ∙ nor _ _ (neither _ _ (nor _ _ (ap (λ qs. lacks_body (slice_get qs 0)) (sym f) ∙ x)))) h
 
 pub refused_incomplete : (t : Tree) (s : State) (ps : List Promise) (r : Refusal) → s ≡ main_state t → ps ≡ (at_end s t.body).promises → IsAnswered (are_complete (with_body_at ps 0)) r → IsAnswered (is_legal t) r
-refused_incomplete t s ps r e f h = answered _ _ r (λ x. is_legal_by t s e ∙ nor _ _ (ap (λ qs. are_complete (with_body_at qs 0)) (sym f) ∙ x)) h
+refused_incomplete t s ps r e f h = answered _ _ r (λ x. is_legal_by t s e ∙ nor _ _ (nor _ _ (ap (λ qs. are_complete (with_body_at qs 0)) (sym f) ∙ x))) h
 
 -- ---- the tables
 

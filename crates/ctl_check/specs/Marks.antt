@@ -1,5 +1,5 @@
 -- What names denote: declarations of the library, and types (3.2.2, 8.3, 8.4).
-use Rattle.std.specs.Prelude.{List, ◌-◌, Option, Some, None, length, take, if◌then◌else◌}
+use Rattle.std.specs.Prelude.{List, [], ◌∷◌, ◌-◌, Bool, true, ◌&&◌, not, Option, Some, None, is_some, length, take, if◌then◌else◌}
 use Rattle.ctl_tree.specs.declared.checked.Ty.{Ty}
 use Rattle.ctl_tree.specs.declared.checked.Ty.TheVariants.{Integer, Boolean, Record}
 use Rattle.ctl_tree.specs.declared.tree.Identifier.{Identifier}
@@ -11,7 +11,7 @@ use Rattle.ctl_legality.specs.declared.view.Mark.{Mark}
 use Rattle.ctl_legality.specs.declared.view.Mark.TheVariants as mark
 use Rattle.ctl_legality.specs.declared.view.Meaning.{Meaning}
 use Rattle.ctl_legality.specs.declared.view.Meaning.TheVariants.{Means}
-use Rattle.ctl_legality.specs.Library.{name_in}
+use Rattle.ctl_legality.specs.Library.{name_in, operation_named}
 use Rattle.ctl_legality.specs.View.{folded, is_some_more}
 use Rattle.ctl_legality.specs.Sites.{last_identifier}
 use Rattle.ctl_legality.specs.Rules.{meaning_of}
@@ -21,6 +21,16 @@ use Rattle.ctl_check.specs.declared.kinds.Kind.TheVariants.{«Type»}
 use Rattle.ctl_check.specs.declared.kinds.Used.{Used}
 use Rattle.ctl_check.specs.declared.kinds.Used.TheVariants as used
 use Rattle.ctl_check.specs.Environment.{Env, used, kind_at}
+
+-- ---- names of operations
+
+-- Initialize, Adjust, Finalize, Allocate and Deallocate name the operations of types alone (profile).
+unfoldable pub is_own_name : Identifier → Bool
+is_own_name id = not (is_some (operation_named (folded id)))
+
+abbrev pub are_own_names : List Identifier → Bool
+are_own_names [] = true
+are_own_names (id ∷ ids) = is_own_name id && are_own_names ids
 
 -- ---- declarations of the library
 

@@ -10,7 +10,7 @@ use Rattle.ctl_tree.specs.declared.tree.Expression.{Expression}
 use Rattle.ctl_tree.specs.declared.tree.Objects.{Objects}
 use Rattle.ctl_check.specs.Environment.{Env}
 use Rattle.ctl_check.specs.Types.{is_same}
-use Rattle.ctl_check.specs.Marks.{marked_type}
+use Rattle.ctl_check.specs.Marks.{are_own_names, marked_type}
 use Rattle.ctl_check.specs.Expressions.{type_of}
 use Rattle.ctl_check.specs.Meaning.{Means}
 use Rattle.ctl_check.specs.State.{State, hidden_each, next_slot, with_objects}
@@ -66,9 +66,9 @@ abbrev pub is_none_of : List Association → Bool
 is_none_of [] = true
 is_none_of (a ∷ more) = false
 
--- A constant has a value (3.3.1(6)); no type of this version has discriminants.
+-- A constant has a value (3.3.1(6)); no type of this version has discriminants; no object is named as an operation.
 abbrev pub has_form : Objects → Bool
-has_form o = (not o.is_constant || is_some o.value) && is_none_of o.discriminants.items
+has_form o = ((not o.is_constant || is_some o.value) && is_none_of o.discriminants.items) && are_own_names o.names.items
 
 abbrev pub legal_as : State → Objects → Option Ty → Bool
 legal_as s o None = false

@@ -22,6 +22,7 @@ use Rattle.ctl_tree.specs.declared.tree.BodyPart.{BodyPart, BodyPart', Row_of-It
 use Rattle.ctl_check.specs.Environment.{Env}
 use Rattle.ctl_check.specs.Expressions.{type_of, is_condition, is_integer}
 use Rattle.ctl_check.specs.Meaning.{Means}
+use Rattle.ctl_check.specs.Marks.{is_own_name}
 use Rattle.ctl_check.specs.Objects.{Made, made_by, after_objects, legal_objects, AreMade}
 use Rattle.ctl_check.specs.State.{State, Entered, in_block, behind_block, in_loop, behind_loop, hidden_each, parent_in, is_plain_extension, with_type, with_declaration, enter_body, behind_whole_body, lacks_body}
 use Rattle.ctl_check.specs.Statements.{is_output, OutputMeans, legal_assignment, AssignmentMeans, legal_exit, ExitMeans}
@@ -83,7 +84,7 @@ is_its_first e inner = lacks_body (slice_get inner.promises e.number)
 
 abbrev mutual
   pub legal_item : State → ItemKind → Bool
-  legal_item s (Item.«Type» id (Definition.Extension parent components)) = is_plain_extension (parent_in s id parent) components.items
+  legal_item s (Item.«Type» id (Definition.Extension parent components)) = is_own_name id && is_plain_extension (parent_in s id parent) components.items
   legal_item s (Item.Declaration overriding h) = is_some (with_declaration s h)
   legal_item s (Item.Body overriding h b) = legal_body (enter_body s h) b
   legal_item s (Item.Objects o) = legal_objects s o

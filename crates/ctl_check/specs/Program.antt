@@ -13,6 +13,7 @@ use Rattle.ctl_legality.specs.View.{View, standard, declare, folded}
 use Rattle.ctl_legality.specs.Sites.{brought, used}
 use Rattle.ctl_check.specs.declared.kinds.Kind.{Kind}
 use Rattle.ctl_check.specs.declared.kinds.Kind.TheVariants as kind
+use Rattle.ctl_check.specs.Marks.{is_own_name}
 use Rattle.ctl_check.specs.State.{State, Shape, Promise, Entered, in_block, are_complete}
 use Rattle.ctl_check.specs.Parts.{BodyText, PartMeans, own_bodies, legal_body, after_body}
 
@@ -90,7 +91,7 @@ end_state t = after_body (main_state t) (Some (main_body t)) t.body
 
 -- A program of this version that breaks no rule on types, on operations of types and on exits.
 abbrev pub is_legal : Tree → Bool
-is_legal t = legal_body (Some (main_body t)) t.body && are_complete (end_state t).promises
+is_legal t = is_own_name t.name && (legal_body (Some (main_body t)) t.body && are_complete (end_state t).promises)
 
 -- The checked program says what the text says.
 pub record IsProgram (t : Tree) (program : Checked) : Type 0 where

@@ -10,6 +10,7 @@ ghost use Rattle.ctl_check.specs.Standard.{predefined_names};
 
 use crate::checker::Checker;
 use crate::kinds::Kind;
+use crate::marks::is_own_name;
 use crate::refusal::Refusal;
 use ctl_legality::view::{Declaration, Entity, Part};
 use ctl_names::library::standard_names;
@@ -44,6 +45,9 @@ fn checked(alloc: Global, tree: &Tree) -> Result<Checked, Refusal>
     ensures program { IfOk result (λ program. IsProgram tree.now program) }
     ensures illegal { IfErr result (IsAnswered (is_legal tree.now)) }
 {
+    if !is_own_name(alloc, &tree.name)? {
+        return Err(Refusal::Illegal);
+    }
     let library = library();
     let mut checker = Checker::new(alloc, &tree.contexts)?;
     let main = checker.new_subprogram(0)?;

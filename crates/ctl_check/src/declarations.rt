@@ -1,15 +1,16 @@
 //! Declarations of types and of their operations (RM 7.6, 13.14).
 
-ghost use Rattle.std.specs.Prelude.{◌≡◌, IfOk, IfErr, OnOk, length, true, is_some, Some};
+ghost use Rattle.std.specs.Prelude.{◌≡◌, ◌&&◌, IfOk, IfErr, OnOk, length, true, is_some, Some};
 ghost use Rattle.ctl_legality.specs.Sites.{completed_body};
 ghost use Rattle.ctl_check.specs.Environment.{env_of};
+ghost use Rattle.ctl_check.specs.Marks.{is_own_name};
 ghost use Rattle.ctl_check.specs.State.{state_of, promises_of, no_operations, parent_in, is_plain_extension, is_controlled_type, mark_of, with_type, overridden_type, overridden_in, with_operation, new_operation, with_heading, with_declaration, entered, entered_for};
 ghost use Rattle.ctl_check.specs.Reading.{Grows, IsPlain};
 ghost use Rattle.ctl_check.specs.Refusals.{IsAnswered};
 
 use crate::checker::Checker;
 use crate::kinds::Kind;
-use crate::marks::kind_at;
+use crate::marks::{is_own_name, kind_at};
 use crate::refusal::Refusal;
 use ctl_legality::library::{LibraryName, Operation};
 use ctl_legality::view::{Entity, Form, Mark, Part};
@@ -105,10 +106,13 @@ impl Checker {
         parent: &Dotted,
         components: &[ComponentDeclaration],
     ) -> Result<(), Refusal>
-        ensures legal { OnOk result (is_plain_extension (parent_in (state_of self.old part) name.now parent.now) components.now ≡ true) }
+        ensures legal { OnOk result ((is_own_name name.now && is_plain_extension (parent_in (state_of self.old part) name.now parent.now) components.now) ≡ true) }
         ensures grows { OnOk result (Grows self.old self.new part (with_type (state_of self.old part) name.now (parent_in (state_of self.old part) name.now parent.now))) }
-        ensures err { IfErr result (IsAnswered (is_plain_extension (parent_in (state_of self.old part) name.now parent.now) components.now)) }
+        ensures err { IfErr result (IsAnswered (is_own_name name.now && is_plain_extension (parent_in (state_of self.old part) name.now parent.now) components.now)) }
     {
+        if !is_own_name(self.alloc, name)? {
+            return Err(Refusal::Illegal);
+        }
         let library = self.parent(part, name, parent)?;
         if !components.is_empty() || !is_controlled_type(library) {
             return Err(Refusal::Illegal);

@@ -1,6 +1,6 @@
 //! Expressions and their types (RM 4.4, 4.5).
 
-ghost use Rattle.std.specs.Prelude.{◌≡◌, true, [], ◌∷◌, IfOk, IfErr, OnOk, Some};
+ghost use Rattle.std.specs.Prelude.{◌≡◌, true, false, [], ◌∷◌, IfOk, IfErr, OnOk, OnErr, Some, None};
 ghost use Rattle.std.specs.Str.{str_eq_ignore_ascii_case};
 ghost use Rattle.ctl_tree.specs.declared.checked.Expr.{Constant};
 ghost use Rattle.ctl_tree.specs.declared.checked.Head.{Variable};
@@ -77,6 +77,7 @@ fn operand(op: BinaryOp, left: Ty, right: Typed) -> Result<Operand, Refusal>
     ensures ty { IfOk result (λ o. two_operands op (Some left) (Some right.ty) ≡ Some o.ty) }
     ensures right { IfOk result (λ o. o.right ≡ right.expr) }
     ensures err { IfErr result (IsUntyped (two_operands op (Some left) (Some right.ty))) }
+    ensures none { OnErr result (two_operands op (Some left) (Some right.ty) ≡ None) }
 {
     let Typed { expr, ty } = right;
     match binary_result(op, left, ty) {
@@ -399,6 +400,7 @@ fn number_of(number: u64) -> Result<Typed, Refusal>
     ensures expr { IfOk result (λ t. t.expr ≡ Constant number) }
     ensures ty { IfOk result (λ t. literal_type number ≡ Some t.ty) }
     ensures err { IfErr result (IsUntyped (literal_type number)) }
+    ensures none { OnErr result (literal_type number ≡ None) }
 {
     match literal(number) {
         Some(cell) => Ok(constant(cell, Ty::Integer)),
@@ -410,6 +412,7 @@ fn condition_of(value: Typed) -> Result<Expr, Refusal>
     ensures expr { IfOk result (λ e. e ≡ value.expr) }
     ensures ok { OnOk result (value.ty ≡ Boolean) }
     ensures err { IfErr result (IsAnswered (is_condition (Some value.ty))) }
+    ensures none { OnErr result (is_condition (Some value.ty) ≡ false) }
 {
     let Typed { expr, ty } = value;
     if is_boolean(ty) {

@@ -3,13 +3,13 @@
 ghost use Rattle.std.specs.Prelude.{◌≡◌, IfOk};
 ghost use Rattle.ctl_legality.specs.Sites.{last_identifier};
 ghost use Rattle.ctl_check.specs.Environment.{env_of, used, used_by, kind_at};
-ghost use Rattle.ctl_check.specs.Marks.{library_name, library_of, named_in, marked_type, type_by};
+ghost use Rattle.ctl_check.specs.Marks.{is_own_name, are_own_names, library_name, library_of, named_in, marked_type, type_by};
 
 use crate::checker::Checker;
 use crate::kinds::{Kind, Used};
 use ctl_legality::library::LibraryName;
 use ctl_legality::view::{Denoted, Mark, Meaning, Part};
-use ctl_names::library::name_in;
+use ctl_names::library::{name_in, operation_named};
 use ctl_names::walk::folded;
 use ctl_tree::checked::Ty;
 use ctl_tree::tree::{Dotted, Identifier};
@@ -36,6 +36,27 @@ fn used_by(kinds: &[Kind], meaning: Meaning) -> Used
         },
         Meaning::UnknownAt(_) | Meaning::NotWithed => Used::Nothing,
     }
+}
+
+/// Whether an identifier is other than the five names of operations, which name nothing else (profile).
+#[tactic(auto, unfolding(crate::specs::Marks::is_own_name))]
+pub fn is_own_name(alloc: Global, name: &Identifier) -> Result<bool, AllocError>
+    ensures { IfOk result (λ own. own ≡ is_own_name name.now) }
+{
+    let key = folded(alloc, name)?;
+    Ok(operation_named(key.as_slice()).is_none())
+}
+
+/// Whether each of these is.
+pub fn are_own_names(alloc: Global, names: &[Identifier]) -> Result<bool, AllocError>
+    ensures { IfOk result (λ own. own ≡ are_own_names names.now) }
+{
+    for name in names {
+        if !is_own_name(alloc, name)? {
+            return Ok(false);
+        }
+    }
+    Ok(true)
 }
 
 /// The declaration of the library that an identifier is used for.

@@ -11,6 +11,7 @@ ghost use Rattle.ctl_check.specs.Refusals.{IsAnswered};
 use crate::checker::Checker;
 use crate::expressions::Typed;
 use crate::kinds::{Kind, Object};
+use crate::marks::are_own_names;
 use crate::refusal::Refusal;
 use crate::types::is_same;
 use ctl_legality::view::{Entity, Part};
@@ -54,6 +55,9 @@ impl Checker {
         };
         let lacks_value = objects.is_constant && objects.value.is_none();
         if lacks_value || !objects.discriminants.is_empty() {
+            return Err(Refusal::Illegal);
+        }
+        if !are_own_names(self.alloc, &objects.names)? {
             return Err(Refusal::Illegal);
         }
         match ty {

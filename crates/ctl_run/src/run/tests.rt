@@ -98,6 +98,15 @@ fn faults_of_texts(rt: HostRuntime) -> Result<(), Fail> {
             b"procedure Main is N : Integer; begin N := True; end Main;",
             "1:1: 30 TYPE",
         ),
+        // the five names of operations name nothing else
+        (
+            b"procedure Finalize is begin null; end Finalize;",
+            "1:1: 30 TYPE",
+        ),
+        (
+            b"procedure Main is A, Adjust : Integer; begin null; end Main;",
+            "1:1: 30 TYPE",
+        ),
     ] {
         match check_source(alloc, source) {
             Ok(_) => return Err("accepted".into()),

@@ -1,5 +1,6 @@
-use Rattle.std.proofs.Common.{rules, ◌≡◌, List, [], length, sym, ap, subst, ◌∙◌, Some}
+use Rattle.std.proofs.Common.{rules, ◌≡◌, true, List, [], length, sym, ap, subst, ◌∙◌, Some}
 use Rattle.std.specs.Prelude.{slice_get}
+use Rattle.ctl_check.specs.Marks.{is_own_name}
 use Rattle.ctl_check.specs.Refusals.{IsAnswered}
 use Rattle.ctl_check.specs.State.{State, Shape, Promise, state_of, shapes_of, promises_of, with_body_at, are_complete, in_block}
 use Rattle.ctl_check.specs.Parts.{own_bodies, text_bodies}
@@ -56,7 +57,8 @@ returns-clause-legal c =
     let found : ps ≡ (at_end s t.body).promises = ap (λ (u : State). u.promises) behind in
     let zero : c.in_ok-main.main ≡ 0 = c.in_ok-main.ensures.number ∙ ap length c.in_ok-checker.ensures.subprograms in
     let done : promises_of c.complete.new.self.subprograms.items ≡ with_body_at ps 0 = rw zero at (ap (λ (u : State). u.promises) (c.in_ok-complete.ensures.grows p).state) in
-    legal_all t s ps start found c.in_ok-body.ensures.legal (rw zero at c.in_ok-complete.ensures.first) (ap are_complete (sym done) ∙ c.in_ok-records.ensures.complete)
+    let own : is_own_name t.name ≡ true = search rules in
+    legal_all t s ps own start found c.in_ok-body.ensures.legal (rw zero at c.in_ok-complete.ensures.first) (ap are_complete (sym done) ∙ c.in_ok-records.ensures.complete)
 
 pub returns-clause-program : goal.returns-clause-program
 returns-clause-program c =
