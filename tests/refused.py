@@ -99,6 +99,17 @@ TEXTS = [
     # and before a broken rule on types, which has no place yet
     (ITEM + "N : Integer; begin N := True; end Main;", 30, 1, 1),
     (ITEM + "N : Integer; begin N := True; M := 1; end Main;", 20, 1, 49),
+    # an assignment of a record and its initial value are not run, and only types tell them; a broken rule on types comes first
+    (CONTROLLED + "type T is new Controlled with null record; X, Y : T; begin X := Y; end Main;", 12, 1, 123),
+    (CONTROLLED + "type T is new Controlled with null record; X : T; Y : T := X; begin X := Y; end Main;", 12, 1, 123),
+    (CONTROLLED + "type T is new Controlled with null record; X, Y : T; begin X := Y; X := 1; end Main;", 30, 1, 1),
+    # the null address is a value like others
+    (
+        "with System; use System; procedure Main is begin if Null_Address = Null_Address then null; end if; end Main;",
+        ACCEPTED,
+        1,
+        1,
+    ),
     # the five names of operations name no type, object or main procedure; formals and loop parameters may have them
     ("procedure Finalize is begin null; end Finalize;", 30, 1, 1),
     (ITEM + "A, Adjust : Integer; begin null; end Main;", 30, 1, 1),

@@ -5,7 +5,7 @@ use Rattle.ctl_tree.specs.declared.checked.Subprogram.{Subprogram}
 use Rattle.ctl_tree.specs.declared.checked.Master.{Master}
 use Rattle.ctl_check.specs.declared.checker.Pending.{Pending}
 use Rattle.ctl_check.specs.declared.refusal.Refusal.{Refusal}
-use Rattle.ctl_check.specs.declared.refusal.Refusal.TheVariants.{Illegal, LeftOut, Memory}
+use Rattle.ctl_check.specs.declared.refusal.Refusal.TheVariants.{Illegal, Memory}
 use Rattle.ctl_check.specs.Refusals.{IsAnswered}
 use Rattle.ctl_check.specs.State.{promises_of, are_complete}
 use Rattle.ctl_check.specs.Parts.{BodyText}
@@ -51,7 +51,6 @@ no_body (Some m) e = cc
 
 pub refused_with : (ps : List Pending) (n : ℕ) (p : Pending) (e : Refusal) → slice_get ps n ≡ Some p → IsAnswered (is_some p.body) e → IsAnswered (are_complete (promises_of ps)) e
 refused_with ps n p Illegal f h = incomplete ps n p f (no_body p.body h)
-refused_with ps n p (LeftOut place) f h = tt
 refused_with ps n p Memory f h = tt
 
 pub map_same : {A : Type 0} (xs : List A) → map (λ y. y) xs ≡ xs

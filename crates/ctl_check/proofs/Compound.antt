@@ -1,5 +1,5 @@
 -- Statements that have statements in them.
-use Rattle.std.proofs.Common.{◌≡◌, Bool, true, false, List, IfOk, Result, Ok, Err, sym, ap, subst, ◌∙◌}
+use Rattle.std.proofs.Common.{◌≡◌, Bool, true, false, List, IfOk, OnOk, Result, Ok, Err, sym, ap, subst, ◌∙◌}
 use Rattle.ctl_tree.specs.declared.checked.Stmt.{Stmt}
 use Rattle.ctl_tree.specs.declared.checked.Stmt.TheVariants as whole
 use Rattle.ctl_tree.specs.declared.tree.Branch.{Branch}
@@ -18,6 +18,10 @@ use Rattle.ctl_check.proofs.StatementRows.{after_if, legal_if, if_bodies, if_mea
 pub if_ok_as : {T : Type 0} {E : Type 0} (P Q : T → Type 0) (r : Result T E) → ((x : T) → P x → Q x) → IfOk r P → IfOk r Q
 if_ok_as P Q (Ok x) f h = f x h
 if_ok_as P Q (Err e) f h = h
+
+pub on_ok_as : {T : Type 0} {E : Type 0} (P Q : Type 0) (r : Result T E) → (P → Q) → OnOk r P → OnOk r Q
+on_ok_as P Q (Ok x) f h = f h
+on_ok_as P Q (Err e) f h = h
 
 pub record StatementRead (a c : Checker) (p : Part) (l : Bool) (d : StatementKind) : Type 0 where
   pub legal : legal_statement (state_of a p) l d ≡ true

@@ -29,7 +29,7 @@ use Rattle.ctl_check.specs.declared.kinds.Kind.{Kind}
 use Rattle.ctl_check.specs.declared.kinds.Kind.TheVariants as kind
 use Rattle.ctl_check.specs.declared.declarations.Overridden.{Overridden}
 use Rattle.ctl_check.specs.Environment.{Env, declared, kind_at}
-use Rattle.ctl_check.specs.Objects.{with_declared, objects_type}
+use Rattle.ctl_check.specs.Objects.{with_declared, with_value, objects_type}
 use Rattle.ctl_check.specs.State.{State, Entered, next_object, with_object, with_objects, operation_for, declared_operation, new_operation, with_subprogram, operations_at, with_heading, overridden_in, with_formals, entered_new, entered_declared, entered_for, entered_by, enter_body}
 use Rattle.ctl_check.specs.Parts.{after_item, after_item_list, after_body, after_handled, after_statement, after_statements, after_statement_list, after_branch, after_branches, after_branch_list, after_part}
 
@@ -72,7 +72,7 @@ objects_stay base s (id ∷ ids) t is_variable room =
 
 declared_objects_stay : (base : ℕ) (s : State) (o : Objects) (t : Option Ty) → base ≤ length s.env.view.names → Stays base s.env (with_declared s o t).env
 declared_objects_stay base s o None room = same_stays base s.env room
-declared_objects_stay base s o (Some t) room = objects_stay base s o.names.items t _ room
+declared_objects_stay base s o (Some t) room = objects_stay base (with_value s t o.value) o.names.items t _ room
 
 pub formals_stay : (base : ℕ) (s : State) (fs : List Formal) (r : ℕ) → base ≤ length s.env.view.names → Stays base s.env (with_formals s fs r).env
 formals_stay base s [] r room = same_stays base s.env room

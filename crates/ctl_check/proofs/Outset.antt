@@ -1,5 +1,5 @@
 -- What is in view before the main procedure.
-use Rattle.std.proofs.Common.{◌≡◌, ℕ, true, false, List, [], ◌∷◌, ◌++◌, length, refl, sym, ap, suc, ◌∙◌}
+use Rattle.std.proofs.Common.{◌≡◌, ℕ, true, false, List, [], ◌∷◌, ◌++◌, length, refl, sym, ap, suc, ◌∙◌, None}
 use Rattle.ctl_tree.specs.declared.tree.Context.{Context}
 use Rattle.ctl_tree.specs.declared.tree.Tree.{Tree}
 use Rattle.ctl_legality.specs.declared.library.Unit.{Unit}
@@ -36,16 +36,16 @@ pub others_length : {A : Type 0} (xs : List A) → length (others xs) ≡ length
 others_length [] = refl
 others_length (y ∷ xs) = ap suc (others_length xs)
 
-pub state_is : (v w : View) (ks ls : List Kind) (rs : List RecordType) (ps : List Pending) → v ≡ w → ks ≡ ls → rs ≡ [] → ps ≡ [] → ◌≡◌ {A = State} (record { env = record { view = v; kinds = ks }; shapes = shapes_of rs; promises = promises_of ps; slots = 0 }) (record { env = record { view = w; kinds = ls }; shapes = []; promises = []; slots = 0 })
+pub state_is : (v w : View) (ks ls : List Kind) (rs : List RecordType) (ps : List Pending) → v ≡ w → ks ≡ ls → rs ≡ [] → ps ≡ [] → ◌≡◌ {A = State} (record { env = record { view = v; kinds = ks }; shapes = shapes_of rs; promises = promises_of ps; slots = 0; left_out = None }) (record { env = record { view = w; kinds = ls }; shapes = []; promises = []; slots = 0; left_out = None })
 state_is v w ks ls rs ps e f g h = rw (e, f, g, h)
 
 -- ---- the main procedure
 
 abbrev named_state : Tree → List ℕ → State
-named_state t n = record { env = declared (context_state t.contexts.items).env n t.name.span (entity.Subprogram true) kind.Other; shapes = []; promises = (record { level = 0; has_body = false }) ∷ []; slots = 0 }
+named_state t n = record { env = declared (context_state t.contexts.items).env n t.name.span (entity.Subprogram true) kind.Other; shapes = []; promises = (record { level = 0; has_body = false }) ∷ []; slots = 0; left_out = None }
 
 abbrev state_with : Tree → List Kind → State
-state_with t ks = record { env = record { view = main_view t; kinds = ks }; shapes = []; promises = (record { level = 0; has_body = false }) ∷ []; slots = 0 }
+state_with t ks = record { env = record { view = main_view t; kinds = ks }; shapes = []; promises = (record { level = 0; has_body = false }) ∷ []; slots = 0; left_out = None }
 
 abbrev named : State → Tree → List ℕ → State
 named s t n = record s { env = declared s.env n t.name.span (entity.Subprogram true) kind.Other }

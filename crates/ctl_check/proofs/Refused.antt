@@ -10,7 +10,7 @@ use Rattle.ctl_tree.specs.declared.tree.Sign.{Sign}
 use Rattle.ctl_tree.specs.declared.tree.RelationalOperator.{RelationalOperator}
 use Rattle.ctl_tree.specs.declared.tree.RelationalOperator.TheVariants as relational
 use Rattle.ctl_check.specs.declared.refusal.Refusal.{Refusal}
-use Rattle.ctl_check.specs.declared.refusal.Refusal.TheVariants.{Illegal, LeftOut, Memory}
+use Rattle.ctl_check.specs.declared.refusal.Refusal.TheVariants.{Illegal, Memory}
 use Rattle.ctl_check.specs.Environment.{Env}
 use Rattle.std.specs.Prelude.{◌&&◌, if◌then◌else◌}
 use Rattle.ctl_check.specs.Types.{is_same}
@@ -20,17 +20,14 @@ use Rattle.ctl_check.specs.Refusals.{IsUntyped, IsAnswered}
 
 pub untyped_by : (t u : Option Ty) (e : Refusal) → (t ≡ None → u ≡ None) → IsUntyped t e → IsUntyped u e
 untyped_by t u Illegal f h = f h
-untyped_by t u (LeftOut p) f h = tt
 untyped_by t u Memory f h = tt
 
 pub unmet_by : (b c : Bool) (e : Refusal) → (b ≡ false → c ≡ false) → IsAnswered b e → IsAnswered c e
 unmet_by b c Illegal f h = f h
-unmet_by b c (LeftOut p) f h = tt
 unmet_by b c Memory f h = tt
 
 pub untyped_unmet : (b : Bool) (t : Option Ty) (e : Refusal) → (b ≡ false → t ≡ None) → IsAnswered b e → IsUntyped t e
 untyped_unmet b t Illegal f h = f h
-untyped_unmet b t (LeftOut p) f h = tt
 untyped_unmet b t Memory f h = tt
 
 none_right : (op : BinaryOp) (t : Option Ty) → two_operands op t None ≡ None

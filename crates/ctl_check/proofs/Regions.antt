@@ -1,7 +1,8 @@
 -- What is in view before a region is in view behind it.
-use Rattle.std.proofs.Common.{◌≡◌, ℕ, ◌≤◌, Bool, true, false, List, [], ◌++◌, length, take, sym, ap, subst, ◌∙◌, arith}
+use Rattle.std.proofs.Common.{◌≡◌, ℕ, ◌≤◌, Bool, true, false, Option, List, [], ◌++◌, length, take, sym, ap, subst, ◌∙◌, arith}
 use Rattle.std.proofs.Math.Seq.{take-length}
 use Rattle.ctl_tree.specs.declared.checked.Ty.TheVariants.{Integer}
+use Rattle.ctl_tree.specs.declared.span.Span.{Span}
 use Rattle.ctl_tree.specs.declared.tree.Identifier.{Identifier}
 use Rattle.ctl_tree.specs.declared.tree.Formal.{Formal}
 use Rattle.ctl_tree.specs.declared.tree.Item.{Item}
@@ -42,13 +43,14 @@ env_is ns ms us vs ks ls p e f g =
     let three : ◌≡◌ {A = Env} (record { view = record { names = ms; part = p; units = vs }; kinds = ks }) (record { view = record { names = ms; part = p; units = vs }; kinds = ls }) = ap (λ (xs : List Kind). record { view = record { names = ms; part = p; units = vs }; kinds = xs }) g in
     one ∙ two ∙ three
 
-state_is : (v w : Env) (xs ys : List Shape) (ps qs : List Promise) (n m : ℕ) → v ≡ w → xs ≡ ys → ps ≡ qs → n ≡ m → ◌≡◌ {A = State} (record { env = v; shapes = xs; promises = ps; slots = n }) (record { env = w; shapes = ys; promises = qs; slots = m })
-state_is v w xs ys ps qs n m e f g h =
-    let one : ◌≡◌ {A = State} (record { env = v; shapes = xs; promises = ps; slots = n }) (record { env = w; shapes = xs; promises = ps; slots = n }) = ap (λ (u : Env). record { env = u; shapes = xs; promises = ps; slots = n }) e in
-    let two : ◌≡◌ {A = State} (record { env = w; shapes = xs; promises = ps; slots = n }) (record { env = w; shapes = ys; promises = ps; slots = n }) = ap (λ (u : List Shape). record { env = w; shapes = u; promises = ps; slots = n }) f in
-    let three : ◌≡◌ {A = State} (record { env = w; shapes = ys; promises = ps; slots = n }) (record { env = w; shapes = ys; promises = qs; slots = n }) = ap (λ (u : List Promise). record { env = w; shapes = ys; promises = u; slots = n }) g in
-    let four : ◌≡◌ {A = State} (record { env = w; shapes = ys; promises = qs; slots = n }) (record { env = w; shapes = ys; promises = qs; slots = m }) = ap (λ (u : ℕ). record { env = w; shapes = ys; promises = qs; slots = u }) h in
-    one ∙ two ∙ three ∙ four
+state_is : (v w : Env) (xs ys : List Shape) (ps qs : List Promise) (n m : ℕ) (o r : Option Span) → v ≡ w → xs ≡ ys → ps ≡ qs → n ≡ m → o ≡ r → ◌≡◌ {A = State} (record { env = v; shapes = xs; promises = ps; slots = n; left_out = o }) (record { env = w; shapes = ys; promises = qs; slots = m; left_out = r })
+state_is v w xs ys ps qs n m o r e f g h i =
+    let one : ◌≡◌ {A = State} (record { env = v; shapes = xs; promises = ps; slots = n; left_out = o }) (record { env = w; shapes = xs; promises = ps; slots = n; left_out = o }) = ap (λ (u : Env). record { env = u; shapes = xs; promises = ps; slots = n; left_out = o }) e in
+    let two : ◌≡◌ {A = State} (record { env = w; shapes = xs; promises = ps; slots = n; left_out = o }) (record { env = w; shapes = ys; promises = ps; slots = n; left_out = o }) = ap (λ (u : List Shape). record { env = w; shapes = u; promises = ps; slots = n; left_out = o }) f in
+    let three : ◌≡◌ {A = State} (record { env = w; shapes = ys; promises = ps; slots = n; left_out = o }) (record { env = w; shapes = ys; promises = qs; slots = n; left_out = o }) = ap (λ (u : List Promise). record { env = w; shapes = ys; promises = u; slots = n; left_out = o }) g in
+    let four : ◌≡◌ {A = State} (record { env = w; shapes = ys; promises = qs; slots = n; left_out = o }) (record { env = w; shapes = ys; promises = qs; slots = m; left_out = o }) = ap (λ (u : ℕ). record { env = w; shapes = ys; promises = qs; slots = u; left_out = o }) h in
+    let five : ◌≡◌ {A = State} (record { env = w; shapes = ys; promises = qs; slots = m; left_out = o }) (record { env = w; shapes = ys; promises = qs; slots = m; left_out = r }) = ap (λ (u : Option Span). record { env = w; shapes = ys; promises = qs; slots = m; left_out = u }) i in
+    one ∙ two ∙ three ∙ four ∙ five
 
 -- closing gives back what was in view
 pub closed_env : (a c : Checker) (part q : Part) (count : Count) (t : State) → count.names ≡ length a.walk.scope → count.kinds ≡ length a.kinds.items → Leaves count.names (env_of a part) t.env → state_of c q ≡ t → closed (env_of c part) count ≡ env_of a part
@@ -61,7 +63,7 @@ closed_env a c part q count t full known k is =
 -- a block, or a body, is left
 pub behind_part : (a c d : Checker) (part q : Part) (count : Count) (slots : ℕ) (t : State) (bodies : List BodyText) → count.names ≡ length a.walk.scope → count.kinds ≡ length a.kinds.items → slots ≡ a.slots → Leaves count.names (env_of a part) t.env → Reads a c q t bodies → Grows c d part (record (state_of c part) { env = closed (env_of c part) count; slots = slots }) → Reads a d part (behind_block (state_of a part) t) bodies
 behind_part a c d part q count slots t bodies full known saved k r g = record {
-  state = g.state ∙ state_is _ _ _ _ _ _ _ _ (closed_env a c part q count t full known k r.state) (ap (λ (s : State). s.shapes) r.state) (ap (λ (s : State). s.promises) r.state) saved;
+  state = g.state ∙ state_is _ _ _ _ _ _ _ _ _ _ (closed_env a c part q count t full known k r.state) (ap (λ (s : State). s.shapes) r.state) (ap (λ (s : State). s.promises) r.state) saved (ap (λ (s : State). s.left_out) r.state);
   plain = λ h. g.plain (r.plain h);
   kept = λ done h. g.kept (done ++ bodies) (r.kept done h);
 }
@@ -69,7 +71,7 @@ behind_part a c d part q count slots t bodies full known saved k r g = record {
 -- a loop with a parameter is left
 pub behind_counted : (a c d : Checker) (part q : Part) (count : Count) (t : State) (bodies : List BodyText) → count.names ≡ length a.walk.scope → count.kinds ≡ length a.kinds.items → Leaves count.names (env_of a part) t.env → Reads a c q t bodies → Grows c d part (record (state_of c part) { env = closed (env_of c part) count }) → Reads a d part (behind_loop (state_of a part) t) bodies
 behind_counted a c d part q count t bodies full known k r g = record {
-  state = g.state ∙ state_is _ _ _ _ _ _ _ _ (closed_env a c part q count t full known k r.state) (ap (λ (s : State). s.shapes) r.state) (ap (λ (s : State). s.promises) r.state) (ap (λ (s : State). s.slots) r.state);
+  state = g.state ∙ state_is _ _ _ _ _ _ _ _ _ _ (closed_env a c part q count t full known k r.state) (ap (λ (s : State). s.shapes) r.state) (ap (λ (s : State). s.promises) r.state) (ap (λ (s : State). s.slots) r.state) (ap (λ (s : State). s.left_out) r.state);
   plain = λ h. g.plain (r.plain h);
   kept = λ done h. g.kept (done ++ bodies) (r.kept done h);
 }

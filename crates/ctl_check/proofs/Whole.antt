@@ -6,12 +6,12 @@ use Rattle.ctl_tree.specs.declared.tree.BodyPart.{BodyPart}
 use Rattle.ctl_tree.specs.declared.tree.Tree.{Tree}
 use Rattle.ctl_check.specs.declared.checker.Pending.{Pending}
 use Rattle.ctl_check.specs.declared.refusal.Refusal.{Refusal}
-use Rattle.ctl_check.specs.declared.refusal.Refusal.TheVariants.{Illegal, LeftOut, Memory}
+use Rattle.ctl_check.specs.declared.refusal.Refusal.TheVariants.{Illegal, Memory}
 use Rattle.ctl_check.specs.Marks.{is_own_name}
 use Rattle.ctl_check.specs.Refusals.{IsAnswered}
 use Rattle.ctl_check.specs.State.{State, Promise, Entered, in_block, shapes_of, lacks_body, are_complete, with_body_at, behind_whole_body}
 use Rattle.ctl_check.specs.Parts.{legal_body, legal_text, after_body, after_text, own_bodies, text_bodies}
-use Rattle.ctl_check.specs.Program.{main_state, main_body, is_legal, end_state, AreShapes}
+use Rattle.ctl_check.specs.Program.{main_state, main_body, is_legal, end_state, left_by_types, AreShapes}
 use Rattle.ctl_check.specs.Reading.{AreRead, IsReadAt, ArePlain}
 use Rattle.ctl_check.proofs.Following.{read_more}
 use Rattle.ctl_check.proofs.WholeBodies.{after_entered, legal_entered, entered_bodies}
@@ -57,7 +57,6 @@ legal_all t s ps o e f l m n =
 
 answered : (x y : Bool) (r : Refusal) → (x ≡ false → y ≡ false) → IsAnswered x r → IsAnswered y r
 answered x y Illegal f h = f h
-answered x y (LeftOut place) f h = tt
 answered x y Memory f h = tt
 
 pub refused_within : (t : Tree) (s : State) (r : Refusal) → s ≡ main_state t → IsAnswered (legal_within s t.body) r → IsAnswered (is_legal t) r
@@ -81,6 +80,9 @@ end_shapes t s e = ap (λ (u : State). u.shapes) (end_is t s e)
 
 pub end_promises : (t : Tree) (s : State) → s ≡ main_state t → (end_state t).promises ≡ with_body_at (at_end s t.body).promises 0
 end_promises t s e = ap (λ (u : State). u.promises) (end_is t s e)
+
+pub end_left_out : (t : Tree) (s : State) → s ≡ main_state t → left_by_types t ≡ (at_end s t.body).left_out
+end_left_out t s e = ap (λ (u : State). u.left_out) (end_is t s e)
 
 pub all_shapes : (rs : List RecordType) → ArePlain rs → AreShapes (shapes_of rs) rs
 all_shapes [] h = tt

@@ -26,11 +26,12 @@ use Rattle.ctl_check.specs.Environment.{Env, used}
 use Rattle.ctl_check.specs.Operators.{adding_operator, multiplying_operator, relational_operator, logical_operator, sign_operator, word_operator, given_type}
 use Rattle.ctl_check.specs.Expressions.{type_of, signed_type}
 
--- the use of an object, or True or False
+-- the use of an object, or True, False or Null_Address (13.7)
 abbrev pub IsUse : Used → Expr → Type 0
 IsUse (Declared (Object o)) (Read' head steps ty) = (head ≡ Variable o.var) × (steps.items ≡ []) × (ty ≡ o.ty)
 IsUse (Library library.True) e = e ≡ Constant 1
 IsUse (Library library.False) e = e ≡ Constant 0
+IsUse (Library library.NullAddress) e = e ≡ Constant 0
 IsUse _ e = ⊥
 
 -- a bound of Integer, as a cell: the first counts down from 2 ** 64 (3.5.4)

@@ -4,16 +4,17 @@ use Rattle.ctl_tree.specs.declared.checked.Ty.{Ty}
 use Rattle.ctl_tree.specs.declared.checked.Expr.{Expr}
 use Rattle.ctl_tree.specs.declared.checked.Item.{Item}
 use Rattle.ctl_tree.specs.declared.checked.Item.TheVariants.{Object}
+use Rattle.ctl_tree.specs.declared.span.Span.{Span}
 use Rattle.ctl_tree.specs.declared.tree.Association.{Association}
 use Rattle.ctl_tree.specs.declared.tree.Identifier.{Identifier}
 use Rattle.ctl_tree.specs.declared.tree.Expression.{Expression}
 use Rattle.ctl_tree.specs.declared.tree.Objects.{Objects}
 use Rattle.ctl_check.specs.Environment.{Env}
-use Rattle.ctl_check.specs.Types.{is_same}
+use Rattle.ctl_check.specs.Types.{is_same, is_record}
 use Rattle.ctl_check.specs.Marks.{are_own_names, marked_type}
 use Rattle.ctl_check.specs.Expressions.{type_of}
 use Rattle.ctl_check.specs.Meaning.{Means}
-use Rattle.ctl_check.specs.State.{State, hidden_each, next_slot, with_objects}
+use Rattle.ctl_check.specs.State.{State, hidden_each, next_slot, noted, with_objects}
 
 -- An object that an item makes: its slot, its type, and its value in what is in view there.
 pub record Made : Type 0 where
@@ -39,9 +40,17 @@ objects_type s o = marked_type (hidden_each o.names.items s.env) o.mark
 abbrev pub made_by : State → Objects → List Made
 made_by s o = made_of s o (objects_type s o)
 
+-- a record's initial value is left out
+abbrev pub noted_value : Ty → Option Expression → Option Span → Option Span
+noted_value t None first = first
+noted_value t (Some e) first = noted (is_record t) first e.span
+
+abbrev pub with_value : State → Ty → Option Expression → State
+with_value s t value = record s { left_out = noted_value t value s.left_out }
+
 abbrev pub with_declared : State → Objects → Option Ty → State
 with_declared s o None = s
-with_declared s o (Some t) = with_objects s o.names.items t (not o.is_constant)
+with_declared s o (Some t) = with_objects (with_value s t o.value) o.names.items t (not o.is_constant)
 
 -- behind the declaration
 abbrev pub after_objects : State → Objects → State

@@ -25,7 +25,7 @@ use Rattle.ctl_check.specs.Meaning.{Means}
 use Rattle.ctl_check.specs.Marks.{is_own_name}
 use Rattle.ctl_check.specs.Objects.{Made, made_by, after_objects, legal_objects, AreMade}
 use Rattle.ctl_check.specs.State.{State, Entered, in_block, behind_block, in_loop, behind_loop, hidden_each, parent_in, is_plain_extension, with_type, with_declaration, enter_body, behind_whole_body, lacks_body}
-use Rattle.ctl_check.specs.Statements.{is_output, OutputMeans, legal_assignment, AssignmentMeans, legal_exit, ExitMeans}
+use Rattle.ctl_check.specs.Statements.{after_assignment, is_output, OutputMeans, legal_assignment, AssignmentMeans, legal_exit, ExitMeans}
 use Rattle.std.specs.Prelude.{slice_get, unwrap_or}
 
 -- ---- what is behind items and statements
@@ -50,6 +50,7 @@ abbrev mutual
   after_handled s (Handled' n statements m handlers) = after_statements s statements
 
   pub after_statement : State → Doing → State
+  after_statement s (Assignment x e) = after_assignment s x
   after_statement s (If' n branches m others) = after_statements (after_branches s branches) others
   after_statement s (Loop' (Scheme.For id reverse low high) n statements) = behind_loop s (after_statements (in_loop s id) statements)
   after_statement s (Loop' scheme n statements) = after_statements s statements

@@ -1,5 +1,6 @@
 -- The checked program of a text (10.1.1, 3.11, 7.6).
 use Rattle.std.specs.Prelude.{◌≡◌, Bool, true, false, ◌&&◌, List, [], ◌∷◌, Option, Some, None, slice_get}
+use Rattle.ctl_tree.specs.declared.span.Span.{Span}
 use Rattle.ctl_tree.specs.declared.checked.Checked.{Checked}
 use Rattle.ctl_tree.specs.declared.checked.Root.TheVariants.{Controlled}
 use Rattle.ctl_tree.specs.declared.checked.RecordType.{RecordType}
@@ -69,6 +70,7 @@ context_state cs = record {
   shapes = [];
   promises = [];
   slots = 0;
+  left_out = None;
 }
 
 -- where the main procedure's body begins: its own subprogram is the first
@@ -81,6 +83,7 @@ main_state t = record {
   shapes = [];
   promises = (record { level = 0; has_body = false }) ∷ [];
   slots = 0;
+  left_out = None;
 }
 
 abbrev pub main_body : Tree → Entered
@@ -92,6 +95,10 @@ end_state t = after_body (main_state t) (Some (main_body t)) t.body
 -- A program of this version that breaks no rule on types, on operations of types and on exits.
 abbrev pub is_legal : Tree → Bool
 is_legal t = is_own_name t.name && (legal_body (Some (main_body t)) t.body && are_complete (end_state t).promises)
+
+-- The first construct that is not run and that only types tell: an assignment of a record, or its initial value.
+abbrev pub left_by_types : Tree → Option Span
+left_by_types t = (end_state t).left_out
 
 -- The checked program says what the text says.
 pub record IsProgram (t : Tree) (program : Checked) : Type 0 where

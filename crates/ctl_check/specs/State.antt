@@ -1,9 +1,10 @@
 -- How far a program was read: what is in view, and how far the tables of the checked program are filled.
-use Rattle.std.specs.Prelude.{ℕ, zero, suc, ◌+◌, Bool, true, false, ◌&&◌, not, List, [], ◌∷◌, ◌++◌, length, min, Option, Some, None, is_some, if◌then◌else◌, slice_get}
+use Rattle.std.specs.Prelude.{ℕ, zero, suc, ◌+◌, Bool, true, false, ◌&&◌, not, List, [], ◌∷◌, ◌++◌, length, min, Option, Some, None, is_some, unwrap_or, if◌then◌else◌, slice_get}
 use Rattle.ctl_tree.specs.declared.checked.Ty.{Ty}
 use Rattle.ctl_tree.specs.declared.checked.Ty.TheVariants.{Integer, Record}
 use Rattle.ctl_tree.specs.declared.checked.Operations.{Operations}
 use Rattle.ctl_tree.specs.declared.checked.RecordType.{RecordType}
+use Rattle.ctl_tree.specs.declared.span.Span.{Span}
 use Rattle.ctl_tree.specs.declared.tree.Identifier.{Identifier}
 use Rattle.ctl_tree.specs.declared.tree.Dotted.{Dotted}
 use Rattle.ctl_tree.specs.declared.tree.ComponentDeclaration.{ComponentDeclaration}
@@ -42,11 +43,13 @@ pub record Promise : Type 0 where
   pub has_body : Bool
 
 -- The numbers of types and of subprograms go by the order of their declarations, and so do the slots of a master.
+-- `left_out` is the first construct that this version does not run and that only types tell.
 pub record State : Type 0 where
   pub env : Env
   pub shapes : List Shape
   pub promises : List Promise
   pub slots : ℕ
+  pub left_out : Option Span
 
 -- ---- what a checker has filled
 
@@ -59,7 +62,14 @@ promises_of [] = []
 promises_of (p ∷ ps) = (record { level = p.level; has_body = is_some p.body }) ∷ promises_of ps
 
 abbrev pub state_of : Checker → Part → State
-state_of c part = record { env = env_of c part; shapes = shapes_of c.records.items; promises = promises_of c.subprograms.items; slots = c.slots }
+state_of c part = record { env = env_of c part; shapes = shapes_of c.records.items; promises = promises_of c.subprograms.items; slots = c.slots; left_out = c.left_out }
+
+-- ---- constructs that are left out: values of records are not assigned yet (5.2, 7.6)
+
+-- the first so far, where one at this place is left out too, or is not
+abbrev pub noted : Bool → Option Span → Span → Option Span
+noted true first place = Some (unwrap_or first place)
+noted false first place = first
 
 -- ---- slots, and names in view
 
@@ -95,7 +105,7 @@ in_block s = record s { env = record s.env { view = inside s.env.view }; slots =
 
 -- behind a block, or a body: what stands in it is out of view
 abbrev pub behind_block : State → State → State
-behind_block s inner = record s { shapes = inner.shapes; promises = inner.promises }
+behind_block s inner = record s { shapes = inner.shapes; promises = inner.promises; left_out = inner.left_out }
 
 -- inside a loop with a parameter, which is a constant of type Integer (5.5)
 abbrev pub in_loop : State → Identifier → State
@@ -240,6 +250,7 @@ behind_whole_body e inner = record e.behind {
   env = record e.behind.env { view = behind_body e.behind.env.view };
   shapes = inner.shapes;
   promises = with_body_at inner.promises e.number;
+  left_out = inner.left_out;
 }
 
 abbrev pub lacks_body : Option Promise → Bool

@@ -4,6 +4,7 @@ use Rattle.ctl_tree.specs.declared.checked.Head.{Variable}
 use Rattle.ctl_tree.specs.declared.checked.Piece.{Piece}
 use Rattle.ctl_tree.specs.declared.checked.Stmt.{Stmt, Put, PutLine, NewLine}
 use Rattle.ctl_tree.specs.declared.checked.Stmt as Checked
+use Rattle.ctl_tree.specs.declared.span.Span.{Span}
 use Rattle.ctl_tree.specs.declared.tree.Expression.{Expression}
 use Rattle.ctl_tree.specs.declared.tree.ExpressionKind.{ExpressionKind, items-the_row-Expression}
 use Rattle.ctl_tree.specs.declared.tree.Name.{Name}
@@ -20,6 +21,8 @@ use Rattle.ctl_check.specs.Marks.{library_name}
 use Rattle.ctl_check.specs.Expressions.{type_of, is_condition}
 use Rattle.ctl_check.specs.Meaning.{Means}
 use Rattle.ctl_check.specs.Objects.{is_typed_as}
+use Rattle.ctl_check.specs.State.{State, noted}
+use Rattle.ctl_check.specs.Types.{is_record}
 use Rattle.ctl_check.specs.Texts.{only, is_text, operands, PiecesMean}
 
 -- ---- assignments (5.2)
@@ -51,6 +54,14 @@ IsAssigned v _ e _ = ⊥
 
 abbrev pub AssignmentMeans : Env → Name → Expression → Stmt → Type 0
 AssignmentMeans v x e stmt = IsAssigned v (target v x) e stmt
+
+-- behind an assignment; that of a record is left out
+abbrev pub noted_target : Name → Option KnownObject → Option Span → Option Span
+noted_target x None first = first
+noted_target x (Some o) first = noted (is_record o.ty) first x.first.span
+
+abbrev pub after_assignment : State → Name → State
+after_assignment s x = record s { left_out = noted_target x (target s.env x) s.left_out }
 
 -- ---- exits (5.7)
 

@@ -32,6 +32,11 @@ abbrev pub has_equality : Ty → Bool
 has_equality (Record t) = false
 has_equality _ = true
 
+-- a record type of the text (3.8)
+abbrev pub is_record : Ty → Bool
+is_record (Record t) = true
+is_record _ = false
+
 -- Boolean (3.5.3)
 abbrev pub is_boolean : Ty → Bool
 is_boolean Boolean = true

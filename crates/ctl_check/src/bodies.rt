@@ -134,7 +134,7 @@ impl Checker {
                 })
             }
             ItemKind::Objects(objects) => {
-                self.objects(part, objects, item.span, all)?;
+                self.objects(part, objects, all)?;
                 Ok(part)
             }
             _ => Err(Refusal::Illegal),

@@ -1,11 +1,11 @@
 //! The check of a whole text.
 
-ghost use Rattle.std.specs.Prelude.{◌≡◌, [], IfOk, IfErr, true, false};
-ghost use Rattle.ctl_check.specs.Refusals.{IsOfProgram, IsAnswered, IsTypeFault};
+ghost use Rattle.std.specs.Prelude.{◌≡◌, [], IfOk, IfErr, OnOk, None, true, false};
+ghost use Rattle.ctl_check.specs.Refusals.{IsOfProgram, IsAnswered, IsTypeFault, IsLeftOutFault, IsLeftByTypes};
 ghost use Rattle.ctl_legality.specs.View.{library_part};
 ghost use Rattle.ctl_names.specs.Judging.{view_of};
 ghost use Rattle.ctl_check.specs.State.{state_of};
-ghost use Rattle.ctl_check.specs.Program.{others, context_view, context_state, is_legal, IsProgram};
+ghost use Rattle.ctl_check.specs.Program.{left_by_types, others, context_view, context_state, is_legal, IsProgram};
 ghost use Rattle.ctl_check.specs.Standard.{predefined_names};
 
 use crate::checker::Checker;
@@ -16,7 +16,8 @@ use ctl_legality::view::{Declaration, Entity, Part};
 use ctl_names::library::standard_names;
 use ctl_names::walk::{Walk, folded};
 use ctl_tree::checked::{Checked, Subprogram};
-use ctl_tree::fault::Fault;
+use ctl_tree::fault::{Fault, FaultCode};
+use ctl_tree::span::Span;
 use ctl_tree::text::Text;
 use ctl_tree::tree::{Context, Tree};
 use std::alloc::{AllocError, Global};
@@ -25,24 +26,32 @@ use std::alloc::{AllocError, Global};
 ///
 /// # Errors
 ///
-/// TYPE at 1:1 where a rule of legality is broken, LEFT_OUT where a record is assigned or given a value and at a use of
-/// Null_Address, which this version does not run, and MEMORY.
+/// TYPE at 1:1 where a rule of legality is broken; where none is, LEFT_OUT at the first place where a record is assigned or given
+/// a value, which this version does not run; and MEMORY.
 pub fn check(alloc: Global, tree: &Tree) -> Result<Checked, Fault>
     ensures exceptions { IfOk result (λ program. program.exceptions.items ≡ predefined_names) }
     ensures accesses { IfOk result (λ program. program.accesses.items ≡ []) }
     ensures refused { IfErr result (λ fault. IsOfProgram fault) }
     ensures legal { IfOk result (λ program. is_legal tree.now ≡ true) }
     ensures program { IfOk result (λ program. IsProgram tree.now program) }
+    ensures all_run { IfOk result (λ program. left_by_types tree.now ≡ None) }
     ensures illegal { IfErr result (λ fault. IsTypeFault fault → is_legal tree.now ≡ false) }
+    ensures left_out { IfErr result (λ fault. IsLeftOutFault fault → IsLeftByTypes tree.now fault) }
 {
-    Ok(checked(alloc, tree)?)
+    let (program, left_out) = checked(alloc, tree)?;
+    match left_out {
+        None => Ok(program),
+        Some(place) => Err(Fault::at(FaultCode::LeftOut, place)),
+    }
 }
 
-fn checked(alloc: Global, tree: &Tree) -> Result<Checked, Refusal>
-    ensures exceptions { IfOk result (λ program. program.exceptions.items ≡ predefined_names) }
-    ensures accesses { IfOk result (λ program. program.accesses.items ≡ []) }
-    ensures legal { IfOk result (λ program. is_legal tree.now ≡ true) }
-    ensures program { IfOk result (λ program. IsProgram tree.now program) }
+/// The checked program of a legal tree, and where the first construct begins that is not run.
+fn checked(alloc: Global, tree: &Tree) -> Result<(Checked, Option<Span>), Refusal>
+    ensures exceptions { IfOk result (λ x. x.0.exceptions.items ≡ predefined_names) }
+    ensures accesses { IfOk result (λ x. x.0.accesses.items ≡ []) }
+    ensures legal { OnOk result (is_legal tree.now ≡ true) }
+    ensures program { IfOk result (λ x. IsProgram tree.now x.0) }
+    ensures left_out { IfOk result (λ x. x.1 ≡ left_by_types tree.now) }
     ensures illegal { IfErr result (IsAnswered (is_legal tree.now)) }
 {
     if !is_own_name(alloc, &tree.name)? {
@@ -56,14 +65,16 @@ fn checked(alloc: Global, tree: &Tree) -> Result<Checked, Refusal>
     checker.declare(library, name, tree.name.span, entity, Kind::Other)?;
     let body = checker.inner_body(library, &[], 0, &tree.body)?;
     checker.complete(main, body)?;
+    let left_out = checker.left_out;
     let (records, subprograms) = checker.finish()?;
-    Ok(Checked {
+    let program = Checked {
         exceptions: predefined(alloc)?,
         records,
         accesses: Vec::new(alloc),
         subprograms,
         main,
-    })
+    };
+    Ok((program, left_out))
 }
 
 /// Where the main procedure is declared.
@@ -116,6 +127,7 @@ impl Checker {
             records: Vec::new(alloc),
             subprograms: Vec::new(alloc),
             slots: 0,
+            left_out: None,
         })
     }
 }

@@ -3,7 +3,7 @@
 ghost use Rattle.std.specs.Prelude.{◌≡◌, [], List, IfOk, IfErr, OnOk, length, true, is_some, slice_get};
 ghost use Rattle.ctl_legality.specs.declared.view.Part.{Part};
 ghost use Rattle.ctl_check.specs.Environment.{env_of, declared, closed};
-ghost use Rattle.ctl_check.specs.State.{state_of, promises_of, with_promise, with_body_at, lacks_body, are_complete};
+ghost use Rattle.ctl_check.specs.State.{state_of, noted, promises_of, with_promise, with_body_at, lacks_body, are_complete};
 ghost use Rattle.ctl_check.specs.Parts.{BodyText};
 ghost use Rattle.ctl_check.specs.Program.{TextMeans, AreProcedures, AreBodies};
 ghost use Rattle.ctl_check.specs.Reading.{Grows, AreRead, IsReadAt, IsCompleted};
@@ -44,6 +44,8 @@ pub struct Checker {
     pub subprograms: Vec<Pending>,
     /// how many slots the declarations of the innermost master take so far
     pub slots: usize,
+    /// where the first construct begins that this version does not run and that only types tell
+    pub left_out: Option<Span>,
 }
 
 impl Checker {
@@ -61,6 +63,15 @@ impl Checker {
         self.walk.declare(part, name, span, entity)?;
         self.kinds.push(kind)?;
         Ok(())
+    }
+
+    /// A construct at this place is left out, or is not. The first such place is kept.
+    pub fn note(&mut self, is_left_out: bool, place: Span)
+        ensures { (part : Part) → Grows self.old self.new part (record (state_of self.old part) { left_out = noted is_left_out self.old.left_out place }) }
+    {
+        if is_left_out {
+            self.left_out = Some(self.left_out.unwrap_or(place));
+        }
     }
 
     /// How many declarations are in view.
@@ -127,6 +138,7 @@ impl Checker {
             records,
             subprograms,
             slots: _,
+            left_out: _,
         } = self;
         let mut all = Vec::new(alloc);
         for pending in subprograms {

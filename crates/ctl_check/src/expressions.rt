@@ -18,7 +18,7 @@ ghost use Rattle.ctl_check.specs.Refusals.{IsUntyped, IsAnswered};
 use crate::checker::Checker;
 use crate::kinds::{Kind, Object, Used};
 use crate::operators::{
-    FALSE, INTEGER_FIRST, INTEGER_LAST, Joint, TRUE, adding, binary_result, comparing, joining,
+    FALSE, INTEGER_FIRST, INTEGER_LAST, Joint, NULL, TRUE, adding, binary_result, comparing, joining,
     literal, multiplying, prefixing, signing, unary_result,
 };
 use crate::refusal::Refusal;
@@ -345,7 +345,7 @@ impl Checker {
         }
     }
 
-    /// The value of an object, or True or False; Null_Address is not run yet (RM 13.7).
+    /// The value of an object, or True, False or Null_Address (RM 13.7).
     fn value_of(&self, part: Part, name: &Identifier) -> Result<Typed, Refusal>
         ensures ty { IfOk result (λ t. used_type (used (env_of self.now part) name.now) ≡ Some t.ty) }
         ensures expr { IfOk result (λ t. IsUse (used (env_of self.now part) name.now) t.expr) }
@@ -358,7 +358,7 @@ impl Checker {
             }),
             Used::Library(LibraryName::True) => Ok(constant(TRUE, Ty::Boolean)),
             Used::Library(LibraryName::False) => Ok(constant(FALSE, Ty::Boolean)),
-            Used::Library(LibraryName::NullAddress) => Err(Refusal::LeftOut(name.span)),
+            Used::Library(LibraryName::NullAddress) => Ok(constant(NULL, Ty::Address)),
             _ => Err(Refusal::Illegal),
         }
     }

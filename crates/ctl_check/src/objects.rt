@@ -3,7 +3,8 @@
 ghost use Rattle.std.specs.Prelude.{◌≡◌, ◌++◌, ◌∷◌, [], ◌&&◌, List, IfOk, IfErr, OnOk, Some, is_some, not, true};
 ghost use Rattle.ctl_check.specs.Environment.{env_of};
 ghost use Rattle.ctl_check.specs.Marks.{marked_type};
-ghost use Rattle.ctl_check.specs.Objects.{Made, made_by, made_each, after_objects, objects_type, legal_objects, legal_as, has_form, value_fits, values_fit, ValueMeans, AreMade};
+ghost use Rattle.ctl_legality.specs.declared.view.Part.{Part};
+ghost use Rattle.ctl_check.specs.Objects.{with_value, Made, made_by, made_each, after_objects, objects_type, legal_objects, legal_as, has_form, value_fits, values_fit, ValueMeans, AreMade};
 ghost use Rattle.ctl_check.specs.State.{state_of, hidden_each, with_object, with_objects};
 ghost use Rattle.ctl_check.specs.Reading.{Grows};
 ghost use Rattle.ctl_check.specs.Refusals.{IsAnswered};
@@ -13,11 +14,10 @@ use crate::expressions::Typed;
 use crate::kinds::{Kind, Object};
 use crate::marks::are_own_names;
 use crate::refusal::Refusal;
-use crate::types::is_same;
+use crate::types::{is_record, is_same};
 use ctl_legality::view::{Entity, Part};
 use ctl_names::walk::folded;
 use ctl_tree::checked::{Expr, Item, Ty, Var};
-use ctl_tree::span::Span;
 use ctl_tree::tree::{Expression, Identifier, Objects};
 use std::alloc::AllocError;
 
@@ -27,7 +27,6 @@ impl Checker {
         &mut self,
         part: Part,
         objects: &Objects,
-        place: Span,
         items: &mut Vec<Item>,
     ) -> Result<(), Refusal>
         ensures legal { OnOk result (legal_objects (state_of self.old part) objects.now ≡ true) }
@@ -37,15 +36,16 @@ impl Checker {
     {
         let count = self.count();
         self.hide_each(part, &objects.names)?;
-        let ty = self.object_type(part, objects, place)?;
+        let ty = self.object_type(part, objects)?;
         self.object_items(part, objects, ty, items)?;
         self.close(part, count);
+        self.note_value(ty, &objects.value);
         self.declare_objects(part, &objects.names, ty, !objects.is_constant)?;
         Ok(())
     }
 
-    /// The type of objects, which may have a value where it is a scalar type, and must where they are constants.
-    fn object_type(&self, part: Part, objects: &Objects, place: Span) -> Result<Ty, Refusal>
+    /// The type of objects, which must have a value where they are constants.
+    fn object_type(&self, part: Part, objects: &Objects) -> Result<Ty, Refusal>
         ensures ty { IfOk result (λ t. marked_type (env_of self.now part) objects.now.mark ≡ Some t) }
         ensures legal { OnOk result (has_form objects.now ≡ true) }
         ensures err { IfErr result (IsAnswered (is_some (marked_type (env_of self.now part) objects.now.mark) && has_form objects.now)) }
@@ -60,9 +60,15 @@ impl Checker {
         if !are_own_names(self.alloc, &objects.names)? {
             return Err(Refusal::Illegal);
         }
-        match ty {
-            Ty::Record(_) if objects.value.is_some() => Err(Refusal::LeftOut(place)),
-            _ => Ok(ty),
+        Ok(ty)
+    }
+
+    /// A record's initial value is not run yet.
+    fn note_value(&mut self, ty: Ty, value: &Option<Expression>)
+        ensures { (part : Part) → Grows self.old self.new part (with_value (state_of self.old part) ty value.now) }
+    {
+        if let Some(value) = value {
+            self.note(is_record(ty), value.span);
         }
     }
 

@@ -21,6 +21,8 @@ pub const TRUE: u64 = 1;
 
 /// The cell of False.
 pub const FALSE: u64 = 0;
+/// No address (RM 13.7).
+pub const NULL: u64 = 0;
 
 /// The cell of a literal, none above the largest number of Integer.
 pub fn literal(number: u64) -> Option<u64>

@@ -9,8 +9,6 @@ use std::alloc::{AllocError, AllocFailed};
 pub enum Refusal {
     /// a rule of legality is broken; which, and where, is not told yet
     Illegal,
-    /// a construct that this version does not run begins here
-    LeftOut(Span),
     /// the host refused memory
     Memory,
 }
@@ -24,7 +22,6 @@ impl From<Refusal> for Fault {
     fn from(refusal: Refusal) -> Fault {
         match refusal {
             Refusal::Illegal => Fault::at(FaultCode::Type, Span { line: 1, column: 1 }),
-            Refusal::LeftOut(place) => Fault::at(FaultCode::LeftOut, place),
             Refusal::Memory => Fault::memory(),
         }
     }

@@ -5,19 +5,18 @@ ghost use Rattle.ctl_check.specs.Environment.{env_of};
 ghost use Rattle.ctl_check.specs.Meaning.{Means};
 ghost use Rattle.ctl_check.specs.State.{state_of, in_loop, behind_loop};
 ghost use Rattle.ctl_check.specs.Objects.{ValueMeans};
-ghost use Rattle.ctl_check.specs.Statements.{target, legal_assignment, AssignmentMeans, legal_condition, legal_exit, ExitMeans};
+ghost use Rattle.ctl_check.specs.Statements.{after_assignment, target, legal_assignment, AssignmentMeans, legal_condition, legal_exit, ExitMeans};
 ghost use Rattle.ctl_check.specs.Parts.{after_statement, after_statement_list, after_branch_list, after_loop, legal_statement, legal_statement_list, legal_branch_list, legal_loop, StatementMeans, StatementListMeans, BranchListMeans, LoopMeans, statement_bodies, statement_list_bodies, branch_list_bodies, loop_bodies};
-ghost use Rattle.ctl_check.specs.Reading.{Reads};
+ghost use Rattle.ctl_check.specs.Reading.{Grows, Reads};
 ghost use Rattle.ctl_check.specs.Refusals.{IsAnswered, IsNoTarget};
 
 use crate::checker::Checker;
 use crate::expressions::{Typed, variable};
 use crate::kinds::{Kind, Object, Used};
 use crate::refusal::Refusal;
-use crate::types::is_same;
+use crate::types::{is_record, is_same};
 use ctl_legality::view::Part;
 use ctl_tree::checked::{Arm, Expr, Stmt, Ty, Var};
-use ctl_tree::span::Span;
 use ctl_tree::tree::{Branch, Expression, Identifier, Name, Scheme, Statement, StatementKind};
 
 impl Checker {
@@ -55,9 +54,7 @@ impl Checker {
     {
         match &statement.kind {
             StatementKind::Null => Ok(Stmt::Null),
-            StatementKind::Assignment(target, value) => {
-                self.assignment(part, target, value, statement.span)
-            }
+            StatementKind::Assignment(target, value) => self.assignment(part, target, value),
             StatementKind::Call(name) => self.output(part, name),
             StatementKind::Exit(condition) => self.exit(part, in_loop, condition),
             StatementKind::If(branches, others) => {
@@ -143,28 +140,25 @@ impl Checker {
         Ok((var, statements))
     }
 
-    /// The target must be a variable, and the value of its type (RM 5.2). Those of records are not run yet.
+    /// The target must be a variable, and the value of its type (RM 5.2). That of a record is not run yet.
     fn assignment(
-        &self,
+        &mut self,
         part: Part,
         target: &Name,
         value: &Expression,
-        place: Span,
     ) -> Result<Stmt, Refusal>
-        ensures legal { OnOk result (legal_assignment (env_of self.now part) target.now value.now ≡ true) }
-        ensures means { IfOk result (λ x. AssignmentMeans (env_of self.now part) target.now value.now x) }
-        ensures err { IfErr result (IsAnswered (legal_assignment (env_of self.now part) target.now value.now)) }
+        ensures legal { OnOk result (legal_assignment (env_of self.old part) target.now value.now ≡ true) }
+        ensures grows { OnOk result (Grows self.old self.new part (after_assignment (state_of self.old part) target.now)) }
+        ensures means { IfOk result (λ x. AssignmentMeans (env_of self.old part) target.now value.now x) }
+        ensures err { IfErr result (IsAnswered (legal_assignment (env_of self.old part) target.now value.now)) }
     {
         let object = self.target(part, target)?;
-        if let Ty::Record(_) = object.ty {
-            return Err(Refusal::LeftOut(place));
-        }
         let Typed { expr, ty } = self.expression(part, value)?;
-        if object.is_variable && is_same(ty, object.ty) {
-            Ok(Stmt::Assign(variable(self.alloc, object), expr))
-        } else {
-            Err(Refusal::Illegal)
+        if !object.is_variable || !is_same(ty, object.ty) {
+            return Err(Refusal::Illegal);
         }
+        self.note(is_record(object.ty), target.first.span);
+        Ok(Stmt::Assign(variable(self.alloc, object), expr))
     }
 
     /// The object that a name without a suffix denotes.

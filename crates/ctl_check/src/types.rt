@@ -1,7 +1,7 @@
 //! The types of the language, and what may be done with their values (RM 3.2, 4.5).
 
 ghost use Rattle.std.specs.Prelude.{◌≡◌};
-ghost use Rattle.ctl_check.specs.Types.{is_same, is_numeric, is_scalar, has_equality, is_boolean};
+ghost use Rattle.ctl_check.specs.Types.{is_same, is_numeric, is_scalar, has_equality, is_boolean, is_record};
 
 use ctl_tree::checked::Ty;
 
@@ -48,6 +48,13 @@ pub fn has_equality(ty: Ty) -> bool
         Ty::Record(_) => false,
         Ty::Integer | Ty::Count | Ty::Boolean | Ty::Address | Ty::Handle | Ty::Access(_) => true,
     }
+}
+
+/// Whether it is a record type (RM 3.8).
+pub fn is_record(ty: Ty) -> bool
+    ensures { result ≡ is_record ty }
+{
+    matches!(ty, Ty::Record(_))
 }
 
 /// Whether it is Boolean (RM 3.5.3).

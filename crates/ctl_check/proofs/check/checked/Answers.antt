@@ -7,7 +7,7 @@ use Rattle.ctl_check.specs.Parts.{own_bodies, text_bodies}
 use Rattle.ctl_check.specs.Program.{is_legal, end_state, main_body, AreShapes, AreProcedures}
 use Rattle.ctl_check.specs.Reading.{ArePlain, AreRead, IsReadAt}
 use Rattle.ctl_check.proofs.Outset.{main_is}
-use Rattle.ctl_check.proofs.Whole.{at_end, legal_all, refused_within, refused_twice, refused_incomplete, end_shapes, end_promises, all_shapes, all_read}
+use Rattle.ctl_check.proofs.Whole.{at_end, legal_all, refused_within, refused_twice, refused_incomplete, end_shapes, end_promises, end_left_out, all_shapes, all_read}
 use Rattle.ctl_check.proofs.check.checked.Goals as goal
 
 pub returns-in_err-body-clause-illegal : goal.returns-in_err-body-clause-illegal
@@ -87,3 +87,13 @@ returns-clause-program c =
       procedures = subst (λ (xs : List Promise). AreProcedures xs c.in_ok-records.subprograms.items) promises c.in_ok-records.ensures.procedures;
       bodies = c.in_ok-records.ensures.bodies (own_bodies (Some (main_body t)) t.body) (all_read t s last.subprograms.items start inner main);
     }
+
+pub returns-clause-left_out : goal.returns-clause-left_out
+returns-clause-left_out c =
+    let t = c.args.tree.now in
+    let p = c.library-library.result in
+    let s = state_of c.declare.new.self p in
+    let start = main_is c.in_ok-checker.checker c.new_subprogram.new.self c.declare.new.self p t c.deref.result.now c.in_ok-name.name.items c.library-library.ensures c.deref.ensures.value c.in_ok-name.ensures c.in_ok-checker.ensures.state (c.in_ok-main.ensures.grows p) c.in_ok-declare.ensures in
+    ap (λ (u : State). u.left_out) (c.in_ok-complete.ensures.grows p).state
+    ∙ ap (λ (u : State). u.left_out) c.in_ok-body.ensures.reads.state
+    ∙ sym (end_left_out t s start)

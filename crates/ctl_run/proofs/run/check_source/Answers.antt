@@ -11,7 +11,7 @@ use Rattle.ctl_check.specs.Standard.{predefined_names}
 use Rattle.ctl_gen.specs.Slice.{InSlice}
 use Rattle.ctl_slice.specs.Places.{left_out_of}
 use Rattle.ctl_run.specs.Headline.{Accepts}
-use Rattle.ctl_run.specs.Source.{of_lexis, of_text, of_names, HasEarlyFault, LeavesOut, SpellsLegalTree, IsRefused, by_text, by_names, by_construct, by_program, by_memory}
+use Rattle.ctl_run.specs.Source.{of_lexis, of_text, of_names, HasEarlyFault, SpellsLegalTree, IsOutside, IsRefused, by_text, by_names, by_construct, by_program, by_memory}
 use Rattle.ctl_run.proofs.run.check_source.Goals as goal
 
 -- a lexical fault is the first one, so a text that has one spells no tree
@@ -115,10 +115,16 @@ returns-in-Some-clause-refused c = by_construct (record { tree = c.in_ok-named.n
 pub returns-in_err-program-clause-refused : goal.returns-in_err-program-clause-refused
 returns-in_err-program-clause-refused c =
     let p = err_from_is_err_and c.from_residual-in_err-program.result c.from_residual-in_err-program.ensures.1 in
-    rw (p.1, p.2) (by_program c.in_ok-named.named.tree c.in_ok-named.ensures.found (sym c.left_out.ensures.first ∙ c.in_default.is) c.in_err-program.ensures.refused c.in_err-program.ensures.illegal)
+    rw (p.1, p.2) (by_program c.in_ok-named.named.tree c.in_ok-named.ensures.found (sym c.left_out.ensures.first ∙ c.in_default.is) c.in_err-program.ensures.refused c.in_err-program.ensures.illegal (λ is. inl (c.in_err-program.ensures.left_out is)))
 
 pub returns-then-not-admits-clause-refused : goal.returns-then-not-admits-clause-refused
-returns-then-not-admits-clause-refused c = by_program c.in_ok-named.named.tree c.in_ok-named.ensures.found (sym c.left_out.ensures.first ∙ c.in_default.is) (left_out_is c.at.result (ap (λ (f : Fault). f.code) c.at.ensures)) (no_rule c.at.result _ (ap (λ (f : Fault). f.code) c.at.ensures))
+returns-then-not-admits-clause-refused c =
+    let tree = c.in_ok-named.named.tree in
+    let fault = c.at.result in
+    let code = ap (λ (f : Fault). f.code) c.at.ensures in
+    let outside : InSlice c.in_ok-program.program → ⊥ = λ h. absurd (search (rules, c.admits.ensures, c.if-not-admits, h)) in
+    let not_run : IsOutside tree fault = record { legal = c.in_ok-program.ensures.legal; program = c.in_ok-program.program; checked = c.in_ok-program.ensures.program; outside = outside; shown = c.at.ensures } in
+    by_program tree c.in_ok-named.ensures.found (sym c.left_out.ensures.first ∙ c.in_default.is) (left_out_is fault code) (no_rule fault _ code) (λ is. inr not_run)
 
 -- an accepted text
 

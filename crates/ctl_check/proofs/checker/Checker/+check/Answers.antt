@@ -1,4 +1,4 @@
-use Rattle.std.proofs.Common.{◌≡◌, Bool, true, false, List, IfErr, OnOk, refl, sym, ap, subst, ◌∙◌, rules}
+use Rattle.std.proofs.Common.{◌≡◌, Bool, true, false, List, [], IfErr, OnOk, refl, sym, ap, subst, ◌∙◌, rules}
 use Rattle.ctl_tree.specs.declared.checked.Arm.{Arm}
 use Rattle.ctl_tree.specs.declared.checked.Stmt.{Stmt}
 use Rattle.ctl_tree.specs.declared.tree.Branch.{Branch}
@@ -16,11 +16,12 @@ use Rattle.ctl_tree.specs.declared.checked.Var.{Var}
 use Rattle.ctl_tree.specs.declared.tree.Formal.{Formal}
 use Rattle.ctl_legality.specs.declared.view.Part.{Part}
 use Rattle.ctl_check.specs.Program.{TextMeans}
-use Rattle.ctl_check.proofs.Following.{both_true, first_false, second_false, reads_as, grows_then, legal_turn, illegal_turn, reads_turn, reads_end, means_turn, means_end, items_made, grows_on}
+use Rattle.ctl_check.specs.Statements.{after_assignment}
+use Rattle.ctl_check.proofs.Following.{grows_reads, both_true, first_false, second_false, reads_as, grows_then, legal_turn, illegal_turn, reads_turn, reads_end, means_turn, means_end, items_made, grows_on}
 use Rattle.ctl_check.proofs.StatementRows.{has_none, none_left, some_left, handled_means, after_handled_is, legal_handled_is, handled_bodies_are, legal_text_is, text_means, legal_block, block_means, branch_means, after_loop_is, legal_loop_is, loop_bodies_are, loop_means}
 use Rattle.ctl_check.proofs.Regions.{items_wrong, handled_wrong, behind_counted, behind_part, block_leaves, body_leaves, loop_leaves, part_is, text_reads}
 use Rattle.ctl_check.proofs.WholeBodies.{branch_legal, branch_wrong, branch_reads, entered_is, body_reads}
-use Rattle.ctl_check.proofs.Compound.{if_ok_as, block_read, block_wrong, if_read, whole_if, arms_wrong, others_wrong}
+use Rattle.ctl_check.proofs.Compound.{if_ok_as, on_ok_as, block_read, block_wrong, if_read, whole_if, arms_wrong, others_wrong}
 use Rattle.ctl_check.proofs.checker.Checker.+check.Goals as goal
 
 abbrev var_in : State → Var
@@ -222,6 +223,18 @@ a_loop-returns-in_ok-var-in-For-clause-means t c =
     (first, last, xs, made, c.in_ok-low-in-For.ensures.low, c.in_ok-low-in-For.ensures.high, subst (λ u. StatementListMeans (in_loop u c.in-For.name) c.args.statements.now xs.items) e c.in_ok-var-in-For.ensures.means)
 
 -- ---- one statement
+
+pub statement-returns-in-Assignment-clause-reads : goal.statement-returns-in-Assignment-clause-reads
+statement-returns-in-Assignment-clause-reads t c =
+    let a = c.args.self.now in
+    let b = c.assignment.new.self in
+    let p = c.args.part in
+    let s = state_of a p in
+    let d = c.args.statement.now.kind in
+    let u = after_assignment s c.in-Assignment.target in
+    let after : u ≡ after_statement s d = ap (after_statement s) (sym c.in-Assignment.is) in
+    let bodies : [] ≡ statement_bodies s d = ap (statement_bodies s) (sym c.in-Assignment.is) in
+    on_ok_as (Grows a b p u) (Reads a b p (after_statement s d) (statement_bodies s d)) c.assignment.result (λ g. reads_as a b p u (after_statement s d) [] (statement_bodies s d) after bodies (grows_reads a b p u g)) c.assignment.ensures.grows
 
 pub statement-returns-in_err-arms-in-If-clause-err : goal.statement-returns-in_err-arms-in-If-clause-err
 statement-returns-in_err-arms-in-If-clause-err t c =
