@@ -19,8 +19,10 @@ use Rattle.ctl_legality.specs.declared.view.Form.{Form}
 use Rattle.ctl_legality.specs.declared.view.Known.{Known}
 use Rattle.ctl_legality.specs.declared.view.Declaration.{Declaration}
 use Rattle.ctl_legality.specs.declared.view.Naming.{Naming}
-use Rattle.ctl_legality.specs.View.{View, declare, with_entity_at, known_as, is_own, own_with, completed_by, complete, within, last_of, wants_body, is_incomplete, folded, is_some_more}
-use Rattle.ctl_legality.specs.Sites.{declare_each, after_formals, declared_number, form_in, written_components, after_choice, after_choice_list, after_choices, key_of, heading_key, after_item, after_components, after_item_list, in_heading, in_definition, in_record, completed_body, completed_type, in_loop, after_handler, after_handler_list}
+use Rattle.ctl_legality.specs.View.{View, declare, with_entity_at, known_as, is_own, own_with, is_type, completed_by, complete, within, last_of, wants_body, is_incomplete, folded, is_some_more}
+use Rattle.ctl_legality.specs.declared.view.Mark.{Mark}
+use Rattle.ctl_legality.specs.NameTypes.{pool_named, with_pool}
+use Rattle.ctl_legality.specs.Sites.{declare_each, after_formals, declared_number, form_in, written_components, subprogram_in, object_in, component_in, give_pool, pooled_type, after_choice, after_choice_list, after_choices, key_of, heading_key, after_item, after_components, after_item_list, in_heading, in_definition, in_record, completed_body, completed_type, in_loop, after_handler, after_handler_list}
 
 -- what stands in front of this place stays
 pub record Keeps (base : ℕ) (v w : View) : Type 0 where
@@ -101,13 +103,27 @@ choices_kept base (Choices.Exceptions ds) v h = choice_list_kept base ds.items v
 pub components_kept : (base : ℕ) (p : ℕ) (cs : List ComponentDeclaration) (v : View) → base ≤ length v.names → Keeps base v (after_components p cs v)
 components_kept base p [] v h = same_kept base v h
 components_kept base p (c ∷ cs) v h =
-    let one = each_kept base (Naming.Component p) Entity.Object c.names.items v h in
-    let u = declare_each (Naming.Component p) Entity.Object c.names.items v in
+    let one = each_kept base (Naming.Component p) (component_in v c) c.names.items v h in
+    let u = declare_each (Naming.Component p) (component_in v c) c.names.items v in
     then_kept base v u (after_components p cs u) one (components_kept base p cs u one.room)
+
+-- a clause is on a type of its region
+given_kept : (a b : Bool) (k : Known) (m : Mark) (v : View) → (a ≡ true → v.part.start ≤ k.place) → v.part.start ≤ length v.names → Keeps v.part.start v (give_pool v (cond (a && b) (Some k) None) m)
+given_kept true true k m v own h = known_as_kept v.part.start k (with_pool k.entity m) v (own refl) h
+given_kept true false k m v own h = same_kept v.part.start v h
+given_kept false b k m v own h = same_kept v.part.start v h
+
+pool_kept : (o : Option Known) (m : Mark) (v : View) → v.part.start ≤ length v.names → Keeps v.part.start v (give_pool v (own_with is_type v o) m)
+pool_kept None m v h = same_kept v.part.start v h
+pool_kept (Some k) m v h = given_kept (is_own v k) (is_type k.entity) k m v (leb-true _ _) h
+
+pool_start : (o : Option Known) (m : Mark) (v : View) → (give_pool v o m).part.start ≡ v.part.start
+pool_start None m v = refl
+pool_start (Some k) m v = refl
 
 -- an item keeps what stands around its part, and where the part starts
 pub item_kept : (i : ItemKind) (v : View) → v.part.start ≤ length v.names → Keeps v.part.start v (after_item i v)
-item_kept (Item.Declaration o s) v h = declare_kept v.part.start (heading_key s) s.name.span (Entity.Subprogram false) v h
+item_kept (Item.Declaration o s) v h = declare_kept v.part.start (heading_key s) s.name.span (subprogram_in v s.result) v h
 item_kept (Item.Body o s b) v h = let k = complete_kept wants_body (heading_key s) s.name.span (Entity.Subprogram true) v h in record { names = k.names; room = k.room; units = k.units }
 item_kept (Item.Instance id unit actuals) v h = declare_kept v.part.start _ id.span Entity.Instance v h
 item_kept (Item.Incomplete id tagged) v h = declare_kept v.part.start _ id.span (Entity.«Type» Form.Incomplete) v h
@@ -115,9 +131,9 @@ item_kept (Item.«Type» id d) v h =
     let u = complete v (folded id) id.span (Entity.«Type» (form_in d v id)) (completed_type v id) in
     let one = complete_kept is_incomplete (folded id) id.span (Entity.«Type» (form_in d v id)) v h in
     then_kept v.part.start v u (after_item (Item.«Type» id d) v) one (components_kept v.part.start (declared_number v id) (written_components d) u one.room)
-item_kept (Item.Clause id attribute pool) v h = same_kept v.part.start v h
+item_kept (Item.Clause id attribute pool) v h = pool_kept (last_of v.names (folded id)) (pool_named v.names pool) v h
 item_kept (Item.Exceptions ids) v h = each_kept v.part.start Naming.Direct Entity.Exception ids.items v h
-item_kept (Item.Objects o) v h = each_kept v.part.start Naming.Direct Entity.Object o.names.items v h
+item_kept (Item.Objects o) v h = each_kept v.part.start Naming.Direct (object_in v o) o.names.items v h
 
 pub heading_kept : (s : Specification) (v : View) → Keeps (length v.names) v (in_heading v s)
 heading_kept s v = let k = within_kept (length v.names) (completed_body v s) (heading_key s) s.name.span Entity.Hidden v (omega arith) in record { names = k.names; room = k.room; units = k.units }
@@ -147,7 +163,7 @@ formals_start (f ∷ fs) v = formals_start fs (declare_each Naming.Direct Entity
 
 components_start : (p : ℕ) (cs : List ComponentDeclaration) (v : View) → (after_components p cs v).part.start ≡ v.part.start
 components_start p [] v = refl
-components_start p (c ∷ cs) v = components_start p cs (declare_each (Naming.Component p) Entity.Object c.names.items v) ∙ each_start (Naming.Component p) Entity.Object c.names.items v
+components_start p (c ∷ cs) v = components_start p cs (declare_each (Naming.Component p) (component_in v c) c.names.items v) ∙ each_start (Naming.Component p) (component_in v c) c.names.items v
 
 -- an item leaves where its part starts
 pub item_start : (i : ItemKind) (v : View) → (after_item i v).part.start ≡ v.part.start
@@ -158,9 +174,9 @@ item_start (Item.Incomplete id tagged) v = refl
 item_start (Item.«Type» id d) v =
     let u = complete v (folded id) id.span (Entity.«Type» (form_in d v id)) (completed_type v id) in
     components_start (declared_number v id) (written_components d) u ∙ complete_start (completed_type v id) (folded id) id.span (Entity.«Type» (form_in d v id)) v
-item_start (Item.Clause id attribute pool) v = refl
+item_start (Item.Clause id attribute pool) v = pool_start (pooled_type v id) (pool_named v.names pool) v
 item_start (Item.Exceptions ids) v = each_start Naming.Direct Entity.Exception ids.items v
-item_start (Item.Objects o) v = each_start Naming.Direct Entity.Object o.names.items v
+item_start (Item.Objects o) v = each_start Naming.Direct (object_in v o) o.names.items v
 
 -- behind items, what stands in front of the part is still there
 pub items_kept : (base : ℕ) (is : List TheItem.Item) (v : View) → v.part.start ≡ base → base ≤ length v.names → Keeps base v (after_item_list is v)

@@ -1,5 +1,6 @@
 -- The places of a program that the rules on names look at, each with what is in view there.
-use Rattle.std.specs.Prelude.{ℕ, Bool, true, false, not, length, List, [], ◌∷◌, ◌++◌, Option, Some, None, is_some, if◌then◌else◌}
+use Rattle.std.specs.Prelude.{ℕ, Bool, true, false, not, length, List, [], ◌∷◌, ◌++◌, Option, Some, None, is_some, if◌then◌else◌, slice_get}
+use Rattle.std.specs.List.{list_any}
 use Rattle.ctl_tree.specs.declared.span.Span.{Span}
 use Rattle.ctl_tree.specs.declared.tree.Identifier.{Identifier}
 use Rattle.ctl_tree.specs.declared.tree.Dotted.{Dotted}
@@ -38,25 +39,32 @@ use Rattle.ctl_legality.specs.declared.library.Unit.{Unit}
 use Rattle.ctl_legality.specs.declared.view.Entity.{Entity}
 use Rattle.ctl_legality.specs.declared.view.Known.{Known}
 use Rattle.ctl_legality.specs.declared.view.Form.{Form}
+use Rattle.ctl_legality.specs.declared.view.Declaration.{Declaration}
 use Rattle.ctl_legality.specs.declared.view.Mark.{Mark}
+use Rattle.ctl_legality.specs.declared.view.Mark.TheVariants.{Other, Declared}
 use Rattle.ctl_legality.specs.declared.view.Naming.{Naming}
 use Rattle.ctl_legality.specs.declared.view.Usage.{Usage}
-use Rattle.ctl_legality.specs.declared.view.Usage.TheVariants.{Designated, Parent, Allocated, Plain}
+use Rattle.ctl_legality.specs.declared.view.Usage.TheVariants.{Designated, Parent, Allocated, Prefix, Plain}
 use Rattle.ctl_legality.specs.declared.view.Effect.{Effect}
 use Rattle.ctl_legality.specs.declared.view.Effect.TheVariants.{Has, Uses, Initializes, Makes, Extends, Calls}
 use Rattle.ctl_freezing.specs.declared.fact.Deed.TheVariants.{Freezing, Initializing}
 use Rattle.ctl_freezing.specs.declared.fact.Early.TheVariants as Early
 use Rattle.ctl_freezing.specs.declared.fact.Fact.{Fact}
-use Rattle.ctl_legality.specs.Library.{root_unit, with_ancestors, names_of, operation_named}
+use Rattle.ctl_legality.specs.Library.{operation_spelling, root_unit, with_ancestors, names_of, operation_named}
 use Rattle.ctl_legality.specs.declared.view.Way.{Way}
 use Rattle.ctl_legality.specs.declared.view.Way.TheVariants.{Reaches, Stops}
 use Rattle.ctl_legality.specs.Types.{component_key, lineage, mark_in, overrides}
-use Rattle.ctl_legality.specs.View.{View, way_from, folded, folded_each, is_some_more, is_brought, standard, declare_library, declare, complete, within, completed_by, wants_body, is_incomplete, type_of_part, subprogram_of_part, inside, region, behind_body}
+use Rattle.ctl_legality.specs.NameTypes.{type_named, pool_named, pool_of, with_pool, row_type, name_type, operand_type, allocator_type}
+use Rattle.ctl_legality.specs.View.{View, way_from, folded, folded_each, is_some_more, is_brought, standard, declare_library, declare, complete, within, own_with, last_of, known_as, is_type, completed_by, wants_body, is_incomplete, is_of_part, type_of_part, subprogram_of_part, inside, region, behind_body}
 
 -- A site, with what is in view there.
 pub data Site : Type 0 where
   -- a name that is used: its first identifier, and the identifiers that are selected from there
   named : View → Identifier → List Identifier → Usage → Site
+  -- a name with all that stands behind it, by its type
+  typed : View → Mark → Site
+  -- an allocator, by the access type that is expected there
+  allocated : View → Mark → Site
   -- a name that is declared
   declared : View → List ℕ → Span → Site
   -- a component that the type of this number declares, where it extends the first of these types and with it the others
@@ -127,22 +135,31 @@ abbrev pub selected : {m : _} → Row_of-Suffix m → List Identifier
 selected (more_of-Suffix (Selector id) rest) = id ∷ selected rest
 selected _ = []
 
+-- how the beginning of a name is used: the parts of a longer name are no expressions
+abbrev pub row_usage : {m : _} → Row_of-Suffix m → Usage
+row_usage end_of-Suffix = Plain
+row_usage (more_of-Suffix x rest) = Prefix
+
 -- an allocator that gives no value
 abbrev pub has_no_value : Held-Allocator-value → Bool
 has_no_value Allocator-value-None' = true
 has_no_value (Allocator-value-Some' s k) = false
 
+-- the operands of a relation: where one is an allocator, it has the other's type
+abbrev pub operand_sites : ExpressionKind → ExpressionKind → View → List Site
+operand_sites k l v = allocated v (allocator_type (operand_type v.names l) k) ∷ allocated v (allocator_type (operand_type v.names k) l) ∷ []
+
 abbrev mutual
   pub kind_sites : ExpressionKind → View → List Site
   kind_sites (Logical' o p s k n row) v = kind_sites k v ++ expression_row_sites row v
-  kind_sites (Relation' o p s k q t l) v = kind_sites k v ++ kind_sites l v
+  kind_sites (Relation' o p s k q t l) v = operand_sites k l v ++ (kind_sites k v ++ kind_sites l v)
   kind_sites (Sum' o p s k n row) v = kind_sites k v ++ addend_row_sites row v
   kind_sites (Product' p s k n row) v = kind_sites k v ++ multiplicand_row_sites row v
   kind_sites (Unary' o p s k) v = kind_sites k v
   kind_sites (Number n) v = []
   kind_sites (String s) v = []
   kind_sites Null v = []
-  kind_sites (Name' id n row) v = named v id (selected row) Plain ∷ suffix_row_sites row v
+  kind_sites (Name' id n row) v = named v id (selected row) (row_usage row) ∷ typed v (row_type v.names id row) ∷ suffix_row_sites row v
   kind_sites (Parentheses' p s k) v = kind_sites k v
   kind_sites (New' p a) v = allocator_sites a v
 
@@ -171,15 +188,15 @@ abbrev mutual
 
   -- an allocator: the handle, the type and the value (4.8, 13.11.4)
   pub allocator_sites : Allocator → View → List Site
-  allocator_sites (Allocator' handle mark value) v = handle_sites handle v ++ (dotted_site mark v (Allocated (has_no_value value)) ∷ value_sites value v)
+  allocator_sites (Allocator' handle mark value) v = handle_sites handle v ++ (dotted_site mark v (Allocated (has_no_value value)) ∷ value_sites value (mark_in v mark) v)
 
   pub handle_sites : Held-Allocator-handle → View → List Site
   handle_sites Allocator-handle-None' v = []
-  handle_sites (Allocator-handle-Some' id n row) v = named v id (selected row) Plain ∷ suffix_row_sites row v
+  handle_sites (Allocator-handle-Some' id n row) v = named v id (selected row) (row_usage row) ∷ typed v (row_type v.names id row) ∷ suffix_row_sites row v
 
-  pub value_sites : Held-Allocator-value → View → List Site
-  value_sites Allocator-value-None' v = []
-  value_sites (Allocator-value-Some' s k) v = kind_sites k v
+  pub value_sites : Held-Allocator-value → Mark → View → List Site
+  value_sites Allocator-value-None' m v = []
+  value_sites (Allocator-value-Some' s k) m v = allocated v (allocator_type m k) ∷ kind_sites k v
 
 abbrev pub expression_sites : Expression → View → List Site
 expression_sites e v = kind_sites e.kind v
@@ -189,6 +206,10 @@ abbrev pub leading : List Suffix → List Identifier
 leading [] = []
 leading (Selector id ∷ xs) = id ∷ leading xs
 leading (x ∷ xs) = []
+
+abbrev pub list_usage : List Suffix → Usage
+list_usage [] = Plain
+list_usage (x ∷ xs) = Prefix
 
 abbrev pub expression_list_sites : List Expression → View → List Site
 expression_list_sites [] v = []
@@ -207,7 +228,7 @@ suffix_list_sites [] v = []
 suffix_list_sites (x ∷ xs) v = suffix_sites x v ++ suffix_list_sites xs v
 
 abbrev pub name_sites : Name → View → List Site
-name_sites x v = named v x.first (leading x.suffixes.items) Plain ∷ suffix_list_sites x.suffixes.items v
+name_sites x v = named v x.first (leading x.suffixes.items) (list_usage x.suffixes.items) ∷ typed v (name_type v.names x) ∷ suffix_list_sites x.suffixes.items v
 
 abbrev pub option_name_sites : Option Name → View → List Site
 option_name_sites None v = []
@@ -216,6 +237,11 @@ option_name_sites (Some x) v = name_sites x v
 abbrev pub option_sites : Option Expression → View → List Site
 option_sites None v = []
 option_sites (Some e) v = expression_sites e v
+
+-- the value of an object, of a component or of what an allocator makes, where this type is expected
+abbrev pub initial_sites : Option Expression → Mark → View → List Site
+initial_sites None m v = []
+initial_sites (Some e) m v = allocated v (allocator_type m e.kind) ∷ expression_sites e v
 
 abbrev pub associations_sites : List Association → View → List Site
 associations_sites [] v = []
@@ -271,21 +297,25 @@ abbrev pub in_record : View → Identifier → View
 in_record v id = region (within v (folded id) id.span (Entity.«Type» Form.Underived) (completed_type v id))
 
 -- the names of components, each beside those before it
-abbrev pub component_names : ℕ → List Mark → List Identifier → View → List Site
-component_names p ms [] v = []
-component_names p ms (id ∷ ids) v = (component v p ms id ∷ []) ++ component_names p ms ids (declare v (key_of (Naming.Component p) id) id.span Entity.Object)
+abbrev pub component_names : ℕ → List Mark → Entity → List Identifier → View → List Site
+component_names p ms e [] v = []
+component_names p ms e (id ∷ ids) v = (component v p ms id ∷ []) ++ component_names p ms e ids (declare v (key_of (Naming.Component p) id) id.span e)
+
+-- what a declaration of components declares
+abbrev pub component_in : View → ComponentDeclaration → Entity
+component_in v c = Entity.ObjectOf (mark_in v c.mark)
 
 abbrev pub component_sites : ℕ → List Mark → ComponentDeclaration → View → List Site
-component_sites p ms c v = (dotted_site c.mark v (Usage.Object (not (is_some c.default))) ∷ option_sites c.default v) ++ component_names p ms c.names.items v
+component_sites p ms c v = (dotted_site c.mark v (Usage.Object (not (is_some c.default))) ∷ initial_sites c.default (mark_in v c.mark) v) ++ component_names p ms (component_in v c) c.names.items v
 
 abbrev pub components_sites : ℕ → List Mark → List ComponentDeclaration → View → List Site
 components_sites p ms [] v = []
-components_sites p ms (c ∷ cs) v = component_sites p ms c v ++ components_sites p ms cs (declare_each (Naming.Component p) Entity.Object c.names.items v)
+components_sites p ms (c ∷ cs) v = component_sites p ms c v ++ components_sites p ms cs (declare_each (Naming.Component p) (component_in v c) c.names.items v)
 
 -- what is in view behind components of the type of this number
 abbrev pub after_components : ℕ → List ComponentDeclaration → View → View
 after_components p [] v = v
-after_components p (c ∷ cs) v = after_components p cs (declare_each (Naming.Component p) Entity.Object c.names.items v)
+after_components p (c ∷ cs) v = after_components p cs (declare_each (Naming.Component p) (component_in v c) c.names.items v)
 
 abbrev pub number_in : View → Option Known → ℕ
 number_in v None = length v.names
@@ -309,11 +339,16 @@ definition_sites (Definition.Record limited components) v id = components_sites 
 definition_sites (Definition.Extension parent components) v id = dotted_site parent (in_definition v id) Parent ∷ components_sites (declared_number v id) (parents v id parent) components.items (in_record v id)
 definition_sites (Definition.Access a) v id = dotted_site a.designated (in_definition v id) Designated ∷ aspect_sites a.aspect (in_definition v id)
 
+-- the type of the pool that an aspect names (13.1.1, 13.11)
+abbrev pub aspect_pool : Option Aspect → List Declaration → Mark
+aspect_pool None ds = Other
+aspect_pool (Some a) ds = pool_named ds a.pool
+
 -- what its definition makes a type
 abbrev pub form_in : Definition → View → Identifier → Form
 form_in (Definition.Record limited components) v id = Form.Underived
 form_in (Definition.Extension parent components) v id = Form.Extension (mark_in (in_definition v id) parent)
-form_in (Definition.Access a) v id = Form.Underived
+form_in (Definition.Access a) v id = Form.Access (type_named (in_definition v id).names a.designated) (aspect_pool a.aspect (in_definition v id).names)
 
 -- the components that a definition writes
 abbrev pub written_components : Definition → List ComponentDeclaration
@@ -327,16 +362,34 @@ after_type v id d = after_components (declared_number v id) (written_components 
 
 -- ---- items and statements (3.11, 5.1, 11.2)
 
+-- what a subprogram's declaration declares: a function has a result, which its heading names
+abbrev pub subprogram_in : View → Option Dotted → Entity
+subprogram_in v None = Entity.Subprogram false
+subprogram_in v (Some d) = Entity.Function (mark_in v d)
+
+-- what a declaration of objects declares
+abbrev pub object_in : View → Objects → Entity
+object_in v o = Entity.ObjectOf (mark_in (hide_each o.names.items v) o.mark)
+
+-- the type of the part that a clause is on
+abbrev pub pooled_type : View → Identifier → Option Known
+pooled_type v id = own_with is_type v (last_of v.names (folded id))
+
+-- what is in view behind a clause that gives a pool of this type (13.11)
+abbrev pub give_pool : View → Option Known → Mark → View
+give_pool v None pool = v
+give_pool v (Some k) pool = known_as v k (with_pool k.entity pool)
+
 -- what is in view behind an item
 abbrev pub after_item : ItemKind → View → View
-after_item (Item.Declaration overriding s) v = declare v (heading_key s) s.name.span (Entity.Subprogram false)
+after_item (Item.Declaration overriding s) v = declare v (heading_key s) s.name.span (subprogram_in v s.result)
 after_item (Item.Body overriding s b) v = behind_body (name_body v s)
 after_item (Item.Instance id unit actuals) v = declare v (folded id) id.span Entity.Instance
 after_item (Item.Incomplete id tagged) v = declare v (folded id) id.span (Entity.«Type» Form.Incomplete)
 after_item (Item.«Type» id definition) v = after_type v id definition
-after_item (Item.Clause id attribute pool) v = v
+after_item (Item.Clause id attribute pool) v = give_pool v (pooled_type v id) (pool_named v.names pool)
 after_item (Item.Exceptions ids) v = declare_each Naming.Direct Entity.Exception ids.items v
-after_item (Item.Objects o) v = declare_each Naming.Direct Entity.Object o.names.items v
+after_item (Item.Objects o) v = declare_each Naming.Direct (object_in v o) o.names.items v
 
 abbrev pub after_item_row : {m : _} → Row_of-Item m → View → View
 after_item_row end_of-Item v = v
@@ -345,8 +398,8 @@ after_item_row (more_of-Item s k rest) v = after_item_row rest (after_item k v)
 abbrev pub objects_sites : Objects → View → List Site
 objects_sites o v =
     (dotted_site o.mark (hide_each o.names.items v) (Usage.Object (not (is_some o.value)))
-    ∷ (associations_sites o.discriminants.items (hide_each o.names.items v) ++ option_sites o.value (hide_each o.names.items v)))
-    ++ declared_each Naming.Direct Entity.Object o.names.items v
+    ∷ (associations_sites o.discriminants.items (hide_each o.names.items v) ++ initial_sites o.value (mark_in (hide_each o.names.items v) o.mark) (hide_each o.names.items v)))
+    ++ declared_each Naming.Direct (object_in v o) o.names.items v
 
 -- A choice that is an identifier alone is declared among the choices of the part.
 abbrev pub after_choice : Dotted → View → View
@@ -392,6 +445,7 @@ when_default by_default p = if by_default then Initializes p ∷ [] else []
 -- the effects of a name that denotes the type of this number
 abbrev pub effects_on : ℕ → Usage → List Effect
 effects_on p Designated = []
+effects_on p Prefix = []
 effects_on p (Usage.Object by_default) = Has p ∷ Makes p ∷ when_default by_default p
 effects_on p Parent = Has p ∷ Makes p ∷ Initializes p ∷ Extends p ∷ []
 effects_on p (Allocated by_default) = Uses p ∷ Makes p ∷ when_default by_default p
@@ -403,11 +457,38 @@ type_effects u rest (Some k) = if is_some_more rest then [] else effects_on k.pl
 
 abbrev pub call_effects : Usage → Option Known → List Effect
 call_effects Plain (Some k) = Calls ∷ []
+call_effects Prefix (Some k) = Calls ∷ []
 call_effects _ _ = []
+
+-- A name whose type is one of the part uses that type.
+abbrev pub is_declared_in_part : View → Option Declaration → Bool
+is_declared_in_part v None = false
+is_declared_in_part v (Some d) = is_of_part v d.known
+
+abbrev pub typed_effects : View → Mark → List Effect
+typed_effects v (Declared p) = if is_declared_in_part v (slice_get v.names p) then Uses p ∷ [] else []
+typed_effects v _ = []
+
+-- An allocator calls the Allocate of its pool (13.11(16)), which may be one of the part.
+abbrev pub allocate_key : List ℕ → List ℕ
+allocate_key n = operation_spelling Operation.Allocate ++ (40 ∷ n)
+
+abbrev pub allocates : View → Option Declaration → Bool
+allocates v None = false
+allocates v (Some d) = is_some (subprogram_of_part v (allocate_key d.name))
+
+abbrev pub has_allocate : View → Mark → Bool
+has_allocate v (Declared p) = allocates v (slice_get v.names p)
+has_allocate v _ = false
+
+abbrev pub allocated_effects : View → Mark → List Effect
+allocated_effects v m = if list_any (has_allocate v) (lineage v.names (pool_of v.names m)) then Calls ∷ [] else []
 
 -- the effects of the name at a site, on the types of the part that it stands in
 unfoldable pub effects_at : Site → List Effect
 effects_at (named v id rest u) = type_effects u rest (type_of_part v (folded id)) ++ call_effects u (subprogram_of_part v (folded id))
+effects_at (typed v m) = typed_effects v m
+effects_at (allocated v m) = allocated_effects v m
 effects_at _ = []
 
 abbrev pub effects_of : List Site → List Effect

@@ -9,7 +9,6 @@ use Rattle.ctl_tree.specs.declared.tree.Formal.{Formal}
 use Rattle.ctl_tree.specs.declared.tree.Mode.{Mode}
 use Rattle.ctl_tree.specs.declared.tree.Mode.TheVariants as mode
 use Rattle.ctl_tree.specs.declared.tree.Specification.{Specification}
-use Rattle.ctl_legality.specs.declared.library.LibraryName.{LibraryName}
 use Rattle.ctl_legality.specs.declared.library.LibraryName.TheVariants.{Address, StorageCount}
 use Rattle.ctl_legality.specs.declared.library.Operation.{Operation}
 use Rattle.ctl_legality.specs.declared.library.Operation.TheVariants.{Initialize, Adjust, Finalize, Allocate, Deallocate}

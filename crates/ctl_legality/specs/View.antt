@@ -9,7 +9,7 @@ use Rattle.ctl_legality.specs.declared.library.Unit.TheVariants.{Ada, TextIo, Fi
 use Rattle.ctl_legality.specs.declared.library.LibraryName.{LibraryName}
 use Rattle.ctl_legality.specs.declared.library.Operation.{Operation}
 use Rattle.ctl_legality.specs.declared.view.Entity.{Entity}
-use Rattle.ctl_legality.specs.declared.view.Entity.TheVariants.{Hidden, «Type», Subprogram, Library}
+use Rattle.ctl_legality.specs.declared.view.Entity.TheVariants.{Hidden, «Type», Subprogram, Function, Library}
 use Rattle.ctl_legality.specs.declared.view.Form.TheVariants.{Incomplete}
 use Rattle.ctl_legality.specs.declared.view.Known.{Known}
 use Rattle.ctl_legality.specs.declared.view.Declaration.{Declaration}
@@ -148,6 +148,7 @@ is_declared_here v n = is_some_own v (last_of v.names n)
 -- a subprogram that wants a body (6.1)
 abbrev pub wants_body : Entity → Bool
 wants_body (Subprogram has_body) = not has_body
+wants_body (Function result) = true
 wants_body _ = false
 
 -- an incomplete type (3.10.1)
@@ -186,6 +187,7 @@ is_type _ = false
 
 abbrev pub is_subprogram : Entity → Bool
 is_subprogram (Subprogram has_body) = true
+is_subprogram (Function result) = true
 is_subprogram _ = false
 
 -- does the declaration stand in the declarative part around?

@@ -20,8 +20,10 @@ pub enum Mark {
 pub enum Form {
     /// its full declaration has not ended (RM 3.10.1)
     Incomplete,
-    /// a record or an access type, derived from no other type (RM 3.8, 3.10)
+    /// a record, derived from no other type (RM 3.8)
     Underived,
+    /// an access type to objects of the first type; the second is the type of its storage pool, if it has one (RM 3.10, 13.11)
+    Access(Mark, Mark),
     /// an extension of this parent (RM 3.9.1)
     Extension(Mark),
 }
@@ -35,8 +37,12 @@ pub enum Entity {
     Type(Form),
     /// a subprogram, and whether its body was met (RM 6.1, 6.3)
     Subprogram(bool),
-    /// a variable, a constant, a parameter or a component
+    /// a function whose body was not met, with the type of its result (RM 6.1)
+    Function(Mark),
+    /// an object whose type is asked for nowhere: a parameter, also that of a loop
     Object,
+    /// a variable, a constant or a component, with its type (RM 3.3.1, 3.8)
+    ObjectOf(Mark),
     Exception,
     /// an instance of a generic procedure
     Instance,
@@ -117,6 +123,8 @@ pub enum Usage {
     Parent,
     /// as the type of an object that an allocator makes, and whether that has no value of its own (RM 4.8)
     Allocated(bool),
+    /// as the beginning of a longer name (RM 4.1)
+    Prefix,
     Plain,
 }
 

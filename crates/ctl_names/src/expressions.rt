@@ -1,11 +1,12 @@
 //! The walk over names and expressions (RM 4.1, 4.4).
 
 ghost use Rattle.std.specs.Prelude.{◌≡◌, OnOk, IfOk};
-ghost use Rattle.ctl_legality.specs.Sites.{expression_sites, expression_list_sites, addend_list_sites, multiplicand_list_sites, suffix_sites, suffix_list_sites, name_sites, allocator_sites, option_sites, option_name_sites, leading};
+ghost use Rattle.ctl_legality.specs.Sites.{expression_sites, expression_list_sites, addend_list_sites, multiplicand_list_sites, suffix_sites, suffix_list_sites, name_sites, allocator_sites, initial_sites, option_name_sites, leading, list_usage};
 ghost use Rattle.ctl_names.specs.Judging.{view_of, Judges};
 
+use crate::allocators::allocator_type;
 use crate::walk::Walk;
-use ctl_legality::view::{Part, Usage};
+use ctl_legality::view::{Mark, Part, Usage};
 use ctl_tree::tree::{
     Addend, Allocator, Association, Expression, ExpressionKind, Identifier, Multiplicand, Name,
     Suffix,
@@ -39,8 +40,19 @@ pub fn leading(alloc: Global, suffixes: &[Suffix]) -> Result<Vec<Identifier>, Al
     Ok(identifiers)
 }
 
+/// How the beginning of a name is used, before these suffixes: the parts of a longer name are no expressions.
+fn list_usage(suffixes: &[Suffix]) -> Usage
+    ensures { result ≡ list_usage suffixes.now }
+{
+    if suffixes.is_empty() {
+        Usage::Plain
+    } else {
+        Usage::Prefix
+    }
+}
+
 impl Walk {
-    #[tactic(auto, using(ctl_legality::proofs::Noting::judged_append, ctl_legality::proofs::ExpressionRows::name_is))]
+    #[tactic(auto, using(ctl_legality::proofs::Noting::judged_append))]
     #[cycle(expression)]
     pub fn expression(&mut self, part: Part, expression: &Expression) -> Result<(), AllocError>
         ensures { OnOk result (Judges self.old self.new (expression_sites expression.now (view_of self.old part))) }
@@ -52,6 +64,7 @@ impl Walk {
                 Ok(())
             }
             ExpressionKind::Relation(_, left, right) => {
+                self.operands(part, left, right)?;
                 self.expression(part, left)?;
                 self.expression(part, right)?;
                 Ok(())
@@ -111,14 +124,16 @@ impl Walk {
         Ok(())
     }
 
-    /// A name, with the arguments in it.
+    /// A name, with its type and the arguments in it.
     #[tactic(auto, using(ctl_legality::proofs::Noting::judged_append))]
     #[cycle(expression)]
     pub fn name(&mut self, part: Part, name: &Name) -> Result<(), AllocError>
         ensures { OnOk result (Judges self.old self.new (name_sites name.now (view_of self.old part))) }
     {
         let selected = leading(self.alloc, &name.suffixes)?;
-        self.named(part, &name.first, &selected, Usage::Plain)?;
+        self.named(part, &name.first, &selected, list_usage(&name.suffixes))?;
+        let mark = self.name_type(name)?;
+        self.typed(part, mark)?;
         self.suffixes(part, &name.suffixes)?;
         Ok(())
     }
@@ -154,13 +169,14 @@ impl Walk {
     fn allocator(&mut self, part: Part, allocator: &Allocator) -> Result<(), AllocError>
         ensures { OnOk result (Judges self.old self.new (allocator_sites allocator.now (view_of self.old part))) }
     {
+        let mark = self.mark(part, &allocator.mark)?;
         self.handle(part, &allocator.handle)?;
         self.dotted(
             part,
             &allocator.mark,
             Usage::Allocated(allocator.value.is_none()),
         )?;
-        self.value(part, &allocator.value)?;
+        self.value(part, mark, &allocator.value)?;
         Ok(())
     }
 
@@ -174,13 +190,24 @@ impl Walk {
         }
     }
 
+    /// The value of an object, of a component or of what an allocator makes, where this type is expected.
+    #[tactic(auto, using(ctl_legality::proofs::Noting::judged_append))]
     #[cycle(expression)]
-    fn value(&mut self, part: Part, value: &Option<Expression>) -> Result<(), AllocError>
-        ensures { OnOk result (Judges self.old self.new (option_sites value.now (view_of self.old part))) }
+    pub fn value(
+        &mut self,
+        part: Part,
+        expected: Mark,
+        value: &Option<Expression>,
+    ) -> Result<(), AllocError>
+        ensures { OnOk result (Judges self.old self.new (initial_sites value.now expected (view_of self.old part))) }
     {
         match value {
             None => Ok(()),
-            Some(expression) => self.expression(part, expression),
+            Some(expression) => {
+                self.allocated(part, allocator_type(expected, expression))?;
+                self.expression(part, expression)?;
+                Ok(())
+            }
         }
     }
 }

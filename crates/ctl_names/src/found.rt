@@ -151,7 +151,7 @@ impl Found {
         ensures { OnOk result (self.new ≡ (self.old.0, self.old.1, self.old.2 ++ effects_on number usage, self.old.3)) }
     {
         match usage {
-            Usage::Designated => {}
+            Usage::Designated | Usage::Prefix => {}
             Usage::Object(by_default) => {
                 self.push_effect(Effect::Has(number))?;
                 self.push_effect(Effect::Makes(number))?;
@@ -189,6 +189,7 @@ fn waits(entity: Entity) -> bool
 {
     match entity {
         Entity::Subprogram(has_body) => !has_body,
+        Entity::Function(_) => true,
         Entity::Type(form) => matches!(form, Form::Incomplete),
         _ => false,
     }

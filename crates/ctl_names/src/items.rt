@@ -6,7 +6,8 @@ ghost use Rattle.ctl_legality.specs.declared.view.Form.TheVariants as form;
 ghost use Rattle.ctl_legality.specs.declared.view.Naming.TheVariants as naming;
 ghost use Rattle.ctl_legality.specs.declared.view.Usage.TheVariants as usage;
 ghost use Rattle.ctl_legality.specs.View.{declare, complete, folded, inside};
-ghost use Rattle.ctl_legality.specs.Sites.{named, clause, declared, body, full_type, type_item, dotted_site, associations_sites, expression_sites, heading_key, heading_sites, definition_sites, after_type, declare_each, declared_each, hide_each, name_body, after_formals, scheme_sites, in_loop, after_choice, choice_sites, after_choice_list, choice_list_sites, after_choices, choices_sites};
+ghost use Rattle.ctl_legality.specs.Sites.{give_pool, pooled_type, subprogram_in, named, clause, declared, body, full_type, type_item, dotted_site, associations_sites, expression_sites, heading_key, heading_sites, definition_sites, after_type, declare_each, declared_each, hide_each, name_body, after_formals, scheme_sites, in_loop, after_choice, choice_sites, after_choice_list, choice_list_sites, after_choices, choices_sites};
+ghost use Rattle.ctl_legality.specs.NameTypes.{pool_named};
 ghost use Rattle.ctl_legality.specs.Judged.{judged};
 ghost use Rattle.ctl_names.specs.Judging.{view_of, Judges};
 
@@ -21,16 +22,27 @@ use std::alloc::AllocError;
 
 // Items.
 impl Walk {
+    /// What the declaration of a subprogram with this result declares.
+    fn subprogram_entity(&self, part: Part, wanted: &Option<Dotted>) -> Result<Entity, AllocError>
+        ensures { IfOk result (λ e. e ≡ subprogram_in (view_of self.now part) wanted.now) }
+    {
+        match wanted {
+            None => Ok(Entity::Subprogram(false)),
+            Some(mark) => Ok(Entity::Function(self.mark(part, mark)?)),
+        }
+    }
+
     /// The declaration of a subprogram.
     #[tactic(auto, using(ctl_legality::proofs::Noting::judged_append))]
     pub fn declaration(&mut self, part: Part, heading: &Specification) -> Result<(), AllocError>
-        ensures view { OnOk result (view_of self.new part ≡ declare (view_of self.old part) (heading_key heading.now) heading.now.name.span (entity.Subprogram false)) }
+        ensures view { OnOk result (view_of self.new part ≡ declare (view_of self.old part) (heading_key heading.now) heading.now.name.span (subprogram_in (view_of self.old part) heading.now.result)) }
         ensures found { OnOk result (self.new.found ≡ judged self.old.found (declared (view_of self.old part) (heading_key heading.now) heading.now.name.span ∷ heading_sites heading.now (view_of self.old part))) }
     {
         let key = heading_key(self.alloc, heading)?;
+        let entity = self.subprogram_entity(part, &heading.result)?;
         self.declared(part, key.as_slice(), heading.name.span);
         self.heading(part, heading)?;
-        self.declare(part, key, heading.name.span, Entity::Subprogram(false))?;
+        self.declare(part, key, heading.name.span, entity)?;
         Ok(())
     }
 
@@ -86,9 +98,9 @@ impl Walk {
         Ok(())
     }
 
-    /// A clause that names a storage pool.
+    /// The names of a clause that names a storage pool.
     #[tactic(auto, using(ctl_legality::proofs::Noting::judged_append))]
-    pub fn clause(
+    fn clause_names(
         &mut self,
         part: Part,
         span: Span,
@@ -100,6 +112,22 @@ impl Walk {
         self.named(part, identifier, &[], Usage::Plain)?;
         self.clause_on(part, identifier, span)?;
         self.dotted(part, pool, Usage::Plain)?;
+        Ok(())
+    }
+
+    /// A clause that names a storage pool.
+    pub fn clause(
+        &mut self,
+        part: Part,
+        span: Span,
+        identifier: &Identifier,
+        pool: &Dotted,
+    ) -> Result<(), AllocError>
+        ensures view { OnOk result (view_of self.new part ≡ give_pool (view_of self.old part) (pooled_type (view_of self.old part) identifier.now) (pool_named self.old.scope pool.now)) }
+        ensures found { OnOk result (self.new.found ≡ judged self.old.found (named (view_of self.old part) identifier.now [] usage.Plain ∷ clause (view_of self.old part) identifier.now span ∷ dotted_site pool.now (view_of self.old part) usage.Plain ∷ [])) }
+    {
+        self.clause_names(part, span, identifier, pool)?;
+        self.give_pool(part, identifier, pool)?;
         Ok(())
     }
 

@@ -73,7 +73,7 @@ fn discriminants(name: LibraryName) -> &'static [Discriminant]
     }
 }
 
-fn operation_spelling(operation: Operation) -> &'static [u8]
+pub fn operation_spelling(operation: Operation) -> &'static [u8]
     ensures { result.now ≡ operation_spelling operation }
 {
     match operation {

@@ -48,7 +48,7 @@ fn marked(known: Option<Known>, rest: &[Identifier], meaning: Meaning) -> Mark
     }
 }
 
-fn is_other(mark: Mark) -> bool
+pub fn is_other(mark: Mark) -> bool
     ensures { result ≡ is_other mark }
 {
     matches!(mark, Mark::Other)

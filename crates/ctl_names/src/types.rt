@@ -6,8 +6,9 @@ ghost use Rattle.ctl_legality.specs.declared.view.Form.TheVariants as form;
 ghost use Rattle.ctl_legality.specs.declared.view.Naming.TheVariants as naming;
 ghost use Rattle.ctl_legality.specs.declared.view.Usage.TheVariants as usage;
 ghost use Rattle.ctl_legality.specs.Types.{mark_in};
+ghost use Rattle.ctl_legality.specs.NameTypes.{type_named};
 ghost use Rattle.ctl_legality.specs.View.{inside, region};
-ghost use Rattle.ctl_legality.specs.Sites.{component_names, component_sites, components_sites, after_components, written_components, parents, form_in, declare_each, declared_each, aspect_sites, definition_sites, in_definition, in_record, objects_sites, hide_each, dotted_site, associations_sites, option_sites};
+ghost use Rattle.ctl_legality.specs.Sites.{component_in, object_in, component_names, component_sites, components_sites, after_components, written_components, parents, form_in, declare_each, declared_each, aspect_sites, definition_sites, in_definition, in_record, objects_sites, hide_each, dotted_site, associations_sites, initial_sites, aspect_pool};
 ghost use Rattle.ctl_legality.specs.Judged.{judged};
 ghost use Rattle.ctl_names.specs.Judging.{view_of, Judges};
 
@@ -25,17 +26,29 @@ impl Walk {
         part: Part,
         number: usize,
         parents: &[Mark],
+        entity: Entity,
         identifiers: &[Identifier],
     ) -> Result<(), AllocError>
-        ensures view { OnOk result (view_of self.new part ≡ declare_each (naming.Component number) entity.Object identifiers.now (view_of self.old part)) }
-        ensures found { OnOk result (self.new.found ≡ judged self.old.found (component_names number parents.now identifiers.now (view_of self.old part))) }
+        ensures view { OnOk result (view_of self.new part ≡ declare_each (naming.Component number) entity identifiers.now (view_of self.old part)) }
+        ensures found { OnOk result (self.new.found ≡ judged self.old.found (component_names number parents.now entity identifiers.now (view_of self.old part))) }
     {
         for identifier in identifiers {
             self.component_name(part, number, parents, identifier)?;
             let key = key_of(self.alloc, Naming::Component(number), identifier)?;
-            self.declare(part, key, identifier.span, Entity::Object)?;
+            self.declare(part, key, identifier.span, entity)?;
         }
         Ok(())
+    }
+
+    /// What a declaration of components declares.
+    fn component_entity(
+        &self,
+        part: Part,
+        component: &ComponentDeclaration,
+    ) -> Result<Entity, AllocError>
+        ensures { IfOk result (λ e. e ≡ component_in (view_of self.now part) component.now) }
+    {
+        Ok(Entity::ObjectOf(self.mark(part, &component.mark)?))
     }
 
     /// Components of one type.
@@ -47,16 +60,23 @@ impl Walk {
         parents: &[Mark],
         component: &ComponentDeclaration,
     ) -> Result<(), AllocError>
-        ensures view { OnOk result (view_of self.new part ≡ declare_each (naming.Component number) entity.Object component.now.names.items (view_of self.old part)) }
+        ensures view { OnOk result (view_of self.new part ≡ declare_each (naming.Component number) (component_in (view_of self.old part) component.now) component.now.names.items (view_of self.old part)) }
         ensures found { OnOk result (self.new.found ≡ judged self.old.found (component_sites number parents.now component.now (view_of self.old part))) }
     {
+        let mark = self.mark(part, &component.mark)?;
         self.dotted(
             part,
             &component.mark,
             Usage::Object(component.default.is_none()),
         )?;
-        self.option_expression(part, &component.default)?;
-        self.component_names(part, number, parents, &component.names)?;
+        self.value(part, mark, &component.default)?;
+        self.component_names(
+            part,
+            number,
+            parents,
+            Entity::ObjectOf(mark),
+            &component.names,
+        )?;
         Ok(())
     }
 
@@ -89,12 +109,8 @@ impl Walk {
         ensures found { OnOk result (self.new.found ≡ self.old.found) }
     {
         for component in components {
-            self.declare_each(
-                part,
-                Naming::Component(number),
-                Entity::Object,
-                &component.names,
-            )?;
+            let entity = self.component_entity(part, component)?;
+            self.declare_each(part, Naming::Component(number), entity, &component.names)?;
         }
         Ok(())
     }
@@ -219,20 +235,23 @@ impl Walk {
         Ok(())
     }
 
-    /// The definition of an access type.
+    /// The definition of an access type: what it makes the type.
     fn access_definition(
         &mut self,
         part: Part,
         identifier: &Identifier,
         definition: &AccessDefinition,
-    ) -> Result<(), AllocError>
-        ensures { OnOk result (Judges self.old self.new (dotted_site definition.now.designated (in_definition (view_of self.old part) identifier.now) usage.Designated ∷ aspect_sites definition.now.aspect (in_definition (view_of self.old part) identifier.now))) }
+    ) -> Result<Form, AllocError>
+        ensures judges { OnOk result (Judges self.old self.new (dotted_site definition.now.designated (in_definition (view_of self.old part) identifier.now) usage.Designated ∷ aspect_sites definition.now.aspect (in_definition (view_of self.old part) identifier.now))) }
+        ensures form { IfOk result (λ f. f ≡ form.Access (type_named (in_definition (view_of self.old part) identifier.now).names definition.now.designated) (aspect_pool definition.now.aspect (in_definition (view_of self.old part) identifier.now).names)) }
     {
         let count = self.scope.count();
         self.enter_definition(part, identifier)?;
+        let designated = self.type_named(&definition.designated)?;
+        let pool = self.aspect_pool(&definition.aspect)?;
         self.access_parts(part, definition)?;
         self.scope.close(count);
-        Ok(())
+        Ok(Form::Access(designated, pool))
     }
 
     /// The definition of the type of this number: what it makes the type.
@@ -256,8 +275,7 @@ impl Walk {
                 self.extension(part, identifier, number, parent, components)
             }
             Definition::Access(definition) => {
-                self.access_definition(part, identifier, definition)?;
-                Ok(Form::Underived)
+                self.access_definition(part, identifier, definition)
             }
         }
     }
@@ -267,33 +285,36 @@ impl Walk {
 impl Walk {
     #[tactic(auto, using(ctl_legality::proofs::Noting::judged_append))]
     fn object_parts(&mut self, part: Part, objects: &Objects) -> Result<(), AllocError>
-        ensures { OnOk result (Judges self.old self.new (dotted_site objects.now.mark (view_of self.old part) (usage.Object (not (is_some objects.now.value))) ∷ (associations_sites objects.now.discriminants.items (view_of self.old part) ++ option_sites objects.now.value (view_of self.old part)))) }
+        ensures { OnOk result (Judges self.old self.new (dotted_site objects.now.mark (view_of self.old part) (usage.Object (not (is_some objects.now.value))) ∷ (associations_sites objects.now.discriminants.items (view_of self.old part) ++ initial_sites objects.now.value (mark_in (view_of self.old part) objects.now.mark) (view_of self.old part)))) }
     {
+        let mark = self.mark(part, &objects.mark)?;
         self.dotted(part, &objects.mark, Usage::Object(objects.value.is_none()))?;
         self.associations(part, &objects.discriminants)?;
-        self.option_expression(part, &objects.value)?;
+        self.value(part, mark, &objects.value)?;
         Ok(())
     }
 
-    /// The mark, the discriminants and the value of objects, which are hidden there.
-    fn own_object(&mut self, part: Part, objects: &Objects) -> Result<(), AllocError>
-        ensures { OnOk result (Judges self.old self.new (dotted_site objects.now.mark (hide_each objects.now.names.items (view_of self.old part)) (usage.Object (not (is_some objects.now.value))) ∷ (associations_sites objects.now.discriminants.items (hide_each objects.now.names.items (view_of self.old part)) ++ option_sites objects.now.value (hide_each objects.now.names.items (view_of self.old part))))) }
+    /// The mark, the discriminants and the value of objects, which are hidden there: what the declaration declares.
+    fn own_object(&mut self, part: Part, objects: &Objects) -> Result<Entity, AllocError>
+        ensures judges { OnOk result (Judges self.old self.new (dotted_site objects.now.mark (hide_each objects.now.names.items (view_of self.old part)) (usage.Object (not (is_some objects.now.value))) ∷ (associations_sites objects.now.discriminants.items (hide_each objects.now.names.items (view_of self.old part)) ++ initial_sites objects.now.value (mark_in (hide_each objects.now.names.items (view_of self.old part)) objects.now.mark) (hide_each objects.now.names.items (view_of self.old part))))) }
+        ensures entity { IfOk result (λ e. e ≡ object_in (view_of self.old part) objects.now) }
     {
         let count = self.scope.count();
         self.declare_each(part, Naming::Direct, Entity::Hidden, &objects.names)?;
+        let mark = self.mark(part, &objects.mark)?;
         self.object_parts(part, objects)?;
         self.scope.close(count);
-        Ok(())
+        Ok(Entity::ObjectOf(mark))
     }
 
     /// The declaration of objects.
     #[tactic(auto, using(ctl_legality::proofs::Noting::judged_append))]
     pub fn objects(&mut self, part: Part, objects: &Objects) -> Result<(), AllocError>
-        ensures view { OnOk result (view_of self.new part ≡ declare_each naming.Direct entity.Object objects.now.names.items (view_of self.old part)) }
+        ensures view { OnOk result (view_of self.new part ≡ declare_each naming.Direct (object_in (view_of self.old part) objects.now) objects.now.names.items (view_of self.old part)) }
         ensures found { OnOk result (self.new.found ≡ judged self.old.found (objects_sites objects.now (view_of self.old part))) }
     {
-        self.own_object(part, objects)?;
-        self.declared_each(part, Naming::Direct, Entity::Object, &objects.names)?;
+        let entity = self.own_object(part, objects)?;
+        self.declared_each(part, Naming::Direct, entity, &objects.names)?;
         Ok(())
     }
 }

@@ -1,11 +1,11 @@
 //! The walk over a program: what is in view, and the judgement of one site.
 
-ghost use Rattle.std.specs.Prelude.{◌≡◌, ◌≤◌, ◌∷◌, [], ◌++◌, IfOk, OnOk, length, None, Some, drop, nat_le};
+ghost use Rattle.std.specs.Prelude.{◌≡◌, ◌≤◌, ◌∷◌, [], ◌++◌, IfOk, OnOk, length, None, Some, drop, nat_le, slice_get};
 ghost use Rattle.ctl_legality.specs.declared.view.Entity.TheVariants as entity;
 ghost use Rattle.ctl_legality.specs.Types.{component_key, is_inherited};
 ghost use Rattle.ctl_legality.specs.View.{View, folded, folded_each, type_of_part, subprogram_of_part, last_of, is_hidden, given_by, is_own, is_brought, number_of, way_from, way_meaning, not_brought, name_meaning, undeclared_meaning, declare, known_as, is_declared_here, wants_body, is_incomplete, is_type, is_subprogram, waits, completed_by, complete, within};
 ghost use Rattle.ctl_legality.specs.Library.{operation_named};
-ghost use Rattle.ctl_legality.specs.Sites.{named, declared, component, body, full_type, type_item, clause, end, part as part_site, effects_at, type_effects, call_effects, key_of, dotted_site, option_mark_sites, declare_each, declared_each};
+ghost use Rattle.ctl_legality.specs.Sites.{named, typed, is_declared_in_part, declared, component, body, full_type, type_item, clause, end, part as part_site, effects_at, type_effects, call_effects, key_of, dotted_site, option_mark_sites, declare_each, declared_each};
 ghost use Rattle.ctl_legality.specs.Rules.{meaning_of, identifier_at, incomplete_use, when, unfinished, at_spans, is_any_type, is_library_type, is_other_type};
 ghost use Rattle.ctl_legality.specs.Judged.{judged};
 ghost use Rattle.ctl_names.specs.Judging.{view_of, Judges};
@@ -43,7 +43,8 @@ pub fn folded(alloc: Global, identifier: &Identifier) -> Result<Vec<u8>, AllocEr
     identifier.name.as_bytes().to_ascii_lowercase(alloc)
 }
 
-fn is_type(entity: Entity) -> bool
+/// Whether a declaration is a type of the text.
+pub fn is_type(entity: Entity) -> bool
     ensures { result ≡ is_type entity }
 {
     matches!(entity, Entity::Type(_))
@@ -52,7 +53,7 @@ fn is_type(entity: Entity) -> bool
 fn is_subprogram(entity: Entity) -> bool
     ensures { result ≡ is_subprogram entity }
 {
-    matches!(entity, Entity::Subprogram(_))
+    matches!(entity, Entity::Subprogram(_) | Entity::Function(_))
 }
 
 /// Whether a declaration of the library is a type.
@@ -152,6 +153,7 @@ fn wants_body(entity: Entity) -> bool
 {
     match entity {
         Entity::Subprogram(has_body) => !has_body,
+        Entity::Function(_) => true,
         _ => false,
     }
 }
@@ -301,13 +303,14 @@ impl Walk {
     {
         match usage {
             Usage::Designated => Ok(false),
-            Usage::Object(_) | Usage::Parent | Usage::Allocated(_) | Usage::Plain => {
-                let name = folded(self.alloc, first)?;
-                match self.scope.find(name.as_slice()) {
-                    None => Ok(false),
-                    Some(known) => Ok(is_incomplete(known.entity)),
+            Usage::Object(_) | Usage::Parent | Usage::Allocated(_) | Usage::Prefix | Usage::Plain =>
+                {
+                    let name = folded(self.alloc, first)?;
+                    match self.scope.find(name.as_slice()) {
+                        None => Ok(false),
+                        Some(known) => Ok(is_incomplete(known.entity)),
+                    }
                 }
-            }
         }
     }
 
@@ -362,6 +365,22 @@ impl Walk {
         }
         self.effects(part, first, rest, usage)?;
         Ok(())
+    }
+
+    /// A name with all that stands behind it, by its type.
+    #[tactic(auto, unfolding(ctl_legality::specs::Rules::breaches_at, ctl_legality::specs::Rules::denoted_at, ctl_legality::specs::Rules::frozen_at, ctl_legality::specs::Sites::effects_at))]
+    pub fn typed(&mut self, part: Part, mark: Mark) -> Result<(), AllocError>
+        ensures { OnOk result (Judges self.old self.new (typed (view_of self.old part) mark ∷ [])) }
+    {
+        match mark {
+            Mark::Declared(place) => {
+                if self.is_declared_in_part(part, place) {
+                    self.found.push_effect(Effect::Uses(place))?;
+                }
+                Ok(())
+            }
+            Mark::Other | Mark::Library(_) => Ok(()),
+        }
     }
 
     /// A name that is declared.
@@ -541,8 +560,18 @@ impl Walk {
         }
     }
 
+    /// Whether the declaration at a place stands in the part around.
+    fn is_declared_in_part(&self, part: Part, place: usize) -> bool
+        ensures { result ≡ is_declared_in_part (view_of self.now part) (slice_get self.now.scope place) }
+    {
+        match self.scope.declarations().get(place) {
+            None => false,
+            Some(declaration) => declaration.known.level == part.level,
+        }
+    }
+
     /// The subprogram of the part that a name denotes.
-    fn subprogram_of_part(&self, part: Part, name: &[u8]) -> Option<Known>
+    pub fn subprogram_of_part(&self, part: Part, name: &[u8]) -> Option<Known>
         ensures { result ≡ subprogram_of_part (view_of self.now part) name.now }
     {
         match self.scope.find(name) {
@@ -594,7 +623,7 @@ impl Walk {
         ensures found { OnOk result (self.new.found ≡ (self.old.found.0, self.old.found.1, self.old.found.2 ++ call_effects usage known, self.old.found.3)) }
     {
         match usage {
-            Usage::Plain => {
+            Usage::Plain | Usage::Prefix => {
                 if known.is_some() {
                     self.found.push_effect(Effect::Calls)?;
                 }

@@ -212,6 +212,112 @@ fn storage_pools(rt: HostRuntime) -> Result<(), Fail> {
     Ok(())
 }
 
+/// A name freezes its own type, and not those of its parts.
+#[test]
+fn names_that_freeze(rt: HostRuntime) -> Result<(), Fail> {
+    const BEGIN: &str =
+        "with Ada.Finalization; use Ada.Finalization;\nprocedure Main is\ntype Node;\ntype Ref is access Node;\ntype Other is access Node;\ntype Node is new Controlled with record N : Integer; Next : Ref; end record;\nP : Integer;\nA : Other;\n";
+    for (source, wanted) in [
+        // a component through an access value, with and without the word
+        (
+            "X : Boolean := A.Next = null;\nfor Ref'Storage_Pool use P;\nbegin null; end Main;",
+            "10:1: 23 ORDER",
+        ),
+        (
+            "X : Boolean := A.all.Next = null;\nfor Ref'Storage_Pool use P;\nbegin null; end Main;",
+            "10:1: 23 ORDER",
+        ),
+        // a component of a component, behind a conversion too
+        (
+            "X : Boolean := Other (A).Next.all.Next = null;\nfor Ref'Storage_Pool use P;\nbegin null; end Main;",
+            "10:1: 23 ORDER",
+        ),
+        // a component of one that the type inherits
+        (
+            "type Base is new Controlled with record Down : Other; end record;\ntype Sub is new Base with null record;\ntype Third is access Sub;\nB : Third;\nX : Boolean := B.Down.Next = null;\nfor Ref'Storage_Pool use P;\nbegin null; end Main;",
+            "14:1: 23 ORDER",
+        ),
+        // the default of a component, where it is used
+        (
+            "type R is record C : Boolean := A.Next = null; end record;\nV : R;\nfor Ref'Storage_Pool use P;\nbegin null; end Main;",
+            "11:1: 23 ORDER",
+        ),
+        // what an access value designates
+        (
+            "X : Integer := Integer (A.all);\nprocedure Finalize (Y : in out Node);\nprocedure Finalize (Y : in out Node) is begin null; end Finalize;\nbegin null; end Main;",
+            "10:11: 26 LATE_PRIMITIVE",
+        ),
+        // a part of a name is no expression
+        (
+            "X : Integer := A.Next.N;\nfor Ref'Storage_Pool use P;\nprocedure Finalize (Y : in out Node);\nprocedure Finalize (Y : in out Node) is begin null; end Finalize;\nbegin null; end Main;",
+            "",
+        ),
+        (
+            "X : Boolean := A = null;\nfor Ref'Storage_Pool use P;\nbegin null; end Main;",
+            "",
+        ),
+        // a conversion, as an expression and as a part of a name
+        (
+            "type G is access all Node;\nX : Boolean := G (A) = null;\nfor G'Storage_Pool use P;\nbegin null; end Main;",
+            "11:1: 23 ORDER",
+        ),
+        (
+            "type G is access all Node;\nX : Integer := G (A).N;\nfor G'Storage_Pool use P;\nbegin null; end Main;",
+            "",
+        ),
+    ] {
+        let whole = join(rt.alloc(), BEGIN, source)?;
+        let shown = answer(rt.alloc(), whole.as_str())?;
+        assert_eq!(rt; shown.as_str(), wanted);
+    }
+    Ok(())
+}
+
+/// An object whose allocator calls an Allocate of the part stands behind its body.
+#[test]
+fn objects_that_allocate(rt: HostRuntime) -> Result<(), Fail> {
+    const BEGIN: &str =
+        "with Block_Pools; use Block_Pools; with System; use System; with System.Storage_Elements; use System.Storage_Elements;\nprocedure Main is\ntype D is record N : Integer; end record;\ntype K is new Block_Pool with null record;\nprocedure Allocate (Pool : in out K; A : out Address; S, L : Storage_Count);\nP : K (16, 4);\ntype A is access D;\ntype B is access D;\nfor A'Storage_Pool use P;\n";
+    const BODY: &str =
+        "procedure Allocate (Pool : in out K; A : out Address; S, L : Storage_Count) is begin null; end Allocate;\nbegin null; end Main;";
+    for (source, wanted) in [
+        ("V : A := new D;\n", "10:1: 24 ELAB"),
+        ("V : A;\n", ""),
+        // an access type to the same, without this pool
+        ("V : B := new D;\n", ""),
+        // an operand has the type of the other
+        ("V : A;\nX : Boolean := (new D) = V;\n", "11:1: 24 ELAB"),
+        ("V : B;\nX : Boolean := (new D) = V;\n", ""),
+        // the value of another allocator
+        (
+            "type L is access A;\nV : L := new A'(new D);\n",
+            "11:1: 24 ELAB",
+        ),
+        // the default of a component
+        (
+            "type R is record C : A := new D; end record;\nV : R;\n",
+            "11:1: 24 ELAB",
+        ),
+        // a pool that inherits Allocate, named by an aspect
+        (
+            "type E is new K with null record;\nQ : E (16, 4);\ntype C is access D with Storage_Pool => Q;\nV : C := new D;\n",
+            "13:1: 24 ELAB",
+        ),
+        // behind the body
+        (
+            "procedure Allocate (Pool : in out K; A : out Address; S, L : Storage_Count) is begin null; end Allocate;\nV : A := new D;\nbegin null; end Main;",
+            "",
+        ),
+    ] {
+        let begun = join(rt.alloc(), BEGIN, source)?;
+        let is_whole = source.ends_with("end Main;");
+        let whole = join(rt.alloc(), begun.as_str(), if is_whole { "" } else { BODY })?;
+        let shown = answer(rt.alloc(), whole.as_str())?;
+        assert_eq!(rt; shown.as_str(), wanted);
+    }
+    Ok(())
+}
+
 #[test]
 fn inherited_components(rt: HostRuntime) -> Result<(), Fail> {
     const BEGIN: &str =

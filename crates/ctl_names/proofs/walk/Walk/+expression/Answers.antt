@@ -1,7 +1,7 @@
-use Rattle.std.proofs.Common.{◌≡◌, List, ◌++◌, refl, sym, ap, ◌∙◌, subst}
+use Rattle.std.proofs.Common.{◌≡◌, OnOk, List, ◌++◌, refl, sym, ap, ◌∙◌, subst}
 use Rattle.ctl_tree.specs.declared.tree.Expression.{Expression}
-use Rattle.ctl_legality.specs.Sites.{Site, kind_sites, expression_sites, expression_list_sites, addend_list_sites, multiplicand_list_sites, suffix_sites, suffix_list_sites}
-use Rattle.ctl_legality.proofs.ExpressionRows.{logical_is, sum_is, product_is, arguments_is}
+use Rattle.ctl_legality.specs.Sites.{Site, kind_sites, expression_sites, expression_list_sites, addend_list_sites, multiplicand_list_sites, suffix_sites, suffix_list_sites, name_sites}
+use Rattle.ctl_legality.proofs.ExpressionRows.{logical_is, sum_is, product_is, name_is, arguments_is}
 use Rattle.ctl_names.specs.Judging.{view_of, Judges}
 use Rattle.ctl_names.proofs.Turns.{two, turn}
 use Rattle.ctl_names.proofs.walk.Walk.+expression.Goals as goal
@@ -72,6 +72,12 @@ expression-returns-in_ok-multiplicands-in-Product t c =
     let one = subst (λ (e : Expression). Judges c.args.self.now c.expression-in-Product.new.self (expression_sites e v)) c.deref-in-Product.ensures c.in_ok-expression-in-Product.ensures in
     let rest = subst (λ (es : _). Judges c.expression-in-Product.new.self c.multiplicands.new.self (multiplicand_list_sites es (view_of c.expression-in-Product.new.self c.args.part))) c.deref-in-Product-2.ensures.value c.in_ok-multiplicands-in-Product.ensures in
     subst (λ (ss : List Site). Judges c.args.self.now c.multiplicands.new.self ss) (sym same) (two c.args.self.now c.expression-in-Product.new.self c.multiplicands.new.self c.args.part (expression_sites head) (multiplicand_list_sites c.in-Product.more.items) one rest)
+
+pub expression-returns-in-Name : goal.expression-returns-in-Name
+expression-returns-in-Name t c =
+    let v = view_of c.args.self.now c.args.part in
+    let same : expression_sites c.args.expression.now v ≡ name_sites c.in-Name.name v = ap (λ k. kind_sites k v) c.in-Name.is ∙ name_is c.in-Name.name v in
+    subst (λ (ss : List Site). OnOk c.name.result (Judges c.args.self.now c.name.new.self ss)) (sym same) c.name.ensures
 
 pub suffix-returns-in_ok-expressions-in-Arguments : goal.suffix-returns-in_ok-expressions-in-Arguments
 suffix-returns-in_ok-expressions-in-Arguments t c =

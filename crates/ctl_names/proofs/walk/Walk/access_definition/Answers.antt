@@ -6,8 +6,8 @@ use Rattle.ctl_names.specs.Judging.{view_of}
 use Rattle.ctl_names.proofs.Turns.{region_judges}
 use Rattle.ctl_names.proofs.walk.Walk.access_definition.Goals as goal
 
-pub returns : goal.returns
-returns c =
+pub returns-clause-judges : goal.returns-clause-judges
+returns-clause-judges c =
     let v = view_of c.args.self.now c.args.part in
     region_judges c.args.self.now c.enter_definition.new.self c.access_parts.new.self (record c.access_parts.new.self { scope = c.close.new.self }) c.args.part c.args.part (in_definition v c.args.identifier.now) (λ u. dotted_site c.args.definition.now.designated u Designated ∷ aspect_sites c.args.definition.now.aspect u)
     c.in_ok-enter_definition.ensures.view c.in_ok-enter_definition.ensures.found c.in_ok-access_parts.ensures

@@ -1,5 +1,4 @@
 use Rattle.std.proofs.Common.{◌≡◌, drop}
-use Rattle.ctl_legality.specs.declared.view.Entity.TheVariants as Entity
 use Rattle.ctl_legality.specs.declared.view.Naming.TheVariants as Naming
 use Rattle.ctl_legality.specs.Sites.{declare_each, component_names}
 use Rattle.ctl_legality.specs.Judged.{judged}
@@ -8,6 +7,6 @@ use Rattle.ctl_names.proofs.walk.Walk.component_names.Given as goal
 
 abbrev pub invariant-loop-identifier : goal.invariant-loop-identifier
 invariant-loop-identifier l = record {
-  view : declare_each (Naming.Component l.number) Entity.Object (drop l.identifier-index l.identifiers) (view_of l.self l.part) ≡ declare_each (Naming.Component l.number) Entity.Object l.identifiers (view_of l.initial.self l.part);
-  found : judged l.self.found (component_names l.number l.parents (drop l.identifier-index l.identifiers) (view_of l.self l.part)) ≡ judged l.initial.self.found (component_names l.number l.parents l.identifiers (view_of l.initial.self l.part));
+  view : declare_each (Naming.Component l.number) l.entity (drop l.identifier-index l.identifiers) (view_of l.self l.part) ≡ declare_each (Naming.Component l.number) l.entity l.identifiers (view_of l.initial.self l.part);
+  found : judged l.self.found (component_names l.number l.parents l.entity (drop l.identifier-index l.identifiers) (view_of l.self l.part)) ≡ judged l.initial.self.found (component_names l.number l.parents l.entity l.identifiers (view_of l.initial.self l.part));
 }
