@@ -6,6 +6,7 @@ pub mod Links
 pub mod Lists
 pub mod Logs
 pub mod Numbers
+pub mod RightOperands
 pub mod SingleLayers
 pub mod Small
 pub mod Texts

@@ -7,7 +7,7 @@ ghost use Rattle.ctl_tree.specs.declared.checked.Ty.TheVariants.{Integer};
 ghost use Rattle.ctl_code.specs.declared.kinds.Kind.TheVariants.{Operand, Counting};
 ghost use Rattle.ctl_code.specs.declared.code.Instr.TheVariants as I;
 ghost use Rattle.ctl_code.specs.Kinds.{changed, stack_at, with_top};
-ghost use Rattle.ctl_code.specs.Valid.{IsAtEnd, IsEntry, IsFine, IsRecord, IsScalar, IsText, Leads, Under, UnderScalar};
+ghost use Rattle.ctl_code.specs.Valid.{IsAtEnd, IsEntry, IsFine, IsRecord, IsScalar, IsText, Leads, TakesLeft, Under, UnderScalar};
 
 use crate::code::{Code, Instr};
 use crate::images::count_images;
@@ -156,6 +156,32 @@ fn is_binary_fine(code: &Code, place: usize, op: BinaryOp, ty: Ty) -> bool
     }
 }
 
+/// An operator whose right operand, the value of a variable, is part of the instruction (RM 4.5).
+fn is_binary_variable_fine(code: &Code, place: usize, op: BinaryOp, ty: Ty) -> bool
+    requires { place + 1 < 2 ^ 64 }
+    ensures { IsTrue result ↔ TakesLeft code.now place op ty (stack_at code.now.kinds place) IsScalar }
+{
+    match top_operand(code, place) {
+        Some(operand) => is_binary_of(op, operand, ty)
+            && is_scalar(operand)
+            && leads_on(code, place, 1, Some(Kind::Operand(ty))),
+        None => false,
+    }
+}
+
+/// An operator whose right operand is a constant, a value of the left one's type (RM 4.5).
+fn is_binary_constant_fine(code: &Code, place: usize, op: BinaryOp, ty: Ty, cell: u64) -> bool
+    requires { place + 1 < 2 ^ 64 }
+    ensures { IsTrue result ↔ IsFine code.now place (I.BinaryConstant op ty cell) (stack_at code.now.kinds place) }
+{
+    match top_operand(code, place) {
+        Some(operand) => is_binary_of(op, operand, ty)
+            && is_cell_of(operand, cell)
+            && leads_on(code, place, 1, Some(Kind::Operand(ty))),
+        None => false,
+    }
+}
+
 /// The assignment of a scalar (RM 5.2).
 fn is_assign_fine(code: &Code, place: usize) -> bool
     requires { place + 1 < 2 ^ 64 }
@@ -231,6 +257,8 @@ pub fn is_fine(code: &Code, place: usize, instr: &Instr) -> bool
         Instr::Assign(_) => is_assign_fine(code, place),
         Instr::Unary(op, ty) => is_unary_fine(code, place, op, ty),
         Instr::Binary(op, ty) => is_binary_fine(code, place, op, ty),
+        Instr::BinaryVariable(op, ty, _) => is_binary_variable_fine(code, place, op, ty),
+        Instr::BinaryConstant(op, ty, cell) => is_binary_constant_fine(code, place, op, ty, cell),
         Instr::Decide(_, count) => leads_ahead(code, place, 0, count)
             && takes(code, place, Ty::Boolean, None),
         Instr::Skip(count) => leads_ahead(code, place, 0, count),

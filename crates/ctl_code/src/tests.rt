@@ -37,6 +37,16 @@ const EACH_CONSTRUCT: &[Line] = &[
     (Instr::Assign(FIRST), "(i"),
     (Instr::Skip(0), "("),
     (Instr::Repeat(8), "("),
+    (Instr::Read(FIRST), ""),
+    (
+        Instr::BinaryVariable(BinaryOp::Add, Ty::Integer, FIRST),
+        "i",
+    ),
+    (
+        Instr::BinaryConstant(BinaryOp::Multiply, Ty::Integer, 3),
+        "i",
+    ),
+    (Instr::Assign(FIRST), "i"),
     (Instr::Push(1), ""),
     (Instr::Push(3), "i"),
     (Instr::For(FIRST, true, 11), "ii"),
@@ -74,6 +84,15 @@ const MISSING_OPERAND: &[Line] = &[
     (Instr::Push(1), ""),
     (Instr::Binary(BinaryOp::Add, Ty::Integer), "i"),
     (Instr::Assign(FIRST), "i"),
+    (Instr::Leave, ""),
+];
+
+/// A constant that is no Boolean as the right operand of `and`.
+const NUMBER_FOR_A_BOOLEAN: &[Line] = &[
+    (Instr::Start(0), ""),
+    (Instr::Push(1), ""),
+    (Instr::BinaryConstant(BinaryOp::And, Ty::Boolean, 2), "b"),
+    (Instr::Unless(0), "b"),
     (Instr::Leave, ""),
 ];
 
@@ -173,7 +192,7 @@ fn is_accepted(alloc: Global, lines: &[Line], place: usize) -> Result<bool, Allo
 fn well_formed_code_is_accepted(rt: HostRuntime) -> Result<(), Fail> {
     let alloc = rt.alloc();
     assert!(rt; is_accepted(alloc, EMPTY, 1)?);
-    assert!(rt; is_accepted(alloc, EACH_CONSTRUCT, 33)?);
+    assert!(rt; is_accepted(alloc, EACH_CONSTRUCT, 37)?);
     Ok(())
 }
 
@@ -187,6 +206,10 @@ fn faults_are_refused(rt: HostRuntime) -> Result<(), Fail> {
     assert!(rt;
         !is_accepted(alloc, BOOLEAN_FOR_A_NUMBER, 1)?,
         "a Boolean for a number"
+    );
+    assert!(rt;
+        !is_accepted(alloc, NUMBER_FOR_A_BOOLEAN, 1)?,
+        "a number for a Boolean"
     );
     assert!(rt;
         !is_accepted(alloc, MISSING_OPERAND, 1)?,

@@ -1,6 +1,8 @@
 -- The code of an expression leaves the expression's value as a new operand, or drops the operands of its statement.
 use Rattle.std.proofs.Common.{◌≡◌, ℕ, ◌+◌, List, [], ◌∷◌, ◌++◌, length, Option, Some, None, Bool, true, false, refl, sym, ap, ◌∙◌, subst, arith, length-append}
 use Rattle.ctl_tree.specs.declared.checked.Ty.{Ty}
+use Rattle.ctl_tree.specs.declared.checked.Var.{Var}
+use Rattle.ctl_tree.specs.declared.checked.BinaryOp.{BinaryOp}
 use Rattle.ctl_tree.specs.declared.checked.Step.{Step}
 use Rattle.ctl_tree.specs.declared.checked.Shortcut.{Shortcut}
 use Rattle.ctl_tree.specs.declared.checked.Expr.{Expr, Constant, Read', Call', Unary', Chain', Short', Convert', Access, New', Subpool', Discriminant', Row_of-Expr, end_of-Expr, more_of-Expr, Row_of-Operand, end_of-Operand, more_of-Operand}
@@ -20,11 +22,14 @@ use Rattle.ctl_code.specs.declared.code.Instr.{Instr}
 use Rattle.ctl_code.specs.declared.code.Instr.TheVariants as InstrOf
 use Rattle.ctl_code.specs.declared.code.Code.{Code}
 use Rattle.ctl_code.specs.States.{Frame, State}
-use Rattle.ctl_code.specs.Table.{by_result, by_read, by_held, by_decision, found_by}
+use Rattle.ctl_code.specs.Table.{by_result, then_binary, by_read, by_held, by_decision, found_by}
 use Rattle.ctl_code.specs.Steps.{moved, step}
-use Rattle.ctl_gen.specs.Layout.{read_code, expr_code, operands_code, other_code, others_code}
+use Rattle.ctl_gen.specs.declared.right.Right.{Right}
+use Rattle.ctl_gen.specs.declared.right.Right.TheVariants as RightOf
+use Rattle.ctl_gen.specs.Layout.{read_code, expr_code, operands_code, operator_code, other_code, others_code, right_name, right_of}
 use Rattle.ctl_gen.specs.Typing.{IsScalar, IsVariable}
 use Rattle.ctl_gen.proofs.Simple.{ExprInSlice, OperandsInSlice, OthersInSlice}
+use Rattle.ctl_gen.proofs.RightOperands.{constant_right}
 use Rattle.ctl_gen.proofs.Place.{HasAt, has_front, has_back}
 use Rattle.ctl_gen.proofs.Worlds.{Fits}
 use Rattle.ctl_gen.proofs.Setting.{tools_with, by_code}
@@ -125,6 +130,72 @@ module _ (ask : Ask) (k : Tables) (code : Code) (call : Call) where
       (λ m fits1. result_runs (binary op ty n m) v (place + length is) ks ops xs c l w _ stands fits1 (by_code ask code v (place + length is) ks (m ∷ n ∷ xs ++ ops) l w (InstrOf.Binary op ty) (has_back code.instructions.items place is (InstrOf.Binary op ty ∷ []) has).0))
       (λ fits1. fails 1 1 v (place + length is) (place + length is + 1) ks ops (n ∷ xs ++ ops) (xs ++ ops) c l w fits1)))
 
+  -- the value of a right operand that is a constant, or a variable
+  constant_is : (e : Expr) (n : ℕ) → right_of e ≡ RightOf.Constant n → (v : List ℕ) (c : ℕ) (l : Log) (w : World) → eval K v e c l w ≡ Gives (Goes (n ∷ [])) 1 c l w
+  unfolding eval opened_outcome opened_lists
+  constant_is e n is v c l w = ap (λ (x : Expr). eval K v x c l w) (constant_right e n is)
+
+  use_is : (head : Head) (steps : List Step) (ty : Ty) (x : Var) → IsScalar ty → right_name head steps ≡ RightOf.Variable x → (v : List ℕ) (c : ℕ) (l : Log) (w : World) → ticked (eval_head K v head >>= walk K steps >>= read_found (cells_of k ty)) c l w ≡ add 1 (add 1 (read_found 1 (found_by v x w) c l w))
+  unfolding eval_head var_part opened_outcome opened_names
+  use_is (Variable y) [] ty x scalar is v c l w =
+      let same : y ≡ x = cc in
+      ap (λ n. add 1 (add 1 (read_found n (found_by v y w) c l w))) (scalar_cells k ty scalar) ∙ ap (λ (z : Var). add 1 (add 1 (read_found 1 (found_by v z w) c l w))) same
+  use_is (Variable y) (s ∷ steps) ty x scalar is v c l w = absurd (cc)
+  use_is (Given' p e) steps ty x scalar is v c l w = absurd (cc)
+
+  variable_is : (e : Expr) (x : Var) → ExprInSlice e → right_of e ≡ RightOf.Variable x → (v : List ℕ) (c : ℕ) (l : Log) (w : World) → eval K v e c l w ≡ add 1 (add 1 (read_found 1 (found_by v x w) c l w))
+  unfolding eval opened_outcome opened_lists
+  variable_is (Constant n) x known is v c l w = absurd (cc)
+  variable_is (Read' head steps ty) x known is v c l w = use_is head steps.items ty x known.1 is v c l w
+  variable_is (Unary' op ty p e) x known is v c l w = absurd (cc)
+  variable_is (Chain' p e s row) x known is v c l w = absurd (cc)
+  variable_is (Short' form p e s row) x known is v c l w = absurd (cc)
+  variable_is (Call' f s row) x known is v c l w = absurd known
+  variable_is (Convert' ty p e) x known is v c l w = absurd known
+  variable_is (Access y) x known is v c l w = absurd known
+  variable_is (New' access ty handle value) x known is v c l w = absurd known
+  variable_is (Subpool' which p head steps) x known is v c l w = absurd known
+  variable_is (Discriminant' p head steps n) x known is v c l w = absurd known
+
+  -- an operator over the value of a variable
+  read_right_runs : (op : BinaryOp) (ty : Ty) (n : ℕ) (f : Found) (v : List ℕ) (place : ℕ) (ks : List Frame) (ops xs : List ℕ) (c : ℕ) (l : Log) (w : World) (s0 : State) → Stands ks ops → Fits k w → step ask code s0 ≡ moved l (then_binary op ty place (by_read f v place ks (n ∷ xs ++ ops) w)) → Runs ask code (Fits k) 2 2 s0 c (values v (place + 1) ks ops (xs ++ ops)) (bind (read_found 1 f c l w) (on_goes (λ u. or_constraint_error (binary op ty n (scalar_of u)))))
+  unfolding opened_names opened_outcome opened_lists
+  read_right_runs op ty n f v place ks ops xs c l w s0 stands fits first = by f first
+    where
+      goal : Found → Type 0
+      goal f1 = Runs ask code (Fits k) 2 2 s0 c (values v (place + 1) ks ops (xs ++ ops)) (bind (read_found 1 f1 c l w) (on_goes (λ u. or_constraint_error (binary op ty n (scalar_of u)))))
+
+      over : (m : ℕ) → step ask code s0 ≡ moved l (by_result (binary op ty n m) v place ks (xs ++ ops) w) → Runs ask code (Fits k) 2 2 s0 c (values v (place + 1) ks ops (xs ++ ops)) (add 0 (or_constraint_error (binary op ty n m) c l w))
+      over m e = added ask code (Fits k) 0 1 1 2 2 s0 c _ _ (omega arith) (omega arith) (result_runs (binary op ty n m) v place ks ops xs c l w s0 stands fits e)
+
+      by : (f1 : Found) → step ask code s0 ≡ moved l (then_binary op ty place (by_read f1 v place ks (n ∷ xs ++ ops) w)) → goal f1
+      by (InObject i offset path) e = held (object_at i w) refl
+        where
+          held : (y : Option Object) → object_at i w ≡ y → goal (InObject i offset path)
+          held None is = subst (λ o. Runs ask code (Fits k) 2 2 s0 c (values v (place + 1) ks ops (xs ++ ops)) (bind o (on_goes (λ u. or_constraint_error (binary op ty n (scalar_of u)))))) (sym (ap (λ y. on_some y gone (λ o. done (cells_at offset 1 o)) c l w) is)) (stop_step ask code (Fits k) 2 2 s0 _ c 0 (values v (place + 1) ks ops (xs ++ ops)) UseAfterFree l (omega arith) (e ∙ ap (λ y. moved l (then_binary op ty place (by_held offset y v place ks (n ∷ xs ++ ops) w))) is) refl refl)
+          held (Some o) is = subst (λ o1. Runs ask code (Fits k) 2 2 s0 c (values v (place + 1) ks ops (xs ++ ops)) (bind o1 (on_goes (λ u. or_constraint_error (binary op ty n (scalar_of u)))))) (sym (ap (λ y. on_some y gone (λ o. done (cells_at offset 1 o)) c l w) is)) (over (scalar_of (cells_at offset 1 o)) (e ∙ ap (λ y. moved l (then_binary op ty place (by_held offset y v place ks (n ∷ xs ++ ops) w))) is))
+      by (InCopy m i offset) e = over _ e
+      by (Alone u) e = over _ e
+
+  -- an operator, and its right operand
+  operator_runs : (r : Right) (op : BinaryOp) (ty : Ty) (n : ℕ) (right : Expr) → right_of right ≡ r → ExprInSlice right → Evals (expr_code right) (λ v. eval K v right) → (v : List ℕ) (place : ℕ) (ks : List Frame) (ops xs : List ℕ) (c : ℕ) (l : Log) (w : World) → Stands ks ops → Fits k w → HasAt code.instructions.items place (operator_code r op ty (expr_code right)) → Runs ask code (Fits k) 0 0 (at v place ks (n ∷ xs ++ ops) l w) c (values v (place + length (operator_code r op ty (expr_code right))) ks ops (xs ++ ops)) (ticked (eval K v right >>= (λ u. or_constraint_error (binary op ty n (scalar_of u)))) c l w)
+  unfolding opened_outcome scalar_of opened_lists
+  operator_runs (RightOf.Constant m) op ty n right is known does v place ks ops xs c l w stands fits has =
+      subst (λ o. Runs ask code (Fits k) 0 0 (at v place ks (n ∷ xs ++ ops) l w) c (values v (place + 1) ks ops (xs ++ ops)) (add 1 (bind o (on_goes (λ u. or_constraint_error (binary op ty n (scalar_of u))))))) (sym (constant_is right m is v c l w))
+      (added ask code (Fits k) 1 0 0 0 0 _ c _ _ (omega arith) (omega arith)
+      (added ask code (Fits k) 1 1 1 0 0 _ c _ _ (omega arith) (omega arith)
+      (result_runs (binary op ty n m) v place ks ops xs c l w _ stands fits (by_code ask code v place ks (n ∷ xs ++ ops) l w (InstrOf.BinaryConstant op ty m) has.0))))
+  operator_runs (RightOf.Variable x) op ty n right is known does v place ks ops xs c l w stands fits has =
+      let found = found_by v x w in
+      let goes = on_goes (λ u. or_constraint_error (binary op ty n (scalar_of u))) in
+      let e : bind (eval K v right c l w) goes ≡ add 1 (add 1 (bind (read_found 1 found c l w) goes)) = ap (λ o. bind o goes) (variable_is right x known is v c l w) ∙ (bind_add 1 (add 1 (read_found 1 found c l w)) goes ∙ ap (λ o. add 1 o) (bind_add 1 (read_found 1 found c l w) goes)) in
+      subst (λ o. Runs ask code (Fits k) 0 0 (at v place ks (n ∷ xs ++ ops) l w) c (values v (place + 1) ks ops (xs ++ ops)) (add 1 o)) (sym e)
+      (added ask code (Fits k) 1 0 0 0 0 _ c _ _ (omega arith) (omega arith)
+      (added ask code (Fits k) 1 0 0 0 0 _ c _ _ (omega arith) (omega arith)
+      (added ask code (Fits k) 1 2 2 0 0 _ c _ _ (omega arith) (omega arith)
+      (read_right_runs op ty n found v place ks ops xs c l w _ stands fits (by_code ask code v place ks (n ∷ xs ++ ops) l w (InstrOf.BinaryVariable op ty x) has.0)))))
+  operator_runs RightOf.Evaluated op ty n right is known does v place ks ops xs c l w stands fits has = operand_runs op ty n (expr_code right) (λ v1. eval K v1 right) does (eval_plain ask k call right known) v place ks ops xs c l w stands fits has
+
   -- a further operand of a short-circuit form
   other_runs : (form : Shortcut) (n : ℕ) (is : List Instr) (act : List ℕ → Act (List ℕ)) → Evals is act → (v : List ℕ) (place : ℕ) (ks : List Frame) (ops xs : List ℕ) (c : ℕ) (l : Log) (w : World) → Stands ks ops → Fits k w → HasAt code.instructions.items place (other_code form is) → Runs ask code (Fits k) 0 0 (at v place ks (n ∷ xs ++ ops) l w) c (values v (place + length (other_code form is)) ks ops (xs ++ ops)) (ticked (either (decides form (n ∷ [])) (done (n ∷ [])) (act v)) c l w)
   unfolding opened_outcome scalar_of opened_lists
@@ -185,12 +256,12 @@ module _ (ask : Ask) (k : Tables) (code : Code) (call : Call) where
     operands_run : {m : _} (row : Row_of-Operand m) → OperandsInSlice row → (n : ℕ) (v : List ℕ) (place : ℕ) (ks : List Frame) (ops xs : List ℕ) (c : ℕ) (l : Log) (w : World) → Stands ks ops → Fits k w → HasAt code.instructions.items place (operands_code row) → Runs ask code (Fits k) 0 0 (at v place ks (n ∷ xs ++ ops) l w) c (values v (place + length (operands_code row)) ks ops (xs ++ ops)) (eval_operands K v row (n ∷ []) c l w)
     operands_run end_of-Operand known n v place ks ops xs c l w stands fits has = let e : place ≡ place + 0 = omega arith in no_step ask code (Fits k) 0 0 _ c 0 (values v (place + 0) ks ops (xs ++ ops)) (Goes (n ∷ [])) l w fits (ap (λ p. at v p ks (n ∷ xs ++ ops) l w) e)
     operands_run (more_of-Operand op ty right rest) known n v place ks ops xs c l w stands fits has =
-        let is = expr_code right ++ InstrOf.Binary op ty ∷ [] in
+        let is = operator_code (right_of right) op ty (expr_code right) in
         let e : place + length is + length (operands_code rest) ≡ place + length (is ++ operands_code rest) = omega (arith, length-append is (operands_code rest)) in
         arriving ask code (Fits k) 0 0 _ c _ _ _ (λ r l1 w1. ap (λ p. values v p ks ops (xs ++ ops) r l1 w1) e)
         (both_plain ask code (Fits k) 0 0 0 0 0 0 _ c l w (values v (place + length is) ks ops (xs ++ ops)) (values v (place + length is + length (operands_code rest)) ks ops (xs ++ ops)) _ _ (omega arith) (omega arith) (omega arith)
         (plain_later 1 c l w _ (plain_then c l w (eval K v right c l w) _ (eval_plain ask k call right known.0 v c l w) (λ m. plain_result (binary op ty n m) c l w)))
-        (operand_runs op ty n (expr_code right) (λ v1. eval K v1 right) (by_first (expr_code right) (λ v1. eval K v1 right) (eval_begins right known.0)) (eval_plain ask k call right known.0) v place ks ops xs c l w stands fits (has_front code.instructions.items place is (operands_code rest) has))
+        (operator_runs (right_of right) op ty n right refl known.0 (by_first (expr_code right) (λ v1. eval K v1 right) (eval_begins right known.0)) v place ks ops xs c l w stands fits (has_front code.instructions.items place is (operands_code rest) has))
         (λ m fits1. operands_run rest known.1 m v (place + length is) ks ops xs c l w stands fits1 (has_back code.instructions.items place is (operands_code rest) has))
         (λ fits1. fails 0 0 v (place + length is) (place + length is + length (operands_code rest)) ks ops (xs ++ ops) (xs ++ ops) c l w fits1))
 

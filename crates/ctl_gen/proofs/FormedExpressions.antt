@@ -18,9 +18,12 @@ use Rattle.ctl_code.specs.declared.code.Instr.TheVariants as InstrOf
 use Rattle.ctl_code.specs.declared.code.Code.{Code}
 use Rattle.ctl_code.specs.Valid as Valid
 use Rattle.ctl_code.specs.Valid.{BinaryOf, IsCellOf, IsFine, IsNumber, Leads, UnaryOf}
-use Rattle.ctl_gen.specs.Layout.{expr_code, operands_code, others_code, other_code, read_code}
-use Rattle.ctl_gen.specs.KindLayout.{expr_kinds, operands_kinds, others_kinds}
+use Rattle.ctl_gen.specs.Layout.{expr_code, operands_code, operator_code, others_code, other_code, read_code, right_of}
+use Rattle.ctl_gen.specs.KindLayout.{expr_kinds, operands_kinds, operator_kinds, others_kinds}
 use Rattle.ctl_gen.specs.Typing.{AreConditions, AreTyped, first_type, IsScalar, IsTyped, IsVariable}
+use Rattle.ctl_gen.specs.declared.right.Right.{Right}
+use Rattle.ctl_gen.specs.declared.right.Right.TheVariants as RightOf
+use Rattle.ctl_gen.proofs.RightOperands.{constant_right}
 use Rattle.ctl_gen.proofs.Formed.{Formed, both, end_of, none, one}
 
 -- Types of values are scalar ---------------------------------------------------------------------
@@ -109,6 +112,16 @@ module _ (code : Code) where
       let x = inner (p + 1) h.1 in
       (h.0, ((end_of code (p + 1) is ss (Operand Boolean ∷ standing) h.1 x.1, (standing, refl, x.0)), x.1))
 
+  -- an operator over its left operand, behind its right one where that is evaluated
+  operator_formed : (r : Right) (op : BinaryOp) (left t : Ty) (standing : List Kind) (right : Expr) → right_of right ≡ r → BinaryOf op left t → IsTyped left right → Formed code (expr_code right) (expr_kinds left (Operand left ∷ standing) right) (Operand left ∷ standing) (Some (Operand left ∷ Operand left ∷ standing)) → Formed code (operator_code r op t (expr_code right)) (operator_kinds r left standing (expr_kinds left (Operand left ∷ standing) right)) (Operand left ∷ standing) (Some (Operand t ∷ standing))
+  operator_formed (RightOf.Constant n) op left t standing right is has typed inner = one code (InstrOf.BinaryConstant op t n) (Operand left ∷ standing) (Some (Operand t ∷ standing)) (λ p next. (left, has, subst (IsTyped left) (constant_right right n is) typed, (standing, refl, next)))
+  operator_formed (RightOf.Variable v) op left t standing right is has typed inner = one code (InstrOf.BinaryVariable op t v) (Operand left ∷ standing) (Some (Operand t ∷ standing)) (λ p next. (left, has, typed_scalar left right typed, (standing, refl, next)))
+  operator_formed RightOf.Evaluated op left t standing right is has typed inner =
+      let two = Operand left ∷ Operand left ∷ standing in
+      both code (expr_code right) (expr_kinds left (Operand left ∷ standing) right) (InstrOf.Binary op t ∷ []) (two ∷ []) (Operand left ∷ standing) two (Some (Operand t ∷ standing))
+      inner
+      (one code (InstrOf.Binary op t) two (Some (Operand t ∷ standing)) (λ p next. (left, has, (standing, refl, next))))
+
   mutual
     pub expr_formed : (ty : Ty) (standing : List Kind) (e : Expr) → IsTyped ty e → Formed code (expr_code e) (expr_kinds ty standing e) standing (Some (Operand ty ∷ standing))
     expr_formed ty standing (Constant n) h = one code (InstrOf.Push n) standing (Some (Operand ty ∷ standing)) (λ p next. (ty, h, next))
@@ -138,11 +151,9 @@ module _ (code : Code) where
     operands_formed : {m : _} (left ty : Ty) (standing : List Kind) (row : Row_of-Operand m) → AreTyped left ty row → Formed code (operands_code row) (operands_kinds left standing row) (Operand left ∷ standing) (Some (Operand ty ∷ standing))
     operands_formed left ty standing end_of-Operand h = subst (λ u. Formed code [] [] (Operand left ∷ standing) (Some (Operand u ∷ standing))) h (none code (Operand left ∷ standing))
     operands_formed left ty standing (more_of-Operand op t right rest) h =
-        let two = Operand left ∷ Operand left ∷ standing in
-        both code (expr_code right ++ InstrOf.Binary op t ∷ []) (expr_kinds left (Operand left ∷ standing) right ++ two ∷ []) (operands_code rest) (operands_kinds t standing rest) (Operand left ∷ standing) (Operand t ∷ standing) (Some (Operand ty ∷ standing))
-        (both code (expr_code right) (expr_kinds left (Operand left ∷ standing) right) (InstrOf.Binary op t ∷ []) (two ∷ []) (Operand left ∷ standing) two (Some (Operand t ∷ standing))
-        (expr_formed left (Operand left ∷ standing) right h.1)
-        (one code (InstrOf.Binary op t) two (Some (Operand t ∷ standing)) (λ p next. (left, h.0, (standing, refl, next)))))
+        let r = right_of right in
+        both code (operator_code r op t (expr_code right)) (operator_kinds r left standing (expr_kinds left (Operand left ∷ standing) right)) (operands_code rest) (operands_kinds t standing rest) (Operand left ∷ standing) (Operand t ∷ standing) (Some (Operand ty ∷ standing))
+        (operator_formed r op left t standing right refl h.0 h.1 (expr_formed left (Operand left ∷ standing) right h.1))
         (operands_formed t ty standing rest h.2)
 
     others_formed : {m : _} (form : Shortcut) (standing : List Kind) (row : Row_of-Expr m) → AreConditions row → Formed code (others_code form row) (others_kinds standing row) (Operand Boolean ∷ standing) (Some (Operand Boolean ∷ standing))

@@ -4,6 +4,7 @@ use Rattle.ctl_tree.specs.declared.checked.Ty.{Ty}
 use Rattle.ctl_tree.specs.declared.checked.Ty.TheVariants.{Integer, Count, Boolean, Address, Handle, Record}
 use Rattle.ctl_tree.specs.declared.checked.Ty.TheVariants as TyOf
 use Rattle.ctl_tree.specs.declared.checked.Step.{Step}
+use Rattle.ctl_tree.specs.declared.checked.BinaryOp.{BinaryOp}
 use Rattle.ctl_tree.specs.declared.checked.Shortcut.{Shortcut}
 use Rattle.ctl_tree.specs.declared.checked.Head.{Head, Variable, Given'}
 use Rattle.ctl_tree.specs.declared.checked.Expr.{Expr, Constant, Read', Call', Unary', Chain', Short', Convert', Access, New', Subpool', Discriminant', Row_of-Expr, end_of-Expr, more_of-Expr, Row_of-Operand, end_of-Operand, more_of-Operand, items-the_row-Operand}
@@ -18,9 +19,11 @@ use Rattle.ctl_code.specs.declared.kinds.Kind.TheVariants.{Operand, Block}
 use Rattle.ctl_code.specs.declared.kinds.Kind.TheVariants as KindOf
 use Rattle.ctl_code.specs.declared.code.Instr.{Instr}
 use Rattle.ctl_code.specs.declared.code.Instr.TheVariants as InstrOf
+use Rattle.ctl_gen.specs.declared.right.Right.{Right}
+use Rattle.ctl_gen.specs.declared.right.Right.TheVariants as RightOf
 use Rattle.ctl_gen.specs.Typing.{first_type, value_type}
-use Rattle.ctl_gen.specs.Layout.{arms_code, arms_texts, assign_code, exit_code, expr_code, guarded_turn, if_code, item_code, items_code, master_code, operands_code, others_code, pieces_code, read_code, row_code, row_texts, stmt_code, stmt_texts}
-use Rattle.ctl_gen.specs.KindLayout.{arms_kinds, assign_kinds, exit_kinds, expr_kinds, item_kinds, items_kinds, master_kinds, operands_kinds, others_kinds, pieces_kinds, row_kinds, stmt_kinds}
+use Rattle.ctl_gen.specs.Layout.{arms_code, arms_texts, assign_code, exit_code, expr_code, guarded_turn, if_code, item_code, items_code, master_code, operands_code, operator_code, others_code, pieces_code, read_code, right_of, row_code, row_texts, stmt_code, stmt_texts}
+use Rattle.ctl_gen.specs.KindLayout.{arms_kinds, assign_kinds, exit_kinds, expr_kinds, item_kinds, items_kinds, master_kinds, operands_kinds, operator_kinds, others_kinds, pieces_kinds, row_kinds, stmt_kinds}
 
 -- Expressions --------------------------------------------------------------------------------------
 
@@ -28,6 +31,11 @@ read_long : (head : Head) (steps : List Step) → length (read_code head steps) 
 read_long (Variable v) [] = refl
 read_long (Variable v) (x ∷ xs) = refl
 read_long (Given' p e) steps = refl
+
+operator_long : (r : Right) (op : BinaryOp) (t left : Ty) (standing : List Kind) (is : List Instr) (ss : List (List Kind)) → length is ≡ length ss → length (operator_code r op t is) ≡ length (operator_kinds r left standing ss)
+operator_long (RightOf.Constant n) op t left standing is ss e = refl
+operator_long (RightOf.Variable v) op t left standing is ss e = refl
+operator_long RightOf.Evaluated op t left standing is ss e = omega (arith, e, length-append is (InstrOf.Binary op t ∷ []), length-append ss ((Operand left ∷ Operand left ∷ standing) ∷ []))
 
 mutual
   pub expr_long : (ty : Ty) (standing : List Kind) (e : Expr) → length (expr_code e) ≡ length (expr_kinds ty standing e)
@@ -55,10 +63,11 @@ mutual
   operands_long : {m : _} (left : Ty) (standing : List Kind) (row : Row_of-Operand m) → length (operands_code row) ≡ length (operands_kinds left standing row)
   operands_long left standing end_of-Operand = refl
   operands_long left standing (more_of-Operand op t right rest) =
-      let two = Operand left ∷ Operand left ∷ standing in
-      let a = expr_long left (Operand left ∷ standing) right in
+      let is = operator_code (right_of right) op t (expr_code right) in
+      let ss = operator_kinds (right_of right) left standing (expr_kinds left (Operand left ∷ standing) right) in
+      let a = operator_long (right_of right) op t left standing (expr_code right) (expr_kinds left (Operand left ∷ standing) right) (expr_long left (Operand left ∷ standing) right) in
       let b = operands_long t standing rest in
-      omega (arith, a, b, length-append (expr_code right) (InstrOf.Binary op t ∷ []), length-append (expr_code right ++ InstrOf.Binary op t ∷ []) (operands_code rest), length-append (expr_kinds left (Operand left ∷ standing) right) (two ∷ []), length-append (expr_kinds left (Operand left ∷ standing) right ++ two ∷ []) (operands_kinds t standing rest))
+      omega (arith, a, b, length-append is (operands_code rest), length-append ss (operands_kinds t standing rest))
 
   others_long : {m : _} (form : Shortcut) (standing : List Kind) (row : Row_of-Expr m) → length (others_code form row) ≡ length (others_kinds standing row)
   others_long form standing end_of-Expr = refl

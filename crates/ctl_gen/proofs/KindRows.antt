@@ -12,14 +12,15 @@ use Rattle.ctl_code.specs.declared.kinds.Kind.{Kind}
 use Rattle.ctl_code.specs.declared.kinds.Kind.TheVariants.{Operand}
 use Rattle.ctl_code.specs.declared.kinds.Kind.TheVariants as KindOf
 use Rattle.ctl_gen.specs.Typing.{first_type, last_type, type_of}
-use Rattle.ctl_gen.specs.KindLayout.{arm_kinds, arm_list_kinds, arms_kinds, expr_kinds, items_kinds, loop_kinds, master_kinds, operand_list_kinds, operands_kinds, other_kinds, other_list_kinds, others_kinds, row_kinds, rows_kinds, stmt_kinds, tested_kinds, turns_kinds}
+use Rattle.ctl_gen.specs.Layout.{right_of}
+use Rattle.ctl_gen.specs.KindLayout.{arm_kinds, arm_list_kinds, arms_kinds, expr_kinds, items_kinds, loop_kinds, master_kinds, operand_list_kinds, operands_kinds, operator_kinds, other_kinds, other_list_kinds, others_kinds, row_kinds, rows_kinds, stmt_kinds, tested_kinds, turns_kinds}
 use Rattle.ctl_gen.proofs.Rows.{operand_row, other_row, arm_row, body_row}
 
 -- Expressions ----------------------------------------------------------------------------------
 
 operands_of_row : (left : Ty) (standing : List Kind) (m : Count) (row : Row_of-Operand m) → operands_kinds left standing row ≡ operand_list_kinds left standing (items-the_row-Operand m row)
 operands_of_row left standing m end_of-Operand = refl
-operands_of_row left standing m (more_of-Operand op ty right rest) = ap (λ ss. (expr_kinds left (Operand left ∷ standing) right ++ (Operand left ∷ Operand left ∷ standing) ∷ []) ++ ss) (operands_of_row ty standing _ rest)
+operands_of_row left standing m (more_of-Operand op ty right rest) = ap (λ ss. operator_kinds (right_of right) left standing (expr_kinds left (Operand left ∷ standing) right) ++ ss) (operands_of_row ty standing _ rest)
 
 others_of_row : (standing : List Kind) (m : Count) (row : Row_of-Expr m) → others_kinds standing row ≡ other_list_kinds standing (items-the_row-Expr m row)
 others_of_row standing m end_of-Expr = refl

@@ -21,6 +21,7 @@ pub mod Bodies
 pub mod Whole
 pub mod Admitted
 pub mod Operands
+pub mod RightOperands
 pub mod Values
 pub mod Worth
 pub mod Expressions

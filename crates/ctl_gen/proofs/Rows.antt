@@ -9,15 +9,15 @@ use Rattle.ctl_tree.specs.declared.checked.Stmt.{Stmt, If', Loop', While', For',
 use Rattle.ctl_tree.specs.declared.checked.Stmt.TheVariants as s
 use Rattle.ctl_tree.specs.declared.checked.Master.{Master, Master', out-Master}
 use Rattle.ctl_code.specs.declared.code.Instr.{Instr}
-use Rattle.ctl_code.specs.declared.code.Instr.TheVariants.{Binary, Leave, Skip}
+use Rattle.ctl_code.specs.declared.code.Instr.TheVariants.{Leave, Skip}
 use Rattle.ctl_code.specs.declared.template.TextPart.{TextPart}
-use Rattle.ctl_gen.specs.Layout.{expr_code, operands_code, operand_list_code, others_code, other_code, other_list_code, stmt_code, row_code, rows_code, stmt_texts, row_texts, rows_texts, arms_texts, arm_list_texts, arms_code, arm_list_code, if_code, if_list_code, further_arm, guarded, loop_code, while_code, for_code, items_code, master_code, master_texts, slots_of}
+use Rattle.ctl_gen.specs.Layout.{right_of, operator_code, expr_code, operands_code, operand_list_code, others_code, other_code, other_list_code, stmt_code, row_code, rows_code, stmt_texts, row_texts, rows_texts, arms_texts, arm_list_texts, arms_code, arm_list_code, if_code, if_list_code, further_arm, guarded, loop_code, while_code, for_code, items_code, master_code, master_texts, slots_of}
 
 -- Expressions ----------------------------------------------------------------------------------
 
 operands_of_row : (m : Count) (row : Row_of-Operand m) → operands_code row ≡ operand_list_code (items-the_row-Operand m row)
 operands_of_row m end_of-Operand = refl
-operands_of_row m (more_of-Operand op ty right rest) = ap (λ is. (expr_code right ++ Binary op ty ∷ []) ++ is) (operands_of_row _ rest)
+operands_of_row m (more_of-Operand op ty right rest) = ap (λ is. operator_code (right_of right) op ty (expr_code right) ++ is) (operands_of_row _ rest)
 
 others_of_row : (form : Shortcut) (m : Count) (row : Row_of-Expr m) → others_code form row ≡ other_list_code form (items-the_row-Expr m row)
 others_of_row form m end_of-Expr = refl

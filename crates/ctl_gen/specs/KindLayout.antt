@@ -20,6 +20,9 @@ use Rattle.ctl_code.specs.declared.kinds.Kind.{Kind}
 use Rattle.ctl_code.specs.declared.kinds.Kind.TheVariants.{Operand, Block}
 use Rattle.ctl_code.specs.declared.kinds.Kind.TheVariants as KindOf
 use Rattle.ctl_code.specs.declared.code.Code.{Code}
+use Rattle.ctl_gen.specs.declared.right.Right.{Right}
+use Rattle.ctl_gen.specs.declared.right.Right.TheVariants as RightOf
+use Rattle.ctl_gen.specs.Layout.{right_of}
 use Rattle.ctl_gen.specs.Typing.{first_type, value_type}
 
 -- these stacks were noted, and this one stands there now
@@ -27,6 +30,11 @@ abbrev pub noted : Noted → List (List Kind) → List Kind → Noted
 noted n stacks standing = record { before = n.before ++ stacks; standing = standing }
 
 -- Expressions ----------------------------------------------------------------------------------
+
+-- an operator over a left operand of this type, behind its right operand where that is evaluated
+abbrev pub operator_kinds : Right → Ty → List Kind → List (List Kind) → List (List Kind)
+operator_kinds RightOf.Evaluated left standing right = right ++ (Operand left ∷ Operand left ∷ standing) ∷ []
+operator_kinds _ left standing right = (Operand left ∷ standing) ∷ []
 
 -- over what stands there, an expression of this type; its value will be one operand more
 abbrev mutual
@@ -39,7 +47,7 @@ abbrev mutual
   -- operators of one precedence, over a left operand of this type
   pub operands_kinds : {m : _} → Ty → List Kind → Row_of-Operand m → List (List Kind)
   operands_kinds left standing end_of-Operand = []
-  operands_kinds left standing (more_of-Operand op t right rest) = (expr_kinds left (Operand left ∷ standing) right ++ (Operand left ∷ Operand left ∷ standing) ∷ []) ++ operands_kinds t standing rest
+  operands_kinds left standing (more_of-Operand op t right rest) = operator_kinds (right_of right) left standing (expr_kinds left (Operand left ∷ standing) right) ++ operands_kinds t standing rest
 
   -- operands that may be skipped, each behind what decides
   pub others_kinds : {m : _} → List Kind → Row_of-Expr m → List (List Kind)
@@ -48,7 +56,7 @@ abbrev mutual
 
 -- the same of operands in a list
 abbrev pub operand_kinds : Ty → List Kind → OfOperand.Operand → List (List Kind)
-operand_kinds left standing x = expr_kinds left (Operand left ∷ standing) x.right ++ (Operand left ∷ Operand left ∷ standing) ∷ []
+operand_kinds left standing x = operator_kinds (right_of x.right) left standing (expr_kinds left (Operand left ∷ standing) x.right)
 
 abbrev pub operand_list_kinds : Ty → List Kind → List OfOperand.Operand → List (List Kind)
 operand_list_kinds left standing [] = []

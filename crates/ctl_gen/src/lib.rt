@@ -7,4 +7,5 @@ mod emit;
 mod emit_expressions;
 mod emit_statements;
 pub mod generate;
+mod right;
 mod typing;

@@ -22,3 +22,4 @@ pub mod Moves
 pub mod LoopMoves
 pub mod ScalarMoves
 pub mod VariableMoves
+pub mod Stored

@@ -3,6 +3,7 @@ use Rattle.std.proofs.Common.{◌≡◌, ℕ, zero, suc, ℤ, pos, negsuc, List,
 use Rattle.std.specs.Prelude.{◌||◌, not, ◌-ℤ◌}
 use Rattle.ctl_tree.specs.declared.checked.Ty.{Ty}
 use Rattle.ctl_tree.specs.declared.checked.Ty.TheVariants.{Integer, Count, Boolean, Address, Handle, Access, Record}
+use Rattle.ctl_tree.specs.declared.checked.BinaryOp.{BinaryOp}
 use Rattle.ctl_tree.specs.declared.checked.Var.{Var}
 use Rattle.ctl_tree.specs.declared.event.Event.{Event}
 use Rattle.ctl_meaning.specs.World.{Object, Layer, Single, Sets, Slot, World}
@@ -13,12 +14,13 @@ use Rattle.ctl_meaning.specs.Expressions.{decides}
 use Rattle.ctl_meaning.specs.Outcome.{ByExit, ByReturn, ByRaise, Result, Goes, Leaves, Done}
 use Rattle.ctl_machine.specs.Machine.{gives}
 use Rattle.ctl_code.specs.declared.code.Instr.{Instr}
-use Rattle.ctl_code.specs.declared.code.Instr.TheVariants.{Start, Enter, Declare, DeclareScalar, DeclareValue, Push, Read, Assign, Unary, Binary, Decide, Skip, Unless, Loop, Repeat, For, Next, Exit, ExitWhen, ExitUnless, Put, PutLine, NewLine, Leave, Missing}
+use Rattle.ctl_code.specs.declared.code.Instr.TheVariants.{Start, Enter, Declare, DeclareScalar, DeclareValue, Push, Read, Assign, Unary, Binary, BinaryVariable, BinaryConstant, Decide, Skip, Unless, Loop, Repeat, For, Next, Exit, ExitWhen, ExitUnless, Put, PutLine, NewLine, Leave, Missing}
 use Rattle.ctl_code.specs.declared.template.TextPart.{TextPart}
 use Rattle.ctl_code.specs.declared.code.Entry.{Entry}
 use Rattle.ctl_code.specs.declared.code.Code.{Code}
 use Rattle.ctl_code.specs.States.{Mode, At, Giving, Stopped, Stuck, After, Frame, InMaster, Leaving, Creating, Initializing, Finalizing, Looping, Counting, Move}
-use Rattle.ctl_code.specs.Table.{enter_body, call_operation, operation_of, with_scalar, by_result, by_decision, by_held, by_read, found_by, by_kept, by_write, by_scalar, by_value, by_exit, by_test, by_range, by_next, behind_loop, by_text, by_instr, begin_object, next_layer, left_mode, come_to_life, by_frame, act}
+use Rattle.ctl_code.specs.Table.{enter_body, call_operation, operation_of, with_scalar, by_result, by_binary, by_decision, by_held, by_read, found_by, by_kept, by_write, by_scalar, by_value, by_exit, by_test, by_range, by_next, behind_loop, by_text, by_instr, begin_object, next_layer, left_mode, come_to_life, by_frame, act}
+use Rattle.ctl_code.proofs.RightOperands.{over_read}
 
 -- where a result is handed on, nothing is shown
 abbrev pub silent_at : Mode → List Event → Type 0
@@ -52,6 +54,11 @@ silent_text (Some v) es d place k ops w = tt
 silent_result : (x : Option ℕ) (d : List ℕ) (place : ℕ) (k : List Frame) (ops : List ℕ) (w : World) → IsSilent (by_result x d place k ops w)
 silent_result None d place k ops w = refl
 silent_result (Some x) d place k ops w = tt
+
+silent_binary : (op : BinaryOp) (ty : Ty) (d : List ℕ) (place : ℕ) (k : List Frame) (ops : List ℕ) (w : World) → IsSilent (by_binary op ty d place k ops w)
+silent_binary op ty d place k [] w = tt
+silent_binary op ty d place k (b ∷ []) w = tt
+silent_binary op ty d place k (b ∷ a ∷ ops) w = silent_result (binary op ty a b) d place k ops w
 
 silent_decision : (b : Bool) (n count : ℕ) (d : List ℕ) (place : ℕ) (k : List Frame) (ops : List ℕ) (w : World) → IsSilent (by_decision b n count d place k ops w)
 silent_decision true n count d place k ops w = tt
@@ -120,9 +127,9 @@ silent_instr code (Some (Assign v)) d place k [] w = tt
 silent_instr code (Some (Assign v)) d place k (x ∷ ops) w = silent_write (found_by d v w) x d place k ops w
 silent_instr code (Some (Unary op ty)) d place k [] w = tt
 silent_instr code (Some (Unary op ty)) d place k (n ∷ ops) w = silent_result (unary op ty n) d place k ops w
-silent_instr code (Some (Binary op ty)) d place k [] w = tt
-silent_instr code (Some (Binary op ty)) d place k (b ∷ []) w = tt
-silent_instr code (Some (Binary op ty)) d place k (b ∷ a ∷ ops) w = silent_result (binary op ty a b) d place k ops w
+silent_instr code (Some (Binary op ty)) d place k ops w = silent_binary op ty d place k ops w
+silent_instr code (Some (BinaryVariable op ty v)) d place k ops w = over_read IsSilent op ty (found_by d v w) d place k ops w (λ x. silent_binary op ty d place k (x ∷ ops) w) tt
+silent_instr code (Some (BinaryConstant op ty n)) d place k ops w = silent_binary op ty d place k (n ∷ ops) w
 silent_instr code (Some (Decide form count)) d place k [] w = tt
 silent_instr code (Some (Decide form count)) d place k (n ∷ ops) w = silent_decision (decides form (n ∷ [])) n count d place k ops w
 silent_instr code (Some (Skip count)) d place k ops w = tt

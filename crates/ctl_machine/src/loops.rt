@@ -1,20 +1,36 @@
 //! Instructions that choose what comes next (RM 5.3, 5.5, 5.7).
 
-ghost use Rattle.std.specs.Prelude.{◌≡◌, ◌+◌, ◌^◌, ◌<◌, ◌≤◌, Some, OnOk, OnErr, length, not, reverse, true};
+ghost use Rattle.std.specs.Prelude.{◌≡◌, ℕ, List, [], ◌∷◌, ◌++◌, ◌+◌, ◌^◌, ◌<◌, ◌≤◌, Some, OnOk, OnErr, length, not, reverse, true};
 ghost use Rattle.ctl_code.specs.Table as Table;
 ghost use Rattle.ctl_code.specs.declared.code.Code.{Code};
 ghost use Rattle.ctl_code.specs.declared.code.Instr.TheVariants as InstrOf;
+ghost use Rattle.ctl_tree.specs.declared.checked.Var.{Var};
+ghost use Rattle.ctl_machine.specs.declared.frame.Frame as FrameOf;
+ghost use Rattle.ctl_machine.specs.declared.frame.Frame.TheVariants.{Counting};
+ghost use Rattle.ctl_machine.specs.declared.turns.Turns.{Turns};
 ghost use Rattle.ctl_machine.specs.Engine.{Rests, Makes, Stays, made_by};
 ghost use Rattle.ctl_machine.specs.Needs.{IsLoopOnTop};
 
 use crate::engine::Engine;
 use crate::frame::{Frame, Handed, Mode};
 use crate::operators::is_true;
-use crate::resume::replace_top;
 use crate::turns::{next_turn, turns_between};
 use crate::variables::set_parameter;
 use ctl_tree::checked::Var;
 use std::alloc::AllocError;
+
+/// The parameter of the topmost frame's loop has this value in its turn; nothing else of the frame is written.
+#[inline(always)]
+fn set_value(control: &mut Vec<Frame>, value: i64)
+    requires { IsLoopOnTop (reverse control.old.items) }
+    ensures { (below : List FrameOf.Frame) (height behind : ℕ) (parameter : Var) (turns : Turns) → control.old.items ≡ below ++ Counting height behind parameter turns ∷ [] → control.new.items ≡ below ++ Counting height behind parameter (record turns { value = value }) ∷ [] }
+{
+    let top = control.len() - 1;
+    match &mut control[top] {
+        Frame::Counting { turns, .. } => turns.value = value,
+        _ => unreachable!(),
+    }
+}
 
 impl Engine {
     /// Instructions are skipped unless the newest operand is True (RM 5.3).
@@ -107,15 +123,7 @@ impl Engine {
             self.mode = Mode::At(behind);
             return;
         };
-        replace_top(
-            &mut self.control,
-            Frame::Counting {
-                height,
-                behind,
-                parameter,
-                turns,
-            },
-        );
+        set_value(&mut self.control, turns.value);
         set_parameter(&mut self.world, parameter, turns);
         self.mode = Mode::At(place - back);
     }

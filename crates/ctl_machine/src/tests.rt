@@ -114,6 +114,62 @@ const REVERSE_LOOP_KINDS: &[&[Kind]] = &[
     NONE,
 ];
 
+/// The squares of 1 to 3, mod 7: a variable and a constant are right operands.
+const SQUARES: &[Instr] = &[
+    Instr::Start(0),
+    Instr::Push(1),
+    Instr::Push(3),
+    Instr::For(FIRST, false, 5),
+    Instr::Read(FIRST),
+    Instr::BinaryVariable(BinaryOp::Multiply, Ty::Integer, FIRST),
+    Instr::BinaryConstant(BinaryOp::Modulo, Ty::Integer, 7),
+    Instr::Put(1),
+    Instr::Next(4),
+    Instr::NewLine,
+    Instr::Leave,
+];
+
+const SQUARES_KINDS: &[&[Kind]] = &[
+    NONE,
+    NONE,
+    NUMBER,
+    NUMBERS,
+    COUNTING,
+    &[Kind::Counting, Kind::Operand(Ty::Integer)],
+    &[Kind::Counting, Kind::Operand(Ty::Integer)],
+    &[Kind::Counting, Kind::Operand(Ty::Integer)],
+    COUNTING,
+    NONE,
+    NONE,
+];
+
+/// A number over the constant 0, in a block that declares an object, whose Finalize prints a line.
+const ZERO_DIVISOR: &[Instr] = &[
+    Instr::Start(0),
+    Instr::Enter(1, 5),
+    Instr::Declare(0, 0),
+    Instr::Push(2_147_483_647),
+    Instr::BinaryConstant(BinaryOp::Divide, Ty::Integer, 0),
+    Instr::Assign(FIRST),
+    Instr::Leave,
+    Instr::Leave,
+    Instr::PutLine(0),
+    Instr::Leave,
+];
+
+const ZERO_DIVISOR_KINDS: &[&[Kind]] = &[
+    NONE,
+    NONE,
+    BLOCK,
+    BLOCK,
+    &[Kind::Block, Kind::Operand(Ty::Integer)],
+    &[Kind::Block, Kind::Operand(Ty::Integer)],
+    BLOCK,
+    NONE,
+    NONE,
+    NONE,
+];
+
 /// An overflow in a block that declares an object, whose Finalize prints a line.
 const OVERFLOW: &[Instr] = &[
     Instr::Start(0),
@@ -398,6 +454,27 @@ fn a_loop_runs_in_reverse(rt: HostRuntime) -> Result<(), Fail> {
     let outcome = outcome_of(alloc, REVERSE_LOOP, REVERSE_LOOP_KINDS, 0, 1000)?;
     let bytes = printed(alloc, &outcome)?;
     assert_eq!(rt; bytes.as_slice(), b" 3 2 1\n".as_slice());
+    Ok(())
+}
+
+#[test]
+fn right_operands_are_part_of_instructions(rt: HostRuntime) -> Result<(), Fail> {
+    let alloc = rt.alloc();
+    let outcome = outcome_of(alloc, SQUARES, SQUARES_KINDS, 0, 1000)?;
+    let bytes = printed(alloc, &outcome)?;
+    assert_eq!(rt; bytes.as_slice(), b" 1 4 2\n".as_slice());
+    Ok(())
+}
+
+#[test]
+fn a_zero_divisor_raises_and_finalizes(rt: HostRuntime) -> Result<(), Fail> {
+    let alloc = rt.alloc();
+    let outcome = outcome_of(alloc, ZERO_DIVISOR, ZERO_DIVISOR_KINDS, 8, 1000)?;
+    let shown = outcome_shown(alloc, &outcome)?;
+    assert_eq!(rt;
+        shown.as_str(),
+        "live-1-m2 finalize-1-scope print newline raised picks=0 steps=17"
+    );
     Ok(())
 }
 

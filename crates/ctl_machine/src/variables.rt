@@ -34,13 +34,7 @@ fn write_object(world: &mut World, object: u64, cell: u64) -> bool
     ensures gone { OnFalse result (option_map (λ o. write_cells object 0 (cell ∷ []) world.old) (object_at object world.old) ≡ None) }
     ensures kept { OnFalse result (world.new ≡ world.old) }
 {
-    match world.scalar(object) {
-        Some(_) => {
-            world.write_scalar(object, cell);
-            true
-        }
-        None => false,
-    }
+    world.write_scalar(object, cell)
 }
 
 /// A scalar variable takes this value, if its object exists; whether it does.

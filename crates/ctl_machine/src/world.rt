@@ -3,6 +3,7 @@
 //! A contract sees a world of the meaning, and each change as one of the meaning's.
 
 ghost use Rattle.std.specs.Prelude.{◌≡◌, ℕ, ◌+◌, ◌^◌, ◌<◌, [], ◌∷◌, IfOk, OnOk, OnErr, true, is_some, length, map, option_map, replicate, reverse, slice_get, take, vec_len, vec_capacity};
+ghost use Rattle.std.specs.Bool.{OnFalse};
 ghost use Rattle.ctl_meaning.specs.World as W;
 ghost use Rattle.ctl_meaning.specs.Ledger.{layers_of};
 ghost use Rattle.ctl_meaning.specs.Lists.{last_of};
@@ -17,10 +18,7 @@ use crate::masters::{
     Master, Member, Slot, first_of, place_of_master, place_of_master_near, put_slot, slot_in,
     slots_of,
 };
-use crate::objects::{
-    Object, State, begin_finalization, end_finalization, forget_declared, home_in, value_in,
-    write_scalar,
-};
+use crate::objects::Objects;
 use ctl_tree::checked::{Ty, Var};
 use std::alloc::{AllocError, Global};
 use std::marker::Model;
@@ -35,15 +33,15 @@ pub struct World {
     given_masters: u64,
     newest: Master,
     older: Vec<Master>,
-    objects: Vec<Object>,
+    objects: Objects,
 }
 
 impl Model for World {
     ghost Value = { W.World };
 
-    ghost view = { λ w. world_of w.given_objects w.given_masters w.newest w.older.items w.objects.items };
+    ghost view = { λ w. world_of w.given_objects w.given_masters w.newest w.older.items w.objects };
 
-    ghost invariant = { λ w. IsSound w.given_objects w.given_masters w.newest w.older.items w.objects.items };
+    ghost invariant = { λ w. IsSound w.given_objects w.given_masters w.newest w.older.items w.objects };
 }
 
 /// One more layer of an inner master; around the main procedure no master is active, and nothing is finalized.
@@ -72,7 +70,7 @@ impl World {
                 layers: Vec::new(alloc),
             },
             older: Vec::new(alloc),
-            objects: Vec::new(alloc),
+            objects: Objects::new(alloc),
         }
     }
 
@@ -169,7 +167,7 @@ impl World {
     pub fn home_of(&self, object: u64) -> Option<u64>
         ensures { IsHome (C.object_at object self.now) result }
     {
-        home_in(self.objects.as_slice(), object)
+        self.objects.home_of(object)
     }
 
     /// A new object of this record type is declared in the newest master, at this slot; its number. Unchanged where memory is
@@ -183,13 +181,8 @@ impl World {
         ensures err { OnErr result (self.new ≡ self.old) }
     {
         let number = self.given_objects + 1;
-        self.objects.push(Object {
-            number,
-            ty: Ty::Record(record_type),
-            cell: None,
-            master: self.newest.number,
-            state: State::Untouched,
-        })?;
+        self.objects
+            .create(number, Ty::Record(record_type), None, self.newest.number)?;
         put_slot(&mut self.newest.slots, slot, Slot::Holds(number));
         self.given_objects = number;
         Ok(number)
@@ -209,13 +202,8 @@ impl World {
         let is_inner = !self.older.is_empty();
         let number = self.given_objects + 1;
         self.newest.layers.reserve(1)?;
-        self.objects.push(Object {
-            number,
-            ty,
-            cell: Some(cell),
-            master: self.newest.number,
-            state: State::Untouched,
-        })?;
+        self.objects
+            .create(number, ty, Some(cell), self.newest.number)?;
         put_slot(&mut self.newest.slots, slot, Slot::Holds(number));
         push_layer(&mut self.newest.layers, Member { number, ty }, is_inner);
         self.given_objects += 1;
@@ -227,15 +215,17 @@ impl World {
     pub fn scalar(&self, object: u64) -> Option<u64>
         ensures { result ≡ option_map (λ o. N.scalar_of (cells_at 0 1 o)) (C.object_at object self.now) }
     {
-        value_in(self.objects.as_slice(), object)
+        self.objects.scalar(object)
     }
 
-    /// The scalar in the object of this number is written, where that object exists (RM 5.2).
+    /// The scalar in the object of this number is written, where that object exists (RM 5.2); whether it does.
     #[inline(always)]
-    pub fn write_scalar(&mut self, object: u64, cell: u64)
-        ensures { self.new ≡ C.write_cells object 0 (cell ∷ []) self.old }
+    pub fn write_scalar(&mut self, object: u64, cell: u64) -> bool
+        ensures exists { result ≡ is_some (C.object_at object self.old) }
+        ensures written { self.new ≡ C.write_cells object 0 (cell ∷ []) self.old }
+        ensures kept { OnFalse result (self.new ≡ self.old) }
     {
-        write_scalar(&mut self.objects, object, cell);
+        self.objects.write_scalar(object, cell)
     }
 
     /// The number of the master that a use names, where the newest master's part stands; 0 where there is none.
@@ -297,14 +287,14 @@ impl World {
     pub fn begin_finalization(&mut self, object: u64)
         ensures { self.new ≡ C.begin_finalization object self.old }
     {
-        begin_finalization(&mut self.objects, object);
+        self.objects.begin_finalization(object);
     }
 
     /// It is complete, if it has begun.
     pub fn end_finalization(&mut self, object: u64)
         ensures { self.new ≡ C.end_finalization object self.old }
     {
-        end_finalization(&mut self.objects, object);
+        self.objects.end_finalization(object);
     }
 
     /// The newest master is left, and its objects cease to exist (RM 7.6.1).
@@ -312,7 +302,7 @@ impl World {
         ensures closed { self.new ≡ C.close_master (newest_master self.old) self.old }
         ensures levels { levels_of self.new ≡ all_but_first (levels_of self.old) }
     {
-        forget_declared(&mut self.objects, self.newest.number);
+        self.objects.forget_declared(self.newest.number);
         if let Some(outer) = self.older.pop() {
             self.newest = outer;
         }

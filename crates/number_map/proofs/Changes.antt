@@ -1,11 +1,10 @@
 -- Finite maps by number: a value that is written again, or put in and taken out.
-use Rattle.std.proofs.Common.{◌≡◌, ℕ, ◌<◌, ◌≤◌, Bool, true, false, cond, Option, None, Some, refl, sym, ap, subst, ◌∙◌, arith}
+use Rattle.std.proofs.Common.{◌≡◌, ℕ, Bool, true, false, cond, None, Some, refl, sym, ap, ◌∙◌}
 use Rattle.std.specs.Prelude.{nat_eq}
-use Rattle.std.specs.Ordering.{nat_cmp, eq_by_cmp}
+use Rattle.std.specs.Ordering.{nat_cmp}
 use Rattle.std.specs.Cmp.{nat_cmp_total, unsigned_tied}
-use Rattle.std.specs.FinMap.{FinMap, empty, get, insert, remove, get-insert, get-remove, get-empty, same_map, nat_cmp-IsAntisymmetric}
+use Rattle.std.specs.FinMap.{FinMap, get, insert, remove, get-insert, get-remove, same_map, nat_cmp-IsAntisymmetric}
 use borrow.Author.Tests.{eqb-true, eq-eqb, ne_eqb}
-use Rattle.number_map.specs.Table.{AreGiven}
 
 -- what a number gives after a value is put at another one, or at it
 pub get_put : {V : Type 0} (t : FinMap nat_cmp V) (k q : ℕ) (v : V) → get (insert t k v) q ≡ cond (nat_eq q k) (Some v) (get t q)

@@ -1,10 +1,10 @@
 -- Finite maps by number, with each value as another one.
-use Rattle.std.proofs.Common.{◌≡◌, ℕ, Bool, true, false, cond, List, [], ◌∷◌, map, Option, None, Some, refl, sym, ap, subst, ◌∙◌}
+use Rattle.std.proofs.Common.{◌≡◌, ℕ, Bool, true, false, cond, List, [], ◌∷◌, map, None, Some, refl, sym, ap, ◌∙◌}
 use Rattle.std.specs.Prelude.{nat_eq}
 use Rattle.std.specs.Ordering.{nat_cmp, eq_by_cmp}
 use Rattle.std.specs.Option.{option_map, option_map_or}
 use Rattle.std.specs.Cmp.{nat_cmp_total}
-use Rattle.std.specs.FinMap.{FinMap, empty, entries, find, from_entries, get, insert, remove, get-empty, get-entries, get-from_entries}
+use Rattle.std.specs.FinMap.{FinMap, empty, entries, find, get, insert, remove, get-empty, get-entries, get-from_entries}
 use Rattle.number_map.specs.Table.{mapped, change}
 use Rattle.number_map.proofs.Changes.{get_put, get_dropped, equal_maps}
 

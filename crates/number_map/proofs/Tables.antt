@@ -1,13 +1,14 @@
 -- A table of entries, and the finite map that it is seen as.
 use Rattle.std.proofs.Common.{◌≡◌, ℕ, zero, suc, ◌+◌, ◌<◌, length, Bool, true, false, cond, List, [], ◌∷◌, ◌++◌, Option, None, Some, IsSome, MutBor, refl, sym, ap, ◌∙◌, arith}
-use borrow.Author.Tests.{eq-eqb}
+use borrow.Author.Tests.{eq-eqb, eqb-true}
 use borrow.Follows.Closed.{read_of}
-use Rattle.std.specs.Option.{ghost_name_of, option_to_list}
-use Rattle.std.specs.Prelude.{nat_eq, is_some, Result, Ok, Err, IsOk, OnOk, IfSome, MatchOption}
-use Rattle.number_map.specs.Table.{Table}
+use Rattle.std.specs.Option.{ghost_name_of, option_map, option_to_list}
+use Rattle.std.specs.Prelude.{map, slice_get, nat_eq, is_some, Result, Ok, Err, IsOk, OnOk, IfNone, IfSome, MatchOption}
+use Rattle.number_map.specs.Table.{StandsAt, Table}
 use Rattle.std.specs.Ordering.{nat_cmp, eq_by_cmp}
 use Rattle.std.specs.Cmp.{nat_cmp_total, unsigned_tied, nat_eq_equiv}
-use Rattle.std.specs.Map.{lookup}
+use Rattle.std.specs.Map.{lookup, lookup_key}
+use Rattle.std.proofs.lemmas.Option.{slice_get-map}
 use Rattle.std.specs.FinMap.{FinMap, empty, from_entries, get, insert, remove, find, get-empty, get-from_entries, get-insert, get-remove, same_map, nat_cmp-IsAntisymmetric}
 
 abbrev pub map_of : {V : Type 0} → List (ℕ × V) → FinMap nat_cmp V
@@ -93,3 +94,25 @@ popped (Some (k, v)) es fs t values size e says long found =
       drop_is_remove es fs k says ∙ ap (λ m. remove m k) values,
       omega arith,
     )
+
+-- the key that a number finds is the number
+pub key_is : {V : Type 0} (es : List (ℕ × V)) (n k : ℕ) → lookup_key (nat_eq n) es ≡ Some k → k ≡ n
+key_is [] n k e = absurd (cc)
+key_is {V} (x ∷ xs) n k e = by (nat_eq n x.0) refl (key_is xs n k) e
+  where
+    by : (b : Bool) → nat_eq n x.0 ≡ b → (lookup_key (nat_eq n) xs ≡ Some k → k ≡ n) → cond b (Some x.0) (lookup_key (nat_eq n) xs) ≡ Some k → k ≡ n
+    by true same further e = let equal : n ≡ x.0 = eqb-true n x.0 same in let is : x.0 ≡ k = search (e) in sym is ∙ sym equal
+    by false same further e = further e
+
+-- one entry has one value
+pub same_value : {V : Type 0} (o : Option (ℕ × V)) (n : ℕ) (v : V) (k : ℕ) (w : V) → o ≡ Some (n, v) → Some (k, w) ≡ o → Some w ≡ Some v
+same_value {V} o n v k w is was = ap (option_map {T = ℕ × V} (λ x. x.1)) was ∙ ap (option_map {T = ℕ × V} (λ x. x.1)) is
+
+-- the value of an entry
+pub value_at : {V : Type 0} (es : List (ℕ × V)) (n i : ℕ) (v : V) → slice_get es i ≡ Some (n, v) → slice_get (map (λ e. e.1) es) i ≡ Some v
+value_at {V} es n i v at = slice_get-map (λ (e : ℕ × V). e.1) es i ∙ ap (option_map {T = ℕ × V} (λ e. e.1)) at
+
+-- where an entry has the number, the number has a value
+pub there : {V : Type 0} (es : List (ℕ × V)) (n : ℕ) (r : Option ℕ) → IfSome r (StandsAt es n) → IfNone r (lookup (nat_eq n) es ≡ None) → is_some r ≡ is_some (lookup (nat_eq n) es)
+there es n None found absent = ap is_some (sym absent)
+there es n (Some i) found absent = ap is_some (sym found.found)

@@ -1,9 +1,10 @@
 -- Values by number.
-use Rattle.std.specs.Prelude.{◌≡◌, refl, ℕ, ◌<◌, Option, Some, None, map}
+use Rattle.std.specs.Prelude.{◌≡◌, refl, ℕ, ◌<◌, List, Some, None, map, nat_eq, slice_get}
 use Rattle.std.specs.Coded.{Coded, code_by, coded×, coded_ℕ}
 use Rattle.std.specs.Ordering.{nat_cmp}
+use Rattle.std.specs.Map.{lookup}
 use Rattle.std.specs.Option.{option_map_or}
-use Rattle.std.specs.FinMap.{FinMap, empty, get, insert, remove, code, entries, from_entries}
+use Rattle.std.specs.FinMap.{FinMap, get, insert, code, entries, from_entries}
 
 -- the value of each number that has one, for how many more there is room, and how many have one
 pub record Table (V : Type 0) : Type 0 where
@@ -30,3 +31,9 @@ AreGiven given t = (n : ℕ) → given < n → get t n ≡ None
 -- each value as another one
 unfoldable pub mapped : {V W : Type 0} → (V → W) → FinMap nat_cmp V → FinMap nat_cmp W
 mapped f t = from_entries (map (λ e. (e.0, f e.1)) (entries t))
+
+-- the entry of this number stands at this index, and its value is what the number gives
+pub record StandsAt {V : Type 0} (es : List (ℕ × V)) (n i : ℕ) : Type 0 where
+  pub value : V
+  pub entry : slice_get es i ≡ Some (n, value)
+  pub found : lookup (nat_eq n) es ≡ Some value

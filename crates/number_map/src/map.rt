@@ -1,18 +1,82 @@
-ghost use Rattle.std.specs.Prelude.{◌≡◌, ◌+◌, ◌<◌, ◌≤◌, None, Some, OnOk, MatchOption, is_some, option_copied, if◌then◌else◌};
+ghost use Rattle.std.specs.Prelude.{◌≡◌, ◌+◌, ◌<◌, ◌≤◌, None, Some, OnOk, IfNone, IfSome, MatchOption, is_some, nat_eq, option_copied, if◌then◌else◌};
 ghost use Rattle.std.specs.Borrow.{sem};
 ghost use Rattle.std.specs.Option.{option_copied_mut};
 ghost use Rattle.std.specs.FinMap as map;
+ghost use Rattle.std.specs.Map.{lookup};
 ghost use Rattle.number_map.specs.Lending.{LendsValue};
+ghost use Rattle.number_map.specs.Table.{StandsAt};
 
 use indexmap::IndexMap;
 use std::alloc::{AllocError, Allocator, Global};
 use std::hash::{BuildHasherDefault, FoldHasher};
 use std::marker::Model;
 
+/// The entries of a map, by their indices and by the hashes of their numbers.
+type Entries<V, A> = IndexMap<u64, V, BuildHasherDefault<FoldHasher>, A>;
+
+/// The index of the entry of this number.
+#[inline(always)]
+fn index_of<V, A: Allocator>(entries: &Entries<V, A>, number: u64) -> Option<usize>
+    ensures found { IfSome result (StandsAt entries.now.entries number) }
+    ensures absent { IfNone result (lookup (nat_eq number) entries.now.entries ≡ None) }
+{
+    // Numbers are mostly given from 1 on, and entries mostly stay: so it stands here unless an older one was removed.
+    let first = number.saturating_sub(1) as usize;
+    match index_if_there(entries, number, first) {
+        Some(index) => Some(index),
+        None => index_behind_gaps(entries, number),
+    }
+}
+
+/// This index, if the entry of this number stands there.
+#[inline(always)]
+fn index_if_there<V, A: Allocator>(
+    entries: &Entries<V, A>,
+    number: u64,
+    index: usize,
+) -> Option<usize>
+    ensures { IfSome result (StandsAt entries.now.entries number) }
+{
+    match entries.get_index(index) {
+        Some((key, _)) if *key == number => Some(index),
+        _ => None,
+    }
+}
+
+/// The index of the entry of this number, where entries before it may have been removed.
+#[inline(always)]
+fn index_behind_gaps<V, A: Allocator>(entries: &Entries<V, A>, number: u64) -> Option<usize>
+    ensures found { IfSome result (StandsAt entries.now.entries number) }
+    ensures absent { IfNone result (lookup (nat_eq number) entries.now.entries ≡ None) }
+{
+    match entries.last() {
+        Some((newest, _)) => {
+            // So it stands if each entry from it to the last is still there.
+            let behind = newest.saturating_sub(number) as usize;
+            let from_last = entries.len().saturating_sub(1).saturating_sub(behind);
+            match index_if_there(entries, number, from_last) {
+                Some(index) => Some(index),
+                None => hashed_index(entries, number),
+            }
+        }
+        None => None,
+    }
+}
+
+/// The index of the entry of this number, by its hash.
+#[inline(never)]
+fn hashed_index<V, A: Allocator>(entries: &Entries<V, A>, number: u64) -> Option<usize>
+    ensures found { IfSome result (StandsAt entries.now.entries number) }
+    ensures absent { IfNone result (lookup (nat_eq number) entries.now.entries ≡ None) }
+{
+    let (index, _, _) = entries.get_full(&number)?;
+    Some(index)
+}
+
 /// A map from numbers to values. Each look-up, insertion and removal takes constant time on average.
 #[derive(Drop)]
 pub struct NumberMap<V, A: Allocator = Global> {
-    entries: IndexMap<u64, V, BuildHasherDefault<FoldHasher>, A>,
+    entries: Entries<V, A>,
 }
 
 impl<V, A: Allocator> Model for NumberMap<V, A> {
@@ -55,25 +119,35 @@ impl<V, A: Allocator + Copy> NumberMap<V, A> {
 
 impl<V, A: Allocator> NumberMap<V, A> {
     /// Whether this number has a value.
+    #[inline(always)]
     pub fn contains(&self, number: u64) -> bool
         ensures { result ≡ map.contains_key self.now.values number }
     {
-        self.entries.contains_key(&number)
+        index_of(&self.entries, number).is_some()
     }
 
     /// The value of this number, where it has one.
+    #[inline(always)]
     pub fn get(&self, number: u64) -> Option<&V>
         ensures { option_copied result ≡ map.get self.now.values number }
     {
-        self.entries.get(&number)
+        let index = index_of(&self.entries, number)?;
+        match self.entries.get_index(index) {
+            Some((_, value)) => Some(value),
+            None => unreachable!(),
+        }
     }
 
     /// The value of this number, to write, where it has one.
+    #[inline(always)]
     pub fn get_mut(&mut self, number: u64) -> Option<&mut V>
         ensures* writes_back { sem 𝓛 (LendsValue V.row A.row A.Allocator self.entry number result) }
         ensures value { option_copied_mut result ≡ map.get self.old.values number }
     {
-        self.entries.get_mut(&number)
+        match index_of(&self.entries, number) {
+            Some(index) => self.entries.get_index_mut(index),
+            None => None,
+        }
     }
 
     /// Gives this number a value, for which there is room. A value that it had is dropped.

@@ -1,6 +1,6 @@
 -- Two stores side by side: what a change of one of them does to both.
 use Rattle.std.proofs.Common.{◌≡◌, ℕ, ◌+◌, Bool, true, false, cond, List, [], ◌∷◌, ◌++◌, replicate, Option, Some, None, refl, sym, ap, subst, ◌∙◌, if◌then◌else◌}
-use Rattle.std.specs.Prelude.{nat_eq, not, is_some, ◌||◌, ◌&&◌, IfSome, Result, Ok, Err, OnOk, OnErr}
+use Rattle.std.specs.Prelude.{nat_eq, not, is_some, ◌||◌, ◌&&◌, IfSome, Result, Ok, Err, OnOk, OnErr, slice_index_or}
 use Rattle.std.specs.Ordering.{nat_cmp, eq_by_cmp}
 use Rattle.std.specs.Option.{option_map, option_map_or}
 use Rattle.std.specs.Cmp.{nat_cmp_total}
@@ -12,6 +12,7 @@ use Rattle.pool_area.specs.Lots.{overwritten, run_of}
 use Rattle.pool_area.specs.declared.subpool.Standing.TheVariants.{Detached}
 use Rattle.pool_store.specs.declared.entry.Spot.{Spot}
 use Rattle.pool_store.specs.declared.block_store.Address.{Address}
+use Rattle.pool_store.specs.declared.fault.StoreFault.{StoreFault}
 use Rattle.pool_store.specs.declared.fault.StoreFault.TheVariants.{Gone}
 use Rattle.pool_store.specs.Entries.{Site, Stored}
 use Rattle.pool_store.specs.Marks as marks
@@ -119,6 +120,33 @@ Objects = FinMap nat_cmp Stored
 
 abbrev IsApart : Objects → Objects → Type 0
 IsApart s t = (n : ℕ) → IfSome (get s n) (λ o. get t n ≡ None)
+
+-- what holds of an object of both holds of it on the left
+pub left_if : (s t : Objects) (n : ℕ) (P : Stored → Type 0) → IfSome (get (joined s t) n) P → IfSome (get s n) P
+left_if s t n P h = by (get s n) (subst (λ o. IfSome o P) (get_joined s t n) h)
+  where
+    by : (o : Option Stored) → IfSome (either o (get t n)) P → IfSome o P
+    by None h = tt
+    by (Some x) h = h
+
+-- an object that is on the left is not on the right
+pub left_apart : (s t : Objects) (n : ℕ) → IsApart s t → is_some (get s n) ≡ true → get t n ≡ None
+left_apart s t n apart held = by (get s n) held (apart n)
+  where
+    by : (o : Option Stored) → is_some o ≡ true → IfSome o (λ x. get t n ≡ None) → get t n ≡ None
+    by None h a = absurd (cc)
+    by (Some x) h a = a
+
+-- a word that is read on the left
+abbrev word_read : ℕ → Option Stored → Result ℕ StoreFault
+word_read place o = option_map_or (λ x. Ok (slice_index_or x.words place 0)) o (Err Gone)
+
+pub read_left : (a b : Store) (n place w : ℕ) → store.read_word n place a ≡ Ok w → Ok w ≡ store.read_word n place (side_by_side a b)
+read_left a b n place w is = by (get a.objects n) is ∙ sym (ap (word_read place) (get_joined a.objects b.objects n))
+  where
+    by : (o : Option Stored) → word_read place o ≡ Ok w → Ok w ≡ word_read place (either o (get b.objects n))
+    by None e = absurd (cc)
+    by (Some x) e = sym e
 
 -- an object that is on the right is not on the left
 pub not_left : (s t : Objects) (n : ℕ) → IsApart s t → is_some (get t n) ≡ true → get s n ≡ None

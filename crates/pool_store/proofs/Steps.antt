@@ -1,6 +1,6 @@
 -- What a call does to the objects and the pools, and what is seen of it.
 use Rattle.std.proofs.Common.{◌≡◌, ℕ, replicate, List, [], Option, Some, None, cond, refl, sym, ap, subst, ◌∙◌, arith}
-use Rattle.std.specs.Prelude.{IfSome}
+use Rattle.std.specs.Prelude.{IfSome, false, is_some}
 use Rattle.std.specs.Option.{option_map, option_map_or}
 use Rattle.std.specs.FinMap.{empty, get, insert, remove}
 use Rattle.number_map.specs.Table.{mapped, change}
@@ -12,7 +12,7 @@ use Rattle.pool_area.specs.Blocks.{Blocks}
 use Rattle.pool_store.specs.declared.entry.Spot.{Spot}
 use Rattle.pool_store.specs.declared.entry.Entry.{Entry}
 use Rattle.pool_store.specs.declared.entry.Entry.TheVariants.{Standard, InBlock}
-use Rattle.pool_store.specs.Entries.{Stored, pool_of, lot_at, object_in, words_in, stored_in, IsTied, Ties, own_words}
+use Rattle.pool_store.specs.Entries.{Stored, pool_of, lot_at, object_in, words_in, stored_in, IsTied, Ties, own_words, spot_in}
 use Rattle.pool_store.specs.Store as store
 use Rattle.pool_store.specs.Store.{Store}
 use Rattle.pool_store.proofs.Areas.{given_drop, given_over, given_changed, given_of, all_given_put, pool_here, back_seen, held_seen, words_unseen, vacated_seen, lot_here, lot_there, change_there}
@@ -249,6 +249,15 @@ spot_is {A} objects blocks n s lies = by (get objects n) (sym (ap (λ o. option_
     by None e = absurd (cc)
     by (Some (Standard ws)) e = absurd (cc)
     by (Some (InBlock x)) e = ap (λ y. Some (InBlock y)) (let same : x ≡ s = cc in same)
+
+-- what is seen of an entry
+pub entry_seen : {A : Type 0} (objects : Objects A) (blocks : Pools) (n : ℕ) (e : Entry A) → get objects n ≡ Some e → get (mapped (stored_in blocks) objects) n ≡ Some (stored_in blocks e)
+entry_seen objects blocks n e here = get_mapped (stored_in blocks) objects n ∙ ap (option_map (stored_in blocks)) here
+
+-- one that lies in no block is in the standard pool
+pub is_standard : {A : Type 0} (e : Entry A) → is_some (spot_in e) ≡ false → e ≡ Standard (own_words e)
+is_standard (Standard ws) outside = refl
+is_standard (InBlock s) outside = absurd (cc)
 
 -- and one that is seen to lie in no block is in the standard pool
 pub standard_is : {A : Type 0} (blocks : Pools) (e : Entry A) → (stored_in blocks e).spot ≡ None → e ≡ Standard (own_words e)

@@ -1,6 +1,7 @@
 ghost use Rattle.std.specs.Prelude.{◌≡◌, ℕ, ◌+◌, ◌-◌, ◌*◌, ◌/◌, ◌^◌, ◌<◌, ◌≤◌, length, None, Some, Ok, Err, true, false, if◌then◌else◌, slice_index_or, OnOk, OnErr, IfOk, IfErr, IfSome, IsTrue, is_some, ◌↔◌, ◌≢◌};
+ghost use Rattle.std.specs.Bool.{OnFalse, OnTrue};
 ghost use Rattle.std.specs.FinMap.{get};
-ghost use Rattle.pool_store.specs.Store.{no_store, with_object, without_object, with_word, copied, vacated, words_of, IsBlockPool, IsPoolSize, with_pool, take_block, is_exhausted_in, is_vacant_in, give_block, is_fit_in, hold_block, spot_of, without_pool};
+ghost use Rattle.pool_store.specs.Store.{no_store, with_object, without_object, with_word, copied, IsWithin, read_word, vacated, words_of, IsBlockPool, IsPoolSize, with_pool, take_block, is_exhausted_in, is_vacant_in, give_block, is_fit_in, hold_block, spot_of, without_pool};
 ghost use Rattle.pool_store.specs.Joined.{AreOutside};
 
 use crate::closing::close_area;
@@ -243,6 +244,36 @@ impl<A: Allocator> BlockStore<A> {
             Some(Entry::InBlock(spot)) => len_at(&self.blocks, *spot),
             None => 0,
         }
+    }
+
+    /// A word of an object, where one of this number lies in the standard pool.
+    #[inline(always)]
+    pub fn standard_word(&self, object: u64, place: usize) -> Option<u64>
+        requires { IsWithin object place 1 self.now }
+        ensures { IfSome result (λ w. read_word object place self.now ≡ Ok w) }
+    {
+        match self.objects.get(object) {
+            Some(Entry::Standard(words)) => Some(words.word(place)),
+            _ => None,
+        }
+    }
+
+    /// Writes a word of an object, where one of this number lies in the standard pool; whether one does.
+    #[inline(always)]
+    pub fn set_standard_word(&mut self, object: u64, place: usize, value: u64) -> bool
+        requires { IsWithin object place 1 self.old }
+        ensures held { OnTrue result (is_some (get self.old.objects object) ≡ true) }
+        ensures written { OnTrue result (self.new ≡ with_word object place value self.old) }
+        ensures kept { OnFalse result (self.new ≡ self.old) }
+    {
+        let Some(entry) = self.objects.get_mut(object) else {
+            return false;
+        };
+        if entry.spot().is_some() {
+            return false;
+        }
+        entry.set_word(place, value);
+        true
     }
 
     /// A word of an object.

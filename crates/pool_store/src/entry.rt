@@ -24,6 +24,7 @@ impl<A: Allocator> Entry<A> {
     ghost use Rattle.pool_store.specs.Entries.{own_words, with_own_words, spot_in, is_in};
 
     /// Where it lies, unless in the standard pool.
+    #[inline(always)]
     pub fn spot(&self) -> Option<Spot>
         ensures { result ≡ spot_in self.now }
     {
@@ -44,6 +45,7 @@ impl<A: Allocator> Entry<A> {
     }
 
     /// Writes a word of an object of the standard pool.
+    #[inline(always)]
     pub fn set_word(&mut self, place: usize, value: u64)
         requires { place < length (own_words self.old) }
         ensures { self.new ≡ with_own_words (λ words. slice_set words place value) self.old }

@@ -36,6 +36,7 @@ impl<A: Allocator> Object<A> {
     }
 
     /// The word at this place.
+    #[inline(always)]
     pub fn word(&self, place: usize) -> u64
         requires { place < length self.now }
         ensures { result ≡ slice_index_or self.now place 0 }
@@ -44,6 +45,7 @@ impl<A: Allocator> Object<A> {
     }
 
     /// Writes the word at this place.
+    #[inline(always)]
     pub fn set_word(&mut self, place: usize, value: u64)
         requires { place < length self.old }
         ensures { self.new ≡ slice_set self.old place value }

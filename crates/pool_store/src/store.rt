@@ -248,7 +248,20 @@ impl<A: Allocator> PoolStore<A> {
     /// # Errors
     ///
     /// `Gone` where no such object is held.
+    #[inline(always)]
     pub fn read(&self, object: u64, word: usize) -> Result<u64, StoreFault>
+        requires { IsWithin object word 1 self.now }
+        ensures { result ≡ read_word object word self.now }
+    {
+        // Most objects lie in the standard pool.
+        match self.blocks.standard_word(object, word) {
+            Some(value) => Ok(value),
+            None => self.read_anywhere(object, word),
+        }
+    }
+
+    #[inline(never)]
+    fn read_anywhere(&self, object: u64, word: usize) -> Result<u64, StoreFault>
         requires { IsWithin object word 1 self.now }
         ensures { result ≡ read_word object word self.now }
     {
@@ -263,7 +276,20 @@ impl<A: Allocator> PoolStore<A> {
     /// # Errors
     ///
     /// `Gone` where no such object is held. Nothing changes then.
+    #[inline(always)]
     pub fn write(&mut self, object: u64, word: usize, value: u64) -> Result<(), StoreFault>
+        requires { IsWithin object word 1 self.old }
+        ensures result { result ≡ held_or_gone object self.old }
+        ensures store { self.new ≡ with_word object word value self.old }
+    {
+        if self.blocks.set_standard_word(object, word, value) {
+            return Ok(());
+        }
+        self.write_anywhere(object, word, value)
+    }
+
+    #[inline(never)]
+    fn write_anywhere(&mut self, object: u64, word: usize, value: u64) -> Result<(), StoreFault>
         requires { IsWithin object word 1 self.old }
         ensures result { result ≡ held_or_gone object self.old }
         ensures store { self.new ≡ with_word object word value self.old }

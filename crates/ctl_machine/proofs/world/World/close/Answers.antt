@@ -5,20 +5,20 @@ use Rattle.ctl_machine.proofs.Soundness.{newest_bounds, sound_left, sound_front}
 use Rattle.ctl_machine.proofs.world.World.close.Goals as goal
 
 pub forget_declared-requires-clause-newest : goal.forget_declared-requires-clause-newest
-forget_declared-requires-clause-newest c = newest_bounds c.self.inside.given_objects c.self.inside.given_masters c.self.inside.newest c.self.inside.older.items c.self.inside.objects.items c.self.invariant
+forget_declared-requires-clause-newest c = newest_bounds c.self.inside.given_objects c.self.inside.given_masters c.self.inside.newest c.self.inside.older.items c.self.inside.objects c.self.invariant
 
 pub invariant_of-self : goal.invariant_of-self
-invariant_of-self c = sound_left c.self.inside.given_objects c.self.inside.given_masters c.self.inside.newest c.self.inside.older.items c.self.inside.objects.items c.self.invariant c.in-Some.outer c.pop.new.self.items c.forget_declared.new.objects.items c.in-Some.ensures.items c.forget_declared.ensures.front c.forget_declared.ensures.kept
+invariant_of-self c = sound_left c.self.inside.given_objects c.self.inside.given_masters c.self.inside.newest c.self.inside.older.items c.self.inside.objects c.self.invariant c.in-Some.outer c.pop.new.self.items c.forget_declared.new.self c.in-Some.ensures.items c.forget_declared.ensures.front c.forget_declared.ensures.kept
 
 pub invariant_of-self-in_default : goal.invariant_of-self-in_default
 invariant_of-self-in_default c =
-    sound_front c.self.inside.given_objects c.self.inside.given_masters c.self.inside.newest c.self.inside.older.items c.self.inside.objects.items c.self.invariant c.pop.new.self.items c.forget_declared.new.objects.items (sym (c.in_default.ensures.items ∙ append-nil c.pop.new.self.items)) c.forget_declared.ensures.front
+    sound_front c.self.inside.given_objects c.self.inside.given_masters c.self.inside.newest c.self.inside.older.items c.self.inside.objects c.self.invariant c.pop.new.self.items c.forget_declared.new.self (sym (c.in_default.ensures.items ∙ append-nil c.pop.new.self.items)) c.forget_declared.ensures.front
 
 pub returns-in-Some-clause-closed : goal.returns-in-Some-clause-closed
-returns-in-Some-clause-closed c = rw (← c.self.view_is) (left c.self.inside.given_objects c.self.inside.given_masters c.self.inside.newest c.in-Some.outer c.self.inside.older.items c.pop.new.self.items c.self.inside.objects.items c.in-Some.ensures.items c.forget_declared.new.objects.items c.self.invariant.nested c.forget_declared.ensures.kept)
+returns-in-Some-clause-closed c = rw (← c.self.view_is) (left c.self.inside.given_objects c.self.inside.given_masters c.self.inside.newest c.in-Some.outer c.self.inside.older.items c.pop.new.self.items c.self.inside.objects c.in-Some.ensures.items c.forget_declared.new.self c.self.invariant.nested c.forget_declared.ensures.kept)
 
 pub returns-in_default-clause-closed : goal.returns-in_default-clause-closed
 returns-in_default-clause-closed c =
     let same = sym (c.in_default.ensures.items ∙ append-nil c.pop.new.self.items) in
     let none = nil_from_length c.self.inside.older.items (sym c.self.inside.older.ok.0 ∙ c.in_default.ensures.cases.0) in
-    rw (← c.self.view_is, same) (outermost_left c.self.inside.given_objects c.self.inside.given_masters c.self.inside.newest c.self.inside.older.items c.self.inside.objects.items c.forget_declared.new.objects.items none c.self.invariant.nested c.forget_declared.ensures.kept)
+    rw (← c.self.view_is, same) (outermost_left c.self.inside.given_objects c.self.inside.given_masters c.self.inside.newest c.self.inside.older.items c.self.inside.objects c.forget_declared.new.self none c.self.invariant.nested c.forget_declared.ensures.kept)

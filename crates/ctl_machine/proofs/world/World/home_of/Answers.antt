@@ -3,4 +3,4 @@ use Rattle.ctl_machine.proofs.world.World.home_of.Goals as goal
 
 pub returns : goal.returns
 unfolding object_at
-returns c = rw (← c.self.view_is) (rw c.as_slice.ensures.value at c.home_in.ensures)
+returns c = rw (← c.self.view_is) c.home_of.ensures

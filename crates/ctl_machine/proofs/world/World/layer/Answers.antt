@@ -9,5 +9,5 @@ use Rattle.ctl_machine.proofs.world.World.layer.Goals as goal
 
 pub returns : goal.returns
 returns c =
-    rw (← c.self.view_is, ← layers_seen c.self.inside.given_objects c.self.inside.given_masters c.self.inside.objects.items c.self.inside.newest (reverse c.self.inside.older.items) c.self.invariant.nested, reverse-reverse, slice_get-map, c.copied.ensures)
+    rw (← c.self.view_is, ← layers_seen c.self.inside.given_objects c.self.inside.given_masters c.self.inside.objects c.self.inside.newest (reverse c.self.inside.older.items) c.self.invariant.nested, reverse-reverse, slice_get-map, c.copied.ensures)
     (ap (option_map layer_of) (copy_is_item c.self.inside.newest.layers.items c.args.place c.get.result (rw c.deref.ensures.value at c.get.ensures.lookup.3)))

@@ -3,4 +3,4 @@ use Rattle.ctl_machine.proofs.world.World.scalar.Goals as goal
 
 pub returns : goal.returns
 unfolding object_at
-returns c = rw (← c.self.view_is) (rw c.as_slice.ensures.value at c.value_in.ensures)
+returns c = rw (← c.self.view_is) c.scalar.ensures

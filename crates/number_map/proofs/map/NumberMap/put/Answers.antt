@@ -1,7 +1,6 @@
-use Rattle.std.proofs.Common.{sym, ap, subst, ◌∙◌, ◌<◌, ◌≡◌, OnOk}
-use Rattle.std.specs.FinMap.{get, insert}
+use Rattle.std.proofs.Common.{sym, ap, subst, ◌∙◌, ◌<◌}
+use Rattle.std.specs.FinMap.{insert}
 use Rattle.std.specs.HashMap.{spare}
-use Rattle.indexmap.specs.IndexMap.{Updates}
 use Rattle.number_map.proofs.Tables.{put_is_insert, by_success}
 use Rattle.number_map.proofs.map.NumberMap.put.Goals as goal
 

@@ -1,4 +1,4 @@
-use Rattle.std.proofs.Common.{sym, ap, subst, ◌∙◌, ◌<◌, ◌≡◌, OnOk, Some, None}
+use Rattle.std.proofs.Common.{sym, ap, subst, ◌∙◌, ◌<◌}
 use Rattle.std.specs.FinMap.{get, insert}
 use Rattle.std.specs.HashMap.{spare}
 use Rattle.number_map.proofs.Tables.{get_is_lookup, put_is_insert, by_success}

@@ -1,18 +1,17 @@
-use Rattle.std.proofs.Common.{ℕ, ◌+◌, sym, ap, ◌∙◌, arith}
-use Rattle.std.specs.Prelude.{Result, Ok}
+use Rattle.std.proofs.Common.{◌+◌, ◌≤◌, sym, ap, subst, length, ◌∙◌}
+use Rattle.std.specs.Prelude.{IfSome}
 use Rattle.std.specs.FinMap.{get}
-use Rattle.pool_store.specs.declared.fault.StoreFault.{StoreFault}
-use Rattle.pool_store.proofs.Held.{within, read_held, gone}
+use Rattle.pool_store.specs.Store as store
+use Rattle.pool_store.specs.Store.{Store}
+use Rattle.pool_store.proofs.Sides.{left_if, read_left}
 use Rattle.pool_store.proofs.store.PoolStore.read.Goals as goal
 
-pub word-requires : goal.word-requires
-word-requires g c =
-    let fits = within (get c.args.self.now.objects c.args.object) (c.args.word + 1) (sym c.is_held.ensures ∙ c.if-not-is_held.false) c.requires in
-    omega arith
+pub standard_word-requires : goal.standard_word-requires
+standard_word-requires g c =
+    let s = c.self.inside in
+    left_if s.blocks.objects s.marks.objects c.args.object (λ x. c.args.word + 1 ≤ length x.words) (subst (λ (v : Store). IfSome (get v.objects c.args.object) (λ x. c.args.word + 1 ≤ length x.words)) (sym c.self.view_is) c.requires)
 
-pub returns-then-not-is_held : goal.returns-then-not-is_held
-returns-then-not-is_held g c = gone (get c.args.self.now.objects c.args.object) _ (sym c.is_held.ensures ∙ c.if-not-is_held.true)
-
-pub returns : goal.returns
-returns g c =
-    ap (λ w. let r : Result ℕ StoreFault = Ok w in r) c.word.ensures ∙ read_held (get c.args.self.now.objects c.args.object) c.args.word (sym c.is_held.ensures ∙ c.if-not-is_held.false)
+pub returns-in-Some : goal.returns-in-Some
+returns-in-Some g c =
+    let s = c.self.inside in
+    read_left s.blocks s.marks c.args.object c.args.word c.in-Some.value c.in-Some.ensures ∙ ap (store.read_word c.args.object c.args.word) c.self.view_is
