@@ -101,7 +101,7 @@ TEXTS = [
     (ITEM + "N : Integer; begin N := True; M := 1; end Main;", 20, 1, 49),
     # an assignment of a record and its initial value are not run, and only types tell them; a broken rule on types comes first
     (CONTROLLED + "type T is new Controlled with null record; X, Y : T; begin X := Y; end Main;", 12, 1, 123),
-    (CONTROLLED + "type T is new Controlled with null record; X : T; Y : T := X; begin X := Y; end Main;", 12, 1, 123),
+    (CONTROLLED + "type T is new Controlled with null record; X : T; Y : T := X; begin X := Y; end Main;", 12, 1, 114),
     (CONTROLLED + "type T is new Controlled with null record; X, Y : T; begin X := Y; X := 1; end Main;", 30, 1, 1),
     # the null address is a value like others
     (
