@@ -18,8 +18,8 @@ ghost use Rattle.ctl_check.specs.Refusals.{IsUntyped, IsAnswered};
 use crate::checker::Checker;
 use crate::kinds::{Kind, Object, Used};
 use crate::operators::{
-    FALSE, INTEGER_FIRST, INTEGER_LAST, Joint, NULL, TRUE, adding, binary_result, comparing, joining,
-    literal, multiplying, prefixing, signing, unary_result,
+    FALSE, INTEGER_FIRST, INTEGER_LAST, Joint, NULL, TRUE, adding, binary_result, comparing,
+    joining, literal, multiplying, prefixing, signing, unary_result,
 };
 use crate::refusal::Refusal;
 use crate::types::{is_boolean, is_same};

@@ -141,12 +141,7 @@ impl Checker {
     }
 
     /// The target must be a variable, and the value of its type (RM 5.2). That of a record is not run yet.
-    fn assignment(
-        &mut self,
-        part: Part,
-        target: &Name,
-        value: &Expression,
-    ) -> Result<Stmt, Refusal>
+    fn assignment(&mut self, part: Part, target: &Name, value: &Expression) -> Result<Stmt, Refusal>
         ensures legal { OnOk result (legal_assignment (env_of self.old part) target.now value.now ≡ true) }
         ensures grows { OnOk result (Grows self.old self.new part (after_assignment (state_of self.old part) target.now)) }
         ensures means { IfOk result (λ x. AssignmentMeans (env_of self.old part) target.now value.now x) }
