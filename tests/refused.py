@@ -75,8 +75,7 @@ TEXTS = [
     ("", 10, 1, 1),
     ("procedure Main is begin null; end Mein;", 13, 1, 35),
     ("procedure Main is begin null; end MAIN", 10, 1, 39),
-    # the hundredth pair of parentheses is too deep, as the body of Main is open too; with one less the grammar takes the text, and
-    # this version leaves out its first item
+    # the hundredth pair of parentheses is too deep, as the body of Main is open too; with one less the text is accepted
     (NESTED.format("(" * 100, ")" * 100), 11, 1, 142),
     (NESTED.format("(" * 99, ")" * 99), ACCEPTED, 0, 0),
     ("procedure Main is A, B, C : Boolean; begin A := A and B or C; end Main;", 10, 1, 57),
@@ -99,10 +98,13 @@ TEXTS = [
     # and before a broken rule on types, which has no place yet
     (ITEM + "N : Integer; begin N := True; end Main;", 30, 1, 1),
     (ITEM + "N : Integer; begin N := True; M := 1; end Main;", 20, 1, 49),
-    # an assignment of a record and its initial value are not run, and only types tell them; a broken rule on types comes first
+    # an assignment of a record is not run, and only types tell it: a broken rule on types comes first. An object with a value is a
+    # construct that is not run, unless its type is called Integer or Boolean: it comes before types are asked
     (CONTROLLED + "type T is new Controlled with null record; X, Y : T; begin X := Y; end Main;", 12, 1, 123),
     (CONTROLLED + "type T is new Controlled with null record; X : T; Y : T := X; begin X := Y; end Main;", 12, 1, 114),
     (CONTROLLED + "type T is new Controlled with null record; X, Y : T; begin X := Y; X := 1; end Main;", 30, 1, 1),
+    # the initial value of a record that the text calls Integer: at the value
+    (CONTROLLED + "type Integer is new Controlled with null record; X : Integer; Y : Integer := X; begin null; end Main;", 12, 1, 141),
     # the null address is a value like others
     (
         "with System; use System; procedure Main is begin if Null_Address = Null_Address then null; end if; end Main;",

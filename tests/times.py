@@ -3,7 +3,8 @@
 
     times.py PATH_OF_ADACTL
 
-Each text but the blanks is a program of the grammar, and is refused behind it, at its first construct that this version does not run."""
+Each text but the blanks is a program of the grammar. `declarations` and `statements` are refused behind it, at a name that nothing
+declares; `operators`, `accepted_declarations` and `uses` are accepted. Blanks are no program, and are refused at their end."""
 import os
 import resource
 import sys
@@ -34,6 +35,26 @@ def operators(size):
     return "procedure Main is X : Integer; begin X := 1" + " + 1" * (terms - 1) + "; end Main;"
 
 
+def padded(text, size):
+    """The text with blanks behind it, up to this size."""
+    return text + " " * (size - len(text))
+
+
+def accepted_declarations(size):
+    # 30,000 declarations in one part at 1 MiB
+    count = 30_000 * size // 1_048_576
+    lines = "".join(f"Declared_Object_{number:06} : Integer;\n" for number in range(count))
+    return padded("procedure Main is\n" + lines + "begin\nnull;\nend Main;\n", size)
+
+
+def uses(size):
+    # 60,000 uses of 1,000 objects at 1 MiB, two in a statement
+    statements = 60_000 * size // 1_048_576 // 2
+    lines = "".join(f"Object_{number:04} : Integer;\n" for number in range(1_000))
+    body = "".join(f"Object_{number % 1_000:04} := Object_{(number + 1) % 1_000:04};\n" for number in range(statements))
+    return padded("procedure Main is\n" + lines + "begin\n" + body + "end Main;\n", size)
+
+
 def blanks(size):
     return " " * size
 
@@ -48,7 +69,7 @@ def seconds(adactl, path):
 def main(adactl):
     with tempfile.TemporaryDirectory() as folder:
         path = os.path.join(folder, "text.adb")
-        for make in (declarations, statements, operators, blanks):
+        for make in (declarations, statements, operators, accepted_declarations, uses, blanks):
             for size in SIZES:
                 with open(path, "w", encoding="latin-1") as file:
                     file.write(make(size))

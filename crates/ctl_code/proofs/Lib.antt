@@ -7,7 +7,7 @@ pub mod Lists
 pub mod Logs
 pub mod Numbers
 pub mod RightOperands
-pub mod SingleLayers
+pub mod FittingWorlds
 pub mod Small
 pub mod Texts
 pub mod Whole

@@ -25,7 +25,7 @@ use Rattle.ctl_code.specs.Table as Table
 use Rattle.ctl_code.specs.Table.{whole_part, showing, birth, come_to_life, operation_of}
 use Rattle.ctl_code.specs.Steps.{moved, step}
 use Rattle.ctl_gen.specs.Slice.{IsPlain}
-use Rattle.ctl_gen.proofs.Worlds.{Fits, LayerFits, fits_create, fits_slot, fits_layer, fits_begin, fits_end}
+use Rattle.ctl_gen.proofs.Worlds.{Fits, fits_create, fits_slot, fits_layer, fits_begin, fits_end}
 use Rattle.ctl_gen.proofs.Plain.{is_controlled_plain, begin_cells_plain, parts_to_begin_plain, parts_to_finalize_plain}
 use Rattle.ctl_gen.proofs.Setting.{Setting, tools_with, returns, Calls, written_initialize, enter_shows, by_code, done_with}
 use Rattle.ctl_gen.proofs.Follow.{Runs, at, gives, arrives, last_step, stop_step, one_step, then_step, then_stops, more_quits, more_halts}
@@ -33,7 +33,7 @@ use Rattle.ctl_gen.proofs.Follow.{Runs, at, gives, arrives, last_step, stop_step
 -- the move of an object that was initialized, with what the tables say
 abbrev life : Option ℕ → Option Object → ℕ → ℕ → List ℕ → ℕ → List Frame → List ℕ → World → Move
 life g None n t v place ks ops w = showing (birth g n (last_of v)) (Stopped UseAfterFree) ks ops w
-life g (Some o) n t v place ks ops w = showing (birth g n (last_of v)) (At v place) ks ops (add_layer (last_of v) (Single (record { number = n; ty = Record t })) w)
+life g (Some o) n t v place ks ops w = showing (birth g n (last_of v)) (At v place) ks ops (add_layer (last_of v) (Single n) w)
 
 as_life : (code : Code) (n t : ℕ) (y : Option Object) (v : List ℕ) (place : ℕ) (ks : List Frame) (ops : List ℕ) (w : World) (l : Log) → moved l (come_to_life code n t y v place ks ops w) ≡ moved l (life (operation_of (λ x. x.finalize) code t) y n t v place ks ops w)
 as_life code n t None v place ks ops w l = refl
@@ -56,7 +56,7 @@ module _ (ask : Ask) (k : Tables) (code : Code) (setting : Setting k code) (call
 
   -- what becomes of an object after its initialization
   abbrev standing : ℕ → ℕ → Out Done → Out Done
-  standing n m x = bind (add 0 (bind x (on_goes (λ _. must_exist n)))) (on_goes (λ _. change (add_layer m (Single (record { number = n; ty = Record t })))))
+  standing n m x = bind (add 0 (bind x (on_goes (λ _. must_exist n)))) (on_goes (λ _. change (add_layer m (Single n))))
 
   finalize_none : (n c : ℕ) (l : Log) (w : World) → finalize K Failed (These []) (whole n) t c l w ≡ Gives (Goes false) 1 c l w
   unfolding opened_finalization opened_outcome depth opened_lists
@@ -86,7 +86,7 @@ module _ (ask : Ask) (k : Tables) (code : Code) (setting : Setting k code) (call
 
   -- with the object that is found, or not, in the end
   abbrev standing_at : Option Object → ℕ → ℕ → Out Done → Out Done
-  standing_at y n m x = bind (add 0 (bind x (on_goes (λ _ c l w. on_some y gone (λ _. nothing) c l w)))) (on_goes (λ _. change (add_layer m (Single (record { number = n; ty = Record t })))))
+  standing_at y n m x = bind (add 0 (bind x (on_goes (λ _ c l w. on_some y gone (λ _. nothing) c l w)))) (on_goes (λ _. change (add_layer m (Single n))))
 
   -- with what a clean-up comes to
   abbrev started_with : Out Done → Option ℕ → ℕ → ℕ → Out Done → Out Done
@@ -109,14 +109,11 @@ module _ (ask : Ask) (k : Tables) (code : Code) (setting : Setting k code) (call
           ∙ as_life code n t y v place ks ops w l
           ∙ ap (λ f. moved l (life f y n t v place ks ops w)) (setting.finalize t ∙ eh)
 
-      known : LayerFits k (Single (record { number = n; ty = Record t }))
-      known = (r, here, plain)
-
       found : (h : Option ℕ) (y : Option Object) → operation (λ x. x.finalize) k t ≡ h → object_at n w ≡ y → Runs ask code (Fits k) 3 4 s0 c (arrives v place ks ops) (standing n (last_of v) (started h n (last_of v) (Gives (Goes u) τ c1 l w)))
       found None None eh ey = subst (λ y. Runs ask code (Fits k) 3 4 s0 c (arrives v place ks ops) (standing_at y n (last_of v) (started None n (last_of v) (Gives (Goes u) τ c1 l w)))) (sym ey) (then_stops ask code (Fits k) 2 4 s0 state _ c c1 τ _ w l UseAfterFree z (after None None eh ey) refl refl (omega arith))
-      found None (Some o) eh ey = subst (λ y. Runs ask code (Fits k) 3 4 s0 c (arrives v place ks ops) (standing_at y n (last_of v) (started None n (last_of v) (Gives (Goes u) τ c1 l w)))) (sym ey) (then_step ask code (Fits k) 2 3 s0 state _ c c1 τ _ w _ z (after None (Some o) eh ey) (fits_layer k m (Single (record { number = n; ty = Record t })) w known z.fits) (omega arith))
+      found None (Some o) eh ey = subst (λ y. Runs ask code (Fits k) 3 4 s0 c (arrives v place ks ops) (standing_at y n (last_of v) (started None n (last_of v) (Gives (Goes u) τ c1 l w)))) (sym ey) (then_step ask code (Fits k) 2 3 s0 state _ c c1 τ _ w _ z (after None (Some o) eh ey) (fits_layer k m n w z.fits) (omega arith))
       found (Some f) None eh ey = subst (λ y. Runs ask code (Fits k) 3 4 s0 c (arrives v place ks ops) (standing_at y n (last_of v) (started (Some f) n (last_of v) (Gives (Goes u) τ c1 l w)))) (sym ey) (then_stops ask code (Fits k) 2 4 s0 state _ c c1 τ _ w _ UseAfterFree z (after (Some f) None eh ey) refl refl (omega arith))
-      found (Some f) (Some o) eh ey = subst (λ y. Runs ask code (Fits k) 3 4 s0 c (arrives v place ks ops) (standing_at y n (last_of v) (started (Some f) n (last_of v) (Gives (Goes u) τ c1 l w)))) (sym ey) (then_step ask code (Fits k) 2 3 s0 state _ c c1 τ _ w _ z (after (Some f) (Some o) eh ey) (fits_layer k m (Single (record { number = n; ty = Record t })) w known z.fits) (omega arith))
+      found (Some f) (Some o) eh ey = subst (λ y. Runs ask code (Fits k) 3 4 s0 c (arrives v place ks ops) (standing_at y n (last_of v) (started (Some f) n (last_of v) (Gives (Goes u) τ c1 l w)))) (sym ey) (then_step ask code (Fits k) 2 3 s0 state _ c c1 τ _ w _ z (after (Some f) (Some o) eh ey) (fits_layer k m n w z.fits) (omega arith))
   begun_runs g eg n v place ks ops s0 c (Gives (Leaves ByExit) τ c1 l w) z = then_step ask code (Fits k) 2 3 s0 _ _ c c1 τ _ w _ z refl z.fits (omega arith)
   begun_runs g eg n v place ks ops s0 c (Gives (Leaves (ByReturn cells)) τ c1 l w) z = then_step ask code (Fits k) 2 3 s0 _ _ c c1 τ _ w _ z refl z.fits (omega arith)
   begun_runs g eg n v place ks ops s0 c (Gives (Leaves (ByRaise e)) τ c1 l w) z =
@@ -156,7 +153,7 @@ module _ (ask : Ask) (k : Tables) (code : Code) (setting : Setting k code) (call
         w1 = set_slot (last_of v) slot (Holds n) (create (Record t) [] (Declared (last_of v)) w)
 
         fits1 : Fits k w1
-        fits1 = fits_slot k (last_of v) slot (Holds n) _ (fits_create k (Record t) [] (Declared (last_of v)) w fits)
+        fits1 = fits_slot k (last_of v) slot (Holds n) _ (fits_create k (Record t) [] (Declared (last_of v)) w (r, here, plain) fits)
 
         g1 : Option ℕ
         g1 = operation (λ x. x.initialize) k t

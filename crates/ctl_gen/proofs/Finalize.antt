@@ -1,6 +1,7 @@
 -- The finalization of a declared object of a plain type.
 use Rattle.std.proofs.Common.{◌≡◌, ℕ, ◌≤◌, List, [], ◌∷◌, length, Option, Some, None, Bool, true, false, refl, sym, ap, ◌∙◌, subst, arith}
 use Rattle.std.specs.Prelude.{slice_get, ◌&&◌, ◌||◌, nat_eq}
+use Rattle.ctl_tree.specs.declared.checked.Ty.{Ty}
 use Rattle.ctl_tree.specs.declared.checked.Ty.TheVariants.{Record}
 use Rattle.ctl_tree.specs.declared.checked.RecordType.{RecordType}
 use Rattle.ctl_tree.specs.declared.ending.Stop.TheVariants.{UseAfterFree}
@@ -12,22 +13,25 @@ use Rattle.ctl_meaning.specs.Lists.{first_with, opened_lists}
 use Rattle.ctl_meaning.specs.Pools.{opened_pools}
 use Rattle.ctl_meaning.specs.Changes.{object_at, begin_finalization, end_finalization, home_of}
 use Rattle.ctl_meaning.specs.Choice.{Ask, picked}
-use Rattle.ctl_meaning.specs.Outcome.{ByExit, ByReturn, ByRaise, Result, Goes, Leaves, Out, Gives, Stops, Cut, Done, add, bind, on_goes, ◌>>=◌, ◌>>◌, done, nothing, tell, show, look, change, told, either, on_some, opened_outcome}
+use Rattle.ctl_meaning.specs.Outcome.{ByExit, ByReturn, ByRaise, Result, Goes, Leaves, Out, Gives, Stops, Cut, Act, Done, add, bind, on_goes, ◌>>=◌, ◌>>◌, done, nothing, tell, show, look, change, told, either, on_some, opened_outcome}
 use Rattle.ctl_meaning.specs.Types.{Tables, operation, depth, of_record}
 use Rattle.ctl_meaning.specs.Names.{OfSubprogram, Returned, Call, Tools, gone, opened_names}
-use Rattle.ctl_meaning.specs.Finalization.{whole, Every, component_at, call_operation, after_finalize, own_finalize, in_any_order, finalize_part, finalize, finalize_object, opened_finalization}
+use Rattle.ctl_meaning.specs.Finalization.{whole, Every, component_at, call_operation, after_finalize, own_finalize, in_any_order, finalize_part, finalize, finalize_object, finalize_if_controlled, opened_finalization}
 use Rattle.ctl_meaning.specs.Storage.{close_pool, shut_pool, release_each, opened_storage}
-use Rattle.ctl_meaning.specs.Masters.{finalize_declared, opened_masters}
 use Rattle.ctl_code.specs.declared.code.Code.{Code}
 use Rattle.ctl_code.specs.States.{Frame, Finalizing, State}
 use Rattle.ctl_code.specs.Table as Table
-use Rattle.ctl_code.specs.Table.{whole_part, begin_object, operation_of}
+use Rattle.ctl_code.specs.Table.{whole_part, operation_of}
 use Rattle.ctl_code.specs.Steps.{moved, step}
 use Rattle.ctl_gen.specs.Slice.{IsPlain}
 use Rattle.ctl_gen.proofs.Worlds.{Fits, fits_begin, fits_end}
 use Rattle.ctl_gen.proofs.Plain.{is_controlled_plain, has_controlled_plain, parts_to_finalize_plain}
 use Rattle.ctl_gen.proofs.Setting.{Setting, tools_with, returns, Calls, written_finalize, enter_shows}
 use Rattle.ctl_gen.proofs.Follow.{Runs, gives, both, no_step, last_step, stop_step, one_step, within, then_step, more_quits, more_halts}
+
+-- an object that exists is finalized by its own type, and closes then if it is a pool
+abbrev pub finalize_as : Tools → ℕ → Ty → Act Bool
+finalize_as K n ty = finalize_if_controlled K Scope (record { number = n; ty = ty }) >>= (λ a. close_pool K n >>= (λ b. done (a || b)))
 
 -- what becomes of the execution of a Finalize
 abbrev finalized : ℕ → Out Returned → Out Bool
@@ -80,10 +84,10 @@ module _ (ask : Ask) (k : Tables) (code : Code) (setting : Setting k code) (call
   over n ks ops s0 c (Cut u c1 l) z = more_halts ask code (Fits k) 2 2 s0 c u _ l (omega arith) z
 
   module _ (bound : ℕ) (calls : Calls ask k code bound call) where
-    -- from the step that begins it
-    object_runs : (n : ℕ) (ks : List Frame) (ops : List ℕ) (c : ℕ) (l : Log) (w : World) (s0 : State) → c ≤ bound → Fits k w → step ask code s0 ≡ moved l (begin_object code (record { number = n; ty = Record t }) (object_at n w) ks ops w) → Runs ask code (Fits k) 3 3 s0 c (gives ks ops) (finalize_object K Scope (record { number = n; ty = Record t }) c l w)
+    -- an object that exists, from the step that begins it
+    object_runs : (n : ℕ) (ks : List Frame) (ops : List ℕ) (c : ℕ) (l : Log) (w : World) (s0 : State) (o : Object) → c ≤ bound → Fits k w → object_at n w ≡ Some o → step ask code s0 ≡ moved l (Table.call_operation code (operation_of (λ x. x.finalize) code t) (ends n) n (object_at n (begin_finalization n w)) (Finalizing n ∷ ks) ops (begin_finalization n w)) → Runs ask code (Fits k) 3 3 s0 c (gives ks ops) (finalize_object K Scope (record { number = n; ty = Record t }) c l w)
     unfolding picked opened_outcome opened_finalization opened_names of_record
-    object_runs n ks ops c l w s0 le fits first = there (object_at n w) refl
+    object_runs n ks ops c l w s0 o le fits at first = subst goal (sym (object_is (operation (λ x. x.finalize) k t) refl n c l w o at)) (still (operation (λ x. x.finalize) k t) (object_at n w1) refl refl (first ∙ ap (λ g. begun g (object_at n w1)) (setting.finalize t)))
       where
         w1 : World
         w1 = begin_finalization n w
@@ -103,16 +107,12 @@ module _ (ask : Ask) (k : Tables) (code : Code) (setting : Setting k code) (call
         still (Some f) None op at1 e = subst goal (sym (ap (λ x. unwritten n (on_some x gone (λ o1. look (λ v. show (ends n) >> call (OfSubprogram f (Binds n 0 [] ∷ [])) (home_of o1.origin v) >> nothing)) c l w1)) at1)) (stop_step ask code (Fits k) 3 3 s0 _ c 1 (gives ks ops) UseAfterFree l (omega arith) e refl refl)
         still (Some f) (Some o) op at1 e = subst goal (sym (ap (unwritten n) (call_is f n c l w1 o at1))) (within ask code (Fits k) 3 2 3 3 s0 c (gives ks ops) _ (omega arith) (omega arith) (over n ks ops s0 c _ (calls.runs f (written_finalize k t r here plain f op).0 (written_finalize k t r here plain f op).1 (home_of o.origin w1) (Binds n 0 [] ∷ []) (Finalizing n ∷ ks) ops c (tell (ends n) l) w1 s0 le fits1 (e ∙ enter_shows (slice_get code.entries.items f) (ends n) (home_of o.origin w1) (Binds n 0 [] ∷ []) (Finalizing n ∷ ks) ops l w1))))
 
-        there : (x : Option Object) → object_at n w ≡ x → goal (finalize_object K Scope (record { number = n; ty = Record t }) c l w)
-        there None at = subst goal (sym (ap (λ x. bind (bind (on_some x gone (λ _. nothing) c l w) (on_goes (λ _. change (begin_finalization n)))) (on_goes (λ _. finalize K Scope Every (whole n) t >>= (λ b. change (end_finalization n) >> done b)))) at)) (stop_step ask code (Fits k) 3 3 s0 _ c 0 (gives ks ops) UseAfterFree l (omega arith) (first ∙ ap (λ x. moved l (begin_object code (record { number = n; ty = Record t }) x ks ops w)) at) refl refl)
-        there (Some o) at = subst goal (sym (object_is (operation (λ x. x.finalize) k t) refl n c l w o at)) (still (operation (λ x. x.finalize) k t) (object_at n w1) refl refl (first ∙ ap (λ x. moved l (begin_object code (record { number = n; ty = Record t }) x ks ops w)) at ∙ ap (λ g. begun g (object_at n w1)) (setting.finalize t)))
-
-    -- a layer, from the step that begins with it
-    pub declared_runs : (n : ℕ) (ks : List Frame) (ops : List ℕ) (c : ℕ) (l : Log) (w : World) (s0 : State) → c ≤ bound → Fits k w → step ask code s0 ≡ moved l (begin_object code (record { number = n; ty = Record t }) (object_at n w) ks ops w) → Runs ask code (Fits k) 3 3 s0 c (gives ks ops) (finalize_declared K (record { number = n; ty = Record t }) c l w)
-    unfolding opened_outcome opened_masters opened_finalization
-    declared_runs n ks ops c l w s0 le fits first =
+    -- such an object, which is no pool
+    pub declared_runs : (n : ℕ) (ks : List Frame) (ops : List ℕ) (c : ℕ) (l : Log) (w : World) (s0 : State) (o : Object) → c ≤ bound → Fits k w → object_at n w ≡ Some o → step ask code s0 ≡ moved l (Table.call_operation code (operation_of (λ x. x.finalize) code t) (ends n) n (object_at n (begin_finalization n w)) (Finalizing n ∷ ks) ops (begin_finalization n w)) → Runs ask code (Fits k) 3 3 s0 c (gives ks ops) (finalize_as K n (Record t) c l w)
+    unfolding opened_outcome opened_finalization
+    declared_runs n ks ops c l w s0 o le fits at first =
         subst (λ b. Runs ask code (Fits k) 3 3 s0 c (gives ks ops) (bind (either b (finalize_object K Scope m) (done false) c l w) (on_goes (λ a. close_pool K n >>= (λ b1. done (a || b1)))))) (sym (has_controlled_plain k t r here plain))
-        (both ask code (Fits k) 3 3 0 0 3 3 s0 c (gives ks ops) (gives ks ops) _ _ (omega arith) (omega arith) (omega arith) (object_runs n ks ops c l w s0 le fits first) after)
+        (both ask code (Fits k) 3 3 0 0 3 3 s0 c (gives ks ops) (gives ks ops) _ _ (omega arith) (omega arith) (omega arith) (object_runs n ks ops c l w s0 o le fits at first) after)
       where
         m : Member
         m = record { number = n; ty = Record t }

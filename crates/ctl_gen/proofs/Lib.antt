@@ -19,7 +19,6 @@ pub mod Declare
 pub mod Statements
 pub mod Bodies
 pub mod Whole
-pub mod Admitted
 pub mod Operands
 pub mod RightOperands
 pub mod Values
@@ -33,4 +32,3 @@ pub mod Branches
 pub mod Loops
 pub mod Lengths
 pub mod Arms
-pub mod AdmittedParts

@@ -16,7 +16,7 @@ use Rattle.ctl_meaning.specs.Expressions.{eval, eval_option}
 use Rattle.ctl_meaning.specs.Finalization.{opened_finalization}
 use Rattle.ctl_meaning.specs.Adjustment.{opened_adjustment}
 use Rattle.ctl_meaning.specs.Initialization.{opened_initialization}
-use Rattle.ctl_meaning.specs.Masters.{declare, finalize_declared}
+use Rattle.ctl_meaning.specs.Masters.{declare}
 use Rattle.ctl_code.specs.declared.code.Instr.TheVariants as InstrOf
 use Rattle.ctl_code.specs.declared.code.Code.{Code}
 use Rattle.ctl_code.specs.States.{Frame, State}
@@ -32,7 +32,7 @@ use Rattle.ctl_gen.proofs.Setting.{tools_with, by_code}
 use Rattle.ctl_gen.proofs.Worth.{both_plain}
 use Rattle.ctl_gen.proofs.Values.{eval_plain}
 use Rattle.ctl_gen.proofs.Expressions.{values, eval_runs}
-use Rattle.ctl_gen.proofs.Finalize.{pool_closed}
+use Rattle.ctl_gen.proofs.Finalize.{finalize_as, pool_closed}
 use Rattle.ctl_gen.proofs.Does.{Does}
 use Rattle.ctl_gen.proofs.Follow.{Runs, at, arrives, added, last_step, stop_step, no_step, arriving, bind_bind}
 
@@ -51,17 +51,17 @@ module _ (ask : Ask) (k : Tables) (code : Code) (call : Call) (bound : ℕ) wher
   K = tools_with ask k call
 
   -- a layer that is found to exist
-  abbrev layered : ℕ → Ty → ℕ → Out Done → Out Done
-  layered n ty m o = bind o (on_goes (λ _. change (add_layer m (Single (record { number = n; ty = ty })))))
+  abbrev layered : ℕ → ℕ → Out Done → Out Done
+  layered n m o = bind o (on_goes (λ _. change (add_layer m (Single n))))
 
   -- with the object that is found, or not
-  abbrev default_with : ℕ → Ty → ℕ → Option Object → ℕ → Log → World → Out Done
-  default_with n ty m y c l w = layered n ty m (add 0 (add 0 (on_some y gone (λ _. nothing) c l w)))
+  abbrev default_with : ℕ → ℕ → Option Object → ℕ → Log → World → Out Done
+  default_with n m y c l w = layered n m (add 0 (add 0 (on_some y gone (λ _. nothing) c l w)))
 
-  abbrev value_with : ℕ → Ty → ℕ → ℕ → Option Object → ℕ → Log → World → Out Done
-  value_with n ty x m y c l w = layered n ty m (add 0 (bind (bind (on_some y gone (λ _. change (write_cells n 0 (x ∷ []))) c l w) (on_goes (λ _. nothing))) (on_goes (λ _ c1 l1 w1. on_some (object_at n w1) gone (λ _. nothing) c1 l1 w1))))
+  abbrev value_with : ℕ → ℕ → ℕ → Option Object → ℕ → Log → World → Out Done
+  value_with n x m y c l w = layered n m (add 0 (bind (bind (on_some y gone (λ _. change (write_cells n 0 (x ∷ []))) c l w) (on_goes (λ _. nothing))) (on_goes (λ _ c1 l1 w1. on_some (object_at n w1) gone (λ _. nothing) c1 l1 w1))))
 
-  default_is : (ty : Ty) → IsScalar ty → (v : List ℕ) (slot c : ℕ) (l : Log) (w : World) → declare K (last_of v) slot ty None c l w ≡ default_with w.ledger.next_object ty (last_of v) (object_at w.ledger.next_object (with_scalar v slot ty w)) c l (with_scalar v slot ty w)
+  default_is : (ty : Ty) → IsScalar ty → (v : List ℕ) (slot c : ℕ) (l : Log) (w : World) → declare K (last_of v) slot ty None c l w ≡ default_with w.ledger.next_object (last_of v) (object_at w.ledger.next_object (with_scalar v slot ty w)) c l (with_scalar v slot ty w)
   unfolding declare opened_outcome opened_names opened_initialization opened_types
   default_is Integer known v slot c l w = refl
   default_is Boolean known v slot c l w = refl
@@ -71,7 +71,7 @@ module _ (ask : Ask) (k : Tables) (code : Code) (call : Call) (bound : ℕ) wher
   default_is (Access a) known v slot c l w = absurd known
   default_is (Record t) known v slot c l w = absurd known
 
-  value_is : (ty : Ty) → IsScalar ty → (v : List ℕ) (slot x c : ℕ) (l : Log) (w : World) → declare K (last_of v) slot ty (Some (x ∷ [])) c l w ≡ value_with w.ledger.next_object ty x (last_of v) (object_at w.ledger.next_object (with_scalar v slot ty w)) c l (with_scalar v slot ty w)
+  value_is : (ty : Ty) → IsScalar ty → (v : List ℕ) (slot x c : ℕ) (l : Log) (w : World) → declare K (last_of v) slot ty (Some (x ∷ [])) c l w ≡ value_with w.ledger.next_object x (last_of v) (object_at w.ledger.next_object (with_scalar v slot ty w)) c l (with_scalar v slot ty w)
   unfolding declare opened_outcome opened_names opened_initialization opened_adjustment opened_types
   value_is Integer known v slot x c l w = refl
   value_is Boolean known v slot x c l w = refl
@@ -82,28 +82,28 @@ module _ (ask : Ask) (k : Tables) (code : Code) (call : Call) (bound : ℕ) wher
   value_is (Record t) known v slot x c l w = absurd known
 
   -- a new object becomes a layer, from the step that looks for it
-  default_runs : (n : ℕ) (ty : Ty) → IsScalar ty → (v : List ℕ) (place : ℕ) (ks : List Frame) (ops : List ℕ) (c : ℕ) (l : Log) (w : World) (s0 : State) → Fits k w → (y : Option Object) → step ask code s0 ≡ moved l (by_scalar n ty y v place ks ops w) → Runs ask code (Fits k) 2 2 s0 c (arrives v (place + 1) ks ops) (default_with n ty (last_of v) y c l w)
+  default_runs : (n : ℕ) (v : List ℕ) (place : ℕ) (ks : List Frame) (ops : List ℕ) (c : ℕ) (l : Log) (w : World) (s0 : State) → Fits k w → (y : Option Object) → step ask code s0 ≡ moved l (by_scalar n y v place ks ops w) → Runs ask code (Fits k) 2 2 s0 c (arrives v (place + 1) ks ops) (default_with n (last_of v) y c l w)
   unfolding opened_outcome opened_names
-  default_runs n ty known v place ks ops c l w s0 fits None first = stop_step ask code (Fits k) 2 2 s0 _ c 0 (arrives v (place + 1) ks ops) UseAfterFree l (omega arith) first refl refl
-  default_runs n ty known v place ks ops c l w s0 fits (Some o) first = last_step ask code (Fits k) 2 2 s0 c 0 (arrives v (place + 1) ks ops) (Goes tt) l _ (omega arith) (fits_layer k (last_of v) (Single (record { number = n; ty = ty })) w (known_scalar k ty known) fits) first
+  default_runs n v place ks ops c l w s0 fits None first = stop_step ask code (Fits k) 2 2 s0 _ c 0 (arrives v (place + 1) ks ops) UseAfterFree l (omega arith) first refl refl
+  default_runs n v place ks ops c l w s0 fits (Some o) first = last_step ask code (Fits k) 2 2 s0 c 0 (arrives v (place + 1) ks ops) (Goes tt) l _ (omega arith) (fits_layer k (last_of v) n w fits) first
 
-  value_runs : (n : ℕ) (ty : Ty) → IsScalar ty → (x : ℕ) (v : List ℕ) (place : ℕ) (ks : List Frame) (ops : List ℕ) (c : ℕ) (l : Log) (w : World) (s0 : State) → Fits k w → (y : Option Object) → step ask code s0 ≡ moved l (by_value n ty x y v place ks ops w) → Runs ask code (Fits k) 2 2 s0 c (arrives v (place + 1) ks ops) (value_with n ty x (last_of v) y c l w)
+  value_runs : (n x : ℕ) (v : List ℕ) (place : ℕ) (ks : List Frame) (ops : List ℕ) (c : ℕ) (l : Log) (w : World) (s0 : State) → Fits k w → (y : Option Object) → step ask code s0 ≡ moved l (by_value n x y v place ks ops w) → Runs ask code (Fits k) 2 2 s0 c (arrives v (place + 1) ks ops) (value_with n x (last_of v) y c l w)
   unfolding opened_outcome opened_names
-  value_runs n ty known x v place ks ops c l w s0 fits None first = stop_step ask code (Fits k) 2 2 s0 _ c 0 (arrives v (place + 1) ks ops) UseAfterFree l (omega arith) first refl refl
-  value_runs n ty known x v place ks ops c l w s0 fits (Some o) first = by (object_at n w1) refl
+  value_runs n x v place ks ops c l w s0 fits None first = stop_step ask code (Fits k) 2 2 s0 _ c 0 (arrives v (place + 1) ks ops) UseAfterFree l (omega arith) first refl refl
+  value_runs n x v place ks ops c l w s0 fits (Some o) first = by (object_at n w1) refl
     where
       w1 : World
       w1 = write_cells n 0 (x ∷ []) w
 
       goal : Option Object → Type 0
-      goal z = Runs ask code (Fits k) 2 2 s0 c (arrives v (place + 1) ks ops) (layered n ty (last_of v) (add 0 (add 0 (on_some z gone (λ _. nothing) c l w1))))
+      goal z = Runs ask code (Fits k) 2 2 s0 c (arrives v (place + 1) ks ops) (layered n (last_of v) (add 0 (add 0 (on_some z gone (λ _. nothing) c l w1))))
 
       by : (z : Option Object) → object_at n w1 ≡ z → goal (object_at n w1)
-      by z e = subst goal (sym e) (default_runs n ty known v place ks ops c l w1 s0 (fits_write k n 0 (x ∷ []) w fits) z (first ∙ ap (λ u. moved l (by_scalar n ty u v place ks ops w1)) e))
+      by z e = subst goal (sym e) (default_runs n v place ks ops c l w1 s0 (fits_write k n 0 (x ∷ []) w fits) z (first ∙ ap (λ u. moved l (by_scalar n u v place ks ops w1)) e))
 
   -- a new object fits
-  fits_scalar : (v : List ℕ) (slot : ℕ) (ty : Ty) (w : World) → Fits k w → Fits k (with_scalar v slot ty w)
-  fits_scalar v slot ty w fits = fits_slot k (last_of v) slot _ _ (fits_create k ty (0 ∷ []) (Declared (last_of v)) w fits)
+  fits_scalar : (v : List ℕ) (slot : ℕ) (ty : Ty) (w : World) → IsScalar ty → Fits k w → Fits k (with_scalar v slot ty w)
+  fits_scalar v slot ty w known fits = fits_slot k (last_of v) slot _ _ (fits_create k ty (0 ∷ []) (Declared (last_of v)) w (known_scalar k ty known) fits)
 
   -- an object without a value
   pub scalar_runs : (slot : ℕ) (ty : Ty) → IsScalar ty → Does ask k code bound (InstrOf.DeclareScalar slot ty ∷ []) (λ v. ticked (eval_option K v None >>= declare K (last_of v) slot ty))
@@ -111,7 +111,7 @@ module _ (ask : Ask) (k : Tables) (code : Code) (call : Call) (bound : ℕ) wher
   scalar_runs slot ty known v place ks ops c l w le stands fits has =
       added ask code (Fits k) 1 2 2 0 0 _ c _ _ (omega arith) (omega arith) (added ask code (Fits k) 0 2 2 2 2 _ c (arrives v (place + 1) ks ops) _ (omega arith) (omega arith)
       (subst (λ o. Runs ask code (Fits k) 2 2 (at v place ks ops l w) c (arrives v (place + 1) ks ops) o) (sym (default_is ty known v slot c l w))
-      (default_runs w.ledger.next_object ty known v place ks ops c l (with_scalar v slot ty w) _ (fits_scalar v slot ty w fits) (object_at w.ledger.next_object (with_scalar v slot ty w)) (by_code ask code v place ks ops l w (InstrOf.DeclareScalar slot ty) has.0))))
+      (default_runs w.ledger.next_object v place ks ops c l (with_scalar v slot ty w) _ (fits_scalar v slot ty w known fits) (object_at w.ledger.next_object (with_scalar v slot ty w)) (by_code ask code v place ks ops l w (InstrOf.DeclareScalar slot ty) has.0))))
 
   -- an object with its value
   pub valued_runs : (slot : ℕ) (ty : Ty) (e : Expr) → IsScalar ty → ExprInSlice e → Does ask k code bound (expr_code e ++ InstrOf.DeclareValue slot ty ∷ []) (λ v. ticked (eval_option K v (Some e) >>= declare K (last_of v) slot ty))
@@ -133,11 +133,11 @@ module _ (ask : Ask) (k : Tables) (code : Code) (call : Call) (bound : ℕ) wher
       taken : (n : ℕ) → Fits k w → slice_get code.instructions.items (place + length (expr_code e)) ≡ Some (InstrOf.DeclareValue slot ty) → Runs ask code (Fits k) 2 2 (at v (place + length (expr_code e)) ks (n ∷ ops) l w) c (arrives v (place + length (expr_code e) + 1) ks ops) (add 0 (declare K (last_of v) slot ty (Some (n ∷ [])) c l w))
       taken n fits1 here = added ask code (Fits k) 0 2 2 2 2 _ c (arrives v (q + 1) ks ops) _ (omega arith) (omega arith)
           (subst (λ o. Runs ask code (Fits k) 2 2 (at v q ks (n ∷ ops) l w) c (arrives v (q + 1) ks ops) o) (sym (value_is ty known v slot n c l w))
-          (value_runs w.ledger.next_object ty known n v q ks ops c l (with_scalar v slot ty w) _ (fits_scalar v slot ty w fits1) (object_at w.ledger.next_object (with_scalar v slot ty w)) (by_code ask code v q ks (n ∷ ops) l w (InstrOf.DeclareValue slot ty) here)))
+          (value_runs w.ledger.next_object n v q ks ops c l (with_scalar v slot ty w) _ (fits_scalar v slot ty w known fits1) (object_at w.ledger.next_object (with_scalar v slot ty w)) (by_code ask code v q ks (n ∷ ops) l w (InstrOf.DeclareValue slot ty) here)))
 
   -- nothing is done for a scalar when its master is left
-  pub scalar_end : (n : ℕ) (ty : Ty) → IsScalar ty → (c : ℕ) (l : Log) (w : World) → Fits k w → finalize_declared K (record { number = n; ty = ty }) c l w ≡ Gives (Goes false) 0 c l w
-  unfolding finalize_declared opened_finalization opened_outcome opened_types
+  pub scalar_end : (n : ℕ) (ty : Ty) → IsScalar ty → (c : ℕ) (l : Log) (w : World) → Fits k w → finalize_as K n ty c l w ≡ Gives (Goes false) 0 c l w
+  unfolding opened_finalization opened_outcome opened_types
   scalar_end n Integer known c l w fits = ap (λ o. add 0 (bind o (on_goes (λ b. done (false || b))))) (pool_closed k K n c l w fits)
   scalar_end n Boolean known c l w fits = ap (λ o. add 0 (bind o (on_goes (λ b. done (false || b))))) (pool_closed k K n c l w fits)
   scalar_end n Count known c l w fits = absurd known

@@ -93,7 +93,7 @@ module _ (ask : Ask) (k : Tables) (code : Code) (setting : Setting k code) (call
   unhandled (more_of-Handler choices s body rest) known env v place ks ops r c l w fits = absurd known
 
   -- a master is left when its statements have ended
-  end_runs : (m : ℕ) (v : List ℕ) (place : ℕ) (after : After) (ks : List Frame) (ops : List ℕ) → slice_get code.instructions.items place ≡ Some InstrOf.Leave → (r : Result Done) (c : ℕ) (l : Log) (w : World) → c ≤ bound → Fits k w → Runs ask code (Fits k) 3 3 (arrives v place (InMaster m (length ops) after ∷ ks) ops r l w) c (leaves after ks ops) (bind (leave_layers K (layers_of m w.ledger) false c l w) (on_goes (left m r)))
+  end_runs : (m : ℕ) (v : List ℕ) (place : ℕ) (after : After) (ks : List Frame) (ops : List ℕ) → slice_get code.instructions.items place ≡ Some InstrOf.Leave → (r : Result Done) (c : ℕ) (l : Log) (w : World) → c ≤ bound → Fits k w → Runs ask code (Fits k) 3 3 (arrives v place (InMaster m (length ops) after ∷ ks) ops r l w) c (leaves after ks ops) (bind (leave_layers K m (layers_of m w.ledger) false c l w) (on_goes (left m r)))
   end_runs m v place after ks ops here (Goes a) c l w le fits = one_step ask code (Fits k) 2 2 3 3 _ _ c c (leaves after ks ops) _ (omega arith) (omega arith) (omega arith) (omega arith) (by_code ask code v place (InMaster m (length ops) after ∷ ks) ops l w InstrOf.Leave here) (leave_runs ask k code setting call bound calls (Goes a) m after ks ops c l w le fits)
   end_runs m v place after ks ops here (Leaves y) c l w le fits = within ask code (Fits k) 2 2 3 3 _ c (leaves after ks ops) _ (omega arith) (omega arith) (leave_runs ask k code setting call bound calls (Leaves y) m after ks ops c l w le fits)
 
@@ -206,7 +206,7 @@ module _ (ask : Ask) (k : Tables) (code : Code) (setting : Setting k code) (call
     pub master_runs : (m : Master) → MasterInSlice k m → (n : ℕ) → HasAt code.texts.items n (master_texts m) → (caught : ℕ) (env : List ℕ) (slots : List Slot) (after : After) (ks : List Frame) (ops : List ℕ) (c0 c : ℕ) (l : Log) (w : World) (s0 : State) (place : ℕ) → c ≤ bound → c ≤ c0 → c0 ≤ c + 1 → Fits k w → HasAt code.instructions.items place (master_code n m) → step ask code s0 ≡ at (env ++ w.ledger.next_master ∷ []) place (InMaster w.ledger.next_master (length ops) after ∷ ks) ops l (open_master env slots w) → Runs ask code (Fits k) 0 1 s0 c0 (leaves after ks ops) (in_master K env slots (λ inner. exec_master K inner caught m) c l w)
     master_runs (Master' size items s body t handlers) known n texts caught env slots after ks ops c0 c l w s0 place le lo hi fits has first =
         added ask code (Fits k) 0 0 1 0 1 s0 c0 (leaves after ks ops) _ (omega arith) (omega arith)
-        (step_both_paid ask code (Fits k) 0 0 3 3 0 1 s0 (at inner place frames ops l (open_master env slots w)) c0 c (arrives inner end frames ops) (leaves after ks ops) _ (λ r c1 l1 w1. bind (leave_layers K (layers_of m w1.ledger) false c1 l1 w1) (on_goes (left m r))) (omega arith) (omega arith) (omega arith) lo hi first
+        (step_both_paid ask code (Fits k) 0 0 3 3 0 1 s0 (at inner place frames ops l (open_master env slots w)) c0 c (arrives inner end frames ops) (leaves after ks ops) _ (λ r c1 l1 w1. bind (leave_layers K m (layers_of m w1.ledger) false c1 l1 w1) (on_goes (left m r))) (omega arith) (omega arith) (omega arith) lo hi first
         (in_row ask code (Fits k) 0 0 0 0 0 0 _ c inner (place + length (items_code items.items)) end frames ops _ (then_always (exec_all K inner caught body) (handled (handle K inner handlers))) (omega arith) (omega arith) (omega arith)
         (items_run items.items known.0 inner place frames ops c l (open_master env slots w) le (in_master_stands m after ks ops) (fits_open k env slots w fits) (has_front code.instructions.items place (items_code items.items) (row_code n body) inside))
         (λ c1 l1 w1 lo1 fits1. both ask code (Fits k) 0 0 0 0 0 0 _ c1 (arrives inner end frames ops) (arrives inner end frames ops) _ (handled (handle K inner handlers)) (omega arith) (omega arith) (omega arith)

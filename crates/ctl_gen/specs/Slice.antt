@@ -113,11 +113,6 @@ pub record InSlice (program : Checked) : Type 0 where
   pub bodies : (f : ℕ) (s : Subprogram) → slice_get program.subprograms.items f ≡ Some s → MasterInSlice (tables_of program) s.body
   pub records : (t : ℕ) (r : RecordType) → slice_get program.records.items t ≡ Some r → OperationsInSlice program.subprograms.items r
 
--- the operations of each of these types
-abbrev pub RecordsInSlice : List Subprogram → List RecordType → Type 0
-RecordsInSlice subprograms [] = Unit {0}
-RecordsInSlice subprograms (r ∷ rs) = OperationsInSlice subprograms r × RecordsInSlice subprograms rs
-
 -- the same of statements in a list
 abbrev pub RowsInSlice : Tables → List Stmt → Type 0
 RowsInSlice k [] = Unit {0}
@@ -129,8 +124,3 @@ ArmInSlice k a = IsTyped Boolean a.test × RowsInSlice k a.body.items
 abbrev pub ArmListInSlice : Tables → List Arm → Type 0
 ArmListInSlice k [] = Unit {0}
 ArmListInSlice k (a ∷ more) = ArmInSlice k a × ArmListInSlice k more
-
--- procedures with such bodies
-abbrev pub BodiesInSlice : Tables → List Subprogram → Type 0
-BodiesInSlice k [] = Unit {0}
-BodiesInSlice k (s ∷ ss) = (s.is_function ≡ false) × MasterInSlice k s.body × BodiesInSlice k ss

@@ -1,8 +1,6 @@
 //! From the checked program to the machine's code.
 #![tactic(auto)]
 
-pub mod admits;
-mod admits_expressions;
 mod emit;
 mod emit_expressions;
 mod emit_statements;

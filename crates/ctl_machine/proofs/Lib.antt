@@ -2,6 +2,7 @@ pub mod Numbers
 pub mod FreshSlots
 pub mod ObjectsByNumber
 pub mod MastersByNumber
+pub mod Listed
 pub mod Soundness
 pub mod Worlds
 pub mod SlotsWritten
@@ -12,6 +13,7 @@ pub mod Called
 pub mod Tops
 pub mod Needed
 pub mod Begun
+pub mod Taken
 pub mod Layers
 pub mod Leaving
 pub mod Births

@@ -86,7 +86,7 @@ nothing_displayed m nested = sym nested.1
 -- and has no slot
 pub nothing_named : (i : ℕ) (m : Master) → AreNested m [] → item_or W.Unset (slice_get (slots_in None) i) ≡ item_or W.Unset (slice_get (slots_in (Some (activation_of m))) i)
 unfolding opened_activations
-nothing_named i m nested = ap (λ (xs : List Slot). item_or W.Unset (slice_get (map slot_of xs) i)) (sym nested.3)
+nothing_named i m nested = ap (λ (xs : List Slot). item_or W.Unset (slice_get (map slot_of xs) i)) (sym nested.2)
 
 -- Changes at the newest --------------------------------------------------------------------------------
 

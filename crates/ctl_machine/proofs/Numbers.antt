@@ -1,13 +1,13 @@
 -- Lists whose items have rising numbers, and what a binary search finds in them.
-use Rattle.std.proofs.Common.{◌≡◌, ℕ, ◌<◌, ◌≤◌, ◌≢◌, List, [], map, length, get_or, set, Option, Some, None, Bor, refl, Result, Ok, Err, IfSome, IfNone, Bool, true, false, reverse, sym, ap, ◌∙◌, arith}
-use Rattle.std.specs.Prelude.{All, not, nat_eq, ◌==◌, MatchOption, option_copied, slice_get, unwrap_or, HoldsAt}
+use Rattle.std.proofs.Common.{◌≡◌, ℕ, ◌<◌, ◌≤◌, ◌≢◌, List, map, length, get_or, set, Option, Some, None, Bor, refl, Result, Ok, Err, IfSome, IfNone, true, false, sym, ap, ◌∙◌, arith}
+use Rattle.std.specs.Prelude.{All, nat_eq, MatchOption, option_copied, slice_get, unwrap_or, HoldsAt}
 use Rattle.std.proofs.lemmas.Option.{slice_get_past, slice_get-get_or}
 use Rattle.ctl_meaning.specs.Lists.{item_or}
 use Rattle.std.specs.Result.{result_ok}
 use Rattle.std.specs.List.Sorted.{IsSearchInRange, IsBinarySearchResult}
 use Rattle.std.specs.Ordering.{nat_cmp, ordering_index}
 use Rattle.std.proofs.lemmas.Cmp.{ranked}
-use Rattle.std.proofs.lemmas.List.{length-map, get_or-map, map-set, set-get_or, get_or_default, nil_from_length, length-reverse}
+use Rattle.std.proofs.lemmas.List.{length-map, get_or-map, map-set, set-get_or, get_or_default}
 use Rattle.std.proofs.lemmas.Bool.Decides.{nat_tests}
 use Rattle.ctl_machine.specs.Numbers.{Rises, StandsAt}
 
@@ -59,19 +59,3 @@ pub unwrapped : {X : Type 0} (o : Option X) (d : X) → unwrap_or o d ≡ item_o
 unfolding item_or
 unwrapped None d = refl
 unwrapped (Some x) d = refl
-
--- what a denied test says
-pub is_false : (b : Bool) → not b ≡ true → false ≡ b
-is_false true denied = absurd (cc)
-is_false false denied = refl
-
-pub is_true : (b : Bool) → not b ≡ false → true ≡ b
-is_true true denied = refl
-is_true false denied = absurd (cc)
-
--- what a test of a length says
-pub is_empty : {X : Type 0} (xs : List X) (n : ℕ) → true ≡ (n == 0) → n ≡ length xs → xs ≡ []
-is_empty xs n test is = nil_from_length xs (grind (arith, nat_tests))
-
-pub is_inhabited : {X : Type 0} (xs : List X) (n : ℕ) → false ≡ (n == 0) → n ≡ length xs → 0 < length (reverse xs)
-is_inhabited xs n test is = rw length-reverse (grind (arith, nat_tests))

@@ -7,7 +7,7 @@ use Rattle.ctl_tree.specs.declared.checked.BinaryOp.{BinaryOp}
 use Rattle.ctl_tree.specs.declared.checked.Var.{Var}
 use Rattle.ctl_tree.specs.declared.event.Event.{Event}
 use Rattle.ctl_meaning.specs.World.{Object, Layer, Single, Sets, Slot, World}
-use Rattle.ctl_meaning.specs.Changes.{object_at, write_cells, begin_finalization}
+use Rattle.ctl_meaning.specs.Changes.{object_at, write_cells, take_layer, begin_finalization}
 use Rattle.ctl_meaning.specs.Names.{Found, InObject, InCopy, Alone}
 use Rattle.ctl_meaning.specs.Numbers.{signed, is_true, unary, binary}
 use Rattle.ctl_meaning.specs.Expressions.{decides}
@@ -19,7 +19,7 @@ use Rattle.ctl_code.specs.declared.template.TextPart.{TextPart}
 use Rattle.ctl_code.specs.declared.code.Entry.{Entry}
 use Rattle.ctl_code.specs.declared.code.Code.{Code}
 use Rattle.ctl_code.specs.States.{Mode, At, Giving, Stopped, Stuck, After, Frame, InMaster, Leaving, Creating, Initializing, Finalizing, Looping, Counting, Move}
-use Rattle.ctl_code.specs.Table.{enter_body, call_operation, operation_of, with_scalar, by_result, by_binary, by_decision, by_held, by_read, found_by, by_kept, by_write, by_scalar, by_value, by_exit, by_test, by_range, by_next, behind_loop, by_text, by_instr, begin_object, next_layer, left_mode, come_to_life, by_frame, act}
+use Rattle.ctl_code.specs.Table.{enter_body, call_operation, operation_of, with_scalar, by_result, by_binary, by_decision, by_held, by_read, found_by, by_kept, by_write, by_scalar, by_value, by_exit, by_test, by_range, by_next, behind_loop, by_text, by_instr, finalize_declared, next_layer, left_mode, come_to_life, by_frame, act}
 use Rattle.ctl_code.proofs.RightOperands.{over_read}
 
 -- where a result is handed on, nothing is shown
@@ -82,13 +82,13 @@ silent_write (InObject n offset path) x d place k ops w = silent_kept n offset x
 silent_write (InCopy m i offset) x d place k ops w = tt
 silent_write (Alone v) x d place k ops w = tt
 
-silent_scalar : (n : ℕ) (ty : Ty) (o : Option Object) (d : List ℕ) (place : ℕ) (k : List Frame) (ops : List ℕ) (w : World) → IsSilent (by_scalar n ty o d place k ops w)
-silent_scalar n ty None d place k ops w = tt
-silent_scalar n ty (Some o) d place k ops w = tt
+silent_scalar : (n : ℕ) (o : Option Object) (d : List ℕ) (place : ℕ) (k : List Frame) (ops : List ℕ) (w : World) → IsSilent (by_scalar n o d place k ops w)
+silent_scalar n None d place k ops w = tt
+silent_scalar n (Some o) d place k ops w = tt
 
-silent_value : (n : ℕ) (ty : Ty) (x : ℕ) (o : Option Object) (d : List ℕ) (place : ℕ) (k : List Frame) (ops : List ℕ) (w : World) → IsSilent (by_value n ty x o d place k ops w)
-silent_value n ty x None d place k ops w = tt
-silent_value n ty x (Some o) d place k ops w = silent_scalar n ty (object_at n (write_cells n 0 (x ∷ []) w)) d place k ops (write_cells n 0 (x ∷ []) w)
+silent_value : (n x : ℕ) (o : Option Object) (d : List ℕ) (place : ℕ) (k : List Frame) (ops : List ℕ) (w : World) → IsSilent (by_value n x o d place k ops w)
+silent_value n x None d place k ops w = tt
+silent_value n x (Some o) d place k ops w = silent_scalar n (object_at n (write_cells n 0 (x ∷ []) w)) d place k ops (write_cells n 0 (x ∷ []) w)
 
 silent_exit : (b : Bool) (d : List ℕ) (place : ℕ) (k : List Frame) (ops : List ℕ) (w : World) → IsSilent (by_exit b d place k ops w)
 silent_exit true d place k ops w = refl
@@ -118,9 +118,9 @@ silent_instr code None d place k ops w = tt
 silent_instr code (Some (Start f)) d place k ops w = silent_enter (slice_get code.entries.items f) [] d [] k ops w
 silent_instr code (Some (Enter slots n)) d place k ops w = tt
 silent_instr code (Some (Declare slot t)) d place k ops w = refl
-silent_instr code (Some (DeclareScalar slot ty)) d place k ops w = silent_scalar w.ledger.next_object ty (object_at w.ledger.next_object (with_scalar d slot ty w)) d place k ops (with_scalar d slot ty w)
+silent_instr code (Some (DeclareScalar slot ty)) d place k ops w = silent_scalar w.ledger.next_object (object_at w.ledger.next_object (with_scalar d slot ty w)) d place k ops (with_scalar d slot ty w)
 silent_instr code (Some (DeclareValue slot ty)) d place k [] w = tt
-silent_instr code (Some (DeclareValue slot ty)) d place k (x ∷ ops) w = silent_value w.ledger.next_object ty x (object_at w.ledger.next_object (with_scalar d slot ty w)) d place k ops (with_scalar d slot ty w)
+silent_instr code (Some (DeclareValue slot ty)) d place k (x ∷ ops) w = silent_value w.ledger.next_object x (object_at w.ledger.next_object (with_scalar d slot ty w)) d place k ops (with_scalar d slot ty w)
 silent_instr code (Some (Push n)) d place k ops w = tt
 silent_instr code (Some (Read v)) d place k ops w = silent_read (found_by d v w) d place k ops w
 silent_instr code (Some (Assign v)) d place k [] w = tt
@@ -150,22 +150,22 @@ silent_instr code (Some NewLine) d place k ops w = tt
 silent_instr code (Some Leave) d place k ops w = refl
 silent_instr code (Some Missing) d place k ops w = tt
 
-silent_object : (code : Code) (n t : ℕ) (o : Option Object) (k : List Frame) (ops : List ℕ) (w : World) → IsSilent (begin_object code (record { number = n; ty = Record t }) o k ops w)
-silent_object code n t None k ops w = tt
-silent_object code n t (Some o) k ops w = silent_call code (operation_of (λ x. x.finalize) code t) _ n (object_at n (begin_finalization n w)) (Finalizing n ∷ k) ops (begin_finalization n w)
-
-silent_layer : (code : Code) (m : ℕ) (xs : List Layer) (failed : Bool) (r : Result Done) (after : After) (k : List Frame) (ops : List ℕ) (w : World) → IsSilent (next_layer code m xs failed r after k ops w)
-silent_layer code m [] failed r after k ops w = silent_mode (left_mode after failed r)
-silent_layer code m (Single x ∷ xs) failed r after k ops w = passes x.ty
+silent_declared : (code : Code) (n : ℕ) (o : Option Object) (k : List Frame) (ops : List ℕ) (w : World) → IsSilent (finalize_declared code n o k ops w)
+silent_declared code n None k ops w = tt
+silent_declared code n (Some o) k ops w = passes o.ty
   where
-    passes : (ty : Ty) → IsSilent (next_layer code m (Single (record { number = x.number; ty = ty }) ∷ xs) failed r after k ops w)
-    passes (Record t) = silent_object code x.number t (object_at x.number w) (Leaving m xs failed r after ∷ k) ops w
+    passes : (ty : Ty) → IsSilent (finalize_declared code n (Some (record o { ty = ty })) k ops w)
+    passes (Record t) = silent_call code (operation_of (λ x. x.finalize) code t) _ n (object_at n (begin_finalization n w)) (Finalizing n ∷ k) ops (begin_finalization n w)
     passes Integer = refl
     passes Count = refl
     passes Boolean = refl
     passes Address = refl
     passes Handle = refl
     passes (Access a) = refl
+
+silent_layer : (code : Code) (m : ℕ) (xs : List Layer) (failed : Bool) (r : Result Done) (after : After) (k : List Frame) (ops : List ℕ) (w : World) → IsSilent (next_layer code m xs failed r after k ops w)
+silent_layer code m [] failed r after k ops w = silent_mode (left_mode after failed r)
+silent_layer code m (Single n ∷ xs) failed r after k ops w = silent_declared code n (object_at n w) (Leaving m xs failed r after ∷ k) ops (take_layer m w)
 silent_layer code m (Sets s ∷ xs) failed r after k ops w = tt
 
 silent_birth : (code : Code) (n t : ℕ) (o : Option Object) (d : List ℕ) (place : ℕ) (k : List Frame) (ops : List ℕ) (w : World) → IsSilent (come_to_life code n t o d place k ops w)

@@ -4,6 +4,7 @@ use Rattle.std.specs.Prelude.{All, slice_set}
 use Rattle.std.proofs.lemmas.List.{reverse-append, append_assoc}
 use Rattle.std.proofs.lemmas.List.Elements.{All-head, All-tail}
 use Rattle.std.proofs.lemmas.List.Sorted.{All-permutation, IsPermutation-reverse}
+use Rattle.fin_lists.specs.Lists.{Lists}
 use Rattle.ctl_meaning.specs.World as W
 use Rattle.ctl_meaning.specs.Lists.{opened_lists}
 use Rattle.ctl_meaning.specs.Activations.{change_slot, opened_activations}
@@ -13,22 +14,22 @@ use Rattle.ctl_machine.specs.declared.masters.Slot.{Slot}
 use Rattle.ctl_machine.specs.declared.masters.Master.{Master}
 use Rattle.ctl_machine.specs.Objects.{Existing}
 use Rattle.ctl_machine.specs.Masters.{slot_of}
-use Rattle.ctl_machine.specs.World.{activation_of, master_of, all_but_outermost, numbers_of, world_from, world_of, AreNested, AreLast, AreDeclaredIn, IsSound}
+use Rattle.ctl_machine.specs.World.{activation_of, master_of, all_but_outermost, numbers_of, world_from, world_of, AreNested, AreLast, AreListed, HaveNoOther, AreDeclaredIn, IsSound}
 use Rattle.ctl_machine.proofs.Numbers.{eq_differs}
-use Rattle.ctl_machine.proofs.Soundness.{slots_nested, slots_last}
+use Rattle.ctl_machine.proofs.Soundness.{slots_nested, slots_last, slots_listed}
 use Rattle.ctl_machine.proofs.Worlds.{slot_written}
 
 -- The newest master ----------------------------------------------------------------------------------
 
-same_masters : (m : Master) (s : Vec Slot Global) (ms : List Master) → all_but_outermost master_of (record m { slots = s }) ms ≡ all_but_outermost master_of m ms
-same_masters m s [] = refl
-same_masters m s (o ∷ ms) = refl
+same_masters : (l : Lists) (m : Master) (s : Vec Slot Global) (ms : List Master) → all_but_outermost (master_of l) (record m { slots = s }) ms ≡ all_but_outermost (master_of l) m ms
+same_masters l m s [] = refl
+same_masters l m s (o ∷ ms) = refl
 
-pub put_newest : (g h n slot : ℕ) (x : W.Slot) (m : Master) (s : Vec Slot Global) (ms : List Master) (xs : List Existing) → AreNested m ms → n ≡ m.number
+pub put_newest : (g : ℕ) (l : Lists) (n slot : ℕ) (x : W.Slot) (m : Master) (s : Vec Slot Global) (ms : List Master) (xs : List Existing) → AreNested m ms → n ≡ m.number
     → map slot_of s.items ≡ slice_set (map slot_of m.slots.items) slot x
-    → world_from g h (record m { slots = s }) ms xs ≡ C.set_slot n slot x (world_from g h m ms xs)
+    → world_from g l (record m { slots = s }) ms xs ≡ C.set_slot n slot x (world_from g l m ms xs)
 unfolding opened_changes
-put_newest g h n slot x m s ms xs nested same put = rw (same_masters m s ms, slot_written n slot x m s ms nested same put) refl
+put_newest g l n slot x m s ms xs nested same put = rw (same_masters l m s ms, slot_written n slot x m s ms nested same put) refl
 
 -- None -----------------------------------------------------------------------------------------------
 
@@ -37,9 +38,9 @@ unfolding opened_lists opened_activations
 no_slot_written n slot x m [] differs absent = refl
 no_slot_written n slot x m (o ∷ ms) differs absent = rw (eq_differs m.number n differs) (ap (λ (l : List W.Activation). activation_of m ∷ l) (no_slot_written n slot x o ms (All-head (λ a. a.number ≢ n) o ms absent) (All-tail (λ a. a.number ≢ n) o ms absent)))
 
-pub put_nowhere : (g h n slot : ℕ) (x : W.Slot) (m : Master) (older : List Master) (xs : List Existing) → n ≢ m.number → All (λ o. o.number ≢ n) older → world_of g h m older xs ≡ C.set_slot n slot x (world_of g h m older xs)
+pub put_nowhere : (g : ℕ) (l : Lists) (n slot : ℕ) (x : W.Slot) (m : Master) (older : List Master) (xs : List Existing) → n ≢ m.number → All (λ o. o.number ≢ n) older → world_of g l m older xs ≡ C.set_slot n slot x (world_of g l m older xs)
 unfolding opened_changes
-put_nowhere g h n slot x m older xs differs absent = rw (← no_slot_written n slot x m (reverse older) (λ same. differs (sym same)) (All-permutation (λ a. a.number ≢ n) older (reverse older) (IsPermutation-reverse older) absent)) refl
+put_nowhere g l n slot x m older xs differs absent = rw (← no_slot_written n slot x m (reverse older) (λ same. differs (sym same)) (All-permutation (λ a. a.number ≢ n) older (reverse older) (IsPermutation-reverse older) absent)) refl
 
 -- An older one ---------------------------------------------------------------------------------------
 
@@ -75,49 +76,55 @@ module _ (n slot : ℕ) (x : W.Slot) (o : Master) (s : Vec Slot Global) (ms : Li
   last_put m [] last = (last.0, slots_last o s ms last.1)
   last_put m (y ∷ newer) last = (last.0, last_put y newer last.1)
 
+  listed_put : (l : Lists) (m : Master) (newer : List Master) → AreListed l m (newer ++ o ∷ ms) → AreListed l m (newer ++ (record o { slots = s }) ∷ ms)
+  listed_put l m [] listed = (listed.0, slots_listed l o s ms listed.1)
+  listed_put l m (y ∷ newer) listed = (listed.0, listed_put l y newer listed.1)
+
   slots_put : (m : Master) (newer : List Master) → AreNested m (newer ++ o ∷ ms) → all_but_outermost activation_of m (newer ++ (record o { slots = s }) ∷ ms) ≡ change_slot n slot x (all_but_outermost activation_of m (newer ++ o ∷ ms))
   unfolding opened_lists opened_activations
   slots_put m [] nested = rw (eq_differs m.number n (λ e. omega (arith, nested.0))) (ap (λ (l : List W.Activation). activation_of m ∷ l) (slot_written n slot x o s ms nested.1 same put))
   slots_put m (y ∷ newer) nested = rw (eq_differs m.number n (λ e. omega (arith, is_newer m (y ∷ newer) o ms nested))) (ap (λ (l : List W.Activation). activation_of m ∷ l) (slots_put y newer nested.1))
 
-  masters_put : (m : Master) (newer : List Master) → all_but_outermost master_of m (newer ++ (record o { slots = s }) ∷ ms) ≡ all_but_outermost master_of m (newer ++ o ∷ ms)
-  masters_put m [] = ap (λ (l : List W.Master). master_of m ∷ l) (same_masters o s ms)
-  masters_put m (y ∷ newer) = ap (λ (l : List W.Master). master_of m ∷ l) (masters_put y newer)
+  masters_put : (l : Lists) (m : Master) (newer : List Master) → all_but_outermost (master_of l) m (newer ++ (record o { slots = s }) ∷ ms) ≡ all_but_outermost (master_of l) m (newer ++ o ∷ ms)
+  masters_put l m [] = ap (λ (ws : List W.Master). master_of l m ∷ ws) (same_masters l o s ms)
+  masters_put l m (y ∷ newer) = ap (λ (ws : List W.Master). master_of l m ∷ ws) (masters_put l y newer)
 
   numbers_put : (newer : List Master) → map (λ (a : Master). a.number) (newer ++ (record o { slots = s }) ∷ ms) ≡ map (λ (a : Master). a.number) (newer ++ o ∷ ms)
   numbers_put [] = refl
   numbers_put (y ∷ newer) = ap (λ (l : List ℕ). y.number ∷ l) (numbers_put newer)
 
 -- the older masters, from the outermost on, after the slot at a place was written
-module _ (g h n slot i : ℕ) (x : W.Slot) (m o : Master) (s : Vec Slot Global) (older : List Master) (xs : List Existing) (in_range : i < length older) (read : o ≡ get_or older i o) (same : n ≡ o.number) (put : map slot_of s.items ≡ slice_set (map slot_of o.slots.items) slot x) where
-  before : (l : List Master) → l ≡ older → (front back : List Master) → IsAround older i o front back → reverse l ≡ reverse back ++ o ∷ reverse front
-  before l is front back a = ap (λ k. reverse k) (is ∙ a.here) ∙ turn front back o
+module _ (g : ℕ) (l : Lists) (n slot i : ℕ) (x : W.Slot) (m o : Master) (s : Vec Slot Global) (older : List Master) (xs : List Existing) (in_range : i < length older) (read : o ≡ get_or older i o) (same : n ≡ o.number) (put : map slot_of s.items ≡ slice_set (map slot_of o.slots.items) slot x) where
+  before : (all : List Master) → all ≡ older → (front back : List Master) → IsAround older i o front back → reverse all ≡ reverse back ++ o ∷ reverse front
+  before all is front back a = ap (λ k. reverse k) (is ∙ a.here) ∙ turn front back o
 
   after : (front back : List Master) → IsAround older i o front back → reverse (set older i (record o { slots = s })) ≡ reverse back ++ (record o { slots = s }) ∷ reverse front
   after front back a = rw (a.here, a.place) (ap (λ k. reverse k) (set_here front back o (record o { slots = s })) ∙ turn front back (record o { slots = s }))
 
-  put_at : (front back : List Master) → IsAround older i o front back → AreNested m (reverse older) → world_of g h m (set older i (record o { slots = s })) xs ≡ C.set_slot n slot x (world_of g h m older xs)
+  put_at : (front back : List Master) → IsAround older i o front back → AreNested m (reverse older) → world_of g l m (set older i (record o { slots = s })) xs ≡ C.set_slot n slot x (world_of g l m older xs)
   unfolding opened_changes
   put_at front back a nested =
-      let nest : AreNested m (reverse back ++ o ∷ reverse front) = subst (λ (l : List Master). AreNested m l) (before older refl front back a) nested in
-      rw (after front back a, before older refl front back a, slots_put n slot x o s (reverse front) same put m (reverse back) nest, masters_put n slot x o s (reverse front) same put m (reverse back)) refl
+      let nest : AreNested m (reverse back ++ o ∷ reverse front) = subst (λ (ms : List Master). AreNested m ms) (before older refl front back a) nested in
+      rw (after front back a, before older refl front back a, slots_put n slot x o s (reverse front) same put m (reverse back) nest, masters_put n slot x o s (reverse front) same put l m (reverse back)) refl
 
-  pub put_older : AreNested m (reverse older) → world_of g h m (set older i (record o { slots = s })) xs ≡ C.set_slot n slot x (world_of g h m older xs)
+  pub put_older : AreNested m (reverse older) → world_of g l m (set older i (record o { slots = s })) xs ≡ C.set_slot n slot x (world_of g l m older xs)
   put_older nested = let a = around older i o in_range read in put_at a.0 a.1 a.2 nested
 
-  sound_at : (front back : List Master) → IsAround older i o front back → IsSound g h m older xs → IsSound g h m (set older i (record o { slots = s })) xs
+  sound_at : (front back : List Master) → IsAround older i o front back → IsSound g l m older xs → IsSound g l m (set older i (record o { slots = s })) xs
   sound_at front back a sound =
       let was = before older refl front back a in
       let is = sym (after front back a) in
       record {
-        nested = subst (λ (l : List Master). AreNested m l) is (nested_put n slot x o s (reverse front) same put m (reverse back) (subst (λ (l : List Master). AreNested m l) was sound.nested));
-        last = subst (λ (l : List Master). AreLast m l) is (last_put n slot x o s (reverse front) same put m (reverse back) (subst (λ (l : List Master). AreLast m l) was sound.last));
+        nested = subst (λ (ms : List Master). AreNested m ms) is (nested_put n slot x o s (reverse front) same put m (reverse back) (subst (λ (ms : List Master). AreNested m ms) was sound.nested));
+        last = subst (λ (ms : List Master). AreLast m ms) is (last_put n slot x o s (reverse front) same put m (reverse back) (subst (λ (ms : List Master). AreLast m ms) was sound.last));
+        listed = subst (λ (ms : List Master). AreListed l m ms) is (listed_put n slot x o s (reverse front) same put l m (reverse back) (subst (λ (ms : List Master). AreListed l m ms) was sound.listed));
+        only = subst (λ (ms : List Master). HaveNoOther l (numbers_of m ms)) is (subst (λ (ns : List ℕ). HaveNoOther l (m.number ∷ ns)) (sym (numbers_put n slot x o s (reverse front) same put (reverse back))) (subst (λ (ms : List Master). HaveNoOther l (numbers_of m ms)) was sound.only));
         given = sound.given;
         rising = sound.rising;
         behind = sound.behind;
         in_order = sound.in_order;
-        declared = subst (λ (l : List Master). AreDeclaredIn (numbers_of m l) xs) is (subst (λ (ns : List ℕ). AreDeclaredIn (m.number ∷ ns) xs) (sym (numbers_put n slot x o s (reverse front) same put (reverse back))) (subst (λ (l : List Master). AreDeclaredIn (numbers_of m l) xs) was sound.declared));
+        declared = subst (λ (ms : List Master). AreDeclaredIn (numbers_of m ms) xs) is (subst (λ (ns : List ℕ). AreDeclaredIn (m.number ∷ ns) xs) (sym (numbers_put n slot x o s (reverse front) same put (reverse back))) (subst (λ (ms : List Master). AreDeclaredIn (numbers_of m ms) xs) was sound.declared));
       }
 
-  pub sound_older : IsSound g h m older xs → IsSound g h m (set older i (record o { slots = s })) xs
+  pub sound_older : IsSound g l m older xs → IsSound g l m (set older i (record o { slots = s })) xs
   sound_older sound = let a = around older i o in_range read in sound_at a.0 a.1 a.2 sound

@@ -1,21 +1,23 @@
 -- What the machine keeps of its masters and objects holds after each change.
-use Rattle.std.proofs.Common.{◌≡◌, ℕ, zero, suc, ◌+◌, ◌<◌, ◌≤◌, ◌≢◌, List, [], ◌∷◌, ◌++◌, map, reverse, length, get_or, take, Bool, true, false, Vec, Global, refl, sym, ap, ◌∙◌, subst, inl, inr, add-one, arith}
+use Rattle.std.proofs.Common.{◌≡◌, ℕ, zero, suc, ◌+◌, ◌<◌, ◌≤◌, ◌≢◌, List, [], ◌∷◌, ◌++◌, map, reverse, length, get_or, take, Vec, Global, Result, Ok, Err, OnOk, OnErr, refl, sym, ap, ◌∙◌, subst, inl, inr, add-one, arith}
 use Rattle.std.specs.Prelude.{All, Contains, slice_set}
+use Rattle.fin_lists.specs.Lists.{Lists, add_object, drop_newest, with_master, without_master}
 use Rattle.std.proofs.lemmas.List.{map-append, reverse-append, take-map, get_or-take, length-take, length-append, get_or_append_left, get_or_push}
 use Rattle.std.proofs.lemmas.List.Elements.{All-nil, All-cons, All-push, All-take, All-weaker, All-contains, All-map}
 use Rattle.std.proofs.lemmas.List.Sorted.{IsNonDecreasingBy-push, IsNonDecreasingBy-take}
 use Rattle.std.proofs.lemmas.Bool.{cases_eq}
 use Rattle.ctl_meaning.specs.Lists.{last_of, opened_lists}
 use Rattle.ctl_machine.specs.declared.masters.Slot.{Slot}
-use Rattle.ctl_machine.specs.declared.masters.Member.{Member}
 use Rattle.ctl_machine.specs.declared.masters.Master.{Master}
 use Rattle.ctl_meaning.specs.World as W
 use Rattle.ctl_machine.specs.Masters.{slot_of}
 use Rattle.ctl_machine.specs.Numbers.{Rises}
 use Rattle.ctl_machine.specs.Objects.{Existing, numbers, homes, UpTo, StayInPlace, IsFrontOf, kept_without}
-use Rattle.ctl_machine.specs.World.{AreNested, AreLast, AreDeclaredIn, numbers_of, layers_with, IsSound}
+use Rattle.ctl_machine.specs.World.{AreNested, AreLast, AreListed, HaveNoOther, AreDeclaredIn, numbers_of, IsSound}
 use Rattle.ctl_machine.proofs.Numbers.{eq_same, eq_differs}
 use Rattle.ctl_machine.proofs.MastersByNumber.{below}
+use Rattle.ctl_machine.proofs.Listed.{listed_agree, added_listed, dropped_listed, opened_there, opened_here, opened_was, closed_given, closed_there, closed_was, was_there}
+use Rattle.fin_lists.specs.Masters.{with_object, without_newest}
 
 -- Numbers that rise ------------------------------------------------------------------------------------
 
@@ -39,24 +41,16 @@ none_written [] slot x put = refl
 none_written (y ∷ ys) slot x put = absurd (cc)
 
 pub slots_nested : (m : Master) (s : Vec Slot Global) (slot : ℕ) (x : W.Slot) (ms : List Master) → map slot_of s.items ≡ slice_set (map slot_of m.slots.items) slot x → AreNested m ms → AreNested (record m { slots = s }) ms
-slots_nested m s slot x [] put nested = (nested.0, nested.1, nested.2, none_written s.items slot x (put ∙ ap (λ (l : List Slot). slice_set (map slot_of l) slot x) nested.3))
+slots_nested m s slot x [] put nested = (nested.0, nested.1, none_written s.items slot x (put ∙ ap (λ (l : List Slot). slice_set (map slot_of l) slot x) nested.2))
 slots_nested m s slot x (o ∷ ms) put nested = nested
-
-layers_nested : (m : Master) (l : Vec Member Global) (ms : List Master) → 0 < length ms → AreNested m ms → AreNested (record m { layers = l }) ms
-layers_nested m l [] inner nested = absurd (omega arith)
-layers_nested m l (o ∷ ms) inner nested = nested
-
-same_layers_nested : (m : Master) (l : Vec Member Global) (ms : List Master) → l.items ≡ m.layers.items → AreNested m ms → AreNested (record m { layers = l }) ms
-same_layers_nested m l [] same nested = (nested.0, nested.1, rw same nested.2, nested.3)
-same_layers_nested m l (o ∷ ms) same nested = nested
 
 pub slots_last : (m : Master) (s : Vec Slot Global) (ms : List Master) → AreLast m ms → AreLast (record m { slots = s }) ms
 slots_last m s [] last = tt
 slots_last m s (o ∷ ms) last = last
 
-layers_last : (m : Master) (l : Vec Member Global) (ms : List Master) → AreLast m ms → AreLast (record m { layers = l }) ms
-layers_last m l [] last = tt
-layers_last m l (o ∷ ms) last = last
+pub slots_listed : (l : Lists) (m : Master) (s : Vec Slot Global) (ms : List Master) → AreListed l m ms → AreListed l (record m { slots = s }) ms
+slots_listed l m s [] listed = listed
+slots_listed l m s (o ∷ ms) listed = listed
 
 -- no object is of a newer master
 pub up_to : (m : Master) (ms : List Master) (xs : List Existing) → AreNested m ms → AreDeclaredIn (numbers_of m ms) xs → UpTo m.number xs
@@ -75,14 +69,16 @@ last_pushed (x ∷ y ∷ ns) n = last_pushed (y ∷ ns) n
 
 -- Changes ----------------------------------------------------------------------------------------------
 
-module _ (g h : ℕ) (m : Master) (older : List Master) (xs : List Existing) (sound : IsSound g h m older xs) where
+module _ (g : ℕ) (l : Lists) (m : Master) (older : List Master) (xs : List Existing) (sound : IsSound g l m older xs) where
   pub newest_bounds : UpTo m.number xs
   newest_bounds = up_to m (reverse older) xs sound.nested sound.declared
 
-  pub sound_in_place : (ys : List Existing) → StayInPlace xs ys → IsSound g h m older ys
+  pub sound_in_place : (ys : List Existing) → StayInPlace xs ys → IsSound g l m older ys
   sound_in_place ys stay = record {
     nested = sound.nested;
     last = sound.last;
+    listed = sound.listed;
+    only = sound.only;
     given = sound.given;
     rising = rw stay.numbers_stay sound.rising;
     behind = rw stay.numbers_stay sound.behind;
@@ -90,17 +86,30 @@ module _ (g h : ℕ) (m : Master) (older : List Master) (xs : List Existing) (so
     declared = rw stay.homes_stay sound.declared;
   }
 
-  pub sound_layers : (l : Vec Member Global) → 0 < length (reverse older) → IsSound g h (record m { layers = l }) older xs
-  sound_layers l inner = record { nested = layers_nested m l (reverse older) inner sound.nested; last = layers_last m l (reverse older) sound.last; given = sound.given; rising = sound.rising; behind = sound.behind; in_order = sound.in_order; declared = sound.declared }
+  -- the lists change, and have these masters still
+  sound_lists : (new : Lists) → new.masters_given ≡ l.masters_given → AreListed new m (reverse older) → HaveNoOther new (numbers_of m (reverse older)) → IsSound g new m older xs
+  sound_lists new same listed only = record { nested = sound.nested; last = sound.last; listed = listed; only = only; given = rw same sound.given; rising = sound.rising; behind = sound.behind; in_order = sound.in_order; declared = sound.declared }
 
-  pub sound_same_layers : (l : Vec Member Global) → l.items ≡ m.layers.items → IsSound g h (record m { layers = l }) older xs
-  sound_same_layers l same = record { nested = same_layers_nested m l (reverse older) same sound.nested; last = layers_last m l (reverse older) sound.last; given = sound.given; rising = sound.rising; behind = sound.behind; in_order = sound.in_order; declared = sound.declared }
+  pub sound_added : (k x : ℕ) → IsSound g (add_object k x l) m older xs
+  unfolding add_object
+  sound_added k x = sound_lists (add_object k x l) refl (added_listed k x l m (reverse older) sound.listed) (λ n some. sound.only n (was_there k (with_object x) l.masters n some))
+
+  -- or memory was refused
+  pub sound_tried : {T E : Type 0} (k x : ℕ) (new : Lists) (r : Result T E) → OnOk r (new ≡ add_object k x l) → OnErr r (new ≡ l) → IsSound g new m older xs
+  sound_tried k x new (Ok y) added same = rw added (sound_added k x)
+  sound_tried k x new (Err e) added same = rw same sound
+
+  pub sound_dropped : (k : ℕ) → IsSound g (drop_newest k l) m older xs
+  unfolding drop_newest
+  sound_dropped k = sound_lists (drop_newest k l) refl (dropped_listed k l m (reverse older) sound.listed) (λ n some. sound.only n (was_there k without_newest l.masters n some))
 
   -- an object of the newest master
-  pub sound_declared : (s : Vec Slot Global) (slot : ℕ) (x : W.Slot) (o : Existing) → map slot_of s.items ≡ slice_set (map slot_of m.slots.items) slot x → o.number ≡ g + 1 → o.master ≡ m.number → IsSound (g + 1) h (record m { slots = s }) older (xs ++ o ∷ [])
+  pub sound_declared : (s : Vec Slot Global) (slot : ℕ) (x : W.Slot) (o : Existing) → map slot_of s.items ≡ slice_set (map slot_of m.slots.items) slot x → o.number ≡ g + 1 → o.master ≡ m.number → IsSound (g + 1) l (record m { slots = s }) older (xs ++ o ∷ [])
   sound_declared s slot x o put number master = record {
     nested = slots_nested m s slot x (reverse older) put sound.nested;
     last = slots_last m s (reverse older) sound.last;
+    listed = slots_listed l m s (reverse older) sound.listed;
+    only = sound.only;
     given = sound.given;
     rising = rw (map-append (λ (x : Existing). x.number) xs (o ∷ []), number) (rises_push (numbers xs) g sound.rising sound.behind);
     behind = rw (map-append (λ (x : Existing). x.number) xs (o ∷ []), number) (All-push (λ n. n ≤ g + 1) (numbers xs) (g + 1) (All-weaker (λ n. n ≤ g) (λ n. n ≤ g + 1) (λ n le. omega arith) (numbers xs) sound.behind) (omega arith));
@@ -109,27 +118,28 @@ module _ (g h : ℕ) (m : Master) (older : List Master) (xs : List Existing) (so
   }
 
   -- a slot of the newest master is written
-  pub sound_slots : (s : Vec Slot Global) (slot : ℕ) (x : W.Slot) → map slot_of s.items ≡ slice_set (map slot_of m.slots.items) slot x → IsSound g h (record m { slots = s }) older xs
-  sound_slots s slot x put = record { nested = slots_nested m s slot x (reverse older) put sound.nested; last = slots_last m s (reverse older) sound.last; given = sound.given; rising = sound.rising; behind = sound.behind; in_order = sound.in_order; declared = sound.declared }
+  pub sound_slots : (s : Vec Slot Global) (slot : ℕ) (x : W.Slot) → map slot_of s.items ≡ slice_set (map slot_of m.slots.items) slot x → IsSound g l (record m { slots = s }) older xs
+  sound_slots s slot x put = record { nested = slots_nested m s slot x (reverse older) put sound.nested; last = slots_last m s (reverse older) sound.last; listed = slots_listed l m s (reverse older) sound.listed; only = sound.only; given = sound.given; rising = sound.rising; behind = sound.behind; in_order = sound.in_order; declared = sound.declared }
 
   -- a master inside the newest one
-  pub sound_entered : (new : Master) (all : List Master) → all ≡ older ++ m ∷ [] → new.number ≡ h + 1 → last_of new.display.items ≡ new.number → IsSound g (h + 1) new all xs
+  pub sound_entered : (new : Master) (all : List Master) → all ≡ older ++ m ∷ [] → new.number ≡ l.masters_given + 1 → last_of new.display.items ≡ new.number → IsSound g (with_master l) new all xs
+  unfolding with_master
   sound_entered new all more number last =
       let turned : reverse all ≡ m ∷ reverse older = rw (more, reverse-append older (m ∷ [])) refl in
       record {
         nested = subst (λ ms. AreNested new ms) (sym turned) (omega (arith, sound.given), sound.nested);
         last = subst (λ ms. AreLast new ms) (sym turned) (last, sound.last);
+        listed = subst (λ ms. AreListed (with_master l) new ms) (sym turned) (rw number (opened_here l), listed_agree l (with_master l) (l.masters_given + 1) (opened_there l) m (reverse older) sound.nested (omega (arith, sound.given)) sound.listed);
+        only = subst (λ ms. HaveNoOther (with_master l) (numbers_of new ms)) (sym turned) (λ n some. elim (opened_was l n some) [
+          | inl same ↦ (0, omega arith, number ∙ sym same)
+          | inr before ↦ (let among = sound.only n before in (among.0 + 1, omega (arith, among.1), rw add-one among.2))
+        ]);
         given = omega arith;
         rising = sound.rising;
         behind = sound.behind;
         in_order = sound.in_order;
         declared = subst (λ ms. AreDeclaredIn (numbers_of new ms) xs) (sym turned) (All-weaker (Contains (numbers_of m (reverse older))) (Contains (numbers_of new (m ∷ reverse older))) (λ n among. (among.0 + 1, omega (arith, among.1), rw add-one among.2)) (homes xs) sound.declared);
       }
-
--- a further layer, of an inner master
-pub sound_with : (g h : ℕ) (m : Master) (older : List Master) (xs : List Existing) → IsSound g h m older xs → (l : Vec Member Global) (b : Bool) (member : Member) → l.items ≡ layers_with b member m.layers.items → (b ≡ true → 0 < length (reverse older)) → IsSound g h (record m { layers = l }) older xs
-sound_with g h m older xs sound l true member pushed inner = sound_layers g h m older xs sound l (inner refl)
-sound_with g h m older xs sound l false member pushed inner = sound_same_layers g h m older xs sound l pushed
 
 -- Leaving ----------------------------------------------------------------------------------------------
 
@@ -146,9 +156,9 @@ among_others : (n : ℕ) (ns : List ℕ) (k : ℕ) → k ≢ n → Contains (n �
 among_others n ns k differs (zero, in_range, is) = absurd (differs (sym is))
 among_others n ns k differs (suc i, in_range, is) = (i, omega arith, is)
 
-module _ (g h : ℕ) (m : Master) (older : List Master) (xs : List Existing) (sound : IsSound g h m older xs) where
+module _ (g : ℕ) (l : Lists) (m : Master) (older : List Master) (xs : List Existing) (sound : IsSound g l m older xs) where
   -- the first objects, which other masters declare
-  pub sound_left : (o : Master) (rest : List Master) (ys : List Existing) → older ≡ rest ++ o ∷ [] → IsFrontOf xs ys → ys ≡ kept_without m.number xs → IsSound g h o rest ys
+  pub sound_left : (o : Master) (rest : List Master) (ys : List Existing) → older ≡ rest ++ o ∷ [] → IsFrontOf xs ys → ys ≡ kept_without m.number xs → IsSound g (without_master m.number l) o rest ys
   sound_left o rest ys last front kept =
       let turned : reverse older ≡ o ∷ reverse rest = rw (last, reverse-append rest (o ∷ [])) refl in
       let nested : AreNested m (o ∷ reverse rest) = subst (λ ms. AreNested m ms) turned sound.nested in
@@ -158,7 +168,9 @@ module _ (g h : ℕ) (m : Master) (older : List Master) (xs : List Existing) (so
       record {
         nested = nested.1;
         last = (subst (λ ms. AreLast m ms) turned sound.last).1;
-        given = omega (arith, nested.0, sound.given);
+        listed = listed_agree l (without_master m.number l) m.number (closed_there m.number l) o (reverse rest) nested.1 nested.0 (subst (λ ms. AreListed l m ms) turned sound.listed).1;
+        only = λ n some. (let before = closed_was m.number l n some in among_others m.number (numbers_of o (reverse rest)) n before.0 (subst (λ ms. HaveNoOther l (numbers_of m ms)) turned sound.only n before.1));
+        given = rw (closed_given m.number l) (omega (arith, nested.0, sound.given));
         rising = rw (front.1, ← take-map (λ (x : Existing). x.number) front.0 xs) (rises_take (numbers xs) front.0 sound.rising);
         behind = rw (front.1, ← take-map (λ (x : Existing). x.number) front.0 xs) (All-take (λ n. n ≤ g) front.0 (numbers xs) sound.behind);
         in_order = rw (front.1, ← take-map (λ (x : Existing). x.master) front.0 xs) (IsNonDecreasingBy-take (λ n. n) front.0 (homes xs) sound.in_order);
@@ -166,10 +178,12 @@ module _ (g h : ℕ) (m : Master) (older : List Master) (xs : List Existing) (so
       }
 
   -- the outermost stays
-  pub sound_front : (rest : List Master) (ys : List Existing) → rest ≡ older → IsFrontOf xs ys → IsSound g h m rest ys
+  pub sound_front : (rest : List Master) (ys : List Existing) → rest ≡ older → IsFrontOf xs ys → IsSound g l m rest ys
   sound_front rest ys same front = record {
     nested = subst (λ ms. AreNested m (reverse ms)) (sym same) sound.nested;
     last = subst (λ ms. AreLast m (reverse ms)) (sym same) sound.last;
+    listed = subst (λ ms. AreListed l m (reverse ms)) (sym same) sound.listed;
+    only = subst (λ ms. HaveNoOther l (numbers_of m (reverse ms))) (sym same) sound.only;
     given = sound.given;
     rising = rw (front.1, ← take-map (λ (x : Existing). x.number) front.0 xs) (rises_take (numbers xs) front.0 sound.rising);
     behind = rw (front.1, ← take-map (λ (x : Existing). x.number) front.0 xs) (All-take (λ n. n ≤ g) front.0 (numbers xs) sound.behind);

@@ -1,8 +1,9 @@
 -- What a call comes to, as a move of the instruction table.
-use Rattle.std.specs.Prelude.{ℕ, List, [], ◌∷◌, length, Bool, true, false}
+use Rattle.std.specs.Prelude.{◌≡◌, ℕ, List, [], ◌∷◌, length, Bool, true, false}
 use Rattle.ctl_tree.specs.declared.event.Event.{Event}
 use Rattle.ctl_tree.specs.declared.ending.Stop.TheVariants.{UseAfterFree}
-use Rattle.ctl_meaning.specs.World.{World}
+use Rattle.ctl_meaning.specs.World.{Slot, World}
+use Rattle.ctl_meaning.specs.Changes.{open_master}
 use Rattle.ctl_meaning.specs.Outcome.{Goes}
 use Rattle.ctl_code.specs.States.{At, Giving, Stopped, AfterBody, Frame, InMaster, Move}
 use Rattle.ctl_code.specs.Table.{quiet, showing}
@@ -30,6 +31,12 @@ abbrev pub levels_by : Called → List Level → List Level
 levels_by Gone ls = ls
 levels_by Nothing ls = ls
 levels_by (Entered place) ls = all_but_first ls
+
+-- what it makes of the world: a body is a further master
+abbrev pub IsEntered : Called → World → World → Type 0
+IsEntered Gone old new = new ≡ old
+IsEntered Nothing old new = new ≡ old
+IsEntered (Entered place) old new = (display : List ℕ) × (slots : List Slot) × (new ≡ open_master display slots old)
 
 -- the machine's part of it: where it goes on, the frame of the body, entered over so many operands, and what is shown
 abbrev pub mode_by : Called → M.Mode

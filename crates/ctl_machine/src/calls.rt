@@ -8,7 +8,8 @@ ghost use Rattle.ctl_code.specs.Table as Table;
 ghost use Rattle.ctl_code.specs.Valid.{IsValid};
 ghost use Rattle.ctl_machine.specs.World.{levels_of, display_at, all_but_first};
 ghost use Rattle.ctl_machine.specs.Masters.{actuals_for};
-ghost use Rattle.ctl_machine.specs.Calls.{move_into, move_by, levels_by, is_there};
+ghost use Rattle.ctl_machine.specs.declared.calls.Called.TheVariants as CalledOf;
+ghost use Rattle.ctl_machine.specs.Calls.{move_into, move_by, levels_by, is_there, IsEntered};
 ghost use Rattle.ctl_machine.specs.Needs.{MayBeBody};
 
 use crate::world::World;
@@ -58,6 +59,7 @@ pub fn enter_body(
     requires masters { world.old.ledger.next_master < 2 ^ 64 }
     ensures moves { IfOk result (λ place. (es : List EventOf.Event) (k : List T.Frame) (ops : List ℕ) → Table.enter_body (slice_get code.now.entries.items subprogram) es (display_at home world.old) (actuals_for formal) k ops world.old ≡ move_into place es k ops world.new) }
     ensures levels { IfOk result (λ place. all_but_first (levels_of world.new) ≡ levels_of world.old) }
+    ensures entered { IfOk result (λ place. IsEntered (CalledOf.Entered place) world.old world.new) }
     ensures err { OnErr result (world.new ≡ world.old) }
 {
     let Entry {
@@ -81,6 +83,7 @@ pub fn call_operation(
     ensures moves { IfOk result (λ called. (e : EventOf.Event) (k : List T.Frame) (ops : List ℕ) → Table.call_operation code.now operation e object (object_at object world.old) k ops world.old ≡ move_by called e k ops world.new) }
     ensures there { IfOk result (λ called. is_there called ≡ is_some (object_at object world.old)) }
     ensures levels { IfOk result (λ called. levels_by called (levels_of world.new) ≡ levels_of world.old) }
+    ensures entered { IfOk result (λ called. IsEntered called world.old world.new) }
     ensures err { OnErr result (world.new ≡ world.old) }
 {
     let Some(home) = world.home_of(object) else {

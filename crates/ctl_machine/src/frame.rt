@@ -35,11 +35,10 @@ pub enum Afterwards {
     Body,
 }
 
-/// A master that is left: how many of its layers are still to be finalized, whether a finalization failed, and how its statements
-/// were completed (RM 7.6.1).
+/// A master that is left: whether a finalization failed, and how its statements were completed (RM 7.6.1). The layers that are
+/// still to be finalized are in the finalization lists.
 #[derive(Clone, Copy, Debug, PartialEq, Eq)]
 pub struct Departure {
-    pub remaining: usize,
     pub has_failed: bool,
     pub pending: Completion,
     pub afterwards: Afterwards,

@@ -8,6 +8,7 @@ ghost use Rattle.ctl_tree.specs.declared.checked.Var.{Var};
 ghost use Rattle.ctl_machine.specs.declared.frame.Frame as FrameOf;
 ghost use Rattle.ctl_machine.specs.declared.frame.Frame.TheVariants.{Counting};
 ghost use Rattle.ctl_machine.specs.declared.turns.Turns.{Turns};
+ghost use Rattle.ctl_machine.specs.Control.{Running};
 ghost use Rattle.ctl_machine.specs.Engine.{Rests, Makes, Stays, made_by};
 ghost use Rattle.ctl_machine.specs.Needs.{IsLoopOnTop};
 
@@ -37,7 +38,7 @@ impl Engine {
     #[inline(always)]
     pub(crate) fn skip_unless(&mut self, count: usize, place: usize)
         requires operand { 1 ≤ length self.old.operands }
-        requires rests { Rests true self.old }
+        requires rests { Rests Running self.old }
         requires behind { place + 1 + count < 2 ^ 64 }
         ensures { Makes self.old self.new (made_by (Table.by_unless count) place self.old) }
     {
@@ -52,7 +53,7 @@ impl Engine {
     /// A loop is entered (RM 5.5).
     #[inline(never)]
     pub(crate) fn enter_loop(&mut self, count: usize, place: usize) -> Result<(), AllocError>
-        requires rests { Rests true self.old }
+        requires rests { Rests Running self.old }
         requires behind { place + 1 + count < 2 ^ 64 }
         ensures ok { OnOk result ((code : Code) → Makes self.old self.new (made_by (Table.by_instr code (Some (InstrOf.Loop count))) place self.old)) }
         ensures err { OnErr result (Stays self.old self.new) }
@@ -75,7 +76,7 @@ impl Engine {
         place: usize,
     ) -> Result<(), AllocError>
         requires operands { 2 ≤ length self.old.operands }
-        requires rests { Rests true self.old }
+        requires rests { Rests Running self.old }
         requires behind { place + 1 + count < 2 ^ 64 }
         ensures ok { OnOk result (Makes self.old self.new (made_by (Table.by_for parameter in_reverse count) place self.old)) }
         ensures err { OnErr result (Stays self.old self.new) }
@@ -102,7 +103,7 @@ impl Engine {
     #[inline(always)]
     pub(crate) fn next(&mut self, back: usize, place: usize)
         requires top { IsLoopOnTop (reverse self.old.control.items) }
-        requires rests { Rests true self.old }
+        requires rests { Rests Running self.old }
         requires back { back ≤ place }
         ensures { Makes self.old self.new (made_by (Table.by_next back) place self.old) }
     {
@@ -132,7 +133,7 @@ impl Engine {
     #[inline(always)]
     pub(crate) fn exit_when(&mut self, place: usize)
         requires operand { 1 ≤ length self.old.operands }
-        requires rests { Rests true self.old }
+        requires rests { Rests Running self.old }
         requires place { place + 1 < 2 ^ 64 }
         ensures { (code : Code) → Makes self.old self.new (made_by (Table.by_instr code (Some InstrOf.ExitWhen)) place self.old) }
     {
@@ -144,7 +145,7 @@ impl Engine {
     #[inline(always)]
     pub(crate) fn exit_unless(&mut self, place: usize)
         requires operand { 1 ≤ length self.old.operands }
-        requires rests { Rests true self.old }
+        requires rests { Rests Running self.old }
         requires place { place + 1 < 2 ^ 64 }
         ensures { (code : Code) → Makes self.old self.new (made_by (Table.by_instr code (Some InstrOf.ExitUnless)) place self.old) }
     {
@@ -155,7 +156,7 @@ impl Engine {
     /// The innermost loop is left, or not.
     #[inline(always)]
     fn exit_if(&mut self, leaves: bool, place: usize)
-        requires rests { Rests true self.old }
+        requires rests { Rests Running self.old }
         requires place { place + 1 < 2 ^ 64 }
         ensures { Makes self.old self.new (made_by (Table.by_exit leaves) place self.old) }
     {

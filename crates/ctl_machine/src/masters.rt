@@ -1,4 +1,4 @@
-//! An active master, with what its uses find and the layers that it finalizes.
+//! An active master, with what its uses find.
 
 ghost use Rattle.std.specs.Prelude.{◌≡◌, ◌≢◌, All, IfNone, IfOk, IfSome, map, slice_get, slice_set, take};
 ghost use Rattle.ctl_meaning.specs.World as W;
@@ -6,7 +6,6 @@ ghost use Rattle.ctl_meaning.specs.Lists.{item_or};
 ghost use Rattle.ctl_machine.specs.Masters.{AreRising, slots_for, slot_of};
 ghost use Rattle.ctl_machine.specs.Numbers.{StandsAt};
 
-use ctl_tree::checked::Ty;
 use std::alloc::{AllocError, Global};
 
 /// What a use of a name finds.
@@ -22,23 +21,14 @@ pub enum Slot {
     Copies(u64),
 }
 
-/// A declared object that a master finalizes: its number and its type.
-#[derive(Clone, Copy)]
-pub struct Member {
-    pub number: u64,
-    pub ty: Ty,
-}
-
 /// An active master: an execution of a body or a block (RM 7.6.1). The outermost one stands for what is around the main
-/// procedure, and has number 0.
+/// procedure, and has number 0. What it finalizes is kept in the finalization lists, under its number.
 #[derive(Drop)]
 pub struct Master {
     pub number: u64,
     /// the active masters that its part sees, by level, itself last; none for the outermost
     pub display: Vec<u64>,
     pub slots: Vec<Slot>,
-    /// the objects that are to be finalized, in the order of creation
-    pub layers: Vec<Member>,
 }
 
 /// So many slots, of which the first stands for the formal parameter, if there is one.

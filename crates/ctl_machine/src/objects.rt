@@ -183,6 +183,15 @@ impl Objects {
         Some(self.entries[place].master)
     }
 
+    /// The type of the object of this number, where that object exists.
+    pub fn type_of(&self, number: u64) -> Option<Ty>
+        requires rising { IsRising self.now }
+        ensures { result ≡ option_map (λ o. o.ty) (object_in number (objects_of self.now)) }
+    {
+        let place = place_of(self.entries.as_slice(), number)?;
+        Some(self.entries[place].ty)
+    }
+
     /// The scalar in the object of this number, where that object exists: 0 in one that holds none.
     #[inline(always)]
     pub fn scalar(&self, number: u64) -> Option<u64>

@@ -1,10 +1,9 @@
 //! What the topmost frame makes of what is handed to it.
 
-ghost use Rattle.std.specs.Prelude.{◌≡◌, ◌+◌, ◌^◌, ◌<◌, ℕ, List, ◌∷◌, ◌++◌, [], Some, IfOk, OnOk, OnErr, is_some, length, reverse, slice_get, vec_len, vec_capacity, true, false};
+ghost use Rattle.std.specs.Prelude.{◌≡◌, ◌^◌, ◌<◌, ℕ, List, ◌∷◌, ◌++◌, [], Some, IfOk, OnOk, OnErr, is_some, length, option_map, vec_len, vec_capacity, true, false};
 ghost use Rattle.ctl_tree.specs.declared.checked.Ty.TheVariants.{Record};
-ghost use Rattle.ctl_meaning.specs.World.{Single};
 ghost use Rattle.ctl_code.specs.States.{without_flag};
-ghost use Rattle.ctl_code.specs.Fits.{HaveSingle, MayTake, SpeakOfKnown};
+ghost use Rattle.ctl_code.specs.Fits.{FitsWorld, MayTake, SpeakOfKnown};
 ghost use Rattle.ctl_code.specs.Table as Table;
 ghost use Rattle.ctl_code.specs.Valid.{IsValid};
 ghost use Rattle.ctl_machine.specs.declared.frame.Frame as FrameOf;
@@ -13,21 +12,21 @@ ghost use Rattle.ctl_machine.specs.declared.frame.Handed.TheVariants as HandedOf
 ghost use Rattle.ctl_machine.specs.declared.frame.Mode.TheVariants as ModeOf;
 ghost use Rattle.ctl_code.specs.declared.code.Code.{Code};
 ghost use Rattle.ctl_machine.specs.Calls.{frames_by, mode_by, shown_by};
-ghost use Rattle.ctl_machine.specs.Control.{after_of, birth_mode, done_of, finalization_result, is_exit, may_raise, mode_of, result_of, says_failed};
+ghost use Rattle.ctl_machine.specs.Control.{Calm, Raising, AtMost, activity, activity_behind, after_of, birth_mode, done_of, finalization_result, is_exit, mode_of, result_of, says_failed};
 ghost use Rattle.ctl_meaning.specs.Changes.{object_at};
 ghost use Rattle.ctl_machine.specs.World.{Level, first_display, levels_of, layered, layered_levels, newest_layers};
-ghost use Rattle.ctl_machine.specs.Engine.{IsTop, IsLeaving, IsLoop, Makes, Rests, Stays, control_of, given_to_top, leaves_on};
+ghost use Rattle.ctl_machine.specs.Engine.{IsTop, IsLeaving, IsLoop, Makes, Rests, Stays, control_of, given_to_top, leaves_on, passes_on, IsNewest};
 
 use crate::calls::{Called, call_operation, operations_of};
 use crate::engine::Engine;
 use crate::frame::{Afterwards, Completion, Departure, Frame, Handed, Mode};
-use crate::masters::Member;
 use crate::world::World;
 use ctl_code::code::Code;
 use ctl_tree::checked::Ty;
 use ctl_tree::ending::Stop;
 use ctl_tree::event::{Cause, Event, Owner, Part};
 use ctl_tree::text::Path;
+use fin_lists::Layer;
 use std::alloc::{AllocError, Global};
 
 /// The number of Program_Error in the table of exceptions.
@@ -109,7 +108,8 @@ fn mode_behind_loop(handed: Handed, behind: usize) -> Mode
 
 /// Where the execution goes on behind a master (RM 7.6.1): Program_Error is raised there where a finalization failed.
 fn mode_behind(departure: Departure) -> Mode
-    ensures { (ls : List Level) → mode_of result ls ≡ Table.left_mode (after_of departure.afterwards ls) departure.has_failed (done_of departure.pending) }
+    ensures mode { (ls : List Level) → mode_of result ls ≡ Table.left_mode (after_of departure.afterwards ls) departure.has_failed (done_of departure.pending) }
+    ensures activity { AtMost (activity result) (activity_behind departure.afterwards) }
 {
     if departure.has_failed {
         return Mode::Giving(Handed::Raise(PROGRAM_ERROR));
@@ -125,16 +125,16 @@ fn mode_behind(departure: Departure) -> Mode
 }
 
 /// An object that exists is the newest layer of the newest master; whether it exists. Unchanged where memory is refused.
-fn add_existing(world: &mut World, member: Member) -> Result<bool, AllocError>
-    ensures exists { IfOk result (λ exists. exists ≡ is_some (object_at member.number world.old)) }
-    ensures ok { IfOk result (λ exists. world.new ≡ layered exists member world.old) }
-    ensures levels { IfOk result (λ exists. levels_of world.new ≡ layered_levels exists member (levels_of world.old)) }
+fn add_existing(world: &mut World, object: u64) -> Result<bool, AllocError>
+    ensures exists { IfOk result (λ exists. exists ≡ is_some (object_at object world.old)) }
+    ensures ok { IfOk result (λ exists. world.new ≡ layered exists object world.old) }
+    ensures levels { IfOk result (λ exists. levels_of world.new ≡ layered_levels exists object (levels_of world.old)) }
     ensures err { OnErr result (world.new ≡ world.old) }
 {
-    if world.home_of(member.number).is_none() {
+    if world.home_of(object).is_none() {
         return Ok(false);
     }
-    world.add_layer(member)?;
+    world.add_layer(object)?;
     Ok(true)
 }
 
@@ -167,9 +167,9 @@ impl Engine {
         requires valid { IsValid code.now }
         requires takes { MayTake (result_of handed) (control_of self.old) }
         requires frames { SpeakOfKnown code.now (control_of self.old) }
-        requires layers { HaveSingle code.now self.old.world.ledger.masters }
+        requires world { FitsWorld code.now self.old.world }
         requires top { IsTop top self.old }
-        requires rests { Rests (may_raise (ModeOf.Giving handed)) self.old }
+        requires rests { Rests (activity (ModeOf.Giving handed)) self.old }
         requires masters { self.old.world.ledger.next_master < 2 ^ 64 }
         ensures ok { OnOk result (Makes self.old self.new (given_to_top code.now handed self.old)) }
         ensures err { OnErr result (Stays self.old self.new) }
@@ -219,15 +219,14 @@ impl Engine {
     /// The statements of the newest master are completed: it is left (RM 7.6.1).
     fn begin_leaving(&mut self, handed: Handed, height: usize, afterwards: Afterwards)
         requires top { IsTop (Statements height afterwards) self.old }
-        requires rests { Rests (may_raise (ModeOf.Giving handed)) self.old }
+        requires rests { Rests (activity (ModeOf.Giving handed)) self.old }
         ensures { (code : Code) → Makes self.old self.new (given_to_top code handed self.old) }
     {
-        let remaining = self.world.layer_count();
+        self.world.layers_are_found();
         self.operands.cut_back(height);
         replace_top(
             &mut self.control,
             Frame::Leaving(Departure {
-                remaining,
                 has_failed: false,
                 pending: completion_of(handed),
                 afterwards,
@@ -244,97 +243,115 @@ impl Engine {
         departure: Departure,
     ) -> Result<(), AllocError>
         requires valid { IsValid code.now }
-        requires layers { HaveSingle code.now self.old.world.ledger.masters }
+        requires world { FitsWorld code.now self.old.world }
         requires top { IsTop (Leaving departure) self.old }
-        requires rests { Rests (may_raise (ModeOf.Giving handed)) self.old }
+        requires rests { Rests (activity (ModeOf.Giving handed)) self.old }
         requires masters { self.old.world.ledger.next_master < 2 ^ 64 }
         ensures ok { OnOk result (Makes self.old self.new (given_to_top code.now handed self.old)) }
         ensures err { OnErr result (Stays self.old self.new) }
     {
-        let has_failed = departure.has_failed | is_failure(handed);
-        match departure.remaining.checked_sub(1) {
-            Some(remaining) => self.finalize_layer(
-                code,
-                Departure {
-                    remaining,
-                    has_failed,
-                    ..departure
-                },
-            ),
+        let departure = Departure {
+            has_failed: departure.has_failed | is_failure(handed),
+            ..departure
+        };
+        match self.world.newest_layer() {
+            Some(Layer::Object(object)) => self.finalize_layer(code, departure, object),
+            // No instruction makes collections yet.
+            Some(Layer::Sets) => unreachable!(),
             None => {
-                self.end_leaving(Departure {
-                    has_failed,
-                    ..departure
-                });
+                self.end_leaving(departure);
                 Ok(())
             }
         }
     }
 
-    /// The next layer of the newest master, which is left, is finalized: a scalar has nothing to finalize (RM 7.6.1).
-    fn finalize_layer(&mut self, code: &Code, departure: Departure) -> Result<(), AllocError>
+    /// This object, the newest layer of the newest master, which is left, is finalized by its own type (RM 7.6.1).
+    fn finalize_layer(
+        &mut self,
+        code: &Code,
+        departure: Departure,
+        object: u64,
+    ) -> Result<(), AllocError>
         requires valid { IsValid code.now }
-        requires layers { HaveSingle code.now self.old.world.ledger.masters }
-        requires top { IsLeaving departure 1 self.old }
-        requires rests { Rests false self.old }
+        requires world { FitsWorld code.now self.old.world }
+        requires top { IsLeaving departure self.old }
+        requires rests { Rests Calm self.old }
+        requires layer { IsNewest object (newest_layers self.old.world) }
         requires masters { self.old.world.ledger.next_master < 2 ^ 64 }
-        ensures ok { OnOk result (Makes self.old self.new (leaves_on code.now departure 1 self.old)) }
+        ensures ok { OnOk result (Makes self.old self.new (leaves_on code.now departure self.old)) }
         ensures err { OnErr result (Stays self.old self.new) }
     {
-        let Some(Member { number, ty }) = self.world.layer(departure.remaining) else {
-            unreachable!()
-        };
-        match ty {
-            Ty::Record(record_type) => self.finalize_object(code, departure, number, record_type),
-            _ => {
-                replace_top(&mut self.control, Frame::Leaving(departure));
-                self.mode = Mode::Giving(Handed::Normal);
+        match self.world.type_of(object) {
+            Some(Ty::Record(record_type)) => {
+                self.finalize_object(code, departure, object, record_type)
+            }
+            // A scalar has nothing to finalize.
+            Some(_) => {
+                self.pass_layer(departure, Mode::Giving(Handed::Normal));
+                Ok(())
+            }
+            // An object that is gone stops the run.
+            None => {
+                self.pass_layer(departure, Mode::Stopped(Stop::UseAfterFree));
                 Ok(())
             }
         }
     }
 
-    /// A declared object of this record type, the next layer of the newest master, is finalized (RM 7.6.1).
+    /// The newest layer of the newest master, which is left, is taken out with no call, and this mode comes next (RM 7.6.1).
+    fn pass_layer(&mut self, departure: Departure, mode: Mode)
+        requires top { IsLeaving departure self.old }
+        requires rests { Rests Calm self.old }
+        requires calm { activity mode ≡ Calm }
+        ensures { Makes self.old self.new (passes_on departure (mode_of mode (levels_of self.old.world)) self.old) }
+    {
+        replace_top(&mut self.control, Frame::Leaving(departure));
+        let master = self.world.newest();
+        self.world.take_layer(master);
+        self.mode = mode;
+    }
+
+    /// This object of a record type, the newest layer of the newest master, is finalized (RM 7.6.1).
     fn finalize_object(
         &mut self,
         code: &Code,
         departure: Departure,
-        number: u64,
+        object: u64,
         record_type: usize,
     ) -> Result<(), AllocError>
         requires valid { IsValid code.now }
         requires known { record_type < length code.now.records.items }
-        requires top { IsLeaving departure 1 self.old }
-        requires rests { Rests false self.old }
-        requires layer { slice_get (reverse (newest_layers self.old.world)) departure.remaining ≡ Some (Single (record { number = number; ty = Record record_type })) }
+        requires top { IsLeaving departure self.old }
+        requires rests { Rests Calm self.old }
+        requires layer { IsNewest object (newest_layers self.old.world) }
+        requires exists { option_map (λ o. o.ty) (object_at object self.old.world) ≡ Some (Record record_type) }
         requires masters { self.old.world.ledger.next_master < 2 ^ 64 }
-        ensures ok { OnOk result (Makes self.old self.new (leaves_on code.now departure 1 self.old)) }
+        ensures ok { OnOk result (Makes self.old self.new (leaves_on code.now departure self.old)) }
         ensures err { OnErr result (Stays self.old self.new) }
     {
         self.control.reserve(2)?;
         self.events.reserve(1)?;
+        let master = self.world.newest();
         let operation = operations_of(code, record_type).finalize;
-        let called = call_operation(&mut self.world, code, operation, number)?;
+        let called = call_operation(&mut self.world, code, operation, object)?;
         replace_top(&mut self.control, Frame::Leaving(departure));
-        if let Called::Gone = called {
-            self.mode = Mode::Stopped(Stop::UseAfterFree);
-            return Ok(());
-        }
-        self.control.push_reserved(Frame::Finalizing(number));
-        self.world.begin_finalization(number);
+        self.control.push_reserved(Frame::Finalizing(object));
+        // Only behind the call, which may be refused memory. It may have entered a master, so the one that is left is named by its number.
+        self.world.take_layer(master);
+        self.world.begin_finalization(object);
         self.follow(
             called,
-            Event::Finalize(whole(self.alloc, number), Cause::Scope),
+            Event::Finalize(whole(self.alloc, object), Cause::Scope),
         );
         Ok(())
     }
 
     /// The newest master has no layer any more: its objects cease to exist (RM 7.6.1).
     fn end_leaving(&mut self, departure: Departure)
-        requires top { IsLeaving departure 0 self.old }
-        requires rests { Rests false self.old }
-        requires none { departure.remaining ≡ 0 }
-        ensures { (code : Code) → Makes self.old self.new (leaves_on code departure 0 self.old) }
+        requires top { IsLeaving departure self.old }
+        requires rests { Rests Calm self.old }
+        requires none { newest_layers self.old.world ≡ [] }
+        ensures { (code : Code) → Makes self.old self.new (leaves_on code departure self.old) }
     {
         let _ = self.control.pop();
         self.world.close();
@@ -352,7 +369,7 @@ impl Engine {
         requires valid { IsValid code.now }
         requires known { record_type < length code.now.records.items }
         requires top { IsTop (Creating object record_type next) self.old }
-        requires rests { Rests false self.old }
+        requires rests { Rests Calm self.old }
         requires masters { self.old.world.ledger.next_master < 2 ^ 64 }
         ensures ok { OnOk result (Makes self.old self.new (given_to_top code.now HandedOf.Normal self.old)) }
         ensures err { OnErr result (Stays self.old self.new) }
@@ -408,17 +425,13 @@ impl Engine {
         requires valid { IsValid code.now }
         requires known { record_type < length code.now.records.items }
         requires top { IsTop (Initializing object record_type next) self.old }
-        requires rests { Rests false self.old }
+        requires rests { Rests Calm self.old }
         ensures ok { OnOk result (Makes self.old self.new (given_to_top code.now HandedOf.Normal self.old)) }
         ensures err { OnErr result (Stays self.old self.new) }
     {
         self.events.reserve(1)?;
         let master = self.world.newest();
-        let member = Member {
-            number: object,
-            ty: Ty::Record(record_type),
-        };
-        let exists = add_existing(&mut self.world, member)?;
+        let exists = add_existing(&mut self.world, object)?;
         let operation = operations_of(code, record_type).finalize;
         show_birth(self.alloc, &mut self.events, operation, object, master);
         let _ = self.control.pop();
@@ -429,7 +442,7 @@ impl Engine {
     /// The Initialize of a declared object has raised an exception (RM 7.6.1): it is never finalized.
     fn fail(&mut self, object: u64, exception: usize)
         requires top { (record_type next : ℕ) × IsTop (Initializing object record_type next) self.old }
-        requires rests { Rests true self.old }
+        requires rests { Rests Raising self.old }
         ensures { (code : Code) → Makes self.old self.new (given_to_top code (HandedOf.Raise exception) self.old) }
     {
         self.world.begin_finalization(object);
@@ -441,7 +454,7 @@ impl Engine {
     /// The turns of a loop are at their end: an exit statement leads behind it (RM 5.7), and anything else leads on.
     fn end_loop(&mut self, handed: Handed, height: usize, behind: usize)
         requires top { IsLoop height behind self.old }
-        requires rests { Rests (may_raise (ModeOf.Giving handed)) self.old }
+        requires rests { Rests (activity (ModeOf.Giving handed)) self.old }
         ensures { (code : Code) → Makes self.old self.new (given_to_top code handed self.old) }
     {
         self.operands.cut_back(height);
@@ -453,7 +466,7 @@ impl Engine {
     fn end_finalization(&mut self, object: u64, handed: Handed)
         requires top { IsTop (Finalizing object) self.old }
         requires stays { is_exit handed ≡ false }
-        requires rests { Rests (may_raise (ModeOf.Giving handed)) self.old }
+        requires rests { Rests (activity (ModeOf.Giving handed)) self.old }
         ensures { (code : Code) → Makes self.old self.new (given_to_top code handed self.old) }
     {
         self.world.end_finalization(object);

@@ -4,6 +4,7 @@ ghost use Rattle.std.specs.Prelude.{◌≡◌, ◌+◌, ◌^◌, ◌<◌, ◌≤
 ghost use Rattle.ctl_code.specs.Table as Table;
 ghost use Rattle.ctl_code.specs.declared.code.Code.{Code};
 ghost use Rattle.ctl_code.specs.declared.code.Instr.TheVariants as InstrOf;
+ghost use Rattle.ctl_machine.specs.Control.{Running};
 ghost use Rattle.ctl_machine.specs.Engine.{Rests, Makes, Stays, made_by};
 
 use crate::engine::Engine;
@@ -20,7 +21,7 @@ impl Engine {
         ty: Ty,
         place: usize,
     ) -> Result<(), AllocError>
-        requires rests { Rests true self.old }
+        requires rests { Rests Running self.old }
         requires place { place + 1 < 2 ^ 64 }
         requires objects { self.old.world.ledger.next_object < 2 ^ 64 }
         ensures ok { OnOk result ((code : Code) → Makes self.old self.new (made_by (Table.by_instr code (Some (InstrOf.DeclareScalar slot ty))) place self.old)) }
@@ -40,7 +41,7 @@ impl Engine {
         place: usize,
     ) -> Result<(), AllocError>
         requires operand { 1 ≤ length self.old.operands }
-        requires rests { Rests true self.old }
+        requires rests { Rests Running self.old }
         requires place { place + 1 < 2 ^ 64 }
         requires objects { self.old.world.ledger.next_object < 2 ^ 64 }
         ensures ok { OnOk result (Makes self.old self.new (made_by (Table.by_declaration slot ty) place self.old)) }

@@ -1,8 +1,8 @@
-//! What there is while a program runs: the active masters and the objects that exist.
+//! What there is while a program runs: the active masters, what they finalize, and the objects that exist.
 //!
 //! A contract sees a world of the meaning, and each change as one of the meaning's.
 
-ghost use Rattle.std.specs.Prelude.{◌≡◌, ℕ, ◌+◌, ◌^◌, ◌<◌, [], ◌∷◌, IfOk, OnOk, OnErr, true, is_some, length, map, option_map, replicate, reverse, slice_get, take, vec_len, vec_capacity};
+ghost use Rattle.std.specs.Prelude.{◌≡◌, ℕ, ◌+◌, ◌^◌, ◌<◌, [], ◌∷◌, IfOk, OnOk, OnErr, true, is_some, map, option_map, replicate, take};
 ghost use Rattle.std.specs.Bool.{OnFalse};
 ghost use Rattle.ctl_meaning.specs.World as W;
 ghost use Rattle.ctl_meaning.specs.Ledger.{layers_of};
@@ -12,65 +12,55 @@ ghost use Rattle.ctl_meaning.specs.Names as N;
 ghost use Rattle.ctl_meaning.specs.Objects.{cells_at};
 ghost use Rattle.ctl_meaning.specs.Changes as C;
 ghost use Rattle.ctl_machine.specs.Masters.{slots_for, slot_of};
-ghost use Rattle.ctl_machine.specs.World.{world_of, IsSound, IsHome, layer_of, levels_of, newest_display, newest_master, newest_layers, display_at, declared_in, scalar_in, layers_with, all_but_first, first_with_layer};
+ghost use Rattle.ctl_machine.specs.World.{world_of, IsSound, IsHome, IsNewestLayer, levels_of, newest_display, newest_master, newest_layers, display_at, declared_in, scalar_in, all_but_first, first_with_layer, first_without_layer};
 
 use crate::masters::{
-    Master, Member, Slot, first_of, place_of_master, place_of_master_near, put_slot, slot_in,
-    slots_of,
+    Master, Slot, first_of, place_of_master, place_of_master_near, put_slot, slot_in, slots_of,
 };
 use crate::objects::Objects;
 use ctl_tree::checked::{Ty, Var};
+use fin_lists::{FinLists, Layer, MasterNo};
 use std::alloc::{AllocError, Global};
 use std::marker::Model;
 use std::mem;
 
-/// The active masters, from the outermost on, the objects that exist, and the numbers that were given last: the first object
-/// and the first master have number 1.
+/// The active masters, from the outermost on, the finalization lists with their layers, the objects that exist, and the number
+/// that was given to an object last: the first object and the first master have number 1.
 #[derive(Drop)]
 pub struct World {
     alloc: Global,
     given_objects: u64,
-    given_masters: u64,
     newest: Master,
     older: Vec<Master>,
     objects: Objects,
+    lists: FinLists,
 }
 
 impl Model for World {
     ghost Value = { W.World };
 
-    ghost view = { λ w. world_of w.given_objects w.given_masters w.newest w.older.items w.objects };
+    ghost view = { λ w. world_of w.given_objects w.lists w.newest w.older.items w.objects };
 
-    ghost invariant = { λ w. IsSound w.given_objects w.given_masters w.newest w.older.items w.objects };
-}
-
-/// One more layer of an inner master; around the main procedure no master is active, and nothing is finalized.
-fn push_layer(layers: &mut Vec<Member>, member: Member, is_inner: bool)
-    requires { vec_len layers.old < vec_capacity layers.old }
-    ensures { layers.new.items ≡ layers_with is_inner member layers.old.items }
-{
-    if is_inner {
-        layers.push_reserved(member);
-    }
+    ghost invariant = { λ w. IsSound w.given_objects w.lists w.newest w.older.items w.objects };
 }
 
 impl World {
     /// No master is active, and no object exists.
+    #[tactic(auto, using(crate::proofs::Listed::none_listed))]
     pub fn new(alloc: Global) -> World
         ensures { result ≡ W.empty_world }
     {
         World {
             alloc,
             given_objects: 0,
-            given_masters: 0,
             newest: Master {
                 number: 0,
                 display: Vec::new(alloc),
                 slots: Vec::new(alloc),
-                layers: Vec::new(alloc),
             },
             older: Vec::new(alloc),
             objects: Objects::new(alloc),
+            lists: FinLists::new(alloc),
         }
     }
 
@@ -79,6 +69,9 @@ impl World {
         ensures number { result ≡ newest_master self.now }
         ensures display { display_at result self.now ≡ newest_display self.now }
         ensures last { last_of (newest_display self.now) ≡ newest_master self.now }
+        ensures given { result < self.now.ledger.next_master }
+        // For a caller that takes a layer by this number.
+        ensures taken { levels_of (C.take_layer result self.now) ≡ first_without_layer (levels_of self.now) }
     {
         self.newest.number
     }
@@ -132,35 +125,49 @@ impl World {
         ensures ok { OnOk result (self.new ≡ C.open_master around.items (map slot_of slots.items) self.old) }
         ensures err { OnErr result (self.new ≡ self.old) }
     {
-        let number = self.given_masters + 1;
         let mut display = around;
-        display.push(number)?;
+        display.reserve(1)?;
         self.older.reserve(1)?;
+        let MasterNo(number) = self.lists.open_master()?;
+        display.push_reserved(number);
         let newest = Master {
             number,
             display,
             slots,
-            layers: Vec::new(self.alloc),
         };
         self.older
             .push_reserved(mem::replace(&mut self.newest, newest));
-        self.given_masters = number;
         Ok(())
     }
 
-    /// How many layers the newest master has.
-    pub fn layer_count(&self) -> usize
-        ensures count { result ≡ length (newest_layers self.now) }
-        ensures ledger { layers_of (newest_master self.now) self.now.ledger ≡ newest_layers self.now }
+    /// A law of these worlds: the layers of the newest master are found by its number. It does nothing.
+    #[inline(always)]
+    pub fn layers_are_found(&self)
+        ensures { layers_of (newest_master self.now) self.now.ledger ≡ newest_layers self.now }
     {
-        self.newest.layers.len()
+        // Read, so that the proof sees what the world is made of.
+        let _newest = self.newest.number;
     }
 
-    /// The layer of the newest master at this place, in the order of creation from 0.
-    pub fn layer(&self, place: usize) -> Option<Member>
-        ensures { option_map layer_of result ≡ slice_get (reverse (newest_layers self.now)) place }
+    /// The newest layer of the newest master (RM 7.6.1).
+    pub fn newest_layer(&self) -> Option<Layer>
+        ensures { IsNewestLayer result (newest_layers self.now) }
     {
-        self.newest.layers.get(place).copied()
+        self.lists.newest(MasterNo(self.newest.number))
+    }
+
+    /// The newest layer of the master of this number is taken out, where that one is active (RM 7.6.1).
+    pub fn take_layer(&mut self, number: u64)
+        ensures { self.new ≡ C.take_layer number self.old }
+    {
+        self.lists.drop_newest(MasterNo(number));
+    }
+
+    /// The type of the object of this number, where that object exists.
+    pub fn type_of(&self, object: u64) -> Option<Ty>
+        ensures { result ≡ option_map (λ o. o.ty) (C.object_at object self.now) }
+    {
+        self.objects.type_of(object)
     }
 
     /// The master that declares the object of this number, where that object exists.
@@ -192,21 +199,23 @@ impl World {
     /// Unchanged where memory is refused.
     pub fn declare_scalar(&mut self, slot: usize, ty: Ty, cell: u64) -> Result<(), AllocError>
         requires { self.old.ledger.next_object < 2 ^ 64 }
-        ensures ok { OnOk result (self.new ≡ C.add_layer (newest_master self.old) (W.Single (record { number = self.old.ledger.next_object; ty = ty })) (scalar_in slot ty cell self.old)) }
-        ensures levels { OnOk result (levels_of self.new ≡ first_with_layer (W.Single (record { number = self.old.ledger.next_object; ty = ty })) (levels_of self.old)) }
+        ensures ok { OnOk result (self.new ≡ C.add_layer (newest_master self.old) (W.Single self.old.ledger.next_object) (scalar_in slot ty cell self.old)) }
+        ensures levels { OnOk result (levels_of self.new ≡ first_with_layer (W.Single self.old.ledger.next_object) (levels_of self.old)) }
         ensures there { OnOk result ((x : ℕ) → is_some (C.object_at self.old.ledger.next_object (scalar_in slot ty x self.old)) ≡ true) }
         ensures written { OnOk result (C.write_cells self.old.ledger.next_object 0 (cell ∷ []) (scalar_in slot ty 0 self.old) ≡ scalar_in slot ty cell self.old) }
         ensures last { OnOk result (last_of (newest_display self.old) ≡ newest_master self.old) }
         ensures err { OnErr result (self.new ≡ self.old) }
     {
-        let is_inner = !self.older.is_empty();
         let number = self.given_objects + 1;
-        self.newest.layers.reserve(1)?;
-        self.objects
-            .create(number, ty, Some(cell), self.newest.number)?;
+        let master = self.newest.number;
+        self.lists.add_object(MasterNo(master), number)?;
+        if let Err(error) = self.objects.create(number, ty, Some(cell), master) {
+            // Taken out again, so that nothing has changed.
+            self.lists.drop_newest(MasterNo(master));
+            return Err(error);
+        }
         put_slot(&mut self.newest.slots, slot, Slot::Holds(number));
-        push_layer(&mut self.newest.layers, Member { number, ty }, is_inner);
-        self.given_objects += 1;
+        self.given_objects = number;
         Ok(())
     }
 
@@ -270,17 +279,14 @@ impl World {
         }
     }
 
-    /// A declared object is the newest layer of the newest master. Unchanged where memory is refused.
-    pub fn add_layer(&mut self, member: Member) -> Result<(), AllocError>
-        ensures ok { OnOk result (self.new ≡ C.add_layer (newest_master self.old) (layer_of member) self.old) }
-        ensures levels { OnOk result (levels_of self.new ≡ first_with_layer (layer_of member) (levels_of self.old)) }
+    /// A declared object is the newest layer of the newest master (RM 7.6.1). Unchanged where memory is refused.
+    pub fn add_layer(&mut self, object: u64) -> Result<(), AllocError>
+        ensures ok { OnOk result (self.new ≡ C.add_layer (newest_master self.old) (W.Single object) self.old) }
+        ensures levels { OnOk result (levels_of self.new ≡ first_with_layer (W.Single object) (levels_of self.old)) }
         ensures err { OnErr result (self.new ≡ self.old) }
     {
-        // Around the main procedure no master is active, and nothing is finalized.
-        if !self.older.is_empty() {
-            self.newest.layers.push(member)?;
-        }
-        Ok(())
+        // Around the main procedure no master is active: its number is none of the lists, and nothing is added.
+        self.lists.add_object(MasterNo(self.newest.number), object)
     }
 
     /// The finalization of this object begins, where it exists (RM 7.6.1).
@@ -302,8 +308,10 @@ impl World {
         ensures closed { self.new ≡ C.close_master (newest_master self.old) self.old }
         ensures levels { levels_of self.new ≡ all_but_first (levels_of self.old) }
     {
-        self.objects.forget_declared(self.newest.number);
+        let master = self.newest.number;
+        self.objects.forget_declared(master);
         if let Some(outer) = self.older.pop() {
+            self.lists.close_master(MasterNo(master));
             self.newest = outer;
         }
     }
@@ -324,14 +332,11 @@ mod tests {
         let number = world.declare(0, 7)?;
         assert_eq!(rt; number, 1);
         assert_eq!(rt; world.home_of(1), Some(1));
-        world.add_layer(Member {
-            number,
-            ty: Ty::Record(7),
-        })?;
-        assert_eq!(rt; world.layer_count(), 1);
-        let layer = world.layer(0).ok_or("a layer")?;
-        assert_eq!(rt; layer.number, 1);
-        assert!(rt; world.layer(1).is_none());
+        assert!(rt; matches!(world.type_of(1), Some(Ty::Record(7))));
+        world.add_layer(number)?;
+        assert_eq!(rt; world.newest_layer(), Some(Layer::Object(1)));
+        world.take_layer(1);
+        assert!(rt; world.newest_layer().is_none());
         world.begin_finalization(1);
         world.end_finalization(1);
         world.close();

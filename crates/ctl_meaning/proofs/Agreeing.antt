@@ -8,9 +8,9 @@ use Rattle.ctl_tree.specs.declared.event.Cause.{Cause}
 use Rattle.ctl_tree.specs.declared.ending.Stop.{Stop}
 use Rattle.ctl_meaning.specs.World.{Log, World, empty_world, empty_ledger, Place, Standard, InBlock, InSubpool, Origin, Declared, Allocated, Object, Collection, Member}
 use Rattle.ctl_meaning.specs.Lists.{first_with}
-use Rattle.ctl_meaning.specs.Ledger.{enter_master, push_layer, collection_at, start_sets}
+use Rattle.ctl_meaning.specs.Ledger.{enter_master, push_layer, drop_layer, collection_at, start_sets}
 use Rattle.ctl_meaning.specs.Objects.{object_in, change_in, with_cells, is_untouched, is_of_set}
-use Rattle.ctl_meaning.specs.Changes.{object_at, create_at, put_into, write_cells, forget, forget_all, open_master, add_layer, set_slot, add_collection, start_collections, join, in_pools, close_pool_at, empty_subpool, Group, candidates_of}
+use Rattle.ctl_meaning.specs.Changes.{object_at, create_at, put_into, write_cells, forget, forget_all, open_master, add_layer, take_layer, set_slot, add_collection, start_collections, join, in_pools, close_pool_at, empty_subpool, Group, candidates_of}
 use Rattle.ctl_meaning.specs.Choice.{Ask, picked}
 use Rattle.ctl_meaning.specs.Outcome.{Result, Goes, Leaves, ByExit, ByReturn, ByRaise, Out, Gives, Stops, Cut, Act, Done, add, bind, given, then_always, stop, counted, spend, look, change, show, after_pick, answered, choose, leave_by, nothing, done, ticked, on_goes, either, on_some, ◌>>=◌, ◌>>◌}
 use Rattle.ctl_meaning.specs.Types.{Tables, has_controlled}
@@ -20,7 +20,7 @@ use Rattle.ctl_meaning.specs.Allocation.{is_new, member_of, set_of, join_collect
 use Rattle.ctl_meaning.specs.Statements.{turned, turns, loop, one_turn, while}
 use Rattle.ctl_meaning.specs.Run.{completed, execute, execution}
 use Rattle.ctl_meaning.specs.Agreement.{is_due, Agrees, InAgreement}
-use Rattle.ctl_meaning.proofs.Induction.{Edit, creates, creates_at, writes, forgets, opens, closes, layers, sets, gathers, starts, begins, ends, stores, shuts, empties, Closed, k_run_number, k_allocate}
+use Rattle.ctl_meaning.proofs.Induction.{Edit, creates, creates_at, writes, forgets, opens, closes, layers, takes, sets, gathers, starts, begins, ends, stores, shuts, empties, Closed, k_run_number, k_allocate}
 use Rattle.ctl_meaning.proofs.Agreement.{same_objects, fewer_objects, same_candidates, begins_agree, ends_agree, creates_agree, gathers_agree, closes_agree, found_passes, none_is, Joins, joins_plain, joins_candidate}
 
 module _ (t : Tables) where
@@ -33,7 +33,7 @@ module _ (t : Tables) where
   puts_agree (InSubpool s) n w a = a
 
   pub edits_agree : {f : World → World} → Edit f → (w : World) → Agrees t w → Agrees t (f w)
-  unfolding create_at write_cells change_in with_cells forget forget_all open_master enter_master add_layer push_layer set_slot add_collection start_collections start_sets in_pools close_pool_at empty_subpool is_due
+  unfolding create_at write_cells change_in with_cells forget forget_all open_master enter_master add_layer push_layer take_layer drop_layer set_slot add_collection start_collections start_sets in_pools close_pool_at empty_subpool is_due
   edits_agree (creates ty cells x) w a = creates_agree t ty cells x w a
   edits_agree (creates_at ty cells set place) w a = puts_agree place w.ledger.next_object _ (creates_agree t ty cells (Allocated set place) w a)
   edits_agree (writes n offset v) w a = same_objects t w _ (with_cells offset v) (λ o. refl) (λ o. refl) (λ o. refl) a
@@ -41,6 +41,7 @@ module _ (t : Tables) where
   edits_agree (opens display slots) w a = record { kept = a.kept; placed = a.placed; below = a.below; own = a.own; fresh = a.fresh }
   edits_agree (closes n) w a = closes_agree t n w a
   edits_agree (layers n x) w a = record { kept = a.kept; placed = a.placed; below = a.below; own = a.own; fresh = a.fresh }
+  edits_agree (takes n) w a = record { kept = a.kept; placed = a.placed; below = a.below; own = a.own; fresh = a.fresh }
   edits_agree (sets n i x) w a = record { kept = a.kept; placed = a.placed; below = a.below; own = a.own; fresh = a.fresh }
   edits_agree (gathers n i x) w a = let b = gathers_agree t n w a in record { kept = b.kept; placed = b.placed; below = b.below; own = b.own; fresh = b.fresh }
   edits_agree (starts xs) w a = same_candidates t w _ a

@@ -4,9 +4,9 @@ use Rattle.std.proofs.Common.{refl, sym, ap, ◌∙◌, subst, arith, inl, inr, 
 use Rattle.std.proofs.Math.Dec.{T}
 use Rattle.ctl_meaning.specs.World.{Place, Standard, InBlock, InSubpool, Member, Collection, World}
 use Rattle.ctl_meaning.specs.Lists.{keep, any_of, change_each, change_first, pull_item}
-use Rattle.ctl_meaning.specs.Ledger.{take_number, enter_master, push_layer, drop_master, push_collection, with_started, start_sets, insert_member, insert_each, with_candidate, add_candidate, without_candidate, take_out, candidates_in, count_candidates}
-use Rattle.ctl_meaning.specs.Changes.{create, create_at, put_into, write_cells, forget, forget_all, open_master, close_master, add_layer, set_slot, add_collection, start_collections, join, begin_finalization, end_finalization, Group, is_in_group, has_set, candidates_of, in_pools, close_pool_at, empty_subpool}
-use Rattle.ctl_meaning.proofs.Induction.{Edit, creates, creates_at, writes, forgets, opens, closes, layers, sets, gathers, starts, begins, ends, stores, shuts, empties}
+use Rattle.ctl_meaning.specs.Ledger.{take_number, enter_master, push_layer, drop_layer, drop_master, push_collection, with_started, start_sets, insert_member, insert_each, with_candidate, add_candidate, without_candidate, take_out, candidates_in, count_candidates}
+use Rattle.ctl_meaning.specs.Changes.{create, create_at, put_into, write_cells, forget, forget_all, open_master, close_master, add_layer, take_layer, set_slot, add_collection, start_collections, join, begin_finalization, end_finalization, Group, is_in_group, has_set, candidates_of, in_pools, close_pool_at, empty_subpool}
+use Rattle.ctl_meaning.proofs.Induction.{Edit, creates, creates_at, writes, forgets, opens, closes, layers, takes, sets, gathers, starts, begins, ends, stores, shuts, empties}
 
 abbrev pub count : World → ℕ
 count w = count_candidates w.ledger.collections
@@ -55,7 +55,7 @@ puts_count (InSubpool s) n w = omega arith
 
 -- no change adds a candidate
 pub edits_count : {f : World → World} → Edit f → (w : World) → count (f w) ≤ count w
-unfolding create create_at take_number write_cells forget forget_all open_master enter_master close_master drop_master add_layer push_layer set_slot add_collection push_collection start_collections start_sets begin_finalization take_out end_finalization in_pools close_pool_at empty_subpool count_candidates
+unfolding create create_at take_number write_cells forget forget_all open_master enter_master close_master drop_master add_layer push_layer take_layer drop_layer set_slot add_collection push_collection start_collections start_sets begin_finalization take_out end_finalization in_pools close_pool_at empty_subpool count_candidates
 edits_count (creates ty cells origin) w = omega arith
 edits_count (creates_at ty cells set place) w = puts_count place w.ledger.next_object (create ty cells _ w)
 edits_count (writes n offset v) w = omega arith
@@ -63,6 +63,7 @@ edits_count (forgets n) w = omega arith
 edits_count (opens display slots) w = omega arith
 edits_count (closes n) w = keeps_count _ w.ledger.collections
 edits_count (layers n x) w = omega arith
+edits_count (takes n) w = omega arith
 edits_count (sets n i x) w = omega arith
 edits_count (gathers n i x) w = omega arith
 edits_count (starts xs) w = starts_count _ w.ledger.collections

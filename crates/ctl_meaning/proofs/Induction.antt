@@ -30,7 +30,7 @@ use Rattle.ctl_tree.specs.declared.event.Cause.{Cause}
 use Rattle.ctl_tree.specs.declared.event.Cause as CauseOf
 use Rattle.ctl_meaning.specs.World.{Member, Layer, Single, Sets, Origin, Declared, Allocated, Place, Standard, InBlock, InSubpool, Object, Slot, Pools, World, BlockPool as BlockPoolRecord, MarkPool as MarkPoolRecord}
 use Rattle.ctl_meaning.specs.Lists.{pull_item, pull_rest}
-use Rattle.ctl_meaning.specs.Changes.{object_at, create, create_at, write_cells, forget, open_master, close_master, add_layer, set_slot, add_collection, start_collections, begin_finalization, end_finalization, Group, in_pools, close_pool_at, empty_subpool}
+use Rattle.ctl_meaning.specs.Changes.{object_at, create, create_at, write_cells, forget, open_master, close_master, add_layer, take_layer, set_slot, add_collection, start_collections, begin_finalization, end_finalization, Group, in_pools, close_pool_at, empty_subpool}
 use Rattle.ctl_meaning.specs.Choice.{Ask}
 use Rattle.ctl_meaning.specs.Outcome.{Way, ByExit, ByReturn, ByRaise, Result, Goes, Leaves, Act, Done, given, then_always, on_goes, ◌>>=◌, ◌>>◌, done, nothing, leave_by, raise, stop, counted, ticked, spend, look, change, show, answered, choose, told, attempt, Tried, Fine, Raised, when, either, on_some}
 use Rattle.ctl_meaning.specs.Types.{Tables, Placed, depth, of_record}
@@ -55,6 +55,7 @@ pub data Edit : (World → World) → Type 0 where
   opens : (display : List ℕ) (slots : List Slot) → Edit (open_master display slots)
   closes : (n : ℕ) → Edit (close_master n)
   layers : (n : ℕ) (x : Layer) → Edit (add_layer n x)
+  takes : (n : ℕ) → Edit (take_layer n)
   sets : (n i : ℕ) (x : Slot) → Edit (set_slot n i x)
   gathers : (n i : ℕ) (x : Slot) → Edit (add_collection n i x)
   starts : (collections : List ℕ) → Edit (start_collections collections)
@@ -589,18 +590,18 @@ module _ (t : Tables) (ask other : Ask) (call spare : Caller) (Rel : (A : Type 0
 
     k_finalize_layer : (x : Layer) → Same (finalize_layer k x) (finalize_layer j x)
     unfolding finalize_layer finalize_declared finalize_sets finalize_if_controlled
-    k_finalize_layer (Single m) = k_seq (k_either _ (k_finalize_object _ m) (k_done _)) (λ a. k_seq (k_close_pool _) (λ b. k_done _))
+    k_finalize_layer (Single n) = k_existing n (λ o. k_seq (k_either _ (k_finalize_object _ _) (k_done _)) (λ a. k_seq (k_close_pool _) (λ b. k_done _)))
     k_finalize_layer (Sets xs) = k_then (closed.counts _ (closed.changes (starts xs))) (k_finalize_group _ _)
 
-    k_leave_layers : (xs : List Layer) (b : Bool) → Same (leave_layers k xs b) (leave_layers j xs b)
+    k_leave_layers : (m : ℕ) (xs : List Layer) (b : Bool) → Same (leave_layers k m xs b) (leave_layers j m xs b)
     unfolding leave_layers
-    k_leave_layers [] b = k_done b
-    k_leave_layers (x ∷ xs) b = k_seq (k_ticked (k_finalize_layer x)) (λ c. k_leave_layers xs (b || c))
+    k_leave_layers m [] b = k_done b
+    k_leave_layers m (x ∷ xs) b = k_seq (k_ticked (k_then (closed.changes (takes m)) (k_finalize_layer x))) (λ c. k_leave_layers m xs (b || c))
 
     k_leave_master : (m : ℕ) (r : Result Done) → Same (leave k m r) (leave j m r)
     unfolding leave left
     k_leave_master m r =
-        k_ticked (k_seq (closed.looks (λ w. k_leave_layers _ false)) (λ b. closed.looks (λ w. k_then (k_then (closed.counts _ (closed.changes (closes m))) (k_program_error_if b)) (k_done _))))
+        k_ticked (k_seq (closed.looks (λ w. k_leave_layers m _ false)) (λ b. closed.looks (λ w. k_then (k_then (closed.counts _ (closed.changes (closes m))) (k_program_error_if b)) (k_done _))))
 
     k_in_master : (env : List ℕ) (ss : List Slot) (f g : List ℕ → Act Done) → ((d : List ℕ) → Same (f d) (g d)) → Same (in_master k env ss f) (in_master j env ss g)
     unfolding in_master
@@ -629,10 +630,10 @@ module _ (t : Tables) (ask other : Ask) (call spare : Caller) (Rel : (A : Type 0
     k_open_pool BlockPool n d = closed.changes (stores _)
     k_open_pool MarkPool n d = closed.changes (stores _)
 
-    k_pool_or_closed : (m : ℕ) (x : Member) (r : Tried Done) → Same (pool_or_closed m x r) (pool_or_closed m x r)
+    k_pool_or_closed : (m n : ℕ) (r : Tried Done) → Same (pool_or_closed m n r) (pool_or_closed m n r)
     unfolding pool_or_closed
-    k_pool_or_closed m x (Fine a) = closed.changes (layers m _)
-    k_pool_or_closed m x (Raised e) = k_then (closed.changes (shuts _)) (k_raise e)
+    k_pool_or_closed m n (Fine a) = closed.changes (layers m _)
+    k_pool_or_closed m n (Raised e) = k_then (closed.changes (shuts _)) (k_raise e)
 
     k_declare_pool : (m slot u : ℕ) (d : ℕ × ℕ) → Same (declare_pool k m slot u d) (declare_pool j m slot u d)
     unfolding declare_pool

@@ -5,7 +5,7 @@ use Rattle.ctl_tree.specs.declared.event.Owner as EventOwner
 use Rattle.ctl_tree.specs.declared.event.Owner.{Owner}
 use Rattle.ctl_meaning.specs.World.{Place, Standard, InBlock, InSubpool, Origin, Declared, Allocated, Untouched, Object, Member, Layer, Collection, Slot, Block, Pools, World}
 use Rattle.ctl_meaning.specs.Lists.{keep, any_of, each_of, contains}
-use Rattle.ctl_meaning.specs.Ledger.{take_number, enter_master, push_layer, drop_master, collection_at, push_collection, start_sets, master_in, add_candidate, take_out, candidates_in}
+use Rattle.ctl_meaning.specs.Ledger.{take_number, enter_master, push_layer, drop_layer, drop_master, collection_at, push_collection, start_sets, master_in, add_candidate, take_out, candidates_in}
 use Rattle.ctl_meaning.specs.Activations.{activation_at, push_activation, drop_activation, change_slot, display_in}
 use Rattle.ctl_meaning.specs.Objects.{object_in, change_in, with_cells, with_begun, with_joined, with_finalized, is_finalizing, lies_in_subpool, lies_in_pool, ends_with_master, lies_there}
 use Rattle.ctl_meaning.specs.Pools.{hold_block, shut, keep_pools}
@@ -47,6 +47,10 @@ open_master display slots w = record w { ledger = enter_master w.ledger; activat
 
 unfoldable pub add_layer : ℕ → Layer → World → World
 add_layer n x w = record w { ledger = push_layer n x w.ledger }
+
+-- the finalization of a master's newest layer begins: it is taken out
+unfoldable pub take_layer : ℕ → World → World
+take_layer n w = record w { ledger = drop_layer n w.ledger }
 
 unfoldable pub set_slot : ℕ → ℕ → Slot → World → World
 set_slot n i x w = record w { activations = change_slot n i x w.activations }
@@ -157,5 +161,5 @@ is_vacant w (Some b) = not (is_held w b.holder)
 
 -- everything here, opened at once
 unfoldable pub opened_changes : Unit {0}
-unfolding object_at new_object create write_cells forget forget_all count_of open_master add_layer set_slot sets_of ends_with close_master gone_with add_collection start_collections join begin_finalization end_finalization is_in_group has_set candidates_of home_master home_of owner_of in_pools put_into create_at close_pool_at empty_subpool is_busy is_held is_vacant
+unfolding object_at new_object create write_cells forget forget_all count_of open_master add_layer take_layer set_slot sets_of ends_with close_master gone_with add_collection start_collections join begin_finalization end_finalization is_in_group has_set candidates_of home_master home_of owner_of in_pools put_into create_at close_pool_at empty_subpool is_busy is_held is_vacant
 opened_changes = tt

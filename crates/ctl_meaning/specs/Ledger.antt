@@ -1,5 +1,5 @@
 -- Masters with their layers, and collections with their candidates (7.6.1, 13.11.2).
-use Rattle.std.specs.Prelude.{ℕ, ◌+◌, List, [], ◌∷◌, length, Option, Some, None, Bool, true, false, not, nat_eq, nat_lt, if◌then◌else◌}
+use Rattle.std.specs.Prelude.{ℕ, ◌+◌, List, [], ◌∷◌, length, Option, Some, None, Bool, true, false, not, nat_eq, nat_lt, if◌then◌else◌, drop}
 use Rattle.ctl_meaning.specs.World.{Member, Layer, Master, Collection, Ledger}
 use Rattle.ctl_meaning.specs.Lists.{first_with, change_each, change_first, keep, contains}
 
@@ -21,6 +21,13 @@ with_layer y m = record m { layers = y ∷ m.layers }
 -- a further layer of a master, the newest
 unfoldable pub push_layer : ℕ → Layer → Ledger → Ledger
 push_layer n y x = record x { masters = change_each (λ m. nat_eq m.number n) (with_layer y) x.masters }
+
+unfoldable pub without_newest : Master → Master
+without_newest m = record m { layers = drop 1 m.layers }
+
+-- the newest layer of a master is taken out
+unfoldable pub drop_layer : ℕ → Ledger → Ledger
+drop_layer n x = record x { masters = change_each (λ m. nat_eq m.number n) without_newest x.masters }
 
 unfoldable pub layers_in : Option Master → List Layer
 layers_in None = []
@@ -96,5 +103,5 @@ candidate_in n (Some c) = first_with (λ m. nat_eq m.number n) c.candidates
 
 -- everything here, opened at once
 unfoldable pub opened_ledger : Unit {0}
-unfolding take_number master_at enter_master with_layer push_layer layers_in layers_of drop_master collection_at push_collection with_started start_sets master_in insert_member insert_each with_candidate add_candidate without_candidate take_out candidates_in count_candidates candidate_in
+unfolding take_number master_at enter_master with_layer push_layer without_newest drop_layer layers_in layers_of drop_master collection_at push_collection with_started start_sets master_in insert_member insert_each with_candidate add_candidate without_candidate take_out candidates_in count_candidates candidate_in
 opened_ledger = tt

@@ -9,14 +9,14 @@ use Rattle.ctl_tree.specs.declared.checked.Root.TheVariants.{MarkPool}
 use Rattle.ctl_tree.specs.declared.checked.Item.{Item}
 use Rattle.ctl_tree.specs.declared.checked.Item.TheVariants.{Collections, Object, Pool, Silent}
 use Rattle.ctl_tree.specs.declared.event.Cause.TheVariants.{Scope, Collection}
-use Rattle.ctl_meaning.specs.World.{Declared, Member, Layer, Single, Sets, Slot, Holds, Gathers}
+use Rattle.ctl_meaning.specs.World.{Declared, Layer, Single, Sets, Slot, Holds, Gathers}
 use Rattle.ctl_meaning.specs.Activations.{slots_in, activation_at}
 use Rattle.ctl_meaning.specs.Ledger.{layers_of}
 use Rattle.ctl_meaning.specs.Pools.{push_block_pool, push_mark_pool}
-use Rattle.ctl_meaning.specs.Changes.{create, open_master, close_master, gone_with, add_layer, set_slot, add_collection, start_collections, in_pools, close_pool_at, OfSets}
+use Rattle.ctl_meaning.specs.Changes.{create, open_master, close_master, gone_with, add_layer, take_layer, set_slot, add_collection, start_collections, in_pools, close_pool_at, OfSets}
 use Rattle.ctl_meaning.specs.Outcome.{constraint_error, Result, Act, Done, ◌>>=◌, ◌>>◌, done, nothing, raise, counted, ticked, then_always, look, change, Tried, Fine, Raised, attempt, either, on_some}
 use Rattle.ctl_meaning.specs.Types.{root_of, begin_cells}
-use Rattle.ctl_meaning.specs.Names.{Tools, gone, scalar_of}
+use Rattle.ctl_meaning.specs.Names.{Tools, gone, existing, scalar_of}
 use Rattle.ctl_meaning.specs.Expressions.{eval, eval_option}
 use Rattle.ctl_meaning.specs.Finalization.{finalize_if_controlled, finalize_group}
 use Rattle.ctl_meaning.specs.Adjustment.{birth_of}
@@ -30,22 +30,24 @@ pub record Left : Type 0 where
   pub result : Result Done
   pub slots : List Slot
 
--- an object, which closes then if it is a pool; whether a Finalize raised
-unfoldable pub finalize_declared : Tools → Member → Act Bool
-finalize_declared k m = finalize_if_controlled k Scope m >>= (λ a. close_pool k m.number >>= (λ b. done (a || b)))
+-- a declared object is finalized by its own type, and closes then if it is a pool; whether a Finalize raised
+unfoldable pub finalize_declared : Tools → ℕ → Act Bool
+finalize_declared k n =
+    existing n (λ o. finalize_if_controlled k Scope (record { number = n; ty = o.ty }) >>= (λ a. close_pool k n >>= (λ b. done (a || b))))
 
 -- the collections of one freezing place start together, and a choice is made among all of their members
 unfoldable pub finalize_sets : Tools → List ℕ → Act Bool
 finalize_sets k sets = counted (length sets) (change (start_collections sets)) >> finalize_group k Collection (OfSets sets)
 
 unfoldable pub finalize_layer : Tools → Layer → Act Bool
-finalize_layer k (Single m) = finalize_declared k m
+finalize_layer k (Single n) = finalize_declared k n
 finalize_layer k (Sets sets) = finalize_sets k sets
 
--- the layers from the newest on; one that raises does not stop the others (7.6.1)
-unfoldable pub leave_layers : Tools → List Layer → Bool → Act Bool
-leave_layers k [] failed = done failed
-leave_layers k (x ∷ xs) failed = ticked (finalize_layer k x) >>= (λ b. leave_layers k xs (failed || b))
+-- the layers of a master from the newest on, each taken out where its finalization begins; one that raises does not stop the others
+-- (7.6.1)
+unfoldable pub leave_layers : Tools → ℕ → List Layer → Bool → Act Bool
+leave_layers k m [] failed = done failed
+leave_layers k m (x ∷ xs) failed = ticked (change (take_layer m) >> finalize_layer k x) >>= (λ b. leave_layers k m xs (failed || b))
 
 -- what is left behind is gone; Program_Error in place of the result where a Finalize raised
 unfoldable pub left : ℕ → Result Done → Bool → Act Left
@@ -53,7 +55,7 @@ left m r failed =
     look (λ w. counted (gone_with m w) (change (close_master m)) >> program_error_if failed >> done (record { result = r; slots = slots_in (activation_at m w.activations) }))
 
 unfoldable pub leave : Tools → ℕ → Result Done → Act Left
-leave k m r = ticked (look (λ w. leave_layers k (layers_of m w.ledger) false) >>= left m r)
+leave k m r = ticked (look (λ w. leave_layers k m (layers_of m w.ledger) false) >>= left m r)
 
 -- a master with these slots at first, inside the masters of a display. Whatever it gives, it is left
 unfoldable pub in_master : Tools → List ℕ → List Slot → (List ℕ → Act Done) → Act Left
@@ -68,7 +70,7 @@ declare k m slot ty value =
     look (λ w. change (create ty (begin_cells k.tables ty) (Declared m))
     >> change (set_slot m slot (Holds w.ledger.next_object))
     >> fill k (birth_of (Declared m) w) w.ledger.next_object ty value
-    >> change (add_layer m (Single (record { number = w.ledger.next_object; ty = ty }))))
+    >> change (add_layer m (Single w.ledger.next_object)))
 
 -- the collection of an access type, at its freezing place (13.14, profile)
 unfoldable pub gather : ℕ → AccessType → Act ℕ
@@ -94,9 +96,9 @@ open_pool MarkPool n d = change (in_pools (push_mark_pool n d.0))
 open_pool _ n d = change (in_pools (push_block_pool n d.0 d.1))
 
 -- where its creation fails, it closes
-unfoldable pub pool_or_closed : ℕ → Member → Tried Done → Act Done
-pool_or_closed m x (Fine a) = change (add_layer m (Single x))
-pool_or_closed m x (Raised e) = change (close_pool_at x.number) >> raise e
+unfoldable pub pool_or_closed : ℕ → ℕ → Tried Done → Act Done
+pool_or_closed m n (Fine a) = change (add_layer m (Single n))
+pool_or_closed m n (Raised e) = change (close_pool_at n) >> raise e
 
 -- bad discriminants are Constraint_Error, and take no number (profile)
 unfoldable pub declare_pool : Tools → ℕ → ℕ → ℕ → ℕ × ℕ → Act Done
@@ -106,7 +108,7 @@ declare_pool k m slot t d =
     >> change (set_slot m slot (Holds w.ledger.next_object))
     >> open_pool (root_of k.tables t) w.ledger.next_object d
     >> attempt (fill k (birth_of (Declared m) w) w.ledger.next_object (Record t) None)
-    >>= pool_or_closed m (record { number = w.ledger.next_object; ty = Record t })))
+    >>= pool_or_closed m w.ledger.next_object))
     (raise constraint_error)
 
 -- each declaration is a tick

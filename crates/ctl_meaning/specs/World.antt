@@ -37,17 +37,17 @@ pub record Object : Type 0 where
   pub origin : Origin
   pub joined : Bool
 
--- an object, as a layer or a collection names it: its number and its own type
+-- an object, as a collection names it and as its finalization takes it: its number and its own type
 pub record Member : Type 0 where
   pub number : ℕ
   pub ty : Ty
 
--- what a master finalizes at one time: a declared object, or the collections of one freezing place (7.6.1)
+-- what a master finalizes at one time: a declared object, by its number, or the collections of one freezing place (7.6.1)
 pub data Layer : Type 0 where
-  Single : (member : Member) → Layer
+  Single : (object : ℕ) → Layer
   Sets : (collections : List ℕ) → Layer
 
--- an active master, with its layers from the newest
+-- an active master, with the layers that it has still to finalize, from the newest
 pub record Master : Type 0 where
   pub number : ℕ
   pub layers : List Layer

@@ -1,16 +1,13 @@
 -- The bytes of a text and the tree that they spell (RM 2, and the grammar), or the first fault of the text; and the first rule on names that
 -- its tree breaks, or the first construct in it that this version does not run.
-use Rattle.std.specs.Prelude.{◌≡◌, ℕ, List, ◌⊎◌, Some, None, true, false}
-use Rattle.ctl_tree.specs.declared.checked.Checked.{Checked}
+use Rattle.std.specs.Prelude.{◌≡◌, ℕ, List, ◌⊎◌, Some, None, false}
 use Rattle.ctl_tree.specs.declared.fault.Fault.{Fault}
-use Rattle.ctl_tree.specs.declared.fault.FaultCode.TheVariants as FaultCode
 use Rattle.ctl_tree.specs.declared.token.Token.{Token}
 use Rattle.ctl_tree.specs.declared.tree.Tree.{Tree}
 use Rattle.ctl_lexis.specs.Lexis.{HasTokens, HasFault}
 use Rattle.ctl_lex.specs.Memory.{IsMemory}
 use Rattle.ctl_check.specs.Refusals.{IsOfProgram, IsTypeFault, IsLeftOutFault, IsLeftByTypes}
-use Rattle.ctl_check.specs.Program.{is_legal, IsProgram as IsProgramOf}
-use Rattle.ctl_gen.specs.Slice.{InSlice}
+use Rattle.ctl_check.specs.Program.{is_legal}
 use Rattle.ctl_grammar.specs.Form.{Node}
 use Rattle.ctl_grammar.specs.Text.{IsProgram}
 use Rattle.ctl_grammar.specs.Fault.{HasGrammarFault}
@@ -80,27 +77,15 @@ pub record IsLeftOutText (source : List ℕ) (fault : Fault) : Type 0 where
   pub text : IsLegalText source
   pub first : (tree : Tree) → tree_node tree ≡ text.node → left_out_of tree ≡ Some fault
 
--- The program of a legal tree is none that this version runs, which is said at the beginning of the text.
-pub record IsOutside (tree : Tree) (fault : Fault) : Type 0 where
-  pub legal : is_legal tree ≡ true
-  pub program : Checked
-  pub checked : IsProgramOf tree program
-  pub outside : InSlice program → ⊥
-  pub shown : fault ≡ record { code = FaultCode.LeftOut; line = 1; column = 1 }
-
--- A legal tree leaves out what only types tell.
-abbrev pub IsNotRun : Tree → Fault → Type 0
-IsNotRun tree fault = IsLeftByTypes tree fault ⊎ IsOutside tree fault
-
 -- Why a text is refused: this is its first fault; or it spells a tree, and this is the first rule on names that the tree breaks; or the tree
 -- breaks none of them, and this stands at its first construct that is not run; or there is none such, and its program is refused so: with
 -- TYPE only where the tree breaks a rule on types, operations or exits, with LEFT_OUT only where it breaks none, at the first assignment of a
--- record or its first initial value, or where the program is none that this version runs; or the host refused memory.
+-- record or its first initial value; or the host refused memory.
 pub data IsRefused : List ℕ → Fault → Type 0 where
   by_text : {source : List ℕ} {fault : Fault} → HasFirstFault source fault → IsRefused source fault
   by_names : {source : List ℕ} (breach : Breach) → BreaksFirst source breach → IsRefused source (fault_of breach)
   by_construct : {source : List ℕ} {fault : Fault} → LeavesOut source fault → IsRefused source fault
-  by_program : {source : List ℕ} {fault : Fault} (tree : Tree) → SpellsLegalTree source tree → left_out_of tree ≡ None → IsOfProgram fault → (IsTypeFault fault → is_legal tree ≡ false) → (IsLeftOutFault fault → IsNotRun tree fault) → IsRefused source fault
+  by_program : {source : List ℕ} {fault : Fault} (tree : Tree) → SpellsLegalTree source tree → left_out_of tree ≡ None → IsOfProgram fault → (IsTypeFault fault → is_legal tree ≡ false) → (IsLeftOutFault fault → IsLeftByTypes tree fault) → IsRefused source fault
   by_memory : {source : List ℕ} {fault : Fault} → IsMemory fault → IsRefused source fault
 
 -- ---- the laws

@@ -11,15 +11,13 @@ ghost use Rattle.ctl_run.specs.Source.{HasFirstFault, IsIllegalText, IsLeftOutTe
 
 use crate::named::named_of;
 use ctl_check::check::check;
-use ctl_gen::admits::admits;
 use ctl_gen::generate::generate;
 use ctl_machine::machine::Machine;
 use ctl_machine::outcome::Outcome;
 use ctl_slice::slice::left_out;
 use ctl_tree::checked::Checked;
-use ctl_tree::fault::{Fault, FaultCode};
+use ctl_tree::fault::Fault;
 use ctl_tree::request::Order;
-use ctl_tree::span::Span;
 use std::alloc::Global;
 
 /// The checked program of a source text, or its fault.
@@ -41,10 +39,6 @@ pub fn check_source(alloc: Global, source: &[u8]) -> Result<Checked, Fault>
         return Err(fault);
     }
     let program = check(alloc, &named.tree)?;
-    // The table of constructs has let through what this version cannot run.
-    if !admits(&program) {
-        return Err(Fault::at(FaultCode::LeftOut, Span { line: 1, column: 1 }));
-    }
     Ok(program)
 }
 

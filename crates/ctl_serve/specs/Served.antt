@@ -1,13 +1,18 @@
--- What was written, by the exit status.
-use Rattle.std.specs.Prelude.{◌≡◌, ℕ, List, Option, codes}
-use Rattle.std.specs.Io.KnownBytes.{Appends}
+-- What was read and written, by the job and the exit status.
+use Rattle.std.specs.Prelude.{◌≡◌, ◌≤◌, ◌<◌, ℕ, List, Option, codes, length}
+use Rattle.std.specs.Io.KnownBytes.{Appends, Consumes, IsAtEnd}
 use Rattle.ctl_job.specs.declared.job.Job.{Job}
 use Rattle.ctl_job.specs.declared.job.Job.TheVariants.{Check, Run}
 use Rattle.ctl_machine.specs.declared.outcome.Outcome.{Outcome}
 use Rattle.ctl_serve.specs.Shown.{shown_by}
-use Rattle.ctl_serve.specs.Statuses.{end_status}
+use Rattle.ctl_serve.specs.Statuses.{end_status, fault_status}
 use Rattle.ctl_serve.specs.declared.status.Status.{Status}
 use Rattle.ctl_serve.specs.declared.status.Status.TheVariants.{Done, Raised, Refused, Stopped, StepLimit, HostMemory, Usage, InputOutput}
+use Rattle.ctl_run.specs.Headline.{Accepts, RunsSource}
+use Rattle.ctl_run.specs.Source.{IsRefused}
+use Rattle.ctl_tree.specs.declared.fault.Fault.{Fault}
+use Rattle.ctl_tree.specs.declared.checked.Checked.{Checked}
+use Rattle.ctl_tree.specs.declared.request.Order.{Order}
 use Rattle.ctl_tree.specs.declared.request.Show.{Show}
 
 -- the status tells how a run ended
@@ -21,13 +26,49 @@ IsRunStatus HostMemory = ⊥
 IsRunStatus Usage = ⊥
 IsRunStatus InputOutput = ⊥
 
--- the whole text of a run with this status was written
-pub record WritesRun (show : Show) (old new : Option (List ℕ)) (status : Status) : Type 0 where
+-- this source text was read: all that the reader had left, where that is less than so many bytes
+pub record Reads (most : ℕ) (old new : Option (List ℕ)) (source : List ℕ) : Type 0 where
+  pub read : Consumes old new source
+  pub within : length source ≤ most
+  pub whole : length source < most → IsAtEnd new
+
+-- `ok` was written for an accepted text
+pub record WritesOk (source : List ℕ) (old new : Option (List ℕ)) : Type 0 where
+  pub program : Checked
+  pub accepted : Accepts source program
+  pub whole : Appends old new (codes "ok\n")
+
+-- the whole text was written that shows a run of this source, under this order and limit of steps, and the status tells how it ended
+pub record WritesRun (source : List ℕ) (order : Order) (steps : ℕ) (show : Show) (old new : Option (List ℕ)) (status : Status) : Type 0 where
   pub outcome : Outcome
+  pub runs : RunsSource source order steps outcome
   pub ended : end_status outcome.end ≡ status
   pub whole : Appends old new (shown_by show outcome)
 
--- by the job and the status: `ok` was written where a check is done, and the whole text of a run where the status tells its end
-abbrev pub WritesFor : Job → Option (List ℕ) → Option (List ℕ) → Status → Type 0
-WritesFor (Check file) old new status = status ≡ Done → Appends old new (codes "ok\n")
-WritesFor (Run file show order steps) old new status = IsRunStatus status → WritesRun show old new status
+-- what is written for a job that was done, under the order and the limit of steps of the job
+abbrev pub WritesFor : Job → List ℕ → Option (List ℕ) → Option (List ℕ) → Status → Type 0
+WritesFor (Check file) source old new status = WritesOk source old new
+WritesFor (Run file show order steps) source old new status = WritesRun source order steps show old new status
+
+-- the status says that the job was done: the text is accepted, or how its run ended
+abbrev pub IsDone : Job → Status → Type 0
+IsDone (Check file) status = status ≡ Done
+IsDone (Run file show order steps) status = IsRunStatus status
+
+-- it was done on a source text that was read
+pub record Serves (job : Job) (most : ℕ) (before after : Option (List ℕ)) (old new : Option (List ℕ)) (status : Status) : Type 0 where
+  pub source : List ℕ
+  pub reads : Reads most before after source
+  pub writes : WritesFor job source old new status
+
+-- this text is refused for a reason that it gives: what is wanting is not memory, as the status tells
+pub record IsRefusedText (source : List ℕ) : Type 0 where
+  pub fault : Fault
+  pub because : IsRefused source fault
+  pub told : fault_status fault.code ≡ Refused
+
+-- such a text was read
+pub record ReadsRefused (most : ℕ) (before after : Option (List ℕ)) : Type 0 where
+  pub source : List ℕ
+  pub reads : Reads most before after source
+  pub refused : IsRefusedText source

@@ -2,7 +2,7 @@
 
 ghost use Rattle.std.specs.Prelude.{◌≡◌, codes, false, true};
 ghost use Rattle.std.specs.Io.KnownBytes.{Appends};
-ghost use Rattle.ctl_serve.specs.Served.{IsRunStatus, WritesFor, WritesRun};
+ghost use Rattle.ctl_serve.specs.Served.{IsDone, IsRefusedText, IsRunStatus, ReadsRefused, Serves, WritesOk, WritesRun};
 ghost use Rattle.ctl_serve.specs.Statuses.{exit_code, fault_status, usage_status};
 
 use crate::into::run_into;
@@ -79,6 +79,7 @@ fn fail_write<E: Write>(err: &mut E) -> Status
 fn put_ok<S: Sink, E: Write>(sink: &mut S, err: &mut E) -> Status
     requires { S.has_failed sink.old ≡ false }
     ensures written { result ≡ Status.Done → Appends (S.taken sink.old) (S.taken sink.new) (codes "ok\n") }
+    ensures refused { result ≡ Status.Refused → ⊥ }
     ensures told { S.has_failed sink.new ≡ true → result ≡ Status.InputOutput }
 {
     match put_all(sink, b"ok\n") {
@@ -90,13 +91,14 @@ fn put_ok<S: Sink, E: Write>(sink: &mut S, err: &mut E) -> Status
 /// Checks a source text, and prints `ok` where it is accepted.
 fn check<S: Sink, E: Write>(alloc: Global, source: &[u8], sink: &mut S, err: &mut E) -> Status
     requires { S.has_failed sink.old ≡ false }
-    ensures written { result ≡ Status.Done → Appends (S.taken sink.old) (S.taken sink.new) (codes "ok\n") }
+    ensures written { result ≡ Status.Done → WritesOk source.now (S.taken sink.old) (S.taken sink.new) }
+    ensures refused { result ≡ Status.Refused → IsRefusedText source.now }
     ensures told { S.has_failed sink.new ≡ true → result ≡ Status.InputOutput }
 {
-    match check_source(alloc, source) {
-        Ok(_) => put_ok(sink, err),
-        Err(fault) => refuse(fault, err),
+    if let Err(fault) = check_source(alloc, source) {
+        return refuse(fault, err);
     }
+    put_ok(sink, err)
 }
 
 /// Runs a source text, prints what is asked for of it, and says how the run ended.
@@ -110,7 +112,8 @@ fn run<S: Sink, E: Write>(
     err: &mut E,
 ) -> Status
     requires { S.has_failed sink.old ≡ false }
-    ensures written { IsRunStatus result → WritesRun show (S.taken sink.old) (S.taken sink.new) result }
+    ensures written { IsRunStatus result → WritesRun source.now order steps show (S.taken sink.old) (S.taken sink.new) result }
+    ensures refused { result ≡ Status.Refused → IsRefusedText source.now }
     ensures told { S.has_failed sink.new ≡ true → result ≡ Status.InputOutput }
 {
     match run_into(alloc, source, order, steps, show, sink) {
@@ -139,7 +142,10 @@ pub fn serve_into<A: Allocator, R: Read, S: Sink, E: Write>(
     err: &mut E,
 ) -> Status
     requires { S.has_failed sink.old ≡ false }
-    ensures written { WritesFor job (S.taken sink.old) (S.taken sink.new) result }
+    ensures written { IsDone job result → Serves job limit (R.remaining source.old) (R.remaining source.new) (S.taken sink.old) (S.taken sink.new) result }
+
+    // A text is refused for a reason that it gives.
+    ensures refused { result ≡ Status.Refused → ReadsRefused limit (R.remaining source.old) (R.remaining source.new) }
 
     // No failure of the sink is passed over.
     ensures told { S.has_failed sink.new ≡ true → result ≡ Status.InputOutput }

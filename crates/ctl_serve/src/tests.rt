@@ -1,11 +1,15 @@
 //! Jobs on source texts, with readers and writers that fail.
 
+use crate::into::put_run;
 use crate::report::{Picks, say, say_end};
 use crate::status::status_of_end;
 use crate::{RunFault, Status, Summary, refuse_words, run_into, serve, serve_into};
 use ctl_job::{Job, UsageFault};
+use ctl_machine::outcome::Outcome;
+use ctl_run::run::run_source;
 use ctl_sink::{Sink, Through};
 use ctl_tree::ending::{End, Stop};
+use ctl_tree::fault::Fault;
 use ctl_tree::request::{Order, Show};
 use ctl_tree::text::Text;
 use linked_list_allocator::LocalHeap;
@@ -246,6 +250,48 @@ fn a_refused_text_writes_nothing(rt: HostRuntime) {
     assert!(rt; matches!(&result, Err(RunFault::Refused(_))));
     assert!(rt; !failed);
     assert_eq!(rt; out.bytes.len(), 0);
+}
+
+/// Puts a run whose text is made in a heap of this size, and answers whether the sink failed.
+fn put_in(
+    alloc: Global,
+    size: usize,
+    outcome: &Outcome,
+    out: &mut Vec<u8>,
+) -> Result<(Result<(), RunFault>, bool), AllocError> {
+    let heap = LocalHeap::new(alloc, size)?;
+    let mut sink = Through::new(out);
+    let result = put_run(&heap, outcome, Show::Trace, &mut sink);
+    let failed = sink.failed();
+    Ok((result, failed))
+}
+
+#[test]
+fn a_text_that_has_no_room_is_not_put(rt: HostRuntime) -> Result<(), Fail> {
+    let alloc = rt.alloc();
+    let source = TWO_OBJECTS.as_bytes();
+    let outcome = run_source(alloc, source, Order::Newest, 1000).map_err(|_| "refused")?;
+    let mut was_refused = false;
+    let mut was_put = false;
+    for size in 1..96 {
+        let mut out = Vec::new(alloc);
+        let (result, failed) = put_in(alloc, size * 16, &outcome, &mut out)?;
+        assert!(rt; !failed, "at {size}");
+        match result {
+            Ok(()) => {
+                assert_eq!(rt; out.as_slice(), TWO_OBJECTS_TRACE.as_bytes());
+                was_put = true;
+            }
+            Err(fault) => {
+                assert_eq!(rt; fault, RunFault::Refused(Fault::memory()));
+                assert_eq!(rt; out.len(), 0);
+                was_refused = true;
+            }
+        }
+    }
+    assert!(rt; was_refused);
+    assert!(rt; was_put);
+    Ok(())
 }
 
 #[test]

@@ -1,5 +1,6 @@
 use super::*;
-use ctl_text::trace_text;
+use ctl_text::{output_text, trace_text};
+use ctl_tree::ending::End;
 use std::test::Fail;
 
 /// Nothing is declared, and nothing shown.
@@ -36,8 +37,30 @@ const COUNTED: &[u8] =
 
 const COUNTED_TRACE: &str = "print  2TRUE 3\nprint  1FALSE 3\nend done\n";
 
+/// Division by zero raises Constraint_Error (RM 4.5.5).
+const ZERO_DIVISOR: &[u8] = b"procedure Main is X : Integer := 0; begin X := 1 / X; end Main;";
+
+/// Sums under an `if`, and a loop that is left behind it; the signs of `/`, `rem` and `mod`, the image of Integer'First, and at last an
+/// overflow (RM 3.5.4, 4.5.5, 5.7).
+const NUMBERS: &[u8] =
+    b"with Ada.Text_IO; use Ada.Text_IO; procedure Main is S : Integer := 0; begin for I in 1 .. 10 loop if I rem 2 = 0 then S := S + I; end if; exit when S > 11; end loop; Put_Line (\"S\" & Integer'Image (S)); Put_Line (\"q\" & Integer'Image (-7 / 2)); Put_Line (\"r\" & Integer'Image ((-7) rem 2)); Put_Line (\"m\" & Integer'Image ((-7) mod 2)); Put_Line (\"l\" & Integer'Image (-2147483647 - 1)); S := 2147483647 + 1; end Main;";
+
+const NUMBERS_TRACE: &str =
+    "print S 12\nnewline\nprint q-3\nnewline\nprint r-1\nnewline\nprint m 1\nnewline\nprint l-2147483648\nnewline\nend raised Constraint_Error\n";
+
+/// An exit statement leaves two blocks, whose objects are of two types: the inner object goes first (RM 5.7, 7.6.1).
+const EXIT_OF_TWO: &[u8] =
+    b"with Ada.Finalization; use Ada.Finalization; with Ada.Text_IO; use Ada.Text_IO; procedure Main is type A is new Controlled with null record; type B is new Controlled with null record; overriding procedure Finalize (X : in out A); overriding procedure Initialize (X : in out B); overriding procedure Finalize (X : in out B); procedure Finalize (X : in out A) is begin Put_Line (\"a\"); end Finalize; procedure Initialize (X : in out B) is begin Put_Line (\"i\"); end Initialize; procedure Finalize (X : in out B) is begin Put_Line (\"b\"); end Finalize; begin loop declare V : A; begin declare W : B; begin exit; end; end; end loop; Put_Line (\"out\"); end Main;";
+
+const EXIT_OF_TWO_TRACE: &str =
+    "live 1 m2\ninitialize 2\nprint i\nnewline\nlive 2 m3\nfinalize 2 scope\nprint b\nnewline\nfinalize 1 scope\nprint a\nnewline\nprint out\nnewline\nend done\n";
+
 /// A loop without an end.
 const TURNS: &[u8] = b"procedure Main is begin loop null; end loop; end Main;";
+
+/// A loop without an end that prints a line in each turn.
+const LINES: &[u8] =
+    b"with Ada.Text_IO; use Ada.Text_IO; procedure Main is begin loop Put_Line (\"x\"); end loop; end Main;";
 
 #[test]
 fn traces_of_runs(rt: HostRuntime) -> Result<(), Fail> {
@@ -50,6 +73,9 @@ fn traces_of_runs(rt: HostRuntime) -> Result<(), Fail> {
         (EXIT, 1000, EXIT_TRACE),
         (OVERFLOW, 1000, OVERFLOW_TRACE),
         (COUNTED, 1000, COUNTED_TRACE),
+        (ZERO_DIVISOR, 1000, "end raised Constraint_Error\n"),
+        (NUMBERS, 1000, NUMBERS_TRACE),
+        (EXIT_OF_TWO, 1000, EXIT_OF_TWO_TRACE),
         (TURNS, 100, "end limit\n"),
     ] {
         let outcome = run_source(alloc, source, Order::Newest, steps).map_err(|_| "refused")?;
@@ -57,6 +83,21 @@ fn traces_of_runs(rt: HostRuntime) -> Result<(), Fail> {
         let shown = String::from_utf8(text).map_err(|_| "no text")?;
         assert_eq!(rt; shown.as_str(), wanted);
     }
+    Ok(())
+}
+
+#[test]
+fn a_run_at_its_limit_has_printed_a_prefix(rt: HostRuntime) -> Result<(), Fail> {
+    let alloc = rt.alloc();
+    let outcome = run_source(alloc, LINES, Order::Newest, 100).map_err(|_| "refused")?;
+    assert!(rt; matches!(&outcome.end, End::StepLimit));
+    let shown = output_text(alloc, &outcome.events)?;
+    let mut lines: Vec<u8> = Vec::new(alloc);
+    for _line in 0..100 {
+        lines.extend_from_slice(b"x\n")?;
+    }
+    assert!(rt; shown.as_slice().starts_with(b"x\nx\n"));
+    assert!(rt; lines.as_slice().starts_with(shown.as_slice()));
     Ok(())
 }
 

@@ -7,3 +7,6 @@ returns-clause-moves c es k ops = rw (c.in_ok-enter_body.ensures.ok, c.entry_at-
 
 pub returns-clause-levels : goal.returns-clause-levels
 returns-clause-levels c = rw (c.in_ok-enter_body.ensures.ok, levels_opened) refl
+
+pub returns-clause-entered : goal.returns-clause-entered
+returns-clause-entered c = (_, _, c.in_ok-enter_body.ensures.ok)

@@ -2,6 +2,6 @@ use Rattle.std.proofs.Common.{refl}
 use Rattle.ctl_meaning.specs.Outcome.{program_error}
 use Rattle.ctl_machine.proofs.resume.mode_behind.Goals as goal
 
-pub returns-then-departure : goal.returns-then-departure
+pub returns-then-departure-clause-mode : goal.returns-then-departure-clause-mode
 unfolding program_error
-returns-then-departure c ls = rw c.if-departure.true refl
+returns-then-departure-clause-mode c ls = rw c.if-departure.true refl

@@ -1,17 +1,17 @@
 use Rattle.std.proofs.lemmas.Result.{err_from_is_err_and}
-use Rattle.std.proofs.Common.{◌≡◌, ℕ, List, [], Option, Some, None, Bool, true, false, sym, ap, subst, ◌∙◌, ◌⊎◌, inl, inr, rules}
+use Rattle.std.proofs.Common.{◌≡◌, ℕ, List, [], Option, Some, None, true, sym, ap, ◌∙◌, ◌⊎◌, inl, inr}
 use Rattle.ctl_tree.specs.declared.fault.Fault.{Fault}
-use Rattle.ctl_tree.specs.declared.fault.FaultCode.TheVariants.{LeftOut}
 use Rattle.ctl_tree.specs.declared.checked.Checked.{Checked}
 use Rattle.ctl_tree.specs.declared.tree.Tree.{Tree}
 use Rattle.ctl_lex.specs.Memory.{IsMemory}
-use Rattle.ctl_check.specs.Refusals.{IsProgramCode, IsOfProgram, IsTypeFault}
 use Rattle.ctl_check.specs.Program.{is_legal, IsProgram}
 use Rattle.ctl_check.specs.Standard.{predefined_names}
 use Rattle.ctl_gen.specs.Slice.{InSlice}
 use Rattle.ctl_slice.specs.Places.{left_out_of}
+use Rattle.ctl_admitted.proofs.Program.{programs_in_slice}
+use Rattle.ctl_admitted.proofs.SpelledTrees.{spelled_trees_are_whole}
 use Rattle.ctl_run.specs.Headline.{Accepts}
-use Rattle.ctl_run.specs.Source.{of_lexis, of_text, of_names, HasEarlyFault, SpellsLegalTree, IsOutside, IsRefused, by_text, by_names, by_construct, by_program, by_memory}
+use Rattle.ctl_run.specs.Source.{of_lexis, of_text, of_names, HasEarlyFault, SpellsLegalTree, IsRefused, room, by_text, by_names, by_construct, by_program, by_memory}
 use Rattle.ctl_run.proofs.run.check_source.Goals as goal
 
 -- a lexical fault is the first one, so a text that has one spells no tree
@@ -26,9 +26,6 @@ returns-in-Some-clause-lexical c = λ fault has. absurd (c.in_ok-named.ensures.a
 
 pub returns-in_err-program-clause-lexical : goal.returns-in_err-program-clause-lexical
 returns-in_err-program-clause-lexical c = λ fault has. absurd (c.in_ok-named.ensures.all_faults fault (of_lexis has))
-
-pub returns-then-not-admits-clause-lexical : goal.returns-then-not-admits-clause-lexical
-returns-then-not-admits-clause-lexical c = λ fault has. absurd (c.in_ok-named.ensures.all_faults fault (of_lexis has))
 
 pub returns-clause-lexical : goal.returns-clause-lexical
 returns-clause-lexical c = λ fault has. absurd (c.in_ok-named.ensures.all_faults fault (of_lexis has))
@@ -45,9 +42,6 @@ returns-in-Some-clause-illegal c = λ breach text. absurd (c.in_ok-named.ensures
 
 pub returns-in_err-program-clause-illegal : goal.returns-in_err-program-clause-illegal
 returns-in_err-program-clause-illegal c = λ breach text. absurd (c.in_ok-named.ensures.all_breaches breach text)
-
-pub returns-then-not-admits-clause-illegal : goal.returns-then-not-admits-clause-illegal
-returns-then-not-admits-clause-illegal c = λ breach text. absurd (c.in_ok-named.ensures.all_breaches breach text)
 
 pub returns-clause-illegal : goal.returns-clause-illegal
 returns-clause-illegal c = λ breach text. absurd (c.in_ok-named.ensures.all_breaches breach text)
@@ -79,11 +73,6 @@ returns-in_err-program-clause-left_out c = λ fault text.
     let tree = c.in_ok-named.named.tree in
     absurd (none_left fault (left_out_of tree) (sym c.left_out.ensures.first ∙ c.in_default.is) (text.first tree (c.in_ok-named.ensures.all_legal text.text)))
 
-pub returns-then-not-admits-clause-left_out : goal.returns-then-not-admits-clause-left_out
-returns-then-not-admits-clause-left_out c = λ fault text.
-    let tree = c.in_ok-named.named.tree in
-    absurd (none_left fault (left_out_of tree) (sym c.left_out.ensures.first ∙ c.in_default.is) (text.first tree (c.in_ok-named.ensures.all_legal text.text)))
-
 pub returns-clause-left_out : goal.returns-clause-left_out
 returns-clause-left_out c = λ fault text.
     let tree = c.in_ok-named.named.tree in
@@ -96,14 +85,6 @@ because source fault (inl (of_text h)) = by_text h
 because source fault (inl (of_names b h)) = by_names b h
 because source fault (inr h) = by_memory h
 
--- a construct that is left out is a matter of the program
-left_out_is : (fault : Fault) → fault.code ≡ LeftOut → IsOfProgram fault
-left_out_is fault e = subst IsProgramCode (sym e) tt
-
--- and no broken rule
-no_rule : (fault : Fault) (b : Bool) → fault.code ≡ LeftOut → IsTypeFault fault → b ≡ false
-no_rule fault b e is = absurd (cc)
-
 pub returns-in_err-named-clause-refused : goal.returns-in_err-named-clause-refused
 returns-in_err-named-clause-refused c =
     let p = err_from_is_err_and c.from_residual.result c.from_residual.ensures.1 in
@@ -115,16 +96,7 @@ returns-in-Some-clause-refused c = by_construct (record { tree = c.in_ok-named.n
 pub returns-in_err-program-clause-refused : goal.returns-in_err-program-clause-refused
 returns-in_err-program-clause-refused c =
     let p = err_from_is_err_and c.from_residual-in_err-program.result c.from_residual-in_err-program.ensures.1 in
-    rw (p.1, p.2) (by_program c.in_ok-named.named.tree c.in_ok-named.ensures.found (sym c.left_out.ensures.first ∙ c.in_default.is) c.in_err-program.ensures.refused c.in_err-program.ensures.illegal (λ is. inl (c.in_err-program.ensures.left_out is)))
-
-pub returns-then-not-admits-clause-refused : goal.returns-then-not-admits-clause-refused
-returns-then-not-admits-clause-refused c =
-    let tree = c.in_ok-named.named.tree in
-    let fault = c.at.result in
-    let code = ap (λ (f : Fault). f.code) c.at.ensures in
-    let outside : InSlice c.in_ok-program.program → ⊥ = λ h. absurd (search (rules, c.admits.ensures, c.if-not-admits, h)) in
-    let not_run : IsOutside tree fault = record { legal = c.in_ok-program.ensures.legal; program = c.in_ok-program.program; checked = c.in_ok-program.ensures.program; outside = outside; shown = c.at.ensures } in
-    by_program tree c.in_ok-named.ensures.found (sym c.left_out.ensures.first ∙ c.in_default.is) (left_out_is fault code) (no_rule fault _ code) (λ is. inr not_run)
+    rw (p.1, p.2) (by_program c.in_ok-named.named.tree c.in_ok-named.ensures.found (sym c.left_out.ensures.first ∙ c.in_default.is) c.in_err-program.ensures.refused c.in_err-program.ensures.illegal c.in_err-program.ensures.left_out)
 
 -- an accepted text
 
@@ -145,5 +117,8 @@ accepts source tree program s none typed checked named bare within = record {
 
 pub returns-clause-accepted : goal.returns-clause-accepted
 returns-clause-accepted c =
-    let within : InSlice c.in_ok-program.program = search (rules, c.admits.ensures, c.if-not-admits) in
+    let tree = c.in_ok-named.named.tree in
+    let spelled = c.in_ok-named.ensures.found.spelled in
+    let whole = spelled_trees_are_whole room tree spelled.tokens spelled.grammatical in
+    let within : InSlice c.in_ok-program.program = programs_in_slice tree c.in_ok-program.program whole c.in_ok-program.ensures.legal c.in_ok-program.ensures.program c.in_ok-program.ensures.all_run in
     accepts c.args.source.now c.in_ok-named.named.tree c.in_ok-program.program c.in_ok-named.ensures.found (sym c.left_out.ensures.first ∙ c.in_default.is) c.in_ok-program.ensures.legal c.in_ok-program.ensures.program c.in_ok-program.ensures.exceptions c.in_ok-program.ensures.accesses within

@@ -7,6 +7,7 @@ returns-after-eq-clause-written g c = λ ends.
     let written = c.in-Ok.ensures.ok in
     record {
       outcome = written.outcome;
+      runs = written.runs;
       ended = sym (c.status_of_end.ensures ∙ ap end_status written.summarized.end);
       whole = written.whole;
     }

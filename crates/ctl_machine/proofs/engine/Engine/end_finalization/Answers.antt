@@ -3,7 +3,7 @@ use Rattle.std.proofs.lemmas.List.{append-nil}
 use Rattle.ctl_machine.specs.declared.frame.Frame.TheVariants.{Finalizing}
 use Rattle.ctl_machine.specs.declared.frame.Mode.TheVariants.{Giving}
 use Rattle.ctl_machine.specs.World.{levels_of}
-use Rattle.ctl_machine.specs.Control.{may_raise, frames_of}
+use Rattle.ctl_machine.specs.Control.{activity, frames_of}
 use Rattle.ctl_machine.proofs.Tops.{popped, by_top, fits_top, makes_by, calm, finalized, levels_ended}
 use Rattle.ctl_machine.proofs.engine.Engine.end_finalization.Goals as goal
 
@@ -15,9 +15,9 @@ returns c code =
     let world = c.args.self.now.world in
     let rest = popped control.len control.items c.pop.new.self.items t.0 frame control.ok.0 c.pop.ensures.rest t.1 in
     let moves = by_top code c.args.handed c.args.self.now t.0 frame t.1 ∙ finalized c.args.handed c.args.object (frames_of (reverse t.0) (levels_of world)) c.args.self.now.operands world c.requires.stays in
-    let fits = fits_top (may_raise (Giving c.args.handed)) c.args.self.now t.0 frame t.1 c.requires.rests in
+    let fits = fits_top (activity (Giving c.args.handed)) c.args.self.now t.0 frame t.1 c.requires.rests in
     makes_by _ _ _ _ moves (record {
-      sound = rw (rest, c.end_finalization.ensures, levels_ended, c.finalization_of.ensures, calm) fits;
+      sound = rw (rest, c.end_finalization.ensures, levels_ended, c.finalization_of.ensures, calm) fits.1;
       mode = rw c.finalization_of.ensures refl;
       control = rw (rest, c.end_finalization.ensures, levels_ended) refl;
       operands = refl;

@@ -1,22 +1,23 @@
-use Rattle.std.proofs.Common.{refl, sym, reverse, false}
+use Rattle.std.proofs.Common.{refl, sym, reverse}
 use Rattle.std.proofs.lemmas.List.{append-nil}
 use Rattle.ctl_machine.specs.World.{levels_of, all_but_first}
-use Rattle.ctl_machine.specs.Control.{may_raise}
+use Rattle.ctl_machine.specs.Control.{Calm, activity, activity_behind}
+use Rattle.ctl_machine.proofs.Levels.{weaker}
 use Rattle.ctl_machine.proofs.Tops.{popped, fits_top, makes_by}
-use Rattle.ctl_machine.proofs.Leaving.{leaving_frame, ends, any_fits}
+use Rattle.ctl_machine.proofs.Leaving.{leaving_frame, ends}
 use Rattle.ctl_machine.proofs.engine.Engine.end_leaving.Goals as goal
 
 pub returns : goal.returns
 returns c code =
     let t = c.requires.top in
     let d = c.args.departure in
-    let frame = leaving_frame d 0 t.0 in
+    let frame = leaving_frame d t.0 in
     let control = c.args.self.now.control in
     let rest = popped control.len control.items c.pop.new.self.items t.1.0 frame control.ok.0 c.pop.ensures.rest t.1.1 in
-    let fits = fits_top false c.args.self.now t.1.0 frame t.1.1 c.requires.rests in
-    makes_by _ _ _ _ (ends code d c.args.self.now t.1.0 t.0 c.requires.none t.1.1) (record {
-      sound = rw (rest, c.close.ensures.levels) (any_fits (may_raise c.mode_behind-self.result) (reverse t.1.0) (all_but_first (levels_of c.args.self.now.world)) fits.2);
-      mode = rw c.close.ensures.levels (c.mode_behind-self.ensures _);
+    let fits = fits_top Calm c.args.self.now t.1.0 frame t.1.1 c.requires.rests in
+    makes_by _ _ _ _ (ends d c.args.self.now t.1.0 t.0 t.1.1 code c.requires.none) (record {
+      sound = rw (rest, c.close.ensures.levels) (weaker (activity c.mode_behind-self.result) (activity_behind d.afterwards) (reverse t.1.0) (all_but_first (levels_of c.args.self.now.world)) c.mode_behind-self.ensures.activity fits.1);
+      mode = rw c.close.ensures.levels (c.mode_behind-self.ensures.mode _);
       control = rw (rest, c.close.ensures.levels) refl;
       operands = refl;
       world = c.close.ensures.closed;

@@ -1,10 +1,10 @@
 use Rattle.std.proofs.Common.{refl, sym, ◌∙◌, reverse}
 use Rattle.std.proofs.lemmas.List.{append-nil}
 use Rattle.ctl_machine.specs.World.{levels_of}
-use Rattle.ctl_machine.specs.Control.{may_raise}
+use Rattle.ctl_machine.specs.Control.{activity}
 use Rattle.ctl_machine.specs.declared.frame.Mode.TheVariants.{Giving}
 use Rattle.ctl_machine.proofs.Tops.{popped, by_top, fits_top, makes_by}
-use Rattle.ctl_machine.proofs.Leaving.{any_fits}
+use Rattle.ctl_machine.proofs.Levels.{any_fits}
 use Rattle.ctl_machine.proofs.LoopMoves.{loop_left, below_loop}
 use Rattle.ctl_machine.proofs.engine.Engine.end_loop.Goals as goal
 
@@ -15,9 +15,9 @@ returns c code =
     let ls = levels_of e.world in
     let below = t.top.0 in
     let rest = popped e.control.len e.control.items c.pop.new.self.items below t.frame e.control.ok.0 c.pop.ensures.rest t.top.1 in
-    let fits = below_loop (may_raise (Giving c.args.handed)) t.frame (reverse below) ls c.args.height c.args.behind t.is_loop (fits_top (may_raise (Giving c.args.handed)) e below t.frame t.top.1 c.requires.rests) in
+    let fits = below_loop (activity (Giving c.args.handed)) t.frame (reverse below) ls c.args.height c.args.behind t.is_loop (fits_top (activity (Giving c.args.handed)) e below t.frame t.top.1 c.requires.rests) in
     makes_by _ _ _ _ (by_top code c.args.handed e below t.frame t.top.1 ∙ loop_left code c.args.handed t.frame (reverse below) ls e.operands e.world c.args.height c.args.behind t.is_loop) (record {
-      sound = rw rest (any_fits (may_raise c.mode_behind_loop-self.result) (reverse below) ls fits);
+      sound = rw rest (any_fits (activity c.mode_behind_loop-self.result) (reverse below) ls fits);
       mode = c.mode_behind_loop-self.ensures ls;
       control = rw rest refl;
       operands = c.cut_back.ensures;

@@ -1,7 +1,10 @@
-use Rattle.std.proofs.Common.{refl, sym, true}
+use Rattle.std.proofs.Common.{refl, sym, reverse}
 use Rattle.std.proofs.lemmas.List.{append-nil}
 use Rattle.ctl_machine.specs.declared.frame.Frame.TheVariants.{Initializing}
 use Rattle.ctl_machine.specs.declared.frame.Handed.TheVariants.{Raise}
+use Rattle.ctl_machine.specs.World.{levels_of}
+use Rattle.ctl_machine.specs.Control.{Raising}
+use Rattle.ctl_machine.proofs.Levels.{any_fits}
 use Rattle.ctl_machine.proofs.Tops.{popped, by_top, fits_top, makes_by, levels_begun, levels_ended}
 use Rattle.ctl_machine.proofs.engine.Engine.fail.Goals as goal
 
@@ -12,7 +15,7 @@ returns c code =
     let control = c.args.self.now.control in
     let rest = popped control.len control.items c.pop.new.self.items t.2.0 frame control.ok.0 c.pop.ensures.rest t.2.1 in
     makes_by _ _ _ _ (by_top code (Raise c.args.exception) c.args.self.now t.2.0 frame t.2.1) (record {
-      sound = rw (rest, c.end_finalization.ensures, c.begin_finalization.ensures, levels_ended, levels_begun) (fits_top true c.args.self.now t.2.0 frame t.2.1 c.requires.rests);
+      sound = rw (rest, c.end_finalization.ensures, c.begin_finalization.ensures, levels_ended, levels_begun) (any_fits Raising (reverse t.2.0) (levels_of c.args.self.now.world) (fits_top Raising c.args.self.now t.2.0 frame t.2.1 c.requires.rests).1);
       mode = refl;
       control = rw (rest, c.end_finalization.ensures, c.begin_finalization.ensures, levels_ended, levels_begun) refl;
       operands = refl;

@@ -1,15 +1,26 @@
-use Rattle.std.proofs.Common.{refl, arith}
-use Rattle.std.specs.Prelude.{◌||◌}
+use Rattle.std.proofs.Common.{ap, sym, ◌∙◌}
+use Rattle.std.specs.Prelude.{Bool, ◌||◌}
 use Rattle.ctl_machine.specs.declared.frame.Frame.TheVariants.{Leaving}
 use Rattle.ctl_machine.specs.declared.frame.Mode.TheVariants.{Giving}
-use Rattle.ctl_machine.specs.Control.{may_raise}
+use Rattle.ctl_machine.specs.Control.{activity}
+use Rattle.ctl_machine.specs.Engine.{leaves_on}
 use Rattle.ctl_machine.proofs.Tops.{fits_top, makes_by}
 use Rattle.ctl_machine.proofs.Leaving.{turns}
+use Rattle.ctl_machine.proofs.Needed.{no_sets}
 use Rattle.ctl_machine.proofs.engine.Engine.go_on_leaving.Goals as goal
 
+-- no layer is one of collections
+pub unreachable-requires : goal.unreachable-requires
+unreachable-requires c =
+    let newest = rw c.in-Some-Sets.field-0-is at c.in-Some-Sets.ensures in
+    no_sets c.args.code.now c.args.self.now.world newest.0 newest.1 c.requires.world newest.2
+
+-- no layer is left
 pub returns-in-None-clause-ok : goal.returns-in-None-clause-ok
 returns-in-None-clause-ok c =
     let t = c.requires.top in
     let d = c.args.departure in
-    let calm = (fits_top (may_raise (Giving c.args.handed)) c.args.self.now t.0 (Leaving d) t.1 c.requires.rests).0 in
-    makes_by _ _ _ _ (turns c.args.code.now c.args.handed d c.args.self.now t.0 d.remaining 0 (d.has_failed || c.is_failure.result) calm t.1 (omega arith) (rw c.is_failure.ensures refl)) (c.end_leaving.ensures c.args.code.now)
+    let e = c.args.self.now in
+    let code = c.args.code.now in
+    let calm = (fits_top (activity (Giving c.args.handed)) e t.0 (Leaving d) t.1 c.requires.rests).0 in
+    makes_by _ _ _ _ (turns code c.args.handed d e t.0 calm t.1 ∙ ap (λ (b : Bool). leaves_on code (record d { has_failed = d.has_failed || b }) e) (sym c.is_failure.ensures)) (c.end_leaving.ensures code)

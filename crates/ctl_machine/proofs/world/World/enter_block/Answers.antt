@@ -7,6 +7,6 @@ use Rattle.ctl_machine.proofs.world.World.enter_block.Goals as goal
 -- the display is the newest master's, and all slots are unset
 pub returns-clause-ok : goal.returns-clause-ok
 returns-clause-ok c =
-    let seen = display_seen c.self.inside.given_objects c.self.inside.given_masters c.self.inside.objects c.self.inside.newest (reverse c.self.inside.older.items) c.self.invariant.nested in
+    let seen = display_seen c.self.inside.given_objects c.self.inside.lists c.self.inside.objects c.self.inside.newest (reverse c.self.inside.older.items) c.self.invariant.nested in
     let copied : c.in_ok-display.display.items ≡ newest_display c.args.self.now = c.in_ok-display.ensures.items ∙ c.as_slice.ensures.value ∙ seen ∙ ap (λ (w : W.World). newest_display w) c.self.view_is in
     rw (copied, c.in_ok-slots.ensures) at c.enter.ensures.ok
