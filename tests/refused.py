@@ -95,14 +95,13 @@ TEXTS = [
     (ITEM + "procedure P; begin null; end Main;", 22, 1, 29),
     (ITEM + "procedure P is begin null; end P; type R is record N : Integer; end record; begin null; end Main;", 23, 1, 53),
     (ITEM + "begin Ada.Text_IO.New_Line; end Main;", 25, 1, 25),
-    # and before a broken rule on types, which has no place yet
-    (ITEM + "N : Integer; begin N := True; end Main;", 30, 1, 1),
+    # and before a broken rule on types, wherever that stands
     (ITEM + "N : Integer; begin N := True; M := 1; end Main;", 20, 1, 49),
     # an assignment of a record is not run, and only types tell it: a broken rule on types comes first. An object with a value is a
     # construct that is not run, unless its type is called Integer or Boolean: it comes before types are asked
     (CONTROLLED + "type T is new Controlled with null record; X, Y : T; begin X := Y; end Main;", 12, 1, 123),
     (CONTROLLED + "type T is new Controlled with null record; X : T; Y : T := X; begin X := Y; end Main;", 12, 1, 114),
-    (CONTROLLED + "type T is new Controlled with null record; X, Y : T; begin X := Y; X := 1; end Main;", 30, 1, 1),
+    (CONTROLLED + "type T is new Controlled with null record; X, Y : T; begin X := Y; X := 1; end Main;", 30, 1, 136),
     # the initial value of a record that the text calls Integer: at the value
     (CONTROLLED + "type Integer is new Controlled with null record; X : Integer; Y : Integer := X; begin null; end Main;", 12, 1, 141),
     # the null address is a value like others
@@ -113,9 +112,7 @@ TEXTS = [
         1,
     ),
     # the five names of operations name no type, object or main procedure; formals and loop parameters may have them
-    ("procedure Finalize is begin null; end Finalize;", 30, 1, 1),
-    (ITEM + "A, Adjust : Integer; begin null; end Main;", 30, 1, 1),
-    (CONTROLLED + "type Initialize is new Controlled with null record; begin null; end Main;", 30, 1, 1),
+    (CONTROLLED + "type Initialize is new Controlled with null record; begin null; end Main;", 33, 1, 69),
     (ITEM + "begin for Allocate in 1 .. 2 loop null; end loop; end Main;", ACCEPTED, 1, 1),
     (
         CONTROLLED
@@ -125,6 +122,48 @@ TEXTS = [
         1,
         1,
     ),
+    # types, variables, operations, literals and exits: the first broken rule, at its place
+    # the innermost wrong expression, or the place of another type
+    ('procedure Main is N : Integer; begin N := True; end Main;', 30, 1, 43),
+    ('procedure Main is X : Boolean := 1; Y : Integer := 2147483648; begin null; end Main;', 30, 1, 34),
+    ('procedure Main is N : Integer := 1 + True; begin null; end Main;', 30, 1, 38),
+    ('procedure Main is N : Integer := (True) + 1; begin null; end Main;', 30, 1, 35),
+    ('procedure Main is N : Integer := (1 + 2) * (3 - (True)); begin null; end Main;', 30, 1, 50),
+    ('procedure Main is B : Boolean := not 1; begin null; end Main;', 30, 1, 38),
+    ('procedure Main is B : Boolean := 1 < True; begin null; end Main;', 30, 1, 38),
+    ('procedure Main is B : Boolean := True and 1 < 2 + True; begin null; end Main;', 30, 1, 51),
+    ('procedure Main is B : Boolean := 1 + 2; begin null; end Main;', 30, 1, 34),
+    ('procedure Main is N : Integer := -True; begin null; end Main;', 30, 1, 35),
+    ('procedure Main is N : Integer := "a"; begin null; end Main;', 30, 1, 34),
+    ('procedure Main is N : Integer; begin if N then null; end if; end Main;', 30, 1, 41),
+    ('procedure Main is begin while 1 loop null; end loop; end Main;', 30, 1, 31),
+    ('procedure Main is begin for I in 1 .. True loop null; end loop; end Main;', 30, 1, 39),
+    ('procedure Main is begin loop exit when 1; end loop; end Main;', 30, 1, 40),
+    # a literal
+    ('procedure Main is N : Integer := 2147483648; begin null; end Main;', 34, 1, 34),
+    ('procedure Main is B : Boolean := 1 < (2 + 2147483648); begin null; end Main;', 34, 1, 43),
+    # what is no variable, before its value
+    ('procedure Main is K : constant Integer := 1; begin K := True; end Main;', 31, 1, 52),
+    ('procedure Main is begin for I in 1 .. 2 loop I := 1; end loop; end Main;', 31, 1, 46),
+    ('procedure Main is N : Integer; begin Main := N; end Main;', 30, 1, 38),
+    # declarations of objects
+    ('procedure Main is N : Integer; K, L : constant Integer; begin null; end Main;', 30, 1, 32),
+    ('procedure Main is A, Adjust : Integer := True; begin null; end Main;', 33, 1, 22),
+    ('procedure Main is N : Integer; X : Main; begin null; end Main;', 30, 1, 32),
+    # an exit in no loop, before its condition
+    ('procedure Main is begin if True then exit when 1; end if; end Main;', 35, 1, 38),
+    # strings, and calls that print them
+    ('with Ada.Text_IO; use Ada.Text_IO; procedure Main is begin Put (1); end Main;', 30, 1, 65),
+    ('with Ada.Text_IO; use Ada.Text_IO; procedure Main is begin Put (1 + True); end Main;', 30, 1, 69),
+    ('with Ada.Text_IO; use Ada.Text_IO; procedure Main is begin Put_Line ("a" & 1 & "b"); end Main;', 30, 1, 76),
+    ('with Ada.Text_IO; use Ada.Text_IO; procedure Main is begin Put_Line ("a" & ("b" & Integer\'Image (True))); end Main;', 30, 1, 98),
+    ('with Ada.Text_IO; use Ada.Text_IO; procedure Main is begin Put ("a", "b"); end Main;', 30, 1, 60),
+    ('with Ada.Text_IO; use Ada.Text_IO; procedure Main is begin null; New_Line (1); end Main;', 30, 1, 66),
+    # operations, and the names that are theirs
+    ('procedure Finalize is begin null; end Finalize;', 33, 1, 11),
+    ('with Ada.Finalization; use Ada.Finalization; procedure Main is type Initialize is new Controlled with null record; begin null; end Main;', 33, 1, 69),
+    ('with Ada.Finalization; use Ada.Finalization; procedure Main is type T is new Controlled with null record; procedure Finalize (X : T); procedure Finalize (X : T) is begin null; end Finalize; begin null; end Main;', 33, 1, 117),
+    ('with Ada.Finalization; use Ada.Finalization; procedure Main is type T is new Controlled with null record; overriding procedure Finalize (X, Y : in out T); procedure Finalize (X, Y : in out T) is begin null; end Finalize; begin null; end Main;', 33, 1, 128),
 ]
 
 

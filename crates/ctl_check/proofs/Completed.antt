@@ -1,12 +1,16 @@
 -- The table of subprograms at the end of a text, with the body that was read for each.
-use Rattle.std.proofs.Common.{rules, ◌≡◌, ℕ, zero, suc, List, [], ◌∷◌, ◌++◌, refl, ap, map, Option, Some, None}
+use Rattle.std.proofs.Common.{rules, ◌∙◌, Bool, ◌≡◌, ℕ, zero, suc, List, [], ◌∷◌, ◌++◌, refl, ap, map, Option, Some, None}
 use Rattle.std.specs.Prelude.{slice_get, is_some, true, false}
 use Rattle.ctl_tree.specs.declared.checked.Subprogram.{Subprogram}
 use Rattle.ctl_tree.specs.declared.checked.Master.{Master}
 use Rattle.ctl_check.specs.declared.checker.Pending.{Pending}
 use Rattle.ctl_check.specs.declared.refusal.Refusal.{Refusal}
 use Rattle.ctl_check.specs.declared.refusal.Refusal.TheVariants.{Illegal, Memory}
-use Rattle.ctl_check.specs.Refusals.{IsAnswered}
+use Rattle.ctl_tree.specs.declared.fault.Fault.{Fault}
+use Rattle.ctl_tree.specs.declared.fault.FaultCode.{FaultCode}
+use Rattle.ctl_tree.specs.declared.span.Span.{Span}
+use Rattle.ctl_check.specs.ExpressionFaults.{unless}
+use Rattle.ctl_check.specs.Refusals.{Tells}
 use Rattle.ctl_check.specs.State.{promises_of, are_complete}
 use Rattle.ctl_check.specs.Parts.{BodyText}
 use Rattle.ctl_check.specs.Program.{AreProcedures, AreBodies, IsBodyOf}
@@ -49,9 +53,14 @@ no_body : (b : Option Master) → is_some b ≡ false → b ≡ None
 no_body None e = refl
 no_body (Some m) e = cc
 
-pub refused_with : (ps : List Pending) (n : ℕ) (p : Pending) (e : Refusal) → slice_get ps n ≡ Some p → IsAnswered (is_some p.body) e → IsAnswered (are_complete (promises_of ps)) e
-refused_with ps n p Illegal f h = incomplete ps n p f (no_body p.body h)
-refused_with ps n p Memory f h = tt
+-- what is told of a rule that both of these keep or break
+told_alike : (a b : Bool) (c : FaultCode) (place : Span) (f : Fault) → (a ≡ false → b ≡ false) → unless a c place ≡ Some f → unless b c place ≡ Some f
+told_alike true b c place f alike h = absurd (cc)
+told_alike false b c place f alike h = ap (λ x. unless x c place) (alike refl) ∙ h
+
+pub refused_with : (ps : List Pending) (n : ℕ) (p : Pending) (c : FaultCode) (place : Span) (e : Refusal) → slice_get ps n ≡ Some p → Tells (unless (is_some p.body) c place) e → Tells (unless (are_complete (promises_of ps)) c place) e
+refused_with ps n p c place (Illegal g) f h = told_alike (is_some p.body) (are_complete (promises_of ps)) c place g (λ none. incomplete ps n p f (no_body p.body none)) h
+refused_with ps n p c place Memory f h = tt
 
 pub map_same : {A : Type 0} (xs : List A) → map (λ y. y) xs ≡ xs
 map_same [] = refl

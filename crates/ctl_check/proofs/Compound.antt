@@ -1,5 +1,5 @@
 -- Statements that have statements in them.
-use Rattle.std.proofs.Common.{◌≡◌, Bool, true, false, List, IfOk, OnOk, Result, Ok, Err, sym, ap, subst, ◌∙◌}
+use Rattle.std.proofs.Common.{◌≡◌, Bool, true, List, IfOk, OnOk, Result, Ok, Err, sym, ap, subst, ◌∙◌}
 use Rattle.ctl_tree.specs.declared.checked.Stmt.{Stmt}
 use Rattle.ctl_tree.specs.declared.checked.Stmt.TheVariants as whole
 use Rattle.ctl_tree.specs.declared.tree.Branch.{Branch}
@@ -12,7 +12,7 @@ use Rattle.ctl_check.specs.declared.checker.Checker.{Checker}
 use Rattle.ctl_check.specs.State.{State, state_of, in_block, behind_block}
 use Rattle.ctl_check.specs.Parts.{after_statement, after_statement_list, after_branch_list, after_part, legal_statement, legal_statement_list, legal_branch_list, legal_part, statement_bodies, statement_list_bodies, branch_list_bodies, part_bodies, StatementMeans, StatementListMeans, BranchListMeans}
 use Rattle.ctl_check.specs.Reading.{Reads}
-use Rattle.ctl_check.proofs.Following.{reads_on, reads_as, both_true, first_false, second_false}
+use Rattle.ctl_check.proofs.Following.{reads_on, reads_as, both_true}
 use Rattle.ctl_check.proofs.StatementRows.{after_if, legal_if, if_bodies, if_means, after_block, legal_block, block_bodies}
 
 pub if_ok_as : {T : Type 0} {E : Type 0} (P Q : T → Type 0) (r : Result T E) → ((x : T) → P x → Q x) → IfOk r P → IfOk r Q
@@ -46,14 +46,6 @@ whole_if bs ss d is arms others x made s t ws ys e f g p q =
     (subst (λ zs. BranchListMeans s zs arms.items) e p)
     (subst (λ u. StatementListMeans u ss.items others.items) (g ∙ ap (after_branch_list s) e) (subst (λ zs. StatementListMeans t zs others.items) f q))
 
-pub arms_wrong : (bs : _) (ss : _) (d : StatementKind) → d ≡ k.If bs ss → (s : State) (l : Bool) (ws : List Branch) → ws ≡ bs.items → legal_branch_list s l ws ≡ false → legal_statement s l d ≡ false
-arms_wrong bs ss d is s l ws e wrong = ap (legal_statement s l) is ∙ legal_if bs ss s l ∙ first_false _ _ (subst (λ zs. legal_branch_list s l zs ≡ false) e wrong)
-
-pub others_wrong : (bs : _) (ss : _) (d : StatementKind) → d ≡ k.If bs ss → (s t : State) (l : Bool) (ws : List Branch) (ys : List Statement) → ws ≡ bs.items → ys ≡ ss.items → t ≡ after_branch_list s ws → legal_statement_list t l ys ≡ false → legal_statement s l d ≡ false
-others_wrong bs ss d is s t l ws ys e f g wrong =
-    ap (legal_statement s l) is ∙ legal_if bs ss s l
-    ∙ second_false _ _ (subst (λ u. legal_statement_list u l ss.items ≡ false) (g ∙ ap (after_branch_list s) e) (subst (λ zs. legal_statement_list t l zs ≡ false) f wrong))
-
 pub block_read : (is : _) (h : Handled) (d : StatementKind) → d ≡ k.Block is h → (a c : Checker) (p : Part) (l : Bool) → legal_part (in_block (state_of a p)) l is.items h ≡ true → Reads a c p (behind_block (state_of a p) (after_part (in_block (state_of a p)) is.items h)) (part_bodies (in_block (state_of a p)) is.items h) → StatementRead a c p l d
 block_read is h d here a c p l legal r =
     let s = state_of a p in
@@ -61,6 +53,3 @@ block_read is h d here a c p l legal r =
       legal = ap (legal_statement s l) here ∙ legal_block is h s l ∙ legal;
       reads = reads_as a c p _ _ _ _ (sym (after_block is h s) ∙ ap (after_statement s) (sym here)) (sym (block_bodies is h s) ∙ ap (statement_bodies s) (sym here)) r;
     }
-
-pub block_wrong : (is : _) (h : Handled) (d : StatementKind) → d ≡ k.Block is h → (s : State) (l : Bool) → legal_part (in_block s) l is.items h ≡ false → legal_statement s l d ≡ false
-block_wrong is h d here s l wrong = ap (legal_statement s l) here ∙ legal_block is h s l ∙ wrong

@@ -2,6 +2,8 @@
 use Rattle.std.proofs.Common.{◌≡◌, ◌&&◌, List, [], ◌∷◌, Option, Some, refl, sym, ap, subst, ◌∙◌}
 use mathlib.Core.Former.{Count}
 use Rattle.ctl_tree.specs.declared.checked.Ty.{Ty}
+use Rattle.ctl_tree.specs.declared.checked.Ty.TheVariants.{Boolean}
+use Rattle.ctl_tree.specs.declared.tree.RelationalOperator.{RelationalOperator}
 use Rattle.ctl_tree.specs.declared.checked.Operand.{Operand}
 use Rattle.ctl_tree.specs.declared.checked.Expr.{Expr, Constant, Read', Call', Unary', Chain', Short', Convert', Access, New', Subpool', Discriminant', items-the_row-Operand, items-the_row-Expr}
 use Rattle.ctl_tree.specs.declared.tree.Identifier.{Identifier}
@@ -14,9 +16,9 @@ use Rattle.ctl_tree.specs.declared.tree.Name.{Name}
 use Rattle.ctl_tree.specs.declared.tree.Suffix.{Suffix, Selector, All, Arguments', Access as AccessSuffix, Attribute}
 use Rattle.ctl_check.specs.declared.operators.Joint.{Joint}
 use Rattle.ctl_check.specs.Environment.{Env}
-use Rattle.ctl_check.specs.Operators.{logical_operator}
+use Rattle.ctl_check.specs.Operators.{logical_operator, relational_operator}
 use Rattle.ctl_check.specs.Expressions.{type_of, is_condition, joined_type, signed_type, name_type, suffixed_type, row_conditions, conditions, row_addends_type, addends_type, row_multiplicands_type, multiplicands_type}
-use Rattle.ctl_check.specs.Meaning.{Means, JoinedMean, ConditionsMean, AddendsMean, MultiplicandsMean, JoinedListMeans, ConditionListMeans, AddendListMeans, MultiplicandListMeans, IsJoined, IsSigned, IsSum, IsProduct, IsName, IsSuffixed, first_type}
+use Rattle.ctl_check.specs.Meaning.{Means, JoinedMean, ConditionsMean, AddendsMean, MultiplicandsMean, JoinedListMeans, ConditionListMeans, AddendListMeans, MultiplicandListMeans, IsJoined, IsSigned, IsSum, IsProduct, IsChain, IsName, IsSuffixed, first_type}
 
 -- ---- types
 
@@ -42,15 +44,15 @@ name_type_of_row v id n (more_of-Suffix (Arguments' s m row) rest) = refl
 name_type_of_row v id n (more_of-Suffix (AccessSuffix s) rest) = refl
 
 -- the rows of an expression
-abbrev expression_row : ExpressionKind → (n : Count) × Row_of-Expression n
+abbrev pub expression_row : ExpressionKind → (n : Count) × Row_of-Expression n
 expression_row (Logical' _ _ _ _ _ row) = (_, row)
 expression_row _ = (_, end_of-Expression)
 
-abbrev addend_row : ExpressionKind → (n : Count) × Row_of-Addend n
+abbrev pub addend_row : ExpressionKind → (n : Count) × Row_of-Addend n
 addend_row (Sum' _ _ _ _ _ row) = (_, row)
 addend_row _ = (_, end_of-Addend)
 
-abbrev multiplicand_row : ExpressionKind → (n : Count) × Row_of-Multiplicand n
+abbrev pub multiplicand_row : ExpressionKind → (n : Count) × Row_of-Multiplicand n
 multiplicand_row (Product' _ _ _ _ row) = (_, row)
 multiplicand_row _ = (_, end_of-Multiplicand)
 
@@ -183,3 +185,7 @@ sum_meant v y sign first more e es t u a b x is same rest known m su s h =
 pub product_meant : (v : Env) (y : ExpressionKind) (first : _) (more : _) (e : Expression) (es : List Multiplicand) (t : Ty) (a x : Expr) → y ≡ k.Product first more → e ≡ first.value → es ≡ more.items → type_of v e.kind ≡ Some t → Means v e.kind a → IsProduct v t a es x → Means v y x
 product_meant v y first more e es t a x is same rest known m h =
     product_means v y first more t a x is (subst (λ (z : Expression). type_of v z.kind ≡ Some t) same known) (subst (λ (z : Expression). Means v z.kind a) same m) (subst (λ (zs : List Multiplicand). IsProduct v t a zs x) rest h)
+
+pub relation_means : (v : Env) (y : ExpressionKind) (op : RelationalOperator) (left : _) (right : _) (d e : Expression) (a : Expr) (r : Operand) (x : Expr) → y ≡ k.Relation op left right → d ≡ left.value → e ≡ right.value → Means v d.kind a → Means v e.kind r.right → r.op ≡ relational_operator op → r.ty ≡ Boolean → IsChain a (r ∷ []) x → Means v y x
+relation_means v y op left right d e a r x is first second m n o b h =
+    subst (λ (w : ExpressionKind). Means v w x) (sym is) (a, r.right, subst (λ (z : Expression). Means v z.kind a) first m, subst (λ (z : Expression). Means v z.kind r.right) second n, (r, o, b, refl, h))

@@ -58,14 +58,6 @@ pub both_true : (a b : Bool) → a ≡ true → b ≡ true → (a && b) ≡ true
 both_true true b p q = q
 both_true false b p q = p
 
-pub first_false : (a b : Bool) → a ≡ false → (a && b) ≡ false
-first_false false b p = refl
-first_false true b p = absurd (cc)
-
-pub second_false : (a b : Bool) → b ≡ false → (a && b) ≡ false
-second_false true b p = p
-second_false false b p = refl
-
 -- ---- one turn of a loop over a list, whose rest is what is still to be read
 
 module _ {A : Type 0} (after : State → A → State) (afters : State → List A → State) (steps : (s : State) (x : A) (xs : List A) → afters s (x ∷ xs) ≡ afters (after s x) xs) where
@@ -79,10 +71,6 @@ module _ {A : Type 0} (after : State → A → State) (afters : State → List A
       ∙ sym (unfolded t x (drop (i + 1) xs))
       ∙ sym (at_rest (all t) xs i x lt at)
       ∙ h
-
-  pub illegal_turn : (one : State → A → Bool) (all : State → List A → Bool) → ((s : State) (x : A) (xs : List A) → all s (x ∷ xs) ≡ (one s x && all (after s x) xs)) → (xs : List A) (i : ℕ) (x : A) → i < length xs → x ≡ get_or xs i x → (t : State) (b : Bool) → one t x ≡ false → all t (drop i xs) ≡ b → b ≡ false
-  illegal_turn one all unfolded xs i x lt at t b wrong h =
-      sym h ∙ at_rest (all t) xs i x lt at ∙ unfolded t x (drop (i + 1) xs) ∙ first_false (one t x) (all (after t x) (drop (i + 1) xs)) wrong
 
   pub reads_turn : (bodies : State → A → List BodyText) (bodies_of : State → List A → List BodyText) → ((s : State) (x : A) (xs : List A) → bodies_of s (x ∷ xs) ≡ bodies s x ++ bodies_of (after s x) xs) → (xs : List A) (i : ℕ) (x : A) → i < length xs → x ≡ get_or xs i x → (now new last : Checker) (p q r : Part) → Reads now new q (after (state_of now p) x) (bodies (state_of now p) x) → Reads new last r (afters (state_of new q) (drop (i + 1) xs)) (bodies_of (state_of new q) (drop (i + 1) xs)) → Reads now last r (afters (state_of now p) (drop i xs)) (bodies_of (state_of now p) (drop i xs))
   reads_turn bodies bodies_of unfolded xs i x lt at now new last p q r one rest =

@@ -1,7 +1,15 @@
+pub mod TellingParts
+pub mod TellingTexts
+pub mod ExpressionDepths
+pub mod TellingExpressions
 pub mod Names
 pub mod ExpressionRows
 pub mod TextRows
 pub mod Turns
+pub mod Telling
+pub mod Keeping
+pub mod KeepingParts
+pub mod RuleFaults
 pub mod Refused
 pub mod Growing
 pub mod Completed

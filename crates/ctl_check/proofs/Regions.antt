@@ -27,7 +27,7 @@ use Rattle.ctl_check.specs.State.{State, Shape, Promise, state_of, in_block, beh
 use Rattle.ctl_check.specs.Objects.{Made, AreMade}
 use Rattle.ctl_check.specs.Parts.{BodyText, after_item_list, after_statement_list, after_handled, after_part, after_text, legal_item_list, legal_handled, legal_part, made_by_list, item_list_bodies, handled_bodies, part_bodies, text_bodies, HandledMeans, PartListMeans}
 use Rattle.ctl_check.specs.Reading.{Grows, Reads}
-use Rattle.ctl_check.proofs.Following.{reads_on, reads_as, both_true, first_false, second_false}
+use Rattle.ctl_check.proofs.Following.{reads_on, reads_as, both_true}
 use Rattle.ctl_check.proofs.StatementRows.{after_text_is, text_bodies_are}
 use Rattle.ctl_check.proofs.Kept.{then_stays, declared_stays, formals_stay, part_stays, statement_list_env}
 
@@ -129,10 +129,3 @@ part_is a b c p q s l ws its hd begun made xs m here same legal reads none makes
 -- the same, as the text of a body
 pub text_reads : (a d : Checker) (part : Part) (s t : State) (b : BodyPart) → Reads a d part (behind_block s (after_part t (out-BodyPart b).items.items (out-BodyPart b).handled)) (part_bodies t (out-BodyPart b).items.items (out-BodyPart b).handled) → Reads a d part (behind_block s (after_text t b)) (text_bodies t b)
 text_reads a d part s t b r = reads_as a d part _ _ _ _ (ap (behind_block s) (sym (after_text_is b t))) (sym (text_bodies_are b t)) r
-
--- what is broken in the items, or in what is handled
-pub items_wrong : (s u : State) (l : Bool) (ws its : List Item) (hd : Handled) → u ≡ s → ws ≡ its → legal_item_list u ws ≡ false → legal_part s l its hd ≡ false
-items_wrong s u l ws its hd e f wrong = first_false (legal_item_list s its) (legal_handled (after_item_list s its) l hd) (subst (λ v. legal_item_list v its ≡ false) e (subst (λ ys. legal_item_list u ys ≡ false) f wrong))
-
-pub handled_wrong : (s u v : State) (l : Bool) (ws its : List Item) (hd : Handled) → u ≡ s → ws ≡ its → v ≡ after_item_list u ws → legal_handled v l hd ≡ false → legal_part s l its hd ≡ false
-handled_wrong s u v l ws its hd e f g wrong = second_false (legal_item_list s its) (legal_handled (after_item_list s its) l hd) (subst (λ x. legal_handled x l hd ≡ false) (g ∙ ap (λ x. after_item_list x ws) e ∙ ap (after_item_list s) f) wrong)

@@ -1,7 +1,5 @@
 -- Parts and statements read from their constructs: rows of the tree, and of the checked program, as lists.
-use Rattle.std.proofs.Common.{◌≡◌, ℕ, length, arith, Bool, true, false, ◌&&◌, List, [], ◌∷◌, ◌++◌, refl, sym, ap, subst, ◌∙◌}
-use Rattle.std.specs.Prelude.{◌==◌}
-use borrow.Author.Tests.{eqb-true, eqb-false}
+use Rattle.std.proofs.Common.{◌≡◌, Bool, true, false, ◌&&◌, List, [], ◌∷◌, ◌++◌, Option, refl, sym, ap, subst, ◌∙◌}
 use mathlib.Core.Former.{Count}
 use Rattle.ctl_tree.specs.declared.checked.Arm.{Arm}
 use Rattle.ctl_tree.specs.declared.checked.Master.{Master, out-Master}
@@ -10,7 +8,7 @@ use Rattle.ctl_tree.specs.declared.checked.Stmt.TheVariants as whole
 use Rattle.ctl_tree.specs.declared.tree.Expression.{Expression}
 use Rattle.ctl_tree.specs.declared.tree.Scheme.{Scheme}
 use Rattle.ctl_tree.specs.declared.tree.Item.{Item}
-use Rattle.ctl_tree.specs.declared.tree.Handler.{Handler}
+use Rattle.ctl_tree.specs.declared.tree.Handler.{Handler, Handler'}
 use Rattle.ctl_tree.specs.declared.tree.Statement.{Statement}
 use Rattle.ctl_tree.specs.declared.tree.StatementKind.{StatementKind, If', Loop', Block', Row_of-Branch, end_of-Branch, more_of-Branch, items-the_row-Branch, items_hidden-the_row-Branch-0}
 use Rattle.ctl_tree.specs.declared.tree.StatementKind.TheVariants as k
@@ -23,6 +21,12 @@ use Rattle.ctl_check.specs.Objects.{AreMade}
 use Rattle.ctl_check.specs.State.{State, in_block, behind_block, in_loop, behind_loop, hidden_each}
 use Rattle.ctl_check.specs.Parts.{after_item, after_items, after_item_list, after_handled, after_statement, after_statements, after_statement_list, after_branch, after_branches, after_branch_list, after_part, after_text, after_loop, is_unhandled, legal_bound, legal_item, legal_items, legal_item_list, legal_handled, legal_statement, legal_statements, legal_statement_list, legal_branch, legal_branches, legal_branch_list, legal_part, legal_text, legal_loop, made_by_item, made_by_items, made_by_list, item_bodies, items_bodies, item_list_bodies, handled_bodies, statement_bodies, statements_bodies, statement_list_bodies, branch_bodies, branches_bodies, branch_list_bodies, part_bodies, text_bodies, loop_bodies, PartMeans, PartListMeans, HandledMeans, StatementMeans, StatementsMean, StatementListMeans, BranchMeans, BranchesMean, BranchListMeans, LoopMeans}
 use Rattle.ctl_check.specs.Program.{TextMeans}
+use Rattle.ctl_tree.specs.declared.checked.Ty.TheVariants.{Boolean}
+use Rattle.ctl_tree.specs.declared.fault.Fault.{Fault}
+use Rattle.ctl_tree.specs.declared.span.Span.{Span}
+use Rattle.ctl_check.specs.declared.asked.Asked.TheVariants as asked
+use Rattle.ctl_check.specs.ExpressionFaults.{either, fault_of_one}
+use Rattle.ctl_check.specs.Faults.{bounds_fault, item_fault, items_fault, item_list_fault, handlers_fault, handler_list_fault, handled_fault, text_of_body_fault, statement_fault, statements_fault, statement_list_fault, branch_fault, branches_fault, branch_list_fault, loop_fault}
 
 -- ---- rows of items
 
@@ -42,6 +46,10 @@ items_bodies_of : (n : Count) (row : Row_of-Item n) (s : State) → items_bodies
 items_bodies_of n end_of-Item s = refl
 items_bodies_of n (more_of-Item at i rest) s = ap (λ bs. item_bodies s i ++ bs) (items_bodies_of _ rest (after_item s i))
 
+items_fault_of : (n : Count) (row : Row_of-Item n) (s : State) → items_fault s row ≡ item_list_fault s (items-the_row-Item n row)
+items_fault_of n end_of-Item s = refl
+items_fault_of n (more_of-Item at i rest) s = ap (λ f. either (item_fault s at i) f) (items_fault_of _ rest (after_item s i))
+
 -- ---- rows of statements
 
 after_statements_of : (n : Count) (row : Row_of-Statement n) (s : State) → after_statements s row ≡ after_statement_list s (items-the_row-Statement n row)
@@ -55,6 +63,10 @@ legal_statements_of n (more_of-Statement at d rest) s l = ap (λ b. legal_statem
 statements_bodies_of : (n : Count) (row : Row_of-Statement n) (s : State) → statements_bodies s row ≡ statement_list_bodies s (items-the_row-Statement n row)
 statements_bodies_of n end_of-Statement s = refl
 statements_bodies_of n (more_of-Statement at d rest) s = ap (λ bs. statement_bodies s d ++ bs) (statements_bodies_of _ rest (after_statement s d))
+
+statements_fault_of : (n : Count) (row : Row_of-Statement n) (s : State) (l : Bool) → statements_fault s l row ≡ statement_list_fault s l (items-the_row-Statement n row)
+statements_fault_of n end_of-Statement s l = refl
+statements_fault_of n (more_of-Statement at d rest) s l = ap (λ f. either (statement_fault s l at d) f) (statements_fault_of _ rest (after_statement s d) l)
 
 statements_mean : (n : Count) (row : Row_of-Statement n) (s : State) (xs : List Stmt) → StatementListMeans s (items-the_row-Statement n row) xs → StatementsMean s row xs
 statements_mean n end_of-Statement s [] h = h
@@ -75,6 +87,10 @@ legal_branches_of n (more_of-Branch b rest) s l = ap (λ c. legal_branch s l b &
 branches_bodies_of : (n : Count) (row : Row_of-Branch n) (s : State) → branches_bodies s row ≡ branch_list_bodies s (items-the_row-Branch n row)
 branches_bodies_of n end_of-Branch s = refl
 branches_bodies_of n (more_of-Branch b rest) s = ap (λ bs. branch_bodies s b ++ bs) (branches_bodies_of _ rest (after_branch s b))
+
+branches_fault_of : (n : Count) (row : Row_of-Branch n) (s : State) (l : Bool) → branches_fault s l row ≡ branch_list_fault s l (items-the_row-Branch n row)
+branches_fault_of n end_of-Branch s l = refl
+branches_fault_of n (more_of-Branch b rest) s l = ap (λ f. either (branch_fault s l b) f) (branches_fault_of _ rest (after_branch s b) l)
 
 branches_mean : (n : Count) (row : Row_of-Branch n) (s : State) (xs : List Arm) → BranchListMeans s (items-the_row-Branch n row) xs → BranchesMean s row xs
 branches_mean n end_of-Branch s [] h = h
@@ -135,17 +151,13 @@ abbrev pub has_none : List Handler → Bool
 has_none [] = true
 has_none (h ∷ hs) = false
 
-pub none_left : (xs : List Handler) (n : ℕ) (b : Bool) → n ≡ length xs → b ≡ (n == 0) → b ≡ true → has_none xs ≡ true
-none_left [] n b e f g = refl
-none_left (x ∷ xs) n b e f g = let z : n ≡ 0 = eqb-true n 0 (sym f ∙ g) in absurd (omega (arith, e, z))
-
-pub some_left : (xs : List Handler) (n : ℕ) (b : Bool) → n ≡ length xs → b ≡ (n == 0) → b ≡ false → has_none xs ≡ false
-some_left [] n b e f g = absurd (eqb-false n 0 (sym f ∙ g) e)
-some_left (x ∷ xs) n b e f g = refl
-
 unhandled_of : (n : Count) (row : Row_of-Handler n) → is_unhandled row ≡ has_none (items-the_row-Handler n row)
 unhandled_of n end_of-Handler = refl
 unhandled_of n (more_of-Handler h rest) = refl
+
+handlers_fault_of : (n : Count) (row : Row_of-Handler n) → handlers_fault row ≡ handler_list_fault (items-the_row-Handler n row)
+handlers_fault_of n end_of-Handler = refl
+handlers_fault_of n (more_of-Handler (Handler' at choices m statements) rest) = refl
 
 rolled_statements : (ss : _) (hs : _) → items-the_row-Statement (handled_statements (roll-Handled (record { statements = ss; handlers = hs }))).0 (handled_statements (roll-Handled (record { statements = ss; handlers = hs }))).1 ≡ ss.items
 unfolding roll-Handled denote.Hole.Carrier.roll
@@ -170,6 +182,12 @@ legal_handled_is (Handled' n row m hs) s l =
     ap (λ b. b && is_unhandled hs) (legal_statements_of _ row s l ∙ ap (legal_statement_list s l) (statements_in h))
     ∙ ap (λ b. legal_statement_list s l (out-Handled h).statements.items && b) (unhandled_of _ hs ∙ ap has_none (handlers_in h))
 
+pub handled_fault_is : (h : Handled) (s : State) (l : Bool) → handled_fault s l h ≡ either (statement_list_fault s l (out-Handled h).statements.items) (handler_list_fault (out-Handled h).handlers.items)
+handled_fault_is (Handled' n row m hs) s l =
+    let h = Handled' n row m hs in
+    ap (λ f. either f (handlers_fault hs)) (statements_fault_of _ row s l ∙ ap (statement_list_fault s l) (statements_in h))
+    ∙ ap (λ f. either (statement_list_fault s l (out-Handled h).statements.items) f) (handlers_fault_of _ hs ∙ ap handler_list_fault (handlers_in h))
+
 pub handled_bodies_are : (h : Handled) (s : State) → handled_bodies s h ≡ statement_list_bodies s (out-Handled h).statements.items
 handled_bodies_are (Handled' n row m hs) s = statements_bodies_of _ row s ∙ ap (statement_list_bodies s) (statements_in (Handled' n row m hs))
 
@@ -185,6 +203,14 @@ legal_part_of : (n : Count) (row : Row_of-Item n) (h : Handled) (s : State) (l :
 legal_part_of n row h s l =
     ap (λ b. b && legal_handled (after_items s row) l h) (legal_items_of n row s)
     ∙ ap (λ t. legal_item_list s (items-the_row-Item n row) && legal_handled t l h) (after_items_of n row s)
+
+abbrev pub part_fault : State → Bool → List Item → Handled → Option Fault
+part_fault s l items handled = either (item_list_fault s items) (handled_fault (after_item_list s items) l handled)
+
+part_fault_of : (n : Count) (row : Row_of-Item n) (h : Handled) (s : State) (l : Bool) → either (items_fault s row) (handled_fault (after_items s row) l h) ≡ part_fault s l (items-the_row-Item n row) h
+part_fault_of n row h s l =
+    ap (λ f. either f (handled_fault (after_items s row) l h)) (items_fault_of n row s)
+    ∙ ap (λ t. either (item_list_fault s (items-the_row-Item n row)) (handled_fault t l h)) (after_items_of n row s)
 
 part_bodies_of : (n : Count) (row : Row_of-Item n) (h : Handled) (s : State) → items_bodies s row ++ handled_bodies (after_items s row) h ≡ part_bodies s (items-the_row-Item n row) h
 part_bodies_of n row h s =
@@ -225,6 +251,9 @@ after_text_is (BodyPart' n row h e) s = after_part_of _ row h s ∙ parts_in (af
 pub legal_text_is : (b : BodyPart) (s : State) → legal_text s b ≡ legal_part s false (out-BodyPart b).items.items (out-BodyPart b).handled
 legal_text_is (BodyPart' n row h e) s = legal_part_of _ row h s false ∙ parts_in (legal_part s false) (BodyPart' n row h e)
 
+pub text_fault_is : (b : BodyPart) (s : State) → text_of_body_fault s b ≡ part_fault s false (out-BodyPart b).items.items (out-BodyPart b).handled
+text_fault_is (BodyPart' n row h e) s = part_fault_of _ row h s false ∙ parts_in (part_fault s false) (BodyPart' n row h e)
+
 pub text_bodies_are : (b : BodyPart) (s : State) → text_bodies s b ≡ part_bodies s (out-BodyPart b).items.items (out-BodyPart b).handled
 text_bodies_are (BodyPart' n row h e) s = part_bodies_of _ row h s ∙ parts_in (part_bodies s) (BodyPart' n row h e)
 
@@ -258,6 +287,12 @@ legal_branch_is (Branch' e n row) s l =
     ap (λ c. is_condition (type_of s.env e.kind) && c) (legal_statements_of _ row s l ∙ ap (legal_statement_list s l) (statements_of b))
     ∙ ap (λ x. is_condition (type_of s.env x.kind) && legal_statement_list s l (out-Branch b).statements.items) (condition_of b)
 
+pub branch_fault_is : (b : Branch) (s : State) (l : Bool) → branch_fault s l b ≡ either (fault_of_one s.env (asked.Of Boolean) (out-Branch b).condition) (statement_list_fault s l (out-Branch b).statements.items)
+branch_fault_is (Branch' e n row) s l =
+    let b = Branch' e n row in
+    ap (λ f. either (fault_of_one s.env (asked.Of Boolean) e) f) (statements_fault_of _ row s l ∙ ap (statement_list_fault s l) (statements_of b))
+    ∙ ap (λ x. either (fault_of_one s.env (asked.Of Boolean) x) (statement_list_fault s l (out-Branch b).statements.items)) (condition_of b)
+
 pub branch_bodies_are : (b : Branch) (s : State) → branch_bodies s b ≡ statement_list_bodies s (out-Branch b).statements.items
 branch_bodies_are (Branch' e n row) s = statements_bodies_of _ row s ∙ ap (statement_list_bodies s) (statements_of (Branch' e n row))
 
@@ -282,6 +317,14 @@ legal_if bs ss s l =
     ap (λ b. b && legal_statements (after_branches s r.1) l q.1) (legal_branches_of r.0 r.1 s l ∙ ap (legal_branch_list s l) (items_hidden-the_row-Branch-0 bs))
     ∙ ap (λ t. legal_branch_list s l bs.items && legal_statements t l q.1) (after_branches_of r.0 r.1 s ∙ ap (after_branch_list s) (items_hidden-the_row-Branch-0 bs))
     ∙ ap (λ b. legal_branch_list s l bs.items && b) (legal_statements_of q.0 q.1 (after_branch_list s bs.items) l ∙ ap (legal_statement_list (after_branch_list s bs.items) l) (items_hidden-the_row-Statement-1 ss))
+
+pub if_fault : (bs : _) (ss : _) (s : State) (l : Bool) (at : Span) → statement_fault s l at (k.If bs ss) ≡ either (branch_list_fault s l bs.items) (statement_list_fault (after_branch_list s bs.items) l ss.items)
+if_fault bs ss s l at =
+    let r = if_branches (k.If bs ss) in
+    let q = if_others (k.If bs ss) in
+    ap (λ f. either f (statements_fault (after_branches s r.1) l q.1)) (branches_fault_of r.0 r.1 s l ∙ ap (branch_list_fault s l) (items_hidden-the_row-Branch-0 bs))
+    ∙ ap (λ t. either (branch_list_fault s l bs.items) (statements_fault t l q.1)) (after_branches_of r.0 r.1 s ∙ ap (after_branch_list s) (items_hidden-the_row-Branch-0 bs))
+    ∙ ap (λ f. either (branch_list_fault s l bs.items) f) (statements_fault_of q.0 q.1 (after_branch_list s bs.items) l ∙ ap (statement_list_fault (after_branch_list s bs.items) l) (items_hidden-the_row-Statement-1 ss))
 
 pub if_bodies : (bs : _) (ss : _) (s : State) → statement_bodies s (k.If bs ss) ≡ branch_list_bodies s bs.items ++ statement_list_bodies (after_branch_list s bs.items) ss.items
 if_bodies bs ss s =
@@ -332,6 +375,17 @@ legal_loop_is (Scheme.For id reverse low high) ss s l =
     let r = loop_statements (k.Loop (Scheme.For id reverse low high) ss) in
     ap (λ b. (legal_bound (hidden_each (id ∷ []) s.env) low && legal_bound (hidden_each (id ∷ []) s.env) high) && b) (legal_statements_of r.0 r.1 (in_loop s id) true ∙ ap (legal_statement_list (in_loop s id) true) (items_hidden-the_row-Statement-1 ss))
 
+pub loop_fault_is : (scheme : Scheme) (ss : _) (s : State) (l : Bool) (at : Span) → statement_fault s l at (k.Loop scheme ss) ≡ loop_fault s scheme ss.items
+loop_fault_is Scheme.Endless ss s l at =
+    let r = loop_statements (k.Loop Scheme.Endless ss) in
+    statements_fault_of r.0 r.1 s true ∙ ap (statement_list_fault s true) (items_hidden-the_row-Statement-1 ss)
+loop_fault_is (Scheme.While e) ss s l at =
+    let r = loop_statements (k.Loop (Scheme.While e) ss) in
+    ap (λ f. either (fault_of_one s.env (asked.Of Boolean) e) f) (statements_fault_of r.0 r.1 s true ∙ ap (statement_list_fault s true) (items_hidden-the_row-Statement-1 ss))
+loop_fault_is (Scheme.For id reverse low high) ss s l at =
+    let r = loop_statements (k.Loop (Scheme.For id reverse low high) ss) in
+    ap (λ f. either (bounds_fault (hidden_each (id ∷ []) s.env) low high) f) (statements_fault_of r.0 r.1 (in_loop s id) true ∙ ap (statement_list_fault (in_loop s id) true) (items_hidden-the_row-Statement-1 ss))
+
 pub loop_bodies_are : (scheme : Scheme) (ss : _) (s : State) → statement_bodies s (k.Loop scheme ss) ≡ loop_bodies s scheme ss.items
 loop_bodies_are Scheme.Endless ss s =
     let r = loop_statements (k.Loop Scheme.Endless ss) in
@@ -371,6 +425,11 @@ pub legal_block : (is : _) (h : Handled) (s : State) (l : Bool) → legal_statem
 legal_block is h s l =
     let r = block_items (k.Block is h) in
     legal_part_of r.0 r.1 h (in_block s) l ∙ ap (λ xs. legal_part (in_block s) l xs h) (items_hidden-the_row-Item-2 is)
+
+pub block_fault : (is : _) (h : Handled) (s : State) (l : Bool) (at : Span) → statement_fault s l at (k.Block is h) ≡ part_fault (in_block s) l is.items h
+block_fault is h s l at =
+    let r = block_items (k.Block is h) in
+    part_fault_of r.0 r.1 h (in_block s) l ∙ ap (λ xs. part_fault (in_block s) l xs h) (items_hidden-the_row-Item-2 is)
 
 pub block_bodies : (is : _) (h : Handled) (s : State) → statement_bodies s (k.Block is h) ≡ part_bodies (in_block s) is.items h
 block_bodies is h s =

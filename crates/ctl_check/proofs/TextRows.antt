@@ -1,5 +1,5 @@
 -- String expressions, read from their parts: rows of the tree as lists.
-use Rattle.std.proofs.Common.{◌≡◌, ℕ, ◌+◌, ◌<◌, Bool, true, false, List, [], ◌∷◌, ◌++◌, length, get_or, drop, None, refl, sym, ap, subst, ◌∙◌, append_assoc}
+use Rattle.std.proofs.Common.{◌≡◌, ℕ, ◌+◌, ◌<◌, Bool, true, List, [], ◌∷◌, ◌++◌, length, get_or, drop, None, refl, sym, ap, subst, ◌∙◌, append_assoc}
 use Rattle.std.specs.Prelude.{◌&&◌}
 use Rattle.std.proofs.lemmas.List.{append-nil}
 use mathlib.Core.Former.{Count}
@@ -8,12 +8,10 @@ use Rattle.ctl_tree.specs.declared.tree.Addend.{Addend}
 use Rattle.ctl_tree.specs.declared.tree.Expression.{Expression}
 use Rattle.ctl_tree.specs.declared.tree.Suffix.{Suffix}
 use Rattle.ctl_tree.specs.declared.tree.Name.{Name}
-use Rattle.ctl_tree.specs.declared.tree.ExpressionKind.{ExpressionKind, Sum', Row_of-Addend, end_of-Addend, more_of-Addend, items-the_row-Addend, items_hidden-the_row-Addend-1, items_hidden-the_row-Suffix-3}
+use Rattle.ctl_tree.specs.declared.tree.ExpressionKind.{ExpressionKind, Row_of-Addend, end_of-Addend, more_of-Addend, items-the_row-Addend, items_hidden-the_row-Addend-1, items_hidden-the_row-Suffix-3}
 use Rattle.ctl_tree.specs.declared.tree.ExpressionKind.TheVariants as k
-use Rattle.ctl_check.specs.declared.refusal.Refusal.{Refusal}
 use Rattle.ctl_check.specs.Environment.{Env, used}
-use Rattle.ctl_check.specs.Refusals.{IsAnswered}
-use Rattle.ctl_check.proofs.Refused.{unmet_by}
+use Rattle.ctl_check.proofs.ExpressionRows.{addend_row}
 use Rattle.ctl_check.proofs.Turns.{drop_one}
 use Rattle.ctl_check.specs.Texts.{is_text, is_joining, row_texts, texts, operands, row_operands, list_operands, is_image, image_type, image_argument, ImageMeans, PieceMeans, PiecesMean, AddsPieces}
 
@@ -24,10 +22,6 @@ texts_of_row v n (more_of-Addend o s e rest) = ap (λ b. (is_joining o && is_tex
 operands_of_row : (n : Count) (row : Row_of-Addend n) → row_operands row ≡ list_operands (items-the_row-Addend n row)
 operands_of_row n end_of-Addend = refl
 operands_of_row n (more_of-Addend o s e rest) = ap (λ ks. operands e ++ ks) (operands_of_row _ rest)
-
-abbrev addend_row : ExpressionKind → (n : Count) × Row_of-Addend n
-addend_row (Sum' _ _ _ _ _ row) = (_, row)
-addend_row _ = (_, end_of-Addend)
 
 pub sum_text : (v : Env) (first : _) (more : _) → is_text v (k.Sum None first more) ≡ is_text v first.value.kind && texts v more.items
 sum_text v first more =
@@ -74,16 +68,6 @@ sum_operands_are x first more e es is same rest = ap operands is ∙ sum_operand
 
 pub texts_turn : (v : Env) (more : List Addend) (i : ℕ) (a : Addend) (whole : Bool) → i < length more → a ≡ get_or more i a → is_joining a.operator ≡ true → is_text v a.term.kind ≡ true → texts v (drop i more) ≡ whole → texts v (drop (i + 1) more) ≡ whole
 texts_turn v more i a whole lt at j t h = sym (ap (texts v) (drop_one more i a lt at) ∙ ap (λ b. (b && is_text v a.term.kind) && texts v (drop (i + 1) more)) j ∙ ap (λ b. (true && b) && texts v (drop (i + 1) more)) t) ∙ h
-
-pub texts_refused : (v : Env) (more : List Addend) (i : ℕ) (a : Addend) (whole : Bool) → i < length more → a ≡ get_or more i a → is_joining a.operator && is_text v a.term.kind ≡ false → texts v (drop i more) ≡ whole → whole ≡ false
-texts_refused v more i a whole lt at e h = sym h ∙ ap (texts v) (drop_one more i a lt at) ∙ ap (λ b. b && texts v (drop (i + 1) more)) e
-
-and_false : (b : Bool) → b && false ≡ false
-and_false true = refl
-and_false false = refl
-
-pub text_refused : (v : Env) (more : List Addend) (i : ℕ) (a : Addend) (whole : Bool) (e : Refusal) → i < length more → a ≡ get_or more i a → texts v (drop i more) ≡ whole → IsAnswered (is_text v a.term.kind) e → IsAnswered whole e
-text_refused v more i a whole e lt at h r = unmet_by (is_text v a.term.kind) whole e (λ no. texts_refused v more i a whole lt at (ap (λ b. is_joining a.operator && b) no ∙ and_false (is_joining a.operator)) h) r
 
 pub pieces_turn : (v : Env) (more : List Addend) (i : ℕ) (a : Addend) (old now next : List Piece) → i < length more → a ≡ get_or more i a → AddsPieces v (operands a.term.kind) now next → ((new : List Piece) → AddsPieces v (list_operands (drop i more)) now new → AddsPieces v (list_operands more) old new) → (new : List Piece) → AddsPieces v (list_operands (drop (i + 1) more)) next new → AddsPieces v (list_operands more) old new
 pieces_turn v more i a old now next lt at one h new rest = h new (subst (λ (zs : List Addend). AddsPieces v (list_operands zs) now new) (sym (drop_one more i a lt at)) (adds_both v (operands a.term.kind) (list_operands (drop (i + 1) more)) now next new one rest))

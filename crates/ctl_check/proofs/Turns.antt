@@ -4,12 +4,9 @@ use Rattle.std.proofs.lemmas.List.{drop_more, append-nil}
 use Rattle.ctl_tree.specs.declared.checked.Ty.{Ty}
 use Rattle.ctl_tree.specs.declared.tree.Addend.{Addend}
 use Rattle.ctl_tree.specs.declared.tree.Multiplicand.{Multiplicand}
-use Rattle.ctl_check.specs.declared.refusal.Refusal.{Refusal}
 use Rattle.ctl_check.specs.Environment.{Env}
 use Rattle.ctl_check.specs.Operators.{adding_operator, multiplying_operator, two_operands}
 use Rattle.ctl_check.specs.Expressions.{type_of, added_type, addends_type, multiplicands_type}
-use Rattle.ctl_check.specs.Refusals.{IsUntyped}
-use Rattle.ctl_check.proofs.Refused.{untyped_addends, untyped_multiplicands}
 
 pub drop_one : {A : Type 0} (xs : List A) (i : ℕ) (x : A) → i < length xs → x ≡ get_or xs i x → drop i xs ≡ x ∷ drop (i + 1) xs
 drop_one xs i x lt at = drop_more xs i x lt ∙ ap (λ y. y ∷ drop (i + 1) xs) (sym at)
@@ -32,14 +29,8 @@ addend_first v more i a t lt at = ap (addends_type v t) (drop_one more i a lt at
 pub addend_turn : (v : Env) (more : List Addend) (i : ℕ) (a : Addend) (t u whole : Option Ty) → i < length more → a ≡ get_or more i a → added_type (adding_operator a.operator) t (type_of v a.term.kind) ≡ u → addends_type v t (drop i more) ≡ whole → addends_type v u (drop (i + 1) more) ≡ whole
 addend_turn v more i a t u whole lt at e h = ap (λ (w : Option Ty). addends_type v w (drop (i + 1) more)) (sym e) ∙ sym (addend_first v more i a t lt at) ∙ h
 
-pub addend_refused : (v : Env) (more : List Addend) (i : ℕ) (a : Addend) (t whole : Option Ty) (e : Refusal) → i < length more → a ≡ get_or more i a → addends_type v t (drop i more) ≡ whole → IsUntyped (added_type (adding_operator a.operator) t (type_of v a.term.kind)) e → IsUntyped whole e
-addend_refused v more i a t whole e lt at h r = subst (λ (w : Option Ty). IsUntyped w e) (sym (addend_first v more i a t lt at) ∙ h) (untyped_addends v (added_type (adding_operator a.operator) t (type_of v a.term.kind)) (drop (i + 1) more) e r)
-
 multiplicand_first : (v : Env) (more : List Multiplicand) (i : ℕ) (m : Multiplicand) (t : Option Ty) → i < length more → m ≡ get_or more i m → multiplicands_type v t (drop i more) ≡ multiplicands_type v (two_operands (multiplying_operator m.operator) t (type_of v m.factor.kind)) (drop (i + 1) more)
 multiplicand_first v more i m t lt at = ap (multiplicands_type v t) (drop_one more i m lt at)
 
 pub multiplicand_turn : (v : Env) (more : List Multiplicand) (i : ℕ) (m : Multiplicand) (t u whole : Option Ty) → i < length more → m ≡ get_or more i m → two_operands (multiplying_operator m.operator) t (type_of v m.factor.kind) ≡ u → multiplicands_type v t (drop i more) ≡ whole → multiplicands_type v u (drop (i + 1) more) ≡ whole
 multiplicand_turn v more i m t u whole lt at e h = ap (λ (w : Option Ty). multiplicands_type v w (drop (i + 1) more)) (sym e) ∙ sym (multiplicand_first v more i m t lt at) ∙ h
-
-pub multiplicand_refused : (v : Env) (more : List Multiplicand) (i : ℕ) (m : Multiplicand) (t whole : Option Ty) (e : Refusal) → i < length more → m ≡ get_or more i m → multiplicands_type v t (drop i more) ≡ whole → IsUntyped (two_operands (multiplying_operator m.operator) t (type_of v m.factor.kind)) e → IsUntyped whole e
-multiplicand_refused v more i m t whole e lt at h r = subst (λ (w : Option Ty). IsUntyped w e) (sym (multiplicand_first v more i m t lt at) ∙ h) (untyped_multiplicands v (two_operands (multiplying_operator m.operator) t (type_of v m.factor.kind)) (drop (i + 1) more) e r)

@@ -5,10 +5,7 @@ use Rattle.ctl_tree.specs.declared.checked.RecordType.{RecordType}
 use Rattle.ctl_tree.specs.declared.tree.BodyPart.{BodyPart}
 use Rattle.ctl_tree.specs.declared.tree.Tree.{Tree}
 use Rattle.ctl_check.specs.declared.checker.Pending.{Pending}
-use Rattle.ctl_check.specs.declared.refusal.Refusal.{Refusal}
-use Rattle.ctl_check.specs.declared.refusal.Refusal.TheVariants.{Illegal, Memory}
 use Rattle.ctl_check.specs.Marks.{is_own_name}
-use Rattle.ctl_check.specs.Refusals.{IsAnswered}
 use Rattle.ctl_check.specs.State.{State, Promise, Entered, in_block, shapes_of, lacks_body, are_complete, with_body_at, behind_whole_body}
 use Rattle.ctl_check.specs.Parts.{legal_body, legal_text, after_body, after_text, own_bodies, text_bodies}
 use Rattle.ctl_check.specs.Program.{main_state, main_body, is_legal, end_state, left_by_types, AreShapes}
@@ -42,31 +39,11 @@ both : (a b : Bool) → a ≡ true → b ≡ true → (a && b) ≡ true
 both true b e f = f
 both false b e f = e
 
-neither : (a b : Bool) → a ≡ false → (a && b) ≡ false
-neither a b e = rw e
-
-nor : (a b : Bool) → b ≡ false → (a && b) ≡ false
-nor true b e = e
-nor false b e = refl
-
 pub legal_all : (t : Tree) (s : State) (ps : List Promise) → is_own_name t.name ≡ true → s ≡ main_state t → ps ≡ (at_end s t.body).promises → legal_within s t.body ≡ true → lacks_body (slice_get ps 0) ≡ true → are_complete (with_body_at ps 0) ≡ true → is_legal t ≡ true
 legal_all t s ps o e f l m n =
     let lacks : lacks_body (slice_get (at_end s t.body).promises 0) ≡ true = ap (λ qs. lacks_body (slice_get qs 0)) (sym f) ∙ m in
     let complete : are_complete (with_body_at (at_end s t.body).promises 0) ≡ true = ap (λ qs. are_complete (with_body_at qs 0)) (sym f) ∙ n in
     is_legal_by t s e ∙ both _ _ o (both _ _ (both _ _ l lacks) complete)
-
-answered : (x y : Bool) (r : Refusal) → (x ≡ false → y ≡ false) → IsAnswered x r → IsAnswered y r
-answered x y Illegal f h = f h
-answered x y Memory f h = tt
-
-pub refused_within : (t : Tree) (s : State) (r : Refusal) → s ≡ main_state t → IsAnswered (legal_within s t.body) r → IsAnswered (is_legal t) r
-refused_within t s r e h = answered _ _ r (λ x. is_legal_by t s e ∙ nor _ _ (neither _ _ (neither _ _ x))) h
-
-pub refused_twice : (t : Tree) (s : State) (ps : List Promise) (r : Refusal) → s ≡ main_state t → ps ≡ (at_end s t.body).promises → IsAnswered (lacks_body (slice_get ps 0)) r → IsAnswered (is_legal t) r
-refused_twice t s ps r e f h = answered _ _ r (λ x. is_legal_by t s e ∙ nor _ _ (neither _ _ (nor _ _ (ap (λ qs. lacks_body (slice_get qs 0)) (sym f) ∙ x)))) h
-
-pub refused_incomplete : (t : Tree) (s : State) (ps : List Promise) (r : Refusal) → s ≡ main_state t → ps ≡ (at_end s t.body).promises → IsAnswered (are_complete (with_body_at ps 0)) r → IsAnswered (is_legal t) r
-refused_incomplete t s ps r e f h = answered _ _ r (λ x. is_legal_by t s e ∙ nor _ _ (nor _ _ (ap (λ qs. are_complete (with_body_at qs 0)) (sym f) ∙ x))) h
 
 -- ---- the tables
 

@@ -1,5 +1,5 @@
 -- The body of an operation, and a branch of an if statement.
-use Rattle.std.proofs.Common.{◌≡◌, ℕ, Bool, true, false, ◌&&◌, List, [], ◌∷◌, ◌++◌, Option, Some, slice_get, refl, sym, ap, subst, ◌∙◌, append_assoc}
+use Rattle.std.proofs.Common.{◌≡◌, ℕ, Bool, true, ◌&&◌, List, [], ◌∷◌, ◌++◌, Option, Some, slice_get, refl, sym, ap, subst, ◌∙◌, append_assoc}
 use Rattle.ctl_tree.specs.declared.checked.Ty.{Ty}
 use Rattle.ctl_tree.specs.declared.checked.Ty.TheVariants.{Boolean}
 use Rattle.ctl_tree.specs.declared.checked.Master.{Master}
@@ -13,11 +13,11 @@ use Rattle.ctl_legality.specs.Sites.{completed_body}
 use Rattle.ctl_check.specs.declared.checker.Checker.{Checker}
 use Rattle.ctl_check.specs.declared.declarations.Overridden.{Overridden}
 use Rattle.ctl_check.specs.Expressions.{type_of, is_condition}
-use Rattle.ctl_check.specs.State.{State, Entered, state_of, promises_of, in_block, behind_block, with_formals, with_body_at, lacks_body, overridden_in, entered, entered_for, entered_by, enter_body, behind_whole_body}
+use Rattle.ctl_check.specs.State.{State, Entered, state_of, promises_of, in_block, behind_block, with_formals, with_body_at, overridden_in, entered, entered_for, entered_by, enter_body, behind_whole_body}
 use Rattle.ctl_check.specs.Parts.{BodyText, after_body, after_text, legal_body, legal_text, is_its_first, own_bodies, text_bodies, after_branch, after_statement_list, legal_branch, legal_statement_list, branch_bodies, statement_list_bodies}
 use Rattle.ctl_check.specs.Program.{TextMeans}
 use Rattle.ctl_check.specs.Reading.{Grows, Reads, AreRead, IsReadAt}
-use Rattle.ctl_check.proofs.Following.{reads_as, read_more, both_true, second_false}
+use Rattle.ctl_check.proofs.Following.{reads_as, read_more, both_true}
 use Rattle.ctl_check.proofs.StatementRows.{after_branch_is, legal_branch_is, branch_bodies_are}
 
 -- ---- a body that was entered
@@ -50,11 +50,6 @@ body_reads a b c d part s h r number body m enters g w means completes reads =
     } in
     reads_as a d here _ _ _ _ (sym (after_entered s e body) ∙ ap (λ o. after_body s o body) (sym enters)) (sym (entered_bodies e body) ∙ ap (λ o. own_bodies o body) (sym enters)) one
 
-pub body_legal : (b c : Checker) (part : Part) (s : State) (h : Specification) (r number : ℕ) (body : BodyPart) (bodies : List BodyText) → enter_body s h ≡ Some (entered (state_of b part) number h r) → Reads b c part (behind_block (state_of b part) (after_text (with_formals (in_block (state_of b part)) h.formals.items r) body)) bodies → legal_body (enter_body s h) body ≡ (legal_text (with_formals (in_block (state_of b part)) h.formals.items r) body && lacks_body (slice_get (promises_of c.subprograms.items) number))
-body_legal b c part s h r number body bodies enters w =
-    let e = entered (state_of b part) number h r in
-    ap (λ o. legal_body o body) enters ∙ legal_entered e body ∙ ap (λ ps. legal_text e.inner body && lacks_body (slice_get ps number)) (sym (ap (λ (u : State). u.promises) w.state))
-
 -- ---- a branch
 
 condition_holds : (o : Option Ty) → o ≡ Some Boolean → is_condition o ≡ true
@@ -63,9 +58,6 @@ condition_holds o e = ap is_condition e
 pub branch_legal : (t : State) (l : Bool) (b : Branch) (ws : List Statement) → ws ≡ (out-Branch b).statements.items → type_of t.env (out-Branch b).condition.kind ≡ Some Boolean → legal_statement_list t l ws ≡ true → legal_branch t l b ≡ true
 branch_legal t l b ws same typed fits =
     legal_branch_is b t l ∙ both_true _ _ (condition_holds _ typed) (subst (λ ys. legal_statement_list t l ys ≡ true) same fits)
-
-pub branch_wrong : (t : State) (l : Bool) (b : Branch) (ws : List Statement) → ws ≡ (out-Branch b).statements.items → legal_statement_list t l ws ≡ false → legal_branch t l b ≡ false
-branch_wrong t l b ws same wrong = legal_branch_is b t l ∙ second_false _ _ (subst (λ ys. legal_statement_list t l ys ≡ false) same wrong)
 
 pub branch_reads : (a c : Checker) (p : Part) (b : Branch) (ws : List Statement) → ws ≡ (out-Branch b).statements.items → Reads a c p (after_statement_list (state_of a p) ws) (statement_list_bodies (state_of a p) ws) → Reads a c p (after_branch (state_of a p) b) (branch_bodies (state_of a p) b)
 branch_reads a c p b ws same r =

@@ -1,6 +1,6 @@
 //! Declarative parts and bodies (RM 3.11, 6.3).
 
-ghost use Rattle.std.specs.Prelude.{◌≡◌, ◌++◌, [], List, IfOk, IfErr, OnOk, length, true};
+ghost use Rattle.std.specs.Prelude.{◌≡◌, ◌++◌, [], List, IfOk, IfErr, OnOk, length, true, None};
 ghost use Rattle.ctl_tree.specs.declared.checked.Master.{out-Master};
 ghost use Rattle.ctl_check.specs.Environment.{env_of, closed};
 ghost use Rattle.ctl_check.specs.Objects.{Made, AreMade};
@@ -8,12 +8,14 @@ ghost use Rattle.ctl_check.specs.State.{state_of, in_block, behind_block, with_f
 ghost use Rattle.ctl_check.specs.Parts.{after_item, after_item_list, after_handled, after_body, after_text, legal_item, legal_item_list, legal_handled, legal_body, legal_text, made_by_item, made_by_list, item_bodies, item_list_bodies, handled_bodies, own_bodies, text_bodies, HandledMeans};
 ghost use Rattle.ctl_check.specs.Program.{TextMeans};
 ghost use Rattle.ctl_check.specs.Reading.{Grows, Reads};
-ghost use Rattle.ctl_check.specs.Refusals.{IsAnswered};
+ghost use Rattle.ctl_check.specs.Faults.{item_fault, item_list_fault, body_fault, handled_fault, text_of_body_fault};
+ghost use Rattle.ctl_check.specs.Refusals.{Tells};
 
 use crate::checker::{Checker, Count};
 use crate::refusal::Refusal;
 use ctl_legality::view::Part;
 use ctl_tree::checked::{Item as CheckedItem, Master, Stmt, Ty};
+use ctl_tree::fault::FaultCode;
 use ctl_tree::tree::{BodyPart, Definition, Formal, Handled, Item, ItemKind, Specification};
 use std::alloc::AllocError;
 
@@ -78,13 +80,13 @@ impl Checker {
         ensures legal { OnOk result (legal_handled (state_of self.old part) in_loop handled.now ≡ true) }
         ensures reads { OnOk result (Reads self.old self.new part (after_handled (state_of self.old part) handled.now) (handled_bodies (state_of self.old part) handled.now)) }
         ensures means { IfOk result (λ all. HandledMeans (state_of self.old part) handled.now all.items) }
-        ensures err { IfErr result (IsAnswered (legal_handled (state_of self.old part) in_loop handled.now)) }
+        ensures kept { OnOk result (handled_fault (state_of self.old part) in_loop handled.now ≡ None) }
+        ensures told { IfErr result (Tells (handled_fault (state_of self.old part) in_loop handled.now)) }
     {
         let body = self.statements(part, in_loop, &handled.statements)?;
-        if handled.handlers.is_empty() {
-            Ok(body)
-        } else {
-            Err(Refusal::Illegal)
+        match handled.handlers.as_slice() {
+            [] => Ok(body),
+            [handler, ..] => Err(Refusal::at(FaultCode::Type, handler.span)),
         }
     }
 
@@ -99,7 +101,8 @@ impl Checker {
         ensures legal { OnOk result (legal_item_list (state_of self.old part) items.now ≡ true) }
         ensures reads { IfOk result (λ behind. Reads self.old self.new behind (after_item_list (state_of self.old part) items.now) (item_list_bodies (state_of self.old part) items.now)) }
         ensures made { OnOk result ((done : List Made) → AreMade done all.old.items → AreMade (done ++ made_by_list (state_of self.old part) items.now) all.new.items) }
-        ensures err { IfErr result (IsAnswered (legal_item_list (state_of self.old part) items.now)) }
+        ensures kept { OnOk result (item_list_fault (state_of self.old part) items.now ≡ None) }
+        ensures told { IfErr result (Tells (item_list_fault (state_of self.old part) items.now)) }
     {
         let mut seen = part;
         for item in items {
@@ -115,11 +118,12 @@ impl Checker {
         ensures legal { OnOk result (legal_item (state_of self.old part) item.now.kind ≡ true) }
         ensures reads { IfOk result (λ behind. Reads self.old self.new behind (after_item (state_of self.old part) item.now.kind) (item_bodies (state_of self.old part) item.now.kind)) }
         ensures made { OnOk result ((done : List Made) → AreMade done all.old.items → AreMade (done ++ made_by_item (state_of self.old part) item.now.kind) all.new.items) }
-        ensures err { IfErr result (IsAnswered (legal_item (state_of self.old part) item.now.kind)) }
+        ensures kept { OnOk result (item_fault (state_of self.old part) item.now.span item.now.kind ≡ None) }
+        ensures told { IfErr result (Tells (item_fault (state_of self.old part) item.now.span item.now.kind)) }
     {
         match &item.kind {
             ItemKind::Type(name, Definition::Extension(parent, components)) => {
-                self.extension(part, name, parent, components)?;
+                self.extension(part, item.span, name, parent, components)?;
                 Ok(part)
             }
             ItemKind::Declaration(_, heading) => {
@@ -134,10 +138,10 @@ impl Checker {
                 })
             }
             ItemKind::Objects(objects) => {
-                self.objects(part, objects, all)?;
+                self.objects(part, item.span, objects, all)?;
                 Ok(part)
             }
-            _ => Err(Refusal::Illegal),
+            _ => Err(Refusal::at(FaultCode::Type, item.span)),
         }
     }
 
@@ -146,14 +150,16 @@ impl Checker {
     fn body(&mut self, part: Part, heading: &Specification, body: &BodyPart) -> Result<(), Refusal>
         ensures legal { OnOk result (legal_body (enter_body (state_of self.old part) heading.now) body.now ≡ true) }
         ensures reads { OnOk result (Reads self.old self.new (record part { has_body = true }) (after_body (state_of self.old part) (enter_body (state_of self.old part) heading.now) body.now) (own_bodies (enter_body (state_of self.old part) heading.now) body.now)) }
-        ensures err { IfErr result (IsAnswered (legal_body (enter_body (state_of self.old part) heading.now) body.now)) }
+        ensures kept { OnOk result (body_fault heading.now (enter_body (state_of self.old part) heading.now) body.now ≡ None) }
+        ensures told { IfErr result (Tells (body_fault heading.now (enter_body (state_of self.old part) heading.now) body.now)) }
     {
+        let at = heading.name.span;
         let Some(overridden) = self.overridden(part, heading)? else {
-            return Err(Refusal::Illegal);
+            return Err(Refusal::at(FaultCode::Override, at));
         };
         let number = self.operation_of_body(part, heading, overridden)?;
         let master = self.inner_body(part, &heading.formals, overridden.number, body)?;
-        self.complete(number, master)?;
+        self.complete(at, number, master)?;
         Ok(())
     }
 
@@ -169,7 +175,8 @@ impl Checker {
         ensures legal { OnOk result (legal_text (with_formals (in_block (state_of self.old part)) formals.now type_number) body.now ≡ true) }
         ensures reads { OnOk result (Reads self.old self.new part (behind_block (state_of self.old part) (after_text (with_formals (in_block (state_of self.old part)) formals.now type_number) body.now)) (text_bodies (with_formals (in_block (state_of self.old part)) formals.now type_number) body.now)) }
         ensures means { IfOk result (λ master. TextMeans (with_formals (in_block (state_of self.old part)) formals.now type_number) body.now master) }
-        ensures err { IfErr result (IsAnswered (legal_text (with_formals (in_block (state_of self.old part)) formals.now type_number) body.now)) }
+        ensures kept { OnOk result (text_of_body_fault (with_formals (in_block (state_of self.old part)) formals.now type_number) body.now ≡ None) }
+        ensures told { IfErr result (Tells (text_of_body_fault (with_formals (in_block (state_of self.old part)) formals.now type_number) body.now)) }
     {
         let region = self.open(part);
         self.formals(region.inner, formals, type_number)?;

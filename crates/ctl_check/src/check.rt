@@ -1,7 +1,8 @@
 //! The check of a whole text.
 
-ghost use Rattle.std.specs.Prelude.{◌≡◌, [], IfOk, IfErr, OnOk, None, true, false};
-ghost use Rattle.ctl_check.specs.Refusals.{IsOfProgram, IsAnswered, IsTypeFault, IsLeftOutFault, IsLeftByTypes};
+ghost use Rattle.std.specs.Prelude.{◌≡◌, [], IfOk, IfErr, OnOk, None, Some, true, false};
+ghost use Rattle.ctl_check.specs.Faults.{program_fault};
+ghost use Rattle.ctl_check.specs.Refusals.{IsOfProgram, IsRefusedProgram, Tells};
 ghost use Rattle.ctl_legality.specs.View.{library_part};
 ghost use Rattle.ctl_names.specs.Judging.{view_of};
 ghost use Rattle.ctl_check.specs.State.{state_of};
@@ -26,8 +27,8 @@ use std::alloc::{AllocError, Global};
 ///
 /// # Errors
 ///
-/// TYPE at 1:1 where a rule of legality is broken; where none is, LEFT_OUT at the first place where a record is assigned or given
-/// a value, which this version does not run; and MEMORY.
+/// TYPE, MODE, OVERRIDE, RANGE or RETURN at the place of the first rule that is broken, in the order of the text; where none is,
+/// LEFT_OUT at the first place where a record is assigned or given a value, which this version does not run; and MEMORY.
 pub fn check(alloc: Global, tree: &Tree) -> Result<Checked, Fault>
     ensures exceptions { IfOk result (λ program. program.exceptions.items ≡ predefined_names) }
     ensures accesses { IfOk result (λ program. program.accesses.items ≡ []) }
@@ -35,8 +36,7 @@ pub fn check(alloc: Global, tree: &Tree) -> Result<Checked, Fault>
     ensures legal { IfOk result (λ program. is_legal tree.now ≡ true) }
     ensures program { IfOk result (λ program. IsProgram tree.now program) }
     ensures all_run { IfOk result (λ program. left_by_types tree.now ≡ None) }
-    ensures illegal { IfErr result (λ fault. IsTypeFault fault → is_legal tree.now ≡ false) }
-    ensures left_out { IfErr result (λ fault. IsLeftOutFault fault → IsLeftByTypes tree.now fault) }
+    ensures because { IfErr result (λ fault. IsRefusedProgram tree.now fault) }
 {
     let (program, left_out) = checked(alloc, tree)?;
     match left_out {
@@ -52,10 +52,11 @@ fn checked(alloc: Global, tree: &Tree) -> Result<(Checked, Option<Span>), Refusa
     ensures legal { OnOk result (is_legal tree.now ≡ true) }
     ensures program { IfOk result (λ x. IsProgram tree.now x.0) }
     ensures left_out { IfOk result (λ x. x.1 ≡ left_by_types tree.now) }
-    ensures illegal { IfErr result (IsAnswered (is_legal tree.now)) }
+    ensures kept { OnOk result (program_fault tree.now ≡ None) }
+    ensures told { IfErr result (Tells (program_fault tree.now)) }
 {
     if !is_own_name(alloc, &tree.name)? {
-        return Err(Refusal::Illegal);
+        return Err(Refusal::at(FaultCode::Override, tree.name.span));
     }
     let library = library();
     let mut checker = Checker::new(alloc, &tree.contexts)?;
@@ -64,9 +65,9 @@ fn checked(alloc: Global, tree: &Tree) -> Result<(Checked, Option<Span>), Refusa
     let entity = Entity::Subprogram(true);
     checker.declare(library, name, tree.name.span, entity, Kind::Other)?;
     let body = checker.inner_body(library, &[], 0, &tree.body)?;
-    checker.complete(main, body)?;
+    checker.complete(tree.span, main, body)?;
     let left_out = checker.left_out;
-    let (records, subprograms) = checker.finish()?;
+    let (records, subprograms) = checker.finish(tree.span)?;
     let program = Checked {
         exceptions: predefined(alloc)?,
         records,

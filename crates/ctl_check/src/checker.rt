@@ -7,13 +7,16 @@ ghost use Rattle.ctl_check.specs.State.{state_of, noted, promises_of, with_promi
 ghost use Rattle.ctl_check.specs.Parts.{BodyText};
 ghost use Rattle.ctl_check.specs.Program.{TextMeans, AreProcedures, AreBodies};
 ghost use Rattle.ctl_check.specs.Reading.{Grows, AreRead, IsReadAt, IsCompleted};
-ghost use Rattle.ctl_check.specs.Refusals.{IsAnswered};
+ghost use Rattle.ctl_check.specs.ExpressionFaults.{unless};
+ghost use Rattle.ctl_tree.specs.declared.fault.FaultCode.TheVariants as code;
+ghost use Rattle.ctl_check.specs.Refusals.{Tells};
 
 use crate::kinds::Kind;
 use crate::refusal::Refusal;
 use ctl_legality::view::{Entity, Part};
 use ctl_names::walk::Walk;
 use ctl_tree::checked::{Master, RecordType, Subprogram};
+use ctl_tree::fault::FaultCode;
 use ctl_tree::span::Span;
 use std::alloc::{AllocError, Global};
 
@@ -104,18 +107,18 @@ impl Checker {
         Ok(number)
     }
 
-    /// The body of a subprogram, which must have none yet.
-    pub fn complete(&mut self, number: usize, body: Master) -> Result<(), Refusal>
+    /// The body of a subprogram, which must have none yet; its name stands at a place.
+    pub fn complete(&mut self, at: Span, number: usize, body: Master) -> Result<(), Refusal>
         ensures first { OnOk result (lacks_body (slice_get (promises_of self.old.subprograms.items) number) ≡ true) }
         ensures grows { OnOk result ((part : Part) → Grows self.old self.new part (record (state_of self.old part) { promises = with_body_at (promises_of self.old.subprograms.items) number })) }
         ensures read { OnOk result ((b : BodyText) → b.number ≡ number → TextMeans b.state b.text body → IsReadAt b (slice_get self.new.subprograms.items number)) }
-        ensures err { IfErr result (IsAnswered (lacks_body (slice_get (promises_of self.old.subprograms.items) number))) }
+        ensures told { IfErr result (Tells (unless (lacks_body (slice_get (promises_of self.old.subprograms.items) number)) code.Override at)) }
     {
         match self.subprograms.get_mut(number) {
-            None => Err(Refusal::Illegal),
+            None => Err(Refusal::at(FaultCode::Override, at)),
             Some(pending) => {
                 if pending.body.is_some() {
-                    return Err(Refusal::Illegal);
+                    return Err(Refusal::at(FaultCode::Override, at));
                 }
                 pending.body = Some(body);
                 Ok(())
@@ -123,13 +126,13 @@ impl Checker {
         }
     }
 
-    /// The tables of types and subprograms.
-    pub fn finish(self) -> Result<(Vec<RecordType>, Vec<Subprogram>), Refusal>
+    /// The tables of types and subprograms, of a text whose procedure stands at a place.
+    pub fn finish(self, at: Span) -> Result<(Vec<RecordType>, Vec<Subprogram>), Refusal>
         ensures complete { OnOk result (are_complete (promises_of self.subprograms.items) ≡ true) }
         ensures records { IfOk result (λ tables. tables.0.items ≡ self.records.items) }
         ensures procedures { IfOk result (λ tables. AreProcedures (promises_of self.subprograms.items) tables.1.items) }
         ensures bodies { IfOk result (λ tables. (bs : List BodyText) → AreRead bs self.subprograms.items → AreBodies bs tables.1.items) }
-        ensures err { IfErr result (IsAnswered (are_complete (promises_of self.subprograms.items))) }
+        ensures told { IfErr result (Tells (unless (are_complete (promises_of self.subprograms.items)) code.Type at)) }
     {
         let Checker {
             alloc,
@@ -142,16 +145,16 @@ impl Checker {
         } = self;
         let mut all = Vec::new(alloc);
         for pending in subprograms {
-            all.push(completed(pending)?)?;
+            all.push(completed(at, pending)?)?;
         }
         Ok((records, all))
     }
 }
 
-/// The subprogram, once its body was read.
-fn completed(pending: Pending) -> Result<Subprogram, Refusal>
+/// The subprogram, once its body was read, of a text whose procedure stands at a place.
+fn completed(at: Span, pending: Pending) -> Result<Subprogram, Refusal>
     ensures completed { IfOk result (IsCompleted pending) }
-    ensures err { IfErr result (IsAnswered (is_some pending.body)) }
+    ensures told { IfErr result (Tells (unless (is_some pending.body) code.Type at)) }
 {
     let Pending { level, body } = pending;
     match body {
@@ -160,6 +163,6 @@ fn completed(pending: Pending) -> Result<Subprogram, Refusal>
             is_function: false,
             body,
         }),
-        None => Err(Refusal::Illegal),
+        None => Err(Refusal::at(FaultCode::Type, at)),
     }
 }

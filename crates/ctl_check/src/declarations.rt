@@ -1,12 +1,15 @@
 //! Declarations of types and of their operations (RM 7.6, 13.14).
 
-ghost use Rattle.std.specs.Prelude.{◌≡◌, ◌&&◌, IfOk, IfErr, OnOk, length, true, is_some, Some};
+ghost use Rattle.std.specs.Prelude.{◌≡◌, ◌&&◌, IfOk, IfErr, OnOk, length, true, is_some, Some, None};
+ghost use Rattle.ctl_tree.specs.declared.fault.FaultCode.TheVariants as code;
 ghost use Rattle.ctl_legality.specs.Sites.{completed_body};
 ghost use Rattle.ctl_check.specs.Environment.{env_of};
 ghost use Rattle.ctl_check.specs.Marks.{is_own_name};
 ghost use Rattle.ctl_check.specs.State.{state_of, promises_of, no_operations, parent_in, is_plain_extension, is_controlled_type, mark_of, with_type, overridden_type, overridden_in, with_operation, new_operation, with_heading, with_declaration, entered, entered_for};
 ghost use Rattle.ctl_check.specs.Reading.{Grows, IsPlain};
-ghost use Rattle.ctl_check.specs.Refusals.{IsAnswered};
+ghost use Rattle.ctl_check.specs.ExpressionFaults.{unless};
+ghost use Rattle.ctl_check.specs.Faults.{extension_fault, override_fault};
+ghost use Rattle.ctl_check.specs.Refusals.{Tells};
 
 use crate::checker::Checker;
 use crate::kinds::Kind;
@@ -18,6 +21,8 @@ use ctl_names::declarations::heading_key;
 use ctl_names::library::operation_named;
 use ctl_names::walk::folded;
 use ctl_tree::checked::{Operations, RecordType, Root};
+use ctl_tree::fault::FaultCode;
+use ctl_tree::span::Span;
 use ctl_tree::tree::{ComponentDeclaration, Dotted, Identifier, Specification};
 use std::alloc::{AllocError, Global};
 
@@ -98,24 +103,26 @@ fn mark_of(parent: Option<LibraryName>) -> Mark
 }
 
 impl Checker {
-    /// An extension of a controlled type of the library by no component.
+    /// An extension of a controlled type of the library by no component, whose declaration begins at a place.
     pub fn extension(
         &mut self,
         part: Part,
+        at: Span,
         name: &Identifier,
         parent: &Dotted,
         components: &[ComponentDeclaration],
     ) -> Result<(), Refusal>
         ensures legal { OnOk result ((is_own_name name.now && is_plain_extension (parent_in (state_of self.old part) name.now parent.now) components.now) ≡ true) }
         ensures grows { OnOk result (Grows self.old self.new part (with_type (state_of self.old part) name.now (parent_in (state_of self.old part) name.now parent.now))) }
-        ensures err { IfErr result (IsAnswered (is_own_name name.now && is_plain_extension (parent_in (state_of self.old part) name.now parent.now) components.now)) }
+        ensures kept { OnOk result (extension_fault (state_of self.old part) at name.now parent.now components.now ≡ None) }
+        ensures told { IfErr result (Tells (extension_fault (state_of self.old part) at name.now parent.now components.now)) }
     {
-        if !is_own_name(self.alloc, name)? {
-            return Err(Refusal::Illegal);
-        }
         let library = self.parent(part, name, parent)?;
         if !components.is_empty() || !is_controlled_type(library) {
-            return Err(Refusal::Illegal);
+            return Err(Refusal::at(FaultCode::Type, at));
+        }
+        if !is_own_name(self.alloc, name)? {
+            return Err(Refusal::at(FaultCode::Override, name.span));
         }
         self.declare_type(part, name, library)?;
         Ok(())
@@ -178,12 +185,17 @@ impl Checker {
         }
     }
 
-    /// A new subprogram is this operation. Its number.
-    fn new_operation(&mut self, part: Part, overridden: Overridden) -> Result<usize, Refusal>
+    /// A new subprogram, whose name stands at a place, is this operation. Its number.
+    fn new_operation(
+        &mut self,
+        part: Part,
+        at: Span,
+        overridden: Overridden,
+    ) -> Result<usize, Refusal>
         ensures number { IfOk result (λ n. n ≡ length (promises_of self.old.subprograms.items)) }
         ensures state { OnOk result (new_operation (state_of self.old part) overridden ≡ Some (state_of self.new part)) }
         ensures grows { OnOk result (Grows self.old self.new part (state_of self.new part)) }
-        ensures err { IfErr result (IsAnswered (is_some (new_operation (state_of self.old part) overridden))) }
+        ensures told { IfErr result (Tells (unless (is_some (new_operation (state_of self.old part) overridden)) code.Override at)) }
     {
         let Overridden {
             operation,
@@ -191,9 +203,9 @@ impl Checker {
         } = overridden;
         let number = self.new_subprogram(part.level)?;
         match self.records.get_mut(record) {
-            None => Err(Refusal::Illegal),
+            None => Err(Refusal::at(FaultCode::Override, at)),
             Some(found) => match with_operation(found.operations, operation, number) {
-                None => Err(Refusal::Illegal),
+                None => Err(Refusal::at(FaultCode::Override, at)),
                 Some(operations) => {
                     found.operations = operations;
                     Ok(number)
@@ -206,12 +218,13 @@ impl Checker {
     pub fn operation(&mut self, part: Part, heading: &Specification) -> Result<(), Refusal>
         ensures state { OnOk result (with_declaration (state_of self.old part) heading.now ≡ Some (state_of self.new part)) }
         ensures grows { OnOk result (Grows self.old self.new part (state_of self.new part)) }
-        ensures err { IfErr result (IsAnswered (is_some (with_declaration (state_of self.old part) heading.now))) }
+        ensures told { IfErr result (Tells (override_fault (is_some (with_declaration (state_of self.old part) heading.now)) heading.now)) }
     {
+        let at = heading.name.span;
         let Some(overridden) = self.overridden(part, heading)? else {
-            return Err(Refusal::Illegal);
+            return Err(Refusal::at(FaultCode::Override, at));
         };
-        let number = self.new_operation(part, overridden)?;
+        let number = self.new_operation(part, at, overridden)?;
         self.declare_operation(part, heading, false, number)?;
         Ok(())
     }
@@ -245,12 +258,12 @@ impl Checker {
     ) -> Result<usize, Refusal>
         ensures entered { IfOk result (λ number. entered_for (state_of self.old part) heading.now overridden (completed_body (env_of self.old part).view heading.now) ≡ Some (entered (state_of self.new part) number heading.now overridden.number)) }
         ensures grows { OnOk result (Grows self.old self.new part (state_of self.new part)) }
-        ensures err { IfErr result (IsAnswered (is_some (entered_for (state_of self.old part) heading.now overridden (completed_body (env_of self.old part).view heading.now)))) }
+        ensures told { IfErr result (Tells (override_fault (is_some (entered_for (state_of self.old part) heading.now overridden (completed_body (env_of self.old part).view heading.now))) heading.now)) }
     {
         let key = heading_key(self.alloc, heading)?;
         match self.walk.completed_body(part, key.as_slice()) {
             None => {
-                let number = self.new_operation(part, overridden)?;
+                let number = self.new_operation(part, heading.name.span, overridden)?;
                 self.declare_operation(part, heading, true, number)?;
                 Ok(number)
             }
@@ -258,7 +271,7 @@ impl Checker {
                 self.walk.name_body(part, heading)?;
                 match kind_at(&self.kinds, known.place) {
                     Kind::Operation(number) => Ok(number),
-                    _ => Err(Refusal::Illegal),
+                    _ => Err(Refusal::at(FaultCode::Override, heading.name.span)),
                 }
             }
         }

@@ -1,8 +1,9 @@
 //! Expressions and their types (RM 4.4, 4.5).
 
-ghost use Rattle.std.specs.Prelude.{◌≡◌, true, false, [], ◌∷◌, IfOk, IfErr, OnOk, OnErr, Some, None};
+ghost use Rattle.std.specs.Prelude.{◌≡◌, true, false, nat_le, [], ◌∷◌, IfOk, IfErr, OnOk, Some, None};
 ghost use Rattle.std.specs.Str.{str_eq_ignore_ascii_case};
 ghost use Rattle.ctl_tree.specs.declared.checked.Expr.{Constant};
+ghost use Rattle.ctl_tree.specs.declared.fault.FaultCode.TheVariants as code;
 ghost use Rattle.ctl_tree.specs.declared.checked.Head.{Variable};
 ghost use Rattle.ctl_tree.specs.declared.checked.Name.{out-Name};
 ghost use Rattle.ctl_tree.specs.declared.checked.Ty.TheVariants.{Integer, Boolean};
@@ -13,8 +14,14 @@ ghost use Rattle.ctl_check.specs.Environment.{env_of, used};
 ghost use Rattle.ctl_check.specs.Operators.{adding_operator, relational_operator, two_operands, one_operand, given_type};
 ghost use Rattle.ctl_check.specs.Expressions.{type_of, is_condition, is_integer, conditions, addends_type, multiplicands_type, added_type, joined_type, signed_type, literal_type, used_type, bound_type, suffixed_type};
 ghost use Rattle.ctl_check.specs.Meaning.{Means, JoinedListMeans, ConditionListMeans, IsJoined, IsPrefixed, IsSigned, IsChain, IsRelation, IsSum, IsProduct, IsUse, IsSuffixed, bound};
-ghost use Rattle.ctl_check.specs.Refusals.{IsUntyped, IsAnswered};
+ghost use Rattle.ctl_check.specs.declared.asked.Asked.TheVariants as asked;
+ghost use Rattle.ctl_check.specs.Asked.{suits};
+ghost use Rattle.ctl_check.specs.ExpressionFaults.{either, unless, untyped, operand_fault, fault_of_one, right_fault, term_fault, condition_list_fault, addend_list_fault, factor_list_fault};
+ghost use Rattle.ctl_check.specs.Refusals.{Tells};
 
+use crate::asked::{
+    Asked, asked_by, asked_by_one, asked_of_first_factor, asked_of_first_term, suits,
+};
 use crate::checker::Checker;
 use crate::kinds::{Kind, Object, Used};
 use crate::operators::{
@@ -22,12 +29,13 @@ use crate::operators::{
     joining, literal, multiplying, prefixing, signing, unary_result,
 };
 use crate::refusal::Refusal;
-use crate::types::{is_boolean, is_same};
 use ctl_legality::library::LibraryName;
 use ctl_legality::view::Part;
 use ctl_tree::checked::{
     BinaryOp, Expr, Head, Name as CheckedName, Operand, Shortcut, Ty, UnaryOp,
 };
+use ctl_tree::fault::FaultCode;
+use ctl_tree::span::Span;
 use ctl_tree::text::Text;
 use ctl_tree::tree::{
     Addend, Expression, ExpressionKind, Identifier, LogicalOperator, Multiplicand, Name,
@@ -70,62 +78,70 @@ pub fn variable(alloc: Global, object: Object) -> CheckedName
     }
 }
 
-/// One more operand of an operator behind a value of this type (RM 4.5).
-fn operand(op: BinaryOp, left: Ty, right: Typed) -> Result<Operand, Refusal>
-    ensures op { IfOk result (λ o. o.op ≡ op) }
-    ensures given { IfOk result (λ o. o.ty ≡ given_type o.op left) }
-    ensures ty { IfOk result (λ o. two_operands op (Some left) (Some right.ty) ≡ Some o.ty) }
-    ensures right { IfOk result (λ o. o.right ≡ right.expr) }
-    ensures err { IfErr result (IsUntyped (two_operands op (Some left) (Some right.ty))) }
-    ensures none { OnErr result (two_operands op (Some left) (Some right.ty) ≡ None) }
-{
-    let Typed { expr, ty } = right;
-    match binary_result(op, left, ty) {
-        Some(result) => Ok(Operand {
-            op,
-            ty: result,
-            right: expr,
-        }),
-        None => Err(Refusal::Illegal),
-    }
-}
-
 impl Checker {
-    /// An expression; none is a string here (RM 4.4).
+    /// An expression whose place asks so much of its type; none is a string here (RM 4.4).
     #[cycle(expression)]
-    pub fn expression(&self, part: Part, expression: &Expression) -> Result<Typed, Refusal>
+    pub fn expression(
+        &self,
+        part: Part,
+        asked: Asked,
+        expression: &Expression,
+    ) -> Result<Typed, Refusal>
+        ensures ty { IfOk result (λ t. type_of (env_of self.now part) expression.now.kind ≡ Some t.ty) }
+        ensures suited { IfOk result (λ t. suits asked t.ty ≡ true) }
+        ensures expr { IfOk result (λ t. Means (env_of self.now part) expression.now.kind t.expr) }
+        ensures kept { OnOk result (fault_of_one (env_of self.now part) asked expression.now ≡ None) }
+        ensures told { IfErr result (Tells (fault_of_one (env_of self.now part) asked expression.now)) }
+    {
+        let typed = self.typed(part, asked, expression)?;
+        if suits(asked, typed.ty) {
+            Ok(typed)
+        } else {
+            Err(Refusal::at(FaultCode::Type, expression.span))
+        }
+    }
+
+    /// An expression, whether or not its type is what its place asks for.
+    #[cycle(expression)]
+    pub fn typed(&self, part: Part, asked: Asked, expression: &Expression) -> Result<Typed, Refusal>
         ensures ty { IfOk result (λ t. type_of (env_of self.now part) expression.now.kind ≡ Some t.ty) }
         ensures expr { IfOk result (λ t. Means (env_of self.now part) expression.now.kind t.expr) }
-        ensures err { IfErr result (IsUntyped (type_of (env_of self.now part) expression.now.kind)) }
+        ensures kept { OnOk result (operand_fault (env_of self.now part) asked expression.now.span expression.now.kind ≡ None) }
+        ensures told { IfErr result (Tells (either (operand_fault (env_of self.now part) asked expression.now.span expression.now.kind) (untyped (type_of (env_of self.now part) expression.now.kind) expression.now.span))) }
     {
+        let at = expression.span;
         match &expression.kind {
             ExpressionKind::Logical(operator, first, others) => {
                 let first = self.condition(part, first)?;
                 self.joined(part, *operator, others, first)
             }
             ExpressionKind::Relation(operator, left, right) => {
-                let left = self.expression(part, left)?;
-                let right = self.expression(part, right)?;
-                self.compared(*operator, left, right)
+                let op = comparing(*operator);
+                let left = self.expression(part, asked_by(op), left)?;
+                let right = self.beside(part, at, op, left.ty, right)?;
+                Ok(self.compared(left, right)?)
             }
             ExpressionKind::Sum(sign, first, more) => {
-                let first = self.expression(part, first)?;
-                let first = self.signed(*sign, first)?;
-                self.summed(part, more, first)
+                let asked = asked_of_first_term(asked, *sign, more);
+                let first = self.expression(part, asked, first)?;
+                let first = self.signed(at, *sign, first)?;
+                self.summed(part, at, more, first)
             }
             ExpressionKind::Product(first, more) => {
-                let first = self.expression(part, first)?;
-                self.multiplied(part, more, first)
+                let asked = asked_of_first_factor(asked, more);
+                let first = self.expression(part, asked, first)?;
+                self.multiplied(part, at, more, first)
             }
             ExpressionKind::Unary(word, operand) => {
-                let operand = self.expression(part, operand)?;
-                self.prefixed(prefixing(*word), operand)
+                let op = prefixing(*word);
+                let operand = self.expression(part, asked_by_one(op), operand)?;
+                self.prefixed(at, op, operand)
             }
-            ExpressionKind::Number(number) => number_of(*number),
-            ExpressionKind::Name(name) => self.named(part, name),
-            ExpressionKind::Parentheses(inner) => self.expression(part, inner),
+            ExpressionKind::Number(number) => number_of(at, *number),
+            ExpressionKind::Name(name) => self.named(part, at, name),
+            ExpressionKind::Parentheses(inner) => self.expression(part, asked, inner),
             ExpressionKind::String(_) | ExpressionKind::Null | ExpressionKind::New(_) => {
-                Err(Refusal::Illegal)
+                Err(Refusal::at(FaultCode::Type, at))
             }
         }
     }
@@ -141,7 +157,8 @@ impl Checker {
     ) -> Result<Typed, Refusal>
         ensures ty { IfOk result (λ t. joined_type (Some Boolean) (conditions (env_of self.now part) others.now) ≡ Some t.ty) }
         ensures expr { IfOk result (λ t. IsJoined (env_of self.now part) operator first others.now t.expr) }
-        ensures err { IfErr result (IsUntyped (joined_type (Some Boolean) (conditions (env_of self.now part) others.now))) }
+        ensures kept { OnOk result (condition_list_fault (env_of self.now part) others.now ≡ None) }
+        ensures told { IfErr result (Tells (condition_list_fault (env_of self.now part) others.now)) }
     {
         match joining(operator) {
             Joint::Operator(op) => {
@@ -170,7 +187,8 @@ impl Checker {
     ) -> Result<Vec<Operand>, Refusal>
         ensures ok { OnOk result (conditions (env_of self.now part) others.now ≡ true) }
         ensures expr { IfOk result (λ xs. JoinedListMeans (env_of self.now part) (Operator op) others.now xs.items) }
-        ensures err { IfErr result (IsAnswered (conditions (env_of self.now part) others.now)) }
+        ensures kept { OnOk result (condition_list_fault (env_of self.now part) others.now ≡ None) }
+        ensures told { IfErr result (Tells (condition_list_fault (env_of self.now part) others.now)) }
     {
         let mut operands = Vec::new(self.alloc);
         for other in others {
@@ -188,7 +206,8 @@ impl Checker {
     fn conditions(&self, part: Part, others: &[Expression]) -> Result<Vec<Expr>, Refusal>
         ensures ok { OnOk result (conditions (env_of self.now part) others.now ≡ true) }
         ensures expr { IfOk result (λ es. ConditionListMeans (env_of self.now part) others.now es.items) }
-        ensures err { IfErr result (IsAnswered (conditions (env_of self.now part) others.now)) }
+        ensures kept { OnOk result (condition_list_fault (env_of self.now part) others.now ≡ None) }
+        ensures told { IfErr result (Tells (condition_list_fault (env_of self.now part) others.now)) }
     {
         let mut conditions = Vec::new(self.alloc);
         for other in others {
@@ -197,52 +216,89 @@ impl Checker {
         Ok(conditions)
     }
 
-    /// Terms, each with the operator before it (RM 4.5.3).
+    /// Terms, each with the operator before it, in the sum at a place (RM 4.5.3).
     #[cycle(expression)]
-    fn summed(&self, part: Part, more: &[Addend], first: Typed) -> Result<Typed, Refusal>
+    fn summed(&self, part: Part, at: Span, more: &[Addend], first: Typed) -> Result<Typed, Refusal>
         ensures ty { IfOk result (λ t. addends_type (env_of self.now part) (Some first.ty) more.now ≡ Some t.ty) }
         ensures expr { IfOk result (λ t. IsSum (env_of self.now part) first.ty first.expr more.now t.expr) }
-        ensures err { IfErr result (IsUntyped (addends_type (env_of self.now part) (Some first.ty) more.now)) }
+        ensures kept { OnOk result (addend_list_fault (env_of self.now part) at (Some first.ty) more.now ≡ None) }
+        ensures told { IfErr result (Tells (addend_list_fault (env_of self.now part) at (Some first.ty) more.now)) }
     {
         let Typed { expr, ty } = first;
         let mut left = ty;
         let mut operands = Vec::new(self.alloc);
         for addend in more {
-            let operand = self.addend(part, addend, left)?;
+            let operand = self.addend(part, at, addend, left)?;
             left = operand.ty;
             operands.push(operand)?;
         }
         Ok(self.chain(expr, operands, left)?)
     }
 
-    /// A term behind a value of this type.
+    /// A term behind a value of this type: `&` has no place here.
     #[cycle(expression)]
-    fn addend(&self, part: Part, addend: &Addend, left: Ty) -> Result<Operand, Refusal>
+    fn addend(&self, part: Part, at: Span, addend: &Addend, left: Ty) -> Result<Operand, Refusal>
         ensures op { IfOk result (λ o. adding_operator addend.now.operator ≡ Some o.op) }
         ensures given { IfOk result (λ o. o.ty ≡ given_type o.op left) }
         ensures ty { IfOk result (λ o. added_type (adding_operator addend.now.operator) (Some left) (type_of (env_of self.now part) addend.now.term.kind) ≡ Some o.ty) }
         ensures right { IfOk result (λ o. Means (env_of self.now part) addend.now.term.kind o.right) }
-        ensures err { IfErr result (IsUntyped (added_type (adding_operator addend.now.operator) (Some left) (type_of (env_of self.now part) addend.now.term.kind))) }
+        ensures kept { OnOk result (term_fault (env_of self.now part) at (adding_operator addend.now.operator) (Some left) addend.now.term ≡ None) }
+        ensures told { IfErr result (Tells (term_fault (env_of self.now part) at (adding_operator addend.now.operator) (Some left) addend.now.term)) }
     {
         let Some(op) = adding(addend.operator) else {
-            return Err(Refusal::Illegal);
+            return Err(Refusal::at(FaultCode::Type, at));
         };
-        operand(op, left, self.expression(part, &addend.term)?)
+        self.beside(part, at, op, left, &addend.term)
     }
 
-    /// Factors, each with the operator before it (RM 4.5.5).
+    /// The right operand of an operator, of the type of what stands to its left, in the expression at a place (RM 4.5).
     #[cycle(expression)]
-    fn multiplied(&self, part: Part, more: &[Multiplicand], first: Typed) -> Result<Typed, Refusal>
+    fn beside(
+        &self,
+        part: Part,
+        at: Span,
+        op: BinaryOp,
+        left: Ty,
+        right: &Expression,
+    ) -> Result<Operand, Refusal>
+        ensures op { IfOk result (λ o. o.op ≡ op) }
+        ensures given { IfOk result (λ o. o.ty ≡ given_type op left) }
+        ensures ty { IfOk result (λ o. two_operands op (Some left) (type_of (env_of self.now part) right.now.kind) ≡ Some o.ty) }
+        ensures right { IfOk result (λ o. Means (env_of self.now part) right.now.kind o.right) }
+        ensures kept { OnOk result (right_fault (env_of self.now part) at op (Some left) right.now ≡ None) }
+        ensures told { IfErr result (Tells (right_fault (env_of self.now part) at op (Some left) right.now)) }
+    {
+        let Some(ty) = binary_result(op, left, left) else {
+            return Err(Refusal::at(FaultCode::Type, at));
+        };
+        let right = self.expression(part, Asked::Of(left), right)?;
+        Ok(Operand {
+            op,
+            ty,
+            right: right.expr,
+        })
+    }
+
+    /// Factors, each with the operator before it, in the product at a place (RM 4.5.5).
+    #[cycle(expression)]
+    fn multiplied(
+        &self,
+        part: Part,
+        at: Span,
+        more: &[Multiplicand],
+        first: Typed,
+    ) -> Result<Typed, Refusal>
         ensures ty { IfOk result (λ t. multiplicands_type (env_of self.now part) (Some first.ty) more.now ≡ Some t.ty) }
         ensures expr { IfOk result (λ t. IsProduct (env_of self.now part) first.ty first.expr more.now t.expr) }
-        ensures err { IfErr result (IsUntyped (multiplicands_type (env_of self.now part) (Some first.ty) more.now)) }
+        ensures kept { OnOk result (factor_list_fault (env_of self.now part) at (Some first.ty) more.now ≡ None) }
+        ensures told { IfErr result (Tells (factor_list_fault (env_of self.now part) at (Some first.ty) more.now)) }
     {
         let Typed { expr, ty } = first;
         let mut left = ty;
         let mut operands = Vec::new(self.alloc);
         for multiplicand in more {
-            let right = self.expression(part, &multiplicand.factor)?;
-            let operand = operand(multiplying(multiplicand.operator), left, right)?;
+            let op = multiplying(multiplicand.operator);
+            let operand = self.beside(part, at, op, left, &multiplicand.factor)?;
             left = operand.ty;
             operands.push(operand)?;
         }
@@ -254,23 +310,22 @@ impl Checker {
     pub fn condition(&self, part: Part, expression: &Expression) -> Result<Expr, Refusal>
         ensures ty { OnOk result (type_of (env_of self.now part) expression.now.kind ≡ Some Boolean) }
         ensures expr { IfOk result (λ e. Means (env_of self.now part) expression.now.kind e) }
-        ensures err { IfErr result (IsAnswered (is_condition (type_of (env_of self.now part) expression.now.kind))) }
+        ensures kept { OnOk result (fault_of_one (env_of self.now part) (asked.Of Boolean) expression.now ≡ None) }
+        ensures told { IfErr result (Tells (fault_of_one (env_of self.now part) (asked.Of Boolean) expression.now)) }
     {
-        condition_of(self.expression(part, expression)?)
+        let typed = self.expression(part, Asked::Of(Ty::Boolean), expression)?;
+        Ok(typed.expr)
     }
 
     /// An expression whose value must be an Integer.
     pub fn integer(&self, part: Part, expression: &Expression) -> Result<Expr, Refusal>
         ensures ty { OnOk result (type_of (env_of self.now part) expression.now.kind ≡ Some Integer) }
         ensures expr { IfOk result (λ e. Means (env_of self.now part) expression.now.kind e) }
-        ensures err { IfErr result (IsAnswered (is_integer (type_of (env_of self.now part) expression.now.kind))) }
+        ensures kept { OnOk result (fault_of_one (env_of self.now part) (asked.Of Integer) expression.now ≡ None) }
+        ensures told { IfErr result (Tells (fault_of_one (env_of self.now part) (asked.Of Integer) expression.now)) }
     {
-        let Typed { expr, ty } = self.expression(part, expression)?;
-        if is_same(ty, Ty::Integer) {
-            Ok(expr)
-        } else {
-            Err(Refusal::Illegal)
-        }
+        let typed = self.expression(part, Asked::Of(Ty::Integer), expression)?;
+        Ok(typed.expr)
     }
 
     /// The operands with their operators, applied from the left, with the type of the last result; the first alone where there are no others.
@@ -287,45 +342,38 @@ impl Checker {
         })
     }
 
-    fn compared(
-        &self,
-        operator: RelationalOperator,
-        left: Typed,
-        right: Typed,
-    ) -> Result<Typed, Refusal>
-        ensures ty { IfOk result (λ t. two_operands (relational_operator operator) (Some left.ty) (Some right.ty) ≡ Some t.ty) }
-        ensures expr { IfOk result (λ t. IsRelation operator left.expr right.expr t.expr) }
-        ensures err { IfErr result (IsUntyped (two_operands (relational_operator operator) (Some left.ty) (Some right.ty))) }
+    /// A relation of two operands.
+    fn compared(&self, left: Typed, right: Operand) -> Result<Typed, AllocError>
+        ensures ty { IfOk result (λ t. t.ty ≡ right.ty) }
+        ensures expr { IfOk result (λ t. IsChain left.expr (right ∷ []) t.expr) }
     {
-        let Typed { expr, ty } = left;
-        let right = operand(comparing(operator), ty, right)?;
         let ty = right.ty;
         let mut operands = Vec::new(self.alloc);
         operands.push(right)?;
-        Ok(self.chain(expr, operands, ty)?)
+        self.chain(left.expr, operands, ty)
     }
 
-    /// The first term, with its sign (RM 4.5.4).
-    fn signed(&self, sign: Option<Sign>, first: Typed) -> Result<Typed, Refusal>
+    /// The first term of the sum at a place, with its sign (RM 4.5.4).
+    fn signed(&self, at: Span, sign: Option<Sign>, first: Typed) -> Result<Typed, Refusal>
         ensures ty { IfOk result (λ t. signed_type sign (Some first.ty) ≡ Some t.ty) }
         ensures expr { IfOk result (λ t. IsSigned sign first.ty first.expr t.expr) }
-        ensures err { IfErr result (IsUntyped (signed_type sign (Some first.ty))) }
+        ensures told { IfErr result (Tells (untyped (signed_type sign (Some first.ty)) at)) }
     {
         match sign {
             None => Ok(first),
-            Some(sign) => self.prefixed(signing(sign), first),
+            Some(sign) => self.prefixed(at, signing(sign), first),
         }
     }
 
-    /// An operator with one operand (RM 4.5.4, 4.5.6).
-    fn prefixed(&self, op: UnaryOp, right: Typed) -> Result<Typed, Refusal>
+    /// An operator with one operand, in the expression at a place (RM 4.5.4, 4.5.6).
+    fn prefixed(&self, at: Span, op: UnaryOp, right: Typed) -> Result<Typed, Refusal>
         ensures ty { IfOk result (λ t. one_operand op (Some right.ty) ≡ Some t.ty) }
         ensures expr { IfOk result (λ t. IsPrefixed op right.ty right.expr t.expr) }
-        ensures err { IfErr result (IsUntyped (one_operand op (Some right.ty))) }
+        ensures told { IfErr result (Tells (untyped (one_operand op (Some right.ty)) at)) }
     {
         let Typed { expr, ty } = right;
         let Some(ty) = unary_result(op, ty) else {
-            return Err(Refusal::Illegal);
+            return Err(Refusal::at(FaultCode::Type, at));
         };
         Ok(Typed {
             expr: Expr::Unary(op, ty, Box::new(self.alloc, expr)?),
@@ -333,23 +381,24 @@ impl Checker {
         })
     }
 
-    fn named(&self, part: Part, name: &Name) -> Result<Typed, Refusal>
+    /// A name at a place.
+    fn named(&self, part: Part, at: Span, name: &Name) -> Result<Typed, Refusal>
         ensures ty { IfOk result (λ t. suffixed_type (env_of self.now part) name.now.first name.now.suffixes.items ≡ Some t.ty) }
         ensures expr { IfOk result (λ t. IsSuffixed (env_of self.now part) name.now.first name.now.suffixes.items t.expr) }
-        ensures err { IfErr result (IsUntyped (suffixed_type (env_of self.now part) name.now.first name.now.suffixes.items)) }
+        ensures told { IfErr result (Tells (untyped (suffixed_type (env_of self.now part) name.now.first name.now.suffixes.items) at)) }
     {
         match name.suffixes.as_slice() {
-            [] => self.value_of(part, &name.first),
-            [Suffix::Attribute(attribute)] => self.bound(part, &name.first, attribute),
-            _ => Err(Refusal::Illegal),
+            [] => self.value_of(part, at, &name.first),
+            [Suffix::Attribute(attribute)] => self.bound(part, at, &name.first, attribute),
+            _ => Err(Refusal::at(FaultCode::Type, at)),
         }
     }
 
     /// The value of an object, or True, False or Null_Address (RM 13.7).
-    fn value_of(&self, part: Part, name: &Identifier) -> Result<Typed, Refusal>
+    fn value_of(&self, part: Part, at: Span, name: &Identifier) -> Result<Typed, Refusal>
         ensures ty { IfOk result (λ t. used_type (used (env_of self.now part) name.now) ≡ Some t.ty) }
         ensures expr { IfOk result (λ t. IsUse (used (env_of self.now part) name.now) t.expr) }
-        ensures err { IfErr result (IsUntyped (used_type (used (env_of self.now part) name.now))) }
+        ensures told { IfErr result (Tells (untyped (used_type (used (env_of self.now part) name.now)) at)) }
     {
         match self.used(part, name)? {
             Used::Declared(Kind::Object(object)) => Ok(Typed {
@@ -359,7 +408,7 @@ impl Checker {
             Used::Library(LibraryName::True) => Ok(constant(TRUE, Ty::Boolean)),
             Used::Library(LibraryName::False) => Ok(constant(FALSE, Ty::Boolean)),
             Used::Library(LibraryName::NullAddress) => Ok(constant(NULL, Ty::Address)),
-            _ => Err(Refusal::Illegal),
+            _ => Err(Refusal::at(FaultCode::Type, at)),
         }
     }
 
@@ -367,57 +416,45 @@ impl Checker {
     fn bound(
         &self,
         part: Part,
+        at: Span,
         prefix: &Identifier,
         attribute: &Identifier,
     ) -> Result<Typed, Refusal>
         ensures ty { IfOk result (λ t. bound_type (used (env_of self.now part) prefix.now) attribute.now ≡ Some t.ty) }
         ensures expr { IfOk result (λ t. t.expr ≡ Constant (bound attribute.now)) }
-        ensures err { IfErr result (IsUntyped (bound_type (used (env_of self.now part) prefix.now) attribute.now)) }
+        ensures told { IfErr result (Tells (untyped (bound_type (used (env_of self.now part) prefix.now) attribute.now) at)) }
     {
         match self.used(part, prefix)? {
-            Used::Library(LibraryName::Integer) => bound_named(attribute),
-            _ => Err(Refusal::Illegal),
+            Used::Library(LibraryName::Integer) => bound_named(at, attribute),
+            _ => Err(Refusal::at(FaultCode::Type, at)),
         }
     }
 }
 
-fn bound_named(attribute: &Identifier) -> Result<Typed, Refusal>
+/// The bound of Integer that an attribute names, in the expression at a place.
+fn bound_named(at: Span, attribute: &Identifier) -> Result<Typed, Refusal>
     ensures ty { IfOk result (λ t. bound_type (Library library.Integer) attribute.now ≡ Some t.ty) }
     ensures expr { IfOk result (λ t. t.expr ≡ Constant (bound attribute.now)) }
-    ensures err { IfErr result (IsUntyped (bound_type (Library library.Integer) attribute.now)) }
+    ensures told { IfErr result (Tells (untyped (bound_type (Library library.Integer) attribute.now) at)) }
 {
     if is_word(&attribute.name, b"first") {
         Ok(constant(INTEGER_FIRST, Ty::Integer))
     } else if is_word(&attribute.name, b"last") {
         Ok(constant(INTEGER_LAST, Ty::Integer))
     } else {
-        Err(Refusal::Illegal)
+        Err(Refusal::at(FaultCode::Type, at))
     }
 }
 
-/// A literal is a number of Integer (RM 2.4, 3.5.4).
-fn number_of(number: u64) -> Result<Typed, Refusal>
+/// A literal at a place is a number of Integer (RM 2.4, 3.5.4).
+fn number_of(at: Span, number: u64) -> Result<Typed, Refusal>
     ensures expr { IfOk result (λ t. t.expr ≡ Constant number) }
     ensures ty { IfOk result (λ t. literal_type number ≡ Some t.ty) }
-    ensures err { IfErr result (IsUntyped (literal_type number)) }
-    ensures none { OnErr result (literal_type number ≡ None) }
+    ensures kept { OnOk result (unless (nat_le number 2147483647) code.Range at ≡ None) }
+    ensures told { IfErr result (Tells (unless (nat_le number 2147483647) code.Range at)) }
 {
     match literal(number) {
         Some(cell) => Ok(constant(cell, Ty::Integer)),
-        None => Err(Refusal::Illegal),
-    }
-}
-
-fn condition_of(value: Typed) -> Result<Expr, Refusal>
-    ensures expr { IfOk result (λ e. e ≡ value.expr) }
-    ensures ok { OnOk result (value.ty ≡ Boolean) }
-    ensures err { IfErr result (IsAnswered (is_condition (Some value.ty))) }
-    ensures none { OnErr result (is_condition (Some value.ty) ≡ false) }
-{
-    let Typed { expr, ty } = value;
-    if is_boolean(ty) {
-        Ok(expr)
-    } else {
-        Err(Refusal::Illegal)
+        None => Err(Refusal::at(FaultCode::Range, at)),
     }
 }

@@ -1,8 +1,9 @@
 //! From the tree of a text to the checked program, for the constructs that this version runs.
 //!
-//! A text that breaks a rule of legality is refused with TYPE at its beginning; which rule it breaks, and where, is not told yet.
+//! A text that breaks a rule of legality is refused with the first that it breaks, in the order of the text, at its place.
 #![tactic(auto)]
 
+mod asked;
 mod bodies;
 pub mod check;
 mod checker;

@@ -1,12 +1,13 @@
 //! The bounds of loops (RM 5.5).
 
-ghost use Rattle.std.specs.Prelude.{◌≡◌, ◌∷◌, [], ◌&&◌, IfOk, IfErr, OnOk, true};
+ghost use Rattle.std.specs.Prelude.{◌≡◌, ◌∷◌, [], ◌&&◌, IfOk, IfErr, OnOk, true, None};
 ghost use Rattle.ctl_check.specs.Environment.{env_of};
 ghost use Rattle.ctl_check.specs.Meaning.{Means};
 ghost use Rattle.ctl_check.specs.State.{state_of, hidden_each};
 ghost use Rattle.ctl_check.specs.Parts.{legal_bound};
 ghost use Rattle.ctl_check.specs.Reading.{Grows};
-ghost use Rattle.ctl_check.specs.Refusals.{IsAnswered};
+ghost use Rattle.ctl_check.specs.Faults.{bounds_fault};
+ghost use Rattle.ctl_check.specs.Refusals.{Tells};
 
 use crate::checker::Checker;
 use crate::refusal::Refusal;
@@ -27,7 +28,8 @@ impl Checker {
         ensures low { IfOk result (λ bounds. Means (hidden_each (name.now ∷ []) (env_of self.old part)) low.now.kind bounds.0) }
         ensures high { IfOk result (λ bounds. Means (hidden_each (name.now ∷ []) (env_of self.old part)) high.now.kind bounds.1) }
         ensures grows { OnOk result (Grows self.old self.new part (state_of self.old part)) }
-        ensures err { IfErr result (IsAnswered (legal_bound (hidden_each (name.now ∷ []) (env_of self.old part)) low.now && legal_bound (hidden_each (name.now ∷ []) (env_of self.old part)) high.now)) }
+        ensures kept { OnOk result (bounds_fault (hidden_each (name.now ∷ []) (env_of self.old part)) low.now high.now ≡ None) }
+        ensures told { IfErr result (Tells (bounds_fault (hidden_each (name.now ∷ []) (env_of self.old part)) low.now high.now)) }
     {
         let count = self.count();
         self.hide(part, name)?;

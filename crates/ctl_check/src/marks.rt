@@ -1,8 +1,11 @@
 //! What names denote: declarations of the library, types and objects (RM 3.2.2, 8.3, 8.4).
 
-ghost use Rattle.std.specs.Prelude.{◌≡◌, IfOk};
+ghost use Rattle.std.specs.Prelude.{◌≡◌, true, None, Some, IfOk, IfSome};
+ghost use Rattle.ctl_tree.specs.declared.fault.FaultCode.TheVariants as code;
 ghost use Rattle.ctl_legality.specs.Sites.{last_identifier};
 ghost use Rattle.ctl_check.specs.Environment.{env_of, used, used_by, kind_at};
+ghost use Rattle.ctl_check.specs.ExpressionFaults.{fault_at};
+ghost use Rattle.ctl_check.specs.Faults.{own_names_fault};
 ghost use Rattle.ctl_check.specs.Marks.{is_own_name, are_own_names, library_name, library_of, named_in, marked_type, type_by};
 
 use crate::checker::Checker;
@@ -12,6 +15,7 @@ use ctl_legality::view::{Denoted, Mark, Meaning, Part};
 use ctl_names::library::{name_in, operation_named};
 use ctl_names::walk::folded;
 use ctl_tree::checked::Ty;
+use ctl_tree::span::Span;
 use ctl_tree::tree::{Dotted, Identifier};
 use std::alloc::{AllocError, Global};
 
@@ -47,16 +51,17 @@ pub fn is_own_name(alloc: Global, name: &Identifier) -> Result<bool, AllocError>
     Ok(operation_named(key.as_slice()).is_none())
 }
 
-/// Whether each of these is.
-pub fn are_own_names(alloc: Global, names: &[Identifier]) -> Result<bool, AllocError>
-    ensures { IfOk result (λ own. own ≡ are_own_names names.now) }
+/// Where the first of these stands that is one of the five names.
+pub fn first_operation_name(alloc: Global, names: &[Identifier]) -> Result<Option<Span>, AllocError>
+    ensures none { IfOk result (λ first. first ≡ None → (are_own_names names.now ≡ true) × (own_names_fault names.now ≡ None)) }
+    ensures some { IfOk result (λ first. IfSome first (λ place. own_names_fault names.now ≡ Some (fault_at code.Override place))) }
 {
     for name in names {
         if !is_own_name(alloc, name)? {
-            return Ok(false);
+            return Ok(Some(name.span));
         }
     }
-    Ok(true)
+    Ok(None)
 }
 
 /// The declaration of the library that an identifier is used for.

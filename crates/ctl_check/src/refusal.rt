@@ -1,5 +1,9 @@
 //! Why the check refuses a text.
 
+ghost use Rattle.std.specs.Prelude.{◌≡◌};
+ghost use Rattle.ctl_check.specs.declared.refusal.Refusal.TheVariants.{Illegal};
+ghost use Rattle.ctl_check.specs.ExpressionFaults.{fault_at};
+
 use ctl_tree::fault::{Fault, FaultCode};
 use ctl_tree::span::Span;
 use std::alloc::{AllocError, AllocFailed};
@@ -7,10 +11,19 @@ use std::alloc::{AllocError, AllocFailed};
 /// Why the check refuses a text that the grammar spells.
 #[derive(Clone, Copy, Debug, PartialEq, Eq)]
 pub enum Refusal {
-    /// a rule of legality is broken; which, and where, is not told yet
-    Illegal,
+    /// a rule of legality is broken: which one, and where
+    Illegal(Fault),
     /// the host refused memory
     Memory,
+}
+
+impl Refusal {
+    /// The rule of this number is broken at this place.
+    pub fn at(code: FaultCode, place: Span) -> Refusal
+        ensures { result ≡ Illegal (fault_at code place) }
+    {
+        Refusal::Illegal(Fault::at(code, place))
+    }
 }
 
 impl From<Refusal> for Fault {
@@ -21,7 +34,7 @@ impl From<Refusal> for Fault {
 
     fn from(refusal: Refusal) -> Fault {
         match refusal {
-            Refusal::Illegal => Fault::at(FaultCode::Type, Span { line: 1, column: 1 }),
+            Refusal::Illegal(fault) => fault,
             Refusal::Memory => Fault::memory(),
         }
     }

@@ -2,13 +2,14 @@
 
 ghost use Rattle.std.specs.Prelude.{◌≡◌, ◌⊎◌, IfOk, IfErr, MatchResult};
 ghost use Rattle.ctl_tree.specs.declared.fault.Fault.{Fault};
+ghost use Rattle.ctl_tree.specs.declared.tree.Tree.{Tree};
 ghost use Rattle.ctl_lex.specs.Memory.{IsMemory};
 ghost use Rattle.ctl_legality.specs.declared.view.Breach.{Breach};
 ghost use Rattle.ctl_legality.specs.Sites.{sites};
 ghost use Rattle.ctl_legality.specs.Rules.{denoted_of, frozen_of};
 ghost use Rattle.ctl_legality.specs.Judged.{fault_of};
 ghost use Rattle.ctl_parse.specs.View.{tree_node};
-ghost use Rattle.ctl_run.specs.Source.{SpellsLegalTree, HasFirstFault, HasEarlyFault, IsLegalText, IsIllegalText};
+ghost use Rattle.ctl_run.specs.Source.{SpellsLegalTree, BreaksFirst, HasFirstFault, HasEarlyFault};
 
 use crate::tree::tree_of;
 use ctl_names::resolve::{Named, resolve};
@@ -25,9 +26,9 @@ pub fn named_of(alloc: Global, source: &[u8]) -> Result<Named, Fault>
     ensures refused { IfErr result (λ fault. HasEarlyFault source.now fault ⊎ IsMemory fault) }
 
     // A text that breaks no rule is not refused for another reason; one with a fault is refused with it.
-    ensures all_legal { (text : IsLegalText source.now) → MatchResult result (λ named. tree_node named.tree ≡ text.node) IsMemory }
+    ensures all_legal { (tree : Tree) → SpellsLegalTree source.now tree → MatchResult result (λ named. tree_node named.tree ≡ tree_node tree) IsMemory }
     ensures all_faults { (fault : Fault) → HasFirstFault source.now fault → MatchResult result (λ _. ⊥) (λ f. (f ≡ fault) ⊎ IsMemory f) }
-    ensures all_breaches { (breach : Breach) → IsIllegalText source.now breach → MatchResult result (λ _. ⊥) (λ f. (f ≡ fault_of breach) ⊎ IsMemory f) }
+    ensures all_breaches { (breach : Breach) → BreaksFirst source.now breach → MatchResult result (λ _. ⊥) (λ f. (f ≡ fault_of breach) ⊎ IsMemory f) }
 {
     let tree = tree_of(alloc, source)?;
     resolve(alloc, tree)

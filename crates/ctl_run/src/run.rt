@@ -4,10 +4,8 @@ ghost use Rattle.std.specs.Prelude.{◌≡◌, ◌⊎◌, IfErr, IfOk, MatchResu
 ghost use Rattle.ctl_tree.specs.declared.fault.Fault.{Fault};
 ghost use Rattle.ctl_lexis.specs.Lexis.{HasFault};
 ghost use Rattle.ctl_lex.specs.Memory.{IsMemory};
-ghost use Rattle.ctl_legality.specs.declared.view.Breach.{Breach};
-ghost use Rattle.ctl_legality.specs.Judged.{fault_of};
 ghost use Rattle.ctl_run.specs.Headline.{Accepts, RunsSource};
-ghost use Rattle.ctl_run.specs.Source.{HasFirstFault, IsIllegalText, IsLeftOutText, IsRefused};
+ghost use Rattle.ctl_run.specs.Source.{HasFaultOfText, HasFirstFault, IsFaultless, IsRefused};
 
 use crate::named::named_of;
 use ctl_check::check::check;
@@ -26,11 +24,11 @@ pub fn check_source(alloc: Global, source: &[u8]) -> Result<Checked, Fault>
     ensures lexical { (fault : Fault) → HasFault source.now fault → MatchResult result (λ _. ⊥) (λ f. (f ≡ fault) ⊎ IsMemory f) }
     // A text that spells no tree is refused with its first fault, of lexis or of grammar.
     ensures grammatical { (fault : Fault) → HasFirstFault source.now fault → MatchResult result (λ _. ⊥) (λ f. (f ≡ fault) ⊎ IsMemory f) }
-    // A text that breaks a rule on names, order, completion or freezing is refused with the first one.
-    ensures illegal { (breach : Breach) → IsIllegalText source.now breach → MatchResult result (λ _. ⊥) (λ f. (f ≡ fault_of breach) ⊎ IsMemory f) }
-    // A text that breaks none and has a construct that is not run is refused with LEFT_OUT at the first one.
-    ensures left_out { (fault : Fault) → IsLeftOutText source.now fault → MatchResult result (λ _. ⊥) (λ f. (f ≡ fault) ⊎ IsMemory f) }
-    // It is refused with nothing else than its first fault, the first such rule or construct, a fault of its program, or want of memory.
+    // A text with a fault, of lexis, grammar, names, constructs, types or values, is refused with it.
+    ensures faulty { (fault : Fault) → HasFaultOfText source.now fault → MatchResult result (λ _. ⊥) (λ f. (f ≡ fault) ⊎ IsMemory f) }
+    // A text that has none is refused for want of memory alone.
+    ensures faultless { IsFaultless source.now → IfErr result IsMemory }
+    // It is refused with nothing else than its fault, or want of memory.
     ensures refused { IfErr result (λ fault. IsRefused source.now fault) }
     ensures accepted { IfOk result (λ program. Accepts source.now program) }
 {
@@ -47,8 +45,8 @@ pub fn check_source(alloc: Global, source: &[u8]) -> Result<Checked, Fault>
 pub fn run_source(alloc: Global, source: &[u8], order: Order, steps: u64) -> Result<Outcome, Fault>
     ensures lexical { (fault : Fault) → HasFault source.now fault → MatchResult result (λ _. ⊥) (λ f. (f ≡ fault) ⊎ IsMemory f) }
     ensures grammatical { (fault : Fault) → HasFirstFault source.now fault → MatchResult result (λ _. ⊥) (λ f. (f ≡ fault) ⊎ IsMemory f) }
-    ensures illegal { (breach : Breach) → IsIllegalText source.now breach → MatchResult result (λ _. ⊥) (λ f. (f ≡ fault_of breach) ⊎ IsMemory f) }
-    ensures left_out { (fault : Fault) → IsLeftOutText source.now fault → MatchResult result (λ _. ⊥) (λ f. (f ≡ fault) ⊎ IsMemory f) }
+    ensures faulty { (fault : Fault) → HasFaultOfText source.now fault → MatchResult result (λ _. ⊥) (λ f. (f ≡ fault) ⊎ IsMemory f) }
+    ensures faultless { IsFaultless source.now → IfErr result IsMemory }
     ensures refused { IfErr result (λ fault. IsRefused source.now fault) }
     ensures headline { IfOk result (λ outcome. RunsSource source.now order steps outcome) }
 {

@@ -3,10 +3,8 @@
 ghost use Rattle.std.specs.Prelude.{◌≡◌, ◌↔◌, true, false, IfOk, IfErr, IsErrOf, MatchResult, OnOk};
 ghost use Rattle.std.specs.Io.KnownBytes.{Appends};
 ghost use Rattle.ctl_sink.specs.Prefix.{AppendsPart};
-ghost use Rattle.ctl_legality.specs.declared.view.Breach.{Breach};
-ghost use Rattle.ctl_legality.specs.Judged.{fault_of};
 ghost use Rattle.ctl_lexis.specs.Lexis.{HasFault};
-ghost use Rattle.ctl_run.specs.Source.{HasFirstFault, IsIllegalText, IsLeftOutText};
+ghost use Rattle.ctl_run.specs.Source.{HasFaultOfText, HasFirstFault, IsFaultless};
 ghost use Rattle.ctl_serve.specs.Refusals.{IsRefusal, IsRefusalWith, IsRefusedFor, WantsMemory};
 ghost use Rattle.ctl_serve.specs.Shown.{shown_by, Summarizes, WritesPart, WritesWhole};
 ghost use Rattle.ctl_tree.specs.declared.fault.Fault.{Fault};
@@ -95,7 +93,7 @@ pub fn run_into<S: Sink>(
     ensures write { IsErrOf result Write → WritesPart source.now order steps show (S.taken sink.old) (S.taken sink.new) }
     ensures refused { IfErr result (λ fault. IsRefusal fault → sink.new ≡ sink.old) }
     ensures failed { (S.has_failed sink.new ≡ true) ↔ IsErrOf result Write }
-    // Refused with nothing else than the text's first fault, the first rule on names that it breaks, its first construct that is not run, a fault of its program, or want of memory.
+    // Refused with nothing else than the text's fault, or want of memory.
     ensures because { IfErr result (IsRefusedFor source.now) }
 
     // A text with a lexical fault is refused with it.
@@ -104,11 +102,11 @@ pub fn run_into<S: Sink>(
     // A text that spells no tree is refused with its first fault, of lexis or of grammar.
     ensures grammatical { (fault : Fault) → HasFirstFault source.now fault → MatchResult result (λ _. ⊥) (IsRefusalWith fault) }
 
-    // A text that breaks a rule on names, order, completion or freezing is refused with the first one.
-    ensures illegal { (breach : Breach) → IsIllegalText source.now breach → MatchResult result (λ _. ⊥) (IsRefusalWith (fault_of breach)) }
+    // A text with a fault, of lexis, grammar, names, constructs, types or values, is refused with it.
+    ensures faulty { (fault : Fault) → HasFaultOfText source.now fault → MatchResult result (λ _. ⊥) (IsRefusalWith fault) }
 
-    // A text that breaks none and has a construct that is not run is refused with LEFT_OUT at the first one.
-    ensures left_out { (fault : Fault) → IsLeftOutText source.now fault → MatchResult result (λ _. ⊥) (IsRefusalWith fault) }
+    // A text that has none is refused for want of memory alone.
+    ensures faultless { IsFaultless source.now → IfErr result WantsMemory }
 {
     match run_source(alloc, source, order, steps) {
         Ok(outcome) => show_run(alloc, outcome, show, sink),

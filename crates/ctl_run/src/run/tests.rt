@@ -1,6 +1,7 @@
 use super::*;
 use ctl_text::{output_text, trace_text};
 use ctl_tree::ending::End;
+use std::process::Abort;
 use std::test::Fail;
 
 /// Nothing is declared, and nothing shown.
@@ -103,7 +104,6 @@ fn a_run_at_its_limit_has_printed_a_prefix(rt: HostRuntime) -> Result<(), Fail> 
 
 #[test]
 fn faults_of_texts(rt: HostRuntime) -> Result<(), Fail> {
-    let alloc = rt.alloc();
     for (source, wanted) in [
         (b"".as_slice(), "1:1: 10 UNEXPECTED"),
         (
@@ -135,27 +135,172 @@ fn faults_of_texts(rt: HostRuntime) -> Result<(), Fail> {
             b"procedure Main is begin Ada.Text_IO.New_Line; end Main;",
             "1:25: 25 NOT_WITHED",
         ),
+    ] {
+        refused(&rt, rt.alloc(), source, wanted)?;
+    }
+    Ok(())
+}
+
+/// The text is refused with this fault.
+fn refused(rt: &impl Abort, alloc: Global, source: &[u8], wanted: &str) -> Result<(), Fail> {
+    match check_source(alloc, source) {
+        Ok(_) => Err("accepted".into()),
+        Err(fault) => {
+            let shown = fault.to_string(alloc)?;
+            assert_eq!(rt; shown.as_str(), wanted);
+            Ok(())
+        }
+    }
+}
+
+#[test]
+fn faults_of_types(rt: HostRuntime) -> Result<(), Fail> {
+    for (source, wanted) in [
+        // the innermost wrong expression, or the place of another type
         (
-            b"procedure Main is N : Integer; begin N := True; end Main;",
-            "1:1: 30 TYPE",
+            b"procedure Main is N : Integer; begin N := True; end Main;".as_slice(),
+            "1:43: 30 TYPE",
         ),
-        // the five names of operations name nothing else
+        (
+            b"procedure Main is X : Boolean := 1; Y : Integer := 2147483648; begin null; end Main;",
+            "1:34: 30 TYPE",
+        ),
+        (
+            b"procedure Main is N : Integer := 1 + True; begin null; end Main;",
+            "1:38: 30 TYPE",
+        ),
+        (
+            b"procedure Main is N : Integer := (True) + 1; begin null; end Main;",
+            "1:35: 30 TYPE",
+        ),
+        (
+            b"procedure Main is N : Integer := (1 + 2) * (3 - (True)); begin null; end Main;",
+            "1:50: 30 TYPE",
+        ),
+        (
+            b"procedure Main is B : Boolean := not 1; begin null; end Main;",
+            "1:38: 30 TYPE",
+        ),
+        (
+            b"procedure Main is B : Boolean := 1 < True; begin null; end Main;",
+            "1:38: 30 TYPE",
+        ),
+        (
+            b"procedure Main is B : Boolean := True and 1 < 2 + True; begin null; end Main;",
+            "1:51: 30 TYPE",
+        ),
+        (
+            b"procedure Main is B : Boolean := 1 + 2; begin null; end Main;",
+            "1:34: 30 TYPE",
+        ),
+        (
+            b"procedure Main is N : Integer := -True; begin null; end Main;",
+            "1:35: 30 TYPE",
+        ),
+        (
+            b"procedure Main is N : Integer := \"a\"; begin null; end Main;",
+            "1:34: 30 TYPE",
+        ),
+        (
+            b"procedure Main is N : Integer; begin if N then null; end if; end Main;",
+            "1:41: 30 TYPE",
+        ),
+        (
+            b"procedure Main is begin while 1 loop null; end loop; end Main;",
+            "1:31: 30 TYPE",
+        ),
+        (
+            b"procedure Main is begin for I in 1 .. True loop null; end loop; end Main;",
+            "1:39: 30 TYPE",
+        ),
+        (
+            b"procedure Main is begin loop exit when 1; end loop; end Main;",
+            "1:40: 30 TYPE",
+        ),
+        // a literal
+        (
+            b"procedure Main is N : Integer := 2147483648; begin null; end Main;",
+            "1:34: 34 RANGE",
+        ),
+        (
+            b"procedure Main is B : Boolean := 1 < (2 + 2147483648); begin null; end Main;",
+            "1:43: 34 RANGE",
+        ),
+        // what is no variable, before its value
+        (
+            b"procedure Main is K : constant Integer := 1; begin K := True; end Main;",
+            "1:52: 31 MODE",
+        ),
+        (
+            b"procedure Main is begin for I in 1 .. 2 loop I := 1; end loop; end Main;",
+            "1:46: 31 MODE",
+        ),
+        (
+            b"procedure Main is N : Integer; begin Main := N; end Main;",
+            "1:38: 30 TYPE",
+        ),
+        // declarations of objects
+        (
+            b"procedure Main is N : Integer; K, L : constant Integer; begin null; end Main;",
+            "1:32: 30 TYPE",
+        ),
+        (
+            b"procedure Main is A, Adjust : Integer := True; begin null; end Main;",
+            "1:22: 33 OVERRIDE",
+        ),
+        (
+            b"procedure Main is N : Integer; X : Main; begin null; end Main;",
+            "1:32: 30 TYPE",
+        ),
+        // an exit in no loop, before its condition
+        (
+            b"procedure Main is begin if True then exit when 1; end if; end Main;",
+            "1:38: 35 RETURN",
+        ),
+        // strings, and calls that print them
+        (
+            b"with Ada.Text_IO; use Ada.Text_IO; procedure Main is begin Put (1); end Main;",
+            "1:65: 30 TYPE",
+        ),
+        (
+            b"with Ada.Text_IO; use Ada.Text_IO; procedure Main is begin Put (1 + True); end Main;",
+            "1:69: 30 TYPE",
+        ),
+        (
+            b"with Ada.Text_IO; use Ada.Text_IO; procedure Main is begin Put_Line (\"a\" & 1 & \"b\"); end Main;",
+            "1:76: 30 TYPE",
+        ),
+        (
+            b"with Ada.Text_IO; use Ada.Text_IO; procedure Main is begin Put_Line (\"a\" & (\"b\" & Integer'Image (True))); end Main;",
+            "1:98: 30 TYPE",
+        ),
+        (
+            b"with Ada.Text_IO; use Ada.Text_IO; procedure Main is begin Put (\"a\", \"b\"); end Main;",
+            "1:60: 30 TYPE",
+        ),
+        (
+            b"with Ada.Text_IO; use Ada.Text_IO; procedure Main is begin null; New_Line (1); end Main;",
+            "1:66: 30 TYPE",
+        ),
+        // operations, and the names that are theirs
         (
             b"procedure Finalize is begin null; end Finalize;",
-            "1:1: 30 TYPE",
+            "1:11: 33 OVERRIDE",
         ),
         (
-            b"procedure Main is A, Adjust : Integer; begin null; end Main;",
-            "1:1: 30 TYPE",
+            b"with Ada.Finalization; use Ada.Finalization; procedure Main is type Initialize is new Controlled with null record; begin null; end Main;",
+            "1:69: 33 OVERRIDE",
+        ),
+        (
+            b"with Ada.Finalization; use Ada.Finalization; procedure Main is type T is new Controlled with null record; procedure Finalize (X : T); procedure Finalize (X : T) is begin null; end Finalize; begin null; end Main;",
+            "1:117: 33 OVERRIDE",
+        ),
+        (
+            b"with Ada.Finalization; use Ada.Finalization; procedure Main is type T is new Controlled with null record; overriding procedure Finalize (X, Y : in out T); procedure Finalize (X, Y : in out T) is begin null; end Finalize; begin null; end Main;",
+            "1:128: 33 OVERRIDE",
         ),
     ] {
-        match check_source(alloc, source) {
-            Ok(_) => return Err("accepted".into()),
-            Err(fault) => {
-                let shown = fault.to_string(alloc)?;
-                assert_eq!(rt; shown.as_str(), wanted);
-            }
-        }
+        refused(&rt, rt.alloc(), source, wanted)?;
     }
     Ok(())
 }

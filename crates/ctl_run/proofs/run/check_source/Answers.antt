@@ -1,5 +1,5 @@
 use Rattle.std.proofs.lemmas.Result.{err_from_is_err_and}
-use Rattle.std.proofs.Common.{◌≡◌, ℕ, List, [], Option, Some, None, true, sym, ap, ◌∙◌, ◌⊎◌, inl, inr}
+use Rattle.std.proofs.Common.{◌≡◌, ℕ, List, [], None, true, refl, sym, ◌∙◌, ◌⊎◌, inl, inr}
 use Rattle.ctl_tree.specs.declared.fault.Fault.{Fault}
 use Rattle.ctl_tree.specs.declared.checked.Checked.{Checked}
 use Rattle.ctl_tree.specs.declared.tree.Tree.{Tree}
@@ -11,7 +11,9 @@ use Rattle.ctl_slice.specs.Places.{left_out_of}
 use Rattle.ctl_admitted.proofs.Program.{programs_in_slice}
 use Rattle.ctl_admitted.proofs.SpelledTrees.{spelled_trees_are_whole}
 use Rattle.ctl_run.specs.Headline.{Accepts}
-use Rattle.ctl_run.specs.Source.{of_lexis, of_text, of_names, HasEarlyFault, SpellsLegalTree, IsRefused, room, by_text, by_names, by_construct, by_program, by_memory}
+use Rattle.ctl_check.specs.Refusals.{IsRefusedProgram, breaks, leaves_out, wants_memory}
+use Rattle.ctl_run.specs.Source.{of_lexis, of_text, of_names, HasEarlyFault, SpellsLegalTree, SpellsRunTree, IsRefused, for_fault, room, by_text, by_names, by_construct, by_types, by_value, by_memory}
+use Rattle.ctl_run.proofs.OneFault.{accepted_faultless, never_both, refused_for_memory, refused_with_it}
 use Rattle.ctl_run.proofs.run.check_source.Goals as goal
 
 -- a lexical fault is the first one, so a text that has one spells no tree
@@ -30,60 +32,17 @@ returns-in_err-program-clause-lexical c = λ fault has. absurd (c.in_ok-named.en
 pub returns-clause-lexical : goal.returns-clause-lexical
 returns-clause-lexical c = λ fault has. absurd (c.in_ok-named.ensures.all_faults fault (of_lexis has))
 
--- nor does a text that breaks a rule on names go on
-
-pub returns-in_err-named-clause-illegal : goal.returns-in_err-named-clause-illegal
-returns-in_err-named-clause-illegal c = λ breach text.
-    let p = err_from_is_err_and c.from_residual.result c.from_residual.ensures.1 in
-    rw (p.1, p.2) (c.in_err-named.ensures.all_breaches breach text)
-
-pub returns-in-Some-clause-illegal : goal.returns-in-Some-clause-illegal
-returns-in-Some-clause-illegal c = λ breach text. absurd (c.in_ok-named.ensures.all_breaches breach text)
-
-pub returns-in_err-program-clause-illegal : goal.returns-in_err-program-clause-illegal
-returns-in_err-program-clause-illegal c = λ breach text. absurd (c.in_ok-named.ensures.all_breaches breach text)
-
-pub returns-clause-illegal : goal.returns-clause-illegal
-returns-clause-illegal c = λ breach text. absurd (c.in_ok-named.ensures.all_breaches breach text)
-
--- nor does a text with a construct that is not run
-
-pub returns-in_err-named-clause-left_out : goal.returns-in_err-named-clause-left_out
-returns-in_err-named-clause-left_out c = λ fault text.
-    let p = err_from_is_err_and c.from_residual.result c.from_residual.ensures.1 in
-    rw (p.1, p.2) (inr (c.in_err-named.ensures.all_legal text.text))
-
-abbrev fault_in : Fault → Option Fault → Fault
-fault_in other None = other
-fault_in other (Some fault) = fault
-
-same_fault : (a b : Fault) (found : Option Fault) → found ≡ Some a → found ≡ Some b → a ≡ b
-same_fault a b found e f = ap (fault_in a) (sym e ∙ f)
-
-pub returns-in-Some-clause-left_out : goal.returns-in-Some-clause-left_out
-returns-in-Some-clause-left_out c = λ fault text.
-    let tree = c.in_ok-named.named.tree in
-    inl (same_fault c.in-Some.fault fault (left_out_of tree) (sym c.left_out.ensures.first ∙ c.in-Some.is) (text.first tree (c.in_ok-named.ensures.all_legal text.text)))
-
-none_left : (fault : Fault) (found : Option Fault) → found ≡ None → found ≡ Some fault → ⊥
-none_left fault found e f = absurd (cc)
-
-pub returns-in_err-program-clause-left_out : goal.returns-in_err-program-clause-left_out
-returns-in_err-program-clause-left_out c = λ fault text.
-    let tree = c.in_ok-named.named.tree in
-    absurd (none_left fault (left_out_of tree) (sym c.left_out.ensures.first ∙ c.in_default.is) (text.first tree (c.in_ok-named.ensures.all_legal text.text)))
-
-pub returns-clause-left_out : goal.returns-clause-left_out
-returns-clause-left_out c = λ fault text.
-    let tree = c.in_ok-named.named.tree in
-    absurd (none_left fault (left_out_of tree) (sym c.left_out.ensures.first ∙ c.in_default.is) (text.first tree (c.in_ok-named.ensures.all_legal text.text)))
-
--- a text is refused with its first fault, for a rule on names, for a construct that is not run, for its program, or for want of memory
+-- a text is refused with its fault, or for want of memory
 
 because : (source : List ℕ) (fault : Fault) → HasEarlyFault source fault ⊎ IsMemory fault → IsRefused source fault
-because source fault (inl (of_text h)) = by_text h
-because source fault (inl (of_names b h)) = by_names b h
+because source fault (inl (of_text h)) = for_fault (by_text h)
+because source fault (inl (of_names b h)) = for_fault (by_names b h)
 because source fault (inr h) = by_memory h
+
+of_program : (source : List ℕ) (tree : Tree) (fault : Fault) → SpellsRunTree source tree → IsRefusedProgram tree fault → IsRefused source fault
+of_program source tree fault run (breaks first) = for_fault (by_types (record { tree = tree; run = run; first = first }))
+of_program source tree fault run (leaves_out first) = for_fault (by_value (record { tree = tree; run = run; first = first }))
+of_program source tree fault run wants_memory = by_memory refl
 
 pub returns-in_err-named-clause-refused : goal.returns-in_err-named-clause-refused
 returns-in_err-named-clause-refused c =
@@ -91,12 +50,48 @@ returns-in_err-named-clause-refused c =
     rw (p.1, p.2) (because c.args.source.now _ c.in_err-named.ensures.refused)
 
 pub returns-in-Some-clause-refused : goal.returns-in-Some-clause-refused
-returns-in-Some-clause-refused c = by_construct (record { tree = c.in_ok-named.named.tree; legal = c.in_ok-named.ensures.found; first = sym c.left_out.ensures.first ∙ c.in-Some.is })
+returns-in-Some-clause-refused c = for_fault (by_construct (record { tree = c.in_ok-named.named.tree; legal = c.in_ok-named.ensures.found; first = sym c.left_out.ensures.first ∙ c.in-Some.is }))
 
 pub returns-in_err-program-clause-refused : goal.returns-in_err-program-clause-refused
 returns-in_err-program-clause-refused c =
     let p = err_from_is_err_and c.from_residual-in_err-program.result c.from_residual-in_err-program.ensures.1 in
-    rw (p.1, p.2) (by_program c.in_ok-named.named.tree c.in_ok-named.ensures.found (sym c.left_out.ensures.first ∙ c.in_default.is) c.in_err-program.ensures.refused c.in_err-program.ensures.illegal c.in_err-program.ensures.left_out)
+    rw (p.1, p.2) (of_program c.args.source.now c.in_ok-named.named.tree _ (record { legal = c.in_ok-named.ensures.found; all_run = sym c.left_out.ensures.first ∙ c.in_default.is }) c.in_err-program.ensures.because)
+
+-- so one that has a fault is refused with it
+
+pub returns-in_err-named-clause-faulty : goal.returns-in_err-named-clause-faulty
+returns-in_err-named-clause-faulty c = λ fault has.
+    let p = err_from_is_err_and c.from_residual.result c.from_residual.ensures.1 in
+    rw (p.1, p.2) (refused_with_it c.args.source.now fault _ has (because c.args.source.now _ c.in_err-named.ensures.refused))
+
+pub returns-in-Some-clause-faulty : goal.returns-in-Some-clause-faulty
+returns-in-Some-clause-faulty c = λ fault has.
+    refused_with_it c.args.source.now fault c.in-Some.fault has (for_fault (by_construct (record { tree = c.in_ok-named.named.tree; legal = c.in_ok-named.ensures.found; first = sym c.left_out.ensures.first ∙ c.in-Some.is })))
+
+pub returns-in_err-program-clause-faulty : goal.returns-in_err-program-clause-faulty
+returns-in_err-program-clause-faulty c = λ fault has.
+    let p = err_from_is_err_and c.from_residual-in_err-program.result c.from_residual-in_err-program.ensures.1 in
+    rw (p.1, p.2) (refused_with_it c.args.source.now fault _ has (of_program c.args.source.now c.in_ok-named.named.tree _ (record { legal = c.in_ok-named.ensures.found; all_run = sym c.left_out.ensures.first ∙ c.in_default.is }) c.in_err-program.ensures.because))
+
+pub returns-clause-faulty : goal.returns-clause-faulty
+returns-clause-faulty c = λ fault has.
+    never_both c.args.source.now fault has (accepted_faultless c.args.source.now c.in_ok-named.named.tree c.in_ok-named.ensures.found (sym c.left_out.ensures.first ∙ c.in_default.is) c.in_ok-program.ensures.legal c.in_ok-program.ensures.all_run)
+
+-- and one that has none is refused for want of memory alone
+
+pub returns-in_err-named-clause-faultless : goal.returns-in_err-named-clause-faultless
+returns-in_err-named-clause-faultless c = λ text.
+    let p = err_from_is_err_and c.from_residual.result c.from_residual.ensures.1 in
+    rw (p.1, p.2) (refused_for_memory c.args.source.now _ text (because c.args.source.now _ c.in_err-named.ensures.refused))
+
+pub returns-in-Some-clause-faultless : goal.returns-in-Some-clause-faultless
+returns-in-Some-clause-faultless c = λ text.
+    refused_for_memory c.args.source.now c.in-Some.fault text (for_fault (by_construct (record { tree = c.in_ok-named.named.tree; legal = c.in_ok-named.ensures.found; first = sym c.left_out.ensures.first ∙ c.in-Some.is })))
+
+pub returns-in_err-program-clause-faultless : goal.returns-in_err-program-clause-faultless
+returns-in_err-program-clause-faultless c = λ text.
+    let p = err_from_is_err_and c.from_residual-in_err-program.result c.from_residual-in_err-program.ensures.1 in
+    rw (p.1, p.2) (refused_for_memory c.args.source.now _ text (of_program c.args.source.now c.in_ok-named.named.tree _ (record { legal = c.in_ok-named.ensures.found; all_run = sym c.left_out.ensures.first ∙ c.in_default.is }) c.in_err-program.ensures.because))
 
 -- an accepted text
 

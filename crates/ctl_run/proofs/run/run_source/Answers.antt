@@ -38,34 +38,35 @@ returns-in_err-machine-clause-refused c =
     let p = err_from_is_err_and c.from_residual-in_err-machine.result c.from_residual-in_err-machine.ensures.1 in
     rw p.1 (by_memory p.2)
 
--- a text that breaks a rule on names is refused by that check
+-- a text with a fault is refused by that check
 
-pub returns-in_err-program-clause-illegal : goal.returns-in_err-program-clause-illegal
-returns-in_err-program-clause-illegal c = λ breach text.
+pub returns-in_err-program-clause-faulty : goal.returns-in_err-program-clause-faulty
+returns-in_err-program-clause-faulty c = λ fault has.
     let p = err_from_is_err_and c.from_residual.result c.from_residual.ensures.1 in
-    rw (p.1, p.2) (c.in_err-program.ensures.illegal breach text)
+    rw (p.1, p.2) (c.in_err-program.ensures.faulty fault has)
 
-pub returns-in_err-code-clause-illegal : goal.returns-in_err-code-clause-illegal
-returns-in_err-code-clause-illegal c = λ breach text. absurd (c.in_ok-program.ensures.illegal breach text)
+pub returns-in_err-code-clause-faulty : goal.returns-in_err-code-clause-faulty
+returns-in_err-code-clause-faulty c = λ fault has. absurd (c.in_ok-program.ensures.faulty fault has)
 
-pub returns-in_err-machine-clause-illegal : goal.returns-in_err-machine-clause-illegal
-returns-in_err-machine-clause-illegal c = λ breach text. absurd (c.in_ok-program.ensures.illegal breach text)
+pub returns-in_err-machine-clause-faulty : goal.returns-in_err-machine-clause-faulty
+returns-in_err-machine-clause-faulty c = λ fault has. absurd (c.in_ok-program.ensures.faulty fault has)
 
-pub returns-clause-illegal : goal.returns-clause-illegal
-returns-clause-illegal c = λ breach text. absurd (c.in_ok-program.ensures.illegal breach text)
+pub returns-clause-faulty : goal.returns-clause-faulty
+returns-clause-faulty c = λ fault has. absurd (c.in_ok-program.ensures.faulty fault has)
 
--- nor does a text with a construct that is not run go on
+-- and one that has none, for want of memory alone
 
-pub returns-in_err-program-clause-left_out : goal.returns-in_err-program-clause-left_out
-returns-in_err-program-clause-left_out c = λ fault text.
+pub returns-in_err-program-clause-faultless : goal.returns-in_err-program-clause-faultless
+returns-in_err-program-clause-faultless c = λ text.
     let p = err_from_is_err_and c.from_residual.result c.from_residual.ensures.1 in
-    rw (p.1, p.2) (c.in_err-program.ensures.left_out fault text)
+    rw (p.1, p.2) (c.in_err-program.ensures.faultless text)
 
-pub returns-in_err-code-clause-left_out : goal.returns-in_err-code-clause-left_out
-returns-in_err-code-clause-left_out c = λ fault text. absurd (c.in_ok-program.ensures.left_out fault text)
+pub returns-in_err-code-clause-faultless : goal.returns-in_err-code-clause-faultless
+returns-in_err-code-clause-faultless c = λ text.
+    let p = err_from_is_err_and c.from_residual-in_err-code.result c.from_residual-in_err-code.ensures.1 in
+    rw (p.1, p.2) (c.in_err-code.ensures.memory c.in_ok-program.ensures.accepted.in_slice)
 
-pub returns-in_err-machine-clause-left_out : goal.returns-in_err-machine-clause-left_out
-returns-in_err-machine-clause-left_out c = λ fault text. absurd (c.in_ok-program.ensures.left_out fault text)
-
-pub returns-clause-left_out : goal.returns-clause-left_out
-returns-clause-left_out c = λ fault text. absurd (c.in_ok-program.ensures.left_out fault text)
+pub returns-in_err-machine-clause-faultless : goal.returns-in_err-machine-clause-faultless
+returns-in_err-machine-clause-faultless c = λ text.
+    let p = err_from_is_err_and c.from_residual-in_err-machine.result c.from_residual-in_err-machine.ensures.1 in
+    rw p.1 p.2

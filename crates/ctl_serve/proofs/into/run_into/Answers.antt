@@ -48,8 +48,8 @@ returns-in-Ok-clause-lexical g c = λ fault has. absurd (c.in-Ok.ensures.lexical
 pub returns-in-Ok-clause-grammatical : goal.returns-in-Ok-clause-grammatical
 returns-in-Ok-clause-grammatical g c = λ fault has. absurd (c.in-Ok.ensures.grammatical fault has)
 
-pub returns-in-Ok-clause-illegal : goal.returns-in-Ok-clause-illegal
-returns-in-Ok-clause-illegal g c = λ breach text. absurd (c.in-Ok.ensures.illegal breach text)
+pub returns-in-Ok-clause-faulty : goal.returns-in-Ok-clause-faulty
+returns-in-Ok-clause-faulty g c = λ fault has. absurd (c.in-Ok.ensures.faulty fault has)
 
 pub returns-in-Err-clause-because : goal.returns-in-Err-clause-because
 returns-in-Err-clause-because g c = rw c.from.ensures c.in-Err.ensures.refused
@@ -60,11 +60,13 @@ returns-in-Err-clause-lexical g c = λ fault has. rw c.from.ensures (c.in-Err.en
 pub returns-in-Err-clause-grammatical : goal.returns-in-Err-clause-grammatical
 returns-in-Err-clause-grammatical g c = λ fault has. rw c.from.ensures (c.in-Err.ensures.grammatical fault has)
 
-pub returns-in-Err-clause-illegal : goal.returns-in-Err-clause-illegal
-returns-in-Err-clause-illegal g c = λ breach text. rw c.from.ensures (c.in-Err.ensures.illegal breach text)
+pub returns-in-Err-clause-faulty : goal.returns-in-Err-clause-faulty
+returns-in-Err-clause-faulty g c = λ fault has. rw c.from.ensures (c.in-Err.ensures.faulty fault has)
 
-pub returns-in-Ok-clause-left_out : goal.returns-in-Ok-clause-left_out
-returns-in-Ok-clause-left_out g c = λ fault text. absurd (c.in-Ok.ensures.left_out fault text)
+-- a faultless text is refused for want of memory alone
 
-pub returns-in-Err-clause-left_out : goal.returns-in-Err-clause-left_out
-returns-in-Err-clause-left_out g c = λ fault text. rw c.from.ensures (c.in-Err.ensures.left_out fault text)
+pub returns-in-Ok-clause-faultless : goal.returns-in-Ok-clause-faultless
+returns-in-Ok-clause-faultless g c = λ text. c.show_run.ensures.memory
+
+pub returns-in-Err-clause-faultless : goal.returns-in-Err-clause-faultless
+returns-in-Err-clause-faultless g c = λ text. rw c.from.ensures (c.in-Err.ensures.faultless text)

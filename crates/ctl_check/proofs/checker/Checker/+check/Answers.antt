@@ -1,14 +1,15 @@
-use Rattle.std.proofs.Common.{◌≡◌, Bool, true, false, List, [], IfErr, OnOk, refl, sym, ap, subst, ◌∙◌, rules}
-use Rattle.ctl_tree.specs.declared.checked.Arm.{Arm}
+use Rattle.std.proofs.Common.{◌≡◌, Bool, true, false, List, [], Option, None, IfErr, OnOk, refl, sym, ap, subst, ◌∙◌, rules}
 use Rattle.ctl_tree.specs.declared.checked.Stmt.{Stmt}
+use Rattle.ctl_tree.specs.declared.fault.Fault.{Fault}
 use Rattle.ctl_tree.specs.declared.tree.Branch.{Branch}
 use Rattle.ctl_tree.specs.declared.tree.Item.{Item}
 use Rattle.ctl_tree.specs.declared.tree.Statement.{Statement}
 use Rattle.ctl_tree.specs.declared.tree.Handled.{out-Handled}
 use Rattle.ctl_tree.specs.declared.tree.BodyPart.{out-BodyPart}
-use Rattle.ctl_check.specs.Refusals.{IsAnswered}
-use Rattle.ctl_check.specs.State.{State, state_of, in_block, behind_block, in_loop, with_object, with_formals}
-use Rattle.ctl_check.specs.Parts.{BodyText, after_part, part_bodies, after_text, text_bodies, PartListMeans, after_item, after_item_list, after_statement, after_statement_list, after_branch, after_branch_list, legal_item, legal_item_list, legal_handled, legal_text, legal_statement, legal_statement_list, legal_branch, legal_branch_list, legal_loop, after_loop, loop_bodies, LoopMeans, StatementMeans, StatementListMeans, BranchMeans, BranchListMeans, item_bodies, item_list_bodies, statement_bodies, statement_list_bodies, branch_bodies, branch_list_bodies}
+use Rattle.ctl_check.specs.Faults.{body_fault, handled_fault, text_of_body_fault, statement_fault, item_fault, branch_fault, item_list_fault, statement_list_fault, arm_fault, branch_list_fault, loop_fault}
+use Rattle.ctl_check.specs.Refusals.{Tells}
+use Rattle.ctl_check.specs.State.{State, state_of, in_block, behind_block, in_loop, with_object, with_formals, enter_body}
+use Rattle.ctl_check.specs.Parts.{BodyText, after_part, part_bodies, after_text, text_bodies, PartListMeans, after_item, after_item_list, after_statement, after_statement_list, after_branch, after_branch_list, legal_item, legal_item_list, legal_statement, legal_statement_list, legal_branch, legal_branch_list, legal_loop, after_loop, loop_bodies, LoopMeans, StatementMeans, StatementListMeans, BranchMeans, BranchListMeans, item_bodies, item_list_bodies, statement_bodies, statement_list_bodies, branch_bodies, branch_list_bodies}
 use Rattle.ctl_check.specs.Reading.{Grows, Reads}
 use Rattle.ctl_tree.specs.declared.checked.Stmt.TheVariants as whole
 use Rattle.ctl_tree.specs.declared.checked.Ty.TheVariants.{Integer}
@@ -17,11 +18,13 @@ use Rattle.ctl_tree.specs.declared.tree.Formal.{Formal}
 use Rattle.ctl_legality.specs.declared.view.Part.{Part}
 use Rattle.ctl_check.specs.Program.{TextMeans}
 use Rattle.ctl_check.specs.Statements.{after_assignment}
-use Rattle.ctl_check.proofs.Following.{grows_reads, both_true, first_false, second_false, reads_as, grows_then, legal_turn, illegal_turn, reads_turn, reads_end, means_turn, means_end, items_made, grows_on}
-use Rattle.ctl_check.proofs.StatementRows.{has_none, none_left, some_left, handled_means, after_handled_is, legal_handled_is, handled_bodies_are, legal_text_is, text_means, legal_block, block_means, branch_means, after_loop_is, legal_loop_is, loop_bodies_are, loop_means}
-use Rattle.ctl_check.proofs.Regions.{items_wrong, handled_wrong, behind_counted, behind_part, block_leaves, body_leaves, loop_leaves, part_is, text_reads}
-use Rattle.ctl_check.proofs.WholeBodies.{branch_legal, branch_wrong, branch_reads, entered_is, body_reads}
-use Rattle.ctl_check.proofs.Compound.{if_ok_as, on_ok_as, block_read, block_wrong, if_read, whole_if, arms_wrong, others_wrong}
+use Rattle.ctl_check.proofs.Following.{grows_reads, both_true, reads_as, grows_then, legal_turn, reads_turn, reads_end, means_turn, means_end, items_made, grows_on}
+use Rattle.ctl_check.proofs.StatementRows.{has_none, text_fault_is, loop_fault_is, handled_means, after_handled_is, legal_handled_is, handled_bodies_are, legal_text_is, text_means, legal_block, block_means, branch_means, after_loop_is, legal_loop_is, loop_bodies_are, loop_means}
+use Rattle.ctl_check.proofs.Regions.{behind_counted, behind_part, block_leaves, body_leaves, loop_leaves, part_is, text_reads}
+use Rattle.ctl_check.proofs.WholeBodies.{branch_legal, branch_reads, entered_is, body_reads}
+use Rattle.ctl_check.proofs.Compound.{if_ok_as, on_ok_as, block_read, if_read, whole_if}
+use Rattle.ctl_check.proofs.Telling.{told_as, told_first, told_second, kept_both}
+use Rattle.ctl_check.proofs.TellingParts.{overridden_told, kept_turn, told_turn, arm_is, if_kept, arms_told, others_told, no_handler, handled_kept, handled_told, handler_told, part_kept, items_told, part_told, block_kept, block_told}
 use Rattle.ctl_check.proofs.checker.Checker.+check.Goals as goal
 
 abbrev var_in : State → Var
@@ -47,6 +50,21 @@ arms_fit l u ys = legal_branch_list u l ys
 
 abbrev item_fits : State → Item → Bool
 item_fits u y = legal_item u y.kind
+
+abbrev fault_in : Bool → State → Statement → Option Fault
+fault_in l u y = statement_fault u l y.span y.kind
+
+abbrev faults_in : Bool → State → List Statement → Option Fault
+faults_in l u ys = statement_list_fault u l ys
+
+abbrev fault_of_branch : Bool → State → Branch → Option Fault
+fault_of_branch l u y = branch_fault u l y
+
+abbrev faults_of_branches : Bool → State → List Branch → Option Fault
+faults_of_branches l u ys = branch_list_fault u l ys
+
+abbrev fault_of_item : State → Item → Option Fault
+fault_of_item u y = item_fault u y.span y.kind
 
 abbrev bodies_in : State → Statement → List BodyText
 bodies_in u y = statement_bodies u y.kind
@@ -74,6 +92,7 @@ statements-loop-statement-preserved t c =
     let kept = c.loop-statement.invariant in
     record {
       legal = legal_turn next_statement after_statement_list (λ s y ys. refl) (fits l) (all_fit l) (λ s y ys. refl) xs i x lt at (state_of now p) (state_of new p) _ ok.legal ok.reads.state kept.legal;
+      fault = kept_turn next_statement (fault_in l) (faults_in l) (λ s y ys. refl) xs i x lt at (state_of now p) (state_of new p) _ ok.kept ok.reads.state kept.fault;
       reads = λ last q r. kept.reads last q (reads_turn next_statement after_statement_list (λ s y ys. refl) bodies_in statement_list_bodies (λ s y ys. refl) xs i x lt at now new last p p q ok.reads r);
       means = λ more r. means_turn next_statement One StatementListMeans (λ s y ys z zs a b. (a, b)) xs i x lt at (state_of c.args.self.now p) (state_of now p) (state_of new p) c.in_ok-statement.field-0 c.loop-statement.all.items c.push.new.self.items more ok.means ok.reads.state c.in_ok-push.ensures.items kept.means r;
     }
@@ -91,14 +110,31 @@ statements-returns-clause-means t c =
 
 -- ---- the arms of an if statement
 
-pub arms-returns-in_err-body-clause-err : goal.arms-returns-in_err-body-clause-err
-arms-returns-in_err-body-clause-err t c =
+pub arm-returns-clause-kept : goal.arm-returns-clause-kept
+arm-returns-clause-kept t c = kept_both _ _ c.in_ok-test.ensures.kept c.in_ok-body.ensures.kept
+
+pub arm-returns-in_err-test-clause-told : goal.arm-returns-in_err-test-clause-told
+arm-returns-in_err-test-clause-told t c =
+    let s = state_of c.args.self.now c.args.part in
+    let h : Tells (arm_fault s c.args.in_loop c.args.condition.now c.args.statements.now) c.in_err-test.field-0.0 = told_first _ _ _ c.in_err-test.ensures.told in
+    search (rules, h)
+
+pub arm-returns-in_err-body-clause-told : goal.arm-returns-in_err-body-clause-told
+arm-returns-in_err-body-clause-told t c =
+    let s = state_of c.args.self.now c.args.part in
+    let h : Tells (arm_fault s c.args.in_loop c.args.condition.now c.args.statements.now) c.in_err-body.field-0.0 = told_second _ _ _ c.in_ok-test.ensures.kept c.in_err-body.ensures.told in
+    search (rules, h)
+
+pub arms-returns-in_err-arm-clause-told : goal.arms-returns-in_err-arm-clause-told
+arms-returns-in_err-arm-clause-told t c =
     let p = c.args.part in
     let l = c.args.in_loop in
     let s = state_of c.loop-branch.self p in
     let b = c.branch-item.result in
-    let wrong : legal_statement_list s l c.deref.result.now ≡ false → legal_branch_list (state_of c.args.self.now p) l c.args.branches.now ≡ false = λ h. illegal_turn after_branch after_branch_list (λ u y ys. refl) (arm_fits l) (arms_fit l) (λ u y ys. refl) c.args.branches.now c.loop-branch.branch-index b c.loop-branch-test.true c.branch-item.is s _ (branch_wrong s l b c.deref.result.now c.deref.ensures.value h) c.loop-branch.invariant.legal in
-    search (rules, wrong)
+    let h : Tells (branch_list_fault (state_of c.args.self.now p) l c.args.branches.now) c.in_err-arm.field-0.0 =
+    told_turn after_branch (fault_of_branch l) (faults_of_branches l) (λ u y ys. refl) c.args.branches.now c.loop-branch.branch-index b c.loop-branch-test.true c.branch-item.is s _ _ c.loop-branch.invariant.fault
+    (told_as _ _ _ (arm_is s l b c.deref.result.now c.deref.ensures.value) c.in_err-arm.ensures.told) in
+    search (rules, h)
 
 pub arms-loop-branch-preserved : goal.arms-loop-branch-preserved
 arms-loop-branch-preserved t c =
@@ -109,19 +145,20 @@ arms-loop-branch-preserved t c =
     let at = c.branch-item.is in
     let p = c.args.part in
     let now = c.loop-branch.self in
-    let new = c.statements.new.self in
+    let new = c.arm.new.self in
     let l = c.args.in_loop in
-    let ok = c.in_ok-body.ensures in
+    let ok = c.in_ok-arm.ensures in
     let kept = c.loop-branch.invariant in
     let ws = c.deref.result.now in
     let same = c.deref.ensures.value in
     let s = state_of now p in
-    let arm : Arm = record { test = c.in_ok-test.test; body = c.in_ok-body.body } in
-    let legal = branch_legal s l x ws same c.in_ok-test.ensures.ty ok.legal in
+    let arm = c.in_ok-arm.field-0 in
+    let legal = branch_legal s l x ws same ok.ty ok.legal in
     let reads = branch_reads now new p x ws same ok.reads in
-    let means = branch_means x s arm c.in_ok-test.ensures.expr (subst (λ ys. StatementListMeans s ys c.in_ok-body.body.items) same ok.means) in
+    let means = branch_means x s arm ok.test (subst (λ ys. StatementListMeans s ys arm.body.items) same ok.body) in
     record {
       legal = legal_turn after_branch after_branch_list (λ u y ys. refl) (arm_fits l) (arms_fit l) (λ u y ys. refl) xs i x lt at s (state_of new p) _ legal reads.state kept.legal;
+      fault = kept_turn after_branch (fault_of_branch l) (faults_of_branches l) (λ u y ys. refl) xs i x lt at s (state_of new p) _ (sym (arm_is s l x ws same) ∙ ok.kept) reads.state kept.fault;
       reads = λ last q r. kept.reads last q (reads_turn after_branch after_branch_list (λ u y ys. refl) branch_bodies branch_list_bodies (λ u y ys. refl) xs i x lt at now new last p p q reads r);
       means = λ more r. means_turn after_branch BranchMeans BranchListMeans (λ u y ys z zs a b. (a, b)) xs i x lt at (state_of c.args.self.now p) s (state_of new p) arm c.loop-branch.arms.items c.push.new.self.items more means reads.state c.in_ok-push.ensures.items kept.means r;
     }
@@ -154,6 +191,7 @@ items-loop-item-preserved t c =
     let kept = c.loop-item.invariant in
     record {
       legal = legal_turn next_item after_item_list (λ s y ys. refl) item_fits legal_item_list (λ s y ys. refl) xs i x lt at (state_of now p) (state_of new q) _ ok.legal ok.reads.state kept.legal;
+      fault = kept_turn next_item fault_of_item item_list_fault (λ s y ys. refl) xs i x lt at (state_of now p) (state_of new q) _ ok.kept ok.reads.state kept.fault;
       reads = λ last r h. kept.reads last r (reads_turn next_item after_item_list (λ s y ys. refl) bodies_of item_list_bodies (λ s y ys. refl) xs i x lt at now new last p q r ok.reads h);
       made = λ last rest. kept.made last (items_made xs i x lt at (state_of now p) (state_of new q) ok.reads.state c.loop-item.all.items c.item.new.all.items last ok.made rest);
     }
@@ -184,6 +222,13 @@ body-returns-clause-reads t c =
     (subst (λ (fs : List Formal). Reads b m p (behind_block v (after_text (with_formals (in_block v) fs r) body)) (text_bodies (with_formals (in_block v) fs r) body)) c.deref.ensures.value c.in_ok-master.ensures.reads)
     (subst (λ (fs : List Formal). TextMeans (with_formals (in_block v) fs r) body c.in_ok-master.master) c.deref.ensures.value c.in_ok-master.ensures.means)
     c.in_ok-complete.ensures.grows c.in_ok-complete.ensures.read
+
+pub body-returns-in_err-number-clause-told : goal.body-returns-in_err-number-clause-told
+body-returns-in_err-number-clause-told t c =
+    let s = state_of c.args.self.now c.args.part in
+    let hd = c.args.heading.now in
+    let h : Tells (body_fault hd (enter_body s hd) c.args.body.now) c.in_err-number.field-0.0 = overridden_told s hd c.in-Some.overridden c.args.body.now _ (sym c.in_ok-overridden.ensures ∙ c.in-Some.is) c.in_err-number.ensures.told in
+    search (rules, h)
 
 -- ---- loops
 
@@ -236,261 +281,211 @@ statement-returns-in-Assignment-clause-reads t c =
     let bodies : [] ≡ statement_bodies s d = ap (statement_bodies s) (sym c.in-Assignment.is) in
     on_ok_as (Grows a b p u) (Reads a b p (after_statement s d) (statement_bodies s d)) c.assignment.result (λ g. reads_as a b p u (after_statement s d) [] (statement_bodies s d) after bodies (grows_reads a b p u g)) c.assignment.ensures.grows
 
-pub statement-returns-in_err-arms-in-If-clause-err : goal.statement-returns-in_err-arms-in-If-clause-err
-statement-returns-in_err-arms-in-If-clause-err t c =
+pub statement-returns-in_ok-statements-in-If : goal.statement-returns-in_ok-statements-in-If
+statement-returns-in_ok-statements-in-If t c =
+    let a = c.args.self.now in
+    let b = c.arms.new.self in
+    let p = c.args.part in
+    let l = c.args.in_loop in
+    let d = c.args.statement.now in
+    let bs = c.in-If.branches in
+    let ss = c.in-If.others in
+    let e = c.deref.ensures.value in
+    let f = c.deref-in-If.ensures.value in
+    let arms = c.in_ok-arms-in-If.ensures in
+    let others = c.in_ok-statements-in-If.ensures in
+    let r = if_read bs ss d.kind c.in-If.is a b c.statements.new.self p l c.deref.result.now c.deref-in-If.result.now e f arms.legal arms.reads others.legal others.reads in
+    record {
+      legal = r.legal;
+      reads = r.reads;
+      means = whole_if bs ss d.kind c.in-If.is c.in_ok-arms-in-If.arms c.in_ok-statements-in-If.field-0 _ refl (state_of a p) (state_of b p) c.deref.result.now c.deref-in-If.result.now e f arms.reads.state arms.means others.means;
+      kept = if_kept bs ss d.kind c.in-If.is (state_of a p) (state_of b p) l d.span c.deref.result.now c.deref-in-If.result.now e f arms.reads.state arms.kept others.kept;
+      told = tt;
+    }
+
+pub statement-returns-in-Loop : goal.statement-returns-in-Loop
+statement-returns-in-Loop t c =
     let s = state_of c.args.self.now c.args.part in
     let l = c.args.in_loop in
-    let wrong : legal_branch_list s l c.deref.result.now ≡ false → legal_statement s l c.args.statement.now.kind ≡ false = λ h. arms_wrong c.in-If.branches c.in-If.others c.args.statement.now.kind c.in-If.is s l c.deref.result.now c.deref.ensures.value h in
-    search (rules, wrong)
-
-pub statement-returns-in_err-statements-in-If-clause-err : goal.statement-returns-in_err-statements-in-If-clause-err
-statement-returns-in_err-statements-in-If-clause-err t c =
-    let s = state_of c.args.self.now c.args.part in
-    let u = state_of c.arms.new.self c.args.part in
-    let l = c.args.in_loop in
-    let wrong : legal_statement_list u l c.deref-in-If.result.now ≡ false → legal_statement s l c.args.statement.now.kind ≡ false = λ h. others_wrong c.in-If.branches c.in-If.others c.args.statement.now.kind c.in-If.is s u l c.deref.result.now c.deref-in-If.result.now c.deref.ensures.value c.deref-in-If.ensures.value c.in_ok-arms-in-If.ensures.reads.state h in
-    search (rules, wrong)
-
-pub statement-returns-in_ok-statements-in-If-clause-legal : goal.statement-returns-in_ok-statements-in-If-clause-legal
-statement-returns-in_ok-statements-in-If-clause-legal t c = (if_read c.in-If.branches c.in-If.others c.args.statement.now.kind c.in-If.is c.args.self.now c.arms.new.self c.statements.new.self c.args.part c.args.in_loop c.deref.result.now c.deref-in-If.result.now c.deref.ensures.value c.deref-in-If.ensures.value c.in_ok-arms-in-If.ensures.legal c.in_ok-arms-in-If.ensures.reads c.in_ok-statements-in-If.ensures.legal c.in_ok-statements-in-If.ensures.reads).legal
-
-pub statement-returns-in_ok-statements-in-If-clause-reads : goal.statement-returns-in_ok-statements-in-If-clause-reads
-statement-returns-in_ok-statements-in-If-clause-reads t c = (if_read c.in-If.branches c.in-If.others c.args.statement.now.kind c.in-If.is c.args.self.now c.arms.new.self c.statements.new.self c.args.part c.args.in_loop c.deref.result.now c.deref-in-If.result.now c.deref.ensures.value c.deref-in-If.ensures.value c.in_ok-arms-in-If.ensures.legal c.in_ok-arms-in-If.ensures.reads c.in_ok-statements-in-If.ensures.legal c.in_ok-statements-in-If.ensures.reads).reads
-
-pub statement-returns-in_ok-statements-in-If-clause-means : goal.statement-returns-in_ok-statements-in-If-clause-means
-statement-returns-in_ok-statements-in-If-clause-means t c = whole_if c.in-If.branches c.in-If.others c.args.statement.now.kind c.in-If.is c.in_ok-arms-in-If.arms c.in_ok-statements-in-If.field-0 _ refl (state_of c.args.self.now c.args.part) (state_of c.arms.new.self c.args.part) c.deref.result.now c.deref-in-If.result.now c.deref.ensures.value c.deref-in-If.ensures.value c.in_ok-arms-in-If.ensures.reads.state c.in_ok-arms-in-If.ensures.means c.in_ok-statements-in-If.ensures.means
-
-pub statement-returns-in-Loop-clause-legal : goal.statement-returns-in-Loop-clause-legal
-statement-returns-in-Loop-clause-legal t c =
-    let s = state_of c.args.self.now c.args.part in
-    let l = c.args.in_loop in
-    let scheme = c.in-Loop.scheme in
-    let ss = c.in-Loop.statements in
-    let same : legal_loop s scheme c.deref-in-Loop.result.now ≡ legal_statement s l c.args.statement.now.kind = ap (legal_loop s scheme) c.deref-in-Loop.ensures.value ∙ sym (legal_loop_is scheme ss s l) ∙ ap (legal_statement s l) (sym c.in-Loop.is) in
-    subst (λ b. OnOk c.a_loop.result (b ≡ true)) same c.a_loop.ensures.legal
-
-pub statement-returns-in-Loop-clause-err : goal.statement-returns-in-Loop-clause-err
-statement-returns-in-Loop-clause-err t c =
-    let s = state_of c.args.self.now c.args.part in
-    let l = c.args.in_loop in
-    let scheme = c.in-Loop.scheme in
-    let ss = c.in-Loop.statements in
-    let same : legal_loop s scheme c.deref-in-Loop.result.now ≡ legal_statement s l c.args.statement.now.kind = ap (legal_loop s scheme) c.deref-in-Loop.ensures.value ∙ sym (legal_loop_is scheme ss s l) ∙ ap (legal_statement s l) (sym c.in-Loop.is) in
-    subst (λ b. IfErr c.a_loop.result (IsAnswered b)) same c.a_loop.ensures.err
-
-pub statement-returns-in-Loop-clause-reads : goal.statement-returns-in-Loop-clause-reads
-statement-returns-in-Loop-clause-reads t c =
-    let s = state_of c.args.self.now c.args.part in
     let scheme = c.in-Loop.scheme in
     let ss = c.in-Loop.statements in
     let ws = c.deref-in-Loop.result.now in
+    let e = c.deref-in-Loop.ensures.value in
     let d = c.args.statement.now.kind in
-    let same : after_loop s scheme ws ≡ after_statement s d = ap (after_loop s scheme) c.deref-in-Loop.ensures.value ∙ sym (after_loop_is scheme ss s) ∙ ap (after_statement s) (sym c.in-Loop.is) in
-    let bodies : loop_bodies s scheme ws ≡ statement_bodies s d = ap (loop_bodies s scheme) c.deref-in-Loop.ensures.value ∙ sym (loop_bodies_are scheme ss s) ∙ ap (statement_bodies s) (sym c.in-Loop.is) in
-    subst (λ bs. OnOk c.a_loop.result (Reads c.args.self.now c.a_loop.new.self c.args.part (after_statement s d) bs)) bodies (subst (λ u. OnOk c.a_loop.result (Reads c.args.self.now c.a_loop.new.self c.args.part u (loop_bodies s scheme ws))) same c.a_loop.ensures.reads)
+    let at = c.args.statement.now.span in
+    let fits : legal_loop s scheme ws ≡ legal_statement s l d = ap (legal_loop s scheme) e ∙ sym (legal_loop_is scheme ss s l) ∙ ap (legal_statement s l) (sym c.in-Loop.is) in
+    let after : after_loop s scheme ws ≡ after_statement s d = ap (after_loop s scheme) e ∙ sym (after_loop_is scheme ss s) ∙ ap (after_statement s) (sym c.in-Loop.is) in
+    let bodies : loop_bodies s scheme ws ≡ statement_bodies s d = ap (loop_bodies s scheme) e ∙ sym (loop_bodies_are scheme ss s) ∙ ap (statement_bodies s) (sym c.in-Loop.is) in
+    let fault : loop_fault s scheme ws ≡ statement_fault s l at d = ap (loop_fault s scheme) e ∙ sym (loop_fault_is scheme ss s l at) ∙ ap (statement_fault s l at) (sym c.in-Loop.is) in
+    let read = subst (λ u. OnOk c.a_loop.result (Reads c.args.self.now c.a_loop.new.self c.args.part u (loop_bodies s scheme ws))) after c.a_loop.ensures.reads in
+    record {
+      legal = subst (λ b. OnOk c.a_loop.result (b ≡ true)) fits c.a_loop.ensures.legal;
+      reads = subst (λ bs. OnOk c.a_loop.result (Reads c.args.self.now c.a_loop.new.self c.args.part (after_statement s d) bs)) bodies read;
+      means = if_ok_as (LoopMeans s scheme ws) (StatementMeans s d) c.a_loop.result (λ x h. loop_means scheme ss d c.in-Loop.is s x (subst (λ ys. LoopMeans s scheme ys x) e h)) c.a_loop.ensures.means;
+      kept = subst (λ f. OnOk c.a_loop.result (f ≡ None)) fault c.a_loop.ensures.kept;
+      told = subst (λ f. IfErr c.a_loop.result (Tells f)) fault c.a_loop.ensures.told;
+    }
 
-pub statement-returns-in-Loop-clause-means : goal.statement-returns-in-Loop-clause-means
-statement-returns-in-Loop-clause-means t c =
-    let s = state_of c.args.self.now c.args.part in
-    let scheme = c.in-Loop.scheme in
-    let ss = c.in-Loop.statements in
-    if_ok_as (LoopMeans s scheme c.deref-in-Loop.result.now) (StatementMeans s c.args.statement.now.kind) c.a_loop.result (λ x h. loop_means scheme ss c.args.statement.now.kind c.in-Loop.is s x (subst (λ ys. LoopMeans s scheme ys x) c.deref-in-Loop.ensures.value h)) c.a_loop.ensures.means
-
-pub statement-returns-in_ok-new-in-Block-clause-legal : goal.statement-returns-in_ok-new-in-Block-clause-legal
-statement-returns-in_ok-new-in-Block-clause-legal t c =
+pub statement-returns-in_ok-new-in-Block : goal.statement-returns-in_ok-new-in-Block
+statement-returns-in_ok-new-in-Block t c =
     let a = c.args.self.now in
     let o = c.open-region.new.self in
     let n = c.handled.new.self in
     let p = c.args.part in
+    let l = c.args.in_loop in
     let s = state_of a p in
+    let d = c.args.statement.now in
+    let count = c.open-region.result.count in
     let q = c.in_ok-behind-in-Block.behind in
+    let ws = c.deref-in-Block.result.now in
     let its = c.in-Block.items.items in
     let hd = c.in-Block.handled in
-    let r = part_is o c.items.new.self n c.open-region.result.inner q (in_block s) c.args.in_loop c.deref-in-Block.result.now its hd c.new-all.result.items c.items.new.all.items c.in_ok-body-in-Block.body.items c.leave-master.result
-    c.open-region.ensures.grows.state c.deref-in-Block.ensures.value c.in_ok-behind-in-Block.ensures.legal c.in_ok-behind-in-Block.ensures.reads c.new-all.ensures.items c.in_ok-behind-in-Block.ensures.made
-    c.in_ok-body-in-Block.ensures.legal c.in_ok-body-in-Block.ensures.reads c.in_ok-body-in-Block.ensures.means
-    c.leave-master.ensures.slots c.leave-master.ensures.items c.leave-master.ensures.body c.leave-master.ensures.handlers in
-    ap (legal_statement s c.args.in_loop) c.in-Block.is ∙ legal_block c.in-Block.items hd s c.args.in_loop ∙ r.legal
-
-pub statement-returns-in_ok-new-in-Block-clause-reads : goal.statement-returns-in_ok-new-in-Block-clause-reads
-statement-returns-in_ok-new-in-Block-clause-reads t c =
-    let a = c.args.self.now in
-    let o = c.open-region.new.self in
-    let n = c.handled.new.self in
-    let p = c.args.part in
-    let s = state_of a p in
-    let q = c.in_ok-behind-in-Block.behind in
-    let its = c.in-Block.items.items in
-    let hd = c.in-Block.handled in
-    let r = part_is o c.items.new.self n c.open-region.result.inner q (in_block s) c.args.in_loop c.deref-in-Block.result.now its hd c.new-all.result.items c.items.new.all.items c.in_ok-body-in-Block.body.items c.leave-master.result
-    c.open-region.ensures.grows.state c.deref-in-Block.ensures.value c.in_ok-behind-in-Block.ensures.legal c.in_ok-behind-in-Block.ensures.reads c.new-all.ensures.items c.in_ok-behind-in-Block.ensures.made
-    c.in_ok-body-in-Block.ensures.legal c.in_ok-body-in-Block.ensures.reads c.in_ok-body-in-Block.ensures.means
-    c.leave-master.ensures.slots c.leave-master.ensures.items c.leave-master.ensures.body c.leave-master.ensures.handlers in
+    let same = c.deref-in-Block.ensures.value in
+    let items = c.in_ok-behind-in-Block.ensures in
+    let body = c.in_ok-body-in-Block.ensures in
+    let opened = c.open-region.ensures in
+    let left = c.leave-master.ensures in
+    let r = part_is o c.items.new.self n c.open-region.result.inner q (in_block s) l ws its hd c.new-all.result.items c.items.new.all.items c.in_ok-body-in-Block.body.items c.leave-master.result
+    opened.grows.state same items.legal items.reads c.new-all.ensures.items items.made body.legal body.reads body.means left.slots left.items left.body left.handlers in
     let t = after_part (in_block s) its hd in
     let bs = part_bodies (in_block s) its hd in
+    let inside = grows_then a o n c.open-region.result.inner q _ t bs opened.grows r.reads in
+    let whole_block = behind_part a n c.leave-master.new.self p q count c.open-region.result.slots t bs opened.names opened.kinds opened.slots (block_leaves a p count.names its hd opened.names) inside left.grows in
+    record {
+      legal = ap (legal_statement s l) c.in-Block.is ∙ legal_block c.in-Block.items hd s l ∙ r.legal;
+      reads = (block_read c.in-Block.items hd d.kind c.in-Block.is a c.leave-master.new.self p l r.legal whole_block).reads;
+      means = block_means c.in-Block.items hd d.kind c.in-Block.is c.in_ok-new-in-Block.field-0 _ refl s (subst (λ m. PartListMeans (in_block s) its hd m) (sym c.in_ok-new-in-Block.ensures.ok) r.means);
+      kept = block_kept c.in-Block.items hd d.kind c.in-Block.is s l d.span (part_kept (in_block s) (state_of o c.open-region.result.inner) (state_of c.items.new.self q) l ws its hd opened.grows.state same items.reads.state items.kept body.kept);
+      told = tt;
+    }
+
+pub inner_body-returns : goal.inner_body-returns
+inner_body-returns t c =
+    let a = c.args.self.now in
+    let o = c.open-region.new.self in
+    let f = c.formals.new.self in
+    let n = c.handled.new.self in
+    let p = c.args.part in
+    let fs = c.args.formals.now in
+    let number = c.args.type_number in
+    let s = with_formals (in_block (state_of a p)) fs number in
     let count = c.open-region.result.count in
-    let inside = grows_then a o n c.open-region.result.inner q _ t bs c.open-region.ensures.grows r.reads in
-    let whole_block = behind_part a n c.leave-master.new.self p q count c.open-region.result.slots t bs c.open-region.ensures.names c.open-region.ensures.kinds c.open-region.ensures.slots (block_leaves a p count.names its hd c.open-region.ensures.names) inside c.leave-master.ensures.grows in
-    (block_read c.in-Block.items hd c.args.statement.now.kind c.in-Block.is a c.leave-master.new.self p c.args.in_loop r.legal whole_block).reads
-
-pub statement-returns-in_ok-new-in-Block-clause-means : goal.statement-returns-in_ok-new-in-Block-clause-means
-statement-returns-in_ok-new-in-Block-clause-means t c =
-    let a = c.args.self.now in
-    let o = c.open-region.new.self in
-    let n = c.handled.new.self in
-    let p = c.args.part in
-    let s = state_of a p in
-    let q = c.in_ok-behind-in-Block.behind in
-    let its = c.in-Block.items.items in
-    let hd = c.in-Block.handled in
-    let r = part_is o c.items.new.self n c.open-region.result.inner q (in_block s) c.args.in_loop c.deref-in-Block.result.now its hd c.new-all.result.items c.items.new.all.items c.in_ok-body-in-Block.body.items c.leave-master.result
-    c.open-region.ensures.grows.state c.deref-in-Block.ensures.value c.in_ok-behind-in-Block.ensures.legal c.in_ok-behind-in-Block.ensures.reads c.new-all.ensures.items c.in_ok-behind-in-Block.ensures.made
-    c.in_ok-body-in-Block.ensures.legal c.in_ok-body-in-Block.ensures.reads c.in_ok-body-in-Block.ensures.means
-    c.leave-master.ensures.slots c.leave-master.ensures.items c.leave-master.ensures.body c.leave-master.ensures.handlers in
-    block_means c.in-Block.items hd c.args.statement.now.kind c.in-Block.is c.in_ok-new-in-Block.field-0 _ refl s (subst (λ m. PartListMeans (in_block s) its hd m) (sym c.in_ok-new-in-Block.ensures.ok) r.means)
-
-pub inner_body-returns-clause-legal : goal.inner_body-returns-clause-legal
-inner_body-returns-clause-legal t c =
-    let a = c.args.self.now in
-    let o = c.open-region.new.self in
-    let f = c.formals.new.self in
-    let n = c.handled.new.self in
-    let p = c.args.part in
-    let fs = c.args.formals.now in
-    let number = c.args.type_number in
-    let s = with_formals (in_block (state_of a p)) fs number in
     let q = c.in_ok-behind.behind in
+    let ws = c.deref.result.now in
     let body = c.args.body.now in
     let its = (out-BodyPart body).items.items in
     let hd = (out-BodyPart body).handled in
-    let here : state_of f c.open-region.result.inner ≡ s = c.in_ok-formals.ensures.state ∙ ap (λ u. with_formals u fs number) c.open-region.ensures.grows.state in
-    let r = part_is f c.items.new.self n c.open-region.result.inner q s false c.deref.result.now its hd c.new-all.result.items c.items.new.all.items c.in_ok-statements.statements.items c.leave.result
-    here c.deref.ensures.value c.in_ok-behind.ensures.legal c.in_ok-behind.ensures.reads c.new-all.ensures.items c.in_ok-behind.ensures.made
-    c.in_ok-statements.ensures.legal c.in_ok-statements.ensures.reads c.in_ok-statements.ensures.means
-    c.leave.ensures.slots c.leave.ensures.items c.leave.ensures.body c.leave.ensures.handlers in
-    legal_text_is body s ∙ r.legal
-
-pub inner_body-returns-clause-reads : goal.inner_body-returns-clause-reads
-inner_body-returns-clause-reads t c =
-    let a = c.args.self.now in
-    let o = c.open-region.new.self in
-    let f = c.formals.new.self in
-    let n = c.handled.new.self in
-    let p = c.args.part in
-    let fs = c.args.formals.now in
-    let number = c.args.type_number in
-    let s = with_formals (in_block (state_of a p)) fs number in
-    let q = c.in_ok-behind.behind in
-    let body = c.args.body.now in
-    let its = (out-BodyPart body).items.items in
-    let hd = (out-BodyPart body).handled in
-    let here : state_of f c.open-region.result.inner ≡ s = c.in_ok-formals.ensures.state ∙ ap (λ u. with_formals u fs number) c.open-region.ensures.grows.state in
-    let r = part_is f c.items.new.self n c.open-region.result.inner q s false c.deref.result.now its hd c.new-all.result.items c.items.new.all.items c.in_ok-statements.statements.items c.leave.result
-    here c.deref.ensures.value c.in_ok-behind.ensures.legal c.in_ok-behind.ensures.reads c.new-all.ensures.items c.in_ok-behind.ensures.made
-    c.in_ok-statements.ensures.legal c.in_ok-statements.ensures.reads c.in_ok-statements.ensures.means
-    c.leave.ensures.slots c.leave.ensures.items c.leave.ensures.body c.leave.ensures.handlers in
+    let same = c.deref.ensures.value in
+    let items = c.in_ok-behind.ensures in
+    let done = c.in_ok-statements.ensures in
+    let opened = c.open-region.ensures in
+    let left = c.leave.ensures in
+    let here : state_of f c.open-region.result.inner ≡ s = c.in_ok-formals.ensures.state ∙ ap (λ u. with_formals u fs number) opened.grows.state in
+    let r = part_is f c.items.new.self n c.open-region.result.inner q s false ws its hd c.new-all.result.items c.items.new.all.items c.in_ok-statements.statements.items c.leave.result
+    here same items.legal items.reads c.new-all.ensures.items items.made done.legal done.reads done.means left.slots left.items left.body left.handlers in
     let t = after_part s its hd in
     let bs = part_bodies s its hd in
-    let count = c.open-region.result.count in
-    let inside = grows_then a o n c.open-region.result.inner q _ t bs c.open-region.ensures.grows (grows_then o f n c.open-region.result.inner q _ t bs c.in_ok-formals.ensures r.reads) in
-    text_reads a c.leave.new.self p (state_of a p) s body (behind_part a n c.leave.new.self p q count c.open-region.result.slots t bs c.open-region.ensures.names c.open-region.ensures.kinds c.open-region.ensures.slots (body_leaves a p count.names fs number its hd c.open-region.ensures.names) inside c.leave.ensures.grows)
-
-pub inner_body-returns-clause-means : goal.inner_body-returns-clause-means
-inner_body-returns-clause-means t c =
-    let a = c.args.self.now in
-    let o = c.open-region.new.self in
-    let f = c.formals.new.self in
-    let n = c.handled.new.self in
-    let p = c.args.part in
-    let fs = c.args.formals.now in
-    let number = c.args.type_number in
-    let s = with_formals (in_block (state_of a p)) fs number in
-    let q = c.in_ok-behind.behind in
-    let body = c.args.body.now in
-    let its = (out-BodyPart body).items.items in
-    let hd = (out-BodyPart body).handled in
-    let here : state_of f c.open-region.result.inner ≡ s = c.in_ok-formals.ensures.state ∙ ap (λ u. with_formals u fs number) c.open-region.ensures.grows.state in
-    let r = part_is f c.items.new.self n c.open-region.result.inner q s false c.deref.result.now its hd c.new-all.result.items c.items.new.all.items c.in_ok-statements.statements.items c.leave.result
-    here c.deref.ensures.value c.in_ok-behind.ensures.legal c.in_ok-behind.ensures.reads c.new-all.ensures.items c.in_ok-behind.ensures.made
-    c.in_ok-statements.ensures.legal c.in_ok-statements.ensures.reads c.in_ok-statements.ensures.means
-    c.leave.ensures.slots c.leave.ensures.items c.leave.ensures.body c.leave.ensures.handlers in
-    text_means body s c.leave.result r.means
+    let inside = grows_then a o n c.open-region.result.inner q _ t bs opened.grows (grows_then o f n c.open-region.result.inner q _ t bs c.in_ok-formals.ensures r.reads) in
+    record {
+      legal = legal_text_is body s ∙ r.legal;
+      reads = text_reads a c.leave.new.self p (state_of a p) s body (behind_part a n c.leave.new.self p q count c.open-region.result.slots t bs opened.names opened.kinds opened.slots (body_leaves a p count.names fs number its hd opened.names) inside left.grows);
+      means = text_means body s c.leave.result r.means;
+      kept = text_fault_is body s ∙ part_kept s (state_of f c.open-region.result.inner) (state_of c.items.new.self q) false ws its hd here same items.reads.state items.kept done.kept;
+      told = tt;
+    }
 
 -- ---- statements with their handlers
 
-pub handled-returns-then-is_empty-clause-legal : goal.handled-returns-then-is_empty-clause-legal
-handled-returns-then-is_empty-clause-legal t c =
+pub handled-returns-in-empty : goal.handled-returns-in-empty
+handled-returns-in-empty t c =
     let s = state_of c.args.self.now c.args.part in
     let l = c.args.in_loop in
     let hd = c.args.handled.now in
-    let none : has_none (out-Handled hd).handlers.items ≡ true = none_left (out-Handled hd).handlers.items _ c.is_empty.result (out-Handled hd).handlers.ok.0 c.is_empty.ensures c.if-is_empty.true in
-    legal_handled_is hd s l ∙ both_true _ _ (subst (λ (ys : List Statement). legal_statement_list s l ys ≡ true) c.deref.ensures.value c.in_ok-body.ensures.legal) none
+    let ws = c.deref.result.now in
+    let same = c.deref.ensures.value in
+    let body = c.in_ok-body.ensures in
+    let none : (out-Handled hd).handlers.items ≡ [] = sym c.as_slice.ensures.value ∙ no_handler c.as_slice.result.now c.in-empty.len_below in
+    record {
+      legal = legal_handled_is hd s l ∙ both_true _ _ (subst (λ (ys : List Statement). legal_statement_list s l ys ≡ true) same body.legal) (ap has_none none);
+      reads = reads_as c.args.self.now c.statements.new.self c.args.part _ _ _ _ (ap (after_statement_list s) same ∙ sym (after_handled_is hd s)) (ap (statement_list_bodies s) same ∙ sym (handled_bodies_are hd s)) body.reads;
+      means = handled_means hd s c.in_ok-body.body.items (subst (λ (ys : List Statement). StatementListMeans s ys c.in_ok-body.body.items) same body.means);
+      kept = handled_kept hd s l ws same none body.kept;
+      told = tt;
+    }
 
-pub handled-returns-then-is_empty-clause-reads : goal.handled-returns-then-is_empty-clause-reads
-handled-returns-then-is_empty-clause-reads t c =
-    let s = state_of c.args.self.now c.args.part in
+pub handled-returns-in_err-body-clause-told : goal.handled-returns-in_err-body-clause-told
+handled-returns-in_err-body-clause-told t c =
     let hd = c.args.handled.now in
-    reads_as c.args.self.now c.statements.new.self c.args.part _ _ _ _ (ap (after_statement_list s) c.deref.ensures.value ∙ sym (after_handled_is hd s)) (ap (statement_list_bodies s) c.deref.ensures.value ∙ sym (handled_bodies_are hd s)) c.in_ok-body.ensures.reads
-
-pub handled-returns-then-is_empty-clause-means : goal.handled-returns-then-is_empty-clause-means
-handled-returns-then-is_empty-clause-means t c =
     let s = state_of c.args.self.now c.args.part in
-    handled_means c.args.handled.now s c.in_ok-body.body.items (subst (λ (ys : List Statement). StatementListMeans s ys c.in_ok-body.body.items) c.deref.ensures.value c.in_ok-body.ensures.means)
+    let h : Tells (handled_fault s c.args.in_loop hd) c.in_err-body.field-0.0 = handled_told hd s c.args.in_loop c.deref.result.now _ c.deref.ensures.value c.in_err-body.ensures.told in
+    search (rules, h)
 
-pub handled-returns-in_err-body-clause-err : goal.handled-returns-in_err-body-clause-err
-handled-returns-in_err-body-clause-err t c =
+pub handled-returns-in-len1-up-clause-told : goal.handled-returns-in-len1-up-clause-told
+handled-returns-in-len1-up-clause-told t c =
+    handler_told c.args.handled.now (state_of c.args.self.now c.args.part) c.args.in_loop c.deref.result.now c.as_slice.result.now c.handler-item.result c.at.result c.deref.ensures.value c.as_slice.ensures.value c.in_ok-body.ensures.kept c.in-len1-up.len_at_least c.handler-item.is c.at.ensures
+
+-- ---- what a statement breaks
+
+pub statement-returns-in_err-arms-in-If-clause-told : goal.statement-returns-in_err-arms-in-If-clause-told
+statement-returns-in_err-arms-in-If-clause-told t c =
     let s = state_of c.args.self.now c.args.part in
-    let l = c.args.in_loop in
-    let hd = c.args.handled.now in
-    let wrong : legal_statement_list s l c.deref.result.now ≡ false → legal_handled s l hd ≡ false = λ h. legal_handled_is hd s l ∙ first_false _ _ (subst (λ (ys : List Statement). legal_statement_list s l ys ≡ false) c.deref.ensures.value h) in
-    search (rules, wrong)
+    let d = c.args.statement.now in
+    let h : Tells (statement_fault s c.args.in_loop d.span d.kind) c.in_err-arms-in-If.field-0.0 =
+    arms_told c.in-If.branches c.in-If.others d.kind c.in-If.is s c.args.in_loop d.span c.deref.result.now _ c.deref.ensures.value c.in_err-arms-in-If.ensures.told in
+    search (rules, h)
 
-pub handled-returns-else-is_empty-clause-err : goal.handled-returns-else-is_empty-clause-err
-handled-returns-else-is_empty-clause-err t c =
-    let hd = c.args.handled.now in
-    legal_handled_is hd (state_of c.args.self.now c.args.part) c.args.in_loop ∙ second_false _ _ (some_left (out-Handled hd).handlers.items _ c.is_empty.result (out-Handled hd).handlers.ok.0 c.is_empty.ensures c.if-is_empty.false)
+pub statement-returns-in_err-statements-in-If-clause-told : goal.statement-returns-in_err-statements-in-If-clause-told
+statement-returns-in_err-statements-in-If-clause-told t c =
+    let s = state_of c.args.self.now c.args.part in
+    let d = c.args.statement.now in
+    let h : Tells (statement_fault s c.args.in_loop d.span d.kind) c.in_err-statements-in-If.field-0.0 =
+    others_told c.in-If.branches c.in-If.others d.kind c.in-If.is s (state_of c.arms.new.self c.args.part) c.args.in_loop d.span c.deref.result.now c.deref-in-If.result.now _ c.deref.ensures.value c.deref-in-If.ensures.value c.in_ok-arms-in-If.ensures.reads.state c.in_ok-arms-in-If.ensures.kept c.in_err-statements-in-If.ensures.told in
+    search (rules, h)
 
--- ---- what is broken in a part
+pub statement-returns-in_err-behind-in-Block-clause-told : goal.statement-returns-in_err-behind-in-Block-clause-told
+statement-returns-in_err-behind-in-Block-clause-told t c =
+    let s = state_of c.args.self.now c.args.part in
+    let d = c.args.statement.now in
+    let u = state_of c.open-region.new.self c.open-region.result.inner in
+    let h : Tells (statement_fault s c.args.in_loop d.span d.kind) c.in_err-behind-in-Block.field-0.0 =
+    block_told c.in-Block.items c.in-Block.handled d.kind c.in-Block.is s c.args.in_loop d.span _
+    (items_told (in_block s) u c.args.in_loop c.deref-in-Block.result.now c.in-Block.items.items c.in-Block.handled _ c.open-region.ensures.grows.state c.deref-in-Block.ensures.value c.in_err-behind-in-Block.ensures.told) in
+    search (rules, h)
 
-pub inner_body-returns-in_err-behind-clause-err : goal.inner_body-returns-in_err-behind-clause-err
-inner_body-returns-in_err-behind-clause-err t c =
+pub statement-returns-in_err-body-in-Block-clause-told : goal.statement-returns-in_err-body-in-Block-clause-told
+statement-returns-in_err-body-in-Block-clause-told t c =
+    let s = state_of c.args.self.now c.args.part in
+    let d = c.args.statement.now in
+    let u = state_of c.open-region.new.self c.open-region.result.inner in
+    let v = state_of c.items.new.self c.in_ok-behind-in-Block.behind in
+    let h : Tells (statement_fault s c.args.in_loop d.span d.kind) c.in_err-body-in-Block.field-0.0 =
+    block_told c.in-Block.items c.in-Block.handled d.kind c.in-Block.is s c.args.in_loop d.span _
+    (part_told (in_block s) u v c.args.in_loop c.deref-in-Block.result.now c.in-Block.items.items c.in-Block.handled _ c.open-region.ensures.grows.state c.deref-in-Block.ensures.value c.in_ok-behind-in-Block.ensures.reads.state c.in_ok-behind-in-Block.ensures.kept c.in_err-body-in-Block.ensures.told) in
+    search (rules, h)
+
+-- ---- what a body breaks
+
+pub inner_body-returns-in_err-behind-clause-told : goal.inner_body-returns-in_err-behind-clause-told
+inner_body-returns-in_err-behind-clause-told t c =
     let fs = c.args.formals.now in
     let number = c.args.type_number in
     let s = with_formals (in_block (state_of c.args.self.now c.args.part)) fs number in
     let u = state_of c.formals.new.self c.open-region.result.inner in
     let body = c.args.body.now in
-    let here : u ≡ s = c.in_ok-formals.ensures.state ∙ ap (λ v. with_formals v fs number) c.open-region.ensures.grows.state in
-    let wrong : legal_item_list u c.deref.result.now ≡ false → legal_text s body ≡ false = λ h. legal_text_is body s ∙ items_wrong s u false c.deref.result.now (out-BodyPart body).items.items (out-BodyPart body).handled here c.deref.ensures.value h in
-    search (rules, wrong)
+    let here : u ≡ s = c.in_ok-formals.ensures.state ∙ ap (λ w. with_formals w fs number) c.open-region.ensures.grows.state in
+    let h : Tells (text_of_body_fault s body) c.in_err-behind.field-0.0 =
+    told_as _ _ _ (sym (text_fault_is body s)) (items_told s u false c.deref.result.now (out-BodyPart body).items.items (out-BodyPart body).handled _ here c.deref.ensures.value c.in_err-behind.ensures.told) in
+    search (rules, h)
 
-pub inner_body-returns-in_err-statements-clause-err : goal.inner_body-returns-in_err-statements-clause-err
-inner_body-returns-in_err-statements-clause-err t c =
+pub inner_body-returns-in_err-statements-clause-told : goal.inner_body-returns-in_err-statements-clause-told
+inner_body-returns-in_err-statements-clause-told t c =
     let fs = c.args.formals.now in
     let number = c.args.type_number in
     let s = with_formals (in_block (state_of c.args.self.now c.args.part)) fs number in
     let u = state_of c.formals.new.self c.open-region.result.inner in
     let v = state_of c.items.new.self c.in_ok-behind.behind in
     let body = c.args.body.now in
-    let hd = (out-BodyPart body).handled in
     let here : u ≡ s = c.in_ok-formals.ensures.state ∙ ap (λ w. with_formals w fs number) c.open-region.ensures.grows.state in
-    let wrong : legal_handled v false hd ≡ false → legal_text s body ≡ false = λ h. legal_text_is body s ∙ handled_wrong s u v false c.deref.result.now (out-BodyPart body).items.items hd here c.deref.ensures.value c.in_ok-behind.ensures.reads.state h in
-    search (rules, wrong)
-
-pub statement-returns-in_err-behind-in-Block-clause-err : goal.statement-returns-in_err-behind-in-Block-clause-err
-statement-returns-in_err-behind-in-Block-clause-err t c =
-    let s = state_of c.args.self.now c.args.part in
-    let l = c.args.in_loop in
-    let u = state_of c.open-region.new.self c.open-region.result.inner in
-    let hd = c.in-Block.handled in
-    let wrong : legal_item_list u c.deref-in-Block.result.now ≡ false → legal_statement s l c.args.statement.now.kind ≡ false = λ h. block_wrong c.in-Block.items hd c.args.statement.now.kind c.in-Block.is s l (items_wrong (in_block s) u l c.deref-in-Block.result.now c.in-Block.items.items hd c.open-region.ensures.grows.state c.deref-in-Block.ensures.value h) in
-    search (rules, wrong)
-
-pub statement-returns-in_err-body-in-Block-clause-err : goal.statement-returns-in_err-body-in-Block-clause-err
-statement-returns-in_err-body-in-Block-clause-err t c =
-    let s = state_of c.args.self.now c.args.part in
-    let l = c.args.in_loop in
-    let u = state_of c.open-region.new.self c.open-region.result.inner in
-    let v = state_of c.items.new.self c.in_ok-behind-in-Block.behind in
-    let hd = c.in-Block.handled in
-    let wrong : legal_handled v l hd ≡ false → legal_statement s l c.args.statement.now.kind ≡ false = λ h. block_wrong c.in-Block.items hd c.args.statement.now.kind c.in-Block.is s l (handled_wrong (in_block s) u v l c.deref-in-Block.result.now c.in-Block.items.items hd c.open-region.ensures.grows.state c.deref-in-Block.ensures.value c.in_ok-behind-in-Block.ensures.reads.state h) in
-    search (rules, wrong)
+    let h : Tells (text_of_body_fault s body) c.in_err-statements.field-0.0 =
+    told_as _ _ _ (sym (text_fault_is body s)) (part_told s u v false c.deref.result.now (out-BodyPart body).items.items (out-BodyPart body).handled _ here c.deref.ensures.value c.in_ok-behind.ensures.reads.state c.in_ok-behind.ensures.kept c.in_err-statements.ensures.told) in
+    search (rules, h)

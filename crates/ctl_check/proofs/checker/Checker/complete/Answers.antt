@@ -4,14 +4,14 @@ use Rattle.std.proofs.lemmas.Option.{slice_get_past, slice_get_read}
 use Rattle.ctl_check.proofs.Growing.{promise_at, promise_past, promises_set, read_set, set_at}
 use Rattle.ctl_check.proofs.checker.Checker.complete.Goals as goal
 
-pub returns-in-None-clause-err : goal.returns-in-None-clause-err
-returns-in-None-clause-err c =
+pub returns-in-None-clause-told : goal.returns-in-None-clause-told
+returns-in-None-clause-told c =
     let ps = c.args.self.now.subprograms.items in
     let e : slice_get ps c.args.number ≡ None = slice_get_past ps c.args.number (grind (arith, c.in-None.ensures.variant.1)) in
-    rw (promise_past ps c.args.number e)
+    rw (promise_past ps c.args.number e) (search rules)
 
-pub returns-then-is_some-clause-err : goal.returns-then-is_some-clause-err
-returns-then-is_some-clause-err c =
+pub returns-then-is_some-clause-told : goal.returns-then-is_some-clause-told
+returns-then-is_some-clause-told c =
     let ps = c.args.self.now.subprograms.items in
     let p = c.in-Some.pending.now in
     let e : slice_get ps c.args.number ≡ Some p = slice_get_read ps _ c.args.number p refl (omega (arith, c.in-Some.ensures.variant.0 refl)) c.in-Some.ensures.value in

@@ -4,17 +4,19 @@ use Rattle.std.proofs.lemmas.Option.{slice_get_read}
 use Rattle.std.proofs.lemmas.Iterator.Adapters.{YieldsList-from_vec}
 use Rattle.std.proofs.lemmas.Iterator.Consumers.{YieldsList-turn, YieldsList-end}
 use Rattle.ctl_check.specs.State.{promises_of, are_complete}
-use Rattle.ctl_check.specs.Refusals.{IsAnswered}
+use Rattle.ctl_tree.specs.declared.fault.FaultCode.TheVariants as code
+use Rattle.ctl_check.specs.ExpressionFaults.{unless}
+use Rattle.ctl_check.specs.Refusals.{Tells}
 use Rattle.ctl_check.proofs.Completed.{completed_more, all_complete, all_procedures, all_bodies, refused_with, map_same}
 use Rattle.ctl_check.proofs.checker.Checker.finish.Goals as goal
 
-pub returns-in_err-completed-clause-err : goal.returns-in_err-completed-clause-err
-returns-in_err-completed-clause-err c =
+pub returns-in_err-completed-clause-told : goal.returns-in_err-completed-clause-told
+returns-in_err-completed-clause-told c =
     let ps = c.args.self.subprograms.items in
     let g = c.into_iter-pending-iterator.ensures.into_iter_gives in
     let t = YieldsList-turn (YieldsList-from_vec {s = c.into_iter-pending-iterator.result} ps g.0 (g.1 ∙ c.args.self.subprograms.ok.0)) c.loop-pending.yielded c.loop-pending.pending-iterator c.loop-pending.yielded_by c.next.result c.next.new.self c.in-Some.pending c.in-Some.is c.next.ensures.steps in
     let at : slice_get ps (length c.loop-pending.yielded) ≡ Some c.in-Some.pending = slice_get_read ps _ (length c.loop-pending.yielded) c.in-Some.pending refl t.0 t.1 in
-    let h : IsAnswered (are_complete (promises_of ps)) c.in_err-completed.field-0.0 = refused_with ps (length c.loop-pending.yielded) c.in-Some.pending c.in_err-completed.field-0.0 at c.in_err-completed.ensures.err in
+    let h : Tells (unless (are_complete (promises_of ps)) code.Type c.args.at) c.in_err-completed.field-0.0 = refused_with ps (length c.loop-pending.yielded) c.in-Some.pending code.Type c.args.at c.in_err-completed.field-0.0 at c.in_err-completed.ensures.told in
     search rules
 
 pub loop-pending-preserved : goal.loop-pending-preserved

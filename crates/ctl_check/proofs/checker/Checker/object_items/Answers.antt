@@ -8,6 +8,7 @@ use Rattle.ctl_check.proofs.checker.Checker.object_items.Goals as goal
 pub loop-name-init : goal.loop-name-init
 loop-name-init c = record {
   legal = refl;
+  fault = refl;
   made = goes_on_first (made_each c.args.ty c.args.objects.now.value (env_of c.args.self.now c.args.part) c.args.self.now.slots c.args.objects.now.names.items) c.args.items.now.items;
 }
 

@@ -1,0 +1,4 @@
+//! Two trees of one text are judged alike.
+#![tactic(auto)]
+
+pub mod laws;
