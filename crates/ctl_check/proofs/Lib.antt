@@ -10,7 +10,7 @@ pub mod Telling
 pub mod Keeping
 pub mod KeepingParts
 pub mod RuleFaults
-pub mod Refused
+pub mod GivenTypes
 pub mod Growing
 pub mod Completed
 pub mod Following

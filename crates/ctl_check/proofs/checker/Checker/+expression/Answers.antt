@@ -14,7 +14,7 @@ use Rattle.ctl_check.specs.Meaning.{Means, IsChain, JoinedListMeans, ConditionLi
 use Rattle.ctl_check.proofs.ExpressionRows.{logical_typed, logical_meant, sum_typed, product_typed, name_type_is, name_means, sum_meant, product_meant, relation_means}
 use Rattle.ctl_check.proofs.Turns.{turn, ended, addend_turn, multiplicand_turn}
 use Rattle.ctl_check.proofs.ExpressionDepths.{others_below, addends_below, multiplicands_below}
-use Rattle.ctl_check.proofs.Refused.{given_by, relational_given}
+use Rattle.ctl_check.proofs.GivenTypes.{given_by, relational_given}
 use Rattle.ctl_check.proofs.TellingExpressions.{logical_fault, sum_fault, product_fault, name_told, first_told, others_told, whole_kept, misfit_told, addend_kept, factor_kept}
 use Rattle.ctl_check.proofs.checker.Checker.+expression.Goals as goal
 
