@@ -15,8 +15,7 @@ use Rattle.ctl_check.specs.Program.{is_legal, left_by_types}
 use Rattle.ctl_check.specs.Refusals.{IsLeftByTypes}
 use Rattle.ctl_check.proofs.KeepingParts.{program_kept}
 use Rattle.ctl_alike.proofs.Judged.{trees_have_the_same_sites, trees_leave_out_the_same, trees_have_the_same_types, trees_break_the_same_rule}
-use Rattle.ctl_run.specs.Source.{SpellsTree, HasFirstFault, SpellsLegalTree, SpellsRunTree, BreaksFirst, LeavesOut, BreaksRule, LeavesValueOut, HasFaultOfText, by_text, by_names, by_construct, by_types, by_value, IsFaultless, IsRefused, for_fault, by_memory, OneFault, NeverBoth}
-use Rattle.ctl_run.specs.Headline.{Accepts}
+use Rattle.ctl_run.specs.Source.{SpellsTree, HasFirstFault, SpellsLegalTree, HasFaultOfText, by_text, by_names, by_construct, by_types, by_value, IsFaultless, IsRefused, for_fault, by_memory, OneFault, NeverBoth}
 use Rattle.ctl_run.proofs.FirstBreach.{one_first}
 use Rattle.ctl_run.proofs.OneTree.{one_tree, one_of_both}
 
