@@ -1,6 +1,5 @@
 -- Statements and parts of a legal text are such as this version runs (5.1, 3.11).
 use Rattle.std.proofs.Common.{◌≡◌, ℕ, ◌<◌, ◌≤◌, Bool, true, false, ◌&&◌, List, [], ◌∷◌, length, None, sym, subst, arith}
-use mathlib.Core.Former.{Count as Number}
 use Rattle.ctl_tree.specs.declared.checked.Ty.TheVariants.{Record}
 use Rattle.ctl_tree.specs.declared.checked.Arm.{Arm}
 use Rattle.ctl_tree.specs.declared.checked.Stmt.{Stmt, Row_of-Arm, end_of-Arm, more_of-Arm, items-the_row-Arm, items-the_row-Stmt, items_shown-the_row-Stmt-0}
@@ -18,7 +17,7 @@ use Rattle.ctl_check.specs.Expressions.{type_of, is_condition}
 use Rattle.ctl_check.specs.State.{State, in_block, in_loop, hidden_each}
 use Rattle.ctl_check.specs.Parts.{after_item, after_items, after_handled, after_statement, after_statements, after_branch, after_branches, legal_bound, is_unhandled, legal_item, legal_items, legal_handled, legal_statement, legal_statements, legal_branch, legal_branches, made_by_item, made_by_items, BodyText, PartMeans, StatementMeans, StatementsMean, BranchMeans, BranchesMean}
 use Rattle.ctl_meaning.specs.Types.{Tables}
-use Rattle.ctl_gen.specs.Slice.{IsPlainType, MasterInSlice, StmtInSlice, RowsInSlice, ArmsInSlice, ArmInSlice, ArmListInSlice}
+use Rattle.ctl_gen.specs.Slice.{IsPlainType, MasterInSlice, StmtInSlice, RowsInSlice, ArmInSlice, ArmListInSlice}
 use Rattle.ctl_admitted.proofs.Rows.{arms_in_slice, master_in_slice, row_in_slice}
 use Rattle.ctl_admitted.specs.Whole.{ItemIsWhole, ItemsAreWhole, HandledIsWhole, StatementIsWhole, StatementsAreWhole, BranchIsWhole, BranchesAreWhole}
 use Rattle.ctl_admitted.proofs.Flags.{and_first, and_second}
