@@ -1,5 +1,5 @@
 -- Each fault of a text is of a rule on types, variables, operations, literals or exits.
-use Rattle.std.proofs.Common.{◌≡◌, Bool, true, false, List, [], ◌∷◌, Option, Some, None, subst}
+use Rattle.std.proofs.Common.{◌≡◌, Bool, true, false, List, [], ◌∷◌, Option, Some, None, refl, subst}
 use Rattle.std.specs.Prelude.{nat_le, is_some}
 use Rattle.ctl_tree.specs.declared.checked.Ty.{Ty}
 use Rattle.ctl_tree.specs.declared.checked.Ty.TheVariants as ty
@@ -40,9 +40,10 @@ use Rattle.ctl_check.specs.ExpressionFaults.{unless, either, untyped, misfit, as
 use Rattle.ctl_check.specs.Marks.{is_own_name}
 use Rattle.ctl_check.specs.Objects.{objects_type}
 use Rattle.ctl_check.specs.Parts.{after_item, after_items, after_handled, after_statement, after_branch, after_branches, after_text, is_its_first}
-use Rattle.ctl_check.specs.Program.{main_body, end_state}
-use Rattle.ctl_check.specs.Refusals.{IsRule, IsProgramCode, IsOfProgram, IsRuleFault, Tells, fault_of, IsRefusedProgram, breaks, wants_memory}
+use Rattle.ctl_check.specs.Program.{main_body, end_state, is_legal}
+use Rattle.ctl_check.specs.Refusals.{IsRule, IsProgramCode, IsOfProgram, IsRuleFault, IsLeftOutFault, Tells, fault_of, IsRefusedProgram, breaks, wants_memory}
 use Rattle.ctl_check.specs.declared.refusal.Refusal.{Refusal}
+use Rattle.ctl_check.proofs.KeepingParts.{program_kept}
 use Rattle.ctl_check.specs.declared.refusal.Refusal.TheVariants.{Illegal, Memory}
 use Rattle.ctl_check.specs.State.{State, Entered, in_block, in_loop, hidden_each, parent_in, is_plain_extension, with_declaration, enter_body, are_complete}
 use Rattle.ctl_check.specs.Statements.{target, called, behind, actual, has_no_actuals}
@@ -340,3 +341,17 @@ told_of_program t Memory is = tt
 pub told_because : (t : Tree) (e : Refusal) → Tells (program_fault t) e → IsRefusedProgram t (fault_of e)
 told_because t (Illegal f) is = breaks is
 told_because t Memory is = wants_memory
+
+unless_legal : (legal : Bool) (x : Option Fault) (f : Fault) → (legal ≡ true → x ≡ None) → x ≡ Some f → legal ≡ false
+unless_legal true x f kept is = let no = kept refl in absurd (cc)
+unless_legal false x f kept is = refl
+
+-- a text of which a broken rule is told is not legal
+pub told_illegal : (t : Tree) (e : Refusal) → Tells (program_fault t) e → IsRuleFault (fault_of e) → is_legal t ≡ false
+told_illegal t (Illegal f) is rule = unless_legal (is_legal t) (program_fault t) f (program_kept t) is
+told_illegal t Memory is rule = absurd rule
+
+-- nor is a broken rule, or want of memory, a construct that is not run
+pub told_is_run : (t : Tree) (e : Refusal) → Tells (program_fault t) e → IsLeftOutFault (fault_of e) → ⊥
+told_is_run t (Illegal f) is left = subst IsRule left (fault_is_of_rule t f is)
+told_is_run t Memory is left = absurd (cc)

@@ -43,6 +43,10 @@ Tells first Memory = Unit {0}
 abbrev pub IsRuleFault : Fault → Type 0
 IsRuleFault fault = IsRule fault.code
 
+-- a construct that is not run
+abbrev pub IsLeftOutFault : Fault → Type 0
+IsLeftOutFault fault = fault.code ≡ FaultCode.LeftOut
+
 -- The tree breaks no rule, and the first construct of it that only types tell, and that is not run, begins at the fault's place.
 pub record IsLeftByTypes (t : Tree) (fault : Fault) : Type 0 where
   pub legal : is_legal t ≡ true

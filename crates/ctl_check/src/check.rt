@@ -2,7 +2,7 @@
 
 ghost use Rattle.std.specs.Prelude.{◌≡◌, [], IfOk, IfErr, OnOk, None, Some, true, false};
 ghost use Rattle.ctl_check.specs.Faults.{program_fault};
-ghost use Rattle.ctl_check.specs.Refusals.{IsOfProgram, IsRefusedProgram, Tells};
+ghost use Rattle.ctl_check.specs.Refusals.{IsLeftByTypes, IsLeftOutFault, IsOfProgram, IsRefusedProgram, IsRuleFault, Tells};
 ghost use Rattle.ctl_legality.specs.View.{library_part};
 ghost use Rattle.ctl_names.specs.Judging.{view_of};
 ghost use Rattle.ctl_check.specs.State.{state_of};
@@ -37,6 +37,8 @@ pub fn check(alloc: Global, tree: &Tree) -> Result<Checked, Fault>
     ensures program { IfOk result (λ program. IsProgram tree.now program) }
     ensures all_run { IfOk result (λ program. left_by_types tree.now ≡ None) }
     ensures because { IfErr result (λ fault. IsRefusedProgram tree.now fault) }
+    ensures illegal { IfErr result (λ fault. IsRuleFault fault → is_legal tree.now ≡ false) }
+    ensures left_out { IfErr result (λ fault. IsLeftOutFault fault → IsLeftByTypes tree.now fault) }
 {
     let (program, left_out) = checked(alloc, tree)?;
     match left_out {
