@@ -2,9 +2,16 @@
 import subprocess
 
 
+# how long one answer may take, in seconds
+LIMIT = 60
+
+
 def answer(adactl, path):
-    """The exit status of a check of the text in this file, and the last line on standard error."""
-    done = subprocess.run([adactl, "check", path], stdin=subprocess.DEVNULL, capture_output=True, timeout=60)
+    """The exit status of a check of the text in this file, and the last line on standard error. No status where it has no end in time."""
+    try:
+        done = subprocess.run([adactl, "check", path], stdin=subprocess.DEVNULL, capture_output=True, timeout=LIMIT)
+    except subprocess.TimeoutExpired:
+        return None, f"no answer in {LIMIT} seconds"
     lines = done.stderr.decode(errors="replace").splitlines()
     return done.returncode, lines[-1] if lines else ""
 

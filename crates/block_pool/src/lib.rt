@@ -2,8 +2,6 @@
 #![tactic(auto)]
 
 mod pool;
-#[cfg(test)]
-mod tests;
 
 pub use pool::BlockPool;
 pub use raw_region::PoolFault;

@@ -1,4 +1,4 @@
-ghost use Rattle.std.specs.Prelude.{◌≡◌, ℕ, ◌+◌, ◌*◌, ◌≤◌, length, replicate, ◌↔◌, MatchOption, IfOk};
+ghost use Rattle.std.specs.Prelude.{◌≡◌, ℕ, ◌+◌, ◌*◌, ◌≤◌, length, replicate, ◌↔◌, MatchOption, IfOk, IsTrue};
 ghost use Rattle.raw_region.specs.Places.{held};
 ghost use Rattle.block_pool.specs.Pool.{Pool, IsPoolSize, IsBlockOf, IsRefused, Keeps, with_free};
 
@@ -63,6 +63,27 @@ impl<A: Allocator> BlockPool<A> {
         ensures { result ≡ self.now.free }
     {
         self.free as u64
+    }
+
+    /// How many blocks there are, free or out.
+    pub fn count(&self) -> u64
+        ensures { result ≡ self.now.count }
+    {
+        self.count as u64
+    }
+
+    /// How many words a block has.
+    pub fn block_words(&self) -> usize
+        ensures { result ≡ self.now.block_words }
+    {
+        self.block_words
+    }
+
+    /// Whether all blocks are back.
+    pub fn is_whole(&self) -> bool
+        ensures { IsTrue result ↔ self.now.free ≡ self.now.count }
+    {
+        self.free == self.count
     }
 
     /// A whole free block, for a request of `words` words, or `None` where no block is free or none is large

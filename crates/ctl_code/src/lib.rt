@@ -8,8 +8,6 @@ pub mod kinds;
 pub mod laws;
 mod stacks;
 pub mod template;
-#[cfg(test)]
-mod tests;
 mod types;
 pub mod valid;
 mod validate;

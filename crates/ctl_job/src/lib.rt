@@ -8,6 +8,3 @@ mod matching;
 
 pub use entries::job_of;
 pub use job::{Job, UsageFault};
-
-#[cfg(test)]
-mod tests;

@@ -49,6 +49,3 @@ pub fn tokens(alloc: Global, source: &[u8]) -> Result<Vec<Token>, Fault>
     found.push(bare_token(alloc, Kind::Finish, place.span))?;
     Ok(found)
 }
-
-#[cfg(test)]
-mod tests;

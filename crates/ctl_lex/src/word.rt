@@ -106,7 +106,8 @@ fn words_of_length(letters: usize) -> &'static [Kind]
     }
 }
 
-/// The letters of a reserved word; nothing for any other kind.
+/// Gives the text that each token of this kind has: the characters of a delimiter, or a reserved word in small letters. It is empty
+/// where tokens of the kind differ in their texts (identifiers, numbers, strings), and for the end mark.
 fn letters_of(kind: Kind) -> &'static [u8]
     ensures { result.now ≡ spelling kind }
 {

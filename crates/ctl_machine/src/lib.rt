@@ -15,8 +15,6 @@ mod operators;
 pub mod outcome;
 mod resume;
 mod scalars;
-#[cfg(test)]
-mod tests;
 mod texts;
 mod turns;
 mod variables;

@@ -1,6 +1,6 @@
 //! Where the parser stands, and the reading of single tokens.
 
-ghost use Rattle.std.specs.Prelude.{◌≡◌, ◌<◌, ◌≤◌, ◌+◌, ◌-◌, ◌^◌, ◌⊎◌, ◌∷◌, [], length, IfErr, OnOk, true, false};
+ghost use Rattle.std.specs.Prelude.{◌≡◌, ◌<◌, ◌≤◌, ◌+◌, ◌-◌, ◌^◌, ◌⊎◌, ◌∷◌, [], length, IfOk, IfErr, OnOk, true, false};
 ghost use Rattle.ctl_grammar.specs.Form.{none, leaf, at};
 ghost use Rattle.ctl_grammar.specs.Grammar.{flag, spot};
 ghost use Rattle.ctl_grammar.specs.Reading.{Gives, begins, token_at, read};
@@ -91,6 +91,18 @@ impl<'a> Parser<'a> {
         }
     }
 
+    /// Passes over a token of this kind, and gives this value.
+    // Where another token stands there, the value is let go in this one place: letting go of a large enum costs a long proof.
+    pub(crate) fn skip_giving<T: Drop>(&mut self, kind: Kind, value: T) -> Result<T, Refused>
+        ensures given { Gives (λ u. none) result self.new.rest.now (token_at kind (λ t. none) self.old.rest.now) }
+        ensures value { IfOk result (λ v. v ≡ value) }
+        ensures left { self.new.left ≡ self.old.left }
+        ensures shorter { OnOk result (length self.new.rest.now < length self.old.rest.now) }
+    {
+        self.skip(kind)?;
+        Ok(value)
+    }
+
     /// Passes over a token of this kind, whose place it gives.
     pub(crate) fn mark(&mut self, kind: Kind) -> Result<Span, Refused>
         ensures given { Gives at result self.new.rest.now (read self.old.left (spot kind) none self.old.rest.now) }
@@ -109,8 +121,7 @@ impl<'a> Parser<'a> {
         ensures shorter { OnOk result (length self.new.rest.now ≤ length self.old.rest.now) }
     {
         if self.next_is(kind) {
-            self.skip(kind)?;
-            Ok(true)
+            self.skip_giving(kind, true)
         } else {
             Ok(false)
         }

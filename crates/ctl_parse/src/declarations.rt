@@ -40,8 +40,7 @@ impl<'a> Parser<'a> {
     {
         let (span, kind) = self.context_kind()?;
         let units = self.dotted_list(Kind::Comma)?;
-        self.skip(Kind::Semicolon)?;
-        Ok(Context { span, kind, units })
+        self.skip_giving(Kind::Semicolon, Context { span, kind, units })
     }
 
     /// Whether a clause of the context is next.
@@ -75,8 +74,7 @@ impl<'a> Parser<'a> {
         ensures shorter { OnOk result (length self.new.rest.now < length self.old.rest.now) }
     {
         if self.next_is(Kind::Tagged) {
-            self.skip(Kind::Tagged)?;
-            Ok(ItemKind::Incomplete(name, true))
+            self.skip_giving(Kind::Tagged, ItemKind::Incomplete(name, true))
         } else {
             let definition = self.definition()?;
             Ok(ItemKind::Type(name, definition))
@@ -108,8 +106,7 @@ impl<'a> Parser<'a> {
         let span = self.mark(Kind::Type)?;
         let name = self.identifier()?;
         let kind = self.type_kind(name)?;
-        self.skip(Kind::Semicolon)?;
-        Ok(Item { span, kind })
+        self.skip_giving(Kind::Semicolon, Item { span, kind })
     }
 
     /// `"for" id "'" id "use" dotted ";"` (RM 13.3)
@@ -124,11 +121,13 @@ impl<'a> Parser<'a> {
         self.skip(Kind::Apostrophe)?;
         let attribute = self.known(Known::StoragePool)?;
         let pool = self.behind(Kind::Use)?;
-        self.skip(Kind::Semicolon)?;
-        Ok(Item {
-            span,
-            kind: ItemKind::Clause(name, attribute, pool),
-        })
+        self.skip_giving(
+            Kind::Semicolon,
+            Item {
+                span,
+                kind: ItemKind::Clause(name, attribute, pool),
+            },
+        )
     }
 
     /// `["aliased"] ["constant"] dotted [assocs] [":=" expr]` behind the names (RM 3.3.1)
@@ -161,8 +160,7 @@ impl<'a> Parser<'a> {
         ensures shorter { OnOk result (length self.new.rest.now < length self.old.rest.now) }
     {
         if self.next_is(Kind::Exception) {
-            self.skip(Kind::Exception)?;
-            Ok(ItemKind::Exceptions(names))
+            self.skip_giving(Kind::Exception, ItemKind::Exceptions(names))
         } else {
             let objects = self.objects(names)?;
             Ok(ItemKind::Objects(objects))
@@ -179,8 +177,7 @@ impl<'a> Parser<'a> {
         let (span, names) = self.identifiers()?;
         self.skip(Kind::Colon)?;
         let kind = self.named_kind(names)?;
-        self.skip(Kind::Semicolon)?;
-        Ok(Item { span, kind })
+        self.skip_giving(Kind::Semicolon, Item { span, kind })
     }
 
     /// `"new" dotted assocs ";"` behind the `is` of an instance (RM 12.3)
@@ -192,7 +189,6 @@ impl<'a> Parser<'a> {
     {
         let generic = self.behind(Kind::New)?;
         let actuals = self.associations()?;
-        self.skip(Kind::Semicolon)?;
-        Ok(ItemKind::Instance(name, generic, actuals))
+        self.skip_giving(Kind::Semicolon, ItemKind::Instance(name, generic, actuals))
     }
 }

@@ -112,8 +112,7 @@ impl<'a> Parser<'a> {
         ensures shorter { OnOk result (length self.new.rest.now < length self.old.rest.now) }
     {
         self.start_of_function()?;
-        self.skip(Kind::Is)?;
-        Ok(())
+        self.skip(Kind::Is)
     }
 
     /// `spec "is"`
@@ -128,8 +127,7 @@ impl<'a> Parser<'a> {
         } else {
             self.start_of_procedure()?;
         }
-        self.skip(Kind::Is)?;
-        Ok(())
+        self.skip(Kind::Is)
     }
 
     /// A token that can stand behind the `is` of a body.
@@ -165,8 +163,7 @@ impl<'a> Parser<'a> {
     {
         if self.next_is(Kind::LeftParenthesis) {
             let _ = self.in_formals()?;
-            self.skip(Kind::Is)?;
-            Ok(())
+            self.skip(Kind::Is)
         } else {
             self.skip(Kind::Is)?;
             self.start_of_bare_body()?;

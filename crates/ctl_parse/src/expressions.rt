@@ -336,8 +336,7 @@ impl<'a> Parser<'a> {
     {
         self.skip(Kind::LeftParenthesis)?;
         let name = self.name()?;
-        self.skip(Kind::RightParenthesis)?;
-        Ok(name)
+        self.skip_giving(Kind::RightParenthesis, name)
     }
 
     /// `["'" "(" expr ")"]`
@@ -382,8 +381,7 @@ impl<'a> Parser<'a> {
     {
         let span = self.mark(Kind::LeftParenthesis)?;
         let inside = self.expression()?;
-        self.skip(Kind::RightParenthesis)?;
-        Ok((span, inside))
+        self.skip_giving(Kind::RightParenthesis, (span, inside))
     }
 
     /// `name`
@@ -458,8 +456,7 @@ impl<'a> Parser<'a> {
     {
         let span = self.mark(Kind::LeftParenthesis)?;
         let arguments = self.expressions()?;
-        self.skip(Kind::RightParenthesis)?;
-        Ok(Suffix::Arguments(span, arguments))
+        self.skip_giving(Kind::RightParenthesis, Suffix::Arguments(span, arguments))
     }
 
     /// `"," expr`

@@ -25,8 +25,7 @@ impl<'a> Parser<'a> {
             self.skip(Kind::In)?;
             self.mode_behind_in()
         } else if self.next_is(Kind::Out) {
-            self.skip(Kind::Out)?;
-            Ok(Mode::Out)
+            self.skip_giving(Kind::Out, Mode::Out)
         } else {
             Ok(Mode::In)
         }
@@ -40,8 +39,7 @@ impl<'a> Parser<'a> {
         ensures shorter { OnOk result (length self.new.rest.now ≤ length self.old.rest.now) }
     {
         if self.next_is(Kind::Out) {
-            self.skip(Kind::Out)?;
-            Ok(Mode::InOut)
+            self.skip_giving(Kind::Out, Mode::InOut)
         } else {
             Ok(Mode::In)
         }
@@ -98,8 +96,7 @@ impl<'a> Parser<'a> {
     {
         self.skip(Kind::LeftParenthesis)?;
         let formals = self.formal_list()?;
-        self.skip(Kind::RightParenthesis)?;
-        Ok(formals)
+        self.skip_giving(Kind::RightParenthesis, formals)
     }
 
     /// `"(" formal {";" formal} ")"`, a construct
@@ -192,12 +189,10 @@ impl<'a> Parser<'a> {
     {
         let value = self.expression()?;
         if is_bare_name(&value) && self.next_is(Kind::Arrow) {
+            let name = bare_name(value);
             self.skip(Kind::Arrow)?;
-            let named = self.expression()?;
-            Ok(Association {
-                name: bare_name(value),
-                value: named,
-            })
+            let value = self.expression()?;
+            Ok(Association { name, value })
         } else {
             Ok(Association { name: None, value })
         }
@@ -240,8 +235,7 @@ impl<'a> Parser<'a> {
     {
         self.skip(Kind::LeftParenthesis)?;
         let associations = self.association_list()?;
-        self.skip(Kind::RightParenthesis)?;
-        Ok(associations)
+        self.skip_giving(Kind::RightParenthesis, associations)
     }
 
     /// `"(" assoc {"," assoc} ")"`, a construct

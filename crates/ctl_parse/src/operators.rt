@@ -26,29 +26,11 @@ impl<'a> Parser<'a> {
         ensures left { OnOk result (self.new.left ≡ self.old.left) }
         ensures shorter { OnOk result (length self.new.rest.now < length self.old.rest.now) }
     {
+        self.skip(first_word(operator))?;
         match operator {
-            LogicalOperator::And => {
-                self.skip(Kind::And)?;
-                Ok(())
-            }
-            LogicalOperator::Or => {
-                self.skip(Kind::Or)?;
-                Ok(())
-            }
-            LogicalOperator::Xor => {
-                self.skip(Kind::Xor)?;
-                Ok(())
-            }
-            LogicalOperator::AndThen => {
-                self.skip(Kind::And)?;
-                self.skip(Kind::Then)?;
-                Ok(())
-            }
-            LogicalOperator::OrElse => {
-                self.skip(Kind::Or)?;
-                self.skip(Kind::Else)?;
-                Ok(())
-            }
+            LogicalOperator::And | LogicalOperator::Or | LogicalOperator::Xor => Ok(()),
+            LogicalOperator::AndThen => self.skip(Kind::Then),
+            LogicalOperator::OrElse => self.skip(Kind::Else),
         }
     }
 
@@ -68,23 +50,17 @@ impl<'a> Parser<'a> {
         ensures shorter { OnOk result (length self.new.rest.now < length self.old.rest.now) }
     {
         if self.next_is(Kind::Equal) {
-            self.skip(Kind::Equal)?;
-            Ok(RelationalOperator::Equal)
+            self.skip_giving(Kind::Equal, RelationalOperator::Equal)
         } else if self.next_is(Kind::NotEqual) {
-            self.skip(Kind::NotEqual)?;
-            Ok(RelationalOperator::NotEqual)
+            self.skip_giving(Kind::NotEqual, RelationalOperator::NotEqual)
         } else if self.next_is(Kind::Less) {
-            self.skip(Kind::Less)?;
-            Ok(RelationalOperator::Less)
+            self.skip_giving(Kind::Less, RelationalOperator::Less)
         } else if self.next_is(Kind::LessEqual) {
-            self.skip(Kind::LessEqual)?;
-            Ok(RelationalOperator::LessEqual)
+            self.skip_giving(Kind::LessEqual, RelationalOperator::LessEqual)
         } else if self.next_is(Kind::Greater) {
-            self.skip(Kind::Greater)?;
-            Ok(RelationalOperator::Greater)
+            self.skip_giving(Kind::Greater, RelationalOperator::Greater)
         } else {
-            self.skip(Kind::GreaterEqual)?;
-            Ok(RelationalOperator::GreaterEqual)
+            self.skip_giving(Kind::GreaterEqual, RelationalOperator::GreaterEqual)
         }
     }
 
@@ -114,14 +90,11 @@ impl<'a> Parser<'a> {
         ensures shorter { OnOk result (length self.new.rest.now < length self.old.rest.now) }
     {
         if self.next_is(Kind::Plus) {
-            self.skip(Kind::Plus)?;
-            Ok(AddingOperator::Plus)
+            self.skip_giving(Kind::Plus, AddingOperator::Plus)
         } else if self.next_is(Kind::Minus) {
-            self.skip(Kind::Minus)?;
-            Ok(AddingOperator::Minus)
+            self.skip_giving(Kind::Minus, AddingOperator::Minus)
         } else {
-            self.skip(Kind::Ampersand)?;
-            Ok(AddingOperator::Concatenate)
+            self.skip_giving(Kind::Ampersand, AddingOperator::Concatenate)
         }
     }
 
@@ -133,17 +106,13 @@ impl<'a> Parser<'a> {
         ensures shorter { OnOk result (length self.new.rest.now < length self.old.rest.now) }
     {
         if self.next_is(Kind::Star) {
-            self.skip(Kind::Star)?;
-            Ok(MultiplyingOperator::Times)
+            self.skip_giving(Kind::Star, MultiplyingOperator::Times)
         } else if self.next_is(Kind::Slash) {
-            self.skip(Kind::Slash)?;
-            Ok(MultiplyingOperator::Divide)
+            self.skip_giving(Kind::Slash, MultiplyingOperator::Divide)
         } else if self.next_is(Kind::Mod) {
-            self.skip(Kind::Mod)?;
-            Ok(MultiplyingOperator::Mod)
+            self.skip_giving(Kind::Mod, MultiplyingOperator::Mod)
         } else {
-            self.skip(Kind::Rem)?;
-            Ok(MultiplyingOperator::Rem)
+            self.skip_giving(Kind::Rem, MultiplyingOperator::Rem)
         }
     }
 

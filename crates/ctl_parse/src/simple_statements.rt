@@ -1,8 +1,8 @@
 //! Statements that hold no other statement, and the parts of the others (RM 5).
 
 ghost use Rattle.std.specs.Prelude.{◌≡◌, ◌<◌, ◌≤◌, ◌++◌, length, OnOk};
-ghost use Rattle.ctl_grammar.specs.Form.{none, pair, starts, nest_starts, Conditional, Repetition, Block};
-ghost use Rattle.ctl_grammar.specs.Grammar.{factor, primary, expression, null_statement, named_statement, exit_condition, exit_statement, returned, return_statement, raised, raise_statement, while_scheme, for_scheme, scheme, choices, end_if, end_loop, statement};
+ghost use Rattle.ctl_grammar.specs.Form.{none, pair, starts, nest_starts, word, ◌▸◌, Conditional, Repetition, Block};
+ghost use Rattle.ctl_grammar.specs.Grammar.{simple, factor, primary, expression, null_statement, named_statement, exit_condition, exit_statement, returned, return_statement, raised, raise_statement, while_scheme, for_scheme, scheme, choices, end_if, end_loop, statement};
 ghost use Rattle.ctl_grammar.specs.Nodes.{assignment_of};
 ghost use Rattle.ctl_grammar.specs.Reading.{Gives, begins, read};
 ghost use Rattle.ctl_parse.specs.View.{optional, dotted_node, view, view_name, span_node, scheme_node, choices_node, view_statement};
@@ -22,11 +22,13 @@ impl<'a> Parser<'a> {
         ensures shorter { OnOk result (length self.new.rest.now < length self.old.rest.now) }
     {
         let span = self.mark(Kind::Null)?;
-        self.skip(Kind::Semicolon)?;
-        Ok(Statement {
-            span,
-            kind: StatementKind::Null,
-        })
+        self.skip_giving(
+            Kind::Semicolon,
+            Statement {
+                span,
+                kind: StatementKind::Null,
+            },
+        )
     }
 
     /// `name ":=" expr ";" | name ";"` (RM 5.2, 6.4)
@@ -38,8 +40,7 @@ impl<'a> Parser<'a> {
     {
         let name = self.name()?;
         let value = self.optional_value()?;
-        self.skip(Kind::Semicolon)?;
-        Ok(named_statement(name, value))
+        self.skip_giving(Kind::Semicolon, named_statement(name, value))
     }
 
     /// `["when" expr]`
@@ -67,11 +68,11 @@ impl<'a> Parser<'a> {
     {
         let span = self.mark(Kind::Exit)?;
         let condition = self.exit_condition()?;
-        self.skip(Kind::Semicolon)?;
-        Ok(Statement {
+        let statement = Statement {
             span,
             kind: StatementKind::Exit(condition),
-        })
+        };
+        self.skip_giving(Kind::Semicolon, statement)
     }
 
     /// `[expr]` before a semicolon
@@ -98,11 +99,11 @@ impl<'a> Parser<'a> {
     {
         let span = self.mark(Kind::Return)?;
         let value = self.returned()?;
-        self.skip(Kind::Semicolon)?;
-        Ok(Statement {
+        let statement = Statement {
             span,
             kind: StatementKind::Return(value),
-        })
+        };
+        self.skip_giving(Kind::Semicolon, statement)
     }
 
     /// `[dotted]`
@@ -129,11 +130,13 @@ impl<'a> Parser<'a> {
     {
         let span = self.mark(Kind::Raise)?;
         let exception = self.raised()?;
-        self.skip(Kind::Semicolon)?;
-        Ok(Statement {
-            span,
-            kind: StatementKind::Raise(exception),
-        })
+        self.skip_giving(
+            Kind::Semicolon,
+            Statement {
+                span,
+                kind: StatementKind::Raise(exception),
+            },
+        )
     }
 
     /// `"while" expr`
@@ -159,10 +162,20 @@ impl<'a> Parser<'a> {
         let parameter = self.identifier()?;
         self.skip(Kind::In)?;
         let is_reverse = self.took(Kind::Reverse)?;
-        let low = self.simple()?;
-        self.skip(Kind::DoubleDot)?;
-        let high = self.simple()?;
+        let (low, high) = self.bounds()?;
         Ok((Some(span), Scheme::For(parameter, is_reverse, low, high)))
+    }
+
+    /// `simple ".." simple`
+    fn bounds(&mut self) -> Result<(Expression, Expression), Refused>
+        ensures given { Gives (λ p. pair (view p.0) (pair none (view p.1))) result self.new.rest.now (read self.old.left (simple ▸ word Kind.DoubleDot ▸ simple) none self.old.rest.now) }
+        ensures left { OnOk result (self.new.left ≡ self.old.left) }
+        ensures shorter { OnOk result (length self.new.rest.now < length self.old.rest.now) }
+    {
+        let low = self.simple()?;
+        let low = self.skip_giving(Kind::DoubleDot, low)?;
+        let high = self.simple()?;
+        Ok((low, high))
     }
 
     /// `["while" expr | "for" id "in" ["reverse"] simple ".." simple]`, with its place (RM 5.5)
@@ -189,8 +202,7 @@ impl<'a> Parser<'a> {
         ensures shorter { OnOk result (length self.new.rest.now < length self.old.rest.now) }
     {
         if self.next_is(Kind::Others) {
-            self.skip(Kind::Others)?;
-            Ok(Choices::Others)
+            self.skip_giving(Kind::Others, Choices::Others)
         } else {
             let exceptions = self.dotted_list(Kind::Bar)?;
             Ok(Choices::Exceptions(exceptions))
@@ -206,8 +218,7 @@ impl<'a> Parser<'a> {
     {
         self.skip(Kind::End)?;
         self.skip(Kind::If)?;
-        self.skip(Kind::Semicolon)?;
-        Ok(())
+        self.skip(Kind::Semicolon)
     }
 
     /// `"end" "loop" ";"`
@@ -219,8 +230,7 @@ impl<'a> Parser<'a> {
     {
         self.skip(Kind::End)?;
         self.skip(Kind::Loop)?;
-        self.skip(Kind::Semicolon)?;
-        Ok(())
+        self.skip(Kind::Semicolon)
     }
 
     /// Whether a statement is next.

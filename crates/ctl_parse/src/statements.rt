@@ -1,8 +1,8 @@
 //! Statements that hold others, declarative parts, bodies and handlers (RM 3.11, 5, 6.3, 11.2).
 
 ghost use Rattle.std.specs.Prelude.{◌≡◌, ◌<◌, ◌≤◌, length, map, OnOk, true};
-ghost use Rattle.ctl_grammar.specs.Form.{none, written, at, pair, tag, starts, nest_starts, Conditional, Repetition, Block, Body, BareBody};
-ghost use Rattle.ctl_grammar.specs.Grammar.{statement, statements, branch, next_branch, branches, otherwise, handler, handler_list, handlers, handled, completed, overriding_item, function_item, behind_is, behind_name, procedure_item, item, part, completion, declared, body};
+ghost use Rattle.ctl_grammar.specs.Form.{none, written, at, pair, tag, starts, nest_starts, ◌▸◌, Conditional, Repetition, Block, Body, BareBody};
+ghost use Rattle.ctl_grammar.specs.Grammar.{spot, end_loop, statement, statements, branch, next_branch, branches, otherwise, handler, handler_list, handlers, handled, completed, overriding_item, function_item, behind_is, behind_name, procedure_item, item, part, completion, declared, body};
 ghost use Rattle.ctl_grammar.specs.Nodes.{procedure_of, row_of};
 ghost use Rattle.ctl_grammar.specs.Reading.{Gives, begins, read, construct, made};
 ghost use Rattle.ctl_parse.specs.View.{identifier_node, flag_node, specification_node, formal_row, span_node, view_item_kind, view_body_part, view_branch, view_handled, view_handler, view_item, view_statement};
@@ -105,7 +105,7 @@ impl<'a> Parser<'a> {
         ensures shorter { OnOk result (length self.new.rest.now < length self.old.rest.now) }
     {
         let condition = self.expression()?;
-        self.skip(Kind::Then)?;
+        let condition = self.skip_giving(Kind::Then, condition)?;
         let statements = self.statements()?;
         Ok(Branch {
             condition,
@@ -183,14 +183,26 @@ impl<'a> Parser<'a> {
         ensures shorter { OnOk result (length self.new.rest.now < length self.old.rest.now) }
     {
         let (start, scheme) = self.scheme()?;
-        let word = self.mark(Kind::Loop)?;
-        let statements = self.statements()?;
-        self.end_loop()?;
+        let (word, statements) = self.repeated()?;
         let span = start.unwrap_or(word);
         Ok(Statement {
             span,
             kind: StatementKind::Loop(scheme, statements),
         })
+    }
+
+    /// `"loop" stmts "end" "loop" ";"`, with its place
+    // Apart from the scheme, so that no scheme is held while statements are read.
+    #[cycle(statements)]
+    fn repeated(&mut self) -> Result<(Span, Vec<Statement>), Refused>
+        ensures given { Gives (λ p. pair (at p.0) (pair (row_of (map view_statement p.1.items)) none)) result self.new.rest.now (read self.old.left (spot Kind.Loop ▸ statements ▸ end_loop) none self.old.rest.now) }
+        ensures left { OnOk result (self.new.left ≡ self.old.left) }
+        ensures shorter { OnOk result (length self.new.rest.now < length self.old.rest.now) }
+    {
+        let word = self.mark(Kind::Loop)?;
+        let statements = self.statements()?;
+        self.end_loop()?;
+        Ok((word, statements))
     }
 
     /// A block, a construct (RM 5.6).
@@ -220,12 +232,11 @@ impl<'a> Parser<'a> {
         let word = self.mark(Kind::Begin)?;
         let handled = self.handled()?;
         self.skip(Kind::End)?;
-        self.skip(Kind::Semicolon)?;
-        let span = start.unwrap_or(word);
-        Ok(Statement {
-            span,
+        let block = Statement {
+            span: start.unwrap_or(word),
             kind: StatementKind::Block(items, handled),
-        })
+        };
+        self.skip_giving(Kind::Semicolon, block)
     }
 
     /// `["declare" part]`, with its place
@@ -450,8 +461,10 @@ impl<'a> Parser<'a> {
         ensures shorter { OnOk result (length self.new.rest.now < length self.old.rest.now) }
     {
         if self.next_is(Kind::Semicolon) {
-            self.skip(Kind::Semicolon)?;
-            Ok(ItemKind::Declaration(is_overriding, specification))
+            self.skip_giving(
+                Kind::Semicolon,
+                ItemKind::Declaration(is_overriding, specification),
+            )
         } else {
             let body = self.body(&specification.name)?;
             Ok(ItemKind::Body(is_overriding, specification, body))
@@ -513,12 +526,14 @@ impl<'a> Parser<'a> {
         let handled = self.handled()?;
         self.skip(Kind::End)?;
         let end_name = self.end_name(name)?;
-        self.skip(Kind::Semicolon)?;
-        Ok(BodyPart {
-            items,
-            handled,
-            end_name,
-        })
+        self.skip_giving(
+            Kind::Semicolon,
+            BodyPart {
+                items,
+                handled,
+                end_name,
+            },
+        )
     }
 
     /// Whether an item is next.

@@ -43,12 +43,12 @@ impl<'a> Parser<'a> {
         self.skip(Kind::Colon)?;
         let mark = self.dotted()?;
         let default = self.optional_value()?;
-        self.skip(Kind::Semicolon)?;
-        Ok(ComponentDeclaration {
+        let component = ComponentDeclaration {
             names,
             mark,
             default,
-        })
+        };
+        self.skip_giving(Kind::Semicolon, component)
     }
 
     /// `comp {comp}`
@@ -77,8 +77,7 @@ impl<'a> Parser<'a> {
     {
         if self.next_is(Kind::Null) {
             self.skip(Kind::Null)?;
-            self.skip(Kind::Semicolon)?;
-            Ok(Vec::new(self.alloc))
+            self.skip_giving(Kind::Semicolon, Vec::new(self.alloc))
         } else {
             self.component_list()
         }
@@ -92,8 +91,7 @@ impl<'a> Parser<'a> {
         ensures shorter { OnOk result (length self.new.rest.now < length self.old.rest.now) }
     {
         self.skip(Kind::Null)?;
-        self.skip(Kind::Record)?;
-        Ok(Vec::new(self.alloc))
+        self.skip_giving(Kind::Record, Vec::new(self.alloc))
     }
 
     /// `"record" ("null" ";" | comp {comp}) "end" "record"`
@@ -106,8 +104,7 @@ impl<'a> Parser<'a> {
         self.skip(Kind::Record)?;
         let components = self.components()?;
         self.skip(Kind::End)?;
-        self.skip(Kind::Record)?;
-        Ok(components)
+        self.skip_giving(Kind::Record, components)
     }
 
     /// `recdef`

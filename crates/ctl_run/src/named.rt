@@ -33,6 +33,3 @@ pub fn named_of(alloc: Global, source: &[u8]) -> Result<Named, Fault>
     let tree = tree_of(alloc, source)?;
     resolve(alloc, tree)
 }
-
-#[cfg(test)]
-mod tests;

@@ -56,6 +56,3 @@ pub fn run_source(alloc: Global, source: &[u8], order: Order, steps: u64) -> Res
     let _ = machine.run(steps);
     Ok(machine.finish())
 }
-
-#[cfg(test)]
-mod tests;

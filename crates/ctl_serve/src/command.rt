@@ -1,25 +1,27 @@
 //! The program's work, over any reader and any writers.
 
-ghost use Rattle.std.specs.Prelude.{◌≡◌, codes, false, true};
+ghost use Rattle.std.specs.Prelude.{◌≡◌, ◌⊎◌, codes, false, true, OnErr, OnOk};
 ghost use Rattle.std.specs.Io.KnownBytes.{Appends};
-ghost use Rattle.ctl_serve.specs.Served.{IsDone, IsRefusedText, IsRunStatus, ReadsRefused, Serves, WritesOk, WritesRun};
+ghost use Rattle.ctl_sink.specs.Prefix.{AppendsUpTo};
+ghost use Rattle.ctl_serve.specs.Reading.{is_unread, reader_of};
+ghost use Rattle.ctl_serve.specs.Served.{BreaksOff, EndsBy, IsCheckStatus, IsDone, IsPossible, IsRefusedText, IsRunStatus, ReadsRefused, Serves, WritesOk, WritesOkUpTo, WritesRun, WritesRunUpTo};
 ghost use Rattle.ctl_serve.specs.Statuses.{exit_code, fault_status, usage_status};
 
 use crate::into::run_into;
-use crate::report::{Picks, say, say_end};
-use crate::source::{ReadFault, read_source};
+use crate::report::{say, say_run};
+use crate::source::{ReadFault, Reading, read_source};
 use crate::status::{Status, status_of_end, status_of_fault, status_of_usage};
 use crate::summary::RunFault;
 use ctl_job::{Job, UsageFault};
 use ctl_run::run::check_source;
-use ctl_sink::{Sink, Through, put_all};
+use ctl_sink::{PutFault, Sink, put_all};
 use ctl_tree::fault::Fault;
 use ctl_tree::request::{Order, Show};
 use std::alloc::{Allocator, Global};
 use std::io::{Read, Write};
 
-/// How many bytes of a file are read: one more than a source text may have.
-const LIMIT: usize = 1_048_577;
+/// How many bytes of a file are read at most: one more than a source text may have.
+pub const READ_LIMIT: usize = 1_048_577;
 
 /// Says why a source text is refused.
 fn refuse<E: Write>(fault: Fault, err: &mut E) -> Status
@@ -56,15 +58,15 @@ pub fn refuse_words<E: Write>(fault: UsageFault, err: &mut E) -> u8
 pub fn refuse_file<E: Write>(err: &mut E) -> u8
     ensures { result ≡ exit_code Status.InputOutput }
 {
-    say(err, "read failed");
-    Status::InputOutput.code()
+    fail_read(err).code()
 }
 
-/// Says that the output was not written, and answers the exit status.
-pub fn refuse_output<E: Write>(err: &mut E) -> u8
-    ensures { result ≡ exit_code Status.InputOutput }
+/// Says that a read failed.
+fn fail_read<E: Write>(err: &mut E) -> Status
+    ensures { result ≡ Status.InputOutput }
 {
-    fail_write(err).code()
+    say(err, "read failed");
+    Status::InputOutput
 }
 
 /// Says that a write failed.
@@ -75,33 +77,38 @@ fn fail_write<E: Write>(err: &mut E) -> Status
     Status::InputOutput
 }
 
-/// Prints `ok`.
-fn put_ok<S: Sink, E: Write>(sink: &mut S, err: &mut E) -> Status
-    requires { S.has_failed sink.old ≡ false }
-    ensures written { result ≡ Status.Done → Appends (S.taken sink.old) (S.taken sink.new) (codes "ok\n") }
-    ensures refused { result ≡ Status.Refused → ⊥ }
-    ensures told { S.has_failed sink.new ≡ true → result ≡ Status.InputOutput }
+/// Puts `ok`, and has it passed on.
+fn put_ok<S: Sink>(sink: &mut S) -> Result<(), PutFault>
+    ensures all { OnOk result (Appends (S.taken sink.old) (S.taken sink.new) (codes "ok\n")) }
+    ensures ok { OnOk result (S.has_failed sink.new ≡ S.has_failed sink.old) }
+    ensures part { OnErr result (AppendsUpTo (S.taken sink.old) (S.taken sink.new) (codes "ok\n")) }
+    ensures err { OnErr result (S.has_failed sink.new ≡ true) }
 {
-    match put_all(sink, b"ok\n") {
-        Ok(()) => Status::Done,
-        Err(_) => fail_write(err),
-    }
+    put_all(sink, b"ok\n")?;
+    sink.flush()
 }
 
 /// Checks a source text, and prints `ok` where it is accepted.
 fn check<S: Sink, E: Write>(alloc: Global, source: &[u8], sink: &mut S, err: &mut E) -> Status
     requires { S.has_failed sink.old ≡ false }
+    ensures possible { IsCheckStatus result }
     ensures written { result ≡ Status.Done → WritesOk source.now (S.taken sink.old) (S.taken sink.new) }
     ensures refused { result ≡ Status.Refused → IsRefusedText source.now }
+    ensures untouched { (result ≡ Status.Refused) ⊎ (result ≡ Status.HostMemory) → sink.new ≡ sink.old }
     ensures told { S.has_failed sink.new ≡ true → result ≡ Status.InputOutput }
+    ensures failed { result ≡ Status.InputOutput → S.has_failed sink.new ≡ true }
+    ensures broken { result ≡ Status.InputOutput → WritesOkUpTo source.now (S.taken sink.old) (S.taken sink.new) }
 {
     if let Err(fault) = check_source(alloc, source) {
         return refuse(fault, err);
     }
-    put_ok(sink, err)
+    match put_ok(sink) {
+        Ok(()) => Status::Done,
+        Err(_) => fail_write(err),
+    }
 }
 
-/// Runs a source text, prints what is asked for of it, and says how the run ended.
+/// Runs a source text, prints what is asked for of it, and says how the run ended once that has been passed on.
 fn run<S: Sink, E: Write>(
     alloc: Global,
     source: &[u8],
@@ -112,17 +119,23 @@ fn run<S: Sink, E: Write>(
     err: &mut E,
 ) -> Status
     requires { S.has_failed sink.old ≡ false }
+    ensures possible { result ≡ Status.Usage → ⊥ }
     ensures written { IsRunStatus result → WritesRun source.now order steps show (S.taken sink.old) (S.taken sink.new) result }
     ensures refused { result ≡ Status.Refused → IsRefusedText source.now }
+    ensures untouched { result ≡ Status.Refused → sink.new ≡ sink.old }
+
+    // Memory was wanting before a byte was put, or in the run, which was put whole.
+    ensures memory { result ≡ Status.HostMemory → (sink.new ≡ sink.old) ⊎ WritesRun source.now order steps show (S.taken sink.old) (S.taken sink.new) Status.HostMemory }
     ensures told { S.has_failed sink.new ≡ true → result ≡ Status.InputOutput }
+    ensures failed { result ≡ Status.InputOutput → S.has_failed sink.new ≡ true }
+    ensures broken { result ≡ Status.InputOutput → WritesRunUpTo source.now order steps show (S.taken sink.old) (S.taken sink.new) }
 {
     match run_into(alloc, source, order, steps, show, sink) {
         Ok(summary) => {
-            if show == Show::Trace {
-                let picks = Picks(&summary.picks);
-                say(err, format_args!("picks {picks}"));
+            if sink.flush().is_err() {
+                return fail_write(err);
             }
-            say_end(err, &summary.end);
+            say_run(err, show, &summary);
             status_of_end(&summary.end)
         }
         Err(RunFault::Refused(fault)) => refuse(fault, err),
@@ -131,24 +144,33 @@ fn run<S: Sink, E: Write>(
 }
 
 /// Does a job on a source text, of which at most so many bytes are read, into memory of this allocator. What the job asks
-/// for goes into a sink that has not failed.
+/// for goes into a sink that has not failed, and is passed on before a line on how the job ended is said.
 pub fn serve_into<A: Allocator, R: Read, S: Sink, E: Write>(
     alloc: Global,
     buffer: A,
     limit: usize,
     job: Job,
-    source: &mut R,
+    source: &mut Reading<R>,
     sink: &mut S,
     err: &mut E,
 ) -> Status
     requires { S.has_failed sink.old ≡ false }
-    ensures written { IsDone job result → Serves job limit (R.remaining source.old) (R.remaining source.new) (S.taken sink.old) (S.taken sink.new) result }
+    ensures possible { IsPossible job result }
+    ensures written { IsDone job result → Serves job limit (R.remaining (reader_of source.old)) (R.remaining (reader_of source.new)) (S.taken sink.old) (S.taken sink.new) result }
 
-    // A text is refused for a reason that it gives.
-    ensures refused { result ≡ Status.Refused → ReadsRefused limit (R.remaining source.old) (R.remaining source.new) }
+    // A text is refused for a reason that it gives, and then nothing is put.
+    ensures refused { result ≡ Status.Refused → ReadsRefused limit (R.remaining (reader_of source.old)) (R.remaining (reader_of source.new)) }
+    ensures untouched { result ≡ Status.Refused → sink.new ≡ sink.old }
 
-    // No failure of the sink is passed over.
+    // Memory was wanting before a byte was put, or in the run, which was put whole.
+    ensures memory { result ≡ Status.HostMemory → (sink.new ≡ sink.old) ⊎ Serves job limit (R.remaining (reader_of source.old)) (R.remaining (reader_of source.new)) (S.taken sink.old) (S.taken sink.new) Status.HostMemory }
+
+    // No failure of the sink or of a read is passed over.
     ensures told { S.has_failed sink.new ≡ true → result ≡ Status.InputOutput }
+    ensures read { is_unread source.old ≡ false → is_unread source.new ≡ true → result ≡ Status.InputOutput }
+
+    // There is no other reason for this status: the sink broke the text off, or a read failed and nothing was put.
+    ensures failed { result ≡ Status.InputOutput → ((S.has_failed sink.new ≡ true) × BreaksOff job limit (R.remaining (reader_of source.old)) (R.remaining (reader_of source.new)) (S.taken sink.old) (S.taken sink.new)) ⊎ ((is_unread source.new ≡ true) × (sink.new ≡ sink.old)) }
 {
     let bytes = match read_source(buffer, source, limit) {
         Ok(bytes) => bytes,
@@ -156,10 +178,7 @@ pub fn serve_into<A: Allocator, R: Read, S: Sink, E: Write>(
             say(err, "host memory");
             return Status::HostMemory;
         }
-        Err(ReadFault::Read) => {
-            say(err, "read failed");
-            return Status::InputOutput;
-        }
+        Err(ReadFault::Read) => return fail_read(err),
     };
     match job {
         Job::Check { .. } => check(alloc, &bytes, sink, err),
@@ -172,25 +191,23 @@ pub fn serve_into<A: Allocator, R: Read, S: Sink, E: Write>(
     }
 }
 
-/// Does a job on the source text that this reader gives, and answers the exit status.
+/// Does a job on the source text that this reader gives, and answers the exit status: 74 where the sink had failed before.
 ///
-/// What the job asks for goes to `out`, which is not flushed; a line on how it ended goes to `err`, where a fault in
-/// writing is passed over. At most 1,048,577 bytes are read, by at most as many reads.
-pub fn serve<R: Read, W: Write, E: Write>(
+/// What the job asks for goes into the sink, and is passed on; then a line on how the job ended goes to `err`, where a
+/// fault in writing is passed over. At most 1,048,577 bytes are read, by at most as many reads.
+pub fn serve<R: Read, S: Sink, E: Write>(
     alloc: Global,
     job: Job,
-    source: &mut R,
-    out: &mut W,
+    source: &mut Reading<R>,
+    sink: &mut S,
     err: &mut E,
-) -> u8 {
-    serve_into(
-        alloc,
-        alloc,
-        LIMIT,
-        job,
-        source,
-        &mut Through::new(out),
-        err,
-    )
-    .code()
+) -> u8
+    ensures ends { S.has_failed sink.old ≡ false → EndsBy job READ_LIMIT (R.remaining (reader_of source.old)) (R.remaining (reader_of source.new)) (is_unread source.new) (S.taken sink.old) (S.taken sink.new) (S.has_failed sink.new) result }
+    ensures read { is_unread source.old ≡ false → is_unread source.new ≡ true → result ≡ exit_code Status.InputOutput }
+    ensures failed { S.has_failed sink.old ≡ true → (result ≡ exit_code Status.InputOutput) × (sink.new ≡ sink.old) × (source.new ≡ source.old) }
+{
+    if sink.failed() {
+        return fail_write(err).code();
+    }
+    serve_into(alloc, alloc, READ_LIMIT, job, source, sink, err).code()
 }

@@ -3,15 +3,12 @@
 
 mod command;
 mod into;
-mod report;
+pub mod report;
 mod source;
-mod status;
+pub mod status;
 mod summary;
 
-pub use command::{refuse_file, refuse_output, refuse_words, serve, serve_into};
-pub use into::run_into;
-pub use status::Status;
+pub use command::{READ_LIMIT, refuse_file, refuse_words, serve, serve_into};
+pub use into::{put_run, run_into};
+pub use source::Reading;
 pub use summary::{RunFault, Summary};
-
-#[cfg(test)]
-mod tests;

@@ -1,6 +1,8 @@
 //! The lines on standard error. A fault in writing one is passed over.
 
+use crate::summary::Summary;
 use ctl_tree::ending::End;
+use ctl_tree::request::Show;
 use std::fmt;
 use std::fmt::Display;
 use std::io::Write;
@@ -43,4 +45,13 @@ pub fn say_end<E: Write>(err: &mut E, end: &End) {
         End::StepLimit => say(err, "step limit"),
         End::HostMemory => say(err, "host memory"),
     }
+}
+
+/// Says how a run ended; of one whose trace was asked for, first the picks that it took.
+pub fn say_run<E: Write>(err: &mut E, show: Show, summary: &Summary) {
+    if show == Show::Trace {
+        let picks = Picks(&summary.picks);
+        say(err, format_args!("picks {picks}"));
+    }
+    say_end(err, &summary.end);
 }

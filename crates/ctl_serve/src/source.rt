@@ -1,7 +1,9 @@
 //! The source text, read from a file.
 
-ghost use Rattle.std.specs.Prelude.{◌≤◌, ◌<◌, IfOk, length, take, vec_len};
-ghost use Rattle.std.specs.Io.KnownBytes.{Consumes, IsAtEnd};
+ghost use Rattle.std.specs.Prelude.{◌≡◌, ◌≤◌, ◌<◌, false, true, IfErr, IfOk, IsErrOf, OnErr, OnOk, length, take, vec_len};
+ghost use Rattle.std.specs.Io.{ReadsAtMost};
+ghost use Rattle.std.specs.Io.KnownBytes.{Consumes, IsAtEnd, ReadConsumes};
+ghost use Rattle.ctl_serve.specs.Reading.{is_unread, reader_of};
 
 use std::alloc::Allocator;
 use std::io::Read;
@@ -14,33 +16,75 @@ pub enum ReadFault {
     Read,
 }
 
+/// A reader that remembers whether a read of it failed.
+#[derive(Drop)]
+pub struct Reading<R> {
+    reader: R,
+    is_broken: bool,
+}
+
+impl<R: Read> Reading<R> {
+    /// This reader, of which no read has failed.
+    pub fn new(reader: R) -> Reading<R>
+        ensures reader { reader_of result ≡ reader }
+        ensures whole { is_unread result ≡ false }
+    {
+        Reading {
+            reader,
+            is_broken: false,
+        }
+    }
+
+    /// Reads some bytes, none only at the reader's end or where the buffer has no room; a fault gives none.
+    fn read(&mut self, buffer: &mut [u8]) -> Result<usize, ReadFault>
+        ensures bound { ReadsAtMost result buffer.new }
+        ensures bytes { ReadConsumes (R.remaining (reader_of self.old)) (R.remaining (reader_of self.new)) result buffer.new }
+        ensures ok { OnOk result (is_unread self.new ≡ is_unread self.old) }
+        ensures err { OnErr result (is_unread self.new ≡ true) }
+        ensures read { IfErr result (λ fault. fault ≡ ReadFault.Read) }
+    {
+        match self.reader.read(buffer) {
+            Ok(n) => Ok(n),
+            Err(_) => {
+                self.is_broken = true;
+                Err(ReadFault::Read)
+            }
+        }
+    }
+}
+
 /// Fills the buffer, and answers how many bytes were read: fewer than it has only at the reader's end. Each read but the
 /// last gives a byte at least, so that there are no more reads than bytes.
-fn fill<R: Read>(source: &mut R, buffer: &mut [u8]) -> Result<usize, ReadFault>
+fn fill<R: Read>(source: &mut Reading<R>, buffer: &mut [u8]) -> Result<usize, ReadFault>
     ensures count { IfOk result (λ n. n ≤ length buffer.new) }
-    ensures bytes { IfOk result (λ n. Consumes (R.remaining source.old) (R.remaining source.new) (take n buffer.new)) }
-    ensures end { IfOk result (λ n. n < length buffer.new → IsAtEnd (R.remaining source.new)) }
+    ensures bytes { IfOk result (λ n. Consumes (R.remaining (reader_of source.old)) (R.remaining (reader_of source.new)) (take n buffer.new)) }
+    ensures end { IfOk result (λ n. n < length buffer.new → IsAtEnd (R.remaining (reader_of source.new))) }
+    ensures ok { OnOk result (is_unread source.new ≡ is_unread source.old) }
+    ensures err { OnErr result (is_unread source.new ≡ true) }
+    ensures read { IfErr result (λ fault. fault ≡ ReadFault.Read) }
 {
     let mut held = 0;
     while held < buffer.len() {
-        match source.read(&mut buffer[held..]) {
-            Ok(0) => return Ok(held),
-            Ok(n) => held += n,
-            Err(_) => return Err(ReadFault::Read),
+        match source.read(&mut buffer[held..])? {
+            0 => return Ok(held),
+            n => held += n,
         }
     }
     Ok(held)
 }
 
-/// The bytes of a file, at most so many of them.
+/// The bytes of a file, at most so many of them. `Read` comes where a read failed, and `Memory` before any read.
 pub fn read_source<A: Allocator, R: Read>(
     alloc: A,
-    source: &mut R,
+    source: &mut Reading<R>,
     limit: usize,
 ) -> Result<Vec<u8, A>, ReadFault>
     ensures count { IfOk result (λ bytes. vec_len bytes ≤ limit) }
-    ensures bytes { IfOk result (λ bytes. Consumes (R.remaining source.old) (R.remaining source.new) bytes.items) }
-    ensures end { IfOk result (λ bytes. vec_len bytes < limit → IsAtEnd (R.remaining source.new)) }
+    ensures bytes { IfOk result (λ bytes. Consumes (R.remaining (reader_of source.old)) (R.remaining (reader_of source.new)) bytes.items) }
+    ensures end { IfOk result (λ bytes. vec_len bytes < limit → IsAtEnd (R.remaining (reader_of source.new))) }
+    ensures ok { OnOk result (is_unread source.new ≡ is_unread source.old) }
+    ensures read { IsErrOf result ReadFault.Read → is_unread source.new ≡ true }
+    ensures memory { IsErrOf result ReadFault.Memory → source.new ≡ source.old }
 {
     let Ok(mut bytes) = vec![in alloc; 0u8; limit] else {
         return Err(ReadFault::Memory);

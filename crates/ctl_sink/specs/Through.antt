@@ -6,6 +6,6 @@ use Rattle.ctl_sink.specs.declared.through.Through.{Through}
 abbrev pub writer_of : {W : Type 0} → Through W → W
 writer_of t = t.writer
 
--- whether a write failed, or took no byte
+-- whether a write failed, or took no byte, or a flush failed
 abbrev pub is_broken : {W : Type 0} → Through W → Bool
 is_broken t = t.is_broken

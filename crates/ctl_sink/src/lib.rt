@@ -8,6 +8,3 @@ mod traits;
 pub use all::put_all;
 pub use through::Through;
 pub use traits::{PutFault, Sink};
-
-#[cfg(test)]
-mod tests;

@@ -1,13 +1,13 @@
 //! A sink over a writer.
 
-ghost use Rattle.std.specs.Prelude.{◌≡◌, false};
+ghost use Rattle.std.specs.Prelude.{◌≡◌, false, true};
 ghost use Rattle.ctl_sink.specs.Through.{writer_of, is_broken};
 
 use crate::traits::{PutFault, Sink};
 use std::io::Write;
 
 /// The sink over a writer of the standard library. It tells the bytes that the writer tells; it fails where a write
-/// fails, with whatever error, or takes no byte.
+/// fails, with whatever error, or takes no byte, and where a flush fails.
 #[derive(Drop)]
 pub struct Through<W> {
     writer: W,
@@ -25,6 +25,15 @@ impl<W: Write> Through<W> {
             is_broken: false,
         }
     }
+
+    /// Remembers that the writer failed.
+    fn fail(&mut self) -> PutFault
+        ensures broken { is_broken self.new ≡ true }
+        ensures writer { writer_of self.new ≡ writer_of self.old }
+    {
+        self.is_broken = true;
+        PutFault
+    }
 }
 
 impl<W: Write> Sink for Through<W> {
@@ -35,10 +44,14 @@ impl<W: Write> Sink for Through<W> {
     fn put(&mut self, bytes: &[u8]) -> Result<usize, PutFault> {
         match self.writer.write(bytes) {
             Ok(n) if n > 0 => Ok(n),
-            _ => {
-                self.is_broken = true;
-                Err(PutFault)
-            }
+            _ => Err(self.fail()),
+        }
+    }
+
+    fn flush(&mut self) -> Result<(), PutFault> {
+        match self.writer.flush() {
+            Ok(()) => Ok(()),
+            Err(_) => Err(self.fail()),
         }
     }
 

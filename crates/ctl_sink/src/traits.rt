@@ -1,9 +1,9 @@
 //! What a sink is.
 
 ghost use Rattle.std.specs.Prelude.{◌≡◌, ◌≤◌, ◌<◌, ℕ, Bool, true, List, Option, length, IfOk, OnOk, OnErr};
-ghost use Rattle.std.specs.Io.KnownBytes.{WriteAppends};
+ghost use Rattle.std.specs.Io.KnownBytes.{Keeps, WriteAppends};
 
-/// A sink took nothing, and has failed from now on.
+/// A sink took nothing, or did not pass on what it took, and has failed from now on.
 #[derive(Clone, Copy, Debug, PartialEq, Eq)]
 pub struct PutFault;
 
@@ -12,7 +12,7 @@ pub trait Sink {
     // the bytes taken so far, where the sink tells them
     ghost taken: { Self → Option (List ℕ) };
 
-    // whether a `put` has failed
+    // whether a `put` or a `flush` has failed
     ghost has_failed: { Self → Bool };
 
     /// Takes the first of these bytes, as many as it answers, at least one; a fault takes none of them.
@@ -23,7 +23,13 @@ pub trait Sink {
         ensures ok { OnOk result (has_failed self.new ≡ has_failed self.old) }
         ensures err { OnErr result (has_failed self.new ≡ true) };
 
-    /// Whether a `put` has failed.
+    /// Passes on all that was taken, as to a file behind a buffer. It takes no byte.
+    fn flush(&mut self) -> Result<(), PutFault>
+        ensures taken { Keeps (taken self.old) (taken self.new) }
+        ensures ok { OnOk result (has_failed self.new ≡ has_failed self.old) }
+        ensures err { OnErr result (has_failed self.new ≡ true) };
+
+    /// Whether a `put` or a `flush` has failed.
     fn failed(&self) -> bool
         ensures { result ≡ has_failed self.now };
 }

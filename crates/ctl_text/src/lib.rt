@@ -9,6 +9,3 @@ mod words;
 
 pub use output::{output_text, output_text_in};
 pub use trace::{trace_text, trace_text_in};
-
-#[cfg(test)]
-mod tests;

@@ -12,7 +12,7 @@ use Rattle.fin_lists.specs.declared.lists.Set.{Set}
 use Rattle.fin_lists.specs.declared.lists.Layer.{Layer}
 use Rattle.fin_lists.specs.declared.lists.Layer.TheVariants.{Object, Sets}
 use Rattle.fin_lists.specs.Masters.{Master, master_code, empty_master, with_object, with_collection, without_newest}
-use Rattle.fin_lists.specs.Members.{insert_member, remove_member, members_in, objects_of}
+use Rattle.fin_lists.specs.Members.{put_member, remove_member, members_in, objects_of}
 
 -- The open masters, the sets that stand, and the members of each group of sets, all by number, and how many masters and sets
 -- there have been. The sets of one layer are a group, named by the first of them; any other set is a group of its own.
@@ -121,9 +121,9 @@ layer_objects m l = objects_of (group_members (newest_group m l) l)
 unfoldable pub set_objects : ℕ → Lists → List ℕ
 set_objects set l = objects_of (members_in set (group_members (group_of set l) l))
 
--- with an object in a set
+-- with an object in a set, once
 unfoldable pub with_member : ℕ → ℕ → Lists → Lists
-with_member set object l = record l { groups = change (group_of set l) (insert_member (record { object = object; set = set })) l.groups }
+with_member set object l = record l { groups = change (group_of set l) (put_member (record { object = object; set = set })) l.groups }
 
 -- without an object of a set
 unfoldable pub without_member : ℕ → ℕ → Lists → Lists

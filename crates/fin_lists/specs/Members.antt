@@ -1,5 +1,6 @@
 -- Members of sets, in the order of their object numbers.
-use Rattle.std.specs.Prelude.{◌≡◌, ℕ, ◌<◌, ◌≤◌, List, [], ◌∷◌, length, Option, Some, None, Bool, true, false, ◌&&◌, nat_eq, nat_lt, if◌then◌else◌, map, filter, All, slice_index_or}
+use Rattle.std.specs.Prelude.{◌≡◌, ℕ, ◌<◌, ◌≤◌, List, [], ◌∷◌, length, Option, Some, None, Bool, true, false, ◌&&◌, ◌||◌, nat_eq, nat_lt, if◌then◌else◌, map, filter, All, slice_index_or}
+use Rattle.std.specs.List.{AllPairs}
 use Rattle.fin_lists.specs.declared.group.Membership.{Membership}
 
 -- with one more member, which stands before the first of a greater number
@@ -9,6 +10,15 @@ insert_member m (x ∷ xs) = if nat_lt m.object x.object then m ∷ x ∷ xs els
 
 abbrev pub is_same : Membership → Membership → Bool
 is_same m x = nat_eq m.object x.object && nat_eq m.set x.set
+
+-- whether the member stands there
+abbrev pub has_member : Membership → List Membership → Bool
+has_member m [] = false
+has_member m (x ∷ xs) = is_same m x || has_member m xs
+
+-- with the member, which is put in where it does not stand there yet
+abbrev pub put_member : Membership → List Membership → List Membership
+put_member m xs = if has_member m xs then xs else insert_member m xs
 
 -- without this member
 abbrev pub remove_member : Membership → List Membership → List Membership
@@ -22,6 +32,10 @@ members_in set xs = filter (λ m. nat_eq m.set set) xs
 -- the object numbers
 abbrev pub objects_of : List Membership → List ℕ
 objects_of xs = map (λ m. m.object) xs
+
+-- no member stands there twice
+abbrev pub AreOnce : List Membership → Type 0
+AreOnce xs = AllPairs (λ x y. is_same x y ≡ false) xs
 
 -- the set, where one is named, is that of each member
 abbrev pub IsSole : Option ℕ → List Membership → Type 0

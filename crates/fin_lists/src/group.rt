@@ -1,5 +1,6 @@
 ghost use Rattle.std.specs.Prelude.{◌≡◌, ℕ, ◌<◌, [], length, false, All, OnOk, OnErr, IfSome, MatchOption, slice_get};
-ghost use Rattle.fin_lists.specs.Members.{insert_member, remove_member, members_in, objects_of, is_same, IsSole, IsPlaceFor, IsPlaceOf};
+ghost use Rattle.std.specs.List.Sorted.{IsStrictlyIncreasing};
+ghost use Rattle.fin_lists.specs.Members.{put_member, remove_member, members_in, objects_of, is_same, IsSole, IsPlaceFor, IsPlaceOf};
 
 use std::alloc::{AllocError, Allocator, Global};
 use std::collections::VecDeque;
@@ -24,13 +25,13 @@ impl<A: Allocator> Model for Group<A> {
     ghost use Rattle.std.specs.Prelude.{List};
     ghost use Rattle.std.specs.List.Sorted.{IsNonDecreasingBy};
     ghost use Rattle.fin_lists.specs.declared.group.Membership.{Membership};
-    ghost use Rattle.fin_lists.specs.Members.{IsSole};
+    ghost use Rattle.fin_lists.specs.Members.{AreOnce, IsSole};
 
     ghost Value = { List Membership };
 
     ghost view = { λ g. g.members.items };
 
-    ghost invariant = { λ g. IsNonDecreasingBy (λ m. m.object) g.members.items × IsSole g.sole g.members.items };
+    ghost invariant = { λ g. IsNonDecreasingBy (λ m. m.object) g.members.items × IsSole g.sole g.members.items × AreOnce g.members.items };
 }
 
 impl<A: Allocator> Group<A> {
@@ -58,9 +59,10 @@ impl<A: Allocator> Group<A> {
         self.members.get(k as usize).map(|member| member.object)
     }
 
-    /// How many members a set has.
+    /// How many members a set has. Their numbers rise, since each object is a member once.
     pub fn len_in(&self, set: u64) -> u64
-        ensures { result ≡ length (members_in set self.now) }
+        ensures count { result ≡ length (members_in set self.now) }
+        ensures rising { IsStrictlyIncreasing (objects_of (members_in set self.now)) }
     {
         if self.sole == Some(set) {
             return self.len();
@@ -90,11 +92,14 @@ impl<A: Allocator> Group<A> {
         None
     }
 
-    /// Adds a member. Where memory is refused, nothing changes.
+    /// Adds a member, where it is not there yet. Where memory is refused, nothing changes.
     pub fn add(&mut self, member: Membership) -> Result<(), AllocError>
-        ensures ok { OnOk result (self.new ≡ insert_member member self.old) }
+        ensures ok { OnOk result (self.new ≡ put_member member self.old) }
         ensures err { OnErr result (self.new ≡ self.old) }
     {
+        if let Some(_place) = self.place_of(member) {
+            return Ok(());
+        }
         let index = self.place_for(member.object);
         let sole = self.sole_with(member.set);
         self.members.insert(index, member)?;

@@ -4,7 +4,5 @@
 mod group;
 mod lists;
 mod master;
-#[cfg(test)]
-mod tests;
 
 pub use lists::{FinLists, Layer, MasterNo, SetNo};

@@ -1,6 +1,8 @@
 #![tactic(auto, using(number_map::proofs::Changes::insert_same), unfolding(crate::specs::Lists::no_lists, crate::specs::Lists::with_master, crate::specs::Lists::collections_of, crate::specs::Lists::without_set, crate::specs::Lists::without_sets, crate::specs::Lists::without_master, crate::specs::Lists::layers_of, crate::specs::Lists::add_object, crate::specs::Lists::drop_newest, crate::specs::Lists::layer_of, crate::specs::Lists::newest_layer, crate::specs::Lists::group_in, crate::specs::Lists::newest_group, crate::specs::Lists::with_joined, crate::specs::Lists::with_alone, crate::specs::Lists::add_collection, crate::specs::Lists::group_of, crate::specs::Lists::group_members, crate::specs::Lists::layer_objects, crate::specs::Lists::set_objects, crate::specs::Lists::with_member, crate::specs::Lists::without_member, crate::specs::Lists::has_started, crate::specs::Lists::with_started))]
 
-ghost use Rattle.std.specs.Prelude.{◌≡◌, ℕ, ◌+◌, ◌-◌, ◌^◌, ◌<◌, length, Some, OnOk, OnErr, IfOk, IsTrue, slice_get};
+ghost use Rattle.std.specs.Prelude.{◌≡◌, ℕ, ◌+◌, ◌-◌, ◌^◌, ◌<◌, length, Some, OnOk, OnErr, IfOk, IsTrue, is_some, slice_get, ◌↔◌};
+ghost use Rattle.std.specs.FinMap.{get};
+ghost use Rattle.std.specs.List.Sorted.{IsStrictlyIncreasing};
 ghost use Rattle.fin_lists.specs.Lists.{no_lists, with_master, without_master, without_sets, add_object, add_collection, with_alone, newest_layer, newest_group, drop_newest, layer_objects, set_objects, group_of, with_member, without_member, has_started, with_started, KeepsNumbers, MayOpenMaster, MayOpenSet};
 
 use crate::group::{Group, Membership};
@@ -223,13 +225,32 @@ impl<A: Allocator> FinLists<A> {
         }
     }
 
-    /// Whether another master and another set can have numbers.
-    #[cfg(test)]
-    pub(crate) fn has_numbers(&self) -> bool
-        ensures masters { IsTrue result → self.now.masters_given < 2 ^ 64 - 1 }
-        ensures sets { IsTrue result → self.now.sets_given < 2 ^ 64 - 1 }
+    /// Whether a master is open.
+    pub fn is_open(&self, master: MasterNo) -> bool
+        ensures { result ≡ is_some (get self.now.masters master.0) }
     {
-        self.masters_given < u64::MAX && self.sets_given < u64::MAX
+        self.masters.contains(master.0)
+    }
+
+    /// Whether a set stands.
+    pub fn stands(&self, set: SetNo) -> bool
+        ensures { result ≡ is_some (get self.now.sets set.0) }
+    {
+        self.sets.contains(set.0)
+    }
+
+    /// Whether another master can have a number.
+    pub fn has_master_numbers(&self) -> bool
+        ensures { IsTrue result ↔ self.now.masters_given < 2 ^ 64 - 1 }
+    {
+        self.masters_given < u64::MAX
+    }
+
+    /// Whether another set can have a number.
+    pub fn has_set_numbers(&self) -> bool
+        ensures { IsTrue result ↔ self.now.sets_given < 2 ^ 64 - 1 }
+    {
+        self.sets_given < u64::MAX
     }
 
     // The group of a master's newest layer, 0 where that is none of collections.
@@ -245,7 +266,7 @@ impl<A: Allocator> FinLists<A> {
         }
     }
 
-    /// Puts an object into a set.
+    /// Puts an object into a set. One that is there already is a member once, as before.
     pub fn add_to(&mut self, set: SetNo, object: u64) -> Result<(), AllocError>
         ensures ok { OnOk result (self.new ≡ with_member set.0 object self.old) }
         ensures err { OnErr result (self.new ≡ self.old) }
@@ -271,9 +292,10 @@ impl<A: Allocator> FinLists<A> {
         }
     }
 
-    /// How many members a set has.
+    /// How many members a set has. Their numbers rise from each to the next.
     pub fn count(&self, set: SetNo) -> u64
-        ensures { result ≡ length (set_objects set.0 self.now) }
+        ensures count { result ≡ length (set_objects set.0 self.now) }
+        ensures rising { IsStrictlyIncreasing (set_objects set.0 self.now) }
     {
         match self.groups.get(self.group_of(set.0)) {
             Some(group) => group.len_in(set.0),

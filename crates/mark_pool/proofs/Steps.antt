@@ -3,8 +3,8 @@ use Rattle.std.proofs.Common.{◌≡◌, ℕ, ◌+◌, ◌<◌, ◌≤◌, List,
 use Rattle.std.proofs.lemmas.List.Elements.{All-nil, All-push}
 use lib.ListN.{length-replicate}
 use mathlib.Core.Logic.{◌⊎◌, inl, inr, ⊎_elim}
-use Rattle.raw_region.specs.Places.{Region, Places, place, held, with_run}
-use Rattle.raw_region.proofs.PlaceLemmas.{order, length-held, held_some, held_after, length-with_run, with_run-outside}
+use Rattle.raw_region.specs.Places.{Region, Places, place, held, out, with_run}
+use Rattle.raw_region.proofs.PlaceLemmas.{order, length-held, length-out, held_some, held_after, length-with_run, with_run-outside}
 use Rattle.mark_pool.specs.declared.pool.Mark.{Mark}
 use Rattle.mark_pool.specs.Marks.{Stands}
 
@@ -36,6 +36,24 @@ stands_marked r size used number top older s =
       top_fits = s.used_fits;
       older_fit = All-push (λ m. m.start ≤ size) older top s.older_fit s.top_fits;
       rest = s.rest;
+    }
+
+-- the next words go out, and the rest stays
+pub stands_taken : (r r' : Region) (size used n : ℕ) (top : Mark) (older : List Mark) → Stands r size used top older → used + n ≤ size
+    → r'.places ≡ with_run r.places used (out n) → Stands r' size (used + n) top older
+stands_taken r r' size used n top older s fits after =
+    let ps = r.places in
+    let qs = out n in
+    let long = length-out n in
+    let inside : used + length qs ≤ length ps = omega (arith, s.places) in
+    record {
+      places = ap length after ∙ length-with_run ps used qs inside ∙ s.places;
+      small = s.small;
+      used_fits = fits;
+      top_fits = s.top_fits;
+      older_fit = s.older_fit;
+      rest = λ k lo hi. subst (λ (l : Places). IsSome (place l k)) (sym after)
+          (subst IsSome (sym (with_run-outside ps used qs k inside (inr (omega arith)))) (s.rest k (omega arith) (omega arith)));
     }
 
 -- a Block that comes back takes nothing from what is not used

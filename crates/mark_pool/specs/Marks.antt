@@ -1,7 +1,7 @@
 -- What a contract sees of a pool with marks.
-use Rattle.std.specs.Prelude.{◌≡◌, refl, ℕ, ◌+◌, ◌-◌, ◌≤◌, List, [], ◌∷◌, ◌++◌, length, All}
+use Rattle.std.specs.Prelude.{◌≡◌, refl, ℕ, zero, suc, Option, Some, None, ◌+◌, ◌-◌, ◌≤◌, List, [], ◌∷◌, ◌++◌, length, All}
 use Rattle.std.specs.Coded.{Coded, code_by, coded×, coded_ℕ, coded_list}
-use Rattle.raw_region.specs.Places.{Home, home_code, Region, Cut, Places, places_code, held, out, with_run, AreHeld}
+use Rattle.raw_region.specs.Places.{Home, home_code, Region, Cut, Places, places_code, place, held, out, with_run, AreHeld}
 use Rattle.mark_pool.specs.declared.pool.Mark.{Mark}
 
 -- How the logic stores a mark: as a pair.
@@ -56,6 +56,20 @@ with_back m block = record m { places = with_run m.places block.start (held bloc
 -- No Block that was taken since the newest mark is out.
 abbrev pub IsTopBack : Marks → Type 0
 IsTopBack m = AreHeld m.places m.top.start (m.used - m.top.start)
+
+-- 1 for a place that is out, 0 for one that holds its word.
+abbrev pub out_at : Option ℕ → ℕ
+out_at None = 1
+out_at (Some x) = 0
+
+-- How many of the first k places are out.
+abbrev pub out_before : Places → ℕ → ℕ
+out_before ps zero = 0
+out_before ps (suc k) = out_before ps k + out_at (place ps k)
+
+-- How many words are out.
+abbrev pub out_count : Marks → ℕ
+out_count m = out_before m.places (length m.places)
 
 -- No Block is out.
 abbrev pub AreAllBack : Marks → Type 0

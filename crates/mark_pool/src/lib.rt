@@ -2,8 +2,6 @@
 #![tactic(auto)]
 
 mod pool;
-#[cfg(test)]
-mod tests;
 
 pub use pool::{MarkNo, MarkPool};
 pub use raw_region::PoolFault;

@@ -1,6 +1,6 @@
-ghost use Rattle.std.specs.Prelude.{◌≡◌, ℕ, ◌+◌, ◌^◌, ◌<◌, ◌≤◌, [], length, replicate, MatchOption, IfOk, ◌↔◌};
+ghost use Rattle.std.specs.Prelude.{◌≡◌, ℕ, ◌+◌, ◌^◌, ◌<◌, ◌≤◌, [], length, replicate, MatchOption, IfOk, IsTrue, ◌↔◌};
 ghost use Rattle.raw_region.specs.Places.{held, words_at};
-ghost use Rattle.mark_pool.specs.Marks.{Marks, IsPoolSize, size_of, IsFull, with_mark, with_taken, with_back, IsTopBack, AreAllBack, IsEmptied, IsDropped};
+ghost use Rattle.mark_pool.specs.Marks.{Marks, IsPoolSize, size_of, IsFull, with_mark, with_taken, with_back, IsTopBack, AreAllBack, out_count, IsEmptied, IsDropped};
 
 use arrayvec::ArrayVec;
 use raw_region::{Block, PoolFault, RawRegion};
@@ -25,6 +25,8 @@ pub struct MarkPool<A: Allocator = Global> {
     region: RawRegion<A>,
     size: usize,
     used: usize,
+    // How many words are in Blocks.
+    out: usize,
     top: Mark,
     // From the oldest on.
     older: ArrayVec<Mark, 9>,
@@ -32,7 +34,8 @@ pub struct MarkPool<A: Allocator = Global> {
 }
 
 impl<A: Allocator> Model for MarkPool<A> {
-    ghost use Rattle.mark_pool.specs.Marks.{Marks, marks_code, Stands};
+    ghost use Rattle.std.specs.Prelude.{◌≡◌};
+    ghost use Rattle.mark_pool.specs.Marks.{Marks, marks_code, out_before, Stands};
 
     ghost Value = { Marks };
 
@@ -47,7 +50,7 @@ impl<A: Allocator> Model for MarkPool<A> {
       issued = p.issued;
     } };
 
-    ghost invariant = { λ p. Stands p.region p.size p.used p.top p.older.items };
+    ghost invariant = { λ p. Stands p.region p.size p.used p.top p.older.items × (p.out ≡ out_before p.region.places p.size) };
 }
 
 impl<A: Allocator> MarkPool<A> {
@@ -68,6 +71,7 @@ impl<A: Allocator> MarkPool<A> {
             region: RawRegion::open(alloc, words)?,
             size: words,
             used: 0,
+            out: 0,
             top: Mark {
                 number: 0,
                 start: 0,
@@ -84,11 +88,40 @@ impl<A: Allocator> MarkPool<A> {
         self.used as u64
     }
 
+    /// How many words are out, in Blocks.
+    pub fn out(&self) -> u64
+        ensures { result ≡ out_count self.now }
+    {
+        self.out as u64
+    }
+
+    /// Whether all Blocks are back. Then those taken since the newest mark are, too.
+    pub fn is_whole(&self) -> bool
+        ensures all { IsTrue result ↔ AreAllBack self.now }
+        ensures top { IsTrue result → IsTopBack self.now }
+    {
+        self.out == 0
+    }
+
     /// The newest mark.
     pub fn top(&self) -> MarkNo
         ensures { result.0 ≡ self.now.top.number }
     {
         MarkNo(self.top.number)
+    }
+
+    /// Whether ten marks stand.
+    pub fn is_full(&self) -> bool
+        ensures { IsTrue result ↔ IsFull self.now }
+    {
+        self.older.len() == 9
+    }
+
+    /// Whether another mark can have a number.
+    pub fn has_mark_numbers(&self) -> bool
+        ensures { IsTrue result ↔ self.now.issued + 1 < 2 ^ 64 }
+    {
+        self.issued < u64::MAX
     }
 
     /// Makes a mark at what is used now, under a new number, or gives `None` where ten stand.
@@ -123,6 +156,7 @@ impl<A: Allocator> MarkPool<A> {
         }
         let start = self.used;
         self.used += words;
+        self.out += words;
         Some(self.region.cut(start, words))
     }
 
@@ -131,7 +165,9 @@ impl<A: Allocator> MarkPool<A> {
         requires { block.home ≡ self.old.home }
         ensures { self.new ≡ with_back self.old block }
     {
+        let len = block.words().len();
         self.region.home(block);
+        self.out -= len;
     }
 
     /// Releases the newest mark: what was used since then is used no more, and the mark is dropped.
@@ -162,6 +198,7 @@ impl<A: Allocator> MarkPool<A> {
             region,
             size: _,
             used: _,
+            out: _,
             top: _,
             older: _,
             issued: _,

@@ -5,8 +5,6 @@ mod block_area;
 mod lot;
 mod mark_area;
 mod subpool;
-#[cfg(test)]
-mod tests;
 
 pub use block_area::{BlockArea, Returned};
 pub use lot::{Lot, Occupant};

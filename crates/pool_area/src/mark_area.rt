@@ -1,4 +1,4 @@
-ghost use Rattle.std.specs.Prelude.{◌≡◌, ℕ, ◌+◌, ◌-◌, ◌*◌, ◌^◌, ◌<◌, ◌≤◌, length, true, false, OnErr, IfOk, IsSome, IsTrue, slice_get, slice_index_or, None};
+ghost use Rattle.std.specs.Prelude.{◌≡◌, ℕ, ◌+◌, ◌-◌, ◌*◌, ◌^◌, ◌<◌, ◌≤◌, length, true, false, OnErr, IfOk, IsSome, slice_get, slice_index_or, None};
 ghost use Rattle.std.specs.Option.{option_map};
 ghost use Rattle.pool_area.specs.Lots.{with_word, with_words_over, run_of};
 ghost use Rattle.pool_area.specs.Subpools.{IsMarkSize, new_area, is_overfull, is_last, last_of, with_new_block, count_of, with_subpool, standing_of, with_standing, object_of, block_words, with_block, without_last, is_last_dead, settled, with_no_objects};
@@ -49,7 +49,8 @@ impl<A: Allocator + Copy> MarkArea<A> {
     ///
     /// `AllocError` where the allocator refuses the memory.
     pub fn new(alloc: A, units: u64, number: u64) -> Result<MarkArea<A>, AllocError>
-        requires { IsMarkSize units }
+        requires size { IsMarkSize units }
+        requires positive { 0 < number }
         ensures { IfOk result (λ a. a ≡ new_area units number) }
     {
         let mut subpools = Vec::with_capacity(alloc, 10)?;
@@ -79,7 +80,6 @@ impl<A: Allocator + Copy> MarkArea<A> {
     pub fn create(&mut self, alloc: A, number: u64)
         requires few { length self.old.subpools < 10 }
         requires new { self.old.given < number }
-        requires numbers { number < 2 ^ 64 - 1 }
         ensures { self.new ≡ with_subpool number self.old }
     {
         let Some(_mark) = self.pool.mark() else {
@@ -101,14 +101,6 @@ impl<A: Allocator> MarkArea<A> {
         ensures { result ≡ is_overfull units self.now }
     {
         self.size - self.pool.used() * 8 < units
-    }
-
-    /// Whether this number is greater than those that were given before.
-    #[cfg(test)]
-    pub(crate) fn is_new(&self, number: u64) -> bool
-        ensures { IsTrue result → self.now.given < number }
-    {
-        self.given < number
     }
 
     /// How many subpools stand.
@@ -296,7 +288,6 @@ impl<A: Allocator> MarkArea<A> {
     /// under this number. It takes no memory.
     pub fn drop_last(&mut self, number: u64)
         requires new { self.old.given < number }
-        requires numbers { number < 2 ^ 64 - 1 }
         ensures { self.new ≡ without_last number self.old }
     {
         let mut last = self.subpools.take_last();
@@ -317,7 +308,6 @@ impl<A: Allocator> MarkArea<A> {
     /// without blocks, under the number `next`. It answers whether it was the last. It takes no memory.
     pub fn release(&mut self, number: u64, next: u64) -> bool
         requires new { self.old.given < next }
-        requires numbers { next < 2 ^ 64 - 1 }
         ensures last { result ≡ is_last number self.old.subpools }
         ensures area { self.new ≡ settled next (with_standing number Standing.Dead (with_no_objects number self.old)) }
     {
@@ -330,7 +320,6 @@ impl<A: Allocator> MarkArea<A> {
 
     fn drop_dead(&mut self, number: u64)
         requires new { self.old.given < number }
-        requires numbers { number < 2 ^ 64 - 1 }
         ensures { self.new ≡ settled number self.old }
     {
         'dead: while self.is_last_dead() {

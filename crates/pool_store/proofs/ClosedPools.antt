@@ -203,7 +203,7 @@ module _ {A : Type 0} (objects : Objects A) (blocks : Pools) (g : ℕ) (ties : T
       let o = equal_maps (mapped (stored_in (remove blocks p)) others) (kept (lies_elsewhere p) (mapped (stored_in blocks) objects)) same in
       let q = mapped_drop pool_of blocks p in
       let m = sym (nothing_removed {V = MarkPool} p) in
-      λ i. record { objects = o i; blocks = q i; given = g; marks = m i; opened = []; numbered = 0 }
+      λ i. record { objects = o i; blocks = q i; given = g; marks = m i; opened = []; next_subpool = 1 }
     where
       one : (e : Entry A) (t : Bool) → is_in p e ≡ t → option_map (stored_in (remove blocks p)) (cond (not t) (Some e) None) ≡ kept_if (lies_elsewhere p) (Some (stored_in blocks e))
       one (Standard ws) true is = let no : true ≡ false = sym is in absurd (cc)

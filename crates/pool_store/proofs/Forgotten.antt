@@ -299,6 +299,7 @@ module _ (cells : Cells) (pools : Areas) (opened : List ℕ) (g : ℕ) (places :
         let was = kept_is (is_out_of_pool p) cells q c there in
         subst (Holds c.index q) (sym (row_stays c was.1)) (each_of (IsAt pools) cells q c places.placed was.0));
     numbers = below_drop g p pools places.numbers;
+    positive = places.positive;
   }
 
   pub closed_seen : seen rest (remove pools p) (store.others p opened) g ≡ store.without_pool p (seen cells pools opened g)
@@ -306,7 +307,7 @@ module _ (cells : Cells) (pools : Areas) (opened : List ℕ) (g : ℕ) (places :
       let o = equal_maps (mapped (stored_at (remove pools p)) rest) (kept (λ x. not (store.lies_in p x)) (mapped (stored_at pools) cells)) same in
       let b = sym (nothing_removed {V = BlockPool} p) in
       let q = mapped_drop mark_of pools p in
-      λ i. record { objects = o i; blocks = b i; given = 0; marks = q i; opened = store.others p opened; numbered = g }
+      λ i. record { objects = o i; blocks = b i; given = 0; marks = q i; opened = store.others p opened; next_subpool = g }
     where
       or_false : (b : Bool) → (b || false) ≡ b
       or_false true = refl
@@ -363,6 +364,7 @@ module _ (cells : Cells) (pools : Areas) (opened : List ℕ) (g : ℕ) (places :
         let at = each_of (IsAt pools) cells q c places.placed was.0 in
         subst (Holds c.index q) (sym (row_left q c was.1 at)) at);
     numbers = below_put g h p pools (after_release n g a) more places.numbers less;
+    positive = omega (arith, places.positive);
   }
 
   pub released_seen : (h : ℕ) → h ≡ g + cond (marks.is_renewed_by n (mark_of a)) 1 0 → seen left after opened h ≡ store.released_in p n (seen cells pools opened g)
@@ -370,7 +372,7 @@ module _ (cells : Cells) (pools : Areas) (opened : List ℕ) (g : ℕ) (places :
       let o = equal_maps (mapped (stored_at after) left) (kept (λ x. not (store.lies_in_subpool p n x)) (mapped (stored_at pools) cells)) same in
       let q = mapped_changed mark_of pools p a (after_release n g a) (marks.released n g) there (release_shown n g a) in
       let m = end ∙ ap (λ o. g + cond (option_map_or (marks.is_renewed_by n) o false) 1 0) (sym (mark_here pools p a there)) in
-      λ i. record { objects = o i; blocks = empty; given = 0; marks = q i; opened = opened; numbered = m i }
+      λ i. record { objects = o i; blocks = empty; given = 0; marks = q i; opened = opened; next_subpool = m i }
     where
       one : (q : ℕ) (c : Cell) → IsAt pools q c → (t : Bool) → is_in_subpool p n c ≡ t → option_map (stored_at after) (cond (not t) (Some c) None) ≡ kept_if (λ x. not (store.lies_in_subpool p n x)) (Some (stored_at pools c))
       one q c at true is = sym (ap (λ t. cond (not t) (Some (stored_at pools c)) None) is)

@@ -5,6 +5,7 @@ pub mod Held
 pub mod KeptLemmas
 pub mod Steps
 pub mod Tied
+pub mod Vacated
 mod MarkViews
 mod Placed
 mod MarkSteps

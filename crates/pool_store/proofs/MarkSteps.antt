@@ -25,7 +25,7 @@ use borrow.Author.Tests.{eq-eqb}
 
 -- what is seen of objects and pools
 abbrev pub seen : Cells → Areas → List ℕ → ℕ → Store
-seen cells pools opened g = record { objects = mapped (stored_at pools) cells; blocks = empty; given = 0; marks = mapped mark_of pools; opened = opened; numbered = g }
+seen cells pools opened g = record { objects = mapped (stored_at pools) cells; blocks = empty; given = 0; marks = mapped mark_of pools; opened = opened; next_subpool = g }
 
 pub mark_here : (pools : Areas) (p : ℕ) (a : Subpools) → get pools p ≡ Some a → get (mapped mark_of pools) p ≡ Some (mark_of a)
 mark_here pools p a there = get_mapped mark_of pools p ∙ ap (option_map mark_of) there
@@ -78,13 +78,14 @@ module _ (cells : Cells) (pools : Areas) (opened : List ℕ) (g : ℕ) (places :
     edited_places = record {
       placed = all_tied cells pools (insert pools p b) (spares Any pools p a b there keeps) places.placed;
       numbers = below_put g h p pools b more places.numbers less;
+      positive = omega (arith, places.positive);
     }
 
-    pub edited_seen : seen cells (insert pools p b) opened h ≡ record (store.change_marks p F (seen cells pools opened g)) { numbered = h }
+    pub edited_seen : seen cells (insert pools p b) opened h ≡ record (store.change_marks p F (seen cells pools opened g)) { next_subpool = h }
     edited_seen =
         let o = all_seen cells pools (insert pools p b) (spares Any pools p a b there keeps) places.placed in
         let q = mapped_changed mark_of pools p a b F there shown in
-        λ i. record { objects = o i; blocks = empty; given = 0; marks = q i; opened = opened; numbered = h }
+        λ i. record { objects = o i; blocks = empty; given = 0; marks = q i; opened = opened; next_subpool = h }
 
   -- a new pool
   module _ (p units : ℕ) (none : get pools p ≡ None) where
@@ -95,13 +96,14 @@ module _ (cells : Cells) (pools : Areas) (opened : List ℕ) (g : ℕ) (places :
     opened_places = record {
       placed = all_tied cells pools newest (spares_new Any pools p (area.new_area units g) none) places.placed;
       numbers = below_put g (g + 1) p pools (area.new_area units g) (omega arith) places.numbers (omega arith);
+      positive = omega (arith, places.positive);
     }
 
     pub opened_seen : seen cells newest (opened ++ p ∷ []) (g + 1) ≡ store.with_mark_pool p units (seen cells pools opened g)
     opened_seen =
         let o = all_seen cells pools newest (spares_new Any pools p (area.new_area units g) none) places.placed in
         let q = mapped_put mark_of pools p (area.new_area units g) in
-        λ i. record { objects = o i; blocks = empty; given = 0; marks = q i; opened = opened ++ p ∷ []; numbered = g + 1 }
+        λ i. record { objects = o i; blocks = empty; given = 0; marks = q i; opened = opened ++ p ∷ []; next_subpool = g + 1 }
 
   -- a new object in a new block of a subpool that belongs to its pool
   module _ (p n object words index : ℕ) (a : Subpools) (x : Seen) (there : get pools p ≡ Some a) (row : area.subpool_of n a.subpools ≡ Some x) (alive : is_dead x.standing ≡ false) (end : index ≡ length x.blocks) where
@@ -134,6 +136,7 @@ module _ (cells : Cells) (pools : Areas) (opened : List ℕ) (g : ℕ) (places :
     new_places = record {
       placed = put_tied cells pools (insert pools p new_area) object new_cell new_spares places.placed new_at;
       numbers = below_put g g p pools new_area (omega arith) places.numbers (below_of g p pools a places.numbers there);
+      positive = places.positive;
     }
 
     pub new_seen : seen (insert cells object new_cell) (insert pools p new_area) opened g ≡ store.hold_in n p object words (seen cells pools opened g)
@@ -143,7 +146,7 @@ module _ (cells : Cells) (pools : Areas) (opened : List ℕ) (g : ℕ) (places :
         let s = change_unseen n (λ y. record y { blocks = y.blocks ++ new_held ∷ [] }) a.subpools (λ y. refl) in
         let shown : mark_of new_area ≡ marks.with_words_used words (mark_of a) = (λ i. record { size = a.size; used = a.used + words; subpools = s i }) in
         let q = mapped_changed mark_of pools p a new_area (marks.with_words_used words) there shown in
-        λ i. record { objects = o i; blocks = empty; given = 0; marks = q i; opened = opened; numbered = g }
+        λ i. record { objects = o i; blocks = empty; given = 0; marks = q i; opened = opened; next_subpool = g }
 
   -- One object ----------------------------------------------------------------
 
@@ -158,13 +161,13 @@ module _ (cells : Cells) (pools : Areas) (opened : List ℕ) (g : ℕ) (places :
 
   -- an object that is not held goes without a trace
   pub none_places : (n : ℕ) → Places (remove cells n) pools g
-  none_places n = record { placed = drop_tied cells pools pools n (spares_same (Other n) pools) places.placed; numbers = places.numbers }
+  none_places n = record { placed = drop_tied cells pools pools n (spares_same (Other n) pools) places.placed; numbers = places.numbers; positive = places.positive }
 
   pub none_seen : (n : ℕ) → get cells n ≡ None → seen (remove cells n) pools opened g ≡ store.without_object n (seen cells pools opened g)
   none_seen n none =
       let o = drop_seen cells pools pools n (spares_same (Other n) pools) places.placed in
       let b = sym (ap (λ o. store.freed_spot (option_map_or (λ (x : Stored). x.spot) o None) empty) (none_stored n none)) in
-      λ i. record { objects = o i; blocks = b i; given = 0; marks = mapped mark_of pools; opened = opened; numbered = g }
+      λ i. record { objects = o i; blocks = b i; given = 0; marks = mapped mark_of pools; opened = opened; next_subpool = g }
 
   module _ (n : ℕ) (c : Cell) (here : get cells n ≡ Some c) (a : Subpools) (there : get pools c.pool ≡ Some a) where
     holder : object_in (block_in c.index (area.subpool_of c.subpool a.subpools)) ≡ Some n
@@ -186,6 +189,7 @@ module _ (cells : Cells) (pools : Areas) (opened : List ℕ) (g : ℕ) (places :
     left_places = record {
       placed = drop_tied cells pools (insert pools c.pool (edited (λ h. None))) n (block_spares (λ h. None)) places.placed;
       numbers = below_put g g c.pool pools (edited (λ h. None)) (omega arith) places.numbers (below_of g c.pool pools a places.numbers there);
+      positive = places.positive;
     }
 
     pub left_seen : seen (remove cells n) (insert pools c.pool (edited (λ h. None))) opened g ≡ store.without_object n (seen cells pools opened g)
@@ -193,7 +197,7 @@ module _ (cells : Cells) (pools : Areas) (opened : List ℕ) (g : ℕ) (places :
         let o = drop_seen cells pools (insert pools c.pool (edited (λ h. None))) n (block_spares (λ h. None)) places.placed in
         let b = sym (ap (λ o. store.freed_spot (option_map_or (λ (x : Stored). x.spot) o None) empty) (stored_here n c here)) in
         let q = marks_same (λ h. None) in
-        λ i. record { objects = o i; blocks = b i; given = 0; marks = q i; opened = opened; numbered = g }
+        λ i. record { objects = o i; blocks = b i; given = 0; marks = q i; opened = opened; next_subpool = g }
 
     pub words_here : store.words_of n (seen cells pools opened g) ≡ words_in (area.block_of c.subpool c.index a)
     words_here = ap (λ o. option_map_or (λ (x : Stored). x.words) o []) (stored_here n c here) ∙ ap (λ o. words_in (block_in c.index o)) (row_there pools c.pool a c there refl)
@@ -241,6 +245,7 @@ module _ (cells : Cells) (pools : Areas) (opened : List ℕ) (g : ℕ) (places :
       written_places = record {
         placed = subst (λ o. Placed o written) (insert_same cells n c here) (put_tied cells pools written n c (block_spares (λ h. option_map f h)) places.placed still_at);
         numbers = below_put g g c.pool pools (edited (λ h. option_map f h)) (omega arith) places.numbers (below_of g c.pool pools a places.numbers there);
+        positive = places.positive;
       }
 
       abbrev pub rewritten : Store → Store
@@ -252,4 +257,4 @@ module _ (cells : Cells) (pools : Areas) (opened : List ℕ) (g : ℕ) (places :
           ap (λ l. let r : Stored = record { spot = None; site = Some (record { pool = c.pool; subpool = c.subpool }); words = l } in r) (ap words_in block_is ∙ words held.0 ∙ ap F (sym (ap words_in old_block))) in
           let o = change_seen cells pools written n c (store.with_words F) here (block_spares (λ h. option_map f h)) places.placed stored in
           let q = marks_same (λ h. option_map f h) in
-          λ i. record { objects = o i; blocks = empty; given = 0; marks = q i; opened = opened; numbered = g }
+          λ i. record { objects = o i; blocks = empty; given = 0; marks = q i; opened = opened; next_subpool = g }

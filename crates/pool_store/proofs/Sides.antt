@@ -240,7 +240,7 @@ words_right a b n none = ap (λ o. option_map_or (λ (x : Stored). x.words) o []
 
 module _ (a b : Store) where
   abbrev with_objects : Objects → Store
-  with_objects o = record { objects = o; blocks = a.blocks; given = a.given; marks = b.marks; opened = b.opened; numbered = b.numbered }
+  with_objects o = record { objects = o; blocks = a.blocks; given = a.given; marks = b.marks; opened = b.opened; next_subpool = b.next_subpool }
 
   pub standard_side : (n words : ℕ) → side_by_side (store.with_object n words a) b ≡ store.with_object n words (side_by_side a b)
   standard_side n words = ap with_objects (put_left a.objects b.objects n _)
@@ -248,12 +248,12 @@ module _ (a b : Store) where
   pub held_side : (p address n words : ℕ) → side_by_side (store.hold_block p address n words a) b ≡ store.hold_block p address n words (side_by_side a b)
   held_side p address n words =
       let e = put_left a.objects b.objects n (record { spot = Some (record { pool = p; address = address }); site = None; words = replicate words 0 }) in
-      λ i. record { objects = e i; blocks = change p (store.with_holder address (Some n)) a.blocks; given = a.given; marks = b.marks; opened = b.opened; numbered = b.numbered }
+      λ i. record { objects = e i; blocks = change p (store.with_holder address (Some n)) a.blocks; given = a.given; marks = b.marks; opened = b.opened; next_subpool = b.next_subpool }
 
   pub held_in_side : (n p object words : ℕ) → get a.objects object ≡ None → side_by_side a (store.hold_in n p object words b) ≡ store.hold_in n p object words (side_by_side a b)
   held_in_side n p object words none =
       let e = put_right a.objects b.objects object (record { spot = None; site = Some (record { pool = p; subpool = n }); words = replicate words 0 }) none in
-      λ i. record { objects = e i; blocks = a.blocks; given = a.given; marks = change p (marks.with_words_used words) b.marks; opened = b.opened; numbered = b.numbered }
+      λ i. record { objects = e i; blocks = a.blocks; given = a.given; marks = change p (marks.with_words_used words) b.marks; opened = b.opened; next_subpool = b.next_subpool }
 
   abbrev changed : ℕ → (Stored → Stored) → Store → Store
   changed n f s = record s { objects = change n f s.objects }
@@ -295,13 +295,13 @@ module _ (a b : Store) where
   without_left n none =
       let e = drop_left a.objects b.objects n none in
       let f = sym (ap (λ o. store.freed_spot (spot_in o) a.blocks) (get_left a.objects b.objects n none)) in
-      λ i. record { objects = e i; blocks = f i; given = a.given; marks = b.marks; opened = b.opened; numbered = b.numbered }
+      λ i. record { objects = e i; blocks = f i; given = a.given; marks = b.marks; opened = b.opened; next_subpool = b.next_subpool }
 
   pub without_right : (n : ℕ) → get a.objects n ≡ None → store.spot_of n b ≡ None → side_by_side a (store.without_object n b) ≡ store.without_object n (side_by_side a b)
   without_right n none spot =
       let e = drop_right a.objects b.objects n none in
       let f = sym (ap (λ o. store.freed_spot (spot_in o) a.blocks) (get_right a.objects b.objects n none) ∙ ap (λ s. store.freed_spot s a.blocks) spot) in
-      λ i. record { objects = e i; blocks = f i; given = a.given; marks = b.marks; opened = b.opened; numbered = b.numbered }
+      λ i. record { objects = e i; blocks = f i; given = a.given; marks = b.marks; opened = b.opened; next_subpool = b.next_subpool }
 
   pub vacated_left : (n : ℕ) → get b.objects n ≡ None → store.vacated n a ≡ store.vacated n (side_by_side a b)
   vacated_left n none =
@@ -342,7 +342,7 @@ pub none_joined : side_by_side store.no_store store.no_store ≡ store.no_store
 none_joined =
     let none : Objects = empty in
     let e = equal_maps (joined none none) none (λ q. get_joined none none q ∙ ap (λ o. either o (get none q)) (get-empty nat_cmp q)) in
-    λ i. record { objects = e i; blocks = empty; given = 0; marks = empty; opened = []; numbered = 0 }
+    λ i. record { objects = e i; blocks = empty; given = 0; marks = empty; opened = []; next_subpool = 1 }
 
 -- no object goes where a subpool is detached
 pub objects_detached : (a b : Store) (n : ℕ) (t : Bool) → AreApart a b → AreApart a (if t then store.detached n b else b)
@@ -364,7 +364,7 @@ pub closed_side : (a b : Store) (p : ℕ) → AreApart a b → side_by_side (sto
 closed_side a b p apart =
     let passes : Stored → Bool = λ o. not (store.lies_in p o) in
     let e = kept_both passes a.objects b.objects apart in
-    λ i. record { objects = e i; blocks = remove a.blocks p; given = a.given; marks = remove b.marks p; opened = store.others p b.opened; numbered = b.numbered }
+    λ i. record { objects = e i; blocks = remove a.blocks p; given = a.given; marks = remove b.marks p; opened = store.others p b.opened; next_subpool = b.next_subpool }
 
 -- A subpool that is released ---------------------------------------------------------
 
@@ -396,7 +396,7 @@ released_side a b n apart outside = by (store.pool_with n b)
           objects = e i;
           blocks = a.blocks;
           given = a.given;
-          marks = change p (marks.released n b.numbered) b.marks;
+          marks = change p (marks.released n b.next_subpool) b.marks;
           opened = b.opened;
-          numbered = b.numbered + cond (option_map_or (marks.is_renewed_by n) (get b.marks p) false) 1 0;
+          next_subpool = b.next_subpool + cond (option_map_or (marks.is_renewed_by n) (get b.marks p) false) 1 0;
         }

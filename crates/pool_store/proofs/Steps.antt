@@ -21,7 +21,7 @@ use Rattle.pool_store.proofs.Tied.{Objects, Pools, Spares, Any, Other, Tied, spa
 
 -- what is seen of objects and pools
 abbrev pub seen : {A : Type 0} → Objects A → Pools → ℕ → Store
-seen objects blocks g = record { objects = mapped (stored_in blocks) objects; blocks = mapped pool_of blocks; given = g; marks = empty; opened = []; numbered = 0 }
+seen objects blocks g = record { objects = mapped (stored_in blocks) objects; blocks = mapped pool_of blocks; given = g; marks = empty; opened = []; next_subpool = 1 }
 
 module _ {A : Type 0} (objects : Objects A) (blocks : Pools) (g : ℕ) (ties : Ties objects blocks g) where
   -- a vacant block comes back
@@ -44,7 +44,7 @@ module _ {A : Type 0} (objects : Objects A) (blocks : Pools) (g : ℕ) (ties : T
     freed_seen =
         let o = all_seen objects blocks freed freed_spares ties.tied in
         let q = mapped_changed pool_of blocks p b (area.with_block_back a b) (store.with_block_back a) there (back_seen b a) in
-        λ i. record { objects = o i; blocks = q i; given = g; marks = empty; opened = []; numbered = 0 }
+        λ i. record { objects = o i; blocks = q i; given = g; marks = empty; opened = []; next_subpool = 1 }
 
   -- a new object is put into a vacant block
   module _ (p a n words : ℕ) (b : Blocks) (there : get blocks p ≡ Some b) (vacant : get b.out a ≡ Some None) where
@@ -76,7 +76,7 @@ module _ {A : Type 0} (objects : Objects A) (blocks : Pools) (g : ℕ) (ties : T
         let o = put_seen objects blocks filled n entry filled_spares ties.tied
         ∙ ap (λ l. insert (mapped (stored_in blocks) objects) n (let r : Stored = record { spot = Some (record { pool = p; address = a }); site = None; words = words_in l } in r)) filled_lot in
         let q = mapped_changed pool_of blocks p b (area.with_holder a n words b) (store.with_holder a (Some n)) there (held_seen b a n words) in
-        λ i. record { objects = o i; blocks = q i; given = g; marks = empty; opened = []; numbered = 0 }
+        λ i. record { objects = o i; blocks = q i; given = g; marks = empty; opened = []; next_subpool = 1 }
 
   -- an object is held no more
   module _ (n : ℕ) where
@@ -94,14 +94,14 @@ module _ {A : Type 0} (objects : Objects A) (blocks : Pools) (g : ℕ) (ties : T
         let o = drop_seen objects blocks blocks n (spares_same (Other n) blocks) ties.tied in
         let q : mapped pool_of blocks ≡ store.freed_spot (option_map_or (λ (x : Stored). x.spot) (get (mapped (stored_in blocks) objects) n) None) (mapped pool_of blocks) =
         sym (ap (λ s. store.freed_spot s (mapped pool_of blocks)) (spot_seen (Standard ws) here)) in
-        λ i. record { objects = o i; blocks = q i; given = g; marks = empty; opened = []; numbered = 0 }
+        λ i. record { objects = o i; blocks = q i; given = g; marks = empty; opened = []; next_subpool = 1 }
 
     pub gone_seen : get objects n ≡ None → seen rest blocks g ≡ store.without_object n (seen objects blocks g)
     gone_seen none =
         let o = drop_seen objects blocks blocks n (spares_same (Other n) blocks) ties.tied in
         let q : mapped pool_of blocks ≡ store.freed_spot (option_map_or (λ (x : Stored). x.spot) (get (mapped (stored_in blocks) objects) n) None) (mapped pool_of blocks) =
         sym (ap (λ s. store.freed_spot (option_map_or (λ (x : Stored). x.spot) s None) (mapped pool_of blocks)) (get_mapped (stored_in blocks) objects n ∙ ap (option_map (stored_in blocks)) none)) in
-        λ i. record { objects = o i; blocks = q i; given = g; marks = empty; opened = []; numbered = 0 }
+        λ i. record { objects = o i; blocks = q i; given = g; marks = empty; opened = []; next_subpool = 1 }
 
     -- where it lies
     pub tie_of : (e : Entry A) → get objects n ≡ Some e → IsTied blocks n e
@@ -139,7 +139,7 @@ module _ {A : Type 0} (objects : Objects A) (blocks : Pools) (g : ℕ) (ties : T
           let q : mapped pool_of left ≡ store.freed_spot (option_map_or (λ (x : Stored). x.spot) (get (mapped (stored_in blocks) objects) n) None) (mapped pool_of blocks) =
           mapped_changed pool_of blocks s.pool b (area.with_no_holder s.address b) (store.with_holder s.address None) there (vacated_seen b s.address x.0 x.1)
           ∙ sym (ap (λ s. store.freed_spot s (mapped pool_of blocks)) (spot_seen (InBlock s) here)) in
-          λ i. record { objects = o i; blocks = q i; given = g; marks = empty; opened = []; numbered = 0 }
+          λ i. record { objects = o i; blocks = q i; given = g; marks = empty; opened = []; next_subpool = 1 }
 
   -- the words of an object
   module _ (n : ℕ) where
@@ -156,7 +156,7 @@ module _ {A : Type 0} (objects : Objects A) (blocks : Pools) (g : ℕ) (ties : T
     nothing_written f none =
         let o : mapped (stored_in blocks) objects ≡ change n (store.with_words f) (mapped (stored_in blocks) objects) =
         sym (ap (λ x. option_map_or (λ v. insert (mapped (stored_in blocks) objects) n (store.with_words f v)) x (mapped (stored_in blocks) objects)) (get_mapped (stored_in blocks) objects n ∙ ap (option_map (stored_in blocks)) none)) in
-        λ i. record { objects = o i; blocks = mapped pool_of blocks; given = g; marks = empty; opened = []; numbered = 0 }
+        λ i. record { objects = o i; blocks = mapped pool_of blocks; given = g; marks = empty; opened = []; next_subpool = 1 }
 
     -- in the standard pool
     module _ (ws : List ℕ) (here : get objects n ≡ Some (Standard ws)) (f : List ℕ → List ℕ) where
@@ -170,7 +170,7 @@ module _ {A : Type 0} (objects : Objects A) (blocks : Pools) (g : ℕ) (ties : T
       standard_written =
           let o = put_seen objects blocks blocks n entry_written (spares_same (Other n) blocks) ties.tied
           ∙ sym (ap (λ x. option_map_or (λ v. insert (mapped (stored_in blocks) objects) n (store.with_words f v)) x (mapped (stored_in blocks) objects)) (get_mapped (stored_in blocks) objects n ∙ ap (option_map (stored_in blocks)) here)) in
-          λ i. record { objects = o i; blocks = mapped pool_of blocks; given = g; marks = empty; opened = []; numbered = 0 }
+          λ i. record { objects = o i; blocks = mapped pool_of blocks; given = g; marks = empty; opened = []; next_subpool = 1 }
 
     -- in a block
     module _ (s : Spot) (here : get objects n ≡ Some (InBlock s)) (f : Held → Held) (F : List ℕ → List ℕ) (same : (h : Held) → (f h).object ≡ h.object) (words : (h : Held) → (f h).words ≡ F h.words) where
@@ -212,7 +212,7 @@ module _ {A : Type 0} (objects : Objects A) (blocks : Pools) (g : ℕ) (ties : T
             let o = change_seen objects blocks changed n (InBlock s) (store.with_words F) here changed_spares ties.tied stored in
             let pool : pool_of (written_in b) ≡ pool_of b = (let e = words_unseen b s.address f same in λ i. record { size = b.size; free = b.free; out = e i }) in
             let q = mapped_put pool_of blocks s.pool (written_in b) ∙ ap (insert (mapped pool_of blocks) s.pool) pool ∙ insert_same (mapped pool_of blocks) s.pool (pool_of b) (pool_here blocks s.pool b there) in
-            λ i. record { objects = o i; blocks = q i; given = g; marks = empty; opened = []; numbered = 0 }
+            λ i. record { objects = o i; blocks = q i; given = g; marks = empty; opened = []; next_subpool = 1 }
 
         as_change : change s.pool written_in blocks ≡ changed
         as_change = ap (λ o. option_map_or (λ v. insert blocks s.pool (written_in v)) o blocks) there

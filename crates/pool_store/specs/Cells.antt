@@ -36,10 +36,11 @@ Holds index n row = (object_in (block_in index row) ≡ Some n) × (option_map_o
 abbrev pub IsAt : FinMap nat_cmp Subpools → ℕ → Cell → Type 0
 IsAt pools n c = Holds c.index n (row_at c pools)
 
--- Each object lies where it is held, and no subpool has a number above those given.
-pub record Places (cells : FinMap nat_cmp Cell) (pools : FinMap nat_cmp Subpools) (numbered : ℕ) : Type 0 where
+-- Each object lies where it is held, subpools are numbered from 1, and none has a number that was not given yet.
+pub record Places (cells : FinMap nat_cmp Cell) (pools : FinMap nat_cmp Subpools) (next_subpool : ℕ) : Type 0 where
   pub placed : (n : ℕ) → IfSome (get cells n) (IsAt pools n)
-  pub numbers : (p : ℕ) → IfSome (get pools p) (λ m. m.given < numbered)
+  pub numbers : (p : ℕ) → IfSome (get pools p) (λ m. m.given < next_subpool)
+  pub positive : 0 < next_subpool
 
 -- an object lies in this subpool of this pool
 abbrev pub is_in_subpool : ℕ → ℕ → Cell → Bool

@@ -9,7 +9,7 @@ unfoldable pub joined : {V : Type 0} → FinMap nat_cmp V → FinMap nat_cmp V �
 joined s t = from_entries (entries s ++ entries t)
 
 abbrev pub side_by_side : Store → Store → Store
-side_by_side a b = record { objects = joined a.objects b.objects; blocks = a.blocks; given = a.given; marks = b.marks; opened = b.opened; numbered = b.numbered }
+side_by_side a b = record { objects = joined a.objects b.objects; blocks = a.blocks; given = a.given; marks = b.marks; opened = b.opened; next_subpool = b.next_subpool }
 
 -- no object is in both
 abbrev pub AreApart : Store → Store → Type 0

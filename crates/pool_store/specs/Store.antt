@@ -16,14 +16,14 @@ use Rattle.pool_area.specs.declared.subpool.Standing.{Standing}
 use Rattle.pool_area.specs.declared.subpool.Standing.TheVariants.{Detached}
 use Rattle.pool_store.specs.Marks.{MarkPool, mark_pool_code, new_mark_pool, has_subpool, standing_in, belongs, is_last_in, is_overfull, with_subpool, with_standing, with_words_used, released, is_renewed_by}
 
--- The objects by their numbers; the open pools of blocks by theirs, and the address that was given last; the open pools with marks by theirs, these numbers in the order in which the pools were opened, and how many subpool numbers were given.
+-- The objects by their numbers; the open pools of blocks by theirs, and the address that was given last; the open pools with marks by theirs, these numbers in the order in which the pools were opened, and the number that the next subpool gets.
 pub record Store : Type 0 where
   pub objects : FinMap nat_cmp Stored
   pub blocks : FinMap nat_cmp BlockPool
   pub given : ℕ
   pub marks : FinMap nat_cmp MarkPool
   pub opened : List ℕ
-  pub numbered : ℕ
+  pub next_subpool : ℕ
 
 abbrev pub block_pool_code : Coded BlockPool
 block_pool_code =
@@ -35,11 +35,12 @@ abbrev pub store_code : Coded Store
 store_code =
     code_by (FinMap nat_cmp Stored × (FinMap nat_cmp BlockPool × (ℕ × (FinMap nat_cmp MarkPool × (List ℕ × ℕ)))))
     (coded× (code coded_ℕ stored_code) (coded× (code coded_ℕ block_pool_code) (coded× coded_ℕ (coded× (code coded_ℕ mark_pool_code) (coded× (coded_list coded_ℕ) coded_ℕ)))))
-    (λ s. (s.objects, (s.blocks, (s.given, (s.marks, (s.opened, s.numbered))))))
-    (λ t. record { objects = t.0; blocks = t.1.0; given = t.1.1.0; marks = t.1.1.1.0; opened = t.1.1.1.1.0; numbered = t.1.1.1.1.1 }) (λ _. refl)
+    (λ s. (s.objects, (s.blocks, (s.given, (s.marks, (s.opened, s.next_subpool))))))
+    (λ t. record { objects = t.0; blocks = t.1.0; given = t.1.1.0; marks = t.1.1.1.0; opened = t.1.1.1.1.0; next_subpool = t.1.1.1.1.1 }) (λ _. refl)
 
+-- nothing yet; subpools are numbered from 1, since 0 names none
 abbrev pub no_store : Store
-no_store = record { objects = empty; blocks = empty; given = 0; marks = empty; opened = []; numbered = 0 }
+no_store = record { objects = empty; blocks = empty; given = 0; marks = empty; opened = []; next_subpool = 1 }
 
 -- Objects ------------------------------------------------------------------
 
@@ -172,7 +173,7 @@ change_marks p f s = record s { marks = change p f s.marks }
 
 -- a new pool with marks is open, with its first subpool
 abbrev pub with_mark_pool : ℕ → ℕ → Store → Store
-with_mark_pool p units s = record s { marks = insert s.marks p (new_mark_pool units s.numbered); opened = s.opened ++ p ∷ []; numbered = s.numbered + 1 }
+with_mark_pool p units s = record s { marks = insert s.marks p (new_mark_pool units s.next_subpool); opened = s.opened ++ p ∷ []; next_subpool = s.next_subpool + 1 }
 
 -- of the open pools, the first in which a subpool of this number stands
 abbrev pub pool_among : ℕ → FinMap nat_cmp MarkPool → List ℕ → Option ℕ
@@ -215,7 +216,7 @@ hold_in n p object words s =
 
 -- a pool has a further subpool, the last
 abbrev pub with_new_subpool : ℕ → Store → Store
-with_new_subpool p s = record (change_marks p (with_subpool s.numbered) s) { numbered = s.numbered + 1 }
+with_new_subpool p s = record (change_marks p (with_subpool s.next_subpool) s) { next_subpool = s.next_subpool + 1 }
 
 -- whether a subpool belongs to its pool, None where it stands in none
 abbrev pub standing_of : ℕ → Store → Option Standing
@@ -244,9 +245,9 @@ lies_in_subpool p n o = option_map_or (λ x. nat_eq x.pool p && nat_eq x.subpool
 -- a subpool of a pool is released: its objects are gone, and it is dead; where it is the last it is dropped, with the dead ones before it
 abbrev pub released_in : ℕ → ℕ → Store → Store
 released_in p n s =
-    record (change_marks p (released n s.numbered) s) {
+    record (change_marks p (released n s.next_subpool) s) {
       objects = kept (λ o. not (lies_in_subpool p n o)) s.objects;
-      numbered = s.numbered + cond (option_map_or (is_renewed_by n) (get s.marks p) false) 1 0;
+      next_subpool = s.next_subpool + cond (option_map_or (is_renewed_by n) (get s.marks p) false) 1 0;
     }
 
 abbrev pub released_subpool : ℕ → Store → Store

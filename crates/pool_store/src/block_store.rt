@@ -46,7 +46,7 @@ impl<A: Allocator> Model for BlockStore<A> {
       given = s.given;
       marks = empty;
       opened = [];
-      numbered = 0;
+      next_subpool = 1;
     } };
 
     ghost invariant = { λ s. Ties s.objects.values s.blocks.values s.given };
@@ -346,13 +346,11 @@ impl<A: Allocator> BlockStore<A> {
         blocks.destroy_empty();
     }
 
-    /// Whether the pool is open, and another address can be given.
-    #[cfg(test)]
-    pub(crate) fn can_allocate(&self, pool: u64) -> bool
-        ensures open { IsTrue result → IsBlockPool pool self.now }
-        ensures addresses { IsTrue result → self.now.given < 2 ^ 64 - 1 }
+    /// Whether another address can be given.
+    pub fn has_addresses(&self) -> bool
+        ensures { IsTrue result ↔ self.now.given < 2 ^ 64 - 1 }
     {
-        self.is_open(pool) && self.given < u64::MAX
+        self.given < u64::MAX
     }
 
     fn is_exhausted(&self, pool: u64, units: u64) -> bool

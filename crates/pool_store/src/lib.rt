@@ -7,14 +7,15 @@ mod closing;
 mod entry;
 mod fault;
 mod forgetting;
+mod kind;
 mod mark_store;
 mod object;
 mod spots;
 mod store;
-#[cfg(test)]
-mod tests;
 
 pub use block_store::Address;
 pub use entry::Spot;
 pub use fault::StoreFault;
+pub use kind::PoolKind;
+pub use pool_area::Standing;
 pub use store::{PoolStore, SubpoolNo};

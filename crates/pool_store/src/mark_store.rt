@@ -1,4 +1,4 @@
-ghost use Rattle.std.specs.Prelude.{◌≡◌, ℕ, ◌+◌, ◌-◌, ◌*◌, ◌/◌, ◌^◌, ◌<◌, ◌≤◌, length, None, Some, Ok, Err, true, false, if◌then◌else◌, slice_index_or, option_and_then, OnOk, OnErr, IfOk, IfErr, IfSome, IsTrue, is_some};
+ghost use Rattle.std.specs.Prelude.{◌≡◌, ℕ, ◌+◌, ◌-◌, ◌*◌, ◌/◌, ◌^◌, ◌<◌, ◌≤◌, length, None, Some, Ok, Err, true, false, if◌then◌else◌, slice_index_or, option_and_then, OnOk, OnErr, IfOk, IfErr, IfSome, IsTrue, is_some, ◌↔◌};
 ghost use Rattle.std.specs.Option.{option_map_or};
 ghost use Rattle.std.specs.FinMap.{get};
 ghost use Rattle.pool_area.specs.Subpools.{IsMarkSize};
@@ -23,11 +23,12 @@ pub struct MarkStore<A: Allocator = Global> {
     // The numbers of the pools, in the order in which they were opened.
     opened: Vec<u64, A>,
     cells: NumberMap<Cell, A>,
-    // How many numbers were given to subpools. They count from 0.
+    // How many numbers subpools got. They count from 1, since 0 names none.
     numbered: u64,
 }
 
 impl<A: Allocator> Model for MarkStore<A> {
+    ghost use Rattle.std.specs.Prelude.{◌+◌};
     ghost use Rattle.std.specs.FinMap.{empty};
     ghost use Rattle.number_map.specs.Table.{mapped};
     ghost use Rattle.pool_store.specs.Cells.{stored_at, mark_of, Places};
@@ -43,10 +44,10 @@ impl<A: Allocator> Model for MarkStore<A> {
       given = 0;
       marks = mapped mark_of s.pools.values;
       opened = s.opened.items;
-      numbered = s.numbered;
+      next_subpool = s.numbered + 1;
     } };
 
-    ghost invariant = { λ s. Places s.cells.values s.pools.values s.numbered };
+    ghost invariant = { λ s. Places s.cells.values s.pools.values (s.numbered + 1) };
 }
 
 impl<A: Allocator + Copy> MarkStore<A> {
@@ -71,18 +72,19 @@ impl<A: Allocator + Copy> MarkStore<A> {
     pub fn open(&mut self, pool: u64, units: u64) -> Result<u64, StoreFault>
         requires size { IsMarkSize units }
         requires new { get self.old.marks pool ≡ None }
-        requires numbers { self.old.numbered < 2 ^ 64 - 1 }
-        ensures ok { IfOk result (λ n. (n ≡ self.old.numbered) × (self.new ≡ with_mark_pool pool units self.old)) }
+        requires numbers { self.old.next_subpool < 2 ^ 64 }
+        ensures positive { IfOk result (λ n. 0 < n) }
+        ensures ok { IfOk result (λ n. (n ≡ self.old.next_subpool) × (self.new ≡ with_mark_pool pool units self.old)) }
         ensures err { OnErr result (self.new ≡ self.old) }
         ensures fault { IfErr result (λ fault. fault ≡ StoreFault.Memory) }
     {
         self.pools.reserve()?;
         self.opened.reserve(1)?;
-        let number = self.numbered;
+        let number = self.numbered + 1;
         let area = MarkArea::new(self.alloc, units, number)?;
         self.pools.put_new(pool, area);
         self.opened.push_reserved(pool);
-        self.numbered = number + 1;
+        self.numbered = number;
         Ok(number)
     }
 
@@ -93,20 +95,21 @@ impl<A: Allocator + Copy> MarkStore<A> {
     /// `TooManyMarks` where ten subpools stand in the pool. Nothing changes then.
     pub fn create(&mut self, pool: u64) -> Result<u64, StoreFault>
         requires open { IsMarkPool pool self.old }
-        requires numbers { self.old.numbered < 2 ^ 64 - 1 }
-        ensures ok { IfOk result (λ n. (is_full pool self.old ≡ false) × (n ≡ self.old.numbered) × (self.new ≡ with_new_subpool pool self.old)) }
+        requires numbers { self.old.next_subpool < 2 ^ 64 }
+        ensures positive { IfOk result (λ n. 0 < n) }
+        ensures ok { IfOk result (λ n. (is_full pool self.old ≡ false) × (n ≡ self.old.next_subpool) × (self.new ≡ with_new_subpool pool self.old)) }
         ensures err { OnErr result ((is_full pool self.old ≡ true) × (self.new ≡ self.old)) }
         ensures fault { IfErr result (λ fault. fault ≡ StoreFault.TooManyMarks) }
     {
         if self.is_full(pool) {
             return Err(StoreFault::TooManyMarks);
         }
-        let number = self.numbered;
+        let number = self.numbered + 1;
         let Some(area) = self.pools.get_mut(pool) else {
             unreachable!();
         };
         area.create(self.alloc, number);
-        self.numbered = number + 1;
+        self.numbered = number;
         Ok(number)
     }
 
@@ -376,36 +379,34 @@ impl<A: Allocator> MarkStore<A> {
     /// dropped, with the dead ones before it, and with their words; the first one comes back under a new number. It
     /// answers whether it was the last.
     pub fn release(&mut self, subpool: u64) -> bool
-        requires { self.old.numbered < 2 ^ 64 - 1 }
+        requires { self.old.next_subpool < 2 ^ 64 }
         ensures last { result ≡ is_last subpool self.old }
         ensures store { self.new ≡ released_subpool subpool self.old }
     {
         let Some(pool) = self.pool_with(subpool) else {
             return false;
         };
-        let number = self.numbered;
+        let number = self.numbered + 1;
         let Some(area) = self.pools.get_mut(pool) else {
             unreachable!();
         };
         forget_subpool(&mut self.cells, pool, area, subpool);
         let last = area.release(subpool, number);
         if area.given() == number {
-            self.numbered = number + 1;
+            self.numbered = number;
         }
         last
     }
 
-    /// Whether a further subpool can have a number.
-    #[cfg(test)]
-    pub(crate) fn can_number(&self) -> bool
-        ensures { IsTrue result → self.now.numbered < 2 ^ 64 - 1 }
+    /// Whether another subpool can have a number.
+    pub fn has_subpool_numbers(&self) -> bool
+        ensures { IsTrue result ↔ self.now.next_subpool < 2 ^ 64 }
     {
         self.numbered < u64::MAX
     }
 
     /// Whether a subpool belongs to its pool, where it stands in one.
-    #[cfg(test)]
-    pub(crate) fn standing(&self, subpool: u64) -> Option<Standing>
+    pub fn standing(&self, subpool: u64) -> Option<Standing>
         ensures { result ≡ standing_of subpool self.now }
     {
         match self.pool_with(subpool) {

@@ -1,14 +1,15 @@
-ghost use Rattle.std.specs.Prelude.{◌≡◌, ℕ, ◌+◌, ◌-◌, ◌*◌, ◌/◌, ◌^◌, ◌<◌, ◌≤◌, length, None, Some, Ok, Err, true, false, if◌then◌else◌, slice_index_or, option_and_then, OnOk, OnErr, IfOk, IfErr, IfSome, IsTrue, is_some, ◌↔◌, ◌≢◌};
+ghost use Rattle.std.specs.Prelude.{◌≡◌, ℕ, ◌+◌, ◌-◌, ◌*◌, ◌/◌, ◌^◌, ◌<◌, ◌≤◌, length, None, Some, Ok, Err, true, false, if◌then◌else◌, slice_index_or, option_and_then, MatchOption, OnOk, OnErr, IfOk, IfErr, IfSome, IsTrue, is_some, ◌↔◌, ◌≢◌};
 ghost use Rattle.std.specs.Option.{option_map_or};
 ghost use Rattle.std.specs.FinMap.{get};
 ghost use Rattle.pool_area.specs.Subpools.{IsMarkSize};
+ghost use Rattle.pool_store.specs.Kinds.{IsKind, IsNoPool};
 ghost use Rattle.pool_store.specs.Marks.{default_of};
-ghost use Rattle.pool_store.specs.Store.{no_store, with_object, without_object, with_word, copied, IsWithin, read_word, held_or_gone, both_or_gone, vacated, words_of, IsBlockPool, IsPoolSize, with_pool, take_block, is_exhausted_in, is_vacant_in, give_block, is_fit_in, hold_block, IsMarkPool, IsWholeWords, with_mark_pool, is_full, refusal_in, hold_in, with_new_subpool, is_attached, detached, IsDetached, is_last, released_subpool, is_open, without_pool};
+ghost use Rattle.pool_store.specs.Store.{no_store, with_object, without_object, with_word, copied, IsWithin, read_word, held_or_gone, both_or_gone, vacated, words_of, IsBlockPool, IsPoolSize, with_pool, take_block, is_exhausted_in, is_vacant_in, give_block, is_fit_in, hold_block, IsMarkPool, IsWholeWords, with_mark_pool, is_full, refusal_in, hold_in, with_new_subpool, is_attached, detached, IsDetached, standing_of, is_last, released_subpool, is_open, without_pool};
 
 use crate::block_store::{Address, BlockStore};
 use crate::fault::StoreFault;
+use crate::kind::PoolKind;
 use crate::mark_store::MarkStore;
-#[cfg(test)]
 use pool_area::Standing;
 use std::alloc::{Allocator, Global};
 use std::marker::Model;
@@ -124,8 +125,9 @@ impl<A: Allocator + Copy> PoolStore<A> {
     pub fn open_mark(&mut self, pool: u64, units: u64) -> Result<SubpoolNo, StoreFault>
         requires size { IsMarkSize units }
         requires new { get self.old.marks pool ≡ None }
-        requires numbers { self.old.numbered < 2 ^ 64 - 1 }
-        ensures ok { IfOk result (λ n. (n.0 ≡ self.old.numbered) × (self.new ≡ with_mark_pool pool units self.old)) }
+        requires numbers { self.old.next_subpool < 2 ^ 64 }
+        ensures positive { IfOk result (λ n. 0 < n.0) }
+        ensures ok { IfOk result (λ n. (n.0 ≡ self.old.next_subpool) × (self.new ≡ with_mark_pool pool units self.old)) }
         ensures err { OnErr result (self.new ≡ self.old) }
         ensures fault { IfErr result (λ fault. fault ≡ StoreFault.Memory) }
     {
@@ -165,8 +167,9 @@ impl<A: Allocator + Copy> PoolStore<A> {
     /// `TooManyMarks` exactly where ten subpools stand in the pool. Nothing changes then.
     pub fn create_subpool(&mut self, pool: u64) -> Result<SubpoolNo, StoreFault>
         requires open { IsMarkPool pool self.old }
-        requires numbers { self.old.numbered < 2 ^ 64 - 1 }
-        ensures ok { IfOk result (λ n. (is_full pool self.old ≡ false) × (n.0 ≡ self.old.numbered) × (self.new ≡ with_new_subpool pool self.old)) }
+        requires numbers { self.old.next_subpool < 2 ^ 64 }
+        ensures positive { IfOk result (λ n. 0 < n.0) }
+        ensures ok { IfOk result (λ n. (is_full pool self.old ≡ false) × (n.0 ≡ self.old.next_subpool) × (self.new ≡ with_new_subpool pool self.old)) }
         ensures err { OnErr result ((is_full pool self.old ≡ true) × (self.new ≡ self.old)) }
         ensures fault { IfErr result (λ fault. fault ≡ StoreFault.TooManyMarks) }
     {
@@ -217,7 +220,7 @@ impl<A: Allocator> PoolStore<A> {
     /// memory.
     pub fn release_subpool(&mut self, subpool: SubpoolNo) -> bool
         requires detached { IsDetached subpool.0 self.old }
-        requires numbers { self.old.numbered < 2 ^ 64 - 1 }
+        requires numbers { self.old.next_subpool < 2 ^ 64 }
         ensures last { result ≡ is_last subpool.0 self.old }
         ensures store { self.new ≡ released_subpool subpool.0 self.old }
     {
@@ -231,10 +234,11 @@ impl<A: Allocator> PoolStore<A> {
     ///
     /// # Errors
     ///
-    /// `Gone` where no such object is held.
+    /// `Gone` where no such object is held. Nothing changes then.
     pub fn vacate(&mut self, object: u64) -> Result<Option<Address>, StoreFault>
         ensures result { result ≡ vacated object self.old }
         ensures store { self.new ≡ without_object object self.old }
+        ensures err { OnErr result (self.new ≡ self.old) }
     {
         if self.marks.is_held(object) {
             self.marks.vacate(object)
@@ -353,15 +357,15 @@ impl<A: Allocator> PoolStore<A> {
         }
     }
 
-    // Whether an object of this number is held.
-    fn is_held(&self, object: u64) -> bool
+    /// Whether an object of this number is held.
+    pub fn is_held(&self, object: u64) -> bool
         ensures { result ≡ is_some (get self.now.objects object) }
     {
         self.marks.is_held(object) || self.blocks.is_held(object)
     }
 
-    // How many words an object has, none where it is gone.
-    fn len_of(&self, object: u64) -> usize
+    /// How many words an object has, none where it is gone.
+    pub fn len_of(&self, object: u64) -> usize
         ensures { result ≡ length (words_of object self.now) }
     {
         if self.marks.is_held(object) {
@@ -413,6 +417,39 @@ impl<A: Allocator> PoolStore<A> {
         self.blocks.is_open(pool) || self.marks.is_open(pool)
     }
 
+    /// Which pools are open under a number, `None` where no pool is.
+    pub fn kind(&self, pool: u64) -> Option<PoolKind>
+        ensures { MatchOption result (IsNoPool pool self.now) (λ kind. IsKind kind pool self.now) }
+    {
+        match (self.blocks.is_open(pool), self.marks.is_open(pool)) {
+            (true, true) => Some(PoolKind::Both),
+            (true, false) => Some(PoolKind::Blocks),
+            (false, true) => Some(PoolKind::Marks),
+            (false, false) => None,
+        }
+    }
+
+    /// Whether another address can be given.
+    pub fn has_addresses(&self) -> bool
+        ensures { IsTrue result ↔ self.now.given < 2 ^ 64 - 1 }
+    {
+        self.blocks.has_addresses()
+    }
+
+    /// Whether another subpool can have a number.
+    pub fn has_subpool_numbers(&self) -> bool
+        ensures { IsTrue result ↔ self.now.next_subpool < 2 ^ 64 }
+    {
+        self.marks.has_subpool_numbers()
+    }
+
+    /// Whether a subpool belongs to its pool, is detached from it or dead, `None` where it stands in no open pool.
+    pub fn standing(&self, subpool: SubpoolNo) -> Option<Standing>
+        ensures { result ≡ standing_of subpool.0 self.now }
+    {
+        self.marks.standing(subpool.0)
+    }
+
     /// Closes a pool and frees it: the objects in it are gone, its addresses are out no more, and none of its subpools
     /// stands. It takes no memory.
     pub fn close_pool(&mut self, pool: u64)
@@ -428,68 +465,5 @@ impl<A: Allocator> PoolStore<A> {
         let PoolStore { blocks, marks } = self;
         blocks.close();
         marks.close();
-    }
-
-    /// Whether so many words from a place on lie within the object, where it is held.
-    #[cfg(test)]
-    pub(crate) fn allows(&self, object: u64, place: usize, count: usize) -> bool
-        ensures { IsTrue result → IsWithin object place count self.now }
-    {
-        let len = self.len_of(object);
-        let held = self.is_held(object);
-        !held || len >= count && place <= len - count
-    }
-
-    /// Whether no object of this number is held.
-    #[cfg(test)]
-    pub(crate) fn is_free(&self, object: u64) -> bool
-        ensures { IsTrue result → get self.now.objects object ≡ None }
-    {
-        !self.is_held(object)
-    }
-
-    /// Whether no pool of this number is open.
-    #[cfg(test)]
-    pub(crate) fn is_new(&self, pool: u64) -> bool
-        ensures blocks { IsTrue result → get self.now.blocks pool ≡ None }
-        ensures marks { IsTrue result → get self.now.marks pool ≡ None }
-    {
-        !self.blocks.is_open(pool) && !self.marks.is_open(pool)
-    }
-
-    /// Whether a pool of blocks is open, and another address can be given.
-    #[cfg(test)]
-    pub(crate) fn can_allocate(&self, pool: u64) -> bool
-        ensures open { IsTrue result → IsBlockPool pool self.now }
-        ensures addresses { IsTrue result → self.now.given < 2 ^ 64 - 1 }
-    {
-        self.blocks.can_allocate(pool)
-    }
-
-    /// Whether a pool with marks is open.
-    #[cfg(test)]
-    pub(crate) fn is_mark(&self, pool: u64) -> bool
-        ensures { IsTrue result → IsMarkPool pool self.now }
-    {
-        self.marks.is_open(pool)
-    }
-
-    /// Whether a further subpool can have a number.
-    #[cfg(test)]
-    pub(crate) fn can_number(&self) -> bool
-        ensures { IsTrue result → self.now.numbered < 2 ^ 64 - 1 }
-    {
-        self.marks.can_number()
-    }
-
-    /// Whether a subpool belongs to no pool, and is not released.
-    #[cfg(test)]
-    pub(crate) fn is_detached(&self, subpool: SubpoolNo) -> bool
-        ensures { IsTrue result → IsDetached subpool.0 self.now }
-    {
-        match self.marks.standing(subpool.0) {
-            Some(Standing::Detached) => true,
-            _ => false,
-        }
     }
 }

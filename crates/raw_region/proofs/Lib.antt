@@ -1,5 +1,4 @@
-pub mod Cells
-pub mod Detaching
-pub mod Lodging
 pub mod PlaceLemmas
+pub mod Spans
+pub mod Runs
 pub mod Walks

@@ -1,5 +1,5 @@
 -- Facts on the places of a region: which of them hold words, and what a run in the place of another changes.
-use Rattle.std.proofs.Common.{◌≡◌, ℕ, zero, suc, ◌+◌, ◌-◌, ◌<◌, ◌≤◌, List, [], ◌∷◌, ◌++◌, length, take, drop, map, replicate, Option, None, Some, refl, sym, ap, subst, ◌∙◌, arith, set, IsSome, slice_range}
+use Rattle.std.proofs.Common.{◌≡◌, ℕ, zero, suc, ◌+◌, ◌-◌, ◌<◌, ◌≤◌, List, [], ◌∷◌, ◌++◌, length, take, drop, map, Option, None, Some, refl, sym, ap, subst, ◌∙◌, arith, set, IsSome, slice_range}
 use mathlib.Core.Logic.{◌⊎◌, inl, inr, ⊎_elim}
 use lib.ListN.{length-replicate}
 use Rattle.std.proofs.lemmas.List.{ext_get_or}
@@ -50,10 +50,6 @@ held_again [] all = refl
 held_again (None ∷ cs) all = absurd (held_not_out None (all 0 (let first : 0 < suc (length cs) = omega arith in first)) refl)
 held_again (Some x ∷ cs) all =
     ap (λ (l : Places). Some x ∷ l) (held_again cs (λ k lt. all (suc k) (let next : suc k < suc (length cs) = omega arith in next)))
-
--- the words of a new region are all in it
-pub new_held : (n : ℕ) → AreHeld (held (replicate n 0)) 0 n
-new_held n k lo hi = let count = length-replicate {A = ℕ} n 0 in held_some (replicate n 0) k (omega arith)
 
 -- ---- runs of places that hold words
 

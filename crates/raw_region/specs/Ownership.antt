@@ -1,59 +1,51 @@
--- What the parts of a region own. Each place has a ticket, of which there is one: whoever has the place has it. So a place that a Block has can be in no other Block, and not in the region.
--- γ is the region's name, k the number of a place in it, and b, o say where the place lies: o bytes into the block b.
-use Rattle.std.specs.Prelude.{◌≡◌, refl, ℕ, zero, suc, ◌+◌, ◌*◌, None, Some, List, [], ◌∷◌, length}
-use Rattle.std.specs.Coded.{Coded, code_by, coded×, coded_ℕ}
+-- What the parts of a region own, place by place. Each place has a ticket, of which there is one: whoever has the place has it. So a place that a Block has can be in no other Block, and not in the region.
+use Rattle.std.specs.Prelude.{ℕ, zero, suc, ◌+◌, ◌*◌, Option, None, Some, List, length}
 use base.Fraction.{full_share}
-use base.Fml.{Lft, Fml, GName, ftrue, fsep, feq, fall, fwand}
+use base.Fml.{Lft, Fml, ftrue, fsep}
 use types.Keyed.{ticket}
 use denote.Array.{Array}
 use denote.Builtin.{u64}
 use denote.Memory.{part_at, shared_of}
-use denote.RawPtr.{Ptr, block_ptr, coded_ptr, block_of, count_of, lies_at, ◌+ₚ◌}
+use denote.RawPtr.{Ptr, block_of, count_of, lies_at, ◌+ₚ◌}
 use denote.Sharing.{nothing, beside}
-use Rattle.raw_region.specs.Places.{Places}
-
--- p points into a block.
-abbrev pub IsPlaced : Ptr → Type 0
-IsPlaced p = p ≡ block_ptr (block_of p) (count_of p)
+use Rattle.raw_region.specs.Places.{Home, Places, place}
 
 -- The place k of a region whose words begin at p: a word has 8 bytes.
 abbrev pub nth_place : Ptr → ℕ → Ptr
 nth_place p k = p +ₚ k * 8
 
--- A place that holds the word x.
-abbrev pub word_owns : GName → ℕ → ℕ → ℕ → ℕ → Fml
-word_owns γ k x b o = fsep (part_at u64 full_share x b o) (ticket γ k)
+-- F of each of the n numbers from k on.
+abbrev pub span : (ℕ → Fml) → ℕ → ℕ → Fml
+span F k zero = ftrue
+span F k (suc n) = fsep (F k) (span F (suc k) n)
 
--- The places ps, of which the first has the number k.
-abbrev pub places_own : GName → ℕ → Places → ℕ → ℕ → Fml
-places_own γ k [] b o = ftrue
-places_own γ k (None ∷ ps) b o = places_own γ (suc k) ps b (o + 8)
-places_own γ k (Some x ∷ ps) b o = fsep (word_owns γ k x b o) (places_own γ (suc k) ps b (o + 8))
+-- The same for what a `&` shows.
+abbrev pub span_lent : (ℕ → Lft → Fml) → ℕ → ℕ → Lft → Fml
+span_lent S k zero = nothing
+span_lent S k (suc n) = beside (S k) (span_lent S (suc k) n)
 
--- A `&` to the places shows the words that they hold.
-abbrev pub places_lend : Places → ℕ → ℕ → Lft → Fml
-places_lend [] b o = nothing
-places_lend (None ∷ ps) b o = places_lend ps b (o + 8)
-places_lend (Some x ∷ ps) b o = beside (shared_of u64 x b o) (places_lend ps b (o + 8))
+-- The word x lies in the place k.
+abbrev pub word_lies : Home → ℕ → ℕ → Fml
+word_lies h k x = part_at u64 full_share x (block_of h.at) (count_of h.at + k * 8)
 
--- The tickets of n places, of which the first has the number k.
-abbrev pub tickets : GName → ℕ → ℕ → Fml
-tickets γ k zero = ftrue
-tickets γ k (suc n) = fsep (ticket γ k) (tickets γ (suc k) n)
+-- The place k that holds c: the word and the ticket, or nothing.
+abbrev pub place_owns : Home → ℕ → Option ℕ → Fml
+place_owns h k None = ftrue
+place_owns h k (Some x) = fsep (word_lies h k x) (ticket h.name k)
 
--- The words ws lie at p.
-abbrev pub words_own : Ptr → List ℕ → Fml
-words_own p ws = lies_at (Array u64 (length ws)) full_share p ws
+-- A `&` to that place shows the word.
+abbrev pub place_lent : Home → ℕ → Option ℕ → Lft → Fml
+place_lent h k None = nothing
+place_lent h k (Some x) = shared_of u64 x (block_of h.at) (count_of h.at + k * 8)
 
--- The way back to the value `whole` of an allocation, for whoever brings n words at p.
-abbrev pub way_back : Ptr → ℕ → (List ℕ → Fml) → Fml
-way_back p n whole = fall (List ℕ) (λ ws. fwand (fsep (feq ℕ (length ws) n) (words_own p ws)) (whole ws))
+-- The n places from k on, of those that hold ps.
+abbrev pub places_own : Home → Places → ℕ → ℕ → Fml
+places_own h ps = span (λ k. place_owns h k (place ps k))
 
--- Where an allocation begins, and how many words it has.
-pub record Extent : Type 0 where
-  pub ptr : Ptr
-  pub len : ℕ
+-- The tickets of n places from k on.
+abbrev pub tickets : Home → ℕ → ℕ → Fml
+tickets h = span (ticket h.name)
 
--- How the logic stores one: as a pair.
-abbrev pub extent_code : Coded Extent
-extent_code = code_by (Ptr × ℕ) (coded× coded_ptr coded_ℕ) (λ e. (e.ptr, e.len)) (λ p. record { ptr = p.0; len = p.1 }) (λ _. refl)
+-- The words ws lie at p, one after the other.
+abbrev pub run_at : Ptr → List ℕ → Fml
+run_at p ws = lies_at (Array u64 (length ws)) full_share p ws

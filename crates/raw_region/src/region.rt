@@ -1,12 +1,11 @@
 ghost use Rattle.std.specs.Prelude.{◌≡◌, ℕ, ◌+◌, ◌<◌, ◌≤◌, length, replicate, slice_set, IfOk, IsSome};
 ghost use Rattle.raw_region.specs.Places.{Region, Cut, place, held, out, with_run, words_at, cut_of, AreHeld, AreOut, AreApart};
 
-use crate::allocation::{Allocation, attach, detach};
+use crate::allocation::{Allocation, part, reunite};
 use crate::block::Block;
 use crate::holding::Holding;
 use std::alloc::{AllocError, Allocator, Global};
 use std::marker::Model;
-use std::mem;
 
 /// Words in one allocation. It ends by `close`, and each Block that was cut out of it by `home`.
 pub struct RawRegion<A: Allocator = Global> {
@@ -19,7 +18,7 @@ pub struct RawRegion<A: Allocator = Global> {
 impl<A: Allocator> Model for RawRegion<A> {
     ghost use Rattle.std.specs.Prelude.{◌≡◌, ◌<◌, ◌≤◌, length};
     ghost use Rattle.raw_region.specs.Places.{Region, region_code};
-    ghost use Rattle.raw_region.specs.Ownership.{IsPlaced};
+    ghost use denote.RawPtr.{InBlock};
 
     ghost Value = { Region };
 
@@ -27,9 +26,8 @@ impl<A: Allocator> Model for RawRegion<A> {
 
     ghost view = { λ r. record { home = r.holding.home; places = r.holding.places } };
 
-    ghost invariant = { λ r. (r.holding.home.at ≡ r.base) × (r.holding.home.size ≡ r.size) × IsPlaced r.base
-        × (r.allocation.ptr ≡ r.base) × (r.allocation.len ≡ r.size) × (length r.holding.places ≡ r.size)
-        × (0 < r.size) × (r.size ≤ 33554432) };
+    ghost invariant = { λ r. (r.holding.home ≡ r.allocation) × (r.allocation.at ≡ r.base) × InBlock r.base
+        × (r.allocation.size ≡ r.size) × (length r.holding.places ≡ r.size) × (0 < r.size) × (r.size ≤ 33554432) };
 }
 
 impl<A: Allocator> RawRegion<A> {
@@ -45,7 +43,7 @@ impl<A: Allocator> RawRegion<A> {
     {
         let mut zeros = Vec::from_elem(alloc, 0u64, words)?;
         let base = zeros.as_mut_ptr();
-        let (holding, allocation) = detach(zeros);
+        let (holding, allocation) = part(zeros);
         Ok(RawRegion {
             base,
             size: words,
@@ -68,10 +66,9 @@ impl<A: Allocator> RawRegion<A> {
         ensures home { self.new.home ≡ self.old.home }
         ensures places { self.new.places ≡ slice_set self.old.places i (Some word) }
     {
-        let holding = mem::replace(&mut self.holding, Holding::none());
-        let (rest, claim, mut words) = holding.carve(self.base, i, 1);
+        let (claim, mut words) = self.holding.lend_out(self.base, i, 1);
         words[0] = word;
-        self.holding = rest.merge(claim, words);
+        self.holding.take_back(claim, words);
     }
 
     /// Takes `len` words, at least one, out from the place `start` on. None of them is in a Block.
@@ -81,9 +78,7 @@ impl<A: Allocator> RawRegion<A> {
         ensures places { self.new.places ≡ with_run self.old.places start (out len) }
         ensures block { result ≡ cut_of self.old start len }
     {
-        let holding = mem::replace(&mut self.holding, Holding::none());
-        let (rest, claim, words) = holding.carve(self.base, start, len);
-        self.holding = rest;
+        let (claim, words) = self.holding.lend_out(self.base, start, len);
         Block {
             words,
             start,
@@ -104,8 +99,7 @@ impl<A: Allocator> RawRegion<A> {
             start: _,
             claim,
         } = block;
-        let holding = mem::replace(&mut self.holding, Holding::none());
-        self.holding = holding.merge(claim, words);
+        self.holding.take_back(claim, words);
     }
 
     /// Brings two Blocks back. They share no place, however they came about.
@@ -131,6 +125,6 @@ impl<A: Allocator> RawRegion<A> {
             holding,
             allocation,
         } = self;
-        drop(attach(holding, allocation));
+        drop(reunite(holding, allocation));
     }
 }

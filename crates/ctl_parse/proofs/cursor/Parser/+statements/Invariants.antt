@@ -81,6 +81,9 @@ decreases-declared l = l.self.now.left * 9 + 6
 abbrev pub decreases-in_block : goal.decreases-in_block
 decreases-in_block l = l.self.now.left * 9 + 7
 
+abbrev pub decreases-repeated : goal.decreases-repeated
+decreases-repeated l = l.self.now.left * 9 + 6
+
 abbrev pub decreases-in_repetition : goal.decreases-in_repetition
 decreases-in_repetition l = l.self.now.left * 9 + 7
 

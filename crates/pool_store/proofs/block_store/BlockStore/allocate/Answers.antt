@@ -47,7 +47,7 @@ pub returns-in_err-allocate-clause-err : goal.returns-in_err-allocate-clause-err
 returns-in_err-allocate-clause-err g c =
     let s = c.self.inside in
     let same = ap (insert s.blocks.values c.args.pool) c.in_err-allocate.ensures.err ∙ insert_same s.blocks.values c.args.pool c.in-Some.area.now (sym c.in-Some.ensures.value) in
-    on_err c.from_residual.result _ (ap (λ b. let r : Store = record { objects = mapped (stored_in b) s.objects.values; blocks = mapped pool_of b; given = s.given; marks = empty; opened = []; numbered = 0 } in r) same ∙ c.self.view_is)
+    on_err c.from_residual.result _ (ap (λ b. let r : Store = record { objects = mapped (stored_in b) s.objects.values; blocks = mapped pool_of b; given = s.given; marks = empty; opened = []; next_subpool = 1 } in r) same ∙ c.self.view_is)
 
 pub invariant_of-self-2 : goal.invariant_of-self-2
 invariant_of-self-2 g c =
@@ -78,9 +78,9 @@ returns-clause-ok g c =
     let is = ap (insert s.blocks.values p) c.in_ok-allocate.ensures.ok in
     let objects = ap (λ x. mapped (stored_in x) s.objects.values) is ∙ all_seen s.objects.values s.blocks.values (insert s.blocks.values p new) sp c.self.invariant.tied in
     let pools = ap (mapped pool_of) is ∙ mapped_changed pool_of s.blocks.values p b new (store.with_block_out a) there (out_seen b a) in
-    let old : Store = record { objects = mapped (stored_in s.blocks.values) s.objects.values; blocks = mapped pool_of s.blocks.values; given = s.given; marks = empty; opened = []; numbered = 0 } in
-    let after : record { objects = mapped (stored_in (insert s.blocks.values p c.allocate.new.self)) s.objects.values; blocks = mapped pool_of (insert s.blocks.values p c.allocate.new.self); given = a; marks = empty; opened = []; numbered = 0 } ≡ store.take_block p old =
-    λ i. record { objects = objects i; blocks = pools i; given = a; marks = empty; opened = []; numbered = 0 } in (
+    let old : Store = record { objects = mapped (stored_in s.blocks.values) s.objects.values; blocks = mapped pool_of s.blocks.values; given = s.given; marks = empty; opened = []; next_subpool = 1 } in
+    let after : record { objects = mapped (stored_in (insert s.blocks.values p c.allocate.new.self)) s.objects.values; blocks = mapped pool_of (insert s.blocks.values p c.allocate.new.self); given = a; marks = empty; opened = []; next_subpool = 1 } ≡ store.take_block p old =
+    λ i. record { objects = objects i; blocks = pools i; given = a; marks = empty; opened = []; next_subpool = 1 } in (
       sym c.is_exhausted.ensures ∙ c.if-is_exhausted.false,
       ap (λ v. v.given + 1) c.self.view_is,
       after ∙ ap (store.take_block p) c.self.view_is,

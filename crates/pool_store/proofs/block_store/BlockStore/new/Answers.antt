@@ -20,4 +20,4 @@ pub returns : goal.returns
 returns g c =
     let o = ap (mapped (stored_in c.new-2.result.values)) c.new.ensures.values ∙ mapped_none (stored_in c.new-2.result.values) in
     let b = ap (mapped pool_of) c.new-2.ensures.values ∙ mapped_none pool_of in
-    λ i. record { objects = o i; blocks = b i; given = 0; marks = empty; opened = []; numbered = 0 }
+    λ i. record { objects = o i; blocks = b i; given = 0; marks = empty; opened = []; next_subpool = 1 }

@@ -41,7 +41,7 @@ returns-clause-ok g c =
     let pool : pool_of new ≡ record { size = c.args.units; free = c.args.count; out = empty } =
     ap pool_of c.in_ok-area.ensures ∙ (λ i. let e = mapped_none holder_of in record { size = c.args.units; free = c.args.count; out = e i }) in
     let pools = ap (mapped pool_of) e ∙ mapped_put pool_of blocks p new ∙ ap (insert (mapped pool_of blocks) p) pool in
-    let after : record { objects = mapped (stored_in c.put_new.new.self.values) s.objects.values; blocks = mapped pool_of c.put_new.new.self.values; given = s.given; marks = empty; opened = []; numbered = 0 }
-    ≡ store.with_pool p c.args.units c.args.count (record { objects = mapped (stored_in blocks) s.objects.values; blocks = mapped pool_of blocks; given = s.given; marks = empty; opened = []; numbered = 0 }) =
-    λ i. record { objects = objects i; blocks = pools i; given = s.given; marks = empty; opened = []; numbered = 0 } in
+    let after : record { objects = mapped (stored_in c.put_new.new.self.values) s.objects.values; blocks = mapped pool_of c.put_new.new.self.values; given = s.given; marks = empty; opened = []; next_subpool = 1 }
+    ≡ store.with_pool p c.args.units c.args.count (record { objects = mapped (stored_in blocks) s.objects.values; blocks = mapped pool_of blocks; given = s.given; marks = empty; opened = []; next_subpool = 1 }) =
+    λ i. record { objects = objects i; blocks = pools i; given = s.given; marks = empty; opened = []; next_subpool = 1 } in
     after ∙ ap (λ v. store.with_pool p c.args.units c.args.count v) c.self.view_is

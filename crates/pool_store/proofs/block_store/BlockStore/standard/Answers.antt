@@ -26,5 +26,5 @@ returns-clause-ok g c =
     let e = c.put.ensures.values ∙ ap (λ t. insert t n (Standard c.in_ok-words.words)) c.reserve.ensures.values in
     let seen = ap (mapped (stored_in blocks)) e ∙ put_seen s.objects.values blocks blocks n (Standard c.in_ok-words.words) (spares_same (Other n) blocks) c.self.invariant.tied
     ∙ ap (λ ws. insert (mapped (stored_in blocks) s.objects.values) n (let r : Stored = record { spot = None; site = None; words = ws } in r)) c.in_ok-words.ensures in
-    ap (λ o. let r : Store = record { objects = o; blocks = mapped pool_of blocks; given = s.given; marks = empty; opened = []; numbered = 0 } in r) seen
+    ap (λ o. let r : Store = record { objects = o; blocks = mapped pool_of blocks; given = s.given; marks = empty; opened = []; next_subpool = 1 } in r) seen
     ∙ ap (λ v. store.with_object n c.args.words v) c.self.view_is

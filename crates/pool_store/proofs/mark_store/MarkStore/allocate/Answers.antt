@@ -1,4 +1,4 @@
-use Rattle.std.proofs.Common.{◌≡◌, ℕ, ◌/◌, Bool, Some, true, false, length, sym, ap, subst, ◌∙◌}
+use Rattle.std.proofs.Common.{◌+◌, ◌≡◌, ℕ, ◌/◌, Bool, Some, true, false, length, sym, ap, subst, ◌∙◌}
 use Rattle.std.specs.Prelude.{Result, Ok, Err, OnErr}
 use Rattle.std.specs.Option.{option_map_or}
 use Rattle.std.specs.FinMap.{get, insert}
@@ -54,16 +54,16 @@ invariant_of-self-in_err-index g c =
     let s = c.self.inside in
     let p = c.args.pool in
     let same = ap (insert s.pools.values p) c.in_err-index.ensures.err ∙ insert_same s.pools.values p c.in-Some-get_mut.area.now (sym c.in-Some-get_mut.ensures.value) in
-    subst (λ t. Places t (insert s.pools.values p c.allocate.new.self) s.numbered) (sym c.reserve.ensures.values)
-    (subst (λ t. Places s.cells.values t s.numbered) (sym same) c.self.invariant)
+    subst (λ t. Places t (insert s.pools.values p c.allocate.new.self) (s.numbered + 1)) (sym c.reserve.ensures.values)
+    (subst (λ t. Places s.cells.values t (s.numbered + 1)) (sym same) c.self.invariant)
 
 pub returns-in_err-index-clause-err : goal.returns-in_err-index-clause-err
 returns-in_err-index-clause-err g c =
     let s = c.self.inside in
     let p = c.args.pool in
     let same = ap (insert s.pools.values p) c.in_err-index.ensures.err ∙ insert_same s.pools.values p c.in-Some-get_mut.area.now (sym c.in-Some-get_mut.ensures.value) in
-    on_err c.from_residual-in_err-index.result _ (ap (λ t. seen t (insert s.pools.values p c.allocate.new.self) s.opened.items s.numbered) c.reserve.ensures.values
-    ∙ ap (λ t. seen s.cells.values t s.opened.items s.numbered) same ∙ c.self.view_is)
+    on_err c.from_residual-in_err-index.result _ (ap (λ t. seen t (insert s.pools.values p c.allocate.new.self) s.opened.items (s.numbered + 1)) c.reserve.ensures.values
+    ∙ ap (λ t. seen s.cells.values t s.opened.items (s.numbered + 1)) same ∙ c.self.view_is)
 
 pub invariant_of-self-2 : goal.invariant_of-self-2
 invariant_of-self-2 g c =
@@ -79,9 +79,9 @@ invariant_of-self-2 g c =
     let end : i ≡ length row.0.blocks = c.in_ok-index.ensures.ok.0 ∙ ap (λ o. option_map_or (λ (x : Seen). length x.blocks) o 0) row.1 in
     let cell : Cell = record { pool = a.pool; subpool = n; index = i } in
     let put = c.put.ensures.values ∙ ap (λ t. insert t a.object cell) c.reserve.ensures.values in
-    subst (λ t. Places t (insert s.pools.values a.pool c.allocate.new.self) s.numbered) (sym put)
-    (subst (λ (b : Subpools). Places (insert s.cells.values a.object cell) (insert s.pools.values a.pool b) s.numbered) (sym c.in_ok-index.ensures.ok.1)
-    (new_places s.cells.values s.pools.values s.opened.items s.numbered c.self.invariant a.pool n a.object (a.units / 8) i d row.0 there row.1 row.2 end))
+    subst (λ t. Places t (insert s.pools.values a.pool c.allocate.new.self) (s.numbered + 1)) (sym put)
+    (subst (λ (b : Subpools). Places (insert s.cells.values a.object cell) (insert s.pools.values a.pool b) (s.numbered + 1)) (sym c.in_ok-index.ensures.ok.1)
+    (new_places s.cells.values s.pools.values s.opened.items (s.numbered + 1) c.self.invariant a.pool n a.object (a.units / 8) i d row.0 there row.1 row.2 end))
 
 pub returns-clause-ok : goal.returns-clause-ok
 returns-clause-ok g c =
@@ -98,8 +98,8 @@ returns-clause-ok g c =
     let cell : Cell = record { pool = a.pool; subpool = n; index = i } in
     let put = c.put.ensures.values ∙ ap (λ t. insert t a.object cell) c.reserve.ensures.values in (
       sym c.refusal.ensures ∙ c.in_default.is,
-      ap (λ t. seen t (insert s.pools.values a.pool c.allocate.new.self) s.opened.items s.numbered) put
-          ∙ ap (λ (b : Subpools). seen (insert s.cells.values a.object cell) (insert s.pools.values a.pool b) s.opened.items s.numbered) c.in_ok-index.ensures.ok.1
-          ∙ new_seen s.cells.values s.pools.values s.opened.items s.numbered c.self.invariant a.pool n a.object (a.units / 8) i d row.0 there row.1 row.2 end
+      ap (λ t. seen t (insert s.pools.values a.pool c.allocate.new.self) s.opened.items (s.numbered + 1)) put
+          ∙ ap (λ (b : Subpools). seen (insert s.cells.values a.object cell) (insert s.pools.values a.pool b) s.opened.items (s.numbered + 1)) c.in_ok-index.ensures.ok.1
+          ∙ new_seen s.cells.values s.pools.values s.opened.items (s.numbered + 1) c.self.invariant a.pool n a.object (a.units / 8) i d row.0 there row.1 row.2 end
           ∙ ap (store.hold_in n a.pool a.object (a.units / 8)) c.self.view_is,
     )

@@ -34,7 +34,7 @@ pub invariant_of-self : goal.invariant_of-self
 invariant_of-self g c =
     let s = c.self.inside in
     let d : Subpools = c.in-Some.area.now in
-    let n = s.numbered in
+    let n = (s.numbered + 1) in
     subst (λ (b : Subpools). Places s.cells.values (insert s.pools.values c.args.pool b) (n + 1)) (sym c.create.ensures)
     (edited_places s.cells.values s.pools.values s.opened.items n c.self.invariant c.args.pool (n + 1) d (area.with_subpool n d) (marks.with_subpool n) (sym c.in-Some.ensures.value)
     (keeps_pushed n d) (omega arith) (omega arith) (pushed_shown n d))
@@ -43,9 +43,9 @@ pub returns-clause-ok : goal.returns-clause-ok
 returns-clause-ok g c =
     let s = c.self.inside in
     let d : Subpools = c.in-Some.area.now in
-    let n = s.numbered in (
+    let n = (s.numbered + 1) in (
       sym c.is_full.ensures ∙ c.if-is_full.false,
-      ap (λ v. v.numbered) c.self.view_is,
+      ap (λ v. v.next_subpool) c.self.view_is,
       ap (λ (b : Subpools). seen s.cells.values (insert s.pools.values c.args.pool b) s.opened.items (n + 1)) c.create.ensures
           ∙ edited_seen s.cells.values s.pools.values s.opened.items n c.self.invariant c.args.pool (n + 1) d (area.with_subpool n d) (marks.with_subpool n) (sym c.in-Some.ensures.value)
           (keeps_pushed n d) (omega arith) (omega arith) (pushed_shown n d)

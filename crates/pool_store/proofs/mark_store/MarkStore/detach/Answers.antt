@@ -1,4 +1,4 @@
-use Rattle.std.proofs.Common.{◌≡◌, Some, true, false, refl, sym, ap, subst, ◌∙◌, if◌then◌else◌, arith}
+use Rattle.std.proofs.Common.{◌+◌, ◌≡◌, Some, true, false, refl, sym, ap, subst, ◌∙◌, if◌then◌else◌, arith}
 use Rattle.std.specs.Option.{option_map_or}
 use Rattle.std.specs.FinMap.{insert}
 use Rattle.pool_area.specs.declared.subpool.Standing.TheVariants.{Detached}
@@ -30,9 +30,9 @@ invariant_of-self g c =
     let n = c.args.subpool in
     let p = c.in-Some.pool in
     let there = sym c.in-Some-get_mut.ensures.value in
-    subst (λ (b : Subpools). Places s.cells.values (insert s.pools.values p b) s.numbered) (sym c.set_standing.ensures)
-    (edited_places s.cells.values s.pools.values s.opened.items s.numbered c.self.invariant p s.numbered d (area.with_standing n Detached d) (marks.with_standing n Detached) there
-    (keeps_standing n Detached d refl) (omega arith) (below_of s.numbered p s.pools.values d c.self.invariant.numbers there) (standing_shown n Detached d))
+    subst (λ (b : Subpools). Places s.cells.values (insert s.pools.values p b) (s.numbered + 1)) (sym c.set_standing.ensures)
+    (edited_places s.cells.values s.pools.values s.opened.items (s.numbered + 1) c.self.invariant p (s.numbered + 1) d (area.with_standing n Detached d) (marks.with_standing n Detached) there
+    (keeps_standing n Detached d refl) (omega arith) (below_of (s.numbered + 1) p s.pools.values d c.self.invariant.numbers there) (standing_shown n Detached d))
 
 pub returns-clause-store : goal.returns-clause-store
 returns-clause-store g c =
@@ -44,9 +44,9 @@ returns-clause-store g c =
     let there = sym c.in-Some-get_mut.ensures.value in
     let pool : store.pool_with n old ≡ Some p = sym c.pool_with.ensures ∙ c.in-Some.is in
     let attached : store.is_attached n old ≡ true = ap (λ o. option_map_or (λ q. store.belongs_to n q old) o false) pool ∙ sym c.belongs.ensures ∙ c.if-not-belongs.false in
-    ap (λ (b : Subpools). seen s.cells.values (insert s.pools.values p b) s.opened.items s.numbered) c.set_standing.ensures
-    ∙ edited_seen s.cells.values s.pools.values s.opened.items s.numbered c.self.invariant p s.numbered d (area.with_standing n Detached d) (marks.with_standing n Detached) there
-    (keeps_standing n Detached d refl) (omega arith) (below_of s.numbered p s.pools.values d c.self.invariant.numbers there) (standing_shown n Detached d)
+    ap (λ (b : Subpools). seen s.cells.values (insert s.pools.values p b) s.opened.items (s.numbered + 1)) c.set_standing.ensures
+    ∙ edited_seen s.cells.values s.pools.values s.opened.items (s.numbered + 1) c.self.invariant p (s.numbered + 1) d (area.with_standing n Detached d) (marks.with_standing n Detached) there
+    (keeps_standing n Detached d refl) (omega arith) (below_of (s.numbered + 1) p s.pools.values d c.self.invariant.numbers there) (standing_shown n Detached d)
     ∙ ap (store.change_marks p (marks.with_standing n Detached)) c.self.view_is
     ∙ sym (ap (λ o. option_map_or (λ q. store.change_marks q (marks.with_standing n Detached) old) o old) pool)
     ∙ sym (ap (λ t. let r : Store = if t then store.detached n old else old in r) attached)

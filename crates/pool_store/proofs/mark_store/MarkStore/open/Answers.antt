@@ -18,7 +18,7 @@ invariant_of-self-2 g c =
     let p = c.args.pool in
     let none = not_marked s.pools.values p (ap (λ v. get v.marks p) c.self.view_is ∙ c.requires.new) in
     let e = c.put_new.ensures.values ∙ ap (λ t. insert t p c.in_ok-area.area) c.reserve.ensures.values ∙ ap (insert s.pools.values p) c.in_ok-area.ensures in
-    subst (λ t. Places s.cells.values t (s.numbered + 1)) (sym e) (opened_places s.cells.values s.pools.values s.opened.items s.numbered c.self.invariant p c.args.units none)
+    subst (λ t. Places s.cells.values t (s.numbered + 1 + 1)) (sym e) (opened_places s.cells.values s.pools.values s.opened.items (s.numbered + 1) c.self.invariant p c.args.units none)
 
 pub returns-clause-ok : goal.returns-clause-ok
 returns-clause-ok g c =
@@ -26,9 +26,9 @@ returns-clause-ok g c =
     let p = c.args.pool in
     let none = not_marked s.pools.values p (ap (λ v. get v.marks p) c.self.view_is ∙ c.requires.new) in
     let e = c.put_new.ensures.values ∙ ap (λ t. insert t p c.in_ok-area.area) c.reserve.ensures.values ∙ ap (insert s.pools.values p) c.in_ok-area.ensures in (
-      ap (λ v. v.numbered) c.self.view_is,
-      ap (λ t. seen s.cells.values t c.push_reserved.new.self.items (s.numbered + 1)) e
-          ∙ ap (λ l. seen s.cells.values (insert s.pools.values p (area.new_area c.args.units s.numbered)) l (s.numbered + 1)) (c.push_reserved.ensures.items ∙ ap (λ l. l ++ p ∷ []) c.in_ok-reserve-2.ensures.items)
-          ∙ opened_seen s.cells.values s.pools.values s.opened.items s.numbered c.self.invariant p c.args.units none
+      ap (λ v. v.next_subpool) c.self.view_is,
+      ap (λ t. seen s.cells.values t c.push_reserved.new.self.items (s.numbered + 1 + 1)) e
+          ∙ ap (λ l. seen s.cells.values (insert s.pools.values p (area.new_area c.args.units (s.numbered + 1))) l (s.numbered + 1 + 1)) (c.push_reserved.ensures.items ∙ ap (λ l. l ++ p ∷ []) c.in_ok-reserve-2.ensures.items)
+          ∙ opened_seen s.cells.values s.pools.values s.opened.items (s.numbered + 1) c.self.invariant p c.args.units none
           ∙ ap (store.with_mark_pool p c.args.units) c.self.view_is,
     )

@@ -31,10 +31,10 @@ invariant_of-self g c =
     let p = c.in-Some.pool in
     let a : Subpools = c.in-Some-get_mut.area.now in
     let there = sym c.in-Some-get_mut.ensures.value in
-    let given : (after_release n s.numbered a).given ≡ s.numbered = ap (λ (q : Subpools). q.given) (sym c.release-last.ensures.area) ∙ sym c.given.ensures ∙ c.if-given-number.true in
-    subst (λ (t : Cells). Places t (insert s.pools.values p c.release-last.new.self) (s.numbered + 1)) (sym c.forget_subpool.ensures)
-    (subst (λ (b : Subpools). Places (kept (is_out_of_subpool p n) s.cells.values) (insert s.pools.values p b) (s.numbered + 1)) (sym c.release-last.ensures.area)
-    (released_places s.cells.values s.pools.values s.opened.items s.numbered c.self.invariant p n a there (s.numbered + 1) (omega arith) (omega arith)))
+    let given : (after_release n (s.numbered + 1) a).given ≡ (s.numbered + 1) = ap (λ (q : Subpools). q.given) (sym c.release-last.ensures.area) ∙ sym c.given.ensures ∙ c.if-given-number.true in
+    subst (λ (t : Cells). Places t (insert s.pools.values p c.release-last.new.self) (s.numbered + 1 + 1)) (sym c.forget_subpool.ensures)
+    (subst (λ (b : Subpools). Places (kept (is_out_of_subpool p n) s.cells.values) (insert s.pools.values p b) (s.numbered + 1 + 1)) (sym c.release-last.ensures.area)
+    (released_places s.cells.values s.pools.values s.opened.items (s.numbered + 1) c.self.invariant p n a there (s.numbered + 1 + 1) (omega arith) (omega arith)))
 
 pub invariant_of-self-else-given-number : goal.invariant_of-self-else-given-number
 invariant_of-self-else-given-number g c =
@@ -43,11 +43,11 @@ invariant_of-self-else-given-number g c =
     let p = c.in-Some.pool in
     let a : Subpools = c.in-Some-get_mut.area.now in
     let there = sym c.in-Some-get_mut.ensures.value in
-    let below = below_of s.numbered p s.pools.values a c.self.invariant.numbers there in
-    let given = ne_eqb (after_release n s.numbered a).given s.numbered (λ e. c.if-given-number.false (c.given.ensures ∙ ap (λ (q : Subpools). q.given) c.release-last.ensures.area ∙ e)) in
-    subst (λ (t : Cells). Places t (insert s.pools.values p c.release-last.new.self) s.numbered) (sym c.forget_subpool.ensures)
-    (subst (λ (b : Subpools). Places (kept (is_out_of_subpool p n) s.cells.values) (insert s.pools.values p b) s.numbered) (sym c.release-last.ensures.area)
-    (released_places s.cells.values s.pools.values s.opened.items s.numbered c.self.invariant p n a there s.numbered (omega arith) (given_below n s.numbered a below given)))
+    let below = below_of (s.numbered + 1) p s.pools.values a c.self.invariant.numbers there in
+    let given = ne_eqb (after_release n (s.numbered + 1) a).given (s.numbered + 1) (λ e. c.if-given-number.false (c.given.ensures ∙ ap (λ (q : Subpools). q.given) c.release-last.ensures.area ∙ e)) in
+    subst (λ (t : Cells). Places t (insert s.pools.values p c.release-last.new.self) (s.numbered + 1)) (sym c.forget_subpool.ensures)
+    (subst (λ (b : Subpools). Places (kept (is_out_of_subpool p n) s.cells.values) (insert s.pools.values p b) (s.numbered + 1)) (sym c.release-last.ensures.area)
+    (released_places s.cells.values s.pools.values s.opened.items (s.numbered + 1) c.self.invariant p n a there (s.numbered + 1) (omega arith) (given_below n (s.numbered + 1) a below given)))
 
 pub returns-then-given-number-clause-last : goal.returns-then-given-number-clause-last
 returns-then-given-number-clause-last g c =
@@ -82,13 +82,13 @@ returns-then-given-number-clause-store g c =
     let old : Store = c.args.self.now in
     let pool : store.pool_with n old ≡ Some p = sym c.pool_with.ensures ∙ c.in-Some.is in
     let there = sym c.in-Some-get_mut.ensures.value in
-    let below = below_of s.numbered p s.pools.values a c.self.invariant.numbers there in
-    let given = eq-eqb (after_release n s.numbered a).given s.numbered (ap (λ (q : Subpools). q.given) (sym c.release-last.ensures.area) ∙ sym c.given.ensures ∙ c.if-given-number.true) in
-    let renewed : marks.is_renewed_by n (mark_of a) ≡ true = sym (renewed_is n s.numbered a below) ∙ given in
-    let end : s.numbered + 1 ≡ s.numbered + cond (marks.is_renewed_by n (mark_of a)) 1 0 = (let e : s.numbered + 1 ≡ s.numbered + cond true 1 0 = omega arith in e) ∙ sym (ap (λ t. s.numbered + cond t 1 0) renewed) in
-    ap (λ (t : Cells). seen t (insert s.pools.values p c.release-last.new.self) s.opened.items (s.numbered + 1)) c.forget_subpool.ensures
-    ∙ ap (λ (b : Subpools). seen (kept (is_out_of_subpool p n) s.cells.values) (insert s.pools.values p b) s.opened.items (s.numbered + 1)) c.release-last.ensures.area
-    ∙ released_seen s.cells.values s.pools.values s.opened.items s.numbered c.self.invariant p n a there (s.numbered + 1) end
+    let below = below_of (s.numbered + 1) p s.pools.values a c.self.invariant.numbers there in
+    let given = eq-eqb (after_release n (s.numbered + 1) a).given (s.numbered + 1) (ap (λ (q : Subpools). q.given) (sym c.release-last.ensures.area) ∙ sym c.given.ensures ∙ c.if-given-number.true) in
+    let renewed : marks.is_renewed_by n (mark_of a) ≡ true = sym (renewed_is n (s.numbered + 1) a below) ∙ given in
+    let end : (s.numbered + 1) + 1 ≡ (s.numbered + 1) + cond (marks.is_renewed_by n (mark_of a)) 1 0 = (let e : (s.numbered + 1) + 1 ≡ (s.numbered + 1) + cond true 1 0 = omega arith in e) ∙ sym (ap (λ t. (s.numbered + 1) + cond t 1 0) renewed) in
+    ap (λ (t : Cells). seen t (insert s.pools.values p c.release-last.new.self) s.opened.items (s.numbered + 1 + 1)) c.forget_subpool.ensures
+    ∙ ap (λ (b : Subpools). seen (kept (is_out_of_subpool p n) s.cells.values) (insert s.pools.values p b) s.opened.items (s.numbered + 1 + 1)) c.release-last.ensures.area
+    ∙ released_seen s.cells.values s.pools.values s.opened.items (s.numbered + 1) c.self.invariant p n a there (s.numbered + 1 + 1) end
     ∙ ap (store.released_in p n) c.self.view_is
     ∙ sym (ap (λ o. option_map_or (λ q. store.released_in q n old) o old) pool)
 
@@ -101,12 +101,12 @@ returns-else-given-number-clause-store g c =
     let old : Store = c.args.self.now in
     let pool : store.pool_with n old ≡ Some p = sym c.pool_with.ensures ∙ c.in-Some.is in
     let there = sym c.in-Some-get_mut.ensures.value in
-    let below = below_of s.numbered p s.pools.values a c.self.invariant.numbers there in
-    let given = ne_eqb (after_release n s.numbered a).given s.numbered (λ e. c.if-given-number.false (c.given.ensures ∙ ap (λ (q : Subpools). q.given) c.release-last.ensures.area ∙ e)) in
-    let renewed : marks.is_renewed_by n (mark_of a) ≡ false = sym (renewed_is n s.numbered a below) ∙ given in
-    let end : s.numbered ≡ s.numbered + cond (marks.is_renewed_by n (mark_of a)) 1 0 = (let e : s.numbered ≡ s.numbered + cond false 1 0 = omega arith in e) ∙ sym (ap (λ t. s.numbered + cond t 1 0) renewed) in
-    ap (λ (t : Cells). seen t (insert s.pools.values p c.release-last.new.self) s.opened.items (s.numbered)) c.forget_subpool.ensures
-    ∙ ap (λ (b : Subpools). seen (kept (is_out_of_subpool p n) s.cells.values) (insert s.pools.values p b) s.opened.items (s.numbered)) c.release-last.ensures.area
-    ∙ released_seen s.cells.values s.pools.values s.opened.items s.numbered c.self.invariant p n a there (s.numbered) end
+    let below = below_of (s.numbered + 1) p s.pools.values a c.self.invariant.numbers there in
+    let given = ne_eqb (after_release n (s.numbered + 1) a).given (s.numbered + 1) (λ e. c.if-given-number.false (c.given.ensures ∙ ap (λ (q : Subpools). q.given) c.release-last.ensures.area ∙ e)) in
+    let renewed : marks.is_renewed_by n (mark_of a) ≡ false = sym (renewed_is n (s.numbered + 1) a below) ∙ given in
+    let end : (s.numbered + 1) ≡ (s.numbered + 1) + cond (marks.is_renewed_by n (mark_of a)) 1 0 = (let e : (s.numbered + 1) ≡ (s.numbered + 1) + cond false 1 0 = omega arith in e) ∙ sym (ap (λ t. (s.numbered + 1) + cond t 1 0) renewed) in
+    ap (λ (t : Cells). seen t (insert s.pools.values p c.release-last.new.self) s.opened.items ((s.numbered + 1))) c.forget_subpool.ensures
+    ∙ ap (λ (b : Subpools). seen (kept (is_out_of_subpool p n) s.cells.values) (insert s.pools.values p b) s.opened.items ((s.numbered + 1))) c.release-last.ensures.area
+    ∙ released_seen s.cells.values s.pools.values s.opened.items (s.numbered + 1) c.self.invariant p n a there ((s.numbered + 1)) end
     ∙ ap (store.released_in p n) c.self.view_is
     ∙ sym (ap (λ o. option_map_or (λ q. store.released_in q n old) o old) pool)

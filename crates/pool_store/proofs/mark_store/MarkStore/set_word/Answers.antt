@@ -1,4 +1,4 @@
-use Rattle.std.proofs.Common.{◌≡◌, ℕ, ◌<◌, length, List, [], Option, refl, sym, ap, subst, ◌∙◌, arith}
+use Rattle.std.proofs.Common.{◌+◌, ◌≡◌, ℕ, ◌<◌, length, List, [], Option, refl, sym, ap, subst, ◌∙◌, arith}
 use Rattle.std.specs.Prelude.{slice_set}
 use Rattle.std.specs.Option.{option_map_or}
 use Rattle.std.specs.FinMap.{insert}
@@ -18,7 +18,7 @@ pub unreachable-requires : goal.unreachable-requires
 unreachable-requires g c =
     let s = c.self.inside in
     let none : store.words_of c.args.object c.args.self.now ≡ [] =
-    ap (store.words_of c.args.object) (sym c.self.view_is) ∙ ap words (none_stored s.cells.values s.pools.values s.opened.items s.numbered c.self.invariant c.args.object (sym c.in_default.ensures)) in
+    ap (store.words_of c.args.object) (sym c.self.view_is) ∙ ap words (none_stored s.cells.values s.pools.values s.opened.items (s.numbered + 1) c.self.invariant c.args.object (sym c.in_default.ensures)) in
     let long : length (store.words_of c.args.object c.args.self.now) ≡ 0 = ap length none in
     omega arith
 
@@ -26,15 +26,15 @@ pub set_word-requires : goal.set_word-requires
 set_word-requires g c =
     let s = c.self.inside in
     subst (λ (l : List ℕ). c.args.place < length l) (ap (store.words_of c.args.object) (sym c.self.view_is)
-    ∙ words_here s.cells.values s.pools.values s.opened.items s.numbered c.self.invariant c.args.object c.in-Some.cell.now (sym c.in-Some.ensures) c.in-Some-get_mut.area.now (sym c.in-Some-get_mut.ensures.value)) c.requires
+    ∙ words_here s.cells.values s.pools.values s.opened.items (s.numbered + 1) c.self.invariant c.args.object c.in-Some.cell.now (sym c.in-Some.ensures) c.in-Some-get_mut.area.now (sym c.in-Some-get_mut.ensures.value)) c.requires
 
 pub invariant_of-self : goal.invariant_of-self
 invariant_of-self g c =
     let s = c.self.inside in
     let a = c.args in
     let x = c.in-Some.cell.now in
-    subst (λ (d : Subpools). Places s.cells.values (insert s.pools.values x.pool d) s.numbered) (sym c.set_word.ensures)
-    (written_places s.cells.values s.pools.values s.opened.items s.numbered c.self.invariant a.object x (sym c.in-Some.ensures) c.in-Some-get_mut.area.now (sym c.in-Some-get_mut.ensures.value)
+    subst (λ (d : Subpools). Places s.cells.values (insert s.pools.values x.pool d) (s.numbered + 1)) (sym c.set_word.ensures)
+    (written_places s.cells.values s.pools.values s.opened.items (s.numbered + 1) c.self.invariant a.object x (sym c.in-Some.ensures) c.in-Some-get_mut.area.now (sym c.in-Some-get_mut.ensures.value)
     (with_word a.place a.value) (λ (l : List ℕ). slice_set l a.place a.value) (λ h. refl) (λ h. refl))
 
 pub returns : goal.returns
@@ -42,7 +42,7 @@ returns g c =
     let s = c.self.inside in
     let a = c.args in
     let x = c.in-Some.cell.now in
-    ap (λ (d : Subpools). seen s.cells.values (insert s.pools.values x.pool d) s.opened.items s.numbered) c.set_word.ensures
-    ∙ written_seen s.cells.values s.pools.values s.opened.items s.numbered c.self.invariant a.object x (sym c.in-Some.ensures) c.in-Some-get_mut.area.now (sym c.in-Some-get_mut.ensures.value)
+    ap (λ (d : Subpools). seen s.cells.values (insert s.pools.values x.pool d) s.opened.items (s.numbered + 1)) c.set_word.ensures
+    ∙ written_seen s.cells.values s.pools.values s.opened.items (s.numbered + 1) c.self.invariant a.object x (sym c.in-Some.ensures) c.in-Some-get_mut.area.now (sym c.in-Some-get_mut.ensures.value)
     (with_word a.place a.value) (λ (l : List ℕ). slice_set l a.place a.value) (λ h. refl) (λ h. refl)
     ∙ ap (store.with_word a.object a.place a.value) c.self.view_is

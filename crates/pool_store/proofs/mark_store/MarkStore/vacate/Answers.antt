@@ -1,4 +1,4 @@
-use Rattle.std.proofs.Common.{Option, None, sym, ap, subst, ◌∙◌}
+use Rattle.std.proofs.Common.{◌+◌, Option, None, sym, ap, subst, ◌∙◌}
 use Rattle.std.specs.Option.{option_map_or}
 use Rattle.std.specs.FinMap.{insert}
 use Rattle.pool_area.specs.Subpools.{Subpools}
@@ -25,48 +25,48 @@ spot o = option_map_or (λ x. x.spot) o None
 pub invariant_of-self : goal.invariant_of-self
 invariant_of-self g c =
     let s = c.self.inside in
-    subst (λ t. Places t s.pools.values s.numbered) (sym c.in_default.ensures.values) (none_places s.cells.values s.pools.values s.opened.items s.numbered c.self.invariant c.args.object)
+    subst (λ t. Places t s.pools.values (s.numbered + 1)) (sym c.in_default.ensures.values) (none_places s.cells.values s.pools.values s.opened.items (s.numbered + 1) c.self.invariant c.args.object)
 
 pub returns-in_default-clause-result : goal.returns-in_default-clause-result
 returns-in_default-clause-result g c =
     let s = c.self.inside in
-    sym (ap left (none_stored s.cells.values s.pools.values s.opened.items s.numbered c.self.invariant c.args.object (sym c.in_default.ensures.value))) ∙ ap (store.vacated c.args.object) c.self.view_is
+    sym (ap left (none_stored s.cells.values s.pools.values s.opened.items (s.numbered + 1) c.self.invariant c.args.object (sym c.in_default.ensures.value))) ∙ ap (store.vacated c.args.object) c.self.view_is
 
 pub returns-in_default-clause-spot : goal.returns-in_default-clause-spot
 returns-in_default-clause-spot g c =
     let s = c.self.inside in
-    ap (store.spot_of c.args.object) (sym c.self.view_is) ∙ ap spot (none_stored s.cells.values s.pools.values s.opened.items s.numbered c.self.invariant c.args.object (sym c.in_default.ensures.value))
+    ap (store.spot_of c.args.object) (sym c.self.view_is) ∙ ap spot (none_stored s.cells.values s.pools.values s.opened.items (s.numbered + 1) c.self.invariant c.args.object (sym c.in_default.ensures.value))
 
 pub returns-in_default-clause-store : goal.returns-in_default-clause-store
 returns-in_default-clause-store g c =
     let s = c.self.inside in
-    ap (λ t. seen t s.pools.values s.opened.items s.numbered) c.in_default.ensures.values
-    ∙ none_seen s.cells.values s.pools.values s.opened.items s.numbered c.self.invariant c.args.object (sym c.in_default.ensures.value)
+    ap (λ t. seen t s.pools.values s.opened.items (s.numbered + 1)) c.in_default.ensures.values
+    ∙ none_seen s.cells.values s.pools.values s.opened.items (s.numbered + 1) c.self.invariant c.args.object (sym c.in_default.ensures.value)
     ∙ ap (store.without_object c.args.object) c.self.view_is
 
 pub invariant_of-self-2 : goal.invariant_of-self-2
 invariant_of-self-2 g c =
     let s = c.self.inside in
     let x = c.in-Some.cell in
-    subst (λ t. Places t (insert s.pools.values x.pool c.vacate.new.self) s.numbered) (sym c.in-Some.ensures.values)
-    (subst (λ (d : Subpools). Places (remove s.cells.values c.args.object) (insert s.pools.values x.pool d) s.numbered) (sym c.vacate.ensures)
-    (left_places s.cells.values s.pools.values s.opened.items s.numbered c.self.invariant c.args.object x (sym c.in-Some.ensures.value) c.in-Some-get_mut.area.now (sym c.in-Some-get_mut.ensures.value)))
+    subst (λ t. Places t (insert s.pools.values x.pool c.vacate.new.self) (s.numbered + 1)) (sym c.in-Some.ensures.values)
+    (subst (λ (d : Subpools). Places (remove s.cells.values c.args.object) (insert s.pools.values x.pool d) (s.numbered + 1)) (sym c.vacate.ensures)
+    (left_places s.cells.values s.pools.values s.opened.items (s.numbered + 1) c.self.invariant c.args.object x (sym c.in-Some.ensures.value) c.in-Some-get_mut.area.now (sym c.in-Some-get_mut.ensures.value)))
 
 pub returns-clause-result : goal.returns-clause-result
 returns-clause-result g c =
     let s = c.self.inside in
-    sym (ap left (stored_here s.cells.values s.pools.values s.opened.items s.numbered c.self.invariant c.args.object c.in-Some.cell (sym c.in-Some.ensures.value))) ∙ ap (store.vacated c.args.object) c.self.view_is
+    sym (ap left (stored_here s.cells.values s.pools.values s.opened.items (s.numbered + 1) c.self.invariant c.args.object c.in-Some.cell (sym c.in-Some.ensures.value))) ∙ ap (store.vacated c.args.object) c.self.view_is
 
 pub returns-clause-spot : goal.returns-clause-spot
 returns-clause-spot g c =
     let s = c.self.inside in
-    ap (store.spot_of c.args.object) (sym c.self.view_is) ∙ ap spot (stored_here s.cells.values s.pools.values s.opened.items s.numbered c.self.invariant c.args.object c.in-Some.cell (sym c.in-Some.ensures.value))
+    ap (store.spot_of c.args.object) (sym c.self.view_is) ∙ ap spot (stored_here s.cells.values s.pools.values s.opened.items (s.numbered + 1) c.self.invariant c.args.object c.in-Some.cell (sym c.in-Some.ensures.value))
 
 pub returns-clause-store : goal.returns-clause-store
 returns-clause-store g c =
     let s = c.self.inside in
     let x = c.in-Some.cell in
-    ap (λ t. seen t (insert s.pools.values x.pool c.vacate.new.self) s.opened.items s.numbered) c.in-Some.ensures.values
-    ∙ ap (λ (d : Subpools). seen (remove s.cells.values c.args.object) (insert s.pools.values x.pool d) s.opened.items s.numbered) c.vacate.ensures
-    ∙ left_seen s.cells.values s.pools.values s.opened.items s.numbered c.self.invariant c.args.object x (sym c.in-Some.ensures.value) c.in-Some-get_mut.area.now (sym c.in-Some-get_mut.ensures.value)
+    ap (λ t. seen t (insert s.pools.values x.pool c.vacate.new.self) s.opened.items (s.numbered + 1)) c.in-Some.ensures.values
+    ∙ ap (λ (d : Subpools). seen (remove s.cells.values c.args.object) (insert s.pools.values x.pool d) s.opened.items (s.numbered + 1)) c.vacate.ensures
+    ∙ left_seen s.cells.values s.pools.values s.opened.items (s.numbered + 1) c.self.invariant c.args.object x (sym c.in-Some.ensures.value) c.in-Some-get_mut.area.now (sym c.in-Some-get_mut.ensures.value)
     ∙ ap (store.without_object c.args.object) c.self.view_is

@@ -3,6 +3,7 @@ use Rattle.pool_store.specs.Joined.{side_by_side, AreApart}
 use Rattle.pool_store.specs.Store as store
 use Rattle.pool_store.specs.Store.{Store}
 use Rattle.pool_store.proofs.Sides.{not_left, not_right, less_left, less_right, less_drop, without_left, without_right, vacated_left, vacated_right}
+use Rattle.pool_store.proofs.Vacated.{vacated_or_kept}
 use Rattle.pool_store.proofs.store.PoolStore.vacate.Goals as goal
 
 pub invariant_of-self : goal.invariant_of-self
@@ -42,3 +43,15 @@ returns-else-is_held-clause-store g c =
     let n = c.args.object in
     let none = not_right s.marks.objects n (sym c.is_held.ensures ∙ c.if-is_held.false) in
     ap (λ a. side_by_side a s.marks) c.vacate-else-is_held.ensures.store ∙ without_left s.blocks s.marks n none ∙ ap (store.without_object n) c.self.view_is
+
+pub returns-then-is_held-clause-err : goal.returns-then-is_held-clause-err
+returns-then-is_held-clause-err g c =
+    let answer = returns-then-is_held-clause-result g c in
+    let after = returns-then-is_held-clause-store g c in
+    vacated_or_kept c.args.object c.args.self.now _ c.vacate.result answer after
+
+pub returns-else-is_held-clause-err : goal.returns-else-is_held-clause-err
+returns-else-is_held-clause-err g c =
+    let answer = returns-else-is_held-clause-result g c in
+    let after = returns-else-is_held-clause-store g c in
+    vacated_or_kept c.args.object c.args.self.now _ c.vacate-else-is_held.result answer after

@@ -1,0 +1,142 @@
+-- What a name denotes, and how its value is read and written.
+use Rattle.std.specs.Prelude.{ℕ, zero, suc, ◌+◌, List, [], ◌∷◌, ◌++◌, drop, Option, Some, None, Bool, false, ◌&&◌, nat_eq, slice_get}
+use Rattle.ctl_program.specs.declared.types.Ty.{Ty}
+use Rattle.ctl_program.specs.declared.types.Var.{Var}
+use Rattle.ctl_program.specs.declared.expression.Step.{Step}
+use Rattle.ctl_program.specs.declared.expression.Step.TheVariants.{Component, Dereference, Narrow}
+use Rattle.ctl_tree.specs.declared.ending.Stop.TheVariants.{UseAfterFree}
+use Rattle.ctl_meaning_plain.specs.World.{Object, Slot, Holds, Binds, Copies, World}
+use Rattle.ctl_meaning_plain.specs.Lists.{item_or, same_list}
+use Rattle.ctl_meaning_plain.specs.Activations.{master_of, slot_in}
+use Rattle.ctl_meaning_plain.specs.Objects.{first_cells, cells_at, overwritten}
+use Rattle.ctl_meaning_plain.specs.Changes.{object_at, write_cells, set_slot}
+use Rattle.ctl_meaning_plain.specs.Choice.{Ask}
+use Rattle.ctl_meaning_plain.specs.Outcome.{constraint_error, Act, Done, ◌>>=◌, ◌>>◌, done, nothing, raise, stop, ticked, look, change, either, on_some}
+use Rattle.ctl_meaning_plain.specs.Types.{Tables, placed, offset_in, record_of, descends}
+
+-- what is run where a display is seen: a user's body with the slots of its formals, which takes one from the clock, or an allocator with
+-- its handle and its value, which has taken one
+pub data Execution : Type 0 where
+  OfSubprogram : (number : ℕ) (actuals : List Slot) → Execution
+  OfAllocator : (access : ℕ) (ty : Ty) (handle value : Option (List ℕ)) → Execution
+
+-- the value that an execution gives, and what its slots held when it was left
+pub record Returned : Type 0 where
+  pub cells : List ℕ
+  pub slots : List Slot
+
+abbrev pub Call : Type 0
+Call = Execution → List ℕ → Act Returned
+
+-- the value of the default expression of a component: by its record type and its position, where a display is seen
+abbrev pub Default : Type 0
+Default = ℕ → ℕ → List ℕ → Act (List ℕ)
+
+-- what everything is done with: the answers to choices, the tables, the executions, and the default expressions
+pub record Tools : Type 0 where
+  pub ask : Ask
+  pub tables : Tables
+  pub call : Call
+  pub default : Default
+
+-- Objects that must exist ------------------------------------------------------
+
+-- use of what has ceased to exist (13.11.2)
+unfoldable pub gone : {A : Type 0} → Act A
+gone = stop UseAfterFree
+
+unfoldable pub existing : {A : Type 0} → ℕ → (Object → Act A) → Act A
+existing n f = look (λ w. on_some (object_at n w) gone f)
+
+unfoldable pub must_exist : ℕ → Act Done
+must_exist n = existing n (λ o. nothing)
+
+unfoldable pub read_part : ℕ → ℕ → ℕ → Act (List ℕ)
+read_part n offset count = existing n (λ o. done (cells_at offset count o))
+
+unfoldable pub write_part : ℕ → ℕ → List ℕ → Act Done
+write_part n offset v = existing n (λ o. change (write_cells n offset v))
+
+-- What a name denotes ------------------------------------------------------------
+
+-- a part of an object, cells of a copy, or a value alone
+pub data Found : Type 0 where
+  InObject : (object offset : ℕ) (path : List ℕ) → Found
+  InCopy : (master slot offset : ℕ) → Found
+  Alone : (cells : List ℕ) → Found
+
+unfoldable pub copy_in : Slot → List ℕ
+copy_in (Copies v) = v
+copy_in _ = []
+
+-- the first cell of a value
+unfoldable pub scalar_of : List ℕ → ℕ
+scalar_of v = item_or 0 (slice_get v 0)
+
+unfoldable pub slot_at : ℕ → ℕ → World → Slot
+slot_at m i w = slot_in m i w.activations
+
+-- n cells; one that is not there counts as 0
+unfoldable pub read_found : ℕ → Found → Act (List ℕ)
+read_found n (InObject o offset path) = read_part o offset n
+read_found n (InCopy m i offset) = look (λ w. done (first_cells n (drop offset (copy_in (slot_at m i w)))))
+read_found n (Alone v) = done (first_cells n v)
+
+unfoldable pub write_found : Found → List ℕ → Act Done
+write_found (InObject o offset path) v = write_part o offset v
+write_found (InCopy m i offset) v = look (λ w. change (set_slot m i (Copies (overwritten offset v (copy_in (slot_at m i w))))))
+write_found (Alone x) v = nothing
+
+unfoldable pub found_in : ℕ → ℕ → Slot → Found
+found_in m i (Holds o) = InObject o 0 []
+found_in m i (Binds o offset path) = InObject o offset path
+found_in m i _ = InCopy m i 0
+
+-- a use, where a display is seen
+unfoldable pub find_var : List ℕ → Var → Act Found
+find_var env v = look (λ w. done (found_in (master_of env v) v.slot (slot_at (master_of env v) v.slot w)))
+
+unfoldable pub object_of : Found → ℕ
+object_of (InObject o offset path) = o
+object_of _ = 0
+
+-- whether both are one part of one object
+unfoldable pub same_found : Found → Found → Bool
+same_found (InObject o offset path) (InObject p other way) = nat_eq o p && same_list path way
+same_found _ _ = false
+
+-- Selectors and dereferences ------------------------------------------------------
+
+unfoldable pub moved : ℕ → ℕ → Found → Found
+moved offset position (InObject o at path) = InObject o (at + offset) (path ++ position ∷ [])
+moved offset position (InCopy m i at) = InCopy m i (at + offset)
+moved offset position (Alone v) = Alone (drop offset v)
+
+-- an access value's object: Constraint_Error where it is null (4.1), a stop where the object is gone
+unfoldable pub dereferenced : ℕ → Act Found
+dereferenced zero = raise constraint_error
+dereferenced (suc n) = must_exist (suc n) >> done (InObject (suc n) 0 [])
+
+-- the view as a descendant: Constraint_Error where the object's own type is neither this one nor a descendant (4.6)
+unfoldable pub narrowed : Tools → ℕ → Found → Act Found
+narrowed k t f = existing (object_of f) (λ o. either (descends k.tables t (record_of o.ty)) (done f) (raise constraint_error))
+
+unfoldable pub one_step : Tools → Step → Found → Act Found
+one_step k (Component t position) f = done (moved (offset_in position (placed k.tables t)) position f)
+one_step k (Narrow t) f = narrowed k t f
+one_step k Dereference f = read_found 1 f >>= (λ v. dereferenced (scalar_of v))
+
+-- each part of a name is a tick
+unfoldable pub walk : Tools → List Step → Found → Act Found
+walk k [] f = done f
+walk k (s ∷ ss) f = ticked (one_step k s f) >>= walk k ss
+
+-- a cell, or Constraint_Error
+unfoldable pub or_constraint_error : Option ℕ → Act (List ℕ)
+or_constraint_error None = raise constraint_error
+or_constraint_error (Some n) = done (n ∷ [])
+
+-- everything here, opened at once
+unfoldable pub opened_names : Unit {0}
+unfolding gone existing must_exist read_part write_part copy_in scalar_of slot_at read_found write_found found_in find_var object_of same_found moved dereferenced narrowed one_step walk or_constraint_error
+opened_names = tt

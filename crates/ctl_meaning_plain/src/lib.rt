@@ -1,0 +1,4 @@
+//! What a program means, and what holds of every run.
+#![tactic(auto)]
+
+pub mod laws;

@@ -1,0 +1,13 @@
+//! Tests of the crates that scan, parse, hold the code, run it and show the run, each through its public calls.
+#![tactic(auto)]
+
+#[cfg(test)]
+mod code;
+#[cfg(test)]
+mod lex;
+#[cfg(test)]
+mod machine;
+#[cfg(test)]
+mod parse;
+#[cfg(test)]
+mod text;

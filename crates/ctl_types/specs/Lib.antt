@@ -1,0 +1,4 @@
+pub mod Faults
+pub mod Judgement
+pub mod Lookup
+pub mod Typing

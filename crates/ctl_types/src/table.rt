@@ -1,0 +1,123 @@
+//! What the check knows of the declarations in view, and the tables of types, subprograms and exceptions.
+
+use ctl_program::types::{Operations, Root, Ty, Var};
+use ctl_syntax::item::{Aliasing, Coverage, Generality, Limitation, Mode};
+use ctl_tree::text::Text;
+use sqlite_items::Items;
+
+/// The numbers of the record types of the library, which stand first in the table (RM 7.6, 13.11).
+pub const CONTROLLED: usize = 0;
+
+pub const LIMITED_CONTROLLED: usize = 1;
+
+pub const BLOCK_POOL: usize = 2;
+
+pub const MARK_RELEASE_POOL: usize = 3;
+
+/// Whether an object may be assigned to by this name (RM 3.3, 6.2).
+#[derive(Clone, Copy, Debug, PartialEq, Eq)]
+pub enum Mutability {
+    Variable,
+    /// a constant, a parameter of mode `in`, a loop parameter
+    Constant,
+}
+
+/// A declared object, a formal or a loop parameter.
+#[derive(Clone, Copy, Debug, PartialEq, Eq)]
+pub struct ObjectEntry {
+    pub ty: Ty,
+    pub var: Var,
+    pub mutability: Mutability,
+    pub aliasing: Aliasing,
+}
+
+/// A formal parameter of a subprogram (RM 6.1).
+#[derive(Clone, Copy, Debug, PartialEq, Eq)]
+pub struct FormalEntry {
+    pub mode: Mode,
+    pub ty: Ty,
+}
+
+/// A subprogram: its number among those of the program, its formals and its result.
+#[derive(Drop)]
+pub struct Profile {
+    pub subprogram: usize,
+    pub formals: Items<FormalEntry>,
+    pub result: Option<Ty>,
+}
+
+/// What a declaration in view declares, by its number.
+#[derive(Drop)]
+pub enum Entry {
+    /// a type that is complete
+    Type(Ty),
+    /// a type of which the full declaration has not come yet
+    Incomplete,
+    Object(ObjectEntry),
+    Subprogram(Profile),
+    /// an instance of Ada.Unchecked_Deallocation, by the number of its access type
+    Deallocation(usize),
+    /// an exception, by its number
+    Exception(usize),
+    /// a declaration that breaks a rule: nothing is known of it
+    Unknown,
+}
+
+/// A component of a record type: its name, its position, from 1 and with the inherited ones first, and its type (RM 3.8).
+#[derive(Drop)]
+pub struct ComponentEntry {
+    pub name: Text,
+    pub position: usize,
+    pub ty: Ty,
+}
+
+/// A record type.
+#[derive(Drop)]
+pub struct RecordEntry {
+    pub level: usize,
+    pub root: Root,
+    pub limitation: Limitation,
+    /// whether an object of the type can be declared: Controlled and Limited_Controlled are abstract (RM 3.9.3)
+    pub concreteness: Concreteness,
+    pub parent: Option<usize>,
+    /// the components that it does not inherit
+    pub own: Items<ComponentEntry>,
+    /// how many components it has, with the inherited ones
+    pub count: usize,
+    pub operations: Operations,
+}
+
+/// Whether objects of a type can be declared and allocated (RM 3.9.3).
+#[derive(Clone, Copy, Debug, PartialEq, Eq)]
+pub enum Concreteness {
+    Abstract,
+    Concrete,
+}
+
+/// What an access type designates (RM 3.10, 3.10.1).
+#[derive(Clone, Copy, Debug, PartialEq, Eq)]
+pub enum Designated {
+    Known(Ty),
+    /// a type of which the full declaration has not come yet, by the number of its declaration
+    Awaited(usize),
+}
+
+/// An access type.
+#[derive(Clone, Copy, Debug, PartialEq, Eq)]
+pub struct AccessEntry {
+    pub level: usize,
+    pub generality: Generality,
+    pub coverage: Coverage,
+    pub designated: Designated,
+    pub collection: Var,
+    /// the pool object, and the record type that it is of
+    pub pool: Option<(Var, usize)>,
+}
+
+/// What is known at some place of the text: the declarations in view, and all types so far.
+#[derive(Drop)]
+pub struct Tables {
+    pub entries: Items<Entry>,
+    pub records: Items<RecordEntry>,
+    pub accesses: Items<AccessEntry>,
+}

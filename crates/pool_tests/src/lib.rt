@@ -1,0 +1,13 @@
+//! Tests of the pools and of the finalization lists, by their public calls.
+#![tactic(auto)]
+
+#[cfg(test)]
+mod areas;
+#[cfg(test)]
+mod blocks;
+#[cfg(test)]
+mod finalization;
+#[cfg(test)]
+mod marks;
+#[cfg(test)]
+mod stores;

@@ -1,0 +1,310 @@
+//! Whole texts: their traces, and their faults with the places.
+
+use ctl_run::run::{check_source, run_source};
+use ctl_text::{output_text, trace_text};
+use ctl_tree::ending::End;
+use ctl_tree::request::Order;
+use std::alloc::Global;
+use std::process::Abort;
+use std::test::Fail;
+
+/// Nothing is declared, and nothing shown.
+const EMPTY: &[u8] = b"procedure Main is begin null; end Main;";
+
+/// Two objects of a block, of types whose Finalize prints; the second type's Initialize prints too.
+const TWO_OBJECTS: &[u8] =
+    b"with Ada.Finalization; use Ada.Finalization; with Ada.Text_IO; use Ada.Text_IO; procedure Main is type A is new Controlled with null record; type B is new Controlled with null record; overriding procedure Finalize (X : in out A); overriding procedure Initialize (X : in out B); overriding procedure Finalize (X : in out B); procedure Finalize (X : in out A) is begin Put_Line (\"a\"); end Finalize; procedure Initialize (X : in out B) is begin Put_Line (\"i\"); end Initialize; procedure Finalize (X : in out B) is begin Put_Line (\"b\"); end Finalize; begin declare V : A; W : B; begin Put_Line (\"in\"); end; Put_Line (\"out\"); end Main;";
+
+const TWO_OBJECTS_TRACE: &str =
+    "live 1 m2\ninitialize 2\nprint i\nnewline\nlive 2 m2\nprint in\nnewline\nfinalize 2 scope\nprint b\nnewline\nfinalize 1 scope\nprint a\nnewline\nprint out\nnewline\nend done\n";
+
+/// A Finalize that declares an object of its own type never comes to its end.
+const ENDLESS: &[u8] =
+    b"with Ada.Finalization; use Ada.Finalization; with Ada.Text_IO; use Ada.Text_IO; procedure Main is type A is new Controlled with null record; overriding procedure Finalize (X : in out A); procedure Finalize (X : in out A) is V : A; begin Put (\"x\"); end Finalize; V : A; begin null; end Main;";
+
+/// An exit statement leaves a loop, and two blocks in it (RM 5.7, 7.6.1).
+const EXIT: &[u8] =
+    b"with Ada.Finalization; use Ada.Finalization; with Ada.Text_IO; use Ada.Text_IO; procedure Main is type A is new Controlled with null record; overriding procedure Finalize (X : in out A); procedure Finalize (X : in out A) is begin Put_Line (\"a\"); end Finalize; begin loop declare V : A; begin declare W : A; begin exit; end; end; end loop; Put_Line (\"out\"); end Main;";
+
+const EXIT_TRACE: &str =
+    "live 1 m2\nlive 2 m3\nfinalize 2 scope\nprint a\nnewline\nfinalize 1 scope\nprint a\nnewline\nprint out\nnewline\nend done\n";
+
+/// A sum beyond Integer'Last raises Constraint_Error, which leaves the main procedure (RM 3.5.4, 4.5.3).
+const OVERFLOW: &[u8] =
+    b"with Ada.Finalization; use Ada.Finalization; with Ada.Text_IO; use Ada.Text_IO; procedure Main is type A is new Controlled with null record; overriding procedure Finalize (X : in out A); procedure Finalize (X : in out A) is begin Put_Line (\"a\"); end Finalize; V : A; N : Integer := Integer'Last; begin N := N + 1; Put_Line (\"no\"); end Main;";
+
+const OVERFLOW_TRACE: &str =
+    "live 1 m1\nfinalize 1 scope\nprint a\nnewline\nend raised Constraint_Error\n";
+
+/// The bounds of a loop are evaluated once, and `mod` has the sign of the right operand (RM 5.5, 4.5.5).
+const COUNTED: &[u8] =
+    b"with Ada.Text_IO; use Ada.Text_IO; procedure Main is N : Integer := 2; begin for I in reverse 1 .. N loop N := 5; Put (Integer'Image (I) & Boolean'Image (I > 1) & Integer'Image ((-7) mod N)); end loop; end Main;";
+
+const COUNTED_TRACE: &str = "print  2TRUE 3\nprint  1FALSE 3\nend done\n";
+
+/// Division by zero raises Constraint_Error (RM 4.5.5).
+const ZERO_DIVISOR: &[u8] = b"procedure Main is X : Integer := 0; begin X := 1 / X; end Main;";
+
+/// Sums under an `if`, and a loop that is left behind it; the signs of `/`, `rem` and `mod`, the image of Integer'First, and at last an
+/// overflow (RM 3.5.4, 4.5.5, 5.7).
+const NUMBERS: &[u8] =
+    b"with Ada.Text_IO; use Ada.Text_IO; procedure Main is S : Integer := 0; begin for I in 1 .. 10 loop if I rem 2 = 0 then S := S + I; end if; exit when S > 11; end loop; Put_Line (\"S\" & Integer'Image (S)); Put_Line (\"q\" & Integer'Image (-7 / 2)); Put_Line (\"r\" & Integer'Image ((-7) rem 2)); Put_Line (\"m\" & Integer'Image ((-7) mod 2)); Put_Line (\"l\" & Integer'Image (-2147483647 - 1)); S := 2147483647 + 1; end Main;";
+
+const NUMBERS_TRACE: &str =
+    "print S 12\nnewline\nprint q-3\nnewline\nprint r-1\nnewline\nprint m 1\nnewline\nprint l-2147483648\nnewline\nend raised Constraint_Error\n";
+
+/// An exit statement leaves two blocks, whose objects are of two types: the inner object goes first (RM 5.7, 7.6.1).
+const EXIT_OF_TWO: &[u8] =
+    b"with Ada.Finalization; use Ada.Finalization; with Ada.Text_IO; use Ada.Text_IO; procedure Main is type A is new Controlled with null record; type B is new Controlled with null record; overriding procedure Finalize (X : in out A); overriding procedure Initialize (X : in out B); overriding procedure Finalize (X : in out B); procedure Finalize (X : in out A) is begin Put_Line (\"a\"); end Finalize; procedure Initialize (X : in out B) is begin Put_Line (\"i\"); end Initialize; procedure Finalize (X : in out B) is begin Put_Line (\"b\"); end Finalize; begin loop declare V : A; begin declare W : B; begin exit; end; end; end loop; Put_Line (\"out\"); end Main;";
+
+const EXIT_OF_TWO_TRACE: &str =
+    "live 1 m2\ninitialize 2\nprint i\nnewline\nlive 2 m3\nfinalize 2 scope\nprint b\nnewline\nfinalize 1 scope\nprint a\nnewline\nprint out\nnewline\nend done\n";
+
+/// A loop without an end.
+const TURNS: &[u8] = b"procedure Main is begin loop null; end loop; end Main;";
+
+/// A loop without an end that prints a line in each turn.
+const LINES: &[u8] =
+    b"with Ada.Text_IO; use Ada.Text_IO; procedure Main is begin loop Put_Line (\"x\"); end loop; end Main;";
+
+#[test]
+fn traces_of_runs(rt: HostRuntime) -> Result<(), Fail> {
+    let alloc = rt.alloc();
+    for (source, steps, wanted) in [
+        (EMPTY, 1000, "end done\n"),
+        (EMPTY, 0, "end limit\n"),
+        (TWO_OBJECTS, 1000, TWO_OBJECTS_TRACE),
+        (ENDLESS, 5, "live 1 m1\nend limit\n"),
+        (EXIT, 1000, EXIT_TRACE),
+        (OVERFLOW, 1000, OVERFLOW_TRACE),
+        (COUNTED, 1000, COUNTED_TRACE),
+        (ZERO_DIVISOR, 1000, "end raised Constraint_Error\n"),
+        (NUMBERS, 1000, NUMBERS_TRACE),
+        (EXIT_OF_TWO, 1000, EXIT_OF_TWO_TRACE),
+        (TURNS, 100, "end limit\n"),
+    ] {
+        let outcome = run_source(alloc, source, Order::Newest, steps).map_err(|_| "refused")?;
+        let text = trace_text(alloc, &outcome.events, &outcome.end)?;
+        let shown = String::from_utf8(text).map_err(|_| "no text")?;
+        assert_eq!(rt; shown.as_str(), wanted);
+    }
+    Ok(())
+}
+
+#[test]
+fn a_run_at_its_limit_has_printed_a_prefix(rt: HostRuntime) -> Result<(), Fail> {
+    let alloc = rt.alloc();
+    let outcome = run_source(alloc, LINES, Order::Newest, 100).map_err(|_| "refused")?;
+    assert!(rt; matches!(&outcome.end, End::StepLimit));
+    let shown = output_text(alloc, &outcome.events)?;
+    let mut lines: Vec<u8> = Vec::new(alloc);
+    for _line in 0..100 {
+        lines.extend_from_slice(b"x\n")?;
+    }
+    assert!(rt; shown.as_slice().starts_with(b"x\nx\n"));
+    assert!(rt; lines.as_slice().starts_with(shown.as_slice()));
+    Ok(())
+}
+
+#[test]
+fn faults_of_texts(rt: HostRuntime) -> Result<(), Fail> {
+    for (source, wanted) in [
+        (b"".as_slice(), "1:1: 10 UNEXPECTED"),
+        (
+            b"procedure Main is begin null; end Main",
+            "1:39: 10 UNEXPECTED",
+        ),
+        (
+            b"procedure Main is task T; begin null; end Main;",
+            "1:19: 12 LEFT_OUT",
+        ),
+        (
+            b"procedure Main is type R is record N : Integer; end record; begin null; end Main;",
+            "1:19: 12 LEFT_OUT",
+        ),
+        // a rule on names is judged before a construct is left out, wherever they stand
+        (
+            b"procedure Main is begin begin Put_Line (\"x\"); end; end Main;",
+            "1:31: 20 UNKNOWN",
+        ),
+        (
+            b"procedure Main is type R is record N : Integer; end record; begin X := 1; end Main;",
+            "1:67: 20 UNKNOWN",
+        ),
+        (
+            b"procedure Main is X, X : Integer; begin null; end Main;",
+            "1:22: 21 DUPLICATE",
+        ),
+        (
+            b"procedure Main is begin Ada.Text_IO.New_Line; end Main;",
+            "1:25: 25 NOT_WITHED",
+        ),
+    ] {
+        refused(&rt, rt.alloc(), source, wanted)?;
+    }
+    Ok(())
+}
+
+/// The text is refused with this fault.
+fn refused(rt: &impl Abort, alloc: Global, source: &[u8], wanted: &str) -> Result<(), Fail> {
+    match check_source(alloc, source) {
+        Ok(_) => Err("accepted".into()),
+        Err(fault) => {
+            let shown = fault.to_string(alloc)?;
+            assert_eq!(rt; shown.as_str(), wanted);
+            Ok(())
+        }
+    }
+}
+
+#[test]
+fn faults_of_types(rt: HostRuntime) -> Result<(), Fail> {
+    for (source, wanted) in [
+        // the innermost wrong expression, or the place of another type
+        (
+            b"procedure Main is N : Integer; begin N := True; end Main;".as_slice(),
+            "1:43: 30 TYPE",
+        ),
+        (
+            b"procedure Main is X : Boolean := 1; Y : Integer := 2147483648; begin null; end Main;",
+            "1:34: 30 TYPE",
+        ),
+        (
+            b"procedure Main is N : Integer := 1 + True; begin null; end Main;",
+            "1:38: 30 TYPE",
+        ),
+        (
+            b"procedure Main is N : Integer := (True) + 1; begin null; end Main;",
+            "1:35: 30 TYPE",
+        ),
+        (
+            b"procedure Main is N : Integer := (1 + 2) * (3 - (True)); begin null; end Main;",
+            "1:50: 30 TYPE",
+        ),
+        (
+            b"procedure Main is B : Boolean := not 1; begin null; end Main;",
+            "1:38: 30 TYPE",
+        ),
+        (
+            b"procedure Main is B : Boolean := 1 < True; begin null; end Main;",
+            "1:38: 30 TYPE",
+        ),
+        (
+            b"procedure Main is B : Boolean := True and 1 < 2 + True; begin null; end Main;",
+            "1:51: 30 TYPE",
+        ),
+        (
+            b"procedure Main is B : Boolean := 1 + 2; begin null; end Main;",
+            "1:34: 30 TYPE",
+        ),
+        (
+            b"procedure Main is N : Integer := -True; begin null; end Main;",
+            "1:35: 30 TYPE",
+        ),
+        (
+            b"procedure Main is N : Integer := \"a\"; begin null; end Main;",
+            "1:34: 30 TYPE",
+        ),
+        (
+            b"procedure Main is N : Integer; begin if N then null; end if; end Main;",
+            "1:41: 30 TYPE",
+        ),
+        (
+            b"procedure Main is begin while 1 loop null; end loop; end Main;",
+            "1:31: 30 TYPE",
+        ),
+        (
+            b"procedure Main is begin for I in 1 .. True loop null; end loop; end Main;",
+            "1:39: 30 TYPE",
+        ),
+        (
+            b"procedure Main is begin loop exit when 1; end loop; end Main;",
+            "1:40: 30 TYPE",
+        ),
+        // a literal
+        (
+            b"procedure Main is N : Integer := 2147483648; begin null; end Main;",
+            "1:34: 34 RANGE",
+        ),
+        (
+            b"procedure Main is B : Boolean := 1 < (2 + 2147483648); begin null; end Main;",
+            "1:43: 34 RANGE",
+        ),
+        // what is no variable, before its value
+        (
+            b"procedure Main is K : constant Integer := 1; begin K := True; end Main;",
+            "1:52: 31 MODE",
+        ),
+        (
+            b"procedure Main is begin for I in 1 .. 2 loop I := 1; end loop; end Main;",
+            "1:46: 31 MODE",
+        ),
+        (
+            b"procedure Main is N : Integer; begin Main := N; end Main;",
+            "1:38: 30 TYPE",
+        ),
+        // declarations of objects
+        (
+            b"procedure Main is N : Integer; K, L : constant Integer; begin null; end Main;",
+            "1:32: 30 TYPE",
+        ),
+        (
+            b"procedure Main is A, Adjust : Integer := True; begin null; end Main;",
+            "1:22: 33 OVERRIDE",
+        ),
+        (
+            b"procedure Main is N : Integer; X : Main; begin null; end Main;",
+            "1:32: 30 TYPE",
+        ),
+        // an exit in no loop, before its condition
+        (
+            b"procedure Main is begin if True then exit when 1; end if; end Main;",
+            "1:38: 35 RETURN",
+        ),
+        // strings, and calls that print them
+        (
+            b"with Ada.Text_IO; use Ada.Text_IO; procedure Main is begin Put (1); end Main;",
+            "1:65: 30 TYPE",
+        ),
+        (
+            b"with Ada.Text_IO; use Ada.Text_IO; procedure Main is begin Put (1 + True); end Main;",
+            "1:69: 30 TYPE",
+        ),
+        (
+            b"with Ada.Text_IO; use Ada.Text_IO; procedure Main is begin Put_Line (\"a\" & 1 & \"b\"); end Main;",
+            "1:76: 30 TYPE",
+        ),
+        (
+            b"with Ada.Text_IO; use Ada.Text_IO; procedure Main is begin Put_Line (\"a\" & (\"b\" & Integer'Image (True))); end Main;",
+            "1:98: 30 TYPE",
+        ),
+        (
+            b"with Ada.Text_IO; use Ada.Text_IO; procedure Main is begin Put (\"a\", \"b\"); end Main;",
+            "1:60: 30 TYPE",
+        ),
+        (
+            b"with Ada.Text_IO; use Ada.Text_IO; procedure Main is begin null; New_Line (1); end Main;",
+            "1:66: 30 TYPE",
+        ),
+        // operations, and the names that are theirs
+        (
+            b"procedure Finalize is begin null; end Finalize;",
+            "1:11: 33 OVERRIDE",
+        ),
+        (
+            b"with Ada.Finalization; use Ada.Finalization; procedure Main is type Initialize is new Controlled with null record; begin null; end Main;",
+            "1:69: 33 OVERRIDE",
+        ),
+        (
+            b"with Ada.Finalization; use Ada.Finalization; procedure Main is type T is new Controlled with null record; procedure Finalize (X : T); procedure Finalize (X : T) is begin null; end Finalize; begin null; end Main;",
+            "1:117: 33 OVERRIDE",
+        ),
+        (
+            b"with Ada.Finalization; use Ada.Finalization; procedure Main is type T is new Controlled with null record; overriding procedure Finalize (X, Y : in out T); procedure Finalize (X, Y : in out T) is begin null; end Finalize; begin null; end Main;",
+            "1:128: 33 OVERRIDE",
+        ),
+    ] {
+        refused(&rt, rt.alloc(), source, wanted)?;
+    }
+    Ok(())
+}
