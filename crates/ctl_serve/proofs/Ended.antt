@@ -1,5 +1,6 @@
 -- How a job ended, and what was put where the sink failed.
 use Rattle.std.proofs.Common.{◌≡◌, ℕ, List, Option, length, arith, subst, sym}
+use mathlib.Core.Logic.{◌⊎◌, inl, inr}
 use Rattle.std.specs.Io.KnownBytes.{Appends, Keeps}
 use Rattle.std.proofs.KnownBytes.{Appends-kept, Keeps-refl}
 use Rattle.std.proofs.Math.Seq.{take-length}
@@ -17,3 +18,13 @@ whole_up_to old mid new bytes whole kept =
 -- a sink that is as it was has taken what it had taken
 pub kept_by : {X : Type 0} (taken : X → Option (List ℕ)) (old new : X) → new ≡ old → Keeps (taken old) (taken new)
 kept_by taken old new same = subst (λ x. Keeps (taken old) (taken x)) (sym same) (Keeps-refl (taken old))
+
+-- the same where that is one of two cases
+pub either_kept : {X B : Type 0} (taken : X → Option (List ℕ)) (old new : X) → (new ≡ old) ⊎ B → Keeps (taken old) (taken new) ⊎ B
+either_kept taken old new (inl same) = inl (kept_by taken old new same)
+either_kept taken old new (inr b) = inr b
+
+-- and where it comes beside something else
+pub kept_beside : {X A U : Type 0} (taken : X → Option (List ℕ)) (old new : X) → A ⊎ (U × (new ≡ old)) → A ⊎ (U × Keeps (taken old) (taken new))
+kept_beside taken old new (inl a) = inl a
+kept_beside taken old new (inr b) = inr (b.0, kept_by taken old new b.1)
