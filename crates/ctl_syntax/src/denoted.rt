@@ -62,6 +62,8 @@ pub enum Denoted {
     Library(LibraryName),
     /// an operation: whose it is, the type of the first parameter tells
     Operation(OperationName),
+    /// nothing: no declaration in view gives the name, and that is told of already
+    Unknown,
 }
 
 /// The use of a name, with the place of its first identifier.

@@ -35,8 +35,6 @@ pub struct Context {
 #[derive(Drop)]
 pub struct Body<D, U> {
     pub items: Items<Item<D, U>>,
-    /// the access types that the end of the part freezes (RM 13.14): none before names are resolved
-    pub frozen: Items<usize>,
     pub statements: Items<Statement<D, U>>,
     pub handlers: Items<Handler<Statement<D, U>, U>>,
 }
@@ -174,8 +172,6 @@ pub enum Constancy {
 #[derive(Drop)]
 pub struct Item<D, U> {
     pub span: Span,
-    /// the access types that are frozen before it, in the order of their full declarations (RM 13.14): none before names are resolved
-    pub frozen: Items<usize>,
     pub kind: ItemKind<D, U, Boxed<Body<D, U>>>,
 }
 

@@ -336,7 +336,7 @@ pub struct Subprogram {
 pub struct Checked {
     /// the names, the first three of them Constraint_Error, Program_Error and Storage_Error
     pub exceptions: Vec<Text>,
-    /// the record types, those of the library among them
+    /// the record types that the text declares, in the order of their declarations; the library type that one descends from is its `root`
     pub records: Vec<RecordType>,
     pub accesses: Vec<AccessType>,
     pub subprograms: Vec<Subprogram>,

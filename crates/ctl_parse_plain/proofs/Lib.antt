@@ -1,0 +1,5 @@
+pub mod Parts
+pub mod Rows
+pub mod Steps
+pub mod Terms
+pub mod Views

@@ -1,0 +1,3 @@
+pub mod Kept
+pub mod Reads
+pub mod View

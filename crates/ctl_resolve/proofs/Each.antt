@@ -1,0 +1,17 @@
+-- One turn of a loop that resolves each in turn.
+use Rattle.std.proofs.Common.{◌≡◌, ℕ, ◌+◌, ◌<◌, List, [], ◌∷◌, ◌++◌, length, get_or, drop, refl, sym, ap, ◌∙◌}
+use Rattle.std.proofs.lemmas.List.{at_drop_more}
+use Rattle.ctl_resolve.specs.declared.view.View.{View}
+use Rattle.ctl_resolve.specs.Naming.{Naming, each, each_on}
+
+each_next : {A B : Type 0} (f : A → Naming B) (done : List B) (b : B) (w : View) (xs : List A) → each_on f done (b, w) xs ≡ each f (done ++ b ∷ []) xs w
+each_next f done b w [] = refl
+each_next f done b w (x ∷ xs) = refl
+
+-- what is left, behind one more, gives what was left before it
+pub turn : {A B : Type 0} (f : A → Naming B) (done : List B) (all : List A) (i : ℕ) (x : A) (b : B) (v w : View) → i < length all → x ≡ get_or all i x → f x v ≡ (b, w) → each f (done ++ b ∷ []) (drop (i + 1) all) w ≡ each f done (drop i all) v
+turn f done all i x b v w lt at h =
+    sym (each_next f done b w (drop (i + 1) all))
+    ∙ sym (ap (λ r. each_on f done r (drop (i + 1) all)) h)
+    ∙ ap (λ y. each f done (y ∷ drop (i + 1) all) v) at
+    ∙ sym (at_drop_more (λ xs. each f done xs v) all i x lt)

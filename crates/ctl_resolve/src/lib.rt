@@ -1,0 +1,16 @@
+//! Names resolved in the tree: from the tree of a text to the tree in which each name has what it denotes (RM 8).
+//!
+//! "RM" is ISO/IEC 8652:2012.
+#![tactic(auto)]
+
+pub mod context;
+pub mod copies;
+pub mod declarations;
+pub mod ends;
+pub mod library;
+pub mod names;
+pub mod notes;
+pub mod subprograms;
+pub mod table;
+pub mod types;
+pub mod view;

@@ -1,0 +1,124 @@
+//! What is noted on the way, and what comes into view and goes out of it.
+
+ghost use Rattle.std.specs.Prelude.{◌≡◌};
+ghost use Rattle.ctl_resolve.specs.Naming as spec;
+
+use crate::view::{Part, Progress, Stage, View};
+use ctl_tree::fault::{Fault, FaultCode};
+use ctl_tree::span::Span;
+
+/// Answers the number of a rule that is judged here.
+fn number(code: FaultCode) -> u8
+    ensures { result ≡ spec.number code }
+{
+    match code {
+        FaultCode::Duplicate => 21,
+        FaultCode::NoBody => 22,
+        FaultCode::Order => 23,
+        FaultCode::NotWithed => 25,
+        _ => 20,
+    }
+}
+
+/// Tells whether a fault comes before another: by line, by column, and then by number.
+fn is_earlier(a: Fault, b: Fault) -> bool
+    ensures { result ≡ spec.is_earlier a b }
+{
+    if a.line < b.line {
+        true
+    } else if b.line < a.line {
+        false
+    } else if a.column < b.column {
+        true
+    } else if b.column < a.column {
+        false
+    } else {
+        number(a.code) < number(b.code)
+    }
+}
+
+/// Answers the first of the faults so far and one more.
+pub fn first_of(so_far: Option<Fault>, fault: Fault) -> Option<Fault>
+    ensures { result ≡ spec.first_of so_far fault }
+{
+    match so_far {
+        Some(other) if !is_earlier(fault, other) => Some(other),
+        _ => Some(fault),
+    }
+}
+
+/// Notes that a rule is broken at a place.
+pub fn note(view: &mut View, code: FaultCode, at: Span)
+    ensures { view.new ≡ spec.note code at view.old }
+{
+    view.fault = first_of(view.fault, Fault::at(code, at));
+}
+
+/// Notes that a rule is broken at a place, if it is.
+pub fn note_if(view: &mut View, broken: bool, code: FaultCode, at: Span)
+    ensures { view.new ≡ spec.note_if broken code at view.old }
+{
+    if broken {
+        note(view, code, at);
+    }
+}
+
+/// Answers the level inside a master (RM 3.10.2).
+fn deeper(level: usize) -> usize
+    ensures { result ≡ spec.deeper level }
+{
+    level.saturating_add(1)
+}
+
+/// Begins the part of a body or a block, and answers the region around.
+pub fn enter_master(view: &mut View) -> Part
+    ensures around { result ≡ view.old.part }
+    ensures inside { view.new ≡ spec.enter_master view.old }
+{
+    let around = view.part;
+    view.part = Part {
+        start: view.table.count(),
+        level: deeper(around.level),
+        progress: Progress::BeforeBodies,
+    };
+    around
+}
+
+/// Begins a region that is no master, and answers the region around.
+pub fn enter_region(view: &mut View) -> Part
+    ensures around { result ≡ view.old.part }
+    ensures inside { view.new ≡ spec.enter_region view.old }
+{
+    let around = view.part;
+    view.part.start = view.table.count();
+    around
+}
+
+/// Goes back to the region around: what was declared is out of view.
+pub fn leave(view: &mut View, around: Part)
+    ensures { view.new ≡ spec.leave around view.old }
+{
+    view.table.close(view.part.start);
+    view.part = around;
+}
+
+/// Leaves only so many declarations in view, the outermost.
+pub fn cut(view: &mut View, count: usize)
+    ensures { view.new ≡ spec.cut count view.old }
+{
+    view.table.close(count);
+}
+
+/// A declaration has come as far as this.
+pub fn set_stage(view: &mut View, number: usize, stage: Stage)
+    ensures { view.new ≡ spec.set_stage number stage view.old }
+{
+    view.table.set(number, stage);
+}
+
+/// A body stands before what follows.
+pub fn behind_body(view: &mut View)
+    ensures { view.new ≡ spec.behind_body view.old }
+{
+    view.part.progress = Progress::BehindBody;
+}
