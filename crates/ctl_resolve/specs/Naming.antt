@@ -2,7 +2,7 @@
 -- naming; each is noted, and the first by place is kept.
 use Rattle.std.specs.Prelude.{◌≡◌, ℕ, ◌+◌, nat_lt, min, Bool, true, false, List, [], ◌∷◌, ◌++◌, length, take, Option, Some, None, Result, Ok, Err, if◌then◌else◌}
 use Rattle.ctl_tree.specs.declared.span.Span.{Span}
-use Rattle.ctl_tree.specs.declared.fault.Fault.{Fault}
+use Rattle.ctl_tree.specs.Faults.{first_of, fault_at}
 use Rattle.ctl_tree.specs.declared.fault.FaultCode.{FaultCode}
 use Rattle.ctl_tree.specs.declared.fault.FaultCode.TheVariants as rule
 use Rattle.ctl_resolve.specs.declared.view.Stage.{Stage}
@@ -11,30 +11,6 @@ use Rattle.ctl_resolve.specs.declared.view.Part.{Part}
 use Rattle.ctl_resolve.specs.declared.view.Progress.TheVariants.{BeforeBodies, BehindBody}
 use Rattle.ctl_resolve.specs.declared.view.View.{View}
 use Rattle.ctl_resolve.specs.Table.{with_stage_at}
-
--- Which of two faults stands first -----------------------------------------------------------------
-
--- the number of a rule that is judged here; no other is told
-abbrev pub number : FaultCode → ℕ
-number rule.Duplicate = 21
-number rule.NoBody = 22
-number rule.Order = 23
-number rule.NotWithed = 25
-number _ = 20
-
--- by line, by column, and then by number
-abbrev pub is_earlier : Fault → Fault → Bool
-is_earlier a b =
-    if nat_lt a.line b.line then true
-    else if nat_lt b.line a.line then false
-    else if nat_lt a.column b.column then true
-    else if nat_lt b.column a.column then false
-    else nat_lt (number a.code) (number b.code)
-
--- the first of those so far and one more
-abbrev pub first_of : Option Fault → Fault → Option Fault
-first_of None f = Some f
-first_of (Some g) f = if is_earlier f g then Some f else Some g
 
 -- Namings, one behind the other ----------------------------------------------------------------------
 
@@ -89,9 +65,6 @@ Changes change old (Ok u) new = change old ≡ new
 Changes change old (Err e) new = Unit {0}
 
 -- Notes -------------------------------------------------------------------------------------------------
-
-abbrev pub fault_at : FaultCode → Span → Fault
-fault_at code at = record { code = code; line = at.line; column = at.column }
 
 -- a rule is broken here
 abbrev pub note : FaultCode → Span → View → View

@@ -27,7 +27,8 @@ use Rattle.ctl_resolve.specs.declared.view.Stage.TheVariants as stage
 use Rattle.ctl_resolve.specs.declared.view.Usage.TheVariants as usage
 use Rattle.ctl_resolve.specs.declared.view.View.{View}
 use Rattle.ctl_resolve.specs.Table.{folded, find, waits}
-use Rattle.ctl_resolve.specs.Naming.{Naming, pure, ◌>>=◌, after, before, each, optional, note_if, first_of, fault_at, set_stage, behind_body, enter_master, enter_region, within}
+use Rattle.ctl_tree.specs.Faults.{first_of, fault_at}
+use Rattle.ctl_resolve.specs.Naming.{Naming, pure, ◌>>=◌, after, before, each, optional, note_if, set_stage, behind_body, enter_master, enter_region, within}
 use Rattle.ctl_resolve.specs.Expressions.{used, mark, name_of, expression}
 use Rattle.ctl_resolve.specs.Declarations.{new_name, new_names, hidden_in, declaration, heading, begun, note_order, incomplete, full_type, instance_of, objects}
 

@@ -10,7 +10,7 @@ ghost use Rattle.ctl_resolve.specs.declared.view.Usage.TheVariants as usage;
 use crate::copies::folded;
 use crate::declarations::behind;
 use crate::names::mark;
-use crate::notes::{first_of, note_if};
+use crate::notes::note_if;
 use crate::table::Table;
 use crate::view::{Declaration, Role, Sought, Stage, Usage, View};
 use ctl_syntax::denoted::Use;
@@ -37,7 +37,7 @@ fn unfinished(so_far: Option<Fault>, declarations: &[Declaration]) -> Option<Fau
     let mut fault = so_far;
     for declaration in declarations {
         if waits(declaration.stage) {
-            fault = first_of(fault, Fault::at(FaultCode::NoBody, declaration.span));
+            fault = Fault::first_of(fault, Fault::at(FaultCode::NoBody, declaration.span));
         }
     }
     fault

@@ -7,51 +7,11 @@ use crate::view::{Part, Progress, Stage, View};
 use ctl_tree::fault::{Fault, FaultCode};
 use ctl_tree::span::Span;
 
-/// Answers the number of a rule that is judged here.
-fn number(code: FaultCode) -> u8
-    ensures { result ≡ spec.number code }
-{
-    match code {
-        FaultCode::Duplicate => 21,
-        FaultCode::NoBody => 22,
-        FaultCode::Order => 23,
-        FaultCode::NotWithed => 25,
-        _ => 20,
-    }
-}
-
-/// Tells whether a fault comes before another: by line, by column, and then by number.
-fn is_earlier(a: Fault, b: Fault) -> bool
-    ensures { result ≡ spec.is_earlier a b }
-{
-    if a.line < b.line {
-        true
-    } else if b.line < a.line {
-        false
-    } else if a.column < b.column {
-        true
-    } else if b.column < a.column {
-        false
-    } else {
-        number(a.code) < number(b.code)
-    }
-}
-
-/// Answers the first of the faults so far and one more.
-pub fn first_of(so_far: Option<Fault>, fault: Fault) -> Option<Fault>
-    ensures { result ≡ spec.first_of so_far fault }
-{
-    match so_far {
-        Some(other) if !is_earlier(fault, other) => Some(other),
-        _ => Some(fault),
-    }
-}
-
 /// Notes that a rule is broken at a place.
 pub fn note(view: &mut View, code: FaultCode, at: Span)
     ensures { view.new ≡ spec.note code at view.old }
 {
-    view.fault = first_of(view.fault, Fault::at(code, at));
+    view.fault = Fault::first_of(view.fault, Fault::at(code, at));
 }
 
 /// Notes that a rule is broken at a place, if it is.

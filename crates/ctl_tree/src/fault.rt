@@ -1,6 +1,7 @@
 //! Why a source text is refused, and where.
 
 ghost use Rattle.std.specs.Prelude.{◌≡◌};
+ghost use Rattle.ctl_tree.specs.Faults as spec;
 
 use crate::span::Span;
 use std::alloc::{AllocError, AllocFailed};
@@ -41,6 +42,13 @@ pub enum FaultCode {
 }
 
 impl FaultCode {
+    /// Answers the number that the program prints.
+    fn number(self) -> u8
+        ensures { result ≡ spec.number self }
+    {
+        self as u8
+    }
+
     /// The name that the program prints behind the number.
     pub fn name(self) -> &'static str {
         match self {
@@ -78,7 +86,7 @@ impl FaultCode {
 
 impl fmt::Display for FaultCode {
     fn fmt<W: fmt::Write>(&self, f: &mut fmt::Formatter<W>) -> fmt::Result {
-        let number = *self as u8;
+        let number = self.number();
         let name = self.name();
         write!(f, "{number} {name}")
     }
@@ -101,6 +109,29 @@ impl Fault {
             code,
             line: span.line,
             column: span.column,
+        }
+    }
+
+    /// Tells whether a fault comes before another: by line, by column, and then by number.
+    fn is_before(self, other: Fault) -> bool
+        ensures { result ≡ spec.is_before self other }
+    {
+        if self.line != other.line {
+            self.line < other.line
+        } else if self.column != other.column {
+            self.column < other.column
+        } else {
+            self.code.number() < other.code.number()
+        }
+    }
+
+    /// Answers the first of the faults so far and one more.
+    pub fn first_of(so_far: Option<Fault>, fault: Fault) -> Option<Fault>
+        ensures { result ≡ spec.first_of so_far fault }
+    {
+        match so_far {
+            Some(other) if !fault.is_before(other) => Some(other),
+            _ => Some(fault),
         }
     }
 

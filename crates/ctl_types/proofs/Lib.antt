@@ -1,1 +1,1 @@
-mod Countdown
+pub mod Changes

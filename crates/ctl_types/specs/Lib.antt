@@ -1,4 +1,7 @@
-pub mod Faults
-pub mod Judgement
-pub mod Lookup
-pub mod Typing
+pub mod Declarations
+pub mod Draft
+pub mod Elaboration
+pub mod Freezing
+pub mod Marks
+pub mod Statements
+pub mod Types

@@ -3,10 +3,10 @@
 //! "RM" is ISO/IEC 8652:2012.
 #![tactic(auto)]
 
-pub mod found;
-pub mod judging;
-pub mod literals;
-pub mod lookup;
-pub mod names;
-pub mod notes;
-pub mod table;
+pub mod assignments;
+pub mod associations;
+pub mod draft;
+pub mod freezing;
+pub mod order;
+pub mod types;
+pub mod view;

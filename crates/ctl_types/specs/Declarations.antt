@@ -1,0 +1,455 @@
+-- Objects, exceptions, instances and headings of subprograms as they are declared (3.3.1, 11.1, 12.3, 6.1, 8.3.1).
+use Rattle.std.specs.Prelude.{ℕ, zero, Bool, true, false, ◌&&◌, ◌||◌, not, if◌then◌else◌, nat_eq, nat_lt, List, [], ◌∷◌, ◌++◌, codes, length, map, slice_get, slice_set, Option, Some, None, option_map}
+use Rattle.ctl_grammar.specs.Spelling.{same_name}
+use Rattle.ctl_tree.specs.declared.span.Span.{Span}
+use Rattle.ctl_tree.specs.declared.fault.FaultCode.TheVariants as rule
+use Rattle.ctl_program.specs.declared.types.Ty.{Ty}
+use Rattle.ctl_program.specs.declared.types.Ty.TheVariants as ty
+use Rattle.ctl_program.specs.declared.types.Root.{Root}
+use Rattle.ctl_program.specs.declared.types.Root.TheVariants as root
+use Rattle.ctl_program.specs.declared.types.Operations.{Operations}
+use Rattle.ctl_program.specs.declared.expression.Expr.{Expr}
+use Rattle.ctl_program.specs.declared.operators.SubprogramKind.{SubprogramKind}
+use Rattle.ctl_program.specs.declared.operators.SubprogramKind.TheVariants as kind
+use Rattle.ctl_program.specs.declared.program.Subprogram.{Subprogram}
+use Rattle.ctl_program.specs.declared.statement.Association.{Association as Checked_association}
+use Rattle.ctl_program.specs.declared.statement.Item.{Item as Checked_item}
+use Rattle.ctl_program.specs.declared.statement.Item.TheVariants as made
+use Rattle.ctl_program.specs.declared.statement.Master.{Master, roll-Master}
+use Rattle.ctl_syntax.specs.declared.denoted.Denoted.{Denoted}
+use Rattle.ctl_syntax.specs.declared.denoted.Denoted.TheVariants as denoted
+use Rattle.ctl_syntax.specs.declared.denoted.Definition.{Definition}
+use Rattle.ctl_syntax.specs.declared.denoted.LibraryName.TheVariants as library
+use Rattle.ctl_syntax.specs.declared.denoted.OperationName.{OperationName}
+use Rattle.ctl_syntax.specs.declared.denoted.OperationName.TheVariants.{Initialize, Adjust, Finalize, Allocate, Deallocate}
+use Rattle.ctl_syntax.specs.declared.denoted.Use.{Use}
+use Rattle.ctl_syntax.specs.declared.expression.Expression.{Expression}
+use Rattle.ctl_syntax.specs.declared.item.Aliasing.{Aliasing}
+use Rattle.ctl_syntax.specs.declared.item.Aliasing.TheVariants as aliasing
+use Rattle.ctl_syntax.specs.declared.item.Association.{Association}
+use Rattle.ctl_syntax.specs.declared.item.Constancy.{Constancy}
+use Rattle.ctl_syntax.specs.declared.item.Constancy.TheVariants as constancy
+use Rattle.ctl_syntax.specs.declared.item.Formal.{Formal}
+use Rattle.ctl_syntax.specs.declared.item.Indicator.{Indicator}
+use Rattle.ctl_syntax.specs.declared.item.Indicator.TheVariants as indicator
+use Rattle.ctl_syntax.specs.declared.item.Mode.{Mode}
+use Rattle.ctl_syntax.specs.declared.item.Mode.TheVariants as mode
+use Rattle.ctl_syntax.specs.declared.item.Objects.{Objects}
+use Rattle.ctl_syntax.specs.declared.item.Specification.{Specification}
+use Rattle.ctl_syntax.specs.declared.name.Identifier.{Identifier}
+use Rattle.ctl_syntax.specs.declared.name.Mark.{Mark}
+use Rattle.ctl_typing.specs.declared.notes.Deed.{Deed}
+use Rattle.ctl_typing.specs.declared.notes.Deed.TheVariants.{Freezes, Initializes}
+use Rattle.ctl_typing.specs.declared.table.Tables.{Tables}
+use Rattle.ctl_typing.specs.declared.table.Entry.{Entry}
+use Rattle.ctl_typing.specs.declared.table.Entry.TheVariants as entry
+use Rattle.ctl_typing.specs.declared.table.FormalEntry.{FormalEntry}
+use Rattle.ctl_typing.specs.declared.table.Mutability.{Mutability}
+use Rattle.ctl_typing.specs.declared.table.Mutability.TheVariants as mutability
+use Rattle.ctl_typing.specs.declared.table.Profile.{Profile}
+use Rattle.ctl_typing.specs.declared.table.RecordEntry.{RecordEntry}
+use Rattle.ctl_typing.specs.declared.table.RecordState.{RecordState}
+use Rattle.ctl_typing.specs.declared.table.Standing.TheVariants as standing
+use Rattle.ctl_typing.specs.declared.found.Asked.TheVariants.{Anything, Exactly}
+use Rattle.ctl_typing.specs.declared.found.Associated.TheVariants.{Discriminants, Deallocation}
+use Rattle.ctl_typing.specs.declared.found.Found.{Found}
+use Rattle.ctl_typing.specs.declared.found.Found.TheVariants.{TypeName}
+use Rattle.ctl_types.specs.declared.draft.Draft.{Draft}
+use Rattle.ctl_types.specs.declared.draft.Around.{Around}
+use Rattle.ctl_types.specs.declared.draft.Giving.{Giving}
+use Rattle.ctl_types.specs.declared.draft.Giving.TheVariants as giving
+use Rattle.ctl_types.specs.declared.draft.Order.{Order}
+use Rattle.ctl_types.specs.declared.draft.Order.TheVariants as order
+use Rattle.ctl_types.specs.declared.draft.Role.{Role}
+use Rattle.ctl_types.specs.declared.draft.Role.TheVariants as role
+use Rattle.ctl_typing.specs.Judgement.{Judgement, known, but, wrong, ◌>>=◌, both, following, each}
+use Rattle.ctl_typing.specs.Lookup.{same, root_of, designated_by}
+use Rattle.ctl_typing.specs.Typing.{Sense, sense, together, designates_this}
+use Rattle.ctl_types.specs.Draft.{Doing, by_tables, early_when, fault_when, asking, deeds_of, asked, declare, declare_object, enter, take_slot}
+use Rattle.ctl_types.specs.Marks.{named_type, concrete_type, no_pool, is_pool, is_controlled, positions, root_of_type}
+use Rattle.ctl_types.specs.Freezing.{changed, with_records, is_free_type, done_by}
+use Rattle.ctl_types.specs.Statements.{is_limited, provides, operation_formals, formal}
+use Rattle.ctl_types.specs.Types.{is_given}
+
+-- Objects (3.3.1) ------------------------------------------------------------------------------------------
+
+abbrev pub is_aliased : Aliasing → Bool
+is_aliased aliasing.Aliased = true
+is_aliased aliasing.Unaliased = false
+
+abbrev pub is_constant : Constancy → Bool
+is_constant constancy.Constant = true
+is_constant constancy.Variable = false
+
+abbrev pub mutability_of : Constancy → Mutability
+mutability_of constancy.Constant = mutability.Constant
+mutability_of constancy.Variable = mutability.Variable
+
+-- a pool is not aliased (profile)
+abbrev pub no_aliased_pool : Tables → Span → Aliasing → Ty → Judgement Ty
+no_aliased_pool tables place aliasing.Aliased t = no_pool tables place t
+no_aliased_pool tables place aliasing.Unaliased t = known t
+
+abbrev pub object_type : Span → Objects Definition Use → Tables → Judgement Ty
+object_type place o tables = concrete_type tables place o.mark >>= no_aliased_pool tables o.mark.first.span o.aliasing
+
+abbrev pub asked_of_value : Option Ty → Tables → Sense → Judgement Expr
+asked_of_value None tables x = x.judged tables Anything >>= (λ r. known r.value)
+asked_of_value (Some t) tables x = x.judged tables (Exactly t) >>= (λ r. known r.value)
+
+abbrev pub value_of : Option Ty → Option Sense → Tables → Judgement (Option Expr)
+value_of t None tables = known None
+value_of t (Some x) tables = asked_of_value t tables x >>= (λ v. known (Some v))
+
+abbrev pub discriminant : Tables → ℕ × Association Use → Judgement Checked_association
+discriminant tables p = (sense p.1.value).judged tables (Exactly ty.Count) >>= (λ r. known (record { position = p.0; value = r.value }))
+
+abbrev pub discriminants_at : List ℕ → List (Association Use) → List (ℕ × Association Use)
+discriminants_at [] as' = []
+discriminants_at (n ∷ ns) [] = []
+discriminants_at (n ∷ ns) (a ∷ as') = (n, a) ∷ discriminants_at ns as'
+
+abbrev pub anything : Tables → Association Use → Judgement Expr
+anything tables a = (sense a.value).judged tables Anything >>= (λ r. known r.value)
+
+-- those that are wrong in number or name are judged without a type
+abbrev pub discriminants_by : Span → Option (List ℕ) → List (Association Use) → Tables → Judgement (List Checked_association)
+discriminants_by place (Some ns) as' tables = λ n. each (discriminant tables) (Some []) (discriminants_at ns as') n
+discriminants_by place None as' tables = (λ n. each (anything tables) (Some []) as' n) >>= (λ xs. wrong rule.Type place)
+
+-- a pool has all its discriminants, and nothing else has any (3.7.1)
+abbrev pub discriminants_given : Span → Option Ty → List (Association Use) → Tables → Judgement (List Checked_association)
+discriminants_given place None as' tables = (λ n. each (anything tables) (Some []) as' n) >>= (λ xs. known [])
+discriminants_given place (Some t) as' tables = discriminants_by place (positions (Discriminants (root_of_type tables t)) as') as' tables
+
+abbrev pub object_item : Tables → Ty → ℕ → List Checked_association → Option Expr → Checked_item
+object_item tables (ty.Record t) slot as' v = if is_pool tables (ty.Record t) then made.Pool slot t as' else made.Object slot (ty.Record t) v
+object_item tables t slot as' v = made.Object slot t v
+
+-- what is known of an object: its type, its discriminants and its value
+abbrev pub object_made : Tables → ℕ → Option Ty → Option (List Checked_association) → Option (Option Expr) → Option (List Checked_item)
+object_made tables slot (Some t) (Some as') (Some v) = Some (object_item tables t slot as' v ∷ [])
+object_made tables slot t as' v = None
+
+abbrev pub declare_as : Around → Objects Definition Use → Option Ty → Draft → Draft
+declare_as around o None d = declare entry.Unknown d
+declare_as around o (Some t) d = declare_object around t standing.Declared (mutability_of o.constancy) o.aliasing d
+
+-- the object may stand too early where a body stands behind it
+abbrev pub wait : Order → Span → Ty → List Deed → Draft → Draft
+wait order.BeforeBody place t ds d = record d { waiting = d.waiting ++ (record { span = place; ty = t; deeds = ds }) ∷ [] }
+wait order.BehindBodies place t ds d = d
+
+abbrev pub wait_as : Order → Span → Option Ty → Draft → Draft
+wait_as o place None d = wait o place ty.Integer (deeds_of d) d
+wait_as o place (Some t) d = wait o place t (deeds_of d) d
+
+-- an object freezes its type (13.14(6)); without a value it begins with its defaults
+abbrev pub object_deeds : Option Ty → Bool → List Deed
+object_deeds None given = []
+object_deeds (Some t) true = Freezes t ∷ []
+object_deeds (Some t) false = Freezes t ∷ Initializes t ∷ []
+
+abbrev pub limited_as : Tables → Option Ty → Bool
+limited_as tables None = false
+limited_as tables (Some t) = is_limited tables t
+
+abbrev pub with_layers : Option (List Checked_item) → List Checked_item → Option (List Checked_item)
+with_layers None layers = None
+with_layers (Some is) layers = Some (layers ++ is)
+
+abbrev pub object_declared : Around → Objects Definition Use → Option Ty → Option (List Checked_item) → List Checked_item × Draft → Option (List Checked_item) × Draft
+object_declared around o t is (layers, d) = (with_layers is layers, declare_as around o t d)
+
+abbrev pub object_frozen : Around → Objects Definition Use → Option Ty → Option (List Checked_item) → Draft → Option (List Checked_item) × Draft
+object_frozen around o t is d = object_declared around o t is (done_by around (object_deeds t (is_given o.value) ++ deeds_of d) (asked d))
+
+-- a constant has a value (3.3.1(5)), and a limited object has none (7.5)
+abbrev pub object_valued : Around → Order → Span → Objects Definition Use → Definition → Option Ty → Option (List Checked_association) → Option (Option Expr) × Draft → Option (List Checked_item) × Draft
+object_valued around order place o name t as' (v, d) =
+    object_frozen around o t (object_made d.tables (length d.slots) t as' v)
+      (wait_as order name.identifier.span t
+        (fault_when (limited_as d.tables t && is_given o.value) rule.Limited name.identifier.span
+          (fault_when (is_constant o.constancy && not (is_given o.value)) rule.Type place d)))
+
+abbrev pub object_given : Around → Order → Span → Objects Definition Use → Definition → Option Ty → Option (List Checked_association) × Draft → Option (List Checked_item) × Draft
+object_given around order place o name t (as', d) = object_valued around order place o name t as' (by_tables (value_of t (option_map sense o.value)) d)
+
+abbrev pub object_typed : Around → Order → Span → Objects Definition Use → Definition → Option Ty × Draft → Option (List Checked_item) × Draft
+object_typed around order place o name (t, d) = object_given around order place o name t (by_tables (discriminants_given place t o.discriminants) d)
+
+-- one object; `A, B : T` are two (3.3.1(7))
+abbrev pub object : Around → Order → Span → Objects Definition Use → Definition → Doing (List Checked_item)
+object around order place o name d = object_typed around order place o name (by_tables (object_type place o) (asking d))
+
+abbrev pub objects : Span → Objects Definition Use → Order → Around → Doing (List Checked_item)
+objects place o order around = (λ d. each (object around order place o) (Some []) o.names d) >>= (λ is. known (together is))
+
+-- Exceptions (11.1) --------------------------------------------------------------------------------------------
+
+abbrev pub exception : Definition → Draft → Draft
+exception name d = declare (entry.Exception (length d.exceptions)) (record d { exceptions = d.exceptions ++ name.identifier.text ∷ [] })
+
+abbrev pub exceptions : List Definition → Draft → List Checked_item × Draft
+exceptions [] d = ([], d)
+exceptions (n ∷ ns) d = behind_silent (exceptions ns (exception n d))
+  where
+    behind_silent : List Checked_item × Draft → List Checked_item × Draft
+    behind_silent (is, d) = (made.Silent ∷ is, d)
+
+-- Instances of Ada.Unchecked_Deallocation (12.3, 13.11.2) ----------------------------------------------------------
+
+abbrev pub actual_type : Tables → Span → Sense → Judgement Ty
+actual_type tables place x = by_bare tables place x.bare
+  where
+    type_found : Span → Found → Judgement Ty
+    type_found place (TypeName t) = known t
+    type_found place f = wrong rule.Type place
+
+    by_bare : Tables → Span → Option (Tables → Judgement Found) → Judgement Ty
+    by_bare tables place None = wrong rule.Type place
+    by_bare tables place (Some name) = name tables >>= type_found place
+
+-- the access type designates the object type
+abbrev pub deallocated : Tables → Span → Ty → Ty → Judgement (ℕ × Ty)
+deallocated tables place t (ty.Access a) = if designates_this t (designated_by tables a) then known (a, t) else wrong rule.Type place
+deallocated tables place t s = wrong rule.Type place
+
+abbrev pub instance_types : Tables → Span → Sense → Sense → Judgement (ℕ × Ty)
+instance_types tables place x y = both (actual_type tables place x) (actual_type tables place y) >>= (λ r. deallocated tables place r.0 r.1)
+
+abbrev pub instance_at : Tables → Span → Option (List ℕ) → List (Association Use) → Judgement (ℕ × Ty)
+instance_at tables place (Some (zero ∷ ns)) (x ∷ y ∷ as') = instance_types tables place (sense x.value) (sense y.value)
+instance_at tables place (Some (n ∷ ns)) (x ∷ y ∷ as') = instance_types tables place (sense y.value) (sense x.value)
+instance_at tables place ns as' = wrong rule.Type place
+
+abbrev pub instance_denoted : Tables → Span → Denoted → List (Association Use) → Judgement (ℕ × Ty)
+instance_denoted tables place (denoted.Library library.UncheckedDeallocation) as' = instance_at tables place (positions Deallocation as') as'
+instance_denoted tables place denoted.Unknown as' = λ n. (None, n)
+instance_denoted tables place d as' = wrong rule.Type place
+
+abbrev pub instance_of : Span → Mark Use → List (Association Use) → Tables → Judgement (ℕ × Ty)
+instance_of place m as' tables = by_rest m.rest
+  where
+    by_rest : List Identifier → Judgement (ℕ × Ty)
+    by_rest [] = instance_denoted tables place m.first.denoted as'
+    by_rest (i ∷ is) = wrong rule.Type place
+
+abbrev pub instance_declared : ℕ → List Checked_item × Draft → Option (List Checked_item) × Draft
+instance_declared a (layers, d) = (Some (layers ++ made.Silent ∷ []), declare (entry.Deallocation a) d)
+
+abbrev pub instance_known : Around → Option (ℕ × Ty) × Draft → Option (List Checked_item) × Draft
+instance_known around (None, d) = (None, declare entry.Unknown d)
+instance_known around (Some p, d) = instance_declared p.0 (done_by around (Freezes p.1 ∷ Freezes (ty.Access p.0) ∷ []) d)
+
+-- an instance freezes the types that it names (13.14(5))
+abbrev pub instance : Span → Mark Use → List (Association Use) → Around → Doing (List Checked_item)
+instance place m as' around d = instance_known around (by_tables (instance_of place m as') d)
+
+-- Headings (6.1) -----------------------------------------------------------------------------------------------------
+
+abbrev pub formal_type : Tables → Span → Formal Definition Use → Judgement (List FormalEntry)
+formal_type tables place f = named_type tables place f.mark >>= (λ t. known (map (λ n. formal f.mode t) f.names))
+
+abbrev pub formal_types : Span → List (Formal Definition Use) → Tables → Judgement (List FormalEntry)
+formal_types place fs tables = (λ n. each (formal_type tables place) (Some []) fs n) >>= (λ ts. known (together ts))
+
+abbrev pub is_in : Mode → Bool
+is_in mode.In = true
+is_in m = false
+
+abbrev pub not_in : Mode → List Definition → Draft → Draft
+not_in m [] d = d
+not_in m (n ∷ ns) d = not_in m ns (fault_when (not (is_in m)) rule.Mode n.identifier.span d)
+
+-- a function's parameters are of mode `in` (profile)
+abbrev pub only_in : List (Formal Definition Use) → Draft → Draft
+only_in [] d = d
+only_in (f ∷ fs) d = only_in fs (not_in f.mode f.names d)
+
+-- a function returns no limited type, and none with controlled parts (profile)
+abbrev pub returned : Tables → Span → Ty → Judgement Ty
+returned tables place t = if is_limited tables t || is_controlled tables t then but rule.Limited place t else known t
+
+abbrev pub result_type : Span → Option (Mark Use) → Tables → Judgement (Option Ty)
+result_type place None tables = known None
+result_type place (Some m) tables = named_type tables place m >>= returned tables m.first.span >>= (λ t. known (Some t))
+
+-- the types of a subprogram's formals, and of its result
+abbrev pub heading_types : Span → Specification Definition Use → Tables → Judgement (List FormalEntry × Option Ty)
+heading_types place s tables = both (formal_types place s.formals tables) (result_type place s.result tables)
+
+abbrev pub modes_kept : Option (Mark Use) → List (Formal Definition Use) → Draft → Draft
+modes_kept None fs d = d
+modes_kept (Some m) fs d = only_in fs d
+
+abbrev pub heading : Span → Specification Definition Use → Doing (List FormalEntry × Option Ty)
+heading place s d = by_tables (heading_types place s) (modes_kept s.result s.formals d)
+
+abbrev pub formal_names : List (Formal Definition Use) → List (List ℕ)
+formal_names [] = []
+formal_names (f ∷ fs) = map (λ n. n.identifier.text) f.names ++ formal_names fs
+
+-- Overriding (3.2.3, 7.6, 8.3.1, 13.11) --------------------------------------------------------------------------------
+
+abbrev pub operation_named : List ℕ → Option OperationName
+operation_named name =
+    if same_name name (codes "initialize") then Some Initialize
+    else if same_name name (codes "adjust") then Some Adjust
+    else if same_name name (codes "finalize") then Some Finalize
+    else if same_name name (codes "allocate") then Some Allocate
+    else if same_name name (codes "deallocate") then Some Deallocate
+    else None
+
+abbrev pub same_mode : Mode → Mode → Bool
+same_mode mode.In mode.In = true
+same_mode mode.Out mode.Out = true
+same_mode mode.InOut mode.InOut = true
+same_mode m n = false
+
+abbrev pub same_formals : List FormalEntry → List FormalEntry → Bool
+same_formals [] [] = true
+same_formals (f ∷ fs) (g ∷ gs) = same_mode f.mode g.mode && same f.ty g.ty && same_formals fs gs
+same_formals fs gs = false
+
+abbrev pub is_at_level : ℕ → Option RecordEntry → Bool
+is_at_level level None = false
+is_at_level level (Some r) = nat_eq r.level level
+
+-- whether a subprogram with these formals is this operation of a type of the same part
+abbrev pub is_operation : Tables → ℕ → OperationName → ℕ → List FormalEntry → Bool
+is_operation tables level o t fs =
+    is_at_level level (slice_get tables.records t) && provides (root_of (slice_get tables.records t)) (is_limited tables (ty.Record t)) o
+      && same_formals fs (operation_formals o (ty.Record t))
+
+abbrev pub overriding_first : Tables → ℕ → OperationName → List FormalEntry → Ty → Role
+overriding_first tables level o fs (ty.Record t) = if is_operation tables level o t fs then role.Overrides o t else role.Misplaced
+overriding_first tables level o fs t = role.Misplaced
+
+abbrev pub overriding_by : Tables → ℕ → OperationName → List FormalEntry → Option Ty → Role
+overriding_by tables level o (f ∷ fs) None = overriding_first tables level o (f ∷ fs) f.ty
+overriding_by tables level o fs r = role.Misplaced
+
+abbrev pub role_by : Tables → ℕ → Indicator → Option OperationName → List FormalEntry → Option Ty → Role
+role_by tables level i (Some o) fs r = overriding_by tables level o fs r
+role_by tables level indicator.Overriding None fs r = role.Misplaced
+role_by tables level indicator.Absent None fs r = role.Plain
+
+abbrev pub with_operation : OperationName → ℕ → Operations → Operations
+with_operation Initialize s os = record os { initialize = Some s }
+with_operation Adjust s os = record os { adjust = Some s }
+with_operation Finalize s os = record os { finalize = Some s }
+with_operation Allocate s os = record os { allocate = Some s }
+with_operation Deallocate s os = record os { deallocate = Some s }
+
+abbrev pub overridden : OperationName → ℕ → RecordState → RecordState
+overridden o s r = record r { operations = with_operation o s r.operations }
+
+-- the type calls this subprogram from here on; once it is frozen, it is too late (13.14(16))
+abbrev pub override : Span → OperationName → ℕ → ℕ → Draft → Draft
+override place o t s d =
+    early_when (not (is_free_type d.tables.states (ty.Record t))) rule.LatePrimitive place
+      (with_records (changed (overridden o s) t d.tables.states.records) d)
+
+abbrev pub play : Span → ℕ → Role → Draft → Draft
+play place s role.Plain d = d
+play place s role.Misplaced d = fault_when true rule.Override place d
+play place s (role.Overrides o t) d = override place o t s d
+
+-- Subprograms ---------------------------------------------------------------------------------------------------------------
+
+abbrev pub kind_of : Option (Mark Use) → SubprogramKind
+kind_of None = kind.Procedure
+kind_of (Some m) = kind.Function
+
+-- a body that has not come yet
+abbrev pub no_body : Master
+no_body = roll-Master (record { slots = 0; items = []; body = []; handlers = [] })
+
+abbrev pub add_subprogram : Around → SubprogramKind → Draft → Draft
+add_subprogram around k d = record d { subprograms = d.subprograms ++ (record { level = around.level; kind = k; body = no_body }) ∷ [] }
+
+abbrev pub profile : ℕ → List (List ℕ) → List FormalEntry × Option Ty → Profile
+profile s names h = record { subprogram = s; formals = h.0; names = names; result = h.1 }
+
+abbrev pub entry_of : ℕ → List (List ℕ) → Option (List FormalEntry × Option Ty) → Entry
+entry_of s names None = entry.Unknown
+entry_of s names (Some h) = entry.Subprogram (profile s names h)
+
+abbrev pub role_of : Around → Specification Definition Use → Option (List FormalEntry × Option Ty) → Tables → Role
+role_of around s None tables = role.Plain
+role_of around s (Some h) tables = role_by tables around.level s.indicator (operation_named s.name.identifier.text) h.0 h.1
+
+-- a subprogram that is declared here, with the next number
+abbrev pub introduce : Around → Specification Definition Use → Option (List FormalEntry × Option Ty) × Draft → Option ℕ × Draft
+introduce around s (h, d) =
+    (Some (length d.subprograms),
+    declare (entry_of (length d.subprograms) (formal_names s.formals) h)
+      (add_subprogram around (kind_of s.result) (play s.name.identifier.span (length d.subprograms) (role_of around s h d.tables) d)))
+
+abbrev pub declaration : Span → Specification Definition Use → Around → Draft → List Checked_item × Draft
+declaration place s around d = silent (introduce around s (heading place s d))
+  where
+    silent : Option ℕ × Draft → List Checked_item × Draft
+    silent (n, d) = (made.Silent ∷ [], d)
+
+-- the same names, but for case
+abbrev pub same_names : List (List ℕ) → List (List ℕ) → Bool
+same_names [] [] = true
+same_names (a ∷ as') (b ∷ bs) = same_name a b && same_names as' bs
+same_names as' bs = false
+
+abbrev pub same_results : Option Ty → Option Ty → Bool
+same_results None None = true
+same_results (Some s) (Some t) = same s t
+same_results s t = false
+
+-- a body repeats the names, modes and types of its declaration (6.3.1)
+abbrev pub conforms : Profile → List (List ℕ) → List FormalEntry × Option Ty → Bool
+conforms p names h = same_formals p.formals h.0 && same_names p.names names && same_results p.result h.1
+
+abbrev pub conformed : Profile → List (List ℕ) → Option (List FormalEntry × Option Ty) → Bool
+conformed p names None = true
+conformed p names (Some h) = conforms p names h
+
+abbrev pub completed : Span → Specification Definition Use → Option Entry → Option (List FormalEntry × Option Ty) × Draft → Option ℕ × Draft
+completed place s (Some (entry.Subprogram p)) (h, d) = (Some p.subprogram, fault_when (not (conformed p (formal_names s.formals) h)) rule.Type place d)
+completed place s e (h, d) = (None, d)
+
+-- the subprogram of a body, which may complete a declaration
+abbrev pub subprogram_of : Around → Span → Specification Definition Use → Option (List FormalEntry × Option Ty) × Draft → Option ℕ × Draft
+subprogram_of around place s (h, d) =
+    if nat_lt s.name.number (length d.tables.entries) then completed place s (slice_get d.tables.entries s.name.number) (h, d) else introduce around s (h, d)
+
+abbrev pub giving_of : Option (Mark Use) → Option (List FormalEntry × Option Ty) → Giving
+giving_of None h = giving.Nothing
+giving_of (Some m) (Some (fs, Some t)) = giving.Value t
+giving_of (Some m) h = giving.Unclear
+
+abbrev pub formal_mutability : Mode → Mutability
+formal_mutability mode.In = mutability.Constant
+formal_mutability m = mutability.Variable
+
+abbrev pub enter_formal_as : Around → Mode → Option Ty → Draft → Draft
+enter_formal_as around m None d = declare entry.Unknown d
+enter_formal_as around m (Some t) d = declare_object around t standing.Formal (formal_mutability m) aliasing.Unaliased d
+
+abbrev pub enter_names : Around → Mode → Option Ty → List Definition → Draft → Draft
+enter_names around m t [] d = d
+enter_names around m t (n ∷ ns) d = enter_names around m t ns (enter_formal_as around m t d)
+
+abbrev pub enter_typed : Around → Formal Definition Use → Option Ty × Draft → Draft
+enter_typed around f (t, d) = enter_names around f.mode t f.names d
+
+abbrev pub enter_formals : Around → Span → List (Formal Definition Use) → Draft → Draft
+enter_formals around place [] d = d
+enter_formals around place (f ∷ fs) d = enter_formals around place fs (enter_typed around f (by_tables (λ tables. named_type tables place f.mark) d))
+
+-- the body of this number is known
+abbrev pub with_body : ℕ → Master → Option Subprogram → Draft → Draft
+with_body s m None d = d
+with_body s m (Some p) d = record d { subprograms = slice_set d.subprograms s (record { level = p.level; kind = p.kind; body = m }) }
+
+abbrev pub put_body : Option ℕ → Option Master → Draft → Draft
+put_body (Some s) (Some m) d = with_body s m (slice_get d.subprograms s) d
+put_body s m d = d

@@ -1,0 +1,330 @@
+-- The checked form of statements, but for those that hold statements themselves (5.1 to 5.8, 6.4, 6.5, 11.3, A.10.7, 13.11).
+use Rattle.std.specs.Prelude.{ℕ, Bool, true, false, ◌&&◌, not, if◌then◌else◌, List, [], ◌∷◌, slice_get, Option, Some, None}
+use Rattle.ctl_tree.specs.declared.span.Span.{Span}
+use Rattle.ctl_tree.specs.declared.fault.FaultCode.TheVariants as rule
+use Rattle.ctl_program.specs.declared.types.Ty.{Ty}
+use Rattle.ctl_program.specs.declared.types.Ty.TheVariants as ty
+use Rattle.ctl_program.specs.declared.types.Root.{Root}
+use Rattle.ctl_program.specs.declared.types.Root.TheVariants as root
+use Rattle.ctl_program.specs.declared.types.Operations.{Operations}
+use Rattle.ctl_program.specs.declared.expression.Expr.{Expr}
+use Rattle.ctl_program.specs.declared.expression.Name.{Name as Checked_name}
+use Rattle.ctl_program.specs.declared.expression.Actual.{Actual}
+use Rattle.ctl_program.specs.declared.statement.Stmt.{Stmt}
+use Rattle.ctl_program.specs.declared.statement.Stmt.TheVariants as stmt
+use Rattle.ctl_syntax.specs.declared.denoted.Denoted.{Denoted}
+use Rattle.ctl_syntax.specs.declared.denoted.Denoted.TheVariants as denoted
+use Rattle.ctl_syntax.specs.declared.denoted.LibraryName.{LibraryName}
+use Rattle.ctl_syntax.specs.declared.denoted.LibraryName.TheVariants as library
+use Rattle.ctl_syntax.specs.declared.denoted.OperationName.{OperationName}
+use Rattle.ctl_syntax.specs.declared.denoted.OperationName.TheVariants.{Initialize, Adjust, Finalize, Allocate, Deallocate}
+use Rattle.ctl_syntax.specs.declared.denoted.Use.{Use}
+use Rattle.ctl_syntax.specs.declared.item.Limitation.{Limitation}
+use Rattle.ctl_syntax.specs.declared.item.Limitation.TheVariants as limitation
+use Rattle.ctl_syntax.specs.declared.item.Mode.{Mode}
+use Rattle.ctl_syntax.specs.declared.item.Mode.TheVariants as mode
+use Rattle.ctl_syntax.specs.declared.name.Identifier.{Identifier}
+use Rattle.ctl_syntax.specs.declared.name.Mark.{Mark}
+use Rattle.ctl_syntax.specs.declared.name.Suffix.{Suffix}
+use Rattle.ctl_syntax.specs.declared.name.Suffix.TheVariants as suffix
+use Rattle.ctl_typing.specs.declared.table.Tables.{Tables}
+use Rattle.ctl_typing.specs.declared.table.Entry.{Entry}
+use Rattle.ctl_typing.specs.declared.table.Entry.TheVariants as entry
+use Rattle.ctl_typing.specs.declared.table.FormalEntry.{FormalEntry}
+use Rattle.ctl_typing.specs.declared.table.Profile.{Profile}
+use Rattle.ctl_typing.specs.declared.table.RecordEntry.{RecordEntry}
+use Rattle.ctl_typing.specs.declared.table.RecordState.{RecordState}
+use Rattle.ctl_typing.specs.declared.found.Asked.TheVariants.{Anything, Exactly}
+use Rattle.ctl_typing.specs.declared.found.Typed.{Typed}
+use Rattle.ctl_typing.specs.declared.found.Place.{Place}
+use Rattle.ctl_types.specs.declared.assignments.Source.{Source}
+use Rattle.ctl_types.specs.declared.assignments.Source.TheVariants as as_source
+use Rattle.ctl_types.specs.declared.assignments.Target.{Target}
+use Rattle.ctl_typing.specs.declared.found.Found.{Found}
+use Rattle.ctl_typing.specs.declared.found.Found.TheVariants.{Part, Computed, Discriminant, View}
+use Rattle.ctl_types.specs.declared.draft.Around.{Around}
+use Rattle.ctl_types.specs.declared.draft.Draft.{Draft}
+use Rattle.ctl_types.specs.declared.draft.Giving.{Giving}
+use Rattle.ctl_types.specs.declared.draft.Giving.TheVariants as giving
+use Rattle.ctl_types.specs.declared.draft.Looping.{Looping}
+use Rattle.ctl_types.specs.declared.draft.Looping.TheVariants as looping
+use Rattle.ctl_types.specs.declared.draft.Handling.{Handling}
+use Rattle.ctl_types.specs.declared.draft.Handling.TheVariants as handling
+use Rattle.ctl_types.specs.declared.draft.Returning.TheVariants.{Somewhere}
+use Rattle.ctl_typing.specs.Judgement.{Judgement, known, but, wrong, noting, ◌>>=◌, both, following}
+use Rattle.ctl_typing.specs.Lookup.{same, root_of}
+use Rattle.ctl_typing.specs.Typing.{Sense, found, settled, name_of, as_variable, actuals_of, handed_on, truth_of}
+use Rattle.ctl_types.specs.Draft.{Doing, by_tables, broken}
+
+-- Limited types (7.5) -------------------------------------------------------------------------
+
+abbrev pub says_limited : Limitation → Bool
+says_limited limitation.Limited = true
+says_limited limitation.Nonlimited = false
+
+abbrev pub limited_in : Option RecordEntry → Bool
+limited_in None = false
+limited_in (Some r) = says_limited r.limitation
+
+abbrev pub is_limited : Tables → Ty → Bool
+is_limited tables (ty.Record t) = limited_in (slice_get tables.records t)
+is_limited tables t = false
+
+-- Variables that are written to ---------------------------------------------------------------
+
+-- the name of a variable of this type, told at its beginning where it is none
+abbrev pub written_part : Span → Ty → Place → Judgement Checked_name
+written_part place t p = if same t p.ty then as_variable place p.mutability (name_of p) else wrong rule.Type place
+
+abbrev pub written_name : Span → Ty → Found → Judgement Checked_name
+written_name place t (Part p) = written_part place t p
+written_name place t (View p) = written_part place t p
+written_name place t f = wrong rule.Mode place
+
+-- an actual that the call writes to is a name (6.4.1)
+abbrev pub writing : Tables → Ty → Sense → Judgement Checked_name
+writing tables t x = by_bare tables x.place t x.bare
+  where
+    by_bare : Tables → Span → Ty → Option (Tables → Judgement Found) → Judgement Checked_name
+    by_bare tables place t None = wrong rule.Mode place
+    by_bare tables place t (Some name) = name tables >>= written_name place t
+
+-- Assignments (5.2) -----------------------------------------------------------------------------
+
+abbrev pub limited_kept : Tables → Span → Target → Judgement Target
+limited_kept tables place t = if is_limited tables t.ty then but rule.Limited place t else known t
+
+-- what an assignment writes to: a variable that is not limited
+abbrev pub target_found : Tables → Span → Found → Judgement Target
+target_found tables place (Part p) = as_variable place p.mutability (record { name = name_of p; ty = p.ty }) >>= limited_kept tables place
+target_found tables place (Computed t) = wrong rule.Mode place
+target_found tables place (Discriminant p k) = wrong rule.Mode place
+target_found tables place f = wrong rule.Type place
+
+abbrev pub target : Tables → Use → List (Suffix Sense) → Judgement Target
+target tables u xs = found u xs tables >>= settled tables u.span >>= target_found tables u.span
+
+-- a record is read where a name denotes it, or as the result of a call; a view of it is none (profile)
+abbrev pub record_source : Span → ℕ → Found → Judgement Source
+record_source place t (Part p) = if same (ty.Record t) p.ty then noting p.ty (as_source.Record t (handed_on p.head p.steps)) else wrong rule.Type place
+record_source place t f = wrong rule.Type place
+
+abbrev pub value_source : Typed → Judgement Source
+value_source x = known (as_source.Value x.value)
+
+abbrev pub source_of_record : Tables → ℕ → Sense → Option (Tables → Judgement Found) → Judgement Source
+source_of_record tables t x None = x.judged tables (Exactly (ty.Record t)) >>= value_source
+source_of_record tables t x (Some name) = name tables >>= settled tables x.place >>= record_source x.place t
+
+abbrev pub source_of_type : Tables → Ty → Sense → Judgement Source
+source_of_type tables (ty.Record t) x = source_of_record tables t x x.named
+source_of_type tables t x = x.judged tables (Exactly t) >>= value_source
+
+abbrev pub source : Tables → Option Target → Sense → Judgement Source
+source tables None x = x.judged tables Anything >>= value_source
+source tables (Some t) x = source_of_type tables t.ty x
+
+abbrev pub assigning : Checked_name → Source → Stmt
+assigning to (as_source.Value x) = stmt.Assign to x
+assigning to (as_source.Record t a) = stmt.AssignRecord to t a
+
+abbrev pub assignment : Use → List (Suffix Sense) → Sense → Tables → Judgement Stmt
+assignment u xs x tables = following (target tables u xs) (λ t. source tables t x) >>= (λ r. known (assigning r.0.name r.1))
+
+-- Explicit calls of operations (7.6, 13.11) -------------------------------------------------------------
+
+-- the type of the first actual, by which the operation is told
+abbrev pub operand_found : Span → Found → Judgement Ty
+operand_found place (Part p) = known p.ty
+operand_found place (View p) = known p.ty
+operand_found place (Computed t) = known t.ty
+operand_found place (Discriminant p k) = known ty.Count
+operand_found place f = wrong rule.Type place
+
+abbrev pub operand_by : Tables → Sense → Option (Tables → Judgement Found) → Judgement Ty
+operand_by tables x None = x.judged tables Anything >>= (λ t. known t.ty)
+operand_by tables x (Some name) = name tables >>= settled tables x.place >>= operand_found x.place
+
+abbrev pub operand_type : Tables → Sense → Judgement Ty
+operand_type tables x = operand_by tables x x.bare
+
+-- the operations that a type has: Adjust is one of those that are not limited, Allocate and Deallocate of block pools (7.6, 13.11)
+abbrev pub provides : Root → Bool → OperationName → Bool
+provides root.Untagged limited o = false
+provides r limited Initialize = true
+provides r limited Finalize = true
+provides root.Controlled limited Adjust = not limited
+provides root.BlockPool limited Allocate = true
+provides root.BlockPool limited Deallocate = true
+provides r limited o = false
+
+abbrev pub user_operation : OperationName → Operations → Option ℕ
+user_operation Initialize os = os.initialize
+user_operation Adjust os = os.adjust
+user_operation Finalize os = os.finalize
+user_operation Allocate os = os.allocate
+user_operation Deallocate os = os.deallocate
+
+abbrev pub formal : Mode → Ty → FormalEntry
+formal m t = record { mode = m; ty = t }
+
+-- the formals of an operation of this type
+abbrev pub operation_formals : OperationName → Ty → List FormalEntry
+operation_formals Allocate t = formal mode.InOut t ∷ formal mode.Out ty.Address ∷ formal mode.In ty.Count ∷ formal mode.In ty.Count ∷ []
+operation_formals Deallocate t = formal mode.InOut t ∷ formal mode.In ty.Address ∷ formal mode.In ty.Count ∷ formal mode.In ty.Count ∷ []
+operation_formals o t = formal mode.InOut t ∷ []
+
+abbrev pub user_called : Tables → Span → OperationName → Ty → ℕ → List Sense → Judgement Stmt
+user_called tables place o t s xs = actuals_of tables place (operation_formals o t) xs >>= (λ as'. known (stmt.Call s as'))
+
+abbrev pub counted : Tables → Sense → Judgement Expr
+counted tables x = x.judged tables (Exactly ty.Count) >>= (λ r. known r.value)
+
+abbrev pub library_allocate : Tables → Ty → Sense → Sense → Sense → Sense → Judgement Stmt
+library_allocate tables t p a s l =
+    both (both (writing tables t p) (writing tables ty.Address a)) (both (counted tables s) (counted tables l)) >>= (λ r.
+    known (stmt.LibraryAllocate r.0.0 r.0.1 r.1.0 r.1.1))
+
+abbrev pub addressed : Tables → Sense → Judgement Expr
+addressed tables x = x.judged tables (Exactly ty.Address) >>= (λ r. known r.value)
+
+abbrev pub library_deallocate : Tables → Ty → Sense → Sense → Sense → Sense → Judgement Stmt
+library_deallocate tables t p a s l =
+    both (both (writing tables t p) (addressed tables a)) (both (counted tables s) (counted tables l)) >>= (λ r.
+    known (stmt.LibraryDeallocate r.0.0 r.0.1 r.1.0 r.1.1))
+
+-- the library's operation of the type, in number and type of its actuals
+abbrev pub library_operation : Tables → Span → OperationName → Ty → List Sense → Judgement Stmt
+library_operation tables place Allocate t (p ∷ a ∷ s ∷ l ∷ []) = library_allocate tables t p a s l
+library_operation tables place Allocate t xs = wrong rule.Type place
+library_operation tables place Deallocate t (p ∷ a ∷ s ∷ l ∷ []) = library_deallocate tables t p a s l
+library_operation tables place Deallocate t xs = wrong rule.Type place
+library_operation tables place o t (x ∷ []) = writing tables t x >>= (λ n. known (stmt.Nothing n))
+library_operation tables place o t xs = wrong rule.Type place
+
+abbrev pub operation_by : Tables → Span → OperationName → Ty → Option ℕ → List Sense → Judgement Stmt
+operation_by tables place o t None xs = library_operation tables place o t xs
+operation_by tables place o t (Some s) xs = user_called tables place o t s xs
+
+abbrev pub operations_of : Option RecordState → Operations
+operations_of None = record { initialize = None; adjust = None; finalize = None; allocate = None; deallocate = None }
+operations_of (Some s) = s.operations
+
+abbrev pub operation_of : Tables → Span → OperationName → List Sense → Ty → Judgement Stmt
+operation_of tables place o xs (ty.Record t) =
+    if provides (root_of (slice_get tables.records t)) (is_limited tables (ty.Record t)) o
+    then operation_by tables place o (ty.Record t) (user_operation o (operations_of (slice_get tables.states.records t))) xs
+    else wrong rule.Type place
+operation_of tables place o xs t = wrong rule.Type place
+
+-- an explicit call of an operation is one of the operation of the first actual's type
+abbrev pub operation_called : Tables → Span → OperationName → Sense → List Sense → Judgement Stmt
+operation_called tables place o x more = operand_type tables x >>= operation_of tables place o (x ∷ more)
+
+-- Calls (6.4) ----------------------------------------------------------------------------------------------
+
+-- a call without actuals, or with these
+abbrev pub arguments_of : List (Suffix Sense) → Option (List Sense)
+arguments_of [] = Some []
+arguments_of (suffix.Arguments s x more ∷ []) = Some (x ∷ more)
+arguments_of xs = None
+
+abbrev pub operation_with : Tables → Span → OperationName → Option (List Sense) → Judgement Stmt
+operation_with tables place o (Some (x ∷ more)) = operation_called tables place o x more
+operation_with tables place o xs = wrong rule.Type place
+
+-- the library's procedures (A.10.7, A.10.5, 13.11.5)
+abbrev pub library_with : Tables → Span → LibraryName → Option (List Sense) → Judgement Stmt
+library_with tables place library.NewLine (Some []) = known stmt.NewLine
+library_with tables place library.Put (Some (x ∷ [])) = x.texts tables >>= (λ ps. known (stmt.Put ps))
+library_with tables place library.PutLine (Some (x ∷ [])) = x.texts tables >>= (λ ps. known (stmt.PutLine ps))
+library_with tables place library.UncheckedDeallocateSubpool (Some (x ∷ [])) = writing tables ty.Handle x >>= (λ n. known (stmt.Release n))
+library_with tables place l xs = wrong rule.Type place
+
+abbrev pub procedure_called : Tables → Span → Profile → List Sense → Judgement Stmt
+procedure_called tables place p xs = by_result tables place p.result p xs
+  where
+    by_result : Tables → Span → Option Ty → Profile → List Sense → Judgement Stmt
+    by_result tables place None p xs = actuals_of tables place p.formals xs >>= (λ as'. known (stmt.Call p.subprogram as'))
+    by_result tables place (Some t) p xs = wrong rule.Type place
+
+-- what the text declares; an instance of Ada.Unchecked_Deallocation takes a variable of its access type (13.11.2)
+abbrev pub declared_with : Tables → Span → Option Entry → Option (List Sense) → Judgement Stmt
+declared_with tables place (Some (entry.Subprogram p)) (Some xs) = procedure_called tables place p xs
+declared_with tables place (Some (entry.Deallocation a)) (Some (x ∷ [])) = writing tables (ty.Access a) x >>= (λ n. known (stmt.Free a n))
+declared_with tables place (Some entry.Unknown) xs = λ n. (None, n)
+declared_with tables place e xs = wrong rule.Type place
+
+abbrev pub called_by : Tables → Span → Denoted → Option (List Sense) → Judgement Stmt
+called_by tables place (denoted.Declared number level) xs = declared_with tables place (slice_get tables.entries number) xs
+called_by tables place (denoted.Library l) xs = library_with tables place l xs
+called_by tables place (denoted.Operation o) xs = operation_with tables place o xs
+called_by tables place denoted.Unknown xs = λ n. (None, n)
+
+-- a call of a procedure
+abbrev pub call : Span → Use → List (Suffix Sense) → Tables → Judgement Stmt
+call place u xs tables = called_by tables place u.denoted (arguments_of xs)
+
+-- Exceptions (11.2, 11.3) --------------------------------------------------------------------------------------
+
+-- the exceptions of Standard have the first numbers
+abbrev pub constraint_error : ℕ
+constraint_error = 0
+
+abbrev pub program_error : ℕ
+program_error = 1
+
+abbrev pub storage_error : ℕ
+storage_error = 2
+
+abbrev pub exception_entry : Span → Option Entry → Judgement ℕ
+exception_entry place (Some (entry.Exception n)) = known n
+exception_entry place (Some entry.Unknown) = λ n. (None, n)
+exception_entry place e = wrong rule.Type place
+
+abbrev pub exception_denoted : Tables → Span → Denoted → Judgement ℕ
+exception_denoted tables place (denoted.Declared number level) = exception_entry place (slice_get tables.entries number)
+exception_denoted tables place (denoted.Library library.ConstraintError) = known constraint_error
+exception_denoted tables place (denoted.Library library.ProgramError) = known program_error
+exception_denoted tables place (denoted.Library library.StorageError) = known storage_error
+exception_denoted tables place denoted.Unknown = λ n. (None, n)
+exception_denoted tables place d = wrong rule.Type place
+
+abbrev pub exception_named : Tables → Span → Use → List Identifier → Judgement ℕ
+exception_named tables place u [] = exception_denoted tables place u.denoted
+exception_named tables place u (i ∷ is) = wrong rule.Type place
+
+abbrev pub raising : Span → Mark Use → Tables → Judgement Stmt
+raising place m tables = exception_named tables place m.first m.rest >>= (λ n. known (stmt.Raise n))
+
+-- Transfers (5.7, 6.5, 11.3) --------------------------------------------------------------------------------------
+
+abbrev pub raising_again : Span → Handling → Doing Stmt
+raising_again place handling.Outside = broken rule.Return place
+raising_again place handling.Inside = known stmt.RaiseAgain
+
+abbrev pub exit_by : Option Sense → Tables → Judgement Stmt
+exit_by None tables = known (stmt.Exit None)
+exit_by (Some x) tables = truth_of tables x >>= (λ c. known (stmt.Exit (Some c)))
+
+abbrev pub exiting : Span → Looping → Option Sense → Doing Stmt
+exiting place looping.Outside c = broken rule.Return place
+exiting place looping.Inside c = by_tables (exit_by c)
+
+abbrev pub with_return : Draft → Draft
+with_return d = record d { returning = Somewhere }
+
+abbrev pub return_value : Ty → Sense → Tables → Judgement Stmt
+return_value t x tables = x.judged tables (Exactly t) >>= (λ r. known (stmt.Return (Some r.value)))
+
+abbrev pub return_anything : Sense → Tables → Judgement Stmt
+return_anything x tables = x.judged tables Anything >>= (λ r. known (stmt.Return (Some r.value)))
+
+abbrev pub return_by : Span → Giving → Option Sense → Doing Stmt
+return_by place giving.Nothing None = known (stmt.Return None)
+return_by place (giving.Value t) (Some x) = by_tables (return_value t x)
+return_by place giving.Unclear (Some x) = by_tables (return_anything x)
+return_by place g x = broken rule.Return place
+
+abbrev pub returning : Span → Giving → Option Sense → Doing Stmt
+returning place g x d = return_by place g x (with_return d)

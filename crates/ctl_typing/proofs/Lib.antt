@@ -1,0 +1,3 @@
+pub mod Countdown
+pub mod Senses
+pub mod Turns

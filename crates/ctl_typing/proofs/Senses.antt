@@ -1,0 +1,54 @@
+-- What is known of an expression with several parts, by what is known of each of them.
+use Rattle.std.proofs.Common.{◌≡◌, refl, ap, List, [], ◌∷◌, map, Option, Some, None, option_map}
+use Rattle.ctl_tree.specs.declared.span.Span.{Span}
+use Rattle.ctl_syntax.specs.declared.denoted.Use.{Use}
+use Rattle.ctl_syntax.specs.declared.name.Name.{Name}
+use Rattle.ctl_syntax.specs.declared.name.Mark.{Mark}
+use Rattle.ctl_syntax.specs.declared.name.Suffix.{Suffix}
+use Rattle.ctl_syntax.specs.declared.name.Suffix.TheVariants as suffix
+use Rattle.ctl_syntax.specs.declared.operators.Operand.{Operand}
+use Rattle.ctl_syntax.specs.declared.expression.Expression.{Expression, map-Expression, fold-roll-Expression}
+use Rattle.ctl_syntax.specs.declared.expression.Expression.TheOpen.{Expression-F}
+use Rattle.ctl_syntax.specs.declared.expression.Expression.TheVariants as x
+use Rattle.ctl_syntax.specs.declared.expression.Expression.TheVariants.{rolls-Name, rolls-Chain, rolls-New}
+use Rattle.ctl_typing.specs.Senses.{suffix_sense, name_sense, operand_sense}
+use Rattle.ctl_typing.specs.Typing.{Sense, sense, step_of}
+
+-- a suffix before those of a name
+abbrev with_suffix : Suffix Sense → Expression-F Use Sense → Expression-F Use Sense
+with_suffix s (Expression-F.Name p u) = Expression-F.Name p (record { first = u.first; suffixes = s ∷ u.suffixes })
+with_suffix s y = y
+
+name_layer : (p : Span) (u : Use) (xs : List (Suffix (Expression Use))) → map-Expression Use (Expression Use) Sense sense (Expression-F.Name p (record { first = u; suffixes = xs })) ≡ Expression-F.Name p (record { first = u; suffixes = map suffix_sense xs })
+name_layer p u [] = refl
+name_layer p u (suffix.Selector i ∷ xs) = ap (with_suffix (suffix.Selector i)) (name_layer p u xs)
+name_layer p u (suffix.All s ∷ xs) = ap (with_suffix (suffix.All s)) (name_layer p u xs)
+name_layer p u (suffix.Arguments s y more ∷ xs) = ap (with_suffix (suffix.Arguments s (sense y) (map sense more))) (name_layer p u xs)
+name_layer p u (suffix.Attribute s a ∷ xs) = ap (with_suffix (suffix.Attribute s a)) (name_layer p u xs)
+
+pub sense_name : (p : Span) (u : Name Use (Expression Use)) → sense (x.Name p u) ≡ step_of (Expression-F.Name p (name_sense u))
+sense_name p u = rw (← rolls-Name, fold-roll-Expression) (ap step_of (name_layer p u.first u.suffixes))
+
+pub sense_chain : (p : Span) (a : Expression Use) (o : Operand (Expression Use)) (os : List (Operand (Expression Use))) → sense (x.Chain p a o os) ≡ step_of (Expression-F.Chain p (sense a) (operand_sense o) (map operand_sense os))
+sense_chain p a o os = rw (← rolls-Chain, fold-roll-Expression) refl
+
+-- a suffix before those of a handle
+abbrev with_handle_suffix : Suffix Sense → Expression-F Use Sense → Expression-F Use Sense
+with_handle_suffix s (Expression-F.New p (Some u) m v) = Expression-F.New p (Some (record { first = u.first; suffixes = s ∷ u.suffixes })) m v
+with_handle_suffix s y = y
+
+handle_layer : (p : Span) (u : Use) (m : Mark Use) (v : Option (Expression Use)) (xs : List (Suffix (Expression Use))) → map-Expression Use (Expression Use) Sense sense (Expression-F.New p (Some (record { first = u; suffixes = xs })) m v) ≡ Expression-F.New p (Some (record { first = u; suffixes = map suffix_sense xs })) m (option_map sense v)
+handle_layer p u m None [] = refl
+handle_layer p u m (Some v) [] = refl
+handle_layer p u m v (suffix.Selector i ∷ xs) = ap (with_handle_suffix (suffix.Selector i)) (handle_layer p u m v xs)
+handle_layer p u m v (suffix.All s ∷ xs) = ap (with_handle_suffix (suffix.All s)) (handle_layer p u m v xs)
+handle_layer p u m v (suffix.Arguments s y more ∷ xs) = ap (with_handle_suffix (suffix.Arguments s (sense y) (map sense more))) (handle_layer p u m v xs)
+handle_layer p u m v (suffix.Attribute s a ∷ xs) = ap (with_handle_suffix (suffix.Attribute s a)) (handle_layer p u m v xs)
+
+new_layer : (p : Span) (h : Option (Name Use (Expression Use))) (m : Mark Use) (v : Option (Expression Use)) → map-Expression Use (Expression Use) Sense sense (Expression-F.New p h m v) ≡ Expression-F.New p (option_map name_sense h) m (option_map sense v)
+new_layer p None m None = refl
+new_layer p None m (Some v) = refl
+new_layer p (Some u) m v = handle_layer p u.first m v u.suffixes
+
+pub sense_new : (p : Span) (h : Option (Name Use (Expression Use))) (m : Mark Use) (v : Option (Expression Use)) → sense (x.New p h m v) ≡ step_of (Expression-F.New p (option_map name_sense h) m (option_map sense v))
+sense_new p h m v = rw (← rolls-New, fold-roll-Expression) (ap step_of (new_layer p h m v))

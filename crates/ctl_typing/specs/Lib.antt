@@ -1,0 +1,5 @@
+pub mod Allocating
+pub mod Judgement
+pub mod Lookup
+pub mod Senses
+pub mod Typing

@@ -1,0 +1,120 @@
+//! What is handed on for a formal parameter (RM 6.2, 6.4.1).
+
+ghost use Rattle.std.specs.Prelude.{◌≡◌, IfOk};
+ghost use Rattle.ctl_typing.specs.Judgement.{Answers, Judges};
+ghost use Rattle.ctl_typing.specs.Typing as spec;
+
+use crate::found::{Found, Head, Place};
+use crate::judging::{is_same, note, note_deed, wrong};
+use crate::names::name_at;
+use crate::notes::{Deed, Notes};
+use crate::table::Mutability;
+use ctl_program::expression::{Actual, Step};
+use ctl_program::operators::CopyStart;
+use ctl_program::types::Ty;
+use ctl_syntax::item::Mode;
+use ctl_tree::fault::FaultCode;
+use ctl_tree::span::Span;
+use sqlite_items::Items;
+use std::alloc::{AllocError, Global};
+
+/// Notes a name that is written to and denotes no variable (RM 6.4.1).
+pub fn as_variable<T>(place: Span, mutability: Mutability, value: T, notes: &mut Notes) -> Option<T>
+    ensures { Answers (spec.as_variable place mutability value) notes.old result notes.new }
+{
+    match mutability {
+        Mutability::Variable => {}
+        Mutability::Constant => note(notes, FaultCode::Mode, place),
+    }
+    Some(value)
+}
+
+/// Answers what the copy of an actual begins with (RM 6.4.1).
+fn start_of(mode: Mode, ty: Ty) -> CopyStart
+    ensures { result ≡ spec.start_of mode ty }
+{
+    match (mode, ty) {
+        (Mode::InOut, _) | (_, Ty::Access(_)) | (_, Ty::Handle) => CopyStart::Actual,
+        _ => CopyStart::Beginning,
+    }
+}
+
+/// Hands a name on that is written to: a record by reference, any other by copy (RM 6.2).
+fn by_name(alloc: Global, mode: Mode, part: Place) -> Result<Actual, AllocError>
+    ensures { IfOk result (λ actual. actual ≡ spec.by_name mode part) }
+{
+    let ty = part.ty;
+    let name = name_at(alloc, part.head, part.steps)?;
+    match ty {
+        Ty::Record(_) => Ok(Actual::Part(name)),
+        _ => Ok(Actual::Copied(name, ty, start_of(mode, ty))),
+    }
+}
+
+/// Judges a name that is written to: a variable of the formal's type (RM 6.4.1).
+fn written(
+    alloc: Global,
+    place: Span,
+    mode: Mode,
+    ty: Ty,
+    part: Place,
+    notes: &mut Notes,
+) -> Result<Option<Actual>, AllocError>
+    ensures { Judges (spec.written place mode ty part) notes.old result notes.new }
+{
+    if !is_same(ty, part.ty) {
+        return Ok(wrong(FaultCode::Type, place, notes));
+    }
+    let mutability = part.mutability;
+    let actual = by_name(alloc, mode, part)?;
+    Ok(as_variable(place, mutability, actual, notes))
+}
+
+/// Judges what a name is as the actual of a formal that is written to (RM 6.4.1).
+pub fn written_found(
+    alloc: Global,
+    place: Span,
+    mode: Mode,
+    ty: Ty,
+    found: Found,
+    notes: &mut Notes,
+) -> Result<Option<Actual>, AllocError>
+    ensures { Judges (spec.written_found place mode ty found) notes.old result notes.new }
+{
+    match found {
+        Found::Part(part) | Found::View(part) => written(alloc, place, mode, ty, part, notes),
+        _ => Ok(wrong(FaultCode::Mode, place, notes)),
+    }
+}
+
+/// Hands a record on: by reference where a name denotes it (RM 6.2).
+fn handed_on(alloc: Global, head: Head, steps: Items<Step>) -> Result<Actual, AllocError>
+    ensures { IfOk result (λ actual. actual ≡ spec.handed_on head steps) }
+{
+    match head {
+        Head::Given(value) if steps.is_empty() => Ok(Actual::ByValue(value)),
+        head => Ok(Actual::Part(name_at(alloc, head, steps)?)),
+    }
+}
+
+/// Judges what a name is as the actual of a formal of a record type and of mode `in` (RM 6.2).
+pub fn record_found(
+    alloc: Global,
+    place: Span,
+    ty: Ty,
+    found: Found,
+    notes: &mut Notes,
+) -> Result<Option<Actual>, AllocError>
+    ensures { Judges (spec.record_found place ty found) notes.old result notes.new }
+{
+    let part = match found {
+        Found::Part(part) | Found::View(part) => part,
+        _ => return Ok(wrong(FaultCode::Type, place, notes)),
+    };
+    if !is_same(ty, part.ty) {
+        return Ok(wrong(FaultCode::Type, place, notes));
+    }
+    let actual = handed_on(alloc, part.head, part.steps)?;
+    note_deed(notes, Deed::Freezes(ty))?;
+    Ok(Some(actual))
+}

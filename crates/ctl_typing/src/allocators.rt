@@ -1,0 +1,103 @@
+//! What an allocator makes (RM 4.8, 13.11.4).
+
+ghost use Rattle.std.specs.Prelude.{◌≡◌};
+ghost use Rattle.ctl_typing.specs.Judgement.{Answers, Judges};
+ghost use Rattle.ctl_typing.specs.Typing as spec;
+ghost use Rattle.ctl_typing.specs.Allocating as allocating;
+
+use crate::found::{Asked, Found, Typed};
+use crate::judging::{note_deed, wrong};
+use crate::names::value_at;
+use crate::notes::{Deed, Notes};
+use crate::table::{Concreteness, Tables};
+use crate::values::designates;
+use ctl_program::expression::Expr;
+use ctl_program::types::Ty;
+use ctl_tree::fault::FaultCode;
+use ctl_tree::span::Span;
+use sqlite_items::Boxed;
+use std::alloc::{AllocError, Global};
+
+/// Judges what a name is as a handle (RM 13.11.4).
+pub fn handle_found(
+    alloc: Global,
+    place: Span,
+    found: Found,
+    notes: &mut Notes,
+) -> Result<Option<Expr>, AllocError>
+    ensures { Judges (spec.handle_found place found) notes.old result notes.new }
+{
+    match found {
+        Found::Part(part) => match part.ty {
+            Ty::Handle => Ok(Some(value_at(alloc, part.head, part.steps, Ty::Handle)?)),
+            _ => Ok(wrong(FaultCode::Type, place, notes)),
+        },
+        Found::Computed(typed) => match typed.ty {
+            Ty::Handle => Ok(Some(typed.value)),
+            _ => Ok(wrong(FaultCode::Type, place, notes)),
+        },
+        _ => Ok(wrong(FaultCode::Type, place, notes)),
+    }
+}
+
+/// Tells whether there may be objects of a type: Controlled and Limited_Controlled are abstract (RM 3.9.3, 7.6).
+pub fn has_objects(tables: &Tables, ty: Ty) -> bool
+    ensures { result ≡ spec.has_objects tables.now ty }
+{
+    let Ty::Record(number) = ty else {
+        return true;
+    };
+    match sqlite_items::at(tables.records.as_slice(), number) {
+        Some(entry) => entry.concreteness == Concreteness::Concrete,
+        None => false,
+    }
+}
+
+/// Answers the access type that the place of an allocator asks, where it designates the type of the new object (RM 4.8).
+pub fn allocates(
+    tables: &Tables,
+    place: Span,
+    asked: Asked,
+    ty: Ty,
+    notes: &mut Notes,
+) -> Option<usize>
+    ensures { Answers (spec.allocates tables.now place asked ty) notes.old result notes.new }
+{
+    match asked {
+        Asked::Exactly(Ty::Access(access))
+            if designates(tables, access, ty) && has_objects(tables, ty) => { Some(access) }
+        _ => wrong(FaultCode::Type, place, notes),
+    }
+}
+
+/// Makes an allocator, and notes what it does: it allocates, and creates an object by its value or by its defaults (RM 4.8, 13.14).
+pub fn allocated(
+    alloc: Global,
+    access: usize,
+    ty: Ty,
+    handle: Option<Expr>,
+    value: Option<Expr>,
+    notes: &mut Notes,
+) -> Result<Option<Typed>, AllocError>
+    ensures { Judges (allocating.allocated access ty handle value) notes.old result notes.new }
+{
+    note_deed(notes, Deed::Freezes(Ty::Access(access)))?;
+    note_deed(notes, Deed::Freezes(ty))?;
+    note_deed(notes, Deed::Allocates(access))?;
+    note_deed(notes, Deed::Creates(ty))?;
+    let value = match value {
+        Some(value) => Some(Boxed::new(alloc, value)?),
+        None => {
+            note_deed(notes, Deed::Initializes(ty))?;
+            None
+        }
+    };
+    let handle = match handle {
+        Some(handle) => Some(Boxed::new(alloc, handle)?),
+        None => None,
+    };
+    Ok(Some(Typed {
+        ty: Ty::Access(access),
+        value: Expr::New(access, ty, handle, value),
+    }))
+}

@@ -1,0 +1,130 @@
+//! Conversions, and functions on mark pools (RM 4.6, 13.11.4).
+
+ghost use Rattle.std.specs.Prelude.{◌≡◌};
+ghost use Rattle.ctl_typing.specs.Judgement.{Answers, Judges};
+ghost use Rattle.ctl_typing.specs.Typing as spec;
+
+use crate::actuals::as_variable;
+use crate::found::{Found, Place, Typed};
+use crate::judging::{is_same, wrong};
+use crate::lookup::{descends, designated_by, is_general, level_of_access};
+use crate::names::{given_place, name_at};
+use crate::notes::Notes;
+use crate::table::{MARK_RELEASE_POOL, Tables};
+use crate::values::at_level;
+use ctl_program::expression::Expr;
+use ctl_program::operators::SubpoolFunction;
+use ctl_program::types::Ty;
+use ctl_tree::fault::FaultCode;
+use ctl_tree::span::Span;
+use sqlite_items::Boxed;
+use std::alloc::{AllocError, Global};
+
+/// Converts a number to a number type (RM 4.6).
+pub fn converted_number(alloc: Global, ty: Ty, typed: Typed) -> Result<Option<Found>, AllocError>
+    ensures { (notes : _) → Judges (spec.converted_number ty typed) notes result notes }
+{
+    let value = Expr::Convert(ty, Boxed::new(alloc, typed.value)?);
+    Ok(Some(Found::Computed(Typed { ty, value })))
+}
+
+/// Tells whether a type converts to an access type: between those of one designated type, to a general one (RM 4.6).
+fn is_convertible(tables: &Tables, access: usize, ty: Ty) -> bool
+    ensures { result ≡ spec.is_convertible tables.now access ty }
+{
+    let Ty::Access(from) = ty else {
+        return false;
+    };
+    if access == from {
+        return true;
+    }
+    match (designated_by(tables, access), designated_by(tables, from)) {
+        (Some(to), Some(of)) => is_general(tables, access) && is_same(to, of),
+        _ => false,
+    }
+}
+
+/// Answers how many masters stand around the declaration of a value's type.
+fn level_of(tables: &Tables, ty: Ty) -> usize
+    ensures { result ≡ spec.level_of tables.now ty }
+{
+    match ty {
+        Ty::Access(access) => level_of_access(tables, access),
+        _ => 0,
+    }
+}
+
+/// Converts an access value to an access type (RM 4.6, 3.10.2).
+pub fn converted_access(
+    alloc: Global,
+    tables: &Tables,
+    place: Span,
+    access: usize,
+    typed: Typed,
+    notes: &mut Notes,
+) -> Option<Found>
+    ensures { Answers (spec.converted_access tables.now place access typed) notes.old result notes.new }
+{
+    if !is_convertible(tables, access, typed.ty) {
+        return wrong(FaultCode::Type, place, notes);
+    }
+    let operand = level_of(tables, typed.ty);
+    let converted = Typed {
+        ty: Ty::Access(access),
+        value: typed.value,
+    };
+    let part = Found::Part(given_place(alloc, converted));
+    at_level(place, operand, level_of_access(tables, access), part, notes)
+}
+
+/// Views a record object as its ancestor (RM 4.6).
+pub fn viewed(
+    tables: &Tables,
+    place: Span,
+    number: usize,
+    found: Found,
+    notes: &mut Notes,
+) -> Option<Found>
+    ensures { Answers (spec.viewed tables.now place number found) notes.old result notes.new }
+{
+    let Found::Part(part) = found else {
+        return wrong(FaultCode::Type, place, notes);
+    };
+    match part.ty {
+        Ty::Record(from) if descends(tables, number, from) => Some(Found::View(Place {
+            head: part.head,
+            steps: part.steps,
+            ty: Ty::Record(number),
+            mutability: part.mutability,
+            aliasing: part.aliasing,
+        })),
+        _ => wrong(FaultCode::Type, place, notes),
+    }
+}
+
+/// Judges a call of a function on a mark pool, of which the argument is a variable (RM 13.11.4).
+pub fn subpool_of(
+    alloc: Global,
+    place: Span,
+    function: SubpoolFunction,
+    found: Found,
+    notes: &mut Notes,
+) -> Result<Option<Found>, AllocError>
+    ensures { Judges (spec.subpool_of place function found) notes.old result notes.new }
+{
+    let Found::Part(part) = found else {
+        return Ok(wrong(FaultCode::Type, place, notes));
+    };
+    match part.ty {
+        Ty::Record(number) if number == MARK_RELEASE_POOL => {
+            let name = name_at(alloc, part.head, part.steps)?;
+            let value = Expr::Subpool(function, name);
+            let typed = Typed {
+                ty: Ty::Handle,
+                value,
+            };
+            Ok(as_variable(place, part.mutability, Found::Computed(typed), notes))
+        }
+        _ => Ok(wrong(FaultCode::Type, place, notes)),
+    }
+}
