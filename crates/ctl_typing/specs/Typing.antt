@@ -675,11 +675,14 @@ value_judged tables t None = known None
 value_judged tables None (Some x) = x.judged tables Anything >>= (λ r. known (Some r.value))
 value_judged tables (Some t) (Some x) = x.judged tables (Exactly t) >>= (λ r. known (Some r.value))
 
--- what an allocator does: it allocates, and creates an object, by its value or by its defaults; the type of that is frozen with its own
--- (13.14)
+-- it allocates, and creates an object, whose type is frozen with its own (13.14)
+abbrev pub creating : ℕ → Ty → List Deed
+creating a t = Freezes (ty.Access a) ∷ Freezes t ∷ Allocates a ∷ Creates t ∷ []
+
+-- what an allocator does: the object begins with its value, or with its defaults
 abbrev pub making : ℕ → Ty → Option Expr → List Deed
-making a t None = Freezes (ty.Access a) ∷ Freezes t ∷ Allocates a ∷ Creates t ∷ Initializes t ∷ []
-making a t (Some v) = Freezes (ty.Access a) ∷ Freezes t ∷ Allocates a ∷ Creates t ∷ []
+making a t None = creating a t ++ Initializes t ∷ []
+making a t (Some v) = creating a t
 
 abbrev pub new_judged : Span → Option (Name Use Sense) → Mark Use → Option Sense → Tables → Asked → Judgement Typed
 new_judged place handle mark value tables asked =

@@ -1,8 +1,9 @@
 //! What an allocator makes (RM 4.8, 13.11.4).
 
-ghost use Rattle.std.specs.Prelude.{◌≡◌};
-ghost use Rattle.ctl_typing.specs.Judgement.{Answers, Judges};
+ghost use Rattle.std.specs.Prelude.{◌≡◌, IfOk, OnOk};
+ghost use Rattle.ctl_typing.specs.Judgement.{Answers, Judges, with_deeds};
 ghost use Rattle.ctl_typing.specs.Typing as spec;
+ghost use Rattle.ctl_typing.specs.Typing.{creating};
 ghost use Rattle.ctl_typing.specs.Allocating as allocating;
 
 use crate::found::{Asked, Found, Typed};
@@ -70,6 +71,26 @@ pub fn allocates(
     }
 }
 
+/// Moves a value into a box, where there is one.
+fn boxed(alloc: Global, value: Option<Expr>) -> Result<Option<Boxed<Expr>>, AllocError>
+    ensures { IfOk result (λ boxed. boxed ≡ value) }
+{
+    match value {
+        Some(value) => Ok(Some(Boxed::new(alloc, value)?)),
+        None => Ok(None),
+    }
+}
+
+/// Notes that an object of a type is allocated and created (RM 4.8, 13.14).
+fn note_creation(access: usize, ty: Ty, notes: &mut Notes) -> Result<(), AllocError>
+    ensures { OnOk result (notes.new ≡ record notes.old { deeds = with_deeds (creating access ty) notes.old.deeds }) }
+{
+    note_deed(notes, Deed::Freezes(Ty::Access(access)))?;
+    note_deed(notes, Deed::Freezes(ty))?;
+    note_deed(notes, Deed::Allocates(access))?;
+    note_deed(notes, Deed::Creates(ty))
+}
+
 /// Makes an allocator, and notes what it does: it allocates, and creates an object by its value or by its defaults (RM 4.8, 13.14).
 pub fn allocated(
     alloc: Global,
@@ -81,21 +102,12 @@ pub fn allocated(
 ) -> Result<Option<Typed>, AllocError>
     ensures { Judges (allocating.allocated access ty handle value) notes.old result notes.new }
 {
-    note_deed(notes, Deed::Freezes(Ty::Access(access)))?;
-    note_deed(notes, Deed::Freezes(ty))?;
-    note_deed(notes, Deed::Allocates(access))?;
-    note_deed(notes, Deed::Creates(ty))?;
-    let value = match value {
-        Some(value) => Some(Boxed::new(alloc, value)?),
-        None => {
-            note_deed(notes, Deed::Initializes(ty))?;
-            None
-        }
-    };
-    let handle = match handle {
-        Some(handle) => Some(Boxed::new(alloc, handle)?),
-        None => None,
-    };
+    note_creation(access, ty, notes)?;
+    if value.is_none() {
+        note_deed(notes, Deed::Initializes(ty))?;
+    }
+    let handle = boxed(alloc, handle)?;
+    let value = boxed(alloc, value)?;
     Ok(Some(Typed {
         ty: Ty::Access(access),
         value: Expr::New(access, ty, handle, value),
