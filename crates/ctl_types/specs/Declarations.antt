@@ -51,7 +51,7 @@ use Rattle.ctl_typing.specs.declared.table.RecordEntry.{RecordEntry}
 use Rattle.ctl_typing.specs.declared.table.RecordState.{RecordState}
 use Rattle.ctl_typing.specs.declared.table.Standing.TheVariants as standing
 use Rattle.ctl_typing.specs.declared.found.Asked.TheVariants.{Anything, Exactly}
-use Rattle.ctl_typing.specs.declared.found.Associated.TheVariants.{Discriminants, Deallocation}
+use Rattle.ctl_types.specs.declared.associations.Associated.TheVariants.{Discriminants, Deallocation}
 use Rattle.ctl_typing.specs.declared.found.Found.{Found}
 use Rattle.ctl_typing.specs.declared.found.Found.TheVariants.{TypeName}
 use Rattle.ctl_types.specs.declared.draft.Draft.{Draft}

@@ -79,6 +79,7 @@ use Rattle.ctl_types.specs.declared.draft.Returning.{Returning}
 use Rattle.ctl_types.specs.declared.draft.Returning.TheVariants as returning
 use Rattle.ctl_tree.specs.Faults.{fault_at}
 use Rattle.ctl_typing.specs.Judgement.{Judgement, known, wrong, with_known, ◌>>=◌, both, each}
+use Rattle.ctl_typing.specs.Senses.{suffix_sense}
 use Rattle.ctl_typing.specs.Typing.{Sense, sense, truth_of, together}
 use Rattle.ctl_types.specs.Draft.{Doing, by_tables, fault_when, declare, declare_object, enter, leave_view, next_var}
 use Rattle.ctl_types.specs.Freezing.{freeze_all, end_of_part}
@@ -86,16 +87,6 @@ use Rattle.ctl_types.specs.Statements.{assignment, call, raising, raising_again,
 use Rattle.ctl_types.specs.Statements as simple
 use Rattle.ctl_types.specs.Types.{record_type, extension, access_type, pool_clause}
 use Rattle.ctl_types.specs.Declarations.{objects, exceptions, instance, heading, declaration, subprogram_of, giving_of, enter_formals, put_body, add_subprogram}
-
--- the suffixes of a name, each expression in them judged
-abbrev pub map_suffixes : List (Suffix (Expression Use)) → List (Suffix Sense)
-map_suffixes xs = map suffix_of xs
-  where
-    suffix_of : Suffix (Expression Use) → Suffix Sense
-    suffix_of (suffix.Selector i) = suffix.Selector i
-    suffix_of (suffix.All s) = suffix.All s
-    suffix_of (suffix.Arguments s x more) = suffix.Arguments s (sense x) (map sense more)
-    suffix_of (suffix.Attribute s a) = suffix.Attribute s a
 
 -- What each construct is ------------------------------------------------------------------------------
 
@@ -358,8 +349,8 @@ item_step i = item_of i.span i.kind
 
 abbrev pub statement_step : Statement-F Definition Use Says Does Part_of → Says
 statement_step (Statement-F.Null place) around = known stmt.Null
-statement_step (Statement-F.Assignment place to x) around = by_tables (assignment to.first (map_suffixes to.suffixes) (sense x))
-statement_step (Statement-F.Call place n) around = by_tables (call place n.first (map_suffixes n.suffixes))
+statement_step (Statement-F.Assignment place to x) around = by_tables (assignment to.first (map suffix_sense to.suffixes) (sense x))
+statement_step (Statement-F.Call place n) around = by_tables (call place n.first (map suffix_sense n.suffixes))
 statement_step (Statement-F.Exit place c) around = exiting place around.looping (option_map sense c)
 statement_step (Statement-F.Return place x) around = simple.returning place around.giving (option_map sense x)
 statement_step (Statement-F.Raise place m) around = by_tables (raising place m)

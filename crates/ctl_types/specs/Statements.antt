@@ -112,12 +112,12 @@ record_source place t f = wrong rule.Type place
 abbrev pub value_source : Typed → Judgement Source
 value_source x = known (as_source.Value x.value)
 
-abbrev pub source_of_record : Tables → ℕ → Sense → Option (Tables → Judgement Found) → Judgement Source
-source_of_record tables t x None = x.judged tables (Exactly (ty.Record t)) >>= value_source
-source_of_record tables t x (Some name) = name tables >>= settled tables x.place >>= record_source x.place t
+abbrev pub source_of_record : Tables → Span → ℕ → Sense → Option (Tables → Judgement Found) → Judgement Source
+source_of_record tables place t x None = x.judged tables (Exactly (ty.Record t)) >>= value_source
+source_of_record tables place t x (Some name) = name tables >>= settled tables place >>= record_source place t
 
 abbrev pub source_of_type : Tables → Ty → Sense → Judgement Source
-source_of_type tables (ty.Record t) x = source_of_record tables t x x.named
+source_of_type tables (ty.Record t) x = source_of_record tables x.place t x x.named
 source_of_type tables t x = x.judged tables (Exactly t) >>= value_source
 
 abbrev pub source : Tables → Option Target → Sense → Judgement Source
