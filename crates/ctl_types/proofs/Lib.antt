@@ -1,1 +1,5 @@
 pub mod Changes
+pub mod Conditionals
+pub mod Drafts
+pub mod Ordered
+pub mod Wholes

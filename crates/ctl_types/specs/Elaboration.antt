@@ -73,6 +73,7 @@ use Rattle.ctl_types.specs.declared.draft.Giving.{Giving}
 use Rattle.ctl_types.specs.declared.draft.Giving.TheVariants as giving
 use Rattle.ctl_types.specs.declared.draft.Handling.TheVariants as handling
 use Rattle.ctl_types.specs.declared.draft.Looping.TheVariants as looping
+use Rattle.ctl_types.specs.declared.masters.Opened.{Opened}
 use Rattle.ctl_types.specs.declared.draft.Order.{Order}
 use Rattle.ctl_types.specs.declared.draft.Order.TheVariants as order
 use Rattle.ctl_types.specs.declared.draft.Returning.{Returning}
@@ -239,18 +240,13 @@ abbrev pub is_others : Choices Use → Bool
 is_others choices.Others = true
 is_others c = false
 
-abbrev pub any_others : List (Handler Says Use) → Bool
-any_others [] = false
-any_others (h ∷ hs) = is_others h.choices || any_others hs
-
--- whether `others` stands in a handler that is not the last (11.2(5))
-abbrev pub others_early : List (Handler Says Use) → Bool
-others_early [] = false
-others_early (h ∷ []) = false
-others_early (h ∷ g ∷ hs) = is_others h.choices || others_early (g ∷ hs)
+-- whether a handler stands behind one of `others` (11.2(5))
+abbrev pub others_early : Bool → List (Handler Says Use) → Bool
+others_early before [] = false
+others_early before (h ∷ hs) = before || others_early (is_others h.choices) hs
 
 abbrev pub handlers : Span → Around → List (Handler Says Use) → Doing (List Checked_handler)
-handlers place around hs d = each (handler place around) (Some []) hs (fault_when (others_early hs) rule.Type place d)
+handlers place around hs d = each (handler place around) (Some []) hs (fault_when (others_early false hs) rule.Type place d)
 
 -- Bodies (6.3, 5.6, 11.2) -------------------------------------------------------------------------------------------------------
 
@@ -302,22 +298,28 @@ abbrev pub subprogram_body : Span → Specification Definition Use → Does → 
 subprogram_body place s body around g d =
     returned_from d s.name.identifier.span g (body place (inside around g d) (enter_formals (inside around g d) place s.formals (fresh d)))
 
+abbrev pub opened_with : Giving → Option ℕ → List Checked_item × Draft → Opened × Draft
+opened_with g n (layers, d) = (record { giving = g; number = n; layers = layers }, d)
+
+abbrev pub opened_as : Around → Giving → Option ℕ × Draft → Opened × Draft
+opened_as around g (n, d) = opened_with g n (freeze_all around d)
+
+abbrev pub opened_by : Span → Specification Definition Use → Around → Option (List FormalEntry × Option Ty) × Draft → Opened × Draft
+opened_by place s around (h, d) = opened_as around (giving_of s.result h) (subprogram_of around place s (h, d))
+
+-- a body freezes the types of its part, after the declaration that it may make itself (13.14(3))
+abbrev pub opened : Span → Specification Definition Use → Around → Draft → Opened × Draft
+opened place s around d = opened_by place s around (heading place s d)
+
 abbrev pub body_put : Option ℕ → List Checked_item → Option Master × Draft → Option (List Checked_item) × Draft
 body_put n layers (None, d) = (None, d)
 body_put n layers (Some m, d) = (Some (layers ++ made.Silent ∷ []), put_body n (Some m) d)
 
-abbrev pub body_frozen : Span → Specification Definition Use → Does → Around → Giving → Option ℕ → List Checked_item × Draft → Option (List Checked_item) × Draft
-body_frozen place s body around g n (layers, d) = body_put n layers (subprogram_body place s body around g d)
+abbrev pub body_opened : Span → Specification Definition Use → Does → Around → Opened × Draft → Option (List Checked_item) × Draft
+body_opened place s body around (o, d) = body_put o.number o.layers (subprogram_body place s body around o.giving d)
 
-abbrev pub body_known : Span → Specification Definition Use → Does → Around → Giving → Option ℕ × Draft → Option (List Checked_item) × Draft
-body_known place s body around g (n, d) = body_frozen place s body around g n (freeze_all around d)
-
-abbrev pub body_headed : Span → Specification Definition Use → Does → Around → Option (List FormalEntry × Option Ty) × Draft → Option (List Checked_item) × Draft
-body_headed place s body around (h, d) = body_known place s body around (giving_of s.result h) (subprogram_of around place s (h, d))
-
--- a body freezes the types of its part, after the declaration that it may make itself (13.14(3))
 abbrev pub body_item : Span → Specification Definition Use → Does → Declares
-body_item place s body o around d = body_headed place s body around (heading place s d)
+body_item place s body o around d = body_opened place s body around (opened place s around d)
 
 -- Items by their kinds -----------------------------------------------------------------------------------------------------------------
 

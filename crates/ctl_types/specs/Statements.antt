@@ -34,6 +34,7 @@ use Rattle.ctl_typing.specs.declared.table.FormalEntry.{FormalEntry}
 use Rattle.ctl_typing.specs.declared.table.Profile.{Profile}
 use Rattle.ctl_typing.specs.declared.table.RecordEntry.{RecordEntry}
 use Rattle.ctl_typing.specs.declared.table.RecordState.{RecordState}
+use Rattle.ctl_typing.specs.declared.found.Asked.{Asked}
 use Rattle.ctl_typing.specs.declared.found.Asked.TheVariants.{Anything, Exactly}
 use Rattle.ctl_typing.specs.declared.found.Typed.{Typed}
 use Rattle.ctl_typing.specs.declared.found.Place.{Place}
@@ -95,8 +96,11 @@ abbrev pub limited_kept : Tables → Span → Target → Judgement Target
 limited_kept tables place t = if is_limited tables t.ty then but rule.Limited place t else known t
 
 -- what an assignment writes to: a variable that is not limited
+abbrev pub target_part : Tables → Span → Place → Judgement Target
+target_part tables place p = as_variable place p.mutability (record { name = name_of p; ty = p.ty }) >>= limited_kept tables place
+
 abbrev pub target_found : Tables → Span → Found → Judgement Target
-target_found tables place (Part p) = as_variable place p.mutability (record { name = name_of p; ty = p.ty }) >>= limited_kept tables place
+target_found tables place (Part p) = target_part tables place p
 target_found tables place (Computed t) = wrong rule.Mode place
 target_found tables place (Discriminant p k) = wrong rule.Mode place
 target_found tables place f = wrong rule.Type place
@@ -104,32 +108,46 @@ target_found tables place f = wrong rule.Type place
 abbrev pub target : Tables → Use → List (Suffix Sense) → Judgement Target
 target tables u xs = found u xs tables >>= settled tables u.span >>= target_found tables u.span
 
+abbrev pub record_part : Span → ℕ → Place → Judgement Source
+record_part place t p = if same (ty.Record t) p.ty then noting p.ty (as_source.Record t (handed_on p.head p.steps)) else wrong rule.Type place
+
 -- a record is read where a name denotes it, or as the result of a call; a view of it is none (profile)
 abbrev pub record_source : Span → ℕ → Found → Judgement Source
-record_source place t (Part p) = if same (ty.Record t) p.ty then noting p.ty (as_source.Record t (handed_on p.head p.steps)) else wrong rule.Type place
+record_source place t (Part p) = record_part place t p
 record_source place t f = wrong rule.Type place
 
-abbrev pub value_source : Typed → Judgement Source
-value_source x = known (as_source.Value x.value)
+abbrev pub record_from : Tables → Span → ℕ → (Tables → Judgement Found) → Judgement Source
+record_from tables place t name = name tables >>= settled tables place >>= record_source place t
+
+abbrev pub record_named : Tables → Span → ℕ → Use → List (Suffix Sense) → Judgement Source
+record_named tables place t u xs = record_from tables place t (found u xs)
+
+abbrev pub value_source : Tables → Sense → Asked → Judgement Source
+value_source tables x asked = x.judged tables asked >>= (λ r. known (as_source.Value r.value))
 
 abbrev pub source_of_record : Tables → Span → ℕ → Sense → Option (Tables → Judgement Found) → Judgement Source
-source_of_record tables place t x None = x.judged tables (Exactly (ty.Record t)) >>= value_source
-source_of_record tables place t x (Some name) = name tables >>= settled tables place >>= record_source place t
+source_of_record tables place t x None = value_source tables x (Exactly (ty.Record t))
+source_of_record tables place t x (Some name) = record_from tables place t name
 
 abbrev pub source_of_type : Tables → Ty → Sense → Judgement Source
 source_of_type tables (ty.Record t) x = source_of_record tables x.place t x x.named
-source_of_type tables t x = x.judged tables (Exactly t) >>= value_source
+source_of_type tables t x = value_source tables x (Exactly t)
 
-abbrev pub source : Tables → Option Target → Sense → Judgement Source
-source tables None x = x.judged tables Anything >>= value_source
-source tables (Some t) x = source_of_type tables t.ty x
+-- what is assigned; where the target is wrong itself, the value is judged alone
+abbrev pub source : Tables → Option Ty → Sense → Judgement Source
+source tables None x = value_source tables x Anything
+source tables (Some t) x = source_of_type tables t x
+
+abbrev pub type_of_target : Option Target → Option Ty
+type_of_target None = None
+type_of_target (Some t) = Some t.ty
 
 abbrev pub assigning : Checked_name → Source → Stmt
 assigning to (as_source.Value x) = stmt.Assign to x
 assigning to (as_source.Record t a) = stmt.AssignRecord to t a
 
 abbrev pub assignment : Use → List (Suffix Sense) → Sense → Tables → Judgement Stmt
-assignment u xs x tables = following (target tables u xs) (λ t. source tables t x) >>= (λ r. known (assigning r.0.name r.1))
+assignment u xs x tables = following (target tables u xs) (λ t. source tables (type_of_target t) x) >>= (λ r. known (assigning r.0.name r.1))
 
 -- Explicit calls of operations (7.6, 13.11) -------------------------------------------------------------
 

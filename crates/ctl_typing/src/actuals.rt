@@ -88,7 +88,7 @@ pub fn written_found(
 }
 
 /// Hands a record on: by reference where a name denotes it (RM 6.2).
-fn handed_on(alloc: Global, head: Head, steps: Items<Step>) -> Result<Actual, AllocError>
+pub fn handed_on(alloc: Global, head: Head, steps: Items<Step>) -> Result<Actual, AllocError>
     ensures { IfOk result (λ actual. actual ≡ spec.handed_on head steps) }
 {
     match head {
