@@ -1,3 +1,6 @@
+pub mod Associations
+pub mod Forms
+pub mod Keeping
 pub mod Parts
 pub mod Rows
 pub mod Steps

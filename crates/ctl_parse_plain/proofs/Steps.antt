@@ -174,23 +174,27 @@ then {f} {g} {env} {p} {q} {r} {a} {b} h k = record {
 
 -- ---- a node made from what was read
 
-gave_made : (make : Node → Node) → ((v : Node) → kept (make v) ≡ make (kept v)) → (a : Node) (us : List Token) (o : Read) (e : Option Refused) → Gave o a e us → Gave (o >>= λ x. Ok (make x.0, x.1)) (make a) e us
-gave_made make h a us (Ok x) None g =
+gave_made : (make keep : Node → Node) → ((v : Node) → kept (make v) ≡ keep (kept v)) → (a : Node) (us : List Token) (o : Read) (e : Option Refused) → Gave o a e us → Gave (o >>= λ x. Ok (make x.0, x.1)) (keep a) e us
+gave_made make keep h a us (Ok x) None g =
     let p = same_parts (kept x.0, x.1) (a, us) g in
-    ap (λ (z : Node × List Token). Ok (z.0, z.1)) (ap (λ (n : Node). (n, x.1)) (h x.0) ∙ ap (λ (z : Node × List Token). (make z.0, z.1)) p)
-gave_made make h a us (Err d) None g = absurd cc
-gave_made make h a us o (Some refused.Memory) g = tt
-gave_made make h a us o (Some (refused.Token r)) g = ap (λ (z : Read). z >>= λ x. Ok (make x.0, x.1)) g
+    ap (λ (z : Node × List Token). Ok (z.0, z.1)) (ap (λ (n : Node). (n, x.1)) (h x.0) ∙ ap (λ (z : Node × List Token). (keep z.0, z.1)) p)
+gave_made make keep h a us (Err d) None g = absurd cc
+gave_made make keep h a us o (Some refused.Memory) g = tt
+gave_made make keep h a us o (Some (refused.Token r)) g = ap (λ (z : Read). z >>= λ x. Ok (make x.0, x.1)) g
 
-goes_made : (make : Node → Node) → ((v : Node) → kept (make v) ≡ make (kept v)) → (a : Node) (ts us : List Token) (o : Read) (d e : Option Refused) → Goes d ts o a e us → Goes d ts (o >>= λ x. Ok (make x.0, x.1)) (make a) e us
-goes_made make h a ts us o None e g = gave_made make h a us o e g
-goes_made make h a ts us o (Some f) e g = g
+goes_made : (make keep : Node → Node) → ((v : Node) → kept (make v) ≡ keep (kept v)) → (a : Node) (ts us : List Token) (o : Read) (d e : Option Refused) → Goes d ts o a e us → Goes d ts (o >>= λ x. Ok (make x.0, x.1)) (keep a) e us
+goes_made make keep h a ts us o None e g = gave_made make keep h a us o e g
+goes_made make keep h a ts us o (Some f) e g = g
+
+-- what is kept of the node is made by another function of what is kept of its parts
+pub keeping : {f : Form} {env : Node} {p q : Parser} {a : Node} (make keep : Node → Node) → ((v : Node) → kept (make v) ≡ keep (kept v)) → Reads f env p a q → Reads (act make f) env p (keep a) q
+keeping {f} {env} {p} {q} {a} make keep h k = record {
+  left = k.left;
+  goes = goes_made make keep h a p.rest.now q.rest.now (read p.left f env p.rest.now) p.fault q.fault k.goes;
+}
 
 pub making : {f : Form} {env : Node} {p q : Parser} {a : Node} (make : Node → Node) → ((v : Node) → kept (make v) ≡ make (kept v)) → Reads f env p a q → Reads (act make f) env p (make a) q
-making {f} {env} {p} {q} {a} make h k = record {
-  left = k.left;
-  goes = goes_made make h a p.rest.now q.rest.now (read p.left f env p.rest.now) p.fault q.fault k.goes;
-}
+making {f} {env} {p} {q} {a} make h k = keeping make make h k
 
 -- a node made from the parts of a pair
 bind_pair : (make : Node → Node) (o : Read) (k : List Token → Read) → (two pair o k >>= λ z. Ok (make z.0, z.1)) ≡ two (λ x y. make (pair x y)) o k

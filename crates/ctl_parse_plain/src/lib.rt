@@ -7,5 +7,6 @@
 mod building;
 mod cursor;
 mod expressions;
+mod headings;
 mod names;
 mod operators;
