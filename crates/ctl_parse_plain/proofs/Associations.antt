@@ -1,17 +1,24 @@
 -- Names in front of lists, and associations.
-use Rattle.std.proofs.Common.{◌≡◌, ℕ, Bool, true, false, cond, List, [], ◌∷◌, map, Option, Some, None, Ok, Err, refl, sym, ap, ◌∙◌, ◌⊎◌, inl, inr}
-use Rattle.std.specs.Prelude.{◌&&◌}
+use Rattle.std.proofs.Common.{◌≡◌, ℕ, Bool, true, false, cond, List, [], ◌∷◌, map, Option, Some, None, Ok, Err, refl, sym, ap, ◌∙◌, ◌⊎◌, inl, inr, rules}
+use Rattle.std.specs.Prelude.{◌&&◌, ◌==◌, MatchOption, length}
+use Rattle.ctl_tree.specs.declared.span.Span.{Span}
+use Rattle.ctl_syntax.specs.declared.expression.Expression.{Expression, the_lemmas}
+use Rattle.ctl_syntax.specs.declared.expression.Expression.TheVariants as e
+use Rattle.ctl_syntax.specs.declared.name.Name.{Name}
+use Rattle.ctl_syntax.specs.declared.name.Suffix.{Suffix}
+use Rattle.ctl_parse_plain.specs.Parts.{named_node}
+use Rattle.ctl_parse_plain.proofs.Views.{view_name}
 use Rattle.ctl_tree.specs.declared.token.Kind.TheVariants as kinds
 use Rattle.ctl_tree.specs.declared.token.Token.{Token}
 use Rattle.ctl_syntax.specs.declared.name.Identifier.{Identifier}
 use Rattle.ctl_grammar.specs.Form.{Node, none, pair, Form, word, act, within, when, ◌▸◌, starts}
 use Rattle.ctl_grammar.specs.Grammar.{apart, association, expression, identifier, next_identifiers}
-use Rattle.ctl_grammar.specs.Nodes.{first, second, row_of, is_bare, is_none, association_of}
+use Rattle.ctl_grammar.specs.Nodes.{first, second, row_of, is_bare, is_none, association_of, bare_of}
 use Rattle.ctl_grammar.specs.Reading.{Read, ◌>>=◌, begins, read}
 use Rattle.ctl_parse_plain.specs.declared.cursor.Parser.{Parser}
 use Rattle.ctl_parse_plain.specs.Kept.{kept}
 use Rattle.ctl_parse_plain.specs.Reads.{Reads}
-use Rattle.ctl_parse_plain.specs.View.{identifier_node}
+use Rattle.ctl_parse_plain.specs.View.{identifier_node, suffix_node, view}
 use Rattle.ctl_parse_plain.proofs.Steps.{kept_first, kept_second, being}
 use Rattle.ctl_parse_plain.proofs.Forms.{inside, making_where, not_empty}
 use Rattle.ctl_parse_plain.proofs.Keeping.{kept_association, kept_bare}
@@ -72,3 +79,23 @@ unfolding association
 associating {p} {q} {r} {a} {b} h k =
     making_where Named (λ v. association_of (first v) (second v)) (λ left ts xs v e. told (read left expression none ts) (read left behind_arrow none) v xs e) kept_named
     (inside (λ e. e) (same_arrow a) h k)
+
+-- the identifier in front of an arrow
+pub bare_is : (v : Node) (name : Option Identifier) → MatchOption name (is_bare v ≡ false) (λ i. is_bare v ≡ true → identifier_node i ≡ bare_of v) → is_bare v ≡ true → named_node name ≡ bare_of v
+bare_is v None h b = absurd (let clash = sym b ∙ h in absurd cc)
+bare_is v (Some i) h b = h b
+
+-- ---- names as expressions
+
+row_is_none : (xs : List (Suffix (Expression Identifier))) → is_none (row_of (map (suffix_node view) xs)) ≡ (length xs == 0)
+row_is_none [] = search rules
+row_is_none (x ∷ xs) = search rules
+
+pub name_is_bare : (p : Span) (n : Name Identifier (Expression Identifier)) → is_bare (view (e.Name p n)) ≡ (length n.suffixes == 0)
+name_is_bare p n = ap is_bare (view_name p n) ∙ row_is_none n.suffixes
+
+pub name_bare_of : (p : Span) (n : Name Identifier (Expression Identifier)) → identifier_node n.first ≡ bare_of (view (e.Name p n))
+name_bare_of p n = ap bare_of (sym (view_name p n))
+
+pub unnamed : (x : Expression Identifier) → ((p : Span) (n : Name Identifier (Expression Identifier)) → x ≡ e.Name p n → ⊥) → is_bare (view x) ≡ false
+unnamed x h = search (rules, the_lemmas, h)

@@ -1,10 +1,10 @@
 //! Headings of subprograms, and lists in parentheses (RM 6.1, 12.3).
 
-ghost use Rattle.std.specs.Prelude.{◌≡◌, ◌&&◌, ◌∷◌, [], map, true, false};
+ghost use Rattle.std.specs.Prelude.{◌≡◌, ◌&&◌, ◌∷◌, [], MatchOption, map, true, false};
 ghost use Rattle.ctl_grammar.specs.Form.{none, num, at, pair, word, act, nest, ◌▸◌, Formals, Associations};
 ghost use Rattle.ctl_grammar.specs.Grammar.{apart, expression, identifier, next_identifier, next_identifiers, identifiers, mode_behind_in, mode, formal, next_formal, formal_list, in_formals, optional_formals, procedure, function, specification, association, next_association, association_list, optional_associations, body};
 ghost use Rattle.ctl_grammar.specs.Nodes.{first, second, row_of, is_none, is_bare, bare_of};
-ghost use Rattle.ctl_parse_plain.specs.Parts.{association_node, formal_node, mode_code, named_node, placed_node, specification_node};
+ghost use Rattle.ctl_parse_plain.specs.Parts.{association_node, formal_node, mode_code, placed_node, specification_node};
 ghost use Rattle.ctl_parse_plain.specs.Reads.{Reads, sees};
 ghost use Rattle.ctl_parse_plain.specs.View.{identifier_node, view};
 
@@ -38,7 +38,7 @@ fn is_bare_name(expression: &Expression<Identifier>) -> bool
 
 /// Gives the identifier that an expression is, where it is one alone.
 fn bare_name(expression: Expression<Identifier>) -> Option<Identifier>
-    ensures { is_bare (view expression) ≡ true → named_node result ≡ bare_of (view expression) }
+    ensures { MatchOption result (is_bare (view expression) ≡ false) (λ i. is_bare (view expression) ≡ true → identifier_node i ≡ bare_of (view expression)) }
 {
     match expression {
         Expression::Name(_, Name { first, suffixes: _ }) => Some(first),
