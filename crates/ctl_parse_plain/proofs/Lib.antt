@@ -1,6 +1,7 @@
 pub mod Associations
 pub mod Forms
 pub mod Keeping
+pub mod PartViews
 pub mod Parts
 pub mod Rows
 pub mod Steps

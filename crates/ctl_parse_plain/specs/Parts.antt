@@ -1,9 +1,8 @@
 -- What declarations, statements and bodies stand for.
 use Rattle.std.specs.Prelude.{ℕ, List, map, Option, Some, None}
 use Rattle.ctl_tree.specs.declared.span.Span.{Span}
-use Rattle.ctl_tree.specs.declared.token.Token.{Token}
-use Rattle.ctl_grammar.specs.Form.{Node, none, leaf, num, written, at, pair, tag}
-use Rattle.ctl_grammar.specs.Nodes.{first, second, identifier_of, row_of}
+use Rattle.ctl_grammar.specs.Form.{Node, none, num, at, pair, tag}
+use Rattle.ctl_grammar.specs.Nodes.{first, second, row_of}
 use Rattle.ctl_syntax.specs.declared.name.Identifier.{Identifier}
 use Rattle.ctl_syntax.specs.declared.name.Mark.{Mark}
 use Rattle.ctl_syntax.specs.declared.expression.Expression.{Expression}
@@ -46,6 +45,10 @@ use Rattle.ctl_syntax.specs.declared.item.Statement.TheOpen.{Item-F, Statement-F
 use Rattle.ctl_syntax.specs.declared.item.Taggedness.{Taggedness}
 use Rattle.ctl_syntax.specs.declared.item.Taggedness.TheVariants as taggedness
 use Rattle.ctl_syntax.specs.declared.item.Tree.{Tree}
+use Rattle.ctl_parse_plain.specs.declared.simple_statements.Scheme.{Scheme}
+use Rattle.ctl_parse_plain.specs.declared.simple_statements.Scheme.TheVariants as scheme
+use Rattle.ctl_parse_plain.specs.declared.types.Defined.{Defined}
+use Rattle.ctl_parse_plain.specs.declared.types.Defined.TheVariants as defined
 use Rattle.ctl_parse_plain.specs.View.{optional, identifier_node, mark_node, name_node, view}
 
 -- ---- words that are there or not
@@ -199,10 +202,26 @@ abbrev pub place_node : Option Span → Node
 place_node None = none
 place_node (Some p) = at p
 
--- the name at an end, if there is one
-abbrev pub end_node : Option Token → Node
-end_node None = none
-end_node (Some t) = identifier_of (leaf t)
+-- the pool of an aspect behind its word, if there is one
+abbrev pub aspect_node : Node → Option (Mark Identifier) → Node
+aspect_node word None = none
+aspect_node word (Some m) = pair word (mark_node m)
+
+-- what stands behind the colon of names: none where they are exceptions
+abbrev pub declared_node : Option (Objects Identifier Identifier) → Node
+declared_node None = none
+declared_node (Some o) = objects_node o
+
+-- what stands behind the name of a type
+abbrev pub defined_node : Defined → Node
+defined_node (defined.Incomplete t) = taggedness_node t
+defined_node (defined.Full d) = pair none (definition_node d)
+
+-- how a loop goes on
+abbrev pub scheme_node : Scheme → Node
+scheme_node scheme.Endless = tag 72 none
+scheme_node (scheme.While e) = tag 70 (view e)
+scheme_node (scheme.For i d low high) = tag 71 (pair (identifier_node i) (pair (direction_node d) (pair (view low) (view high))))
 
 -- a body with what stands at its end
 abbrev pub ended_node : Body Identifier Identifier → Node → Node

@@ -6,7 +6,11 @@
 
 mod building;
 mod cursor;
+mod declarations;
 mod expressions;
 mod headings;
+mod known;
 mod names;
 mod operators;
+mod simple_statements;
+mod types;
