@@ -6,7 +6,8 @@ use Rattle.ctl_syntax.specs.declared.name.Identifier.{Identifier}
 use Rattle.ctl_syntax.specs.declared.name.Mark.{Mark}
 use Rattle.ctl_syntax.specs.declared.name.Name.{Name}
 use Rattle.ctl_syntax.specs.declared.expression.Expression.{Expression}
-use Rattle.ctl_syntax.specs.declared.item.Item.{Item, fold_out-Item}
+use Rattle.ctl_syntax.specs.declared.item.Body.{Body}
+use Rattle.ctl_syntax.specs.declared.item.Item.{Item, roll-Item, fold-roll-Item}
 use Rattle.ctl_syntax.specs.declared.item.ItemKind.{ItemKind}
 use Rattle.ctl_syntax.specs.declared.item.ItemKind.TheVariants as item
 use Rattle.ctl_syntax.specs.declared.item.Statement.{Statement, fold_out-Statement}
@@ -40,8 +41,15 @@ view_assignment p n x = rw (fold_out-Statement, outs-Assignment p n x) refl
 pub view_call : (p : Span) (n : Name Identifier (Expression Identifier)) → view_statement (s.Call p n) ≡ pair (at p) (tag 31 (name_node view n))
 view_call p n = rw (fold_out-Statement, outs-Call p n) refl
 
-pub view_of_item : (i : Item Identifier Identifier) → view_item i ≡ pair (at i.span) (item_kind_node view_body i.kind)
-view_of_item i = rw fold_out-Item ?
+pub view_of_item : (p : Span) (k : ItemKind Identifier Identifier (Body Identifier Identifier)) → view_item (roll-Item Identifier Identifier (record { span = p; kind = k })) ≡ pair (at p) (item_kind_node view_body k)
+view_of_item p (item.Declaration x) = rw fold-roll-Item refl
+view_of_item p (item.Body x b) = rw fold-roll-Item refl
+view_of_item p (item.Instance i m xs) = rw fold-roll-Item refl
+view_of_item p (item.Incomplete i t) = rw fold-roll-Item refl
+view_of_item p (item.«Type» i d) = rw fold-roll-Item refl
+view_of_item p (item.StoragePool i m) = rw fold-roll-Item refl
+view_of_item p (item.Exceptions is) = rw fold-roll-Item refl
+view_of_item p (item.Objects o) = rw fold-roll-Item refl
 
 -- ---- words that are not kept
 

@@ -1,21 +1,37 @@
 //! Objects, exceptions and instances (RM 3.3.1, 11.1, 12.3), and clauses of the context (RM 10.1.2, 8.4).
 
 ghost use Rattle.std.specs.Prelude.{◌≡◌, ◌∷◌, [], map};
-ghost use Rattle.ctl_grammar.specs.Form.{none, num, at, pair, starts};
+ghost use Rattle.ctl_grammar.specs.Form.{none, num, at, pair, tag, starts};
 ghost use Rattle.ctl_grammar.specs.Grammar.{flag, context_kind, context, contexts, objects, named_kind, named_item, instance};
 ghost use Rattle.ctl_grammar.specs.Nodes.{row_of};
-ghost use Rattle.ctl_parse_plain.specs.Parts.{aliasing_node, association_node, constancy_node, context_code, context_node, declared_node, objects_node, view_item};
+ghost use Rattle.ctl_parse_plain.specs.Parts.{aliasing_node, association_node, constancy_node, context_code, context_node, declared_node, item_kind_node, objects_node, view_body, view_item};
 ghost use Rattle.ctl_parse_plain.specs.Reads.{Reads, sees};
-ghost use Rattle.ctl_parse_plain.specs.View.{mark_node};
+ghost use Rattle.ctl_parse_plain.specs.View.{identifier_node, mark_node};
 
 use crate::cursor::Parser;
 use ctl_syntax::item::{
-    Aliasing, Association, Constancy, Context, ContextKind, Item, ItemKind, Objects,
+    Aliasing, Association, Body, Constancy, Context, ContextKind, Item, ItemKind, Objects,
 };
 use ctl_syntax::name::{Identifier, Mark};
 use ctl_tree::span::Span;
 use ctl_tree::token::Kind;
-use sqlite_items::Items;
+use sqlite_items::{Boxed, Items};
+
+/// Makes the declaration of names of what stands behind them: exceptions, where that is nothing.
+fn named_kind_of(
+    names: Items<Identifier>,
+    objects: Option<Objects<Identifier, Identifier>>,
+) -> ItemKind<Identifier, Identifier, Boxed<Body<Identifier, Identifier>>>
+    ensures { item_kind_node view_body result ≡ tag 52 (pair (row_of (map identifier_node names)) (declared_node objects)) }
+{
+    match objects {
+        None => ItemKind::Exceptions(names),
+        Some(mut objects) => {
+            objects.names = names;
+            ItemKind::Objects(objects)
+        }
+    }
+}
 
 impl<'a> Parser<'a> {
     /// Reads `"with" | "use"`, with its place.
@@ -125,13 +141,7 @@ impl<'a> Parser<'a> {
         self.skip(Kind::Colon);
         let objects = self.named_kind();
         self.skip(Kind::Semicolon);
-        let kind = match objects {
-            None => ItemKind::Exceptions(names),
-            Some(mut objects) => {
-                objects.names = names;
-                ItemKind::Objects(objects)
-            }
-        };
+        let kind = named_kind_of(names, objects);
         Item { span, kind }
     }
 

@@ -1,21 +1,21 @@
 //! Definitions of types (RM 3).
 
 ghost use Rattle.std.specs.Prelude.{◌≡◌, ◌∷◌, [], map};
-ghost use Rattle.ctl_grammar.specs.Form.{Node, none};
+ghost use Rattle.ctl_grammar.specs.Form.{Node, none, pair, tag};
 ghost use Rattle.ctl_grammar.specs.Grammar.{flag, optional_value, component, component_list, components, null_record, full_record, recorded, limited_record, extension, aspect, designated_attribute, access, definition, defined, type_kind, type_item, clause};
 ghost use Rattle.ctl_grammar.specs.Nodes.{row_of};
-ghost use Rattle.ctl_parse_plain.specs.Parts.{aspect_node, components_node, defined_node, definition_node, generality_node, view_item};
+ghost use Rattle.ctl_parse_plain.specs.Parts.{aspect_node, components_node, defined_node, definition_node, generality_node, item_kind_node, view_body, view_item};
 ghost use Rattle.ctl_parse_plain.specs.Reads.{Reads};
-ghost use Rattle.ctl_parse_plain.specs.View.{mark_node, optional, view};
+ghost use Rattle.ctl_parse_plain.specs.View.{identifier_node, mark_node, optional, view};
 
 use crate::cursor::Parser;
 use ctl_syntax::expression::Expression;
 use ctl_syntax::item::{
-    Components, Coverage, Definition, Generality, Item, ItemKind, Limitation, Taggedness,
+    Body, Components, Coverage, Definition, Generality, Item, ItemKind, Limitation, Taggedness,
 };
 use ctl_syntax::name::{Identifier, Mark};
 use ctl_tree::token::Kind;
-use sqlite_items::Items;
+use sqlite_items::{Boxed, Items};
 
 /// What stands behind the name of a type.
 #[derive(Drop)]
@@ -24,6 +24,19 @@ pub(crate) enum Defined {
     Incomplete(Taggedness),
     /// A type with its definition (RM 3.2.1).
     Full(Definition<Identifier>),
+}
+
+/// Makes the declaration of a type of its name and what stands behind it.
+fn type_kind_of(
+    name: Identifier,
+    defined: Defined,
+) -> ItemKind<Identifier, Identifier, Boxed<Body<Identifier, Identifier>>>
+    ensures { item_kind_node view_body result ≡ tag 50 (pair (identifier_node name) (defined_node defined)) }
+{
+    match defined {
+        Defined::Incomplete(taggedness) => ItemKind::Incomplete(name, taggedness),
+        Defined::Full(definition) => ItemKind::Type(name, definition),
+    }
 }
 
 impl<'a> Parser<'a> {
@@ -231,10 +244,7 @@ impl<'a> Parser<'a> {
         let name = self.identifier();
         let defined = self.type_kind();
         self.skip(Kind::Semicolon);
-        let kind = match defined {
-            Defined::Incomplete(taggedness) => ItemKind::Incomplete(name, taggedness),
-            Defined::Full(definition) => ItemKind::Type(name, definition),
-        };
+        let kind = type_kind_of(name, defined);
         Item { span, kind }
     }
 
