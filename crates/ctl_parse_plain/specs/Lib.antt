@@ -1,3 +1,4 @@
+pub mod Heading
 pub mod Kept
 pub mod Parts
 pub mod Reads

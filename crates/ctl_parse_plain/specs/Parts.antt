@@ -2,7 +2,7 @@
 use Rattle.std.specs.Prelude.{ℕ, List, map, Option, Some, None}
 use Rattle.ctl_tree.specs.declared.span.Span.{Span}
 use Rattle.ctl_grammar.specs.Form.{Node, none, num, at, pair, tag}
-use Rattle.ctl_grammar.specs.Nodes.{first, second, row_of}
+use Rattle.ctl_grammar.specs.Nodes.{first, second, row_of, yes}
 use Rattle.ctl_syntax.specs.declared.name.Identifier.{Identifier}
 use Rattle.ctl_syntax.specs.declared.name.Mark.{Mark}
 use Rattle.ctl_syntax.specs.declared.expression.Expression.{Expression}
@@ -45,6 +45,8 @@ use Rattle.ctl_syntax.specs.declared.item.Statement.TheOpen.{Item-F, Statement-F
 use Rattle.ctl_syntax.specs.declared.item.Taggedness.{Taggedness}
 use Rattle.ctl_syntax.specs.declared.item.Taggedness.TheVariants as taggedness
 use Rattle.ctl_syntax.specs.declared.item.Tree.{Tree}
+use Rattle.ctl_parse_plain.specs.declared.bodies.Rest.{Rest}
+use Rattle.ctl_parse_plain.specs.declared.bodies.Rest.TheVariants as rest
 use Rattle.ctl_parse_plain.specs.declared.simple_statements.Scheme.{Scheme}
 use Rattle.ctl_parse_plain.specs.declared.simple_statements.Scheme.TheVariants as scheme
 use Rattle.ctl_parse_plain.specs.declared.types.Defined.{Defined}
@@ -226,3 +228,17 @@ scheme_node (scheme.For i d low high) = tag 71 (pair (identifier_node i) (pair (
 -- a body with what stands at its end
 abbrev pub ended_node : Body Identifier Identifier → Node → Node
 ended_node b end = pair (first (view_body b)) (pair (second (view_body b)) end)
+
+-- what completes a heading, if there is something, with what stands at the end of a body
+abbrev pub completed_node : Option (Body Identifier Identifier) → Node → Node
+completed_node None end = none
+completed_node (Some b) end = pair none (ended_node b end)
+
+-- what stands behind the name of a procedure, with what stands at the end of a body
+abbrev pub rest_node : Rest → Node → Node
+rest_node (rest.Instance m actuals) end = pair yes (pair (mark_node m) (row_of (map association_node actuals)))
+rest_node (rest.Subprogram formals b) end = pair none (pair (row_of (map formal_node formals)) (completed_node b end))
+
+-- the whole text, with what stands at its end
+abbrev pub program_node : Tree Identifier Identifier → Node → Node
+program_node t end = pair (row_of (map context_node t.contexts)) (pair (at t.span) (pair (identifier_node t.name) (ended_node t.body end)))

@@ -106,6 +106,12 @@ Bounded None is_deep (Some refused.Memory) = Unit {0}
 Bounded None is_deep (Some (refused.Token reason)) = (is_deep ≡ true) × (reason ≡ TooDeep)
 Bounded (Some f) is_deep fault = fault ≡ Some f
 
+-- What stopped the reading of a form ahead: nothing, where the tokens begin with it; where memory was refused nothing is said.
+abbrev pub Foreseen : Bool → Option Refused → Type 0
+Foreseen is_there None = is_there ≡ true
+Foreseen is_there (Some refused.Memory) = Unit {0}
+Foreseen is_there (Some (refused.Token reason)) = is_there ≡ false
+
 -- The parser noted where it stood whether what begins so is too deep.
 pub record Bounds (head : Form) (from there : Parser) : Type 0 where
   pub left : there.left ≡ from.left

@@ -4,13 +4,16 @@
 //! is bounded by how many constructs stand in one another, and not by the length of the text.
 #![tactic(auto)]
 
+mod bodies;
 mod building;
 mod cursor;
 mod declarations;
+mod depth;
 mod expressions;
 mod headings;
 mod known;
 mod names;
 mod operators;
 mod simple_statements;
+mod statements;
 mod types;
