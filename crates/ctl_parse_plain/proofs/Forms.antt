@@ -8,10 +8,14 @@ use Rattle.ctl_grammar.specs.declared.refused.Reason.TheVariants.{TooDeep}
 use Rattle.ctl_grammar.specs.Form.{Node, none, pair, Form, empty, within, when, act, late, ◌▸◌, starts}
 use Rattle.ctl_grammar.specs.Grammar.{apart}
 use Rattle.ctl_grammar.specs.Nodes.{second, row_of}
-use Rattle.ctl_grammar.specs.Reading.{Read, ◌>>=◌, begins, read, is_read, is_ahead, starts_too_deep}
+use Rattle.ctl_grammar.specs.Reading.{Read, ◌>>=◌, begins, read, reader, nowhere, is_read, is_ahead, starts_too_deep}
 use Rattle.ctl_parse_plain.specs.declared.cursor.Parser.{Parser}
 use Rattle.ctl_parse_plain.specs.Kept.{kept, kept_read}
-use Rattle.ctl_parse_plain.specs.Reads.{Reads, Gave, Goes, Bounded, Bounds, is_sound, sees}
+use Rattle.ctl_parse_plain.specs.Reads.{Reads, Gave, Goes, Bounded, Bounds, Foreseen, is_sound, sees}
+use Rattle.ctl_parse_plain.specs.declared.depth.Heading.{Heading}
+use Rattle.ctl_parse_plain.specs.declared.depth.Heading.TheVariants as headings
+use Rattle.ctl_parse_plain.specs.Heading.{head_of}
+use Rattle.ctl_grammar.proofs.Late.{start_alike, start_of_function_alike, start_of_procedure_alike}
 use Rattle.ctl_parse_plain.proofs.Steps.{making, being_sound, kept_second, then, staying}
 
 -- ---- what was read before does not matter
@@ -165,3 +169,24 @@ goes_row o k ts us (Some x) e g h = absurd (let clash = sym h ∙ g.0 in absurd 
 
 pub not_empty : {f g : Form} {env : Node} {p q : Parser} → Reads (f ▸ g) env p none q → q.fault ≡ None → ⊥
 not_empty {f} {g} {env} {p} {q} k h = goes_row (read p.left f env p.rest.now) (read p.left g env) p.rest.now q.rest.now p.fault q.fault k.goes h
+
+-- ---- looking ahead
+
+gave_ahead : (o : Read) (v : Node) (us : List Token) (e : Option Refused) → Gave o v e us → Foreseen (is_read o) e
+gave_ahead (Ok x) v us None g = refl
+gave_ahead (Err d) v us None g = absurd cc
+gave_ahead o v us (Some refused.Memory) g = tt
+gave_ahead (Ok x) v us (Some (refused.Token r)) g = absurd cc
+gave_ahead (Err d) v us (Some (refused.Token r)) g = refl
+
+goes_ahead : (o s : Read) (v : Node) (ts us : List Token) (d e : Option Refused) → d ≡ None → o ≡ s → Goes d ts o v e us → Foreseen (is_read s) e
+goes_ahead o s v ts us None e h k g = subst (λ (z : Read). Foreseen (is_read z) e) k (gave_ahead o v us e g)
+goes_ahead o s v ts us (Some x) e h k g = absurd cc
+
+pub foreseeing : {head : Form} {p q : Parser} {v : Node} → p.fault ≡ None → ((left : ℕ) (ts : List Token) → read left head none ts ≡ reader false false nowhere head none ts) → Reads head none p v q → Foreseen (is_ahead head p.rest.now) q.fault
+foreseeing {head} {p} {q} {v} h same k = goes_ahead (read p.left head none p.rest.now) (reader false false nowhere head none p.rest.now) v p.rest.now q.rest.now p.fault q.fault h (same p.left p.rest.now) k.goes
+
+pub head_alike : (h : Heading) (left : ℕ) (ts : List Token) → read left (head_of h) none ts ≡ reader false false nowhere (head_of h) none ts
+head_alike headings.Procedure left ts = start_of_procedure_alike left ts
+head_alike headings.Function left ts = start_of_function_alike left ts
+head_alike headings.Any left ts = start_alike left ts

@@ -154,3 +154,34 @@ bare_association v (tag n x) h = refl
 pub kept_association : (v w : Node) → (w ≡ none) ⊎ (is_bare v ≡ true) → kept (association_of v w) ≡ association_of (kept v) (kept w)
 kept_association v w (inl h) = rw h refl
 kept_association v w (inr h) = bare_association v w h
+
+-- ---- names of headings
+
+pub kept_letters : (v a : Node) (s : List ℕ) → kept v ≡ a → part_2_letters a ≡ written s → part_2_letters v ≡ written s
+kept_letters v a s h k = written_kept (part_2_letters v) s (kept_first (part_2 v) ∙ ap first (kept_part_2 v) ∙ ap part_2_letters h ∙ k)
+
+pub kept_name_letters : (v a : Node) (s : List ℕ) → kept v ≡ a → first (second a) ≡ written s → first (second v) ≡ written s
+kept_name_letters v a s h k = written_kept (first (second v)) s (kept_part_2 v ∙ ap (λ (n : Node). first (second n)) h ∙ k)
+
+same_procedure : {p q i j w x : Node} → p ≡ q → i ≡ j → w ≡ x → kept_here (procedure_of p i w) ≡ kept_here (procedure_of q j x)
+same_procedure {p} {q} {i} {j} {w} {x} h k l = ap (λ (n : Node). kept_here (procedure_of n i w)) h ∙ ap (λ (n : Node). kept_here (procedure_of q n w)) k ∙ ap (λ (n : Node). kept_here (procedure_of q j n)) l
+
+kept_second_first : (v : Node) → kept (second (first v)) ≡ second (first (kept v))
+kept_second_first v = kept_second (first v) ∙ ap second (kept_first v)
+
+kept_first_first : (v : Node) → kept (first (first v)) ≡ first (first (kept v))
+kept_first_first v = kept_first (first v) ∙ ap first (kept_first v)
+
+pub kept_procedure_item : (v : Node) → kept (pair (first (first v)) (procedure_of (first (first v)) (second (first v)) (second v))) ≡ pair (first (first (kept v))) (kept_here (procedure_of (first (first (kept v))) (second (first (kept v))) (second (kept v))))
+kept_procedure_item v = paired (kept_first_first v) (kept_procedure (first (first v)) (second (first v)) (second v) ∙ same_procedure (kept_first_first v) (kept_second_first v) (kept_second v))
+
+-- ---- loops and blocks
+
+kept_earlier : (v : Node) → kept (or_else (first (first v)) (part_2 v)) ≡ or_else (first (first (kept v))) (part_2 (kept v))
+kept_earlier v = kept_or_else (first (first v)) (part_2 v) ∙ ap (λ (n : Node). or_else n (kept (part_2 v))) (kept_first_first v) ∙ ap (λ (n : Node). or_else (first (first (kept v))) n) (kept_part_2 v)
+
+pub kept_looped : (v : Node) → kept (pair (or_else (first (first v)) (part_2 v)) (tag 65 (pair (second (first v)) (part_3 v)))) ≡ pair (or_else (first (first (kept v))) (part_2 (kept v))) (tag 65 (pair (second (first (kept v))) (part_3 (kept v))))
+kept_looped v = paired (kept_earlier v) (ap (λ (n : Node). tag 65 n) (paired (kept_second_first v) (kept_part_3 v)))
+
+pub kept_blocked : (v : Node) → kept (pair (or_else (first (first v)) (part_2 v)) (tag 66 (pair (second (first v)) (part_3 v)))) ≡ pair (or_else (first (first (kept v))) (part_2 (kept v))) (tag 66 (pair (second (first (kept v))) (part_3 (kept v))))
+kept_blocked v = paired (kept_earlier v) (ap (λ (n : Node). tag 66 n) (paired (kept_second_first v) (kept_part_3 v)))

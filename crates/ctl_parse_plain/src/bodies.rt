@@ -1,7 +1,8 @@
 //! Items of a declarative part, and bodies of subprograms (RM 3.11, 6.3).
 
 ghost use Rattle.std.specs.Prelude.{◌≡◌, map};
-ghost use Rattle.ctl_grammar.specs.Form.{Node, none, written, at, pair, tag, starts, nest, nest_starts, Body, BareBody};
+ghost use Rattle.ctl_grammar.specs.Form.{Node, none, written, at, pair, tag, starts, nest, nest_starts};
+ghost use Rattle.ctl_grammar.specs.Form as forms;
 ghost use Rattle.ctl_grammar.specs.Grammar.{completed, completed_specification, completed_function, completed_procedure, overriding_item, function_item, behind_is, behind_name, procedure_item, item, part, completion, body};
 ghost use Rattle.ctl_grammar.specs.Nodes.{procedure_of, row_of};
 ghost use Rattle.ctl_parse_plain.specs.Kept.{kept_here};
@@ -219,7 +220,7 @@ impl<'a> Parser<'a> {
     /// Reads what stands behind the heading of a body, a construct (RM 6.3).
     #[cycle(statements)]
     pub(crate) fn body(&mut self, name: &Identifier) -> Body<Identifier, Identifier>
-        ensures { (end : Node) × Reads (nest Body) (written name.now.text) self.old (ended_node result end) self.new }
+        ensures { (end : Node) × Reads (nest forms.Body) (written name.now.text) self.old (ended_node result end) self.new }
     {
         let is_next = self.next_is(Kind::Is);
         if self.open(is_next) {
@@ -234,7 +235,7 @@ impl<'a> Parser<'a> {
     /// Reads `"is" part "begin" handled "end" [id] ";"`.
     #[cycle(statements)]
     fn in_body(&mut self, name: &Identifier) -> Body<Identifier, Identifier>
-        ensures { (end : Node) × Reads (body Body) (written name.now.text) self.old (ended_node result end) self.new }
+        ensures { (end : Node) × Reads (body forms.Body) (written name.now.text) self.old (ended_node result end) self.new }
     {
         self.skip(Kind::Is);
         self.completion(name)
@@ -243,7 +244,7 @@ impl<'a> Parser<'a> {
     /// Reads what stands behind the `is` of a body, a construct (RM 6.3).
     #[cycle(statements)]
     fn bare_body(&mut self, name: &Identifier) -> Body<Identifier, Identifier>
-        ensures { (end : Node) × Reads (nest BareBody) (written name.now.text) self.old (ended_node result end) self.new }
+        ensures { (end : Node) × Reads (nest forms.BareBody) (written name.now.text) self.old (ended_node result end) self.new }
     {
         let is_next = self.at_bare_body();
         if self.open(is_next) {
@@ -298,7 +299,7 @@ impl<'a> Parser<'a> {
     /// Tells whether what stands behind the `is` of a body is next.
     #[tactic(auto, using(ctl_grammar::proofs::First::bare_body_begins))]
     fn at_bare_body(&self) -> bool
-        ensures { result ≡ sees (nest_starts BareBody) self.now }
+        ensures { result ≡ sees (nest_starts forms.BareBody) self.now }
     {
         self.at_item() || self.next_is(Kind::Begin)
     }
