@@ -79,7 +79,7 @@ branch-returns t c = making (λ v. pair (first v) (behind_2 v)) (λ v. paired (k
 
 pub next_branch-returns : goal.next_branch-returns
 unfolding next_branch
-next_branch-returns t c = making_2 second (λ x y. refl) c.skip.ensures c.branch.ensures
+next_branch-returns t c = making_2 second (λ x y. refl) c.skip.ensures c.branch-self.ensures
 
 pub next_branches-more-init : goal.next_branches-more-init
 unfolding next_branch
@@ -113,7 +113,7 @@ repetition-returns-else-open t c = barring c.at_repetition-is_next.ensures (c.op
 
 pub in_repetition-returns : goal.in_repetition-returns
 unfolding body
-in_repetition-returns t c = being (c.looped.ensures ∙ ap (λ p. pair p (tag 65 (pair (scheme_node c.scheme-scheme.result.1) (row_of (map view_statement c.statements-statements.result))))) c.earlier-span.ensures) (making (λ v. pair (or_else (first (first v)) (part_2 v)) (tag 65 (pair (second (first v)) (part_3 v)))) kept_looped (then c.scheme-scheme.ensures (then c.mark-word.ensures (then c.statements-statements.ensures c.end_loop.ensures))))
+in_repetition-returns t c = being (c.looped.ensures ∙ ap (λ p. pair p (tag 65 (pair (scheme_node c.scheme-start.result.1) (row_of (map view_statement c.statements-statements.result))))) c.earlier-span.ensures) (making (λ v. pair (or_else (first (first v)) (part_2 v)) (tag 65 (pair (second (first v)) (part_3 v)))) kept_looped (then c.scheme-start.ensures (then c.mark-word.ensures (then c.statements-statements.ensures c.end_loop.ensures))))
 
 pub block-returns-then-open : goal.block-returns-then-open
 block-returns-then-open t c = nesting c.at_block-is_next.ensures (c.open.ensures.opened c.if-open.true) c.in_block-inside.ensures c.close.ensures.left (ap (λ r. r.now) c.close.ensures.rest) c.close.ensures.fault
@@ -123,7 +123,7 @@ block-returns-else-open t c = barring c.at_block-is_next.ensures (c.open.ensures
 
 pub in_block-returns : goal.in_block-returns
 unfolding body
-in_block-returns t c = building (making (λ v. pair (or_else (first (first v)) (part_2 v)) (tag 66 (pair (second (first v)) (part_3 v)))) kept_blocked (then c.declared-items.ensures (then c.mark-word.ensures (then c.handled-handlers.ensures (then c.skip.ensures c.skip-2.ensures))))) (building_as (λ z. paired (sym c.earlier-span.ensures) (ap (tag 66) (sym (view_of_body _ _ _)))) c.blocked.ensures)
+in_block-returns t c = building (making (λ v. pair (or_else (first (first v)) (part_2 v)) (tag 66 (pair (second (first v)) (part_3 v)))) kept_blocked (then c.declared-start.ensures (then c.mark-word.ensures (then c.handled-statements.ensures (then c.skip.ensures c.skip-2.ensures))))) (building_as (λ z. paired (sym c.earlier-span.ensures) (ap (tag 66) (sym (view_of_body _ _ _)))) c.blocked.ensures)
 
 pub declared-returns-then-next_is : goal.declared-returns-then-next_is
 unfolding declared
@@ -207,11 +207,11 @@ item-returns-else-next_is-5 t c = passing (sym c.next_is.ensures ∙ c.if-next_i
 
 pub overriding_item-returns : goal.overriding_item-returns
 unfolding overriding_item
-overriding_item-returns t c = let e = c.completed_specification-body.ensures in being (view_of_item _ _ ∙ ap (λ k. pair (at c.mark-span.result) k) (c.subprogram-kind.ensures ∙ ap (λ n. tag 53 (pair yes (pair (specification_node c.completed_specification-body.result.0) n))) (sym (completed_kept c.completed_specification-body.result.1 e.0)))) (keeping (λ v. pair (first v) (tag 53 (pair yes (second v)))) (λ v. pair (first v) (tag 53 (subprogram_part (pair yes (second v))))) (λ v. paired (kept_first v) (ap (λ n. tag 53 (subprogram_part (pair yes n))) (kept_second v))) (then c.mark-span.ensures e.1))
+overriding_item-returns t c = let e = c.completed_specification-specification.ensures in being (view_of_item _ _ ∙ ap (λ k. pair (at c.mark-span.result) k) (c.subprogram-kind.ensures ∙ ap (λ n. tag 53 (pair yes (pair (specification_node c.completed_specification-specification.result.0) n))) (sym (completed_kept c.completed_specification-specification.result.1 e.0)))) (keeping (λ v. pair (first v) (tag 53 (pair yes (second v)))) (λ v. pair (first v) (tag 53 (subprogram_part (pair yes (second v))))) (λ v. paired (kept_first v) (ap (λ n. tag 53 (subprogram_part (pair yes n))) (kept_second v))) (then c.mark-span.ensures e.1))
 
 pub function_item-returns : goal.function_item-returns
 unfolding function_item
-function_item-returns t c = let e = c.completed_function-body.ensures in being (view_of_item _ _ ∙ ap (λ k. pair (at c.completed_function-body.result.0.span) k) (c.subprogram-kind.ensures ∙ ap (λ n. tag 53 (pair no (pair (specification_node c.completed_function-body.result.0) n))) (sym (completed_kept c.completed_function-body.result.1 e.0)))) (keeping (λ v. pair (first (first v)) (tag 53 (pair no v))) (λ v. pair (first (first v)) (tag 53 (subprogram_part (pair no v)))) (λ v. paired (kept_first (first v) ∙ ap first (kept_first v)) refl) e.1)
+function_item-returns t c = let e = c.completed_function-specification.ensures in being (view_of_item _ _ ∙ ap (λ k. pair (at c.completed_function-specification.result.0.span) k) (c.subprogram-kind.ensures ∙ ap (λ n. tag 53 (pair no (pair (specification_node c.completed_function-specification.result.0) n))) (sym (completed_kept c.completed_function-specification.result.1 e.0)))) (keeping (λ v. pair (first (first v)) (tag 53 (pair no v))) (λ v. pair (first (first v)) (tag 53 (subprogram_part (pair no v)))) (λ v. paired (kept_first (first v) ∙ ap first (kept_first v)) refl) e.1)
 
 pub completed_specification-returns : goal.completed_specification-returns
 unfolding completed_specification
@@ -239,7 +239,7 @@ behind_name-returns-else-next_is-2 t c = (none, passing (sym c.next_is.ensures �
 
 pub behind_is-returns-then-next_is : goal.behind_is-returns-then-next_is
 unfolding behind_is instance behind
-behind_is-returns-then-next_is t c = (none, choosing (sym c.next_is.ensures ∙ c.if-next_is.true) (making (λ v. pair yes v) (λ v. refl) (setting c.instance-actuals.ensures)))
+behind_is-returns-then-next_is t c = (none, choosing (sym c.next_is.ensures ∙ c.if-next_is.true) (making (λ v. pair yes v) (λ v. refl) (setting c.instance-generic.ensures)))
 
 pub behind_is-returns-else-next_is : goal.behind_is-returns-else-next_is
 unfolding behind_is instance behind
@@ -273,4 +273,4 @@ bare_body-returns-else-open t c = (none, barring c.at_bare_body-is_next.ensures 
 
 pub completion-returns : goal.completion-returns
 unfolding completion
-completion-returns t c = let e = some_node (λ t. identifier_of (leaf t.now)) (λ v. Reads end_name (written c.args.name.now.text) c.skip-2.new.self v c.end_name.new.self) c.end_name.result c.end_name.ensures in (e.0, being (ap (λ n. pair (first n) (pair (second n) e.0)) (view_of_body _ _ _)) (making (λ v. pair (first v) (pair (part_3 v) (part_5 v))) (λ v. paired (kept_first v) (paired (kept_part_3 v) (kept_part_5 v))) (then (setting c.part-items.ensures) (then (elsewhere (λ left ts. refl) c.skip.ensures) (then (setting c.handled-handlers.ensures) (then (elsewhere (λ left ts. refl) c.skip-2.ensures) (then e.1 (elsewhere (λ left ts. refl) c.skip-3.ensures))))))))
+completion-returns t c = let e = some_node (λ t. identifier_of (leaf t.now)) (λ v. Reads end_name (written c.args.name.now.text) c.skip-2.new.self v c.end_name.new.self) c.end_name.result c.end_name.ensures in (e.0, being (ap (λ n. pair (first n) (pair (second n) e.0)) (view_of_body _ _ _)) (making (λ v. pair (first v) (pair (part_3 v) (part_5 v))) (λ v. paired (kept_first v) (paired (kept_part_3 v) (kept_part_5 v))) (then (setting c.part-items.ensures) (then (elsewhere (λ left ts. refl) c.skip.ensures) (then (setting c.handled-statements.ensures) (then (elsewhere (λ left ts. refl) c.skip-2.ensures) (then e.1 (elsewhere (λ left ts. refl) c.skip-3.ensures))))))))
