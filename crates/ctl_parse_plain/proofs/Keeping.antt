@@ -185,3 +185,13 @@ kept_looped v = paired (kept_earlier v) (ap (λ (n : Node). tag 65 n) (paired (k
 
 pub kept_blocked : (v : Node) → kept (pair (or_else (first (first v)) (part_2 v)) (tag 66 (pair (second (first v)) (part_3 v)))) ≡ pair (or_else (first (first (kept v))) (part_2 (kept v))) (tag 66 (pair (second (first (kept v))) (part_3 (kept v))))
 kept_blocked v = paired (kept_earlier v) (ap (λ (n : Node). tag 66 n) (paired (kept_second_first v) (kept_part_3 v)))
+
+-- ---- whole texts
+
+kept_heading : (v : Node) → kept (first (part_2 v)) ≡ first (part_2 (kept v))
+kept_heading v = kept_first (part_2 v) ∙ ap first (kept_part_2 v)
+
+pub kept_whole : (v : Node) → kept (pair (first v) (pair (first (first (part_2 v))) (pair (second (first (part_2 v))) (second (part_2 v))))) ≡ pair (first (kept v)) (pair (first (first (part_2 (kept v)))) (pair (second (first (part_2 (kept v)))) (second (part_2 (kept v)))))
+kept_whole v =
+    paired (kept_first v) (paired (kept_first (first (part_2 v)) ∙ ap first (kept_heading v))
+    (paired (kept_second (first (part_2 v)) ∙ ap second (kept_heading v)) (kept_second (part_2 v) ∙ ap second (kept_part_2 v))))

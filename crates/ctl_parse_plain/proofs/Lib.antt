@@ -1,3 +1,4 @@
+pub mod Answered
 pub mod Associations
 pub mod Forms
 pub mod Keeping

@@ -118,6 +118,20 @@ pub record Bounds (head : Form) (from there : Parser) : Type 0 where
   pub rest : there.rest.now ≡ from.rest.now
   pub bounded : Bounded from.fault (starts_too_deep from.left head from.rest.now) there.fault
 
+-- ---- the end
+
+-- a fault stood already, or a token that is left is unexpected
+abbrev pub Ended : Option Refused → List Token → Option Refused → Type 0
+Ended (Some f) ts fault = fault ≡ Some f
+Ended None [] fault = fault ≡ None
+Ended None (t ∷ ts) fault = fault ≡ Some (refused.Token Unexpected)
+
+-- The parser refused what was left, where something was.
+pub record Ends (from there : Parser) : Type 0 where
+  pub left : there.left ≡ from.left
+  pub rest : there.rest.now ≡ from.rest.now
+  pub ended : Ended from.fault from.rest.now there.fault
+
 -- ---- loops
 
 -- What reads the row of these forms to its end from there on has read the whole from the beginning on, with these nodes in front.

@@ -17,3 +17,6 @@ mod operators;
 mod simple_statements;
 mod statements;
 mod types;
+mod whole;
+
+pub use whole::{ROOM, parse};
