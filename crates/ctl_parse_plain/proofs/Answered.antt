@@ -13,6 +13,7 @@ use Rattle.ctl_grammar.specs.Nodes.{first, part_2, part_3, behind_3, row_of}
 use Rattle.ctl_grammar.specs.Reading.{Read, ◌>>=◌, read}
 use Rattle.ctl_grammar.specs.Text.{IsProgram, answer, ended}
 use Rattle.ctl_grammar.specs.Fault.{HasGrammarFault, fault_at}
+use Rattle.ctl_parse_plain.specs.Memory.{IsMemory, Tells}
 use Rattle.ctl_grammar.proofs.Programs.{reads_what_is_spelled, spells_what_is_read}
 use Rattle.ctl_grammar.proofs.Faults.{one_of_both}
 use Rattle.ctl_parse_plain.specs.declared.cursor.Parser.{Parser}
@@ -86,3 +87,23 @@ has_fault left ts rest reason e = (reason, rest, e, refl)
 
 pub one_fault : (left : ℕ) (ts rest : List Token) (reason : Reason) (fault : Fault) → answer left ts ≡ Err (reason, rest) → HasGrammarFault left ts fault → fault_at reason rest ts ≡ fault
 one_fault left ts rest reason fault e h = (one_of_both left ts fault h).1 (fault_at reason rest ts) (has_fault left ts rest reason e)
+
+-- ---- what is answered
+
+pub sound_answer : (o : Read) (a : Node) (us : List Token) (e : Option Refused) → e ≡ None → Gave o a e us → kept_read o ≡ Ok (a, us)
+sound_answer o a us e h g = subst (λ (z : Option Refused). Gave o a z us) h g
+
+pub refused_answer : (o : Read) (a : Node) (us : List Token) (e : Option Refused) (x : Refused) → e ≡ Some x → Gave o a e us → Gave o a (Some x) us
+refused_answer o a us e x h g = subst (λ (z : Option Refused). Gave o a z us) h g
+
+pub refused_is : (left : ℕ) (ts us : List Token) (a : Node) (x : Refused) (f : Fault) → Gave (answer left ts) a (Some x) us → Tells x us ts f → HasGrammarFault left ts f ⊎ IsMemory f
+refused_is left ts us a refused.Memory f g t = inr t
+refused_is left ts us a (refused.Token r) f g t = inl (subst (HasGrammarFault left ts) (sym t) (has_fault left ts us r g))
+
+pub program_refused : (left : ℕ) (ts us : List Token) (a v : Node) (x : Refused) (f : Fault) → Gave (answer left ts) a (Some x) us → Tells x us ts f → IsProgram left v ts → IsMemory f
+program_refused left ts us a v refused.Memory f g t p = t
+program_refused left ts us a v (refused.Token r) f g t p = absurd (no_program left ts us r v g p)
+
+pub fault_refused : (left : ℕ) (ts us : List Token) (a : Node) (x : Refused) (f other : Fault) → Gave (answer left ts) a (Some x) us → Tells x us ts f → HasGrammarFault left ts other → (f ≡ other) ⊎ IsMemory f
+fault_refused left ts us a refused.Memory f other g t h = inr t
+fault_refused left ts us a (refused.Token r) f other g t h = inl (t ∙ one_fault left ts us r other g h)

@@ -7,7 +7,7 @@ ghost use Rattle.ctl_grammar.specs.Grammar.{program};
 ghost use Rattle.ctl_grammar.specs.Text.{IsProgram, answer};
 ghost use Rattle.ctl_grammar.specs.Fault.{HasGrammarFault, code_of, fault_at};
 ghost use Rattle.ctl_parse_plain.specs.Kept.{kept_program};
-ghost use Rattle.ctl_parse_plain.specs.Memory.{IsMemory};
+ghost use Rattle.ctl_parse_plain.specs.Memory.{IsMemory, Tells};
 ghost use Rattle.ctl_parse_plain.specs.Parts.{program_node, tree_node};
 ghost use Rattle.ctl_parse_plain.specs.Reads.{Ends, Goes, Reads};
 
@@ -92,6 +92,16 @@ fn fault_at(reason: Reason, rest: &[Token], tokens: &[Token]) -> Fault
     }
 }
 
+/// Gives the fault where reading failed for this reason before these of the tokens.
+fn fault_of(refused: Refused, rest: &[Token], tokens: &[Token]) -> Fault
+    ensures { Tells refused rest.now tokens.now result }
+{
+    match refused {
+        Refused::Memory => Fault::memory(),
+        Refused::Token(reason) => fault_at(reason, rest, tokens),
+    }
+}
+
 /// Answers the tree that the tokens spell, the last of which is the end mark, or the first fault of the grammar.
 ///
 /// The tree keeps all of what the tokens stand for but how an attribute or the word Storage_Pool is spelled, and the names behind `end`.
@@ -117,7 +127,6 @@ pub fn parse(alloc: Global, tokens: &[Token]) -> Result<Written, Fault>
     let tree = parser.whole();
     match parser.fault {
         None => Ok(tree),
-        Some(Refused::Memory) => Err(Fault::memory()),
-        Some(Refused::Token(reason)) => Err(fault_at(reason, parser.rest, tokens)),
+        Some(refused) => Err(fault_of(refused, parser.rest, tokens)),
     }
 }
