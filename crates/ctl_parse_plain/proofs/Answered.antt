@@ -18,7 +18,7 @@ use Rattle.ctl_grammar.proofs.Programs.{reads_what_is_spelled, spells_what_is_re
 use Rattle.ctl_grammar.proofs.Faults.{one_of_both}
 use Rattle.ctl_parse_plain.specs.declared.cursor.Parser.{Parser}
 use Rattle.ctl_parse_plain.specs.Kept.{kept, kept_read, kept_program, body_part}
-use Rattle.ctl_parse_plain.specs.Parts.{context_node, program_node, tree_node, view_body}
+use Rattle.ctl_parse_plain.specs.Parts.{context_node, program_node, tree_node}
 use Rattle.ctl_parse_plain.specs.Reads.{Reads, Gave, Goes, Ended, Ends}
 use Rattle.ctl_parse_plain.specs.View.{identifier_node}
 use Rattle.ctl_parse_plain.proofs.PartViews.{body_pair}

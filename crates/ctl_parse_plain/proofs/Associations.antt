@@ -11,15 +11,15 @@ use Rattle.ctl_parse_plain.proofs.Views.{view_name}
 use Rattle.ctl_tree.specs.declared.token.Kind.TheVariants as kinds
 use Rattle.ctl_tree.specs.declared.token.Token.{Token}
 use Rattle.ctl_syntax.specs.declared.name.Identifier.{Identifier}
-use Rattle.ctl_grammar.specs.Form.{Node, none, pair, Form, word, act, within, when, ◌▸◌, starts}
-use Rattle.ctl_grammar.specs.Grammar.{apart, association, expression, identifier, next_identifiers}
+use Rattle.ctl_grammar.specs.Form.{Node, none, pair, Form, word, act, when, ◌▸◌, starts}
+use Rattle.ctl_grammar.specs.Grammar.{apart, association, expression}
 use Rattle.ctl_grammar.specs.Nodes.{first, second, row_of, is_bare, is_none, association_of, bare_of}
 use Rattle.ctl_grammar.specs.Reading.{Read, ◌>>=◌, begins, read}
 use Rattle.ctl_parse_plain.specs.declared.cursor.Parser.{Parser}
 use Rattle.ctl_parse_plain.specs.Kept.{kept}
 use Rattle.ctl_parse_plain.specs.Reads.{Reads}
 use Rattle.ctl_parse_plain.specs.View.{identifier_node, suffix_node, view}
-use Rattle.ctl_parse_plain.proofs.Steps.{kept_first, kept_second, being}
+use Rattle.ctl_parse_plain.proofs.Steps.{kept_first, kept_second}
 use Rattle.ctl_parse_plain.proofs.Forms.{inside, making_where, not_empty}
 use Rattle.ctl_parse_plain.proofs.Keeping.{kept_association, kept_bare}
 

@@ -1,13 +1,13 @@
 -- Reading what is tested against what was read before, what stands apart from it, and what may be too deep.
-use Rattle.std.proofs.Common.{◌≡◌, ℕ, Bool, true, false, cond, List, Option, Some, None, Ok, Err, refl, sym, ap, subst, ◌∙◌, ◌⊎◌, inl, inr}
+use Rattle.std.proofs.Common.{◌≡◌, ℕ, Bool, true, false, cond, List, Option, Some, None, Ok, Err, refl, sym, ap, subst, ◌∙◌}
 use Rattle.std.specs.Prelude.{◌&&◌}
 use Rattle.ctl_tree.specs.declared.token.Token.{Token}
 use Rattle.ctl_grammar.specs.declared.refused.Refused.{Refused}
 use Rattle.ctl_grammar.specs.declared.refused.Refused.TheVariants as refused
 use Rattle.ctl_grammar.specs.declared.refused.Reason.TheVariants.{TooDeep}
-use Rattle.ctl_grammar.specs.Form.{Node, none, pair, Form, empty, within, when, act, late, ◌▸◌, starts}
+use Rattle.ctl_grammar.specs.Form.{Node, none, pair, Form, within, when, act, late, ◌▸◌, starts}
 use Rattle.ctl_grammar.specs.Grammar.{apart}
-use Rattle.ctl_grammar.specs.Nodes.{second, row_of}
+use Rattle.ctl_grammar.specs.Nodes.{second}
 use Rattle.ctl_grammar.specs.Reading.{Read, ◌>>=◌, begins, read, reader, nowhere, is_read, is_ahead, starts_too_deep}
 use Rattle.ctl_parse_plain.specs.declared.cursor.Parser.{Parser}
 use Rattle.ctl_parse_plain.specs.Kept.{kept, kept_read}
@@ -16,7 +16,7 @@ use Rattle.ctl_parse_plain.specs.declared.depth.Heading.{Heading}
 use Rattle.ctl_parse_plain.specs.declared.depth.Heading.TheVariants as headings
 use Rattle.ctl_parse_plain.specs.Heading.{head_of}
 use Rattle.ctl_grammar.proofs.Late.{start_alike, start_of_function_alike, start_of_procedure_alike}
-use Rattle.ctl_parse_plain.proofs.Steps.{making, being_sound, kept_second, then, staying}
+use Rattle.ctl_parse_plain.proofs.Steps.{making, kept_second, staying}
 
 -- ---- what was read before does not matter
 

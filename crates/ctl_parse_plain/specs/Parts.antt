@@ -5,7 +5,6 @@ use Rattle.ctl_grammar.specs.Form.{Node, none, num, at, pair, tag}
 use Rattle.ctl_grammar.specs.Nodes.{first, second, row_of, yes}
 use Rattle.ctl_syntax.specs.declared.name.Identifier.{Identifier}
 use Rattle.ctl_syntax.specs.declared.name.Mark.{Mark}
-use Rattle.ctl_syntax.specs.declared.expression.Expression.{Expression}
 use Rattle.ctl_syntax.specs.declared.item.Aliasing.{Aliasing}
 use Rattle.ctl_syntax.specs.declared.item.Aliasing.TheVariants as aliasing
 use Rattle.ctl_syntax.specs.declared.item.Association.{Association}

@@ -24,10 +24,7 @@ pub(crate) enum Rest {
     /// The generic procedure of an instance, and its actuals (RM 12.3).
     Instance(Mark<Identifier>, Items<Association<Identifier>>),
     /// The parameters, and the body, if there is one.
-    Subprogram(
-        Items<Formal<Identifier, Identifier>>,
-        Option<Boxed<Body<Identifier, Identifier>>>,
-    ),
+    Subprogram(Items<Formal<Identifier, Identifier>>, Option<Boxed<Body<Identifier, Identifier>>>),
 }
 
 /// Makes the declaration of a subprogram, or its body.
