@@ -22,9 +22,7 @@ use Rattle.ctl_parse_plain.specs.Parts.{context_node, program_node, tree_node}
 use Rattle.ctl_parse_plain.specs.Reads.{Reads, Gave, Goes, Ended, Ends}
 use Rattle.ctl_parse_plain.specs.View.{identifier_node}
 use Rattle.ctl_parse_plain.proofs.PartViews.{body_pair}
-
-same_parts : (x y : Node × List Token) → (let o : Read = Ok x in o) ≡ Ok y → x ≡ y
-same_parts x y h = cc
+use Rattle.ctl_parse_plain.proofs.Steps.{same_parts}
 
 -- ---- the end
 

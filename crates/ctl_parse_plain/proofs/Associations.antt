@@ -19,7 +19,7 @@ use Rattle.ctl_parse_plain.specs.declared.cursor.Parser.{Parser}
 use Rattle.ctl_parse_plain.specs.Kept.{kept}
 use Rattle.ctl_parse_plain.specs.Reads.{Reads}
 use Rattle.ctl_parse_plain.specs.View.{identifier_node, suffix_node, view}
-use Rattle.ctl_parse_plain.proofs.Steps.{kept_first, kept_second}
+use Rattle.ctl_parse_plain.proofs.Steps.{same_parts, kept_first, kept_second}
 use Rattle.ctl_parse_plain.proofs.Forms.{inside, making_where, not_empty}
 use Rattle.ctl_parse_plain.proofs.Keeping.{kept_association, kept_bare}
 
@@ -36,9 +36,6 @@ pub and_both : (a b : Bool) → (a && b) ≡ true → (a ≡ true) × (b ≡ tru
 and_both true b h = (refl, h)
 and_both false b h = absurd cc
 
-pub named_pair : {a b c : Node} → a ≡ b → pair a c ≡ pair b c
-named_pair {a} {b} {c} h = ap (λ (n : Node). pair n c) h
-
 abbrev behind_arrow : Form
 behind_arrow = act (λ v. pair none (second v)) (word kinds.Arrow ▸ apart expression)
 
@@ -50,9 +47,6 @@ same_arrow a v h left ts =
 
 abbrev Named : Node → Type 0
 Named v = (second v ≡ none) ⊎ (is_bare (first v) ≡ true)
-
-same_parts : (x y : Node × List Token) → (let o : Read = Ok x in o) ≡ Ok y → x ≡ y
-same_parts x y h = cc
 
 told_made : (o : Read) (x v : Node) (xs : List Token) → is_bare x ≡ true → (o >>= λ y. Ok (pair x y.0, y.1)) ≡ Ok (v, xs) → Named v
 told_made (Ok y) x v xs b h =

@@ -16,7 +16,7 @@ use Rattle.ctl_parse_plain.specs.declared.depth.Heading.{Heading}
 use Rattle.ctl_parse_plain.specs.declared.depth.Heading.TheVariants as headings
 use Rattle.ctl_parse_plain.specs.Heading.{head_of}
 use Rattle.ctl_grammar.proofs.Late.{start_alike, start_of_function_alike, start_of_procedure_alike}
-use Rattle.ctl_parse_plain.proofs.Steps.{making, kept_second, staying}
+use Rattle.ctl_parse_plain.proofs.Steps.{same_parts, second_gave, making, kept_second, staying}
 
 -- ---- what was read before does not matter
 
@@ -28,17 +28,6 @@ elsewhere {f} {env} {other} {p} {q} {a} h k = record {
 
 -- ---- two parts, the second of which is tested against the first
 
-same_parts : (x y : Node × List Token) → (let o : Read = Ok x in o) ≡ Ok y → x ≡ y
-same_parts x y h = cc
-
-second_gave : (x b : Node) (o : Read) (e : Option Refused) (vs : List Token) → Gave o b e vs → Gave (o >>= λ y. Ok (pair x y.0, y.1)) (pair (kept x) b) e vs
-second_gave x b (Ok y) None vs g =
-    let p = same_parts (kept y.0, y.1) (b, vs) g in
-    ap (λ (z : Node × List Token). Ok (pair (kept x) z.0, z.1)) p
-second_gave x b (Err d) None vs g = absurd cc
-second_gave x b o (Some refused.Memory) vs g = tt
-second_gave x b o (Some (refused.Token r)) vs g = ap (λ (z : Read). z >>= λ y. Ok (pair x y.0, y.1)) g
-
 first_gave : (k : Node → List Token → Read) (l : List Token → Read) (a b : Node) (us : List Token) (o : Read) (e : Option Refused) (vs : List Token)
     → ((v : Node) → kept v ≡ a → (ts : List Token) → k v ts ≡ l ts) → kept_read o ≡ Ok (a, us) → Gave (l us) b e vs → Gave (o >>= λ x. k x.0 x.1 >>= λ y. Ok (pair x.0 y.0, y.1)) (pair a b) e vs
 first_gave k l a b us (Ok x) e vs same g h =
@@ -47,7 +36,7 @@ first_gave k l a b us (Ok x) e vs same g h =
     let r : x.1 ≡ us = ap (λ (z : Node × List Token). z.1) p in
     let there : k x.0 x.1 ≡ l us = same x.0 q x.1 ∙ ap l r in
     subst (λ (z : Read). Gave (z >>= λ y. Ok (pair x.0 y.0, y.1)) (pair a b) e vs) (sym there)
-    (subst (λ (n : Node). Gave (l us >>= λ y. Ok (pair x.0 y.0, y.1)) (pair n b) e vs) q (second_gave x.0 b (l us) e vs h))
+    (subst (λ (n : Node). Gave (l us >>= λ y. Ok (pair x.0 y.0, y.1)) (pair n b) e vs) q (second_gave pair (λ x y. refl) x.0 b (l us) e vs h))
 first_gave k l a b us (Err d) e vs same g h = absurd cc
 
 goes_inside : (k : Node → List Token → Read) (l : List Token → Read) (a b : Node) (ts us vs : List Token) (o : Read) (d e f : Option Refused)

@@ -9,6 +9,12 @@ use Rattle.ctl_parse_plain.proofs.Steps.{kept_first, kept_second}
 
 -- ---- parts in a row
 
+pub kept_first_first : (v : Node) → kept (first (first v)) ≡ first (first (kept v))
+kept_first_first v = kept_first (first v) ∙ ap first (kept_first v)
+
+pub kept_second_first : (v : Node) → kept (second (first v)) ≡ second (first (kept v))
+kept_second_first v = kept_second (first v) ∙ ap second (kept_first v)
+
 pub kept_part_2 : (v : Node) → kept (part_2 v) ≡ part_2 (kept v)
 kept_part_2 v = kept_first (second v) ∙ ap first (kept_second v)
 
@@ -47,12 +53,9 @@ kept_or_else (at p) w = refl
 kept_or_else (pair a b) w = refl
 kept_or_else (tag n v) w = refl
 
-kept_start : (v : Node) → kept (second (first v)) ≡ second (first (kept v))
-kept_start v = kept_second (first v) ∙ ap second (kept_first v)
-
 pub kept_assignment : (v w : Node) → kept (assignment_of v w) ≡ assignment_of (kept v) (kept w)
-kept_assignment v none = ap (λ (n : Node). pair n (tag 31 (kept v))) (kept_start v)
-kept_assignment v (pair a b) = ap (λ (n : Node). pair n (tag 30 (pair (kept v) (kept b)))) (kept_start v)
+kept_assignment v none = ap (λ (n : Node). pair n (tag 31 (kept v))) (kept_second_first v)
+kept_assignment v (pair a b) = ap (λ (n : Node). pair n (tag 30 (pair (kept v) (kept b)))) (kept_second_first v)
 kept_assignment v (leaf t) = refl
 kept_assignment v (num n) = refl
 kept_assignment v (written s) = refl
@@ -165,12 +168,6 @@ kept_name_letters v a s h k = written_kept (first (second v)) s (kept_part_2 v �
 
 same_procedure : {p q i j w x : Node} → p ≡ q → i ≡ j → w ≡ x → kept_here (procedure_of p i w) ≡ kept_here (procedure_of q j x)
 same_procedure {p} {q} {i} {j} {w} {x} h k l = ap (λ (n : Node). kept_here (procedure_of n i w)) h ∙ ap (λ (n : Node). kept_here (procedure_of q n w)) k ∙ ap (λ (n : Node). kept_here (procedure_of q j n)) l
-
-kept_second_first : (v : Node) → kept (second (first v)) ≡ second (first (kept v))
-kept_second_first v = kept_second (first v) ∙ ap second (kept_first v)
-
-kept_first_first : (v : Node) → kept (first (first v)) ≡ first (first (kept v))
-kept_first_first v = kept_first (first v) ∙ ap first (kept_first v)
 
 pub kept_procedure_item : (v : Node) → kept (pair (first (first v)) (procedure_of (first (first v)) (second (first v)) (second v))) ≡ pair (first (first (kept v))) (kept_here (procedure_of (first (first (kept v))) (second (first (kept v))) (second (kept v))))
 kept_procedure_item v = paired (kept_first_first v) (kept_procedure (first (first v)) (second (first v)) (second v) ∙ same_procedure (kept_first_first v) (kept_second_first v) (kept_second v))

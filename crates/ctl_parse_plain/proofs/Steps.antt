@@ -130,7 +130,7 @@ kept_logical a (tag n v) = refl
 -- ---- one step behind another
 
 -- the parts of what was read
-same_parts : (x y : Node × List Token) → (let o : Read = Ok x in o) ≡ Ok y → x ≡ y
+pub same_parts : (x y : Node × List Token) → (let o : Read = Ok x in o) ≡ Ok y → x ≡ y
 same_parts x y h = cc
 
 -- what is read in two steps, with a node made from both
@@ -140,7 +140,7 @@ two m o k = o >>= λ x. k x.1 >>= λ y. Ok (m x.0 y.0, y.1)
 abbrev Homo : (Node → Node → Node) → Type 0
 Homo m = (x y : Node) → kept (m x y) ≡ m (kept x) (kept y)
 
-second_gave : (m : Node → Node → Node) → Homo m → (x b : Node) (o : Read) (e : Option Refused) (vs : List Token) → Gave o b e vs → Gave (o >>= λ y. Ok (m x y.0, y.1)) (m (kept x) b) e vs
+pub second_gave : (m : Node → Node → Node) → Homo m → (x b : Node) (o : Read) (e : Option Refused) (vs : List Token) → Gave o b e vs → Gave (o >>= λ y. Ok (m x y.0, y.1)) (m (kept x) b) e vs
 second_gave m h x b (Ok y) None vs g =
     let p = same_parts (kept y.0, y.1) (b, vs) g in
     ap (λ (z : Node × List Token). Ok (z.0, z.1)) (ap (λ (n : Node). (n, y.1)) (h x y.0) ∙ ap (λ (z : Node × List Token). (m (kept x) z.0, z.1)) p)

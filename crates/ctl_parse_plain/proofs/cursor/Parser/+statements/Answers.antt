@@ -4,7 +4,7 @@ use Rattle.ctl_grammar.specs.Grammar.{behind, behind_is, behind_name, body, bran
 use Rattle.ctl_grammar.specs.Nodes.{behind_2, behind_3, first, identifier_of, no, or_else, part_2, part_2_letters, part_3, part_5, procedure_of, row_of, second, yes}
 use Rattle.ctl_grammar.specs.Reading.{read}
 use Rattle.ctl_parse_plain.proofs.Forms.{bounding, elsewhere, inside, setting}
-use Rattle.ctl_parse_plain.proofs.Keeping.{kept_behind_2, kept_behind_3, kept_blocked, kept_letters, kept_looped, kept_name_letters, kept_part_2, kept_part_3, kept_part_5, kept_procedure_item, paired}
+use Rattle.ctl_parse_plain.proofs.Keeping.{kept_behind_2, kept_behind_3, kept_blocked, kept_first_first, kept_letters, kept_looped, kept_name_letters, kept_part_2, kept_part_3, kept_part_5, kept_procedure_item, paired}
 use Rattle.ctl_parse_plain.proofs.PartViews.{boxing, completed_kept, some_node, view_if, view_of_body, view_of_item}
 use Rattle.ctl_parse_plain.proofs.Rows.{beginning, beginning_pushed, gathered, gathering, smaller}
 use Rattle.ctl_parse_plain.proofs.Steps.{barring, being, building, building_as, choosing, keeping, kept_first, kept_second, making, making_2, nesting, passing, staying, then}
@@ -211,7 +211,7 @@ overriding_item-returns t c = let e = c.completed_specification-specification.en
 
 pub function_item-returns : goal.function_item-returns
 unfolding function_item
-function_item-returns t c = let e = c.completed_function-specification.ensures in being (view_of_item _ _ ∙ ap (λ k. pair (at c.completed_function-specification.result.0.span) k) (c.subprogram-kind.ensures ∙ ap (λ n. tag 53 (pair no (pair (specification_node c.completed_function-specification.result.0) n))) (sym (completed_kept c.completed_function-specification.result.1 e.0)))) (keeping (λ v. pair (first (first v)) (tag 53 (pair no v))) (λ v. pair (first (first v)) (tag 53 (subprogram_part (pair no v)))) (λ v. paired (kept_first (first v) ∙ ap first (kept_first v)) refl) e.1)
+function_item-returns t c = let e = c.completed_function-specification.ensures in being (view_of_item _ _ ∙ ap (λ k. pair (at c.completed_function-specification.result.0.span) k) (c.subprogram-kind.ensures ∙ ap (λ n. tag 53 (pair no (pair (specification_node c.completed_function-specification.result.0) n))) (sym (completed_kept c.completed_function-specification.result.1 e.0)))) (keeping (λ v. pair (first (first v)) (tag 53 (pair no v))) (λ v. pair (first (first v)) (tag 53 (subprogram_part (pair no v)))) (λ v. paired (kept_first_first v) refl) e.1)
 
 pub completed_specification-returns : goal.completed_specification-returns
 unfolding completed_specification
