@@ -1,3 +1,8 @@
+pub mod Answered
+pub mod Associations
+pub mod Forms
+pub mod Keeping
+pub mod PartViews
 pub mod Parts
 pub mod Rows
 pub mod Steps

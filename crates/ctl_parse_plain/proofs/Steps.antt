@@ -130,7 +130,7 @@ kept_logical a (tag n v) = refl
 -- ---- one step behind another
 
 -- the parts of what was read
-same_parts : (x y : Node × List Token) → (let o : Read = Ok x in o) ≡ Ok y → x ≡ y
+pub same_parts : (x y : Node × List Token) → (let o : Read = Ok x in o) ≡ Ok y → x ≡ y
 same_parts x y h = cc
 
 -- what is read in two steps, with a node made from both
@@ -140,7 +140,7 @@ two m o k = o >>= λ x. k x.1 >>= λ y. Ok (m x.0 y.0, y.1)
 abbrev Homo : (Node → Node → Node) → Type 0
 Homo m = (x y : Node) → kept (m x y) ≡ m (kept x) (kept y)
 
-second_gave : (m : Node → Node → Node) → Homo m → (x b : Node) (o : Read) (e : Option Refused) (vs : List Token) → Gave o b e vs → Gave (o >>= λ y. Ok (m x y.0, y.1)) (m (kept x) b) e vs
+pub second_gave : (m : Node → Node → Node) → Homo m → (x b : Node) (o : Read) (e : Option Refused) (vs : List Token) → Gave o b e vs → Gave (o >>= λ y. Ok (m x y.0, y.1)) (m (kept x) b) e vs
 second_gave m h x b (Ok y) None vs g =
     let p = same_parts (kept y.0, y.1) (b, vs) g in
     ap (λ (z : Node × List Token). Ok (z.0, z.1)) (ap (λ (n : Node). (n, y.1)) (h x y.0) ∙ ap (λ (z : Node × List Token). (m (kept x) z.0, z.1)) p)
@@ -174,23 +174,27 @@ then {f} {g} {env} {p} {q} {r} {a} {b} h k = record {
 
 -- ---- a node made from what was read
 
-gave_made : (make : Node → Node) → ((v : Node) → kept (make v) ≡ make (kept v)) → (a : Node) (us : List Token) (o : Read) (e : Option Refused) → Gave o a e us → Gave (o >>= λ x. Ok (make x.0, x.1)) (make a) e us
-gave_made make h a us (Ok x) None g =
+gave_made : (make keep : Node → Node) → ((v : Node) → kept (make v) ≡ keep (kept v)) → (a : Node) (us : List Token) (o : Read) (e : Option Refused) → Gave o a e us → Gave (o >>= λ x. Ok (make x.0, x.1)) (keep a) e us
+gave_made make keep h a us (Ok x) None g =
     let p = same_parts (kept x.0, x.1) (a, us) g in
-    ap (λ (z : Node × List Token). Ok (z.0, z.1)) (ap (λ (n : Node). (n, x.1)) (h x.0) ∙ ap (λ (z : Node × List Token). (make z.0, z.1)) p)
-gave_made make h a us (Err d) None g = absurd cc
-gave_made make h a us o (Some refused.Memory) g = tt
-gave_made make h a us o (Some (refused.Token r)) g = ap (λ (z : Read). z >>= λ x. Ok (make x.0, x.1)) g
+    ap (λ (z : Node × List Token). Ok (z.0, z.1)) (ap (λ (n : Node). (n, x.1)) (h x.0) ∙ ap (λ (z : Node × List Token). (keep z.0, z.1)) p)
+gave_made make keep h a us (Err d) None g = absurd cc
+gave_made make keep h a us o (Some refused.Memory) g = tt
+gave_made make keep h a us o (Some (refused.Token r)) g = ap (λ (z : Read). z >>= λ x. Ok (make x.0, x.1)) g
 
-goes_made : (make : Node → Node) → ((v : Node) → kept (make v) ≡ make (kept v)) → (a : Node) (ts us : List Token) (o : Read) (d e : Option Refused) → Goes d ts o a e us → Goes d ts (o >>= λ x. Ok (make x.0, x.1)) (make a) e us
-goes_made make h a ts us o None e g = gave_made make h a us o e g
-goes_made make h a ts us o (Some f) e g = g
+goes_made : (make keep : Node → Node) → ((v : Node) → kept (make v) ≡ keep (kept v)) → (a : Node) (ts us : List Token) (o : Read) (d e : Option Refused) → Goes d ts o a e us → Goes d ts (o >>= λ x. Ok (make x.0, x.1)) (keep a) e us
+goes_made make keep h a ts us o None e g = gave_made make keep h a us o e g
+goes_made make keep h a ts us o (Some f) e g = g
+
+-- what is kept of the node is made by another function of what is kept of its parts
+pub keeping : {f : Form} {env : Node} {p q : Parser} {a : Node} (make keep : Node → Node) → ((v : Node) → kept (make v) ≡ keep (kept v)) → Reads f env p a q → Reads (act make f) env p (keep a) q
+keeping {f} {env} {p} {q} {a} make keep h k = record {
+  left = k.left;
+  goes = goes_made make keep h a p.rest.now q.rest.now (read p.left f env p.rest.now) p.fault q.fault k.goes;
+}
 
 pub making : {f : Form} {env : Node} {p q : Parser} {a : Node} (make : Node → Node) → ((v : Node) → kept (make v) ≡ make (kept v)) → Reads f env p a q → Reads (act make f) env p (make a) q
-making {f} {env} {p} {q} {a} make h k = record {
-  left = k.left;
-  goes = goes_made make h a p.rest.now q.rest.now (read p.left f env p.rest.now) p.fault q.fault k.goes;
-}
+making {f} {env} {p} {q} {a} make h k = keeping make make h k
 
 -- a node made from the parts of a pair
 bind_pair : (make : Node → Node) (o : Read) (k : List Token → Read) → (two pair o k >>= λ z. Ok (make z.0, z.1)) ≡ two (λ x y. make (pair x y)) o k

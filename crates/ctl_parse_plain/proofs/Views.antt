@@ -16,12 +16,12 @@ use Rattle.ctl_grammar.specs.Form.{Node, none, pair, tag, at, num}
 use Rattle.ctl_grammar.specs.Nodes.{first, row_of}
 use Rattle.ctl_parse_plain.specs.View.{attribute_code, attribute_node, view, identifier_node, mark_node, optional, name_node, suffix_node, operand_node, chain_node, chain_of, is_adding}
 
-map_same : (xs : List Node) → map (λ (v : Node). v) xs ≡ xs
+pub map_same : (xs : List Node) → map (λ (v : Node). v) xs ≡ xs
 map_same [] = refl
 map_same (x ∷ xs) = ap (λ (r : List Node). x ∷ r) (map_same xs)
 
 -- a row is seen through what was made of each
-mapped : {A B : Type 0} (F : A → B) (v : B → Node) (w : A → Node) → ((a : A) → v (F a) ≡ w a) → (xs : List A) → map v (map F xs) ≡ map w xs
+pub mapped : {A B : Type 0} (F : A → B) (v : B → Node) (w : A → Node) → ((a : A) → v (F a) ≡ w a) → (xs : List A) → map v (map F xs) ≡ map w xs
 mapped F v w h [] = refl
 mapped F v w h (x ∷ xs) = ap (λ (n : Node). n ∷ map v (map F xs)) (h x) ∙ ap (λ (r : List Node). w x ∷ r) (mapped F v w h xs)
 

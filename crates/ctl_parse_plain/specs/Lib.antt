@@ -1,3 +1,6 @@
+pub mod Heading
 pub mod Kept
+pub mod Memory
+pub mod Parts
 pub mod Reads
 pub mod View

@@ -7,7 +7,7 @@ use Rattle.ctl_grammar.specs.declared.refused.Refused.{Refused}
 use Rattle.ctl_grammar.specs.declared.refused.Refused.TheVariants as refused
 use Rattle.ctl_grammar.specs.Form.{Node, none, Form, many}
 use Rattle.ctl_grammar.specs.Nodes.{joined_row}
-use Rattle.ctl_grammar.specs.Reading.{Read, begins, read}
+use Rattle.ctl_grammar.specs.Reading.{Read, begins, read, starts_too_deep}
 use Rattle.ctl_parse_plain.specs.declared.cursor.Parser.{Parser}
 use Rattle.ctl_parse_plain.specs.Kept.{kept_read}
 
@@ -95,6 +95,42 @@ pub record Unopened (is_next : Bool) (from there : Parser) : Type 0 where
   pub left : there.left ≡ from.left
   pub rest : there.rest.now ≡ from.rest.now
   pub barred : Barred from.fault is_next from.left there.fault
+
+-- ---- what may be too deep
+
+-- Where no fault stood, the body that begins here is too deep and that is noted, or it is none and nothing is noted, or memory was
+-- refused; where a fault stood, it stands.
+abbrev pub Bounded : Option Refused → Bool → Option Refused → Type 0
+Bounded None is_deep None = is_deep ≡ false
+Bounded None is_deep (Some refused.Memory) = Unit {0}
+Bounded None is_deep (Some (refused.Token reason)) = (is_deep ≡ true) × (reason ≡ TooDeep)
+Bounded (Some f) is_deep fault = fault ≡ Some f
+
+-- What stopped the reading of a form ahead: nothing, where the tokens begin with it; where memory was refused nothing is said.
+abbrev pub Foreseen : Bool → Option Refused → Type 0
+Foreseen is_there None = is_there ≡ true
+Foreseen is_there (Some refused.Memory) = Unit {0}
+Foreseen is_there (Some (refused.Token reason)) = is_there ≡ false
+
+-- The parser noted where it stood whether what begins so is too deep.
+pub record Bounds (head : Form) (from there : Parser) : Type 0 where
+  pub left : there.left ≡ from.left
+  pub rest : there.rest.now ≡ from.rest.now
+  pub bounded : Bounded from.fault (starts_too_deep from.left head from.rest.now) there.fault
+
+-- ---- the end
+
+-- a fault stood already, or a token that is left is unexpected
+abbrev pub Ended : Option Refused → List Token → Option Refused → Type 0
+Ended (Some f) ts fault = fault ≡ Some f
+Ended None [] fault = fault ≡ None
+Ended None (t ∷ ts) fault = fault ≡ Some (refused.Token Unexpected)
+
+-- The parser refused what was left, where something was.
+pub record Ends (from there : Parser) : Type 0 where
+  pub left : there.left ≡ from.left
+  pub rest : there.rest.now ≡ from.rest.now
+  pub ended : Ended from.fault from.rest.now there.fault
 
 -- ---- loops
 

@@ -44,7 +44,7 @@ pub(crate) fn name_expression(
 
 impl<'a> Parser<'a> {
     /// Puts a value into a box, unless memory is refused.
-    fn boxed<T: Drop>(&mut self, value: T) -> Option<Boxed<T>>
+    pub(crate) fn boxed<T: Drop>(&mut self, value: T) -> Option<Boxed<T>>
         ensures left { self.new.left ≡ self.old.left }
         ensures rest { self.new.rest ≡ self.old.rest }
         ensures value { MatchOption result (Refuses self.old.fault self.new.fault) (λ b. (b ≡ value) × (self.new.fault ≡ self.old.fault)) }

@@ -4,8 +4,19 @@
 //! is bounded by how many constructs stand in one another, and not by the length of the text.
 #![tactic(auto)]
 
+mod bodies;
 mod building;
 mod cursor;
+mod declarations;
+mod depth;
 mod expressions;
+mod headings;
+mod known;
 mod names;
 mod operators;
+mod simple_statements;
+mod statements;
+mod types;
+mod whole;
+
+pub use whole::{ROOM, parse};
