@@ -10,6 +10,7 @@ use Rattle.ctl_program.specs.declared.types.Operations.{Operations}
 use Rattle.ctl_program.specs.declared.expression.Expr.{Expr}
 use Rattle.ctl_program.specs.declared.expression.Name.{Name as Checked_name}
 use Rattle.ctl_program.specs.declared.expression.Actual.{Actual}
+use Rattle.ctl_program.specs.declared.statement.Piece.{Piece}
 use Rattle.ctl_program.specs.declared.statement.Stmt.{Stmt}
 use Rattle.ctl_program.specs.declared.statement.Stmt.TheVariants as stmt
 use Rattle.ctl_syntax.specs.declared.denoted.Denoted.{Denoted}
@@ -83,12 +84,15 @@ written_name place t (View p) = written_part place t p
 written_name place t f = wrong rule.Mode place
 
 -- an actual that the call writes to is a name (6.4.1)
+abbrev pub writing_by : Tables → Span → Ty → Option (Tables → Judgement Found) → Judgement Checked_name
+writing_by tables place t None = wrong rule.Mode place
+writing_by tables place t (Some name) = name tables >>= written_name place t
+
+abbrev pub written_as : Tables → Span → Ty → Use → List (Suffix Sense) → Judgement Checked_name
+written_as tables place t u xs = writing_by tables place t (Some (found u xs))
+
 abbrev pub writing : Tables → Ty → Sense → Judgement Checked_name
-writing tables t x = by_bare tables x.place t x.bare
-  where
-    by_bare : Tables → Span → Ty → Option (Tables → Judgement Found) → Judgement Checked_name
-    by_bare tables place t None = wrong rule.Mode place
-    by_bare tables place t (Some name) = name tables >>= written_name place t
+writing tables t x = writing_by tables x.place t x.bare
 
 -- Assignments (5.2) -----------------------------------------------------------------------------
 
@@ -251,30 +255,46 @@ abbrev pub operation_with : Tables → Span → OperationName → Option (List S
 operation_with tables place o (Some (x ∷ more)) = operation_called tables place o x more
 operation_with tables place o xs = wrong rule.Type place
 
+abbrev pub putting_by : LibraryName → List Piece → Stmt
+putting_by library.Put ps = stmt.Put ps
+putting_by l ps = stmt.PutLine ps
+
+abbrev pub putting : Tables → LibraryName → Sense → Judgement Stmt
+putting tables l x = x.texts tables >>= (λ ps. known (putting_by l ps))
+
+abbrev pub releasing : Tables → Sense → Judgement Stmt
+releasing tables x = writing tables ty.Handle x >>= (λ n. known (stmt.Release n))
+
 -- the library's procedures (A.10.7, A.10.5, 13.11.5)
 abbrev pub library_with : Tables → Span → LibraryName → Option (List Sense) → Judgement Stmt
 library_with tables place library.NewLine (Some []) = known stmt.NewLine
-library_with tables place library.Put (Some (x ∷ [])) = x.texts tables >>= (λ ps. known (stmt.Put ps))
-library_with tables place library.PutLine (Some (x ∷ [])) = x.texts tables >>= (λ ps. known (stmt.PutLine ps))
-library_with tables place library.UncheckedDeallocateSubpool (Some (x ∷ [])) = writing tables ty.Handle x >>= (λ n. known (stmt.Release n))
+library_with tables place library.Put (Some (x ∷ [])) = putting tables library.Put x
+library_with tables place library.PutLine (Some (x ∷ [])) = putting tables library.PutLine x
+library_with tables place library.UncheckedDeallocateSubpool (Some (x ∷ [])) = releasing tables x
 library_with tables place l xs = wrong rule.Type place
 
+abbrev pub procedure_by : Tables → Span → Option Ty → Profile → List Sense → Judgement Stmt
+procedure_by tables place None p xs = actuals_of tables place p.formals xs >>= (λ as'. known (stmt.Call p.subprogram as'))
+procedure_by tables place (Some t) p xs = wrong rule.Type place
+
 abbrev pub procedure_called : Tables → Span → Profile → List Sense → Judgement Stmt
-procedure_called tables place p xs = by_result tables place p.result p xs
-  where
-    by_result : Tables → Span → Option Ty → Profile → List Sense → Judgement Stmt
-    by_result tables place None p xs = actuals_of tables place p.formals xs >>= (λ as'. known (stmt.Call p.subprogram as'))
-    by_result tables place (Some t) p xs = wrong rule.Type place
+procedure_called tables place p xs = procedure_by tables place p.result p xs
+
+abbrev pub deallocating : Tables → ℕ → Sense → Judgement Stmt
+deallocating tables a x = writing tables (ty.Access a) x >>= (λ n. known (stmt.Free a n))
 
 -- what the text declares; an instance of Ada.Unchecked_Deallocation takes a variable of its access type (13.11.2)
 abbrev pub declared_with : Tables → Span → Option Entry → Option (List Sense) → Judgement Stmt
 declared_with tables place (Some (entry.Subprogram p)) (Some xs) = procedure_called tables place p xs
-declared_with tables place (Some (entry.Deallocation a)) (Some (x ∷ [])) = writing tables (ty.Access a) x >>= (λ n. known (stmt.Free a n))
+declared_with tables place (Some (entry.Deallocation a)) (Some (x ∷ [])) = deallocating tables a x
 declared_with tables place (Some entry.Unknown) xs = λ n. (None, n)
 declared_with tables place e xs = wrong rule.Type place
 
+abbrev pub declared_called : Tables → Span → ℕ → Option (List Sense) → Judgement Stmt
+declared_called tables place number xs = declared_with tables place (slice_get tables.entries number) xs
+
 abbrev pub called_by : Tables → Span → Denoted → Option (List Sense) → Judgement Stmt
-called_by tables place (denoted.Declared number level) xs = declared_with tables place (slice_get tables.entries number) xs
+called_by tables place (denoted.Declared number level) xs = declared_called tables place number xs
 called_by tables place (denoted.Library l) xs = library_with tables place l xs
 called_by tables place (denoted.Operation o) xs = operation_with tables place o xs
 called_by tables place denoted.Unknown xs = λ n. (None, n)
@@ -300,8 +320,11 @@ exception_entry place (Some (entry.Exception n)) = known n
 exception_entry place (Some entry.Unknown) = λ n. (None, n)
 exception_entry place e = wrong rule.Type place
 
+abbrev pub exception_of : Tables → Span → ℕ → Judgement ℕ
+exception_of tables place number = exception_entry place (slice_get tables.entries number)
+
 abbrev pub exception_denoted : Tables → Span → Denoted → Judgement ℕ
-exception_denoted tables place (denoted.Declared number level) = exception_entry place (slice_get tables.entries number)
+exception_denoted tables place (denoted.Declared number level) = exception_of tables place number
 exception_denoted tables place (denoted.Library library.ConstraintError) = known constraint_error
 exception_denoted tables place (denoted.Library library.ProgramError) = known program_error
 exception_denoted tables place (denoted.Library library.StorageError) = known storage_error
@@ -332,16 +355,13 @@ exiting place looping.Inside c = by_tables (exit_by c)
 abbrev pub with_return : Draft → Draft
 with_return d = record d { returning = Somewhere }
 
-abbrev pub return_value : Ty → Sense → Tables → Judgement Stmt
-return_value t x tables = x.judged tables (Exactly t) >>= (λ r. known (stmt.Return (Some r.value)))
-
-abbrev pub return_anything : Sense → Tables → Judgement Stmt
-return_anything x tables = x.judged tables Anything >>= (λ r. known (stmt.Return (Some r.value)))
+abbrev pub return_value : Asked → Sense → Tables → Judgement Stmt
+return_value asked x tables = x.judged tables asked >>= (λ r. known (stmt.Return (Some r.value)))
 
 abbrev pub return_by : Span → Giving → Option Sense → Doing Stmt
 return_by place giving.Nothing None = known (stmt.Return None)
-return_by place (giving.Value t) (Some x) = by_tables (return_value t x)
-return_by place giving.Unclear (Some x) = by_tables (return_anything x)
+return_by place (giving.Value t) (Some x) = by_tables (return_value (Exactly t) x)
+return_by place giving.Unclear (Some x) = by_tables (return_value Anything x)
 return_by place g x = broken rule.Return place
 
 abbrev pub returning : Span → Giving → Option Sense → Doing Stmt

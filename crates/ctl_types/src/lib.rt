@@ -5,11 +5,14 @@
 
 pub mod assignments;
 pub mod associations;
+pub mod calls;
 pub mod draft;
 pub mod freezing;
 pub mod masters;
 pub mod order;
 pub mod parts;
 pub mod stub;
+pub mod transfers;
 pub mod types;
 pub mod view;
+pub mod writing;

@@ -19,7 +19,7 @@ use ctl_program::types::Ty;
 use crate::draft::{Around, Draft, Giving, Handling, Looping, Order};
 use crate::masters::Opened;
 use ctl_program::statement as checked;
-use ctl_syntax::denoted::{Definition, Use};
+use ctl_syntax::denoted::{Definition, OperationName, Use};
 use ctl_syntax::item::{Association, Choices, Definition as TypeDefinition, Formal, Objects, Specification, Taggedness};
 use ctl_syntax::expression::Expression;
 use ctl_syntax::name::{Identifier, Mark, Name};
@@ -178,6 +178,13 @@ pub fn raising(alloc: Global, place: Span, mark: &Mark<Use>, draft: &mut Draft) 
 /// Judges a raise again.
 pub fn raising_again(place: Span, handling: Handling, draft: &mut Draft) -> Result<Option<Stmt>, AllocError>
     ensures { Judges (statements.raising_again place handling) draft.old result draft.new }
+{
+    Err(AllocError)
+}
+
+/// Judges an explicit call of an operation.
+pub fn operation_called(alloc: Global, tables: &Tables, place: Span, operation: OperationName, first: &Expression<Use>, more: &[Expression<Use>], notes: &mut Notes) -> Result<Option<Stmt>, AllocError>
+    ensures { Judges (statements.operation_called tables.now place operation (spec.sense first.now) (map spec.sense more.now)) notes.old result notes.new }
 {
     Err(AllocError)
 }
