@@ -7,6 +7,7 @@ pub mod context;
 pub mod copies;
 pub mod declarations;
 pub mod ends;
+pub mod expressions;
 pub mod library;
 pub mod names;
 pub mod notes;
