@@ -1,4 +1,4 @@
-use Rattle.std.proofs.Common.{refl, sym, ap, ◌∙◌, ◌+◌, [], drop, tt}
+use Rattle.std.proofs.Common.{refl, sym, ap, ◌∙◌, ◌+◌, [], drop}
 use Rattle.ctl_syntax.specs.declared.expression.Expression.TheVariants as x
 use Rattle.ctl_resolve.specs.Naming.{each}
 use Rattle.ctl_resolve.specs.Expressions.{expression, named_operand, named_suffix, used, leading}
@@ -59,18 +59,3 @@ operands-loop-one-preserved t c =
     ap (λ ds. each named_operand ds (drop (i + 1) all) c.operand.new.view) c.in_ok-push.ensures.ok
     ∙ turn named_operand c.loop-one.resolved all i c.one-item.result c.in_ok-operand.field-0 c.loop-one.view c.operand.new.view c.loop-one-test.true c.one-item.is c.in_ok-operand.ensures
     ∙ c.loop-one.invariant
-
-pub value_or_none-boxed-requires : goal.value_or_none-boxed-requires
-value_or_none-boxed-requires t c = (tt, tt)
-
-pub handle_or_none-name-requires : goal.handle_or_none-name-requires
-handle_or_none-name-requires t c = (tt, tt)
-
-pub expression-expressions-requires : goal.expression-expressions-requires
-expression-expressions-requires t c = (tt, tt)
-
-pub name-suffixes-requires : goal.name-suffixes-requires
-name-suffixes-requires t c = (tt, tt)
-
-pub suffix-expressions-requires : goal.suffix-expressions-requires
-suffix-expressions-requires t c = (tt, tt)
