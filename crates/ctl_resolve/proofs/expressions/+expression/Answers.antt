@@ -1,9 +1,10 @@
-use Rattle.std.proofs.Common.{refl, sym, ap, ◌∙◌, ◌+◌, [], drop}
+use Rattle.std.proofs.Common.{arith, sym, ap, ◌∙◌, ◌+◌, [], drop}
 use Rattle.ctl_syntax.specs.declared.expression.Expression.TheVariants as x
 use Rattle.ctl_resolve.specs.Naming.{each}
 use Rattle.ctl_resolve.specs.Expressions.{expression, named_operand, named_suffix, used, leading}
 use Rattle.ctl_resolve.specs.declared.view.Usage.TheVariants.{Plain}
 use Rattle.ctl_resolve.proofs.Each.{turn}
+use Rattle.ctl_resolve.proofs.ExpressionDepths.{others_below}
 use Rattle.ctl_resolve.proofs.ExpressionParts.{logical, chain, of_name, allocator, named, arguments}
 use Rattle.ctl_resolve.proofs.expressions.+expression.Goals as goal
 
@@ -59,3 +60,8 @@ operands-loop-one-preserved t c =
     ap (λ ds. each named_operand ds (drop (i + 1) all) c.operand.new.view) c.in_ok-push.ensures.ok
     ∙ turn named_operand c.loop-one.resolved all i c.one-item.result c.in_ok-operand.field-0 c.loop-one.view c.operand.new.view c.loop-one-test.true c.one-item.is c.in_ok-operand.ensures
     ∙ c.loop-one.invariant
+
+pub expression-expressions-requires : goal.expression-expressions-requires
+expression-expressions-requires t c =
+    let h = others_below c.args.of.now c.in-Logical.at c.in-Logical.operator c.in-Logical.first c.in-Logical.second c.in-Logical.more c.as_slice.result.now c.in-Logical.is c.as_slice.ensures in
+    (omega (arith, h, c.decreases), tt)
