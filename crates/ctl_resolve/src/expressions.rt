@@ -222,3 +222,20 @@ fn value_or_none(
         }
     }
 }
+
+/// Resolves the names in an expression that may be absent.
+pub fn expression_or_none(
+    alloc: Global,
+    view: &mut View,
+    of: &Option<Expression<Identifier>>,
+) -> Result<Option<Expression<Use>>, AllocError>
+    ensures { Names (optional spec.expression of.now) view.old result view.new }
+{
+    match of {
+        None => Ok(None),
+        Some(of) => {
+            let resolved = expression(alloc, view, of)?;
+            Ok(Some(resolved))
+        }
+    }
+}
