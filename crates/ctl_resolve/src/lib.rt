@@ -12,6 +12,7 @@ pub mod library;
 pub mod names;
 pub mod notes;
 pub mod objects;
+pub mod parts;
 pub mod subprograms;
 pub mod table;
 pub mod type_definitions;
