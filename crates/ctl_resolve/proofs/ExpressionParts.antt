@@ -1,5 +1,5 @@
 -- What the naming of an expression is, by the naming of its parts.
-use Rattle.std.proofs.Common.{◌≡◌, refl, ap, ◌∙◌, ℕ, zero, suc, List, [], ◌∷◌, ◌++◌, map, drop, Option, Some, None, option_map}
+use Rattle.std.proofs.Common.{◌≡◌, refl, ap, ◌∙◌, ℕ, zero, suc, List, [], ◌∷◌, map, drop, Option, Some, None, option_map}
 use Rattle.ctl_tree.specs.declared.span.Span.{Span}
 use Rattle.ctl_syntax.specs.declared.denoted.Use.{Use}
 use Rattle.ctl_syntax.specs.declared.name.Identifier.{Identifier}
@@ -15,19 +15,9 @@ use Rattle.ctl_syntax.specs.declared.expression.Expression.TheVariants as x
 use Rattle.ctl_syntax.specs.declared.expression.Expression.TheVariants.{rolls-Logical, rolls-Chain, rolls-Name, rolls-New}
 use Rattle.ctl_resolve.specs.declared.view.View.{View}
 use Rattle.ctl_resolve.specs.declared.view.Usage.TheVariants.{Plain}
-use Rattle.ctl_resolve.specs.Naming.{Naming, pure, then_by, ◌>>=◌, each, each_on, optional}
+use Rattle.ctl_resolve.specs.Naming.{Naming, pure, then_by, ◌>>=◌, each, optional}
+use Rattle.ctl_resolve.proofs.Each.{each_map}
 use Rattle.ctl_resolve.specs.Expressions.{Named_expression, step, expression, suffix_parts, operand_parts, named_suffix, named_operand, suffix_of, operand, name, name_of, leading, used, mark, every, itself}
-
--- Lists ------------------------------------------------------------------------------------------------
-
-on_map : {A B C : Type 0} (f : B → Naming C) (g : A → B) (done : List C) (r : C × View) (xs : List A) → each_on f done r (map g xs) ≡ each_on (λ y. f (g y)) done r xs
-on_map f g done (b, w) [] = refl
-on_map f g done (b, w) (y ∷ ys) = on_map f g (done ++ b ∷ []) (f (g y) w) ys
-
--- naming each of what was made is naming each as it is made
-each_map : {A B C : Type 0} (f : B → Naming C) (g : A → B) (done : List C) (xs : List A) (v : View) → each f done (map g xs) v ≡ each (λ y. f (g y)) done xs v
-each_map f g done [] v = refl
-each_map f g done (y ∷ ys) v = on_map f g done (f (g y) v) ys
 
 -- Names -----------------------------------------------------------------------------------------------
 

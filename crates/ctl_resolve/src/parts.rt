@@ -189,7 +189,7 @@ fn statement(
         }
         Statement::RaiseAgain(at) => Ok(Statement::RaiseAgain(*at)),
         Statement::If(at, first, more, others) => {
-            let first = branch(alloc, view, first)?;
+            let first = guarded(alloc, view, first)?;
             let more = branches(alloc, view, more.as_slice())?;
             let others = statements(alloc, view, others.as_slice())?;
             Ok(Statement::If(*at, first, more, others))
@@ -255,7 +255,7 @@ fn repeated(
 
 /// Resolves a condition and the statements that it guards (RM 5.3).
 #[cycle(part)]
-fn branch(
+fn guarded(
     alloc: Global,
     view: &mut View,
     of: &Branch<Statement<Identifier, Identifier>, Identifier>,
@@ -281,7 +281,7 @@ fn branches(
 {
     let mut resolved = Items::new(alloc);
     for one in all {
-        resolved.push(branch(alloc, view, one)?)?;
+        resolved.push(guarded(alloc, view, one)?)?;
     }
     Ok(resolved)
 }

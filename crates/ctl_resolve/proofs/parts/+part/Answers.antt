@@ -24,8 +24,8 @@ pub branches-loop-one-preserved : goal.branches-loop-one-preserved
 branches-loop-one-preserved t c =
     let all = c.args.all.now in
     let i = c.loop-one.one-index in
-    ap (λ ds. each named_branch ds (drop (i + 1) all) c.branch.new.view) c.in_ok-push.ensures.ok
-    ∙ turn named_branch c.loop-one.resolved all i c.one-item.result c.in_ok-branch.field-0 c.loop-one.view c.branch.new.view c.loop-one-test.true c.one-item.is c.in_ok-branch.ensures
+    ap (λ ds. each named_branch ds (drop (i + 1) all) c.guarded.new.view) c.in_ok-push.ensures.ok
+    ∙ turn named_branch c.loop-one.resolved all i c.one-item.result c.in_ok-guarded.field-0 c.loop-one.view c.guarded.new.view c.loop-one-test.true c.one-item.is c.in_ok-guarded.ensures
     ∙ c.loop-one.invariant
 
 pub handlers-loop-one-preserved : goal.handlers-loop-one-preserved

@@ -27,8 +27,8 @@ decreases-body l = goal.size-body l * 6 + 0
 abbrev pub decreases-statements : goal.decreases-statements
 decreases-statements l = goal.size-statements l * 6 + 1
 
-abbrev pub decreases-branch : goal.decreases-branch
-decreases-branch l = goal.size-branch l * 6 + 2
+abbrev pub decreases-guarded : goal.decreases-guarded
+decreases-guarded l = goal.size-guarded l * 6 + 2
 
 abbrev pub decreases-branches : goal.decreases-branches
 decreases-branches l = goal.size-branches l * 6 + 3
