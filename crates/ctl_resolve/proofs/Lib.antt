@@ -3,3 +3,5 @@ pub mod Places
 pub mod ExpressionParts
 pub mod ExpressionDepths
 pub mod StatementParts
+pub mod BodyParts
+pub mod StatementDepths
