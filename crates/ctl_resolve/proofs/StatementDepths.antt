@@ -11,5 +11,5 @@ use Rattle.ctl_syntax.proofs.name.Identifier.TheLaws.{the_row_laws}
 use Rattle.ctl_syntax.proofs.item.Statement.TheLaws.{the_size}
 
 -- the statements behind the last condition
-pub others_below : (x : Statement Identifier Identifier) (p : Span) (b : Branch (Statement Identifier Identifier) Identifier) (bs : List (Branch (Statement Identifier Identifier) Identifier)) (others xs : List (Statement Identifier Identifier)) → x ≡ s.If p b bs others → xs ≡ others → most (λ y. the_size the_row the_row_laws the_row the_row_laws y) xs < the_size the_row the_row_laws the_row the_row_laws x
+pub others_below : (x : Statement Identifier Identifier) (p : Span) (b : Branch (Statement Identifier Identifier) Identifier) (bs : List (Branch (Statement Identifier Identifier) Identifier)) (others xs : List (Statement Identifier Identifier)) → x ≡ s.If p b bs others → xs ≡ others → most (λ y. the_size the_row the_row the_row_laws the_row_laws y) xs < the_size the_row the_row the_row_laws the_row_laws x
 others_below x p b bs others xs is same = search (rules, the_lemmas)
