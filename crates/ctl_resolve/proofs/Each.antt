@@ -1,5 +1,5 @@
 -- One turn of a loop that resolves each in turn.
-use Rattle.std.proofs.Common.{◌≡◌, ℕ, ◌+◌, ◌<◌, List, [], ◌∷◌, ◌++◌, length, get_or, drop, refl, sym, ap, ◌∙◌}
+use Rattle.std.proofs.Common.{◌≡◌, ℕ, ◌+◌, ◌<◌, List, [], ◌∷◌, ◌++◌, length, get_or, map, drop, refl, sym, ap, ◌∙◌}
 use Rattle.std.proofs.lemmas.List.{at_drop_more}
 use Rattle.ctl_resolve.specs.declared.view.View.{View}
 use Rattle.ctl_resolve.specs.Naming.{Naming, each, each_on}
@@ -15,3 +15,12 @@ turn f done all i x b v w lt at h =
     ∙ sym (ap (λ r. each_on f done r (drop (i + 1) all)) h)
     ∙ ap (λ y. each f done (y ∷ drop (i + 1) all) v) at
     ∙ sym (at_drop_more (λ xs. each f done xs v) all i x lt)
+
+on_map : {A B C : Type 0} (f : B → Naming C) (g : A → B) (done : List C) (r : C × View) (xs : List A) → each_on f done r (map g xs) ≡ each_on (λ y. f (g y)) done r xs
+on_map f g done (b, w) [] = refl
+on_map f g done (b, w) (y ∷ ys) = on_map f g (done ++ b ∷ []) (f (g y) w) ys
+
+-- naming each of what was made is naming each as it is made
+pub each_map : {A B C : Type 0} (f : B → Naming C) (g : A → B) (done : List C) (xs : List A) (v : View) → each f done (map g xs) v ≡ each (λ y. f (g y)) done xs v
+each_map f g done [] v = refl
+each_map f g done (y ∷ ys) v = on_map f g done (f (g y) v) ys

@@ -1,2 +1,7 @@
 pub mod Each
 pub mod Places
+pub mod ExpressionParts
+pub mod ExpressionDepths
+pub mod StatementParts
+pub mod BodyParts
+pub mod StatementDepths

@@ -212,5 +212,11 @@ suffix_parts (suffix.All at) = suffix.All at
 suffix_parts (suffix.Arguments at first more) = suffix.Arguments at (expression first) (map expression more)
 suffix_parts (suffix.Attribute at a) = suffix.Attribute at a
 
+abbrev pub named_operand : Operand (Expression Identifier) → Naming (Operand (Expression Use))
+named_operand o = operand (operand_parts o)
+
+abbrev pub named_suffix : Suffix (Expression Identifier) → Naming (Suffix (Expression Use))
+named_suffix s = suffix_of (suffix_parts s)
+
 abbrev pub name_of : Name Identifier (Expression Identifier) → Naming (Name Use (Expression Use))
 name_of n = name (record { first = n.first; suffixes = map suffix_parts n.suffixes })

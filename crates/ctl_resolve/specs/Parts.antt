@@ -1,5 +1,6 @@
 -- Items, statements, bodies and handlers (3.11, 5.1, 6.3, 11.2).
-use Rattle.std.specs.Prelude.{List, [], ◌∷◌, ◌++◌, drop, Option, is_some, if◌then◌else◌}
+use Rattle.std.specs.Prelude.{List, [], ◌∷◌, ◌++◌, drop, map, Option, is_some, if◌then◌else◌}
+use Rattle.ctl_tree.specs.declared.span.Span.{Span}
 use Rattle.ctl_tree.specs.declared.fault.Fault.{Fault}
 use Rattle.ctl_tree.specs.declared.fault.FaultCode.TheVariants as rule
 use Rattle.ctl_syntax.specs.declared.name.Identifier.{Identifier}
@@ -124,18 +125,18 @@ storage_pool id pool = do
   m ← mark usage.Plain pool
   pure (item.StoragePool u.0 m)
 
+abbrev pub item_kind : Span → ItemKind Identifier Identifier Named_body → Named_kind
+item_kind at (item.Declaration h) = declaration h >>= (λ x. pure (item.Declaration x))
+item_kind at (item.Body h b) = body_item h b
+item_kind at (item.Instance id unit actuals) = instance id unit actuals
+item_kind at (item.Incomplete id t) = after (note_order at) (incomplete id) >>= (λ d. pure (item.Incomplete d t))
+item_kind at (item.«Type» id t) = after (note_order at) (full_type id t) >>= (λ x. pure (item.«Type» x.0 x.1))
+item_kind at (item.StoragePool id pool) = storage_pool id pool
+item_kind at (item.Exceptions ids) = new_names ids >>= (λ ds. pure (item.Exceptions ds))
+item_kind at (item.Objects o) = objects o >>= (λ x. pure (item.Objects x))
+
 abbrev pub step_item : Item-F Identifier Identifier Named_statement Named_body Named_item → Named_item
-step_item i = kind i.kind >>= (λ k. pure (roll-Item Definition Use (record { span = i.span; kind = k })))
-  where
-    kind : ItemKind Identifier Identifier Named_body → Named_kind
-    kind (item.Declaration h) = declaration h >>= (λ x. pure (item.Declaration x))
-    kind (item.Body h b) = body_item h b
-    kind (item.Instance id unit actuals) = instance id unit actuals
-    kind (item.Incomplete id t) = after (note_order i.span) (incomplete id) >>= (λ d. pure (item.Incomplete d t))
-    kind (item.«Type» id t) = after (note_order i.span) (full_type id t) >>= (λ x. pure (item.«Type» x.0 x.1))
-    kind (item.StoragePool id pool) = storage_pool id pool
-    kind (item.Exceptions ids) = new_names ids >>= (λ ds. pure (item.Exceptions ds))
-    kind (item.Objects o) = objects o >>= (λ x. pure (item.Objects x))
+step_item i = item_kind i.span i.kind >>= (λ k. pure (roll-Item Definition Use (record { span = i.span; kind = k })))
 
 abbrev pub statements : List Named_statement → Naming (List (Statement Definition Use))
 statements xs = each (λ x. x) [] xs
@@ -201,3 +202,32 @@ statement = fold-Statement Identifier Identifier Named_statement Named_body Name
 
 abbrev pub body_of : Body Identifier Identifier → Named_body
 body_of = fold-Body Identifier Identifier Named_statement Named_body Named_item step_statement step_body step_item
+
+-- the same of what stands in items, branches, loops and handlers, wherever these stand
+abbrev pub kind_parts : ItemKind Identifier Identifier (Body Identifier Identifier) → ItemKind Identifier Identifier Named_body
+kind_parts (item.Declaration h) = item.Declaration h
+kind_parts (item.Body h b) = item.Body h (body_of b)
+kind_parts (item.Instance id unit actuals) = item.Instance id unit actuals
+kind_parts (item.Incomplete id t) = item.Incomplete id t
+kind_parts (item.«Type» id t) = item.«Type» id t
+kind_parts (item.StoragePool id pool) = item.StoragePool id pool
+kind_parts (item.Exceptions ids) = item.Exceptions ids
+kind_parts (item.Objects o) = item.Objects o
+
+abbrev pub named_kind : Span → ItemKind Identifier Identifier (Body Identifier Identifier) → Named_kind
+named_kind at k = item_kind at (kind_parts k)
+
+abbrev pub branch_parts : Branch (Statement Identifier Identifier) Identifier → Branch Named_statement Identifier
+branch_parts b = record { condition = b.condition; statements = map statement b.statements }
+
+abbrev pub named_branch : Branch (Statement Identifier Identifier) Identifier → Naming (Branch (Statement Definition Use) Use)
+named_branch b = branch (branch_parts b)
+
+abbrev pub named_loop : Identifier → List (Statement Identifier Identifier) → Naming (Definition × List (Statement Definition Use))
+named_loop id body = within enter_region (looped id (map statement body))
+
+abbrev pub handler_parts : Handler (Statement Identifier Identifier) Identifier → Handler Named_statement Identifier
+handler_parts h = record { span = h.span; choices = h.choices; statements = map statement h.statements }
+
+abbrev pub named_handler : Handler (Statement Identifier Identifier) Identifier → Naming (Handler (Statement Definition Use) Use)
+named_handler h = handler (handler_parts h)

@@ -26,6 +26,22 @@ pub fn identifier(alloc: Global, of: &Identifier) -> Result<Identifier, AllocErr
     })
 }
 
+/// Copies an identifier that may be absent.
+pub fn identifier_or_none(
+    alloc: Global,
+    of: &Option<Identifier>,
+) -> Result<Option<Identifier>, AllocError>
+    ensures { IfOk result (λ id. id ≡ of.now) }
+{
+    match of {
+        None => Ok(None),
+        Some(of) => {
+            let copy = identifier(alloc, of)?;
+            Ok(Some(copy))
+        }
+    }
+}
+
 /// Copies identifiers.
 pub fn identifiers(alloc: Global, all: &[Identifier]) -> Result<Items<Identifier>, AllocError>
     ensures { IfOk result (λ ids. ids ≡ all.now) }

@@ -14,7 +14,7 @@ use crate::notes::note_if;
 use crate::table::Table;
 use crate::view::{Declaration, Role, Sought, Stage, Usage, View};
 use ctl_syntax::denoted::Use;
-use ctl_syntax::item::Choices;
+use ctl_syntax::item::{Choices, Handler, Statement};
 use ctl_syntax::name::{Identifier, Mark};
 use ctl_tree::fault::{Fault, FaultCode};
 use sqlite_items::Items;
@@ -131,7 +131,7 @@ fn chosen_each(
 }
 
 /// Adds the choices of a handler to those so far.
-pub fn chosen_by(
+fn chosen_by(
     alloc: Global,
     seen: &mut Table,
     view: &mut View,
@@ -143,4 +143,31 @@ pub fn chosen_by(
         Choices::Others => Ok(()),
         Choices::Exceptions(all) => chosen_each(alloc, seen, view, all.as_slice()),
     }
+}
+
+/// Adds the choices of handlers to those so far.
+fn chosen_in(
+    alloc: Global,
+    seen: &mut Table,
+    view: &mut View,
+    all: &[Handler<Statement<Identifier, Identifier>, Identifier>],
+) -> Result<(), AllocError>
+    ensures { OnOk result (spec.chosen_in all.now (seen.old, view.old) ≡ (seen.new, view.new)) }
+{
+    for one in all {
+        chosen_by(alloc, seen, view, &one.choices)?;
+    }
+    Ok(())
+}
+
+/// Notes a second choice of one name among all choices of an exception part (RM 11.2).
+pub fn note_choices(
+    alloc: Global,
+    view: &mut View,
+    all: &[Handler<Statement<Identifier, Identifier>, Identifier>],
+) -> Result<(), AllocError>
+    ensures { OnOk result (view.new ≡ spec.note_choices all.now view.old) }
+{
+    let mut seen = Table::new(alloc);
+    chosen_in(alloc, &mut seen, view, all)
 }

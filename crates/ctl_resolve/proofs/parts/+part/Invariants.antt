@@ -1,0 +1,55 @@
+-- Naming what is left, behind what is named, names all.
+use Rattle.std.proofs.Common.{◌≡◌, ◌+◌, ◌*◌, [], drop}
+use Rattle.ctl_resolve.specs.Naming.{each}
+use Rattle.ctl_resolve.specs.Parts.{item_of, statement, named_branch, named_handler}
+use Rattle.ctl_resolve.proofs.parts.+part.Given as goal
+
+abbrev pub invariant-items-loop-one : goal.invariant-items-loop-one
+invariant-items-loop-one l = each item_of l.resolved (drop l.one-index l.all) l.view ≡ each item_of [] l.all l.fn.view
+
+abbrev pub invariant-statements-loop-one : goal.invariant-statements-loop-one
+invariant-statements-loop-one l = each statement l.resolved (drop l.one-index l.all) l.view ≡ each statement [] l.all l.fn.view
+
+abbrev pub invariant-branches-loop-one : goal.invariant-branches-loop-one
+invariant-branches-loop-one l = each named_branch l.resolved (drop l.one-index l.all) l.view ≡ each named_branch [] l.all l.fn.view
+
+abbrev pub invariant-handlers-loop-one : goal.invariant-handlers-loop-one
+invariant-handlers-loop-one l = each named_handler l.resolved (drop l.one-index l.all) l.view ≡ each named_handler [] l.all l.fn.view
+
+-- Each call goes down the tree, or at one size to a function of lower rank.
+
+abbrev pub decreases-statement : goal.decreases-statement
+decreases-statement l = goal.size-statement l * 6 + 0
+
+abbrev pub decreases-body : goal.decreases-body
+decreases-body l = goal.size-body l * 6 + 0
+
+abbrev pub decreases-statements : goal.decreases-statements
+decreases-statements l = goal.size-statements l * 6 + 1
+
+abbrev pub decreases-guarded : goal.decreases-guarded
+decreases-guarded l = goal.size-guarded l * 6 + 2
+
+abbrev pub decreases-branches : goal.decreases-branches
+decreases-branches l = goal.size-branches l * 6 + 3
+
+abbrev pub decreases-handler : goal.decreases-handler
+decreases-handler l = goal.size-handler l * 6 + 2
+
+abbrev pub decreases-handlers : goal.decreases-handlers
+decreases-handlers l = goal.size-handlers l * 6 + 3
+
+abbrev pub decreases-repeated : goal.decreases-repeated
+decreases-repeated l = goal.size-repeated l * 6 + 2
+
+abbrev pub decreases-body_item : goal.decreases-body_item
+decreases-body_item l = goal.size-body_item l * 6 + 1
+
+abbrev pub decreases-kind : goal.decreases-kind
+decreases-kind l = goal.size-kind l * 6 + 2
+
+abbrev pub decreases-item : goal.decreases-item
+decreases-item l = goal.size-item l * 6 + 3
+
+abbrev pub decreases-items : goal.decreases-items
+decreases-items l = goal.size-items l * 6 + 4

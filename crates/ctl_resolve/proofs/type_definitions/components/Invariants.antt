@@ -1,0 +1,8 @@
+use Rattle.std.proofs.Common.{◌≡◌, [], drop}
+use Rattle.ctl_resolve.specs.Naming.{each}
+use Rattle.ctl_resolve.specs.Declarations as spec
+use Rattle.ctl_resolve.proofs.type_definitions.components.Given as goal
+
+-- resolving those that are left, from here, resolves all
+abbrev pub invariant-loop-one : goal.invariant-loop-one
+invariant-loop-one l = each spec.component l.resolved (drop l.one-index l.all) l.view ≡ each spec.component [] l.all l.fn.view
