@@ -1,3 +1,5 @@
 pub mod Countdown
+pub mod Depths
+pub mod Logical
 pub mod Senses
 pub mod Turns

@@ -1,6 +1,7 @@
 //! What an allocator makes (RM 4.8, 13.11.4).
 
-ghost use Rattle.std.specs.Prelude.{◌≡◌};
+ghost use Rattle.std.specs.Prelude.{◌≡◌, IfOk, OnOk};
+ghost use Rattle.ctl_typing.specs.Judgement as judgement;
 ghost use Rattle.ctl_typing.specs.Judgement.{Answers, Judges};
 ghost use Rattle.ctl_typing.specs.Typing as spec;
 ghost use Rattle.ctl_typing.specs.Allocating as allocating;
@@ -70,7 +71,36 @@ pub fn allocates(
     }
 }
 
-/// Makes an allocator, and notes what it does: it allocates, and creates an object by its value or by its defaults (RM 4.8, 13.14).
+/// Notes what an allocator does: it allocates, and creates an object by its value or by its defaults (RM 4.8, 13.14).
+fn note_making(
+    access: usize,
+    ty: Ty,
+    value: &Option<Expr>,
+    notes: &mut Notes,
+) -> Result<(), AllocError>
+    ensures { OnOk result (notes.new ≡ record { early = notes.old.early; fault = notes.old.fault; deeds = judgement.with_deeds (spec.making access ty value.now) notes.old.deeds }) }
+{
+    note_deed(notes, Deed::Freezes(Ty::Access(access)))?;
+    note_deed(notes, Deed::Freezes(ty))?;
+    note_deed(notes, Deed::Allocates(access))?;
+    note_deed(notes, Deed::Creates(ty))?;
+    match value {
+        Some(_) => Ok(()),
+        None => note_deed(notes, Deed::Initializes(ty)),
+    }
+}
+
+/// Puts a value into a box of its own, where there is one.
+fn boxed(alloc: Global, value: Option<Expr>) -> Result<Option<Boxed<Expr>>, AllocError>
+    ensures { IfOk result (λ inner. inner ≡ value) }
+{
+    match value {
+        Some(value) => Ok(Some(Boxed::new(alloc, value)?)),
+        None => Ok(None),
+    }
+}
+
+/// Makes an allocator, and notes what it does (RM 4.8, 13.14).
 pub fn allocated(
     alloc: Global,
     access: usize,
@@ -81,21 +111,9 @@ pub fn allocated(
 ) -> Result<Option<Typed>, AllocError>
     ensures { Judges (allocating.allocated access ty handle value) notes.old result notes.new }
 {
-    note_deed(notes, Deed::Freezes(Ty::Access(access)))?;
-    note_deed(notes, Deed::Freezes(ty))?;
-    note_deed(notes, Deed::Allocates(access))?;
-    note_deed(notes, Deed::Creates(ty))?;
-    let value = match value {
-        Some(value) => Some(Boxed::new(alloc, value)?),
-        None => {
-            note_deed(notes, Deed::Initializes(ty))?;
-            None
-        }
-    };
-    let handle = match handle {
-        Some(handle) => Some(Boxed::new(alloc, handle)?),
-        None => None,
-    };
+    note_making(access, ty, &value, notes)?;
+    let handle = boxed(alloc, handle)?;
+    let value = boxed(alloc, value)?;
     Ok(Some(Typed {
         ty: Ty::Access(access),
         value: Expr::New(access, ty, handle, value),

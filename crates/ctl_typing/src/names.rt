@@ -163,7 +163,26 @@ fn selected_of(
     })))
 }
 
-/// Selects behind a name; an access value is dereferenced by itself before (RM 4.1).
+/// Selects behind a part; an access value is dereferenced by itself before (RM 4.1).
+fn selected_through(
+    tables: &Tables,
+    place: Span,
+    name: &Text,
+    part: Place,
+    notes: &mut Notes,
+) -> Result<Option<Found>, AllocError>
+    ensures { Judges (spec.selected_through tables.now place name.now part.ty part) notes.old result notes.new }
+{
+    if !matches!(part.ty, Ty::Access(_)) {
+        return selected_of(tables, place, name, part, notes);
+    }
+    match dereferenced(tables, place, part, notes)? {
+        Some(part) => selected_of(tables, place, name, part, notes),
+        None => Ok(None),
+    }
+}
+
+/// Selects behind a name (RM 4.1.3).
 pub fn selected(
     tables: &Tables,
     place: Span,
@@ -173,15 +192,9 @@ pub fn selected(
 ) -> Result<Option<Found>, AllocError>
     ensures { Judges (spec.selected tables.now place name.now found) notes.old result notes.new }
 {
-    let Found::Part(part) = found else {
-        return Ok(wrong(FaultCode::Type, place, notes));
-    };
-    if !matches!(part.ty, Ty::Access(_)) {
-        return selected_of(tables, place, name, part, notes);
-    }
-    match dereferenced(tables, place, part, notes)? {
-        Some(part) => selected_of(tables, place, name, part, notes),
-        None => Ok(None),
+    match found {
+        Found::Part(part) => selected_through(tables, place, name, part, notes),
+        _ => Ok(wrong(FaultCode::Type, place, notes)),
     }
 }
 
