@@ -102,7 +102,6 @@ fn of_unary(operator: UnaryOperator, operand: Adopts) -> Adopts
 }
 
 /// Answers which types an expression takes on from its place.
-#[tactic(auto, using(crate::proofs::Senses::sense_chain))]
 #[cycle(adopts)]
 pub fn adopts(x: &Expression<Use>) -> Adopts
     ensures { result ≡ (spec.sense x.now).adopts }

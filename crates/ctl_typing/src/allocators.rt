@@ -8,12 +8,15 @@ ghost use Rattle.ctl_typing.specs.Allocating as allocating;
 
 use crate::found::{Asked, Found, Typed};
 use crate::judging::{note_deed, wrong};
+use crate::literals::first_found;
 use crate::names::value_at;
 use crate::notes::{Deed, Notes};
 use crate::table::{Concreteness, Tables};
 use crate::values::designates;
 use ctl_program::expression::Expr;
 use ctl_program::types::Ty;
+use ctl_syntax::denoted::Use;
+use ctl_syntax::name::Mark;
 use ctl_tree::fault::FaultCode;
 use ctl_tree::span::Span;
 use sqlite_items::Boxed;
@@ -118,4 +121,32 @@ pub fn allocated(
         ty: Ty::Access(access),
         value: Expr::New(access, ty, handle, value),
     }))
+}
+
+/// Answers the type that a name denotes, where it denotes one (RM 3.2).
+fn marked(place: Span, found: Found, notes: &mut Notes) -> Option<Ty>
+    ensures { Answers (spec.marked place found) notes.old result notes.new }
+{
+    match found {
+        Found::TypeName(ty) => Some(ty),
+        _ => wrong(FaultCode::Type, place, notes),
+    }
+}
+
+/// Answers the type that a mark denotes; an expanded name denotes nothing of a text (RM 3.2, profile).
+pub fn mark_judged(
+    alloc: Global,
+    tables: &Tables,
+    mark: &Mark<Use>,
+    notes: &mut Notes,
+) -> Result<Option<Ty>, AllocError>
+    ensures { Judges (spec.mark_judged tables.now mark.now.first mark.now.rest) notes.old result notes.new }
+{
+    if !mark.rest.is_empty() {
+        return Ok(wrong(FaultCode::Type, mark.first.span, notes));
+    }
+    match first_found(alloc, tables, &mark.first, notes)? {
+        Some(found) => Ok(marked(mark.first.span, found, notes)),
+        None => Ok(None),
+    }
 }

@@ -38,6 +38,7 @@ fn paired<A: Drop, B: Drop>(first: Option<A>, second: Option<B>) -> Option<(A, B
 }
 
 /// Judges an expression: its type and its checked form, by what its place asks (RM 4.4).
+#[tactic(auto, using(crate::proofs::Senses::sense_logical))]
 #[cycle(expression)]
 pub fn expression(
     alloc: Global,
