@@ -1,5 +1,4 @@
 pub mod Countdown
-pub mod Depths
 pub mod Logical
 pub mod Senses
 pub mod Turns

@@ -127,10 +127,10 @@ pub fn allocated(
 fn marked(place: Span, found: Found, notes: &mut Notes) -> Option<Ty>
     ensures { Answers (spec.marked place found) notes.old result notes.new }
 {
-    match found {
-        Found::TypeName(ty) => Some(ty),
-        _ => wrong(FaultCode::Type, place, notes),
-    }
+    let Found::TypeName(ty) = found else {
+        return wrong(FaultCode::Type, place, notes);
+    };
+    Some(ty)
 }
 
 /// Answers the type that a mark denotes; an expanded name denotes nothing of a text (RM 3.2, profile).

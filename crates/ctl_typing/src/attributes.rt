@@ -67,30 +67,30 @@ fn access(place: Span, found: Found, notes: &mut Notes) -> Option<Found>
 fn image(place: Span, found: Found, notes: &mut Notes) -> Option<Found>
     ensures { Answers (spec.attributed place reading.Image found) notes.old result notes.new }
 {
-    match found {
-        Found::TypeName(ty) => image_of(place, ty, notes),
-        _ => wrong(FaultCode::Type, place, notes),
-    }
+    let Found::TypeName(ty) = found else {
+        return wrong(FaultCode::Type, place, notes);
+    };
+    image_of(place, ty, notes)
 }
 
 /// Reads the attribute First behind a name (RM 3.5).
 fn first(place: Span, found: Found, notes: &mut Notes) -> Option<Found>
     ensures { Answers (spec.attributed place reading.First found) notes.old result notes.new }
 {
-    match found {
-        Found::TypeName(ty) => bound_of(place, ty, LEAST, notes),
-        _ => wrong(FaultCode::Type, place, notes),
-    }
+    let Found::TypeName(ty) = found else {
+        return wrong(FaultCode::Type, place, notes);
+    };
+    bound_of(place, ty, LEAST, notes)
 }
 
 /// Reads the attribute Last behind a name (RM 3.5).
 fn last(place: Span, found: Found, notes: &mut Notes) -> Option<Found>
     ensures { Answers (spec.attributed place reading.Last found) notes.old result notes.new }
 {
-    match found {
-        Found::TypeName(ty) => bound_of(place, ty, LARGEST, notes),
-        _ => wrong(FaultCode::Type, place, notes),
-    }
+    let Found::TypeName(ty) = found else {
+        return wrong(FaultCode::Type, place, notes);
+    };
+    bound_of(place, ty, LARGEST, notes)
 }
 
 /// Reads an attribute behind a name (RM 3.5, 3.10.2).

@@ -8,7 +8,6 @@ pub mod adopting;
 pub mod allocators;
 pub mod attributes;
 pub mod conversions;
-pub mod expressions;
 pub mod found;
 pub mod judging;
 pub mod literals;
