@@ -1,3 +1,4 @@
 pub mod Countdown
+pub mod Logical
 pub mod Senses
 pub mod Turns

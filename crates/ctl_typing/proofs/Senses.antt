@@ -7,10 +7,11 @@ use Rattle.ctl_syntax.specs.declared.name.Mark.{Mark}
 use Rattle.ctl_syntax.specs.declared.name.Suffix.{Suffix}
 use Rattle.ctl_syntax.specs.declared.name.Suffix.TheVariants as suffix
 use Rattle.ctl_syntax.specs.declared.operators.Operand.{Operand}
+use Rattle.ctl_syntax.specs.declared.operators.LogicalOperator.{LogicalOperator}
 use Rattle.ctl_syntax.specs.declared.expression.Expression.{Expression, map-Expression, fold-roll-Expression}
 use Rattle.ctl_syntax.specs.declared.expression.Expression.TheOpen.{Expression-F}
 use Rattle.ctl_syntax.specs.declared.expression.Expression.TheVariants as x
-use Rattle.ctl_syntax.specs.declared.expression.Expression.TheVariants.{rolls-Name, rolls-Chain, rolls-New}
+use Rattle.ctl_syntax.specs.declared.expression.Expression.TheVariants.{rolls-Logical, rolls-Name, rolls-Chain, rolls-New}
 use Rattle.ctl_typing.specs.Senses.{suffix_sense, name_sense, operand_sense}
 use Rattle.ctl_typing.specs.Typing.{Sense, sense, step_of}
 
@@ -28,6 +29,9 @@ name_layer p u (suffix.Attribute s a ∷ xs) = ap (with_suffix (suffix.Attribute
 
 pub sense_name : (p : Span) (u : Name Use (Expression Use)) → sense (x.Name p u) ≡ step_of (Expression-F.Name p (name_sense u))
 sense_name p u = rw (← rolls-Name, fold-roll-Expression) (ap step_of (name_layer p u.first u.suffixes))
+
+pub sense_logical : (p : Span) (o : LogicalOperator) (a b : Expression Use) (more : List (Expression Use)) → sense (x.Logical p o a b more) ≡ step_of (Expression-F.Logical p o (sense a) (sense b) (map sense more))
+sense_logical p o a b more = rw (← rolls-Logical, fold-roll-Expression) refl
 
 pub sense_chain : (p : Span) (a : Expression Use) (o : Operand (Expression Use)) (os : List (Operand (Expression Use))) → sense (x.Chain p a o os) ≡ step_of (Expression-F.Chain p (sense a) (operand_sense o) (map operand_sense os))
 sense_chain p a o os = rw (← rolls-Chain, fold-roll-Expression) refl

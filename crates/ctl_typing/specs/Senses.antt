@@ -18,9 +18,14 @@ use Rattle.ctl_typing.specs.declared.found.Asked.TheVariants as asking
 use Rattle.ctl_typing.specs.declared.found.Typed.{Typed}
 use Rattle.ctl_typing.specs.declared.found.Found.{Found}
 use Rattle.ctl_program.specs.declared.types.Ty.{Ty}
+use Rattle.ctl_program.specs.declared.types.Ty.TheVariants as ty
+use Rattle.ctl_program.specs.declared.operators.BinaryOp.TheVariants as op
+use Rattle.ctl_program.specs.declared.operators.Shortcut.TheVariants as shortcut
+use Rattle.ctl_syntax.specs.declared.operators.LogicalOperator.{LogicalOperator}
+use Rattle.ctl_syntax.specs.declared.operators.LogicalOperator.TheVariants as logical
 use Rattle.ctl_program.specs.declared.expression.Actual.{Actual}
-use Rattle.ctl_typing.specs.Judgement.{Judgement, known, ◌>>=◌, both, each}
-use Rattle.ctl_typing.specs.Typing.{Sense, sense, adopts, found, settled, by_value, record_by, converted_number, truth_of, truths_of, logical_operand, Split, split, by_other as by_other_split}
+use Rattle.ctl_typing.specs.Judgement.{Judgement, known, ◌>>=◌, both, following, each}
+use Rattle.ctl_typing.specs.Typing.{Sense, sense, adopts, fits, asked_like, found, settled, by_value, record_by, converted_number, truth_of, truths_of, logical_operand, Split, split, by_other as by_other_split}
 
 abbrev pub suffix_sense : Suffix (Expression Use) → Suffix Sense
 suffix_sense (suffix.Selector i) = suffix.Selector i
@@ -74,3 +79,27 @@ whole_name tables place u = found u.first u.suffixes tables >>= settled tables p
 
 abbrev pub number_of : Tables → Ty → Sense → Judgement Found
 number_of tables t x = x.judged tables asking.Number >>= converted_number t
+
+-- an operand, and another that has its type
+abbrev pub alike : Tables → Asked → Sense → Sense → Judgement (Typed × Typed)
+alike tables asked x y = following (x.judged tables asked) (λ t. y.judged tables (asked_like asked t))
+
+-- the first two operands of a logical operator
+abbrev pub two_truths : Tables → Sense → Sense → Judgement (Expr × Expr)
+two_truths tables a b = both (truth_of tables a) (truth_of tables b)
+
+-- the operands of `and`, `or` or `xor` behind the second
+abbrev pub truths_behind : BinaryOp → Tables → List Sense → Judgement (List Checked_operand)
+truths_behind o tables xs n = each (truth_behind o tables) (Some []) xs n
+
+-- the operands of a logical operator, joined
+abbrev pub logical_value : LogicalOperator → Sense → Sense → List Sense → Tables → Judgement Expr
+logical_value logical.And a b more tables = whole op.And a b more tables
+logical_value logical.Or a b more tables = whole op.Or a b more tables
+logical_value logical.Xor a b more tables = whole op.Xor a b more tables
+logical_value logical.AndThen a b more tables = short shortcut.AndThen a b more tables
+logical_value logical.OrElse a b more tables = short shortcut.OrElse a b more tables
+
+-- a Boolean value, where its place may ask something
+abbrev pub boolean_at : Span → Asked → Expr → Judgement Typed
+boolean_at place asked v = fits place asked (record { ty = ty.Boolean; value = v })

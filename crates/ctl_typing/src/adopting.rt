@@ -1,9 +1,10 @@
-//! Where an expression stands, and whether operands are joined strings.
+//! What is known of an expression before its type: where it stands, and whether operands are joined strings.
 
 ghost use Rattle.std.specs.Prelude.{◌≡◌, ◌∷◌, map};
 ghost use Rattle.ctl_typing.specs.Senses as senses;
 ghost use Rattle.ctl_typing.specs.Typing as spec;
 
+use crate::found::Adopts;
 use ctl_syntax::denoted::Use;
 use ctl_syntax::expression::Expression;
 use ctl_syntax::operators::{ArithmeticOperator, Operand};
@@ -50,4 +51,32 @@ pub fn has_joining(second: &Operand<Expression<Use>>, rest: &[Operand<Expression
         }
     }
     false
+}
+
+/// Tells whether all operands stand behind operators that join strings.
+pub fn all_joining(
+    second: &Operand<Expression<Use>>,
+    rest: &[Operand<Expression<Use>>],
+) -> bool
+    ensures { result ≡ spec.all_joining (senses.operand_sense second.now ∷ map senses.operand_sense rest.now) }
+{
+    if !is_joining(second.operator) {
+        return false;
+    }
+    for operand in rest {
+        if !is_joining(operand.operator) {
+            return false;
+        }
+    }
+    true
+}
+
+/// Tells whether an expression takes on a type from its place.
+pub fn takes_on(adopts: Adopts) -> bool
+    ensures { result ≡ spec.adopts adopts }
+{
+    match adopts {
+        Adopts::Nothing => false,
+        Adopts::Numbers | Adopts::Accesses => true,
+    }
 }

@@ -8,12 +8,15 @@ ghost use Rattle.ctl_typing.specs.Allocating as allocating;
 
 use crate::found::{Asked, Found, Typed};
 use crate::judging::{note_deed, wrong};
+use crate::literals::first_found;
 use crate::names::value_at;
 use crate::notes::{Deed, Notes};
 use crate::table::{Concreteness, Tables};
 use crate::values::designates;
 use ctl_program::expression::Expr;
 use ctl_program::types::Ty;
+use ctl_syntax::denoted::Use;
+use ctl_syntax::name::Identifier;
 use ctl_tree::fault::FaultCode;
 use ctl_tree::span::Span;
 use sqlite_items::Boxed;
@@ -112,4 +115,33 @@ pub fn allocated(
         ty: Ty::Access(access),
         value: Expr::New(access, ty, handle, value),
     }))
+}
+
+/// Answers the type that a name denotes, where it denotes one (RM 3.2).
+fn marked(place: Span, found: Found, notes: &mut Notes) -> Option<Ty>
+    ensures { Answers (spec.marked place found) notes.old result notes.new }
+{
+    let Found::TypeName(ty) = found else {
+        return wrong(FaultCode::Type, place, notes);
+    };
+    Some(ty)
+}
+
+/// Answers the type that a mark denotes; an expanded name denotes nothing of a text (RM 3.2, profile).
+pub fn mark_judged(
+    alloc: Global,
+    tables: &Tables,
+    first: Use,
+    rest: &[Identifier],
+    notes: &mut Notes,
+) -> Result<Option<Ty>, AllocError>
+    ensures { Judges (spec.mark_judged tables.now first rest.now) notes.old result notes.new }
+{
+    if !rest.is_empty() {
+        return Ok(wrong(FaultCode::Type, first.span, notes));
+    }
+    match first_found(alloc, tables, &first, notes)? {
+        Some(found) => Ok(marked(first.span, found, notes)),
+        None => Ok(None),
+    }
 }

@@ -12,8 +12,14 @@ use crate::notes::Notes;
 use crate::table::Mutability;
 use ctl_program::types::Ty;
 use ctl_syntax::item::Aliasing;
+use ctl_syntax::name::Attribute;
 use ctl_tree::fault::FaultCode;
 use ctl_tree::span::Span;
+
+/// The cells of the least and of the largest value of Integer: a negative number counts down from 2 ** 64 (RM 3.5.4, profile).
+const LEAST: u64 = 18_446_744_071_562_067_968;
+
+const LARGEST: u64 = 2_147_483_647;
 
 /// Reads `X'Access`: of an aliased variable of a record type that is declared so (RM 3.10.2).
 fn accessed(place: Span, part: Place, notes: &mut Notes) -> Option<Found>
@@ -28,7 +34,7 @@ fn accessed(place: Span, part: Place, notes: &mut Notes) -> Option<Found>
 }
 
 /// Reads `T'Image` (RM 3.5, profile).
-pub fn image_of(place: Span, ty: Ty, notes: &mut Notes) -> Option<Found>
+fn image_of(place: Span, ty: Ty, notes: &mut Notes) -> Option<Found>
     ensures { Answers (spec.image_of place ty) notes.old result notes.new }
 {
     match ty {
@@ -38,7 +44,7 @@ pub fn image_of(place: Span, ty: Ty, notes: &mut Notes) -> Option<Found>
 }
 
 /// Reads a bound of Integer (RM 3.5, profile).
-pub fn bound_of(place: Span, ty: Ty, cell: u64, notes: &mut Notes) -> Option<Found>
+fn bound_of(place: Span, ty: Ty, cell: u64, notes: &mut Notes) -> Option<Found>
     ensures { Answers (spec.bound_of place ty cell) notes.old result notes.new }
 {
     match ty {
@@ -48,11 +54,58 @@ pub fn bound_of(place: Span, ty: Ty, cell: u64, notes: &mut Notes) -> Option<Fou
 }
 
 /// Reads the attribute Access behind a name (RM 3.10.2).
-pub fn access(place: Span, found: Found, notes: &mut Notes) -> Option<Found>
+fn access(place: Span, found: Found, notes: &mut Notes) -> Option<Found>
     ensures { Answers (spec.attributed place reading.Access found) notes.old result notes.new }
 {
     match found {
         Found::Part(part) => accessed(place, part, notes),
         _ => wrong(FaultCode::Type, place, notes),
+    }
+}
+
+/// Reads the attribute Image behind a name (RM 3.5).
+fn image(place: Span, found: Found, notes: &mut Notes) -> Option<Found>
+    ensures { Answers (spec.attributed place reading.Image found) notes.old result notes.new }
+{
+    let Found::TypeName(ty) = found else {
+        return wrong(FaultCode::Type, place, notes);
+    };
+    image_of(place, ty, notes)
+}
+
+/// Reads the attribute First behind a name (RM 3.5).
+fn first(place: Span, found: Found, notes: &mut Notes) -> Option<Found>
+    ensures { Answers (spec.attributed place reading.First found) notes.old result notes.new }
+{
+    let Found::TypeName(ty) = found else {
+        return wrong(FaultCode::Type, place, notes);
+    };
+    bound_of(place, ty, LEAST, notes)
+}
+
+/// Reads the attribute Last behind a name (RM 3.5).
+fn last(place: Span, found: Found, notes: &mut Notes) -> Option<Found>
+    ensures { Answers (spec.attributed place reading.Last found) notes.old result notes.new }
+{
+    let Found::TypeName(ty) = found else {
+        return wrong(FaultCode::Type, place, notes);
+    };
+    bound_of(place, ty, LARGEST, notes)
+}
+
+/// Reads an attribute behind a name (RM 3.5, 3.10.2).
+pub fn attributed(
+    place: Span,
+    attribute: Attribute,
+    found: Found,
+    notes: &mut Notes,
+) -> Option<Found>
+    ensures { Answers (spec.attributed place attribute found) notes.old result notes.new }
+{
+    match attribute {
+        Attribute::Access => access(place, found, notes),
+        Attribute::Image => image(place, found, notes),
+        Attribute::First => first(place, found, notes),
+        Attribute::Last => last(place, found, notes),
     }
 }
