@@ -1,6 +1,7 @@
 -- The parts of the tree, with what is known of each expression in them.
 use Rattle.std.specs.Prelude.{ℕ, Option, Some, ◌+◌, if◌then◌else◌, List, [], ◌∷◌, map}
 use Rattle.ctl_syntax.specs.declared.denoted.Use.{Use}
+use Rattle.ctl_syntax.specs.declared.name.Identifier.{Identifier}
 use Rattle.ctl_syntax.specs.declared.name.Name.{Name}
 use Rattle.ctl_syntax.specs.declared.name.Suffix.{Suffix}
 use Rattle.ctl_syntax.specs.declared.name.Suffix.TheVariants as suffix
@@ -25,7 +26,7 @@ use Rattle.ctl_syntax.specs.declared.operators.LogicalOperator.{LogicalOperator}
 use Rattle.ctl_syntax.specs.declared.operators.LogicalOperator.TheVariants as logical
 use Rattle.ctl_program.specs.declared.expression.Actual.{Actual}
 use Rattle.ctl_typing.specs.Judgement.{Judgement, known, ◌>>=◌, both, following, each}
-use Rattle.ctl_typing.specs.Typing.{Sense, sense, adopts, fits, asked_like, found, settled, by_value, record_by, converted_number, truth_of, truths_of, logical_operand, Split, split, by_other as by_other_split}
+use Rattle.ctl_typing.specs.Typing.{Sense, sense, adopts, fits, asked_like, found, settled, selected, all_of, imaged, converted_access, record_found, mark_judged, value_judged, by_value, record_by, converted_number, truth_of, truths_of, logical_operand, Split, split, by_other as by_other_split}
 
 abbrev pub suffix_sense : Suffix (Expression Use) → Suffix Sense
 suffix_sense (suffix.Selector i) = suffix.Selector i
@@ -103,3 +104,27 @@ logical_value logical.OrElse a b more tables = short shortcut.OrElse a b more ta
 -- a Boolean value, where its place may ask something
 abbrev pub boolean_at : Span → Asked → Expr → Judgement Typed
 boolean_at place asked v = fits place asked (record { ty = ty.Boolean; value = v })
+
+-- a component of what a name is
+abbrev pub selector : Tables → Span → Found → List ℕ → Judgement Found
+selector tables place f name = settled tables place f >>= selected tables place name
+
+-- what a name designates
+abbrev pub dereference : Tables → Span → Found → Judgement Found
+dereference tables place f = settled tables place f >>= all_of tables place
+
+-- the image of a value of this type
+abbrev pub imaged_by : Tables → Ty → Sense → Judgement Found
+imaged_by tables t x = x.judged tables (asking.Exactly t) >>= imaged
+
+-- an access value that is converted
+abbrev pub access_of : Tables → Span → ℕ → Sense → Judgement Found
+access_of tables place a x = x.judged tables asking.Anything >>= converted_access tables place a
+
+-- a name that hands a record on, told at a place
+abbrev pub record_name : Tables → Span → Ty → Name Use Sense → Judgement Actual
+record_name tables place t u = whole_name tables place u >>= record_found place t
+
+-- the type of an allocator and its value
+abbrev pub made : Tables → Use → List Identifier → Option Sense → Judgement (Ty × Option Expr)
+made tables u is value = following (mark_judged tables u is) (λ t. value_judged tables t value)

@@ -2,6 +2,7 @@
 
 ghost use Rattle.std.specs.Prelude.{◌≡◌, IfOk};
 ghost use Rattle.ctl_typing.specs.Judgement.{Answers, Judges};
+ghost use Rattle.ctl_typing.specs.Senses as senses;
 ghost use Rattle.ctl_typing.specs.Typing as spec;
 
 use crate::found::{Found, Head, Place, Typed};
@@ -212,6 +213,39 @@ pub fn all_of(
     };
     match dereferenced(tables, place, part, notes)? {
         Some(part) => Ok(Some(Found::Part(part))),
+        None => Ok(None),
+    }
+}
+
+/// Selects behind a name once it is settled (RM 4.1.3).
+pub fn selector(
+    alloc: Global,
+    tables: &Tables,
+    place: Span,
+    found: Found,
+    name: &Text,
+    notes: &mut Notes,
+) -> Result<Option<Found>, AllocError>
+    ensures { Judges (senses.selector tables.now place found name.now) notes.old result notes.new }
+{
+    match settled(alloc, tables, place, found, notes) {
+        Some(found) => selected(tables, place, name, found, notes),
+        None => Ok(None),
+    }
+}
+
+/// Reads `.all` behind a name once it is settled (RM 4.1).
+pub fn dereference(
+    alloc: Global,
+    tables: &Tables,
+    place: Span,
+    found: Found,
+    notes: &mut Notes,
+) -> Result<Option<Found>, AllocError>
+    ensures { Judges (senses.dereference tables.now place found) notes.old result notes.new }
+{
+    match settled(alloc, tables, place, found, notes) {
+        Some(found) => all_of(tables, place, found, notes),
         None => Ok(None),
     }
 }
