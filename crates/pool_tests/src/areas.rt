@@ -1,3 +1,4 @@
+use crate::HEAP_STEP;
 use linked_list_allocator::LocalHeap;
 use pool_area::{MarkArea, Standing};
 use std::alloc::Allocator;
@@ -214,17 +215,18 @@ fn grow_on(heap: &LocalHeap) -> [bool; 2] {
 /// Heaps that are too small refuse, and all have their bytes back after `close`.
 #[test]
 fn each_growth_is_refused(rt: HostRuntime) -> Result<(), Fail> {
-    let mut refused = 0;
     let mut made = false;
     for size in 0..80 {
-        let heap = LocalHeap::new(rt.alloc(), 16 * size)?;
+        let heap = LocalHeap::new(rt.alloc(), HEAP_STEP * size)?;
         let [all, same] = grow_on(&heap);
         assert!(rt; same);
         assert_eq!(rt; heap.used(), 0);
-        made = made || all;
-        refused = if all { refused } else { size };
+        // No heap refuses what a smaller one had room for.
+        assert!(rt; all || !made);
+        // A heap without room refuses.
+        assert!(rt; !all || size > 0);
+        made = all;
     }
-    assert!(rt; refused > 4);
     assert!(rt; made);
     Ok(())
 }

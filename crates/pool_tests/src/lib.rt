@@ -11,3 +11,7 @@ mod finalization;
 mod marks;
 #[cfg(test)]
 mod stores;
+
+/// A heap's room is taken in pieces of so many bytes: heaps that grow by it refuse each growth of a call in turn.
+#[cfg(test)]
+const HEAP_STEP: usize = 16;

@@ -2,6 +2,7 @@ ghost use Rattle.std.specs.Prelude.{◌≡◌, None, IsTrue};
 ghost use Rattle.std.specs.FinMap.{get};
 ghost use Rattle.pool_store.specs.Store.{IsWithin, IsBlockPool, IsMarkPool, IsDetached};
 
+use crate::HEAP_STEP;
 use linked_list_allocator::LocalHeap;
 use pool_store::{Address, PoolKind, PoolStore, Standing, SubpoolNo};
 use std::alloc::Allocator;
@@ -381,34 +382,36 @@ fn grow_in_blocks(heap: &LocalHeap) -> [bool; 2] {
 
 #[test]
 fn each_growth_of_pools_is_refused(rt: HostRuntime) -> Result<(), Fail> {
-    let mut refused = 0;
     let mut made = false;
-    for size in 0..200 {
-        let heap = LocalHeap::new(rt.alloc(), 64 * size)?;
+    for size in 0..800 {
+        let heap = LocalHeap::new(rt.alloc(), HEAP_STEP * size)?;
         let [all, same] = grow_in_blocks(&heap);
         assert!(rt; same);
         assert_eq!(rt; heap.used(), 0);
-        made = made || all;
-        refused = if all { refused } else { size };
+        // No heap refuses what a smaller one had room for.
+        assert!(rt; all || !made);
+        // A heap without room refuses.
+        assert!(rt; !all || size > 0);
+        made = all;
     }
-    assert!(rt; refused > 4);
     assert!(rt; made);
     Ok(())
 }
 
 #[test]
 fn each_growth_is_refused(rt: HostRuntime) -> Result<(), Fail> {
-    let mut refused = false;
     let mut made = false;
     for size in 0..60 {
-        let heap = LocalHeap::new(rt.alloc(), 16 * size)?;
+        let heap = LocalHeap::new(rt.alloc(), HEAP_STEP * size)?;
         let [all, same] = grow_on(&heap);
         assert!(rt; same);
         assert_eq!(rt; heap.used(), 0);
-        made = made || all;
-        refused = refused || !all;
+        // No heap refuses what a smaller one had room for.
+        assert!(rt; all || !made);
+        // A heap without room refuses.
+        assert!(rt; !all || size > 0);
+        made = all;
     }
-    assert!(rt; refused);
     assert!(rt; made);
     Ok(())
 }
@@ -629,17 +632,18 @@ fn grow_in_subpools(heap: &LocalHeap) -> [bool; 2] {
 
 #[test]
 fn each_growth_of_subpools_is_refused(rt: HostRuntime) -> Result<(), Fail> {
-    let mut refused = 0;
     let mut made = false;
-    for size in 0..160 {
-        let heap = LocalHeap::new(rt.alloc(), 64 * size)?;
+    for size in 0..640 {
+        let heap = LocalHeap::new(rt.alloc(), HEAP_STEP * size)?;
         let [all, same] = grow_in_subpools(&heap);
         assert!(rt; same);
         assert_eq!(rt; heap.used(), 0);
-        made = made || all;
-        refused = if all { refused } else { size };
+        // No heap refuses what a smaller one had room for.
+        assert!(rt; all || !made);
+        // A heap without room refuses.
+        assert!(rt; !all || size > 0);
+        made = all;
     }
-    assert!(rt; refused > 4);
     assert!(rt; made);
     Ok(())
 }
