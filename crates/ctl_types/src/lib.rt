@@ -6,7 +6,9 @@
 pub mod assignments;
 pub mod associations;
 pub mod draft;
+pub mod formals;
 pub mod freezing;
+pub mod headings;
 pub mod masters;
 pub mod operations;
 pub mod order;

@@ -6,6 +6,7 @@ ghost use Rattle.ctl_types.specs.Freezing as freezing;
 
 use crate::draft::{Around, Draft, Role};
 use crate::freezing::is_free_type;
+use crate::headings::Heading;
 use crate::operations::{operation_formals, provides};
 use crate::types::is_limited;
 use ctl_grammar::spelling::is_same_name;
@@ -159,6 +160,26 @@ fn role_by(
         }
         (None, Indicator::Overriding) => Ok(Role::Misplaced),
         (None, Indicator::Absent) => Ok(Role::Plain),
+    }
+}
+
+/// Answers what a subprogram that is declared is to the operations of a type; nothing is said of one whose heading is wrong (RM 8.3.1).
+pub fn role_of(
+    alloc: Global,
+    around: Around,
+    specification: &Specification<Definition, Use>,
+    heading: &Option<Heading>,
+    tables: &Tables,
+) -> Result<Role, AllocError>
+    ensures { IfOk result (λ role. role ≡ spec.role_of around specification.now heading.now tables.now) }
+{
+    match heading {
+        None => Ok(Role::Plain),
+        Some((formals, result_type)) => {
+            let named = operation_named(&specification.name.identifier.text);
+            let formals = formals.as_slice();
+            role_by(alloc, tables, around.level, specification.indicator, named, formals, *result_type)
+        }
     }
 }
 
