@@ -1,10 +1,10 @@
 //! The headings of subprograms (RM 6.1).
 
-ghost use Rattle.std.specs.Prelude.{◌≡◌, ◌++◌, [], Some, IfOk, map};
+ghost use Rattle.std.specs.Prelude.{◌≡◌, IfOk, map};
 ghost use Rattle.ctl_types.specs.Declarations as spec;
 ghost use Rattle.ctl_types.specs.Marks as marks;
 ghost use Rattle.ctl_types.specs.Statements as statements;
-ghost use Rattle.ctl_typing.specs.Judgement.{Answers, Judges, each};
+ghost use Rattle.ctl_typing.specs.Judgement.{Answers, Judges};
 
 use crate::draft::Draft;
 use crate::operations::formal;
@@ -18,7 +18,6 @@ use ctl_tree::fault::FaultCode;
 use ctl_tree::span::Span;
 use ctl_typing::judging::note;
 use ctl_typing::notes::Notes;
-use ctl_typing::operators::appended;
 use ctl_typing::table::{FormalEntry, Tables};
 use sqlite_items::Items;
 use std::alloc::{AllocError, Global};

@@ -15,5 +15,6 @@ pub mod order;
 pub mod overriding;
 pub mod parts;
 pub mod stub;
+pub mod subprograms;
 pub mod types;
 pub mod view;
