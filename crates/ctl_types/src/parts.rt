@@ -9,13 +9,15 @@ ghost use Rattle.ctl_typing.specs.Typing.{sense};
 
 use crate::assignments::assignment;
 use crate::draft::{Around, Draft, Giving, Handling, Looping, Order, Returning};
+use crate::formals::enter_formals;
 use crate::masters::{
     end_part, enter_master, inside, inside_block, leave_master, leave_returns, master_of, more_items,
 };
 use crate::stub::{
-    body_put, call, choices_of, declaration, enter_formals, exceptions, exiting, expression, incomplete,
-    instance, objects, opened, pool_clause, raising, raising_again, returning, truth, type_definition,
+    call, choices_of, exceptions, exiting, expression, incomplete, instance, objects, pool_clause, raising,
+    raising_again, returning, truth, type_definition,
 };
+use crate::subprograms::{body_put, declaration, opened};
 use ctl_program::expression::Expr;
 use ctl_program::statement as checked;
 use ctl_program::statement::{Arm, Master, Stmt};

@@ -1,6 +1,6 @@
 //! Stand-ins for the judgement of expressions, until it stands.
 
-ghost use Rattle.std.specs.Prelude.{◌≡◌, ◌∷◌, map, option_map, OnOk};
+ghost use Rattle.std.specs.Prelude.{◌∷◌, map, option_map};
 ghost use Rattle.ctl_types.specs.Draft.{by_tables};
 ghost use Rattle.ctl_types.specs.Declarations as declarations;
 ghost use Rattle.ctl_types.specs.Types as types;
@@ -17,10 +17,9 @@ use ctl_program::expression::{Actual, Expr};
 use ctl_program::statement::{Piece, Stmt};
 use ctl_program::types::Ty;
 use crate::draft::{Around, Draft, Giving, Handling, Looping, Order};
-use crate::masters::Opened;
 use ctl_program::statement as checked;
 use ctl_syntax::denoted::{Definition, Use};
-use ctl_syntax::item::{Association, Choices, Definition as TypeDefinition, Formal, Objects, Specification, Taggedness};
+use ctl_syntax::item::{Association, Choices, Definition as TypeDefinition, Objects, Taggedness};
 use ctl_syntax::expression::Expression;
 use ctl_syntax::name::{Identifier, Mark, Name};
 use ctl_tree::span::Span;
@@ -72,35 +71,6 @@ pub fn mark(alloc: Global, tables: &Tables, first: Use, rest: &[Identifier], not
 /// Judges a call.
 pub fn call(alloc: Global, tables: &Tables, place: Span, name: &Name<Use, Expression<Use>>, notes: &mut Notes) -> Result<Option<Stmt>, AllocError>
     ensures { Judges (statements.call place name.now.first (map senses.suffix_sense name.now.suffixes) tables.now) notes.old result notes.new }
-{
-    Err(AllocError)
-}
-
-
-/// Opens a body.
-pub fn opened(alloc: Global, place: Span, specification: &Specification<Definition, Use>, around: Around, draft: &mut Draft) -> Result<Opened, AllocError>
-    ensures { Yields (elaboration.opened place specification.now around) draft.old result draft.new }
-{
-    Err(AllocError)
-}
-
-/// Puts formals into view.
-pub fn enter_formals(alloc: Global, around: Around, place: Span, formals: &[Formal<Definition, Use>], draft: &mut Draft) -> Result<(), AllocError>
-    ensures { OnOk result (draft.new ≡ declarations.enter_formals around place formals.now draft.old) }
-{
-    Err(AllocError)
-}
-
-/// Puts a body.
-pub fn body_put(number: Option<usize>, layers: Items<checked::Item>, master: Option<checked::Master>, draft: &mut Draft) -> Result<Option<Items<checked::Item>>, AllocError>
-    ensures { Judges (λ d. elaboration.body_put number layers (master, d)) draft.old result draft.new }
-{
-    Err(AllocError)
-}
-
-/// Declares a subprogram.
-pub fn declaration(alloc: Global, place: Span, specification: &Specification<Definition, Use>, around: Around, draft: &mut Draft) -> Result<Items<checked::Item>, AllocError>
-    ensures { Yields (declarations.declaration place specification.now around) draft.old result draft.new }
 {
     Err(AllocError)
 }
