@@ -2,4 +2,5 @@ pub mod Changes
 pub mod Conditionals
 pub mod Drafts
 pub mod Ordered
+pub mod Profiles
 pub mod Wholes

@@ -40,6 +40,7 @@ use Rattle.ctl_syntax.specs.declared.name.Identifier.{Identifier}
 use Rattle.ctl_syntax.specs.declared.name.Mark.{Mark}
 use Rattle.ctl_typing.specs.declared.notes.Deed.{Deed}
 use Rattle.ctl_typing.specs.declared.notes.Deed.TheVariants.{Freezes, Initializes}
+use Rattle.ctl_typing.specs.declared.notes.Notes.{Notes}
 use Rattle.ctl_typing.specs.declared.table.Tables.{Tables}
 use Rattle.ctl_typing.specs.declared.table.Entry.{Entry}
 use Rattle.ctl_typing.specs.declared.table.Entry.TheVariants as entry
@@ -251,8 +252,22 @@ instance place m as' around d = instance_known around (by_tables (instance_of pl
 abbrev pub formal_type : Tables → Span → Formal Definition Use → Judgement (List FormalEntry)
 formal_type tables place f = named_type tables place f.mark >>= (λ t. known (map (λ n. formal f.mode t) f.names))
 
+abbrev pub more_formals : Option (List FormalEntry) → Option (List FormalEntry) → Option (List FormalEntry)
+more_formals None more = None
+more_formals (Some before) None = None
+more_formals (Some before) (Some more) = Some (before ++ more)
+
+abbrev pub formals_next : Tables → Span → Option (List FormalEntry) → Option (List FormalEntry) × Notes → List (Formal Definition Use) → Option (List FormalEntry) × Notes
+formals_next tables place before (more, n) [] = (more_formals before more, n)
+formals_next tables place before (more, n) (f ∷ fs) = formals_next tables place (more_formals before more) (formal_type tables place f n) fs
+
+-- those of each, behind those so far; known where each of them is
+abbrev pub formals_on : Tables → Span → Option (List FormalEntry) → List (Formal Definition Use) → Judgement (List FormalEntry)
+formals_on tables place before [] n = (before, n)
+formals_on tables place before (f ∷ fs) n = formals_next tables place before (formal_type tables place f n) fs
+
 abbrev pub formal_types : Span → List (Formal Definition Use) → Tables → Judgement (List FormalEntry)
-formal_types place fs tables = (λ n. each (formal_type tables place) (Some []) fs n) >>= (λ ts. known (together ts))
+formal_types place fs tables = formals_on tables place (Some []) fs
 
 abbrev pub is_in : Mode → Bool
 is_in mode.In = true
@@ -271,9 +286,12 @@ only_in (f ∷ fs) d = only_in fs (not_in f.mode f.names d)
 abbrev pub returned : Tables → Span → Ty → Judgement Ty
 returned tables place t = if is_limited tables t || is_controlled tables t then but rule.Limited place t else known t
 
+abbrev pub returned_type : Tables → Span → Mark Use → Judgement Ty
+returned_type tables place m = named_type tables place m >>= returned tables m.first.span
+
 abbrev pub result_type : Span → Option (Mark Use) → Tables → Judgement (Option Ty)
 result_type place None tables = known None
-result_type place (Some m) tables = named_type tables place m >>= returned tables m.first.span >>= (λ t. known (Some t))
+result_type place (Some m) tables = returned_type tables place m >>= (λ t. known (Some t))
 
 -- the types of a subprogram's formals, and of its result
 abbrev pub heading_types : Span → Specification Definition Use → Tables → Judgement (List FormalEntry × Option Ty)
@@ -441,9 +459,12 @@ enter_names around m t (n ∷ ns) d = enter_names around m t ns (enter_formal_as
 abbrev pub enter_typed : Around → Formal Definition Use → Option Ty × Draft → Draft
 enter_typed around f (t, d) = enter_names around f.mode t f.names d
 
+abbrev pub enter_formal : Around → Span → Formal Definition Use → Draft → Draft
+enter_formal around place f d = enter_typed around f (by_tables (λ tables. named_type tables place f.mark) d)
+
 abbrev pub enter_formals : Around → Span → List (Formal Definition Use) → Draft → Draft
 enter_formals around place [] d = d
-enter_formals around place (f ∷ fs) d = enter_formals around place fs (enter_typed around f (by_tables (λ tables. named_type tables place f.mark) d))
+enter_formals around place (f ∷ fs) d = enter_formals around place fs (enter_formal around place f d)
 
 -- the body of this number is known
 abbrev pub with_body : ℕ → Master → Option Subprogram → Draft → Draft

@@ -8,14 +8,17 @@ ghost use Rattle.ctl_typing.specs.Judgement.{Judges, each};
 ghost use Rattle.ctl_typing.specs.Typing.{sense};
 
 use crate::assignments::assignment;
+use crate::calls::call;
 use crate::draft::{Around, Draft, Giving, Handling, Looping, Order, Returning};
+use crate::formals::enter_formals;
 use crate::masters::{
     end_part, enter_master, inside, inside_block, leave_master, leave_returns, master_of, more_items,
 };
 use crate::stub::{
-    body_put, call, choices_of, declaration, enter_formals, exceptions, exiting, expression, incomplete,
-    instance, objects, opened, pool_clause, raising, raising_again, returning, truth, type_definition,
+    exceptions, expression, incomplete, instance, objects, pool_clause, truth, type_definition,
 };
+use crate::subprograms::{body_put, declaration, opened};
+use crate::transfers::{choices_of, exiting, raising, raising_again, returning};
 use ctl_program::expression::Expr;
 use ctl_program::statement as checked;
 use ctl_program::statement::{Arm, Master, Stmt};
@@ -177,8 +180,10 @@ pub fn statement(
             exiting(alloc, *place, around.looping, condition, draft)
         }
         Statement::Return(place, value) => returning(alloc, *place, around.giving, value, draft),
-        Statement::Raise(place, mark) => raising(alloc, *place, mark, draft),
-        Statement::RaiseAgain(place) => raising_again(*place, around.handling, draft),
+        Statement::Raise(place, mark) => {
+            Ok(raising(&draft.tables, *place, mark, &mut draft.notes))
+        }
+        Statement::RaiseAgain(place) => Ok(raising_again(*place, around.handling, draft)),
     }
 }
 
