@@ -338,7 +338,7 @@ is_at_level level (Some r) = nat_eq r.level level
 abbrev pub is_operation : Tables → ℕ → OperationName → ℕ → List FormalEntry → Bool
 is_operation tables level o t fs =
     is_at_level level (slice_get tables.records t) && provides (root_of (slice_get tables.records t)) (is_limited tables (ty.Record t)) o
-      && same_formals fs (operation_formals o (ty.Record t))
+    && same_formals fs (operation_formals o (ty.Record t))
 
 abbrev pub overriding_first : Tables → ℕ → OperationName → List FormalEntry → Ty → Role
 overriding_first tables level o fs (ty.Record t) = if is_operation tables level o t fs then role.Overrides o t else role.Misplaced
@@ -367,7 +367,7 @@ overridden o s r = record r { operations = with_operation o s r.operations }
 abbrev pub override : Span → OperationName → ℕ → ℕ → Draft → Draft
 override place o t s d =
     early_when (not (is_free_type d.tables.states (ty.Record t))) rule.LatePrimitive place
-      (with_records (changed (overridden o s) t d.tables.states.records) d)
+    (with_records (changed (overridden o s) t d.tables.states.records) d)
 
 abbrev pub play : Span → ℕ → Role → Draft → Draft
 play place s role.Plain d = d
@@ -400,10 +400,11 @@ role_of around s (Some h) tables = role_by tables around.level s.indicator (oper
 
 -- a subprogram that is declared here, with the next number
 abbrev pub introduce : Around → Specification Definition Use → Option (List FormalEntry × Option Ty) × Draft → Option ℕ × Draft
-introduce around s (h, d) =
-    (Some (length d.subprograms),
-    declare (entry_of (length d.subprograms) (formal_names s.formals) h)
-      (add_subprogram around (kind_of s.result) (play s.name.identifier.span (length d.subprograms) (role_of around s h d.tables) d)))
+introduce around s (h, d) = (
+  Some (length d.subprograms),
+  declare (entry_of (length d.subprograms) (formal_names s.formals) h)
+      (add_subprogram around (kind_of s.result) (play s.name.identifier.span (length d.subprograms) (role_of around s h d.tables) d)),
+)
 
 abbrev pub declaration : Span → Specification Definition Use → Around → Draft → List Checked_item × Draft
 declaration place s around d = silent (introduce around s (heading place s d))
@@ -430,8 +431,16 @@ abbrev pub conformed : Profile → List (List ℕ) → Option (List FormalEntry 
 conformed p names None = true
 conformed p names (Some h) = conforms p names h
 
+-- a body that completes a declaration says `overriding` only where that is an operation (8.3.1(4)); whether it overrides was told there
+abbrev pub is_unfounded : Indicator → Option OperationName → Bool
+is_unfounded indicator.Overriding None = true
+is_unfounded i o = false
+
+abbrev pub indicator_kept : Specification Definition Use → Draft → Draft
+indicator_kept s d = fault_when (is_unfounded s.indicator (operation_named s.name.identifier.text)) rule.Override s.name.identifier.span d
+
 abbrev pub completed : Span → Specification Definition Use → Option Entry → Option (List FormalEntry × Option Ty) × Draft → Option ℕ × Draft
-completed place s (Some (entry.Subprogram p)) (h, d) = (Some p.subprogram, fault_when (not (conformed p (formal_names s.formals) h)) rule.Type place d)
+completed place s (Some (entry.Subprogram p)) (h, d) = (Some p.subprogram, indicator_kept s (fault_when (not (conformed p (formal_names s.formals) h)) rule.Type place d))
 completed place s e (h, d) = (None, d)
 
 -- the subprogram of a body, which may complete a declaration

@@ -35,7 +35,13 @@ fn enter_formal_as(
         None => draft.declare(Entry::Unknown),
         Some(ty) => {
             let mutability = formal_mutability(mode);
-            draft.declare_object(around, ty, Standing::Formal, mutability, Aliasing::Unaliased)
+            draft.declare_object(
+                around,
+                ty,
+                Standing::Formal,
+                mutability,
+                Aliasing::Unaliased,
+            )
         }
     }
 }

@@ -178,17 +178,40 @@ pub fn role_of(
         Some((formals, result_type)) => {
             let named = operation_named(&specification.name.identifier.text);
             let formals = formals.as_slice();
-            role_by(alloc, tables, around.level, specification.indicator, named, formals, *result_type)
+            role_by(
+                alloc,
+                tables,
+                around.level,
+                specification.indicator,
+                named,
+                formals,
+                *result_type,
+            )
         }
     }
 }
 
+/// Tells whether a body says `overriding` of what is no operation.
+fn is_unfounded(indicator: Indicator, named: Option<OperationName>) -> bool
+    ensures { result ≡ spec.is_unfounded indicator named }
+{
+    match (indicator, named) {
+        (Indicator::Overriding, None) => true,
+        _ => false,
+    }
+}
+
+/// Notes a body that says `overriding` and completes what is no operation (RM 8.3.1(4)).
+pub fn keep_indicator(specification: &Specification<Definition, Use>, draft: &mut Draft)
+    ensures { draft.new ≡ spec.indicator_kept specification.now draft.old }
+{
+    let named = operation_named(&specification.name.identifier.text);
+    let is_broken = is_unfounded(specification.indicator, named);
+    draft.fault_when(is_broken, FaultCode::Override, specification.name.identifier.span);
+}
+
 /// Answers operations of which this one is a subprogram of the text.
-fn with_operation(
-    operation: OperationName,
-    subprogram: usize,
-    operations: Operations,
-) -> Operations
+fn with_operation(operation: OperationName, subprogram: usize, operations: Operations) -> Operations
     ensures { result ≡ spec.with_operation operation subprogram operations }
 {
     let written = Some(subprogram);
@@ -243,7 +266,12 @@ fn override_operation(
     ensures { draft.new ≡ spec.override place operation number subprogram draft.old }
 {
     let is_free = is_free_type(&draft.tables.states, Ty::Record(number));
-    change_operation(&mut draft.tables.states.records, operation, number, subprogram);
+    change_operation(
+        &mut draft.tables.states.records,
+        operation,
+        number,
+        subprogram,
+    );
     draft.early_when(!is_free, FaultCode::LatePrimitive, place);
 }
 

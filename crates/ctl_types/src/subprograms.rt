@@ -9,7 +9,7 @@ use crate::draft::{Around, Draft, Giving};
 use crate::freezing::freeze_all;
 use crate::headings::{Heading, heading};
 use crate::masters::Opened;
-use crate::overriding::{has_same_formals, play, role_of};
+use crate::overriding::{has_same_formals, keep_indicator, play, role_of};
 use ctl_grammar::spelling::is_same_name;
 use ctl_program::operators::SubprogramKind;
 use ctl_program::program::Subprogram;
@@ -212,6 +212,7 @@ fn completed(
     let number = profile.subprogram;
     let is_kept = has_conformed(profile, names.as_slice(), &heading);
     draft.fault_when(!is_kept, FaultCode::Type, place);
+    keep_indicator(specification, draft);
     Ok(Some(number))
 }
 
@@ -266,11 +267,7 @@ pub fn opened(
 }
 
 /// Puts the body of a subprogram where it belongs.
-fn put_body(
-    number: Option<usize>,
-    master: checked::Master,
-    draft: &mut Draft,
-)
+fn put_body(number: Option<usize>, master: checked::Master, draft: &mut Draft)
     ensures { draft.new ≡ spec.put_body number (Some master) draft.old }
 {
     let Some(number) = number else {
