@@ -5,7 +5,6 @@
 
 pub mod assignments;
 pub mod associations;
-pub mod calls;
 pub mod draft;
 pub mod formals;
 pub mod freezing;
@@ -14,10 +13,7 @@ pub mod masters;
 pub mod operations;
 pub mod order;
 pub mod overriding;
-pub mod parts;
-pub mod stub;
 pub mod subprograms;
-pub mod transfers;
+pub mod raises;
 pub mod types;
 pub mod view;
-pub mod writing;

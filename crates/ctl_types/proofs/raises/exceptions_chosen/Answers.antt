@@ -6,7 +6,7 @@ use Rattle.ctl_types.specs.Elaboration as elaboration
 use Rattle.ctl_types.proofs.Ordered.{next_of}
 use Rattle.ctl_typing.proofs.Turns.{each_walked}
 use Rattle.ctl_typing.specs.Judgement.{each}
-use Rattle.ctl_types.proofs.transfers.exceptions_chosen.Goals as goal
+use Rattle.ctl_types.proofs.raises.exceptions_chosen.Goals as goal
 
 pub loop-one-preserved : goal.loop-one-preserved
 loop-one-preserved c =

@@ -2,7 +2,7 @@ use Rattle.std.proofs.Common.{◌≡◌, [], drop, Some}
 use Rattle.ctl_types.specs.Draft.{by_tables}
 use Rattle.ctl_types.specs.Elaboration as elaboration
 use Rattle.ctl_typing.specs.Judgement.{each}
-use Rattle.ctl_types.proofs.transfers.exceptions_chosen.Given as goal
+use Rattle.ctl_types.proofs.raises.exceptions_chosen.Given as goal
 
 abbrev pub invariant-loop-one : goal.invariant-loop-one
 invariant-loop-one l =
