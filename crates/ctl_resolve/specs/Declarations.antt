@@ -1,7 +1,7 @@
 -- What declarations declare: names, subprograms, types, objects (3.3.1, 3.8, 3.10, 6.1, 8.3, 11.1, 12.3).
 use Rattle.std.specs.Prelude.{ℕ, nat_le, nat_eq, Bool, true, false, ◌||◌, List, [], ◌∷◌, length, drop, Option, Some, None, is_some, if◌then◌else◌}
 use Rattle.std.specs.List.{list_any}
-use Rattle.std.specs.Str.{bytes_eq}
+use Rattle.ctl_grammar.specs.Spelling.{same_name}
 use Rattle.ctl_tree.specs.declared.span.Span.{Span}
 use Rattle.ctl_tree.specs.declared.fault.FaultCode.TheVariants as rule
 use Rattle.ctl_syntax.specs.declared.name.Identifier.{Identifier}
@@ -96,12 +96,12 @@ abbrev pub in_full : ℕ → Meaning → Denoted
 in_full count (Means d k) = if nat_eq k count then d else denoted.Unknown
 in_full count m = denoted.Unknown
 
-abbrev pub is_one_of : List ℕ → List Identifier → Bool
-is_one_of n ids = list_any (λ id. bytes_eq n (folded id)) ids
+abbrev pub is_one_of : Identifier → List Identifier → Bool
+is_one_of name ids = list_any (λ id. same_name name.text id.text) ids
 
 -- what the mark of parameters denotes where the heading begins; one of its own name hides the type (8.3(17))
 abbrev pub formal_denoted : View → Formal Identifier Identifier → Denoted
-formal_denoted v f = if is_one_of (folded f.mark.first) f.names then denoted.Unknown else in_full (length f.mark.rest) (meaning v f.mark.first f.mark.rest)
+formal_denoted v f = if is_one_of f.mark.first f.names then denoted.Unknown else in_full (length f.mark.rest) (meaning v f.mark.first f.mark.rest)
 
 -- An operation may be overridden for several types (8.3(12)).
 abbrev pub filed_override : View → OperationName → List (Formal Identifier Identifier) → Filing

@@ -18,3 +18,4 @@ pub mod table;
 pub mod type_definitions;
 pub mod types;
 pub mod view;
+pub mod whole;

@@ -30,6 +30,7 @@ pub enum Unit {
     MarkReleasePools,
 }
 
+/// Answers how the last word of a unit's name is spelled, in lower case.
 fn unit_spelling(unit: Unit) -> &'static [u8]
     ensures { result.now ≡ spec.unit_spelling unit }
 {
@@ -48,7 +49,7 @@ fn unit_spelling(unit: Unit) -> &'static [u8]
     }
 }
 
-/// How a name of the library is spelled, in lower case.
+/// Answers how a name of the library is spelled, in lower case.
 pub fn name_spelling(name: LibraryName) -> &'static [u8]
     ensures { result.now ≡ spec.name_spelling name }
 {
@@ -80,6 +81,7 @@ pub fn name_spelling(name: LibraryName) -> &'static [u8]
     }
 }
 
+/// Answers how the name of an operation is spelled, in lower case.
 pub fn operation_spelling(operation: OperationName) -> &'static [u8]
     ensures { result.now ≡ spec.operation_spelling operation }
 {
@@ -92,6 +94,7 @@ pub fn operation_spelling(operation: OperationName) -> &'static [u8]
     }
 }
 
+/// Answers the units that are no children of others.
 fn roots() -> &'static [Unit]
     ensures { result.now ≡ spec.roots }
 {
@@ -103,6 +106,7 @@ fn roots() -> &'static [Unit]
     ]
 }
 
+/// Answers the children of a unit (RM 10.1.1).
 fn children(unit: Unit) -> &'static [Unit]
     ensures { result.now ≡ spec.children unit }
 {
@@ -119,7 +123,7 @@ fn children(unit: Unit) -> &'static [Unit]
     }
 }
 
-/// A unit with the units that it is a descendant of.
+/// Answers a unit with the units that it is a descendant of.
 pub fn with_ancestors(unit: Unit) -> &'static [Unit]
     ensures { result.now ≡ spec.with_ancestors unit }
 {
@@ -138,7 +142,7 @@ pub fn with_ancestors(unit: Unit) -> &'static [Unit]
     }
 }
 
-/// What Standard declares.
+/// Answers what Standard declares.
 pub fn standard_names() -> &'static [LibraryName]
     ensures { result.now ≡ spec.standard_names }
 {
@@ -153,7 +157,7 @@ pub fn standard_names() -> &'static [LibraryName]
     ]
 }
 
-/// What a unit declares.
+/// Answers what a unit declares.
 pub fn names_of(unit: Unit) -> &'static [LibraryName]
     ensures { result.now ≡ spec.names_of unit }
 {
@@ -174,6 +178,7 @@ pub fn names_of(unit: Unit) -> &'static [LibraryName]
     }
 }
 
+/// Answers the operations that a type may override (RM 7.6, 13.11).
 fn operations() -> &'static [OperationName]
     ensures { result.now ≡ spec.operations }
 {
@@ -186,6 +191,7 @@ fn operations() -> &'static [OperationName]
     ]
 }
 
+/// Tells whether this is the name of a unit.
 #[tactic(auto, unfolding(crate::specs::Library::is_unit))]
 fn is_unit(name: &[u8], unit: Unit) -> bool
     ensures { result ≡ spec.is_unit name.now unit }
@@ -193,6 +199,7 @@ fn is_unit(name: &[u8], unit: Unit) -> bool
     name == unit_spelling(unit)
 }
 
+/// Tells whether this is a name of the library.
 #[tactic(auto, unfolding(crate::specs::Library::is_name))]
 fn is_name(name: &[u8], candidate: LibraryName) -> bool
     ensures { result ≡ spec.is_name name.now candidate }
@@ -200,6 +207,7 @@ fn is_name(name: &[u8], candidate: LibraryName) -> bool
     name == name_spelling(candidate)
 }
 
+/// Tells whether this is the name of an operation.
 #[tactic(auto, unfolding(crate::specs::Library::is_operation))]
 fn is_operation(name: &[u8], operation: OperationName) -> bool
     ensures { result ≡ spec.is_operation name.now operation }
@@ -207,7 +215,7 @@ fn is_operation(name: &[u8], operation: OperationName) -> bool
     name == operation_spelling(operation)
 }
 
-/// The unit of this name that is no child of another.
+/// Finds the unit of this name that is no child of another.
 #[tactic(auto, unfolding(crate::specs::Library::root_unit))]
 pub fn root_unit(name: &[u8]) -> Option<Unit>
     ensures { result ≡ spec.root_unit name.now }
@@ -220,7 +228,7 @@ pub fn root_unit(name: &[u8]) -> Option<Unit>
     None
 }
 
-/// The child of a unit that has this name.
+/// Finds the child of a unit that has this name.
 #[tactic(auto, unfolding(crate::specs::Library::child_of))]
 pub fn child_of(parent: Unit, name: &[u8]) -> Option<Unit>
     ensures { result ≡ spec.child_of parent name.now }
@@ -233,7 +241,7 @@ pub fn child_of(parent: Unit, name: &[u8]) -> Option<Unit>
     None
 }
 
-/// What a unit declares under a name.
+/// Finds what a unit declares under a name.
 #[tactic(auto, unfolding(crate::specs::Library::name_in))]
 pub fn name_in(unit: Unit, name: &[u8]) -> Option<LibraryName>
     ensures { result ≡ spec.name_in unit name.now }
@@ -246,7 +254,7 @@ pub fn name_in(unit: Unit, name: &[u8]) -> Option<LibraryName>
     None
 }
 
-/// The operation of this name.
+/// Finds the operation of this name.
 #[tactic(auto, unfolding(crate::specs::Library::operation_named))]
 pub fn operation_named(name: &[u8]) -> Option<OperationName>
     ensures { result ≡ spec.operation_named name.now }
@@ -259,7 +267,7 @@ pub fn operation_named(name: &[u8]) -> Option<OperationName>
     None
 }
 
-/// What Standard declares under a name (RM A.1).
+/// Finds what Standard declares under a name (RM A.1).
 #[tactic(auto, unfolding(crate::specs::Library::standard_name))]
 fn standard_name(name: &[u8]) -> Option<LibraryName>
     ensures { result ≡ spec.standard_name name.now }
@@ -272,7 +280,7 @@ fn standard_name(name: &[u8]) -> Option<LibraryName>
     None
 }
 
-/// Tells what a unit itself is: a package, or a procedure.
+/// Answers what a unit itself is: a package, or a procedure.
 pub fn unit_itself(unit: Unit) -> LibraryName
     ensures { result ≡ spec.unit_itself unit }
 {
@@ -283,7 +291,7 @@ pub fn unit_itself(unit: Unit) -> LibraryName
     }
 }
 
-/// The number of a unit: the same unit has the same.
+/// Answers the number of a unit: the same unit has the same.
 fn number_of(unit: Unit) -> u8
     ensures { result ≡ spec.number_of unit }
 {
@@ -311,7 +319,7 @@ pub fn is_among(units: &[Unit], unit: Unit) -> bool
         .any(|other| number_of(*other) == number_of(unit))
 }
 
-/// What these units declare under a name.
+/// Finds what these units declare under a name.
 fn name_in_units(units: &[Unit], name: &[u8]) -> Option<LibraryName>
     ensures { result ≡ spec.name_in_units units.now name.now }
 {
@@ -323,7 +331,7 @@ fn name_in_units(units: &[Unit], name: &[u8]) -> Option<LibraryName>
     None
 }
 
-/// What is direct under a name that the text does not declare: a name of Standard, or of a unit that a use clause names (RM 8.4).
+/// Finds what is direct under a name that the text does not declare: a name of Standard, or of a unit that a use clause names (RM 8.4).
 pub fn direct_name(used: &[Unit], name: &[u8]) -> Option<LibraryName>
     ensures { result ≡ spec.direct_name used.now name.now }
 {

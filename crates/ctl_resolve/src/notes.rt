@@ -69,14 +69,14 @@ pub fn cut(view: &mut View, count: usize)
     view.table.close(count);
 }
 
-/// A declaration has come as far as this.
+/// Notes that a declaration has come as far as this.
 pub fn set_stage(view: &mut View, number: usize, stage: Stage)
     ensures { view.new ≡ spec.set_stage number stage view.old }
 {
     view.table.set(number, stage);
 }
 
-/// A body stands before what follows.
+/// Notes that a body stands before what follows.
 pub fn behind_body(view: &mut View)
     ensures { view.new ≡ spec.behind_body view.old }
 {

@@ -12,6 +12,7 @@ use crate::library::operation_named;
 use crate::names::{mark, meaning};
 use crate::notes::{cut, enter_master, leave, note_if, set_stage};
 use crate::view::{Filing, Known, Meaning, Role, Sought, Stage, Usage, View};
+use ctl_grammar::spelling::is_same_name;
 use ctl_syntax::denoted::{Definition, Denoted, OperationName, Use};
 use ctl_syntax::item::{Formal, Specification};
 use ctl_syntax::name::{Identifier, Mark};
@@ -46,16 +47,15 @@ fn in_full(count: usize, meaning: Meaning) -> Denoted
 }
 
 /// Tells whether a name is one of these.
-fn is_one_of(alloc: Global, name: &[u8], ids: &[Identifier]) -> Result<bool, AllocError>
-    ensures { IfOk result (λ found. found ≡ spec.is_one_of name.now ids.now) }
+fn is_one_of(name: &Identifier, ids: &[Identifier]) -> bool
+    ensures { result ≡ spec.is_one_of name.now ids.now }
 {
     for id in ids {
-        let other = folded(alloc, id)?;
-        if name == other.as_slice() {
-            return Ok(true);
+        if is_same_name(name.text.as_bytes(), id.text.as_bytes()) {
+            return true;
         }
     }
-    Ok(false)
+    false
 }
 
 /// Answers what the mark of parameters denotes where the heading begins.
@@ -66,8 +66,7 @@ fn formal_denoted(
 ) -> Result<Denoted, AllocError>
     ensures { IfOk result (λ d. d ≡ spec.formal_denoted view.now formal.now) }
 {
-    let name = folded(alloc, &formal.mark.first)?;
-    if is_one_of(alloc, name.as_slice(), formal.names.as_slice())? {
+    if is_one_of(&formal.mark.first, formal.names.as_slice()) {
         return Ok(Denoted::Unknown);
     }
     let meaning = meaning(alloc, view, &formal.mark.first, formal.mark.rest.as_slice())?;

@@ -130,7 +130,7 @@ pub fn is_overridden(operation: OperationName, declarations: &[Declaration]) -> 
 }
 
 impl Table {
-    /// Nothing is in view.
+    /// Makes a table with nothing in view.
     pub fn new(alloc: Global) -> Table
         ensures { result ≡ [] }
     {
