@@ -168,9 +168,9 @@ object_frozen around o t is d = object_declared around o t is (done_by around (o
 abbrev pub object_valued : Around → Order → Span → Objects Definition Use → Definition → Option Ty → Option (List Checked_association) → Option (Option Expr) × Draft → Option (List Checked_item) × Draft
 object_valued around order place o name t as' (v, d) =
     object_frozen around o t (object_made d.tables (length d.slots) t as' v)
-      (wait_as order name.identifier.span t
-        (fault_when (limited_as d.tables t && is_given o.value) rule.Limited name.identifier.span
-          (fault_when (is_constant o.constancy && not (is_given o.value)) rule.Type place d)))
+    (wait_as order name.identifier.span t
+    (fault_when (limited_as d.tables t && is_given o.value) rule.Limited name.identifier.span
+    (fault_when (is_constant o.constancy && not (is_given o.value)) rule.Type place d)))
 
 abbrev pub object_given : Around → Order → Span → Objects Definition Use → Definition → Option Ty → Option (List Checked_association) × Draft → Option (List Checked_item) × Draft
 object_given around order place o name t (as', d) = object_valued around order place o name t as' (by_tables (value_of t (option_map sense o.value)) d)
@@ -320,7 +320,7 @@ is_at_level level (Some r) = nat_eq r.level level
 abbrev pub is_operation : Tables → ℕ → OperationName → ℕ → List FormalEntry → Bool
 is_operation tables level o t fs =
     is_at_level level (slice_get tables.records t) && provides (root_of (slice_get tables.records t)) (is_limited tables (ty.Record t)) o
-      && same_formals fs (operation_formals o (ty.Record t))
+    && same_formals fs (operation_formals o (ty.Record t))
 
 abbrev pub overriding_first : Tables → ℕ → OperationName → List FormalEntry → Ty → Role
 overriding_first tables level o fs (ty.Record t) = if is_operation tables level o t fs then role.Overrides o t else role.Misplaced
@@ -349,7 +349,7 @@ overridden o s r = record r { operations = with_operation o s r.operations }
 abbrev pub override : Span → OperationName → ℕ → ℕ → Draft → Draft
 override place o t s d =
     early_when (not (is_free_type d.tables.states (ty.Record t))) rule.LatePrimitive place
-      (with_records (changed (overridden o s) t d.tables.states.records) d)
+    (with_records (changed (overridden o s) t d.tables.states.records) d)
 
 abbrev pub play : Span → ℕ → Role → Draft → Draft
 play place s role.Plain d = d
@@ -382,10 +382,11 @@ role_of around s (Some h) tables = role_by tables around.level s.indicator (oper
 
 -- a subprogram that is declared here, with the next number
 abbrev pub introduce : Around → Specification Definition Use → Option (List FormalEntry × Option Ty) × Draft → Option ℕ × Draft
-introduce around s (h, d) =
-    (Some (length d.subprograms),
-    declare (entry_of (length d.subprograms) (formal_names s.formals) h)
-      (add_subprogram around (kind_of s.result) (play s.name.identifier.span (length d.subprograms) (role_of around s h d.tables) d)))
+introduce around s (h, d) = (
+  Some (length d.subprograms),
+  declare (entry_of (length d.subprograms) (formal_names s.formals) h)
+      (add_subprogram around (kind_of s.result) (play s.name.identifier.span (length d.subprograms) (role_of around s h d.tables) d)),
+)
 
 abbrev pub declaration : Span → Specification Definition Use → Around → Draft → List Checked_item × Draft
 declaration place s around d = silent (introduce around s (heading place s d))

@@ -3,11 +3,13 @@
 //! "RM" is ISO/IEC 8652:2012.
 #![tactic(auto)]
 
+pub mod accesses;
 pub mod assignments;
 pub mod associations;
 pub mod draft;
 pub mod freezing;
 pub mod masters;
+pub mod named_types;
 pub mod order;
 pub mod parts;
 pub mod stub;

@@ -7,19 +7,22 @@ ghost use Rattle.ctl_types.specs.Parts as part;
 ghost use Rattle.ctl_typing.specs.Judgement.{Judges, each};
 ghost use Rattle.ctl_typing.specs.Typing.{sense};
 
+use crate::accesses::incomplete;
 use crate::assignments::assignment;
 use crate::draft::{Around, Draft, Giving, Handling, Looping, Order, Returning};
 use crate::masters::{
-    end_part, enter_master, inside, inside_block, leave_master, leave_returns, master_of, more_items,
+    end_part, enter_master, inside, inside_block, leave_master, leave_returns, master_of,
+    more_items,
 };
 use crate::stub::{
-    body_put, call, choices_of, declaration, enter_formals, exceptions, exiting, expression, incomplete,
-    instance, objects, opened, pool_clause, raising, raising_again, returning, truth, type_definition,
+    body_put, call, choices_of, declaration, enter_formals, exceptions, exiting, expression,
+    instance, objects, opened, pool_clause, raising, raising_again, returning, truth,
+    type_definition,
 };
 use ctl_program::expression::Expr;
+use ctl_program::operators::Direction as CheckedDirection;
 use ctl_program::statement as checked;
 use ctl_program::statement::{Arm, Master, Stmt};
-use ctl_program::operators::Direction as CheckedDirection;
 use ctl_program::types::Ty;
 use ctl_syntax::denoted::{Definition, Use};
 use ctl_syntax::expression::Expression;
@@ -169,7 +172,15 @@ pub fn statement(
             while_loop(alloc, statements.as_slice(), test, around, draft)
         }
         Statement::For(_, _, direction, low, high, statements) => {
-            counting(alloc, statements.as_slice(), *direction, low, high, around, draft)
+            counting(
+                alloc,
+                statements.as_slice(),
+                *direction,
+                low,
+                high,
+                around,
+                draft,
+            )
         }
         Statement::Block(place, body) => block(alloc, body.get(), *place, around, draft),
         Statement::Call(place, name) => call(alloc, &draft.tables, *place, name, &mut draft.notes),
@@ -450,7 +461,15 @@ fn subprogram(
     ensures { (order : _) → Judges (spec.body_item place specification.now (spec.body body.now) order around) draft.old result draft.new }
 {
     let opened = opened(alloc, place, specification, around, draft)?;
-    let judged = subprogram_body(alloc, body, place, specification, around, opened.giving, draft)?;
+    let judged = subprogram_body(
+        alloc,
+        body,
+        place,
+        specification,
+        around,
+        opened.giving,
+        draft,
+    )?;
     body_put(opened.number, opened.layers, judged, draft)
 }
 
@@ -471,7 +490,13 @@ fn subprogram_body(
     let returning = draft.returning;
     let outer = enter_master(alloc, draft);
     draft.returning = Returning::Nowhere;
-    enter_formals(alloc, inside, place, specification.formals.as_slice(), draft)?;
+    enter_formals(
+        alloc,
+        inside,
+        place,
+        specification.formals.as_slice(),
+        draft,
+    )?;
     let judged = master(alloc, body, place, inside, draft)?;
     leave_returns(returning, specification.name.identifier.span, giving, draft);
     leave_master(outer, draft);
@@ -524,7 +549,12 @@ fn handler(
     ensures { Judges (spec.handler place around (part.handler_of handler.now)) draft.old result draft.new }
 {
     let choices = choices_of(alloc, place, &handler.choices, draft)?;
-    let body = sequence(alloc, handler.statements.as_slice(), in_handler(around), draft)?;
+    let body = sequence(
+        alloc,
+        handler.statements.as_slice(),
+        in_handler(around),
+        draft,
+    )?;
     match choices.zip(body) {
         Some((choices, body)) => Ok(Some(checked::Handler { choices, body })),
         None => Ok(None),

@@ -22,7 +22,7 @@ pub statement-returns-in-Assignment : goal.statement-returns-in-Assignment
 statement-returns-in-Assignment t c =
     let i = c.in-Assignment in
     rw (i.is, fold_out-Statement, outs-Assignment i.field-0 i.to i.value)
-      (by_tables_judges (assignment i.to.first (map suffix_sense i.to.suffixes) (sense i.value)) c.args.draft.now c.assignment.result c.assignment.new.notes c.assignment.ensures)
+    (by_tables_judges (assignment i.to.first (map suffix_sense i.to.suffixes) (sense i.value)) c.args.draft.now c.assignment.result c.assignment.new.notes c.assignment.ensures)
 
 pub statement-returns-in-Loop : goal.statement-returns-in-Loop
 statement-returns-in-Loop t c =
@@ -54,8 +54,8 @@ statement-returns-in_ok-otherwise-in-If t c =
     let arms = rw (appended_first, c.as_slice.ensures) at c.in_ok-arms-in-If.ensures in
     let last = rw c.as_slice-in-If.ensures at c.in_ok-otherwise-in-If.ensures in
     rw (i.is, fold_out-Statement, outs-If i.field-0 i.first i.more i.otherwise, c.conditional.ensures)
-      (conditional_judged c.args.around (part.branch_of i.first) (map part.branch_of i.more) (map spec.statement i.otherwise) c.args.draft.now c.branch-alloc.new.draft c.branches.new.draft c.sequence.new.draft
-        c.in_ok-first-in-If.first c.in_ok-arms-in-If.arms c.in_ok-otherwise-in-If.otherwise c.in_ok-first-in-If.ensures arms last)
+    (conditional_judged c.args.around (part.branch_of i.first) (map part.branch_of i.more) (map spec.statement i.otherwise) c.args.draft.now c.branch-alloc.new.draft c.branches.new.draft c.sequence.new.draft
+    c.in_ok-first-in-If.first c.in_ok-arms-in-If.arms c.in_ok-otherwise-in-If.otherwise c.in_ok-first-in-If.ensures arms last)
 
 pub master-returns : goal.master-returns
 master-returns t c =
@@ -64,9 +64,9 @@ master-returns t c =
     let statements = rw c.as_slice-2.ensures at c.in_ok-statements.ensures in
     let handlers = rw c.as_slice-3.ensures at c.in_ok-handlers.ensures in
     rw (fold_out-Body, c.master_of.ensures, c.len.ensures)
-      (master_judged (spec.part (map spec.item_judged (out-Body Definition Use b).items) c.args.around) (spec.sequence (map spec.statement (out-Body Definition Use b).statements) c.args.around)
-        (spec.handlers c.args.place c.args.around (map part.handler_of (out-Body Definition Use b).handlers)) c.args.draft.now c.declarative_part.new.draft c.sequence.new.draft c.handlers.new.draft
-        c.in_ok-items.items c.in_ok-statements.statements c.in_ok-handlers.handlers items statements handlers)
+    (master_judged (spec.part (map spec.item_judged (out-Body Definition Use b).items) c.args.around) (spec.sequence (map spec.statement (out-Body Definition Use b).statements) c.args.around)
+    (spec.handlers c.args.place c.args.around (map part.handler_of (out-Body Definition Use b).handlers)) c.args.draft.now c.declarative_part.new.draft c.sequence.new.draft c.handlers.new.draft
+    c.in_ok-items.items c.in_ok-statements.statements c.in_ok-handlers.handlers items statements handlers)
 
 pub declarative_part-returns : goal.declarative_part-returns
 declarative_part-returns t c =
@@ -75,7 +75,7 @@ declarative_part-returns t c =
     let waiting = length d.waiting in
     let judged = ap (λ r. spec.part_behind c.args.around waiting r) c.in_ok-judged.ensures in
     judges_as (spec.part items c.args.around) (λ e. spec.part_behind c.args.around waiting (c.in_ok-judged.judged, e)) d c.items_in_order.new.draft c.end_part.result c.end_part.new.draft
-      judged (rw c.len-waiting.ensures at c.end_part.ensures)
+    judged (rw c.len-waiting.ensures at c.end_part.ensures)
 
 pub items_in_order-loop-one-preserved : goal.items_in_order-loop-one-preserved
 items_in_order-loop-one-preserved t c =
@@ -89,9 +89,9 @@ items_in_order-loop-one-preserved t c =
     record {
       left = left;
       walked =
-        items_turn c.args.around c.loop-one.done c.in_ok-done.done c.in_ok-judged.judged x rest c.loop-one.draft c.item.new.draft c.order_before.result order c.in_ok-judged.ensures c.in_ok-done.ensures
-        ∙ ap (λ xs. spec.items c.args.around c.loop-one.done (map spec.item_judged xs) c.loop-one.draft) (sym split)
-        ∙ c.loop-one.invariant.walked
+          items_turn c.args.around c.loop-one.done c.in_ok-done.done c.in_ok-judged.judged x rest c.loop-one.draft c.item.new.draft c.order_before.result order c.in_ok-judged.ensures c.in_ok-done.ensures
+          ∙ ap (λ xs. spec.items c.args.around c.loop-one.done (map spec.item_judged xs) c.loop-one.draft) (sym split)
+          ∙ c.loop-one.invariant.walked;
     }
 
 pub item-returns-in-Body : goal.item-returns-in-Body

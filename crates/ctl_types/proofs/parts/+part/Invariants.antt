@@ -7,12 +7,12 @@ use Rattle.ctl_types.proofs.parts.+part.Given as goal
 abbrev pub invariant-sequence-loop-one : goal.invariant-sequence-loop-one
 invariant-sequence-loop-one l =
     each (λ s. s l.around) l.done (map spec.statement (drop l.one-index l.statements)) l.draft
-      ≡ each (λ s. s l.around) (Some []) (map spec.statement l.statements) l.fn.draft
+    ≡ each (λ s. s l.around) (Some []) (map spec.statement l.statements) l.fn.draft
 
 abbrev pub invariant-branches-loop-one : goal.invariant-branches-loop-one
 invariant-branches-loop-one l =
     each (spec.branch l.around) l.done (map part.branch_of (drop l.one-index l.more)) l.draft
-      ≡ each (spec.branch l.around) l.fn.before (map part.branch_of l.more) l.fn.draft
+    ≡ each (spec.branch l.around) l.fn.before (map part.branch_of l.more) l.fn.draft
 
 -- how deep is what is left, and then the order of the calls at one depth
 abbrev pub decreases-statement : goal.decreases-statement
@@ -72,10 +72,10 @@ decreases-handlers_in_order l = goal.size-handlers_in_order l * 16 + 3
 abbrev pub invariant-handlers_in_order-loop-one : goal.invariant-handlers_in_order-loop-one
 invariant-handlers_in_order-loop-one l =
     each (spec.handler l.place l.around) l.done (map part.handler_of (drop l.one-index l.handlers)) l.draft
-      ≡ each (spec.handler l.place l.around) (Some []) (map part.handler_of l.handlers) l.fn.draft
+    ≡ each (spec.handler l.place l.around) (Some []) (map part.handler_of l.handlers) l.fn.draft
 
 abbrev pub invariant-items_in_order-loop-one : goal.invariant-items_in_order-loop-one
 invariant-items_in_order-loop-one l = record {
   left : l.left ≡ part.bodies_on 0 (drop l.one-index l.items);
-  walked : spec.items l.around l.done (map spec.item_judged (drop l.one-index l.items)) l.draft ≡ spec.items l.around (Some []) (map spec.item_judged l.items) l.fn.draft
+  walked : spec.items l.around l.done (map spec.item_judged (drop l.one-index l.items)) l.draft ≡ spec.items l.around (Some []) (map spec.item_judged l.items) l.fn.draft;
 }
