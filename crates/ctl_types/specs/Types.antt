@@ -395,6 +395,10 @@ is_library_type l = false
 abbrev pub order_broken : {A : Type 0} → Span → Judgement A
 order_broken place n = (None, with_early rule.Order place n)
 
+-- what has no clause here: a type that is frozen or of another part, or no access type
+abbrev pub misplaced : {A : Type 0} → Bool → Span → Judgement A
+misplaced is_late place = if is_late then order_broken place else wrong rule.Type place
+
 -- an access type of the part that is not frozen (13.1(5), 13.1(9))
 abbrev pub clause_access : Tables → Span → Ty → Judgement ℕ
 clause_access tables place (ty.Access a) = if is_free_type tables.states (ty.Access a) then known a else order_broken place

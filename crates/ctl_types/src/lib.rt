@@ -6,12 +6,14 @@
 pub mod accesses;
 pub mod assignments;
 pub mod associations;
+pub mod components;
 pub mod draft;
 pub mod freezing;
 pub mod masters;
 pub mod named_types;
 pub mod order;
 pub mod parts;
+pub mod pool_clauses;
 pub mod stub;
 pub mod types;
 pub mod view;

@@ -14,10 +14,10 @@ use crate::masters::{
     end_part, enter_master, inside, inside_block, leave_master, leave_returns, master_of,
     more_items,
 };
+use crate::pool_clauses::pool_clause;
 use crate::stub::{
     body_put, call, choices_of, declaration, enter_formals, exceptions, exiting, expression,
-    instance, objects, opened, pool_clause, raising, raising_again, returning, truth,
-    type_definition,
+    instance, objects, opened, raising, raising_again, returning, truth, type_definition,
 };
 use ctl_program::expression::Expr;
 use ctl_program::operators::Direction as CheckedDirection;

@@ -3,7 +3,6 @@
 ghost use Rattle.std.specs.Prelude.{◌≡◌, ◌∷◌, map, option_map, OnOk};
 ghost use Rattle.ctl_types.specs.Draft.{by_tables};
 ghost use Rattle.ctl_types.specs.Declarations as declarations;
-ghost use Rattle.ctl_types.specs.Types as types;
 ghost use Rattle.ctl_types.specs.Elaboration as elaboration;
 ghost use Rattle.ctl_typing.specs.Judgement.{Judges, Yields};
 ghost use Rattle.ctl_typing.specs.Typing as spec;
@@ -194,20 +193,6 @@ pub fn type_definition(
     draft: &mut Draft,
 ) -> Result<Items<checked::Item>, AllocError>
     ensures { Yields (elaboration.definition_of place name.now definition.now around) draft.old result draft.new }
-{
-    Err(AllocError)
-}
-
-/// Judges a clause.
-pub fn pool_clause(
-    alloc: Global,
-    place: Span,
-    of: Use,
-    pool: &Mark<Use>,
-    around: Around,
-    draft: &mut Draft,
-) -> Result<Items<checked::Item>, AllocError>
-    ensures { Yields (types.pool_clause place of pool.now around) draft.old result draft.new }
 {
     Err(AllocError)
 }
