@@ -1,5 +1,6 @@
 pub mod Changes
 pub mod Conditionals
 pub mod Drafts
+pub mod Joined
 pub mod Ordered
 pub mod Wholes

@@ -7,6 +7,7 @@ ghost use Rattle.ctl_typing.specs.Typing.{sense};
 
 use crate::draft::{Draft, Enclosing};
 use crate::named_types::concrete_type;
+use crate::rows::together;
 use crate::stub::expression;
 use crate::types::{is_limited, no_pool};
 use ctl_grammar::spelling::is_same_name;
@@ -14,7 +15,7 @@ use ctl_program::expression::Expr;
 use ctl_program::types::{Component, Ty};
 use ctl_syntax::denoted::{Denoted, Use};
 use ctl_syntax::expression::Expression;
-use ctl_syntax::item::Limitation;
+use ctl_syntax::item::{Components, Limitation};
 use ctl_syntax::name::{Identifier, Mark};
 use ctl_tree::fault::FaultCode;
 use ctl_tree::span::Span;
@@ -24,7 +25,9 @@ use ctl_typing::judging::{note, wrong};
 use ctl_typing::lookup::{component_of, root_of};
 use ctl_typing::names::discriminant_named;
 use ctl_typing::notes::Notes;
+use ctl_typing::operators::appended;
 use ctl_typing::table::{Beginning, ComponentEntry, Tables};
+use sqlite_items::Items;
 use std::alloc::{AllocError, Global};
 
 /// Tells whether a name denotes the declaration of a number.
@@ -281,4 +284,68 @@ fn component(
         &mut draft.notes,
     )?;
     component_default(alloc, within, identifier, value, ty, draft)
+}
+
+/// Judges the components of one declaration; `A, B : T` are two (RM 3.8(17)).
+fn components_named(
+    alloc: Global,
+    within: Enclosing,
+    mark: &Mark<Use>,
+    value: &Option<Expression<Use>>,
+    names: &[Identifier],
+    draft: &mut Draft,
+) -> Result<Option<Items<Component>>, AllocError>
+    ensures { Judges (spec.components_named within mark.now (option_map sense value.now) names.now) draft.old result draft.new }
+{
+    let mut done = Some(Items::new(alloc));
+    for name in names {
+        let judged = component(alloc, within, mark, value, name, draft)?;
+        done = appended(done, judged)?;
+    }
+    Ok(done)
+}
+
+/// Judges the components of one declaration.
+fn components_of(
+    alloc: Global,
+    within: Enclosing,
+    declared: &Components<Use>,
+    draft: &mut Draft,
+) -> Result<Option<Items<Component>>, AllocError>
+    ensures { Judges (spec.components_of within declared.now) draft.old result draft.new }
+{
+    let names = declared.names.as_slice();
+    components_named(alloc, within, &declared.mark, &declared.default, names, draft)
+}
+
+/// Judges the declarations of components, one behind the other.
+fn component_rows(
+    alloc: Global,
+    within: Enclosing,
+    declared: &[Components<Use>],
+    draft: &mut Draft,
+) -> Result<Option<Items<Items<Component>>>, AllocError>
+    ensures { Judges (spec.component_rows within declared.now) draft.old result draft.new }
+{
+    let mut done = Some(Items::new(alloc));
+    for one in declared {
+        let judged = components_of(alloc, within, one, draft)?;
+        done = appended(done, judged)?;
+    }
+    Ok(done)
+}
+
+/// Judges the components that a type adds to those of its parent (RM 3.8, 3.9.1).
+pub fn components(
+    alloc: Global,
+    within: Enclosing,
+    declared: &[Components<Use>],
+    draft: &mut Draft,
+) -> Result<Option<Items<Component>>, AllocError>
+    ensures { Judges (spec.components within declared.now) draft.old result draft.new }
+{
+    match component_rows(alloc, within, declared, draft)? {
+        Some(rows) => Ok(Some(together(alloc, rows)?)),
+        None => Ok(None),
+    }
 }

@@ -14,6 +14,8 @@ pub mod named_types;
 pub mod order;
 pub mod parts;
 pub mod pool_clauses;
+pub mod records;
+pub mod rows;
 pub mod stub;
 pub mod types;
 pub mod view;
