@@ -7,6 +7,7 @@ pub mod accesses;
 pub mod assignments;
 pub mod associations;
 pub mod components;
+pub mod definitions;
 pub mod draft;
 pub mod freezing;
 pub mod masters;

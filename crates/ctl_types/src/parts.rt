@@ -9,6 +9,7 @@ ghost use Rattle.ctl_typing.specs.Typing.{sense};
 
 use crate::accesses::incomplete;
 use crate::assignments::assignment;
+use crate::definitions::type_definition;
 use crate::draft::{Around, Draft, Giving, Handling, Looping, Order, Returning};
 use crate::masters::{
     end_part, enter_master, inside, inside_block, leave_master, leave_returns, master_of,
@@ -17,7 +18,7 @@ use crate::masters::{
 use crate::pool_clauses::pool_clause;
 use crate::stub::{
     body_put, call, choices_of, declaration, enter_formals, exceptions, exiting, expression,
-    instance, objects, opened, raising, raising_again, returning, truth, type_definition,
+    instance, objects, opened, raising, raising_again, returning, truth,
 };
 use ctl_program::expression::Expr;
 use ctl_program::operators::Direction as CheckedDirection;

@@ -7,6 +7,7 @@ use sqlite_items::Items;
 use std::alloc::{AllocError, Global};
 
 /// Makes one row of these, one behind the other.
+#[tactic(auto, using(crate::proofs::Joined::together_last))]
 pub fn together<T: Drop>(alloc: Global, rows: Items<Items<T>>) -> Result<Items<T>, AllocError>
     ensures { IfOk result (λ all. all ≡ spec.together rows) }
 {

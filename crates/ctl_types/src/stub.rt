@@ -18,7 +18,7 @@ use ctl_program::types::Ty;
 use ctl_syntax::denoted::{Definition, Use};
 use ctl_syntax::expression::Expression;
 use ctl_syntax::item::{
-    Association, Choices, Definition as TypeDefinition, Formal, Objects, Specification,
+    Association, Choices, Formal, Objects, Specification,
 };
 use ctl_syntax::name::{Identifier, Mark, Name};
 use ctl_tree::span::Span;
@@ -179,20 +179,6 @@ pub fn instance(
     draft: &mut Draft,
 ) -> Result<Option<Items<checked::Item>>, AllocError>
     ensures { Judges (declarations.instance place mark.now associations.now around) draft.old result draft.new }
-{
-    Err(AllocError)
-}
-
-/// Declares a type.
-pub fn type_definition(
-    alloc: Global,
-    place: Span,
-    name: &Definition,
-    definition: &TypeDefinition<Use>,
-    around: Around,
-    draft: &mut Draft,
-) -> Result<Items<checked::Item>, AllocError>
-    ensures { Yields (elaboration.definition_of place name.now definition.now around) draft.old result draft.new }
 {
     Err(AllocError)
 }
