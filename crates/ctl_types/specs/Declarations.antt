@@ -169,9 +169,9 @@ object_frozen around o t is d = object_declared around o t is (done_by around (o
 abbrev pub object_valued : Around → Order → Span → Objects Definition Use → Definition → Option Ty → Option (List Checked_association) → Option (Option Expr) × Draft → Option (List Checked_item) × Draft
 object_valued around order place o name t as' (v, d) =
     object_frozen around o t (object_made d.tables (length d.slots) t as' v)
-      (wait_as order name.identifier.span t
-        (fault_when (limited_as d.tables t && is_given o.value) rule.Limited name.identifier.span
-          (fault_when (is_constant o.constancy && not (is_given o.value)) rule.Type place d)))
+    (wait_as order name.identifier.span t
+    (fault_when (limited_as d.tables t && is_given o.value) rule.Limited name.identifier.span
+    (fault_when (is_constant o.constancy && not (is_given o.value)) rule.Type place d)))
 
 abbrev pub object_given : Around → Order → Span → Objects Definition Use → Definition → Option Ty → Option (List Checked_association) × Draft → Option (List Checked_item) × Draft
 object_given around order place o name t (as', d) = object_valued around order place o name t as' (by_tables (value_of t (option_map sense o.value)) d)

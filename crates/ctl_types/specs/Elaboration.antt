@@ -167,14 +167,14 @@ deeper level = min (level + 1) 18446744073709551615
 abbrev pub inside : Around → Giving → Draft → Around
 inside around g d =
     record {
-        level = deeper around.level;
-        start = length d.tables.entries;
-        first_subprogram = length d.subprograms;
-        first_record = length d.tables.records;
-        first_access = length d.tables.states.accesses;
-        looping = looping.Outside;
-        handling = handling.Outside;
-        giving = g
+      level = deeper around.level;
+      start = length d.tables.entries;
+      first_subprogram = length d.subprograms;
+      first_record = length d.tables.records;
+      first_access = length d.tables.states.accesses;
+      looping = looping.Outside;
+      handling = handling.Outside;
+      giving = g;
     }
 
 -- a block is left by the exits, returns and raises that stand in it (5.7, 6.5, 11.3)
@@ -397,23 +397,29 @@ library_exceptions = codes "Constraint_Error" ∷ codes "Program_Error" ∷ code
 abbrev pub library : Draft
 library =
     record {
-        tables = record { entries = []; records = library_records; states = record { records = library_state ∷ library_state ∷ library_state ∷ library_state ∷ []; accesses = [] } };
-        components = [] ∷ [] ∷ [] ∷ [] ∷ [];
-        subprograms = [];
-        exceptions = library_exceptions;
-        slots = [];
-        returning = returning.Nowhere;
-        waiting = [];
-        own = [];
-        own_names = [];
-        notes = record { early = None; fault = None; deeds = None }
+      tables = record { entries = []; records = library_records; states = record { records = library_state ∷ library_state ∷ library_state ∷ library_state ∷ []; accesses = [] } };
+      components = [] ∷ [] ∷ [] ∷ [] ∷ [];
+      subprograms = [];
+      exceptions = library_exceptions;
+      slots = [];
+      returning = returning.Nowhere;
+      waiting = [];
+      own = [];
+      own_names = [];
+      notes = record { early = None; fault = None; deeds = None };
     }
 
 abbrev pub outside : Around
 outside =
     record {
-        level = 0; start = 0; first_subprogram = 0; first_record = 0; first_access = 0;
-        looping = looping.Outside; handling = handling.Outside; giving = giving.Nothing
+      level = 0;
+      start = 0;
+      first_subprogram = 0;
+      first_record = 0;
+      first_access = 0;
+      looping = looping.Outside;
+      handling = handling.Outside;
+      giving = giving.Nothing;
     }
 
 -- the main procedure is the first subprogram, and is in view inside itself
@@ -456,11 +462,11 @@ abbrev pub checked_with : Draft → Option (List AccessType) → Option Checked
 checked_with d None = None
 checked_with d (Some as') =
     Some (record {
-        exceptions = d.exceptions;
-        records = record_types d.tables.records d.tables.states.records d.components;
-        accesses = as';
-        subprograms = d.subprograms;
-        main = 0
+      exceptions = d.exceptions;
+      records = record_types d.tables.records d.tables.states.records d.components;
+      accesses = as';
+      subprograms = d.subprograms;
+      main = 0;
     })
 
 abbrev pub checked_of : Draft → Option Checked

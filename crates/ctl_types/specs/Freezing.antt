@@ -154,9 +154,10 @@ with_accesses as' d = with_states (record d.tables.states { accesses = as' }) d
 
 -- the collections of the access types of a part that have none yet are one layer, in the order of the types (7.6.1(11), profile)
 abbrev pub placed : Around → Draft → List Checked_item × Draft
-placed around d =
-    (layer (unplaced around.first_access (drop around.first_access d.tables.states.accesses)),
-    with_accesses (changed_each placed_access around.first_access d.tables.states.accesses) d)
+placed around d = (
+  layer (unplaced around.first_access (drop around.first_access d.tables.states.accesses)),
+  with_accesses (changed_each placed_access around.first_access d.tables.states.accesses) d,
+)
 
 -- What a construct freezes ---------------------------------------------------------------
 

@@ -204,15 +204,15 @@ control_of tables r own = if is_tagged r || any_controlled tables own then contr
 abbrev pub record_entry : Around → Root → Limitation → Option ℕ → Draft → RecordEntry
 record_entry around r l parent d =
     record {
-        level = around.level;
-        root = r;
-        limitation = limitation_of d.tables l d.own;
-        concreteness = concreteness.Concrete;
-        control = control_of d.tables r d.own;
-        parent = parent;
-        own = d.own;
-        count = last_position (inherited_count (on_parent d.tables parent)) d.own;
-        deeds = deeds_of d
+      level = around.level;
+      root = r;
+      limitation = limitation_of d.tables l d.own;
+      concreteness = concreteness.Concrete;
+      control = control_of d.tables r d.own;
+      parent = parent;
+      own = d.own;
+      count = last_position (inherited_count (on_parent d.tables parent)) d.own;
+      deeds = deeds_of d;
     }
 
 abbrev pub inherited_state : Option RecordState → RecordState
@@ -225,8 +225,8 @@ state_on tables (Some t) = slice_get tables.states.records t
 abbrev pub add_record : RecordEntry → RecordState → List Component → Draft → Draft
 add_record r s cs d =
     record d {
-        tables = record d.tables { records = d.tables.records ++ r ∷ []; states = record d.tables.states { records = d.tables.states.records ++ s ∷ [] } };
-        components = d.components ++ cs ∷ []
+      tables = record d.tables { records = d.tables.records ++ r ∷ []; states = record d.tables.states { records = d.tables.states.records ++ s ∷ [] } };
+      components = d.components ++ cs ∷ [];
     }
 
 abbrev pub known_components : Option (List Component) → List Component
@@ -263,7 +263,7 @@ untagged_kept place number d = fault_when (is_said_tagged (slice_get d.tables.en
 abbrev pub enter_record : Around → Enclosing → Root → Limitation → Option (List Component) × Draft → Draft
 enter_record around within r l (cs, d) =
     enter_type around within.number (ty.Record (length d.tables.records))
-      (asked (without_own (add_record (record_entry around r l within.parent d) (inherited_state (state_on d.tables within.parent)) (known_components cs) d)))
+    (asked (without_own (add_record (record_entry around r l within.parent d) (inherited_state (state_on d.tables within.parent)) (known_components cs) d)))
 
 -- the record type that is declared here, with its components
 abbrev pub declare_record : Around → Enclosing → Root → Limitation → List (Components Use) → Draft → Draft
@@ -314,13 +314,17 @@ extension place number m cs around d = extension_of place number cs around (by_t
 
 -- Access types (3.10) ------------------------------------------------------------------------------------------------
 
+-- a type that is complete, and no pool
+abbrev pub designated_type : Tables → Span → Mark Use → Judgement Designated
+designated_type tables place m = named_type tables place m >>= no_pool tables m.first.span >>= (λ t. known (designated.Known t))
+
 abbrev pub designated_entry : Tables → Span → Mark Use → ℕ → Option Entry → Judgement Designated
 designated_entry tables place m number (Some (entry.Incomplete t)) = known (designated.Awaited number)
-designated_entry tables place m number e = named_type tables place m >>= no_pool tables m.first.span >>= (λ t. known (designated.Known t))
+designated_entry tables place m number e = designated_type tables place m
 
 abbrev pub designated_denoted : Tables → Span → Mark Use → Denoted → Judgement Designated
 designated_denoted tables place m (denoted.Declared number level) = designated_entry tables place m number (slice_get tables.entries number)
-designated_denoted tables place m d = designated_entry tables place m 0 None
+designated_denoted tables place m d = designated_type tables place m
 
 -- an access type may designate an incomplete type (3.10.1); a class only once class-wide types are there
 abbrev pub designated_named : Span → Mark Use → Coverage → Tables → Judgement Designated
@@ -356,7 +360,7 @@ or_unclear (Some t) = t
 abbrev pub add_access : Around → ℕ → AccessEntry → Draft → Draft
 add_access around number a d =
     take_slot (ty.Access (length d.tables.states.accesses))
-      (enter_type around number (ty.Access (length d.tables.states.accesses)) (with_accesses (d.tables.states.accesses ++ a ∷ []) d))
+    (enter_type around number (ty.Access (length d.tables.states.accesses)) (with_accesses (d.tables.states.accesses ++ a ∷ []) d))
 
 abbrev pub access_entry : Around → Span → Generality → Coverage → Option Designated → Option (Var × ℕ) → Draft → AccessEntry
 access_entry around identifier g c t p d =
@@ -390,6 +394,10 @@ is_library_type l = false
 
 abbrev pub order_broken : {A : Type 0} → Span → Judgement A
 order_broken place n = (None, with_early rule.Order place n)
+
+-- what has no clause here: a type that is frozen or of another part, or no access type
+abbrev pub misplaced : {A : Type 0} → Bool → Span → Judgement A
+misplaced is_late place = if is_late then order_broken place else wrong rule.Type place
 
 -- an access type of the part that is not frozen (13.1(5), 13.1(9))
 abbrev pub clause_access : Tables → Span → Ty → Judgement ℕ

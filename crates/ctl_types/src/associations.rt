@@ -3,12 +3,12 @@
 ghost use Rattle.std.specs.Prelude.{◌≡◌, IfOk, Some, []};
 ghost use Rattle.ctl_types.specs.Marks as spec;
 
-use ctl_typing::names::discriminant_named;
 use ctl_grammar::spelling::is_same_name;
 use ctl_program::types::Root;
 use ctl_syntax::denoted::Use;
 use ctl_syntax::item::Association;
 use ctl_tree::text::Text;
+use ctl_typing::names::discriminant_named;
 use sqlite_items::Items;
 use std::alloc::{AllocError, Global};
 
@@ -87,11 +87,7 @@ fn is_among(number: usize, numbers: &[usize]) -> bool
 }
 
 /// Answers the position of an association that is given by name, if nothing before has it.
-fn new_position(
-    what: Associated,
-    association: &Association<Use>,
-    before: &[usize],
-) -> Option<usize>
+fn new_position(what: Associated, association: &Association<Use>, before: &[usize]) -> Option<usize>
     ensures { spec.with_position before.now (spec.position_of what association.now.name) ≡ spec.added before.now result }
 {
     match &association.name {

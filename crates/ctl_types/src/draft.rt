@@ -1,13 +1,13 @@
 //! The program as far as it was checked, and what stands around a statement or an item.
 
-use ctl_typing::notes::{Deed, Notes};
-use ctl_typing::table::{ComponentEntry, Tables};
 use ctl_program::program::Subprogram;
 use ctl_program::types::{Component, Ty};
 use ctl_syntax::denoted::OperationName;
 use ctl_syntax::item::Limitation;
 use ctl_tree::span::Span;
 use ctl_tree::text::Text;
+use ctl_typing::notes::{Deed, Notes};
+use ctl_typing::table::{ComponentEntry, Tables};
 use sqlite_items::Items;
 
 /// A declared object that stands before a body of its part, where what it calls is not known yet (RM 3.11).

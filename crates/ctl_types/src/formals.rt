@@ -4,7 +4,7 @@ ghost use Rattle.std.specs.Prelude.{◌≡◌, OnOk};
 ghost use Rattle.ctl_types.specs.Declarations as spec;
 
 use crate::draft::{Around, Draft};
-use crate::headings::named_type;
+use crate::named_types::named_type;
 use ctl_program::types::Ty;
 use ctl_syntax::denoted::{Definition, Use};
 use ctl_syntax::item::{Aliasing, Formal, Mode};

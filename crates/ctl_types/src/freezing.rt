@@ -6,13 +6,12 @@ ghost use Rattle.ctl_types.specs.Freezing as spec;
 ghost use Rattle.ctl_typing.specs.Judgement.{Yields};
 
 use crate::draft::{Around, Draft};
-use ctl_typing::notes::Deed;
-use ctl_typing::table::{
-    AccessEntry, Beginning, ComponentEntry, Defaults, Freezing, RecordEntry, RecordState,
-    States,
-};
 use ctl_program::statement::Item;
 use ctl_program::types::Ty;
+use ctl_typing::notes::Deed;
+use ctl_typing::table::{
+    AccessEntry, Beginning, ComponentEntry, Defaults, Freezing, RecordEntry, RecordState, States,
+};
 use sqlite_items::Items;
 use std::alloc::{AllocError, Global};
 

@@ -7,6 +7,7 @@ ghost use Rattle.ctl_types.specs.Statements as statements;
 ghost use Rattle.ctl_typing.specs.Judgement.{Answers, Judges};
 
 use crate::draft::Draft;
+use crate::named_types::named_type;
 use crate::operations::formal;
 use crate::types::{is_controlled, is_limited};
 use ctl_program::types::Ty;
@@ -15,7 +16,6 @@ use ctl_syntax::item::{Formal, Mode, Specification};
 use ctl_syntax::name::Mark;
 use ctl_tree::fault::FaultCode;
 use ctl_tree::span::Span;
-use ctl_typing::allocators::mark_judged;
 use ctl_typing::judging::note;
 use ctl_typing::notes::Notes;
 use ctl_typing::table::{FormalEntry, Tables};
@@ -24,23 +24,6 @@ use std::alloc::{AllocError, Global};
 
 /// What a heading says: the formals, and the type of a function's result.
 pub type Heading = (Items<FormalEntry>, Option<Ty>);
-
-/// Judges the mark of a type; where it names none, the item is wrong.
-pub fn named_type(
-    alloc: Global,
-    tables: &Tables,
-    place: Span,
-    named: &Mark<Use>,
-    notes: &mut Notes,
-) -> Result<Option<Ty>, AllocError>
-    ensures { Judges (marks.named_type tables.now place named.now) notes.old result notes.new }
-{
-    let told_at = Use {
-        span: place,
-        denoted: named.first.denoted,
-    };
-    mark_judged(alloc, tables, told_at, named.rest.as_slice(), notes)
-}
 
 /// Makes a formal of each of these names.
 fn formals_of(

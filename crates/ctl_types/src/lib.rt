@@ -3,6 +3,7 @@
 //! "RM" is ISO/IEC 8652:2012.
 #![tactic(auto)]
 
+pub mod accesses;
 pub mod assignments;
 pub mod associations;
 pub mod draft;
@@ -10,10 +11,13 @@ pub mod formals;
 pub mod freezing;
 pub mod headings;
 pub mod masters;
+pub mod named_types;
 pub mod operations;
 pub mod order;
 pub mod overriding;
-pub mod subprograms;
+pub mod pool_clauses;
 pub mod raises;
+pub mod rows;
+pub mod subprograms;
 pub mod types;
 pub mod view;

@@ -4,11 +4,11 @@ ghost use Rattle.std.specs.Prelude.{◌≡◌, slice_get};
 ghost use Rattle.ctl_types.specs.Freezing as spec;
 
 use crate::draft::{Around, Draft, Waiting};
+use ctl_program::types::{Operations, Ty};
+use ctl_tree::fault::FaultCode;
 use ctl_typing::judging::note_early;
 use ctl_typing::notes::{Deed, Notes};
 use ctl_typing::table::{ComponentEntry, RecordEntry, RecordState, States};
-use ctl_program::types::{Operations, Ty};
-use ctl_tree::fault::FaultCode;
 use sqlite_items::Items;
 
 /// Answers the later of two subprograms that may be called.
@@ -37,7 +37,9 @@ fn called_by_access(states: &States, number: usize) -> Option<usize>
     ensures { result ≡ spec.called_by_access states.now.records (slice_get states.now.accesses number) }
 {
     let (_, pool) = sqlite_items::at(states.accesses.as_slice(), number)?.pool?;
-    sqlite_items::at(states.records.as_slice(), pool)?.operations.allocate
+    sqlite_items::at(states.records.as_slice(), pool)?
+        .operations
+        .allocate
 }
 
 /// Answers the last subprogram that a deed calls.

@@ -5,16 +5,16 @@ ghost use Rattle.ctl_typing.specs.Judgement.{Answers};
 ghost use Rattle.ctl_types.specs.Marks as spec;
 ghost use Rattle.ctl_types.specs.Statements as statements;
 
-use ctl_typing::judging::note;
-use ctl_typing::lookup::root_of;
-use ctl_typing::notes::Notes;
-use ctl_typing::table::{Control, Entry, ObjectEntry, Standing, Tables};
 use ctl_program::types::{Root, Ty, Var};
 use ctl_syntax::denoted::{Denoted, Use};
 use ctl_syntax::item::Limitation;
 use ctl_syntax::name::Mark;
 use ctl_tree::fault::FaultCode;
 use ctl_tree::span::Span;
+use ctl_typing::judging::note;
+use ctl_typing::lookup::root_of;
+use ctl_typing::notes::Notes;
+use ctl_typing::table::{Control, Entry, ObjectEntry, Standing, Tables};
 
 /// Answers what a type descends from; a type that is no record descends from nothing.
 pub fn root_of_type(tables: &Tables, ty: Ty) -> Root

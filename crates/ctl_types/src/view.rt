@@ -4,12 +4,12 @@ ghost use Rattle.std.specs.Prelude.{◌≡◌, OnOk, length, take};
 ghost use Rattle.ctl_types.specs.Draft as spec;
 
 use crate::draft::{Around, Draft};
-use ctl_typing::judging::{note, note_early};
-use ctl_typing::table::{Entry, Mutability, ObjectEntry, Standing};
 use ctl_program::types::{Ty, Var};
 use ctl_syntax::item::Aliasing;
 use ctl_tree::fault::FaultCode;
 use ctl_tree::span::Span;
+use ctl_typing::judging::{note, note_early};
+use ctl_typing::table::{Entry, Mutability, ObjectEntry, Standing};
 use sqlite_items::Items;
 use std::alloc::{AllocError, Global};
 
