@@ -207,7 +207,11 @@ pub fn keep_indicator(specification: &Specification<Definition, Use>, draft: &mu
 {
     let named = operation_named(&specification.name.identifier.text);
     let is_broken = is_unfounded(specification.indicator, named);
-    draft.fault_when(is_broken, FaultCode::Override, specification.name.identifier.span);
+    draft.fault_when(
+        is_broken,
+        FaultCode::Override,
+        specification.name.identifier.span,
+    );
 }
 
 /// Answers operations of which this one is a subprogram of the text.

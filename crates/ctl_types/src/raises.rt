@@ -29,12 +29,7 @@ const PROGRAM_ERROR: usize = 1;
 const STORAGE_ERROR: usize = 2;
 
 /// Answers the number of the exception that a declaration declares.
-fn exception_entry(
-    tables: &Tables,
-    place: Span,
-    number: usize,
-    notes: &mut Notes,
-) -> Option<usize>
+fn exception_entry(tables: &Tables, place: Span, number: usize, notes: &mut Notes) -> Option<usize>
     ensures { Answers (spec.exception_of tables.now place number) notes.old result notes.new }
 {
     match sqlite_items::at(tables.entries.as_slice(), number) {
@@ -80,12 +75,7 @@ fn exception_named(
 }
 
 /// Judges a raise (RM 11.3).
-pub fn raising(
-    tables: &Tables,
-    place: Span,
-    mark: &Mark<Use>,
-    notes: &mut Notes,
-) -> Option<Stmt>
+pub fn raising(tables: &Tables, place: Span, mark: &Mark<Use>, notes: &mut Notes) -> Option<Stmt>
     ensures { Answers (spec.raising place mark.now tables.now) notes.old result notes.new }
 {
     match exception_named(tables, place, mark, notes) {

@@ -54,10 +54,7 @@ pub fn has_joining(second: &Operand<Expression<Use>>, rest: &[Operand<Expression
 }
 
 /// Tells whether all operands stand behind operators that join strings.
-pub fn all_joining(
-    second: &Operand<Expression<Use>>,
-    rest: &[Operand<Expression<Use>>],
-) -> bool
+pub fn all_joining(second: &Operand<Expression<Use>>, rest: &[Operand<Expression<Use>>]) -> bool
     ensures { result ≡ spec.all_joining (senses.operand_sense second.now ∷ map senses.operand_sense rest.now) }
 {
     if !is_joining(second.operator) {

@@ -7,4 +7,4 @@ use Rattle.ctl_types.proofs.raises.exceptions_chosen.Given as goal
 abbrev pub invariant-loop-one : goal.invariant-loop-one
 invariant-loop-one l =
     each (λ m. by_tables (elaboration.choice l.place m)) l.done (drop l.one-index l.marks) l.draft
-      ≡ each (λ m. by_tables (elaboration.choice l.place m)) (Some []) l.marks l.fn.draft
+    ≡ each (λ m. by_tables (elaboration.choice l.place m)) (Some []) l.marks l.fn.draft
