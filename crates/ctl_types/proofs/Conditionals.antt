@@ -1,5 +1,5 @@
 -- A conditional statement, by what is known of its arms and of what stands behind `else`.
-use Rattle.std.proofs.Common.{◌≡◌, refl, List, [], ◌∷◌, Option, Some, None}
+use Rattle.std.proofs.Common.{◌≡◌, refl, List, [], Option, Some, None}
 use Rattle.ctl_program.specs.declared.statement.Arm.{Arm}
 use Rattle.ctl_program.specs.declared.statement.Stmt.{Stmt}
 use Rattle.ctl_program.specs.declared.statement.Stmt.TheVariants as stmt

@@ -1,5 +1,5 @@
 -- Statements, items and bodies in their checked form, and the whole program (3.11, 5.1, 6.3, 11.2, 10.1.1).
-use Rattle.std.specs.Prelude.{ℕ, ◌+◌, min, Bool, true, false, ◌&&◌, ◌||◌, not, if◌then◌else◌, List, [], ◌∷◌, ◌++◌, codes, length, take, drop, map, Option, Some, None, option_map, Result, Ok, Err}
+use Rattle.std.specs.Prelude.{ℕ, ◌+◌, min, Bool, true, false, ◌&&◌, ◌||◌, if◌then◌else◌, List, [], ◌∷◌, ◌++◌, codes, length, take, map, Option, Some, None, option_map, Result, Ok, Err}
 use Rattle.ctl_tree.specs.declared.span.Span.{Span}
 use Rattle.ctl_tree.specs.declared.fault.Fault.{Fault}
 use Rattle.ctl_tree.specs.declared.fault.FaultCode.TheVariants as rule
@@ -27,7 +27,6 @@ use Rattle.ctl_program.specs.declared.statement.Stmt.{Stmt}
 use Rattle.ctl_program.specs.declared.statement.Stmt.TheVariants as stmt
 use Rattle.ctl_syntax.specs.declared.denoted.Definition.{Definition}
 use Rattle.ctl_syntax.specs.declared.denoted.Use.{Use}
-use Rattle.ctl_syntax.specs.declared.expression.Expression.{Expression}
 use Rattle.ctl_syntax.specs.declared.item.Body.{Body, Body-F, fold-Body}
 use Rattle.ctl_syntax.specs.declared.item.Branch.{Branch}
 use Rattle.ctl_syntax.specs.declared.item.Choices.{Choices}
@@ -47,8 +46,6 @@ use Rattle.ctl_syntax.specs.declared.item.Specification.{Specification}
 use Rattle.ctl_syntax.specs.declared.item.Statement.{Statement, fold-Statement}
 use Rattle.ctl_syntax.specs.declared.item.Tree.{Tree}
 use Rattle.ctl_syntax.specs.declared.name.Mark.{Mark}
-use Rattle.ctl_syntax.specs.declared.name.Suffix.{Suffix}
-use Rattle.ctl_syntax.specs.declared.name.Suffix.TheVariants as suffix
 use Rattle.ctl_syntax.specs.declared.item.Taggedness.{Taggedness}
 use Rattle.ctl_typing.specs.declared.table.FormalEntry.{FormalEntry}
 use Rattle.ctl_typing.specs.declared.table.Tables.{Tables}
@@ -79,9 +76,9 @@ use Rattle.ctl_types.specs.declared.draft.Order.TheVariants as order
 use Rattle.ctl_types.specs.declared.draft.Returning.{Returning}
 use Rattle.ctl_types.specs.declared.draft.Returning.TheVariants as returning
 use Rattle.ctl_tree.specs.Faults.{fault_at}
-use Rattle.ctl_typing.specs.Judgement.{Judgement, known, wrong, with_known, ◌>>=◌, both, each}
+use Rattle.ctl_typing.specs.Judgement.{Judgement, known, with_known, ◌>>=◌, both, each}
 use Rattle.ctl_typing.specs.Senses.{suffix_sense}
-use Rattle.ctl_typing.specs.Typing.{Sense, sense, truth_of, together}
+use Rattle.ctl_typing.specs.Typing.{Sense, sense, truth_of}
 use Rattle.ctl_types.specs.Draft.{Doing, by_tables, fault_when, declare, declare_object, enter, leave_view, next_var}
 use Rattle.ctl_types.specs.Freezing.{freeze_all, end_of_part}
 use Rattle.ctl_types.specs.Statements.{assignment, call, raising, raising_again, exiting, exception_named, operations_of}

@@ -1,6 +1,5 @@
 -- When types are frozen, and what an object that stands too early calls (13.14, 3.11).
-use Rattle.std.specs.Prelude.{ℕ, zero, suc, ◌+◌, ◌-◌, max, Bool, true, false, ◌&&◌, ◌||◌, not, if◌then◌else◌, nat_lt, nat_le, List, [], ◌∷◌, ◌++◌, length, drop, slice_get, slice_set, Option, Some, None}
-use Rattle.ctl_tree.specs.declared.span.Span.{Span}
+use Rattle.std.specs.Prelude.{ℕ, zero, suc, ◌+◌, ◌-◌, max, Bool, true, false, ◌||◌, if◌then◌else◌, nat_le, List, [], ◌∷◌, length, drop, slice_get, slice_set, Option, Some, None}
 use Rattle.ctl_tree.specs.declared.fault.FaultCode.TheVariants as rule
 use Rattle.ctl_program.specs.declared.types.Ty.{Ty}
 use Rattle.ctl_program.specs.declared.types.Ty.TheVariants as ty
@@ -12,7 +11,6 @@ use Rattle.ctl_typing.specs.declared.notes.Notes.{Notes}
 use Rattle.ctl_typing.specs.declared.notes.Deed.{Deed}
 use Rattle.ctl_typing.specs.declared.notes.Deed.TheVariants.{Freezes, Creates, Initializes, Allocates, Calls}
 use Rattle.ctl_typing.specs.declared.table.States.{States}
-use Rattle.ctl_typing.specs.declared.table.Tables.{Tables}
 use Rattle.ctl_typing.specs.declared.table.RecordEntry.{RecordEntry}
 use Rattle.ctl_typing.specs.declared.table.RecordState.{RecordState}
 use Rattle.ctl_typing.specs.declared.table.ComponentEntry.{ComponentEntry}

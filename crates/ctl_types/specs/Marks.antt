@@ -1,5 +1,5 @@
 -- The types that declarations name, the pools, and what is given by position or by name (3.2.2, 13.11, 3.7.1, 12.3).
-use Rattle.std.specs.Prelude.{ℕ, zero, suc, ◌+◌, Bool, true, false, ◌&&◌, ◌||◌, not, if◌then◌else◌, nat_eq, nat_lt, List, [], ◌∷◌, ◌++◌, codes, length, slice_get, Option, Some, None}
+use Rattle.std.specs.Prelude.{ℕ, zero, suc, Bool, true, false, ◌&&◌, ◌||◌, if◌then◌else◌, nat_eq, List, [], ◌∷◌, ◌++◌, codes, length, slice_get, Option, Some, None}
 use Rattle.ctl_grammar.specs.Spelling.{same_name}
 use Rattle.ctl_tree.specs.declared.span.Span.{Span}
 use Rattle.ctl_tree.specs.declared.fault.FaultCode.TheVariants as rule
@@ -25,8 +25,6 @@ use Rattle.ctl_typing.specs.declared.table.Control.{Control}
 use Rattle.ctl_typing.specs.declared.table.Control.TheVariants as control
 use Rattle.ctl_types.specs.declared.associations.Associated.{Associated}
 use Rattle.ctl_types.specs.declared.associations.Associated.TheVariants.{Discriminants, Deallocation}
-use Rattle.ctl_typing.specs.declared.found.Found.{Found}
-use Rattle.ctl_typing.specs.declared.found.Found.TheVariants.{TypeName}
 use Rattle.ctl_typing.specs.Judgement.{Judgement, known, but, wrong, ◌>>=◌}
 use Rattle.ctl_typing.specs.Lookup.{root_of}
 use Rattle.ctl_typing.specs.Typing.{mark_judged, has_objects, discriminant_named}

@@ -1,5 +1,5 @@
 -- The parts of the tree, with what each statement, item and body in them is.
-use Rattle.std.specs.Prelude.{ℕ, zero, suc, ◌+◌, ◌-◌, Bool, true, false, List, [], ◌∷◌, ◌++◌, map, length, take, Option, Some, None, if◌then◌else◌}
+use Rattle.std.specs.Prelude.{ℕ, zero, suc, ◌-◌, Bool, List, [], ◌∷◌, map, length, Option, Some, None, if◌then◌else◌}
 use Rattle.ctl_program.specs.declared.statement.Arm.{Arm}
 use Rattle.ctl_program.specs.declared.statement.Stmt.{Stmt}
 use Rattle.ctl_program.specs.declared.statement.Stmt.TheVariants as stmt
@@ -10,11 +10,9 @@ use Rattle.ctl_syntax.specs.declared.item.Statement.{Statement}
 use Rattle.ctl_program.specs.declared.statement.Handler.{Handler as Checked_handler}
 use Rattle.ctl_program.specs.declared.statement.Item.{Item as Checked_item}
 use Rattle.ctl_program.specs.declared.statement.Master.{Master, roll-Master}
-use Rattle.ctl_program.specs.declared.types.Ty.{Ty}
 use Rattle.ctl_tree.specs.declared.span.Span.{Span}
 use Rattle.ctl_syntax.specs.declared.item.Handler.{Handler}
 use Rattle.ctl_syntax.specs.declared.item.Item.{Item}
-use Rattle.ctl_types.specs.declared.draft.Around.{Around}
 use Rattle.ctl_types.specs.declared.draft.Draft.{Draft}
 use Rattle.ctl_types.specs.declared.draft.Giving.{Giving}
 use Rattle.ctl_types.specs.declared.draft.Order.{Order}

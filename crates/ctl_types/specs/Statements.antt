@@ -1,5 +1,5 @@
 -- The checked form of statements, but for those that hold statements themselves (5.1 to 5.8, 6.4, 6.5, 11.3, A.10.7, 13.11).
-use Rattle.std.specs.Prelude.{ℕ, Bool, true, false, ◌&&◌, not, if◌then◌else◌, List, [], ◌∷◌, slice_get, Option, Some, None}
+use Rattle.std.specs.Prelude.{ℕ, Bool, true, false, not, if◌then◌else◌, List, [], ◌∷◌, slice_get, Option, Some, None}
 use Rattle.ctl_tree.specs.declared.span.Span.{Span}
 use Rattle.ctl_tree.specs.declared.fault.FaultCode.TheVariants as rule
 use Rattle.ctl_program.specs.declared.types.Ty.{Ty}
@@ -9,7 +9,6 @@ use Rattle.ctl_program.specs.declared.types.Root.TheVariants as root
 use Rattle.ctl_program.specs.declared.types.Operations.{Operations}
 use Rattle.ctl_program.specs.declared.expression.Expr.{Expr}
 use Rattle.ctl_program.specs.declared.expression.Name.{Name as Checked_name}
-use Rattle.ctl_program.specs.declared.expression.Actual.{Actual}
 use Rattle.ctl_program.specs.declared.statement.Piece.{Piece}
 use Rattle.ctl_program.specs.declared.statement.Stmt.{Stmt}
 use Rattle.ctl_program.specs.declared.statement.Stmt.TheVariants as stmt
@@ -37,14 +36,12 @@ use Rattle.ctl_typing.specs.declared.table.RecordEntry.{RecordEntry}
 use Rattle.ctl_typing.specs.declared.table.RecordState.{RecordState}
 use Rattle.ctl_typing.specs.declared.found.Asked.{Asked}
 use Rattle.ctl_typing.specs.declared.found.Asked.TheVariants.{Anything, Exactly}
-use Rattle.ctl_typing.specs.declared.found.Typed.{Typed}
 use Rattle.ctl_typing.specs.declared.found.Place.{Place}
 use Rattle.ctl_types.specs.declared.assignments.Source.{Source}
 use Rattle.ctl_types.specs.declared.assignments.Source.TheVariants as as_source
 use Rattle.ctl_types.specs.declared.assignments.Target.{Target}
 use Rattle.ctl_typing.specs.declared.found.Found.{Found}
 use Rattle.ctl_typing.specs.declared.found.Found.TheVariants.{Part, Computed, Discriminant, View}
-use Rattle.ctl_types.specs.declared.draft.Around.{Around}
 use Rattle.ctl_types.specs.declared.draft.Draft.{Draft}
 use Rattle.ctl_types.specs.declared.draft.Giving.{Giving}
 use Rattle.ctl_types.specs.declared.draft.Giving.TheVariants as giving

@@ -1,5 +1,5 @@
 -- Types and their components as they are declared (3.8, 3.9.1, 3.10, 13.11), and the pools of access types.
-use Rattle.std.specs.Prelude.{ℕ, ◌+◌, min, Bool, true, false, ◌&&◌, ◌||◌, not, if◌then◌else◌, nat_eq, nat_lt, nat_le, List, [], ◌∷◌, ◌++◌, length, slice_get, Option, Some, None, option_map}
+use Rattle.std.specs.Prelude.{ℕ, ◌+◌, min, Bool, true, false, ◌&&◌, ◌||◌, if◌then◌else◌, nat_eq, nat_lt, nat_le, List, [], ◌∷◌, ◌++◌, length, slice_get, Option, Some, None, option_map}
 use Rattle.ctl_grammar.specs.Spelling.{same_name}
 use Rattle.ctl_tree.specs.declared.span.Span.{Span}
 use Rattle.ctl_tree.specs.declared.fault.FaultCode.{FaultCode}
@@ -10,7 +10,6 @@ use Rattle.ctl_program.specs.declared.types.Root.{Root}
 use Rattle.ctl_program.specs.declared.types.Root.TheVariants as root
 use Rattle.ctl_program.specs.declared.types.Var.{Var}
 use Rattle.ctl_program.specs.declared.types.Component.{Component}
-use Rattle.ctl_program.specs.declared.types.Operations.{Operations}
 use Rattle.ctl_program.specs.declared.expression.Expr.{Expr}
 use Rattle.ctl_program.specs.declared.statement.Item.{Item as Checked_item}
 use Rattle.ctl_program.specs.declared.statement.Item.TheVariants as made
@@ -20,7 +19,6 @@ use Rattle.ctl_syntax.specs.declared.denoted.LibraryName.{LibraryName}
 use Rattle.ctl_syntax.specs.declared.denoted.LibraryName.TheVariants as library
 use Rattle.ctl_syntax.specs.declared.denoted.Use.{Use}
 use Rattle.ctl_syntax.specs.declared.denoted.Definition.{Definition}
-use Rattle.ctl_syntax.specs.declared.expression.Expression.{Expression}
 use Rattle.ctl_syntax.specs.declared.item.Components.{Components}
 use Rattle.ctl_syntax.specs.declared.item.Coverage.{Coverage}
 use Rattle.ctl_syntax.specs.declared.item.Coverage.TheVariants as coverage
@@ -28,11 +26,9 @@ use Rattle.ctl_syntax.specs.declared.item.Generality.{Generality}
 use Rattle.ctl_syntax.specs.declared.item.Generality.TheVariants as generality
 use Rattle.ctl_syntax.specs.declared.item.Limitation.{Limitation}
 use Rattle.ctl_syntax.specs.declared.item.Limitation.TheVariants as limitation
-use Rattle.ctl_syntax.specs.declared.item.Taggedness.{Taggedness}
 use Rattle.ctl_syntax.specs.declared.item.Taggedness.TheVariants as taggedness
 use Rattle.ctl_syntax.specs.declared.name.Identifier.{Identifier}
 use Rattle.ctl_syntax.specs.declared.name.Mark.{Mark}
-use Rattle.ctl_typing.specs.declared.notes.Deed.{Deed}
 use Rattle.ctl_typing.specs.declared.notes.Deed.TheVariants.{Freezes}
 use Rattle.ctl_typing.specs.declared.table.Tables.{Tables}
 use Rattle.ctl_typing.specs.declared.table.Entry.{Entry}
@@ -54,11 +50,11 @@ use Rattle.ctl_typing.specs.declared.found.Asked.TheVariants.{Exactly}
 use Rattle.ctl_types.specs.declared.draft.Draft.{Draft}
 use Rattle.ctl_types.specs.declared.draft.Around.{Around}
 use Rattle.ctl_types.specs.declared.draft.Enclosing.{Enclosing}
-use Rattle.ctl_typing.specs.Judgement.{Judgement, known, but, wrong, ◌>>=◌, both, following, each, with_early}
+use Rattle.ctl_typing.specs.Judgement.{Judgement, known, but, wrong, ◌>>=◌, each, with_early}
 use Rattle.ctl_typing.specs.Lookup.{component_of, root_of}
 use Rattle.ctl_typing.specs.Typing.{Sense, sense, discriminant_named, together}
-use Rattle.ctl_types.specs.Draft.{Doing, noted, by_tables, broken, early_when, fault_when, asking, deeds_of, asked, enter, take_slot, next_var}
-use Rattle.ctl_types.specs.Marks.{concrete_type, named_type, no_pool, is_controlled, is_pool_root, pool_named}
+use Rattle.ctl_types.specs.Draft.{Doing, by_tables, early_when, fault_when, asking, deeds_of, asked, enter, take_slot, next_var}
+use Rattle.ctl_types.specs.Marks.{concrete_type, named_type, no_pool, is_controlled, pool_named}
 use Rattle.ctl_types.specs.Freezing.{changed, changed_each, with_accesses, is_free_type, done_by}
 use Rattle.ctl_types.specs.Statements.{is_limited, operations_of}
 

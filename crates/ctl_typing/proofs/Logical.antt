@@ -10,7 +10,7 @@ use Rattle.ctl_syntax.specs.declared.operators.LogicalOperator.TheVariants as lo
 use Rattle.ctl_typing.specs.declared.table.Tables.{Tables}
 use Rattle.ctl_typing.specs.declared.found.Asked.{Asked}
 use Rattle.ctl_typing.specs.declared.notes.Notes.{Notes}
-use Rattle.ctl_typing.specs.Judgement.{Judging, Judgement, known, with_known, ◌>>=◌, paired, beside, both, appended, each, each_on}
+use Rattle.ctl_typing.specs.Judgement.{Judgement, known, with_known, ◌>>=◌, paired, beside, both, appended, each, each_on}
 use Rattle.ctl_typing.specs.Senses.{whole, two_truths, truths_behind, logical_value, boolean_at}
 use Rattle.ctl_typing.specs.Typing.{Sense, truth_of, truths_of, logical_operand, logical_judged}
 

@@ -1,5 +1,5 @@
 -- The parts of the tree, with what is known of each expression in them.
-use Rattle.std.specs.Prelude.{ℕ, Option, Some, ◌+◌, if◌then◌else◌, List, [], ◌∷◌, map}
+use Rattle.std.specs.Prelude.{ℕ, Some, ◌+◌, if◌then◌else◌, List, [], ◌∷◌, map}
 use Rattle.ctl_syntax.specs.declared.denoted.Use.{Use}
 use Rattle.ctl_syntax.specs.declared.name.Name.{Name}
 use Rattle.ctl_syntax.specs.declared.name.Suffix.{Suffix}
