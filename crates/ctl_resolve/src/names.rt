@@ -101,20 +101,11 @@ fn undeclared(view: &View, first: &Identifier, rest: &[Identifier]) -> Meaning
     if let Some(operation) = operation_named(name) {
         return Meaning::Means(Denoted::Operation(operation), 0);
     }
-    way_meaning(
-        view.brought.as_slice(),
-        rest.len(),
-        way_of(first, rest),
-    )
+    way_meaning(view.brought.as_slice(), rest.len(), way_of(first, rest))
 }
 
 /// Answers what a name means, whose declaration in view is this one.
-fn meaning_by(
-    view: &View,
-    first: &Identifier,
-    rest: &[Identifier],
-    found: Option<Known>,
-) -> Meaning
+fn meaning_by(view: &View, first: &Identifier, rest: &[Identifier], found: Option<Known>) -> Meaning
     ensures { result ≡ spec.meaning_by view.now first.now rest.now found }
 {
     match found {

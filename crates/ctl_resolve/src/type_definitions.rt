@@ -76,12 +76,7 @@ fn type_defined(
         TypeDefinition::Access(generality, designated, coverage, pool) => {
             let designated = mark(alloc, view, Usage::Designated, designated)?;
             let pool = mark_or_none(alloc, view, pool)?;
-            Ok(TypeDefinition::Access(
-                *generality,
-                designated,
-                *coverage,
-                pool,
-            ))
+            Ok(TypeDefinition::Access(*generality, designated, *coverage, pool))
         }
     }
 }

@@ -12,14 +12,14 @@ pub expression-returns-in_ok-more-in-Logical : goal.expression-returns-in_ok-mor
 expression-returns-in_ok-more-in-Logical t c =
     ap (λ e. expression e c.args.view.now) c.in-Logical.is
     ∙ logical c.in-Logical.at c.in-Logical.operator c.in-Logical.first c.in-Logical.second c.in-Logical.more c.args.view.now c.boxed.new.view c.boxed-in-Logical.new.view c.expressions.new.view c.in_ok-first-in-Logical.first c.in_ok-second-in-Logical.second c.in_ok-more-in-Logical.more c.in_ok-first-in-Logical.ensures c.in_ok-second-in-Logical.ensures
-        (ap (λ ys. each expression [] ys c.boxed-in-Logical.new.view) (sym c.as_slice.ensures) ∙ c.in_ok-more-in-Logical.ensures)
+    (ap (λ ys. each expression [] ys c.boxed-in-Logical.new.view) (sym c.as_slice.ensures) ∙ c.in_ok-more-in-Logical.ensures)
 
 pub expression-returns-in_ok-second-in-Chain-2 : goal.expression-returns-in_ok-second-in-Chain-2
 expression-returns-in_ok-second-in-Chain-2 t c =
     ap (λ e. expression e c.args.view.now) c.in-Chain.is
     ∙ chain c.in-Chain.at c.in-Chain.first c.in-Chain.second c.in-Chain.more c.args.view.now c.boxed-in-Chain.new.view c.operand.new.view c.operands.new.view c.in_ok-first-in-Chain.first c.in_ok-second-in-Chain.second c.in_ok-more-in-Chain.more c.in_ok-first-in-Chain.ensures
-        (ap (λ o. named_operand o c.boxed-in-Chain.new.view) (sym c.get.ensures) ∙ c.in_ok-second-in-Chain.ensures)
-        (ap (λ ys. each named_operand [] ys c.operand.new.view) (sym c.as_slice-in-Chain.ensures) ∙ c.in_ok-more-in-Chain.ensures)
+    (ap (λ o. named_operand o c.boxed-in-Chain.new.view) (sym c.get.ensures) ∙ c.in_ok-second-in-Chain.ensures)
+    (ap (λ ys. each named_operand [] ys c.operand.new.view) (sym c.as_slice-in-Chain.ensures) ∙ c.in_ok-more-in-Chain.ensures)
     ∙ ap (λ o. (x.Chain c.in-Chain.at c.in_ok-first-in-Chain.first o c.in_ok-more-in-Chain.more, c.operands.new.view)) (sym c.in_ok-second-in-Chain-2.ensures)
 
 pub expression-returns-in_ok-name-in-Name : goal.expression-returns-in_ok-name-in-Name
@@ -36,14 +36,14 @@ pub name-returns : goal.name-returns
 name-returns t c =
     let of = c.args.of.now in
     named of c.args.view.now c.used.new.view c.suffixes.new.view c.in_ok-first.first c.in_ok-first.count c.in_ok-suffixes.suffixes
-        (ap (λ ids. used Plain of.first ids c.args.view.now) (sym (c.as_slice-2.ensures ∙ c.in_ok-rest.ensures ∙ ap leading c.as_slice.ensures)) ∙ c.in_ok-first.ensures)
-        (ap (λ xs. each named_suffix [] (drop c.in_ok-first.count xs) c.used.new.view) (sym c.as_slice-3.ensures) ∙ c.in_ok-suffixes.ensures)
+    (ap (λ ids. used Plain of.first ids c.args.view.now) (sym (c.as_slice-2.ensures ∙ c.in_ok-rest.ensures ∙ ap leading c.as_slice.ensures)) ∙ c.in_ok-first.ensures)
+    (ap (λ xs. each named_suffix [] (drop c.in_ok-first.count xs) c.used.new.view) (sym c.as_slice-3.ensures) ∙ c.in_ok-suffixes.ensures)
 
 pub suffix-returns-in_ok-more-in-Arguments : goal.suffix-returns-in_ok-more-in-Arguments
 suffix-returns-in_ok-more-in-Arguments t c =
     ap (λ s. named_suffix s c.args.view.now) c.in-Arguments.is
     ∙ arguments c.in-Arguments.at c.in-Arguments.first c.in-Arguments.more c.args.view.now c.expression.new.view c.expressions.new.view c.in_ok-first-in-Arguments.first c.in_ok-more-in-Arguments.more c.in_ok-first-in-Arguments.ensures
-        (ap (λ ys. each expression [] ys c.expression.new.view) (sym c.as_slice.ensures) ∙ c.in_ok-more-in-Arguments.ensures)
+    (ap (λ ys. each expression [] ys c.expression.new.view) (sym c.as_slice.ensures) ∙ c.in_ok-more-in-Arguments.ensures)
 
 pub expressions-loop-one-preserved : goal.expressions-loop-one-preserved
 expressions-loop-one-preserved t c =

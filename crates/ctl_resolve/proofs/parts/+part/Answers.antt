@@ -45,19 +45,19 @@ pub body-returns : goal.body-returns
 body-returns t c =
     let o = out-Body Identifier Identifier c.args.of.now in
     bodied c.args.of.now c.args.view.now c.items.new.view c.statements.new.view c.handlers.new.view c.in_ok-items.items c.in_ok-statements.statements c.in_ok-handlers.handlers
-        (ap (λ ys. each item_of [] ys c.args.view.now) (sym c.as_slice.ensures) ∙ c.in_ok-items.ensures)
-        (ap (λ w. each statement [] o.statements w) (sym c.note_unfinished.ensures) ∙ ap (λ ys. each statement [] ys c.note_unfinished.new.view) (sym c.as_slice-2.ensures) ∙ c.in_ok-statements.ensures)
-        (ap (λ w. each named_handler [] o.handlers w) (sym (c.in_ok-note_choices.ensures ∙ ap (λ hs. note_choices hs c.statements.new.view) c.as_slice-3.ensures)) ∙ ap (λ ys. each named_handler [] ys c.note_choices.new.view) (sym c.as_slice-4.ensures) ∙ c.in_ok-handlers.ensures)
+    (ap (λ ys. each item_of [] ys c.args.view.now) (sym c.as_slice.ensures) ∙ c.in_ok-items.ensures)
+    (ap (λ w. each statement [] o.statements w) (sym c.note_unfinished.ensures) ∙ ap (λ ys. each statement [] ys c.note_unfinished.new.view) (sym c.as_slice-2.ensures) ∙ c.in_ok-statements.ensures)
+    (ap (λ w. each named_handler [] o.handlers w) (sym (c.in_ok-note_choices.ensures ∙ ap (λ hs. note_choices hs c.statements.new.view) c.as_slice-3.ensures)) ∙ ap (λ ys. each named_handler [] ys c.note_choices.new.view) (sym c.as_slice-4.ensures) ∙ c.in_ok-handlers.ensures)
 
 pub guarded-returns : goal.guarded-returns
 guarded-returns t c =
     guarding c.args.of.now c.args.view.now c.expression.new.view c.statements.new.view c.in_ok-condition.condition c.in_ok-statements.statements c.in_ok-condition.ensures
-        (ap (λ ys. each statement [] ys c.expression.new.view) (sym c.as_slice.ensures) ∙ c.in_ok-statements.ensures)
+    (ap (λ ys. each statement [] ys c.expression.new.view) (sym c.as_slice.ensures) ∙ c.in_ok-statements.ensures)
 
 pub handler-returns : goal.handler-returns
 handler-returns t c =
     handling c.args.of.now c.args.view.now c.choices.new.view c.statements.new.view c.in_ok-choices.choices c.in_ok-statements.statements c.in_ok-choices.ensures
-        (ap (λ ys. each statement [] ys c.choices.new.view) (sym c.as_slice.ensures) ∙ c.in_ok-statements.ensures)
+    (ap (λ ys. each statement [] ys c.choices.new.view) (sym c.as_slice.ensures) ∙ c.in_ok-statements.ensures)
 
 pub repeated-returns : goal.repeated-returns
 repeated-returns t c =
@@ -77,17 +77,17 @@ pub statement-returns-in_ok-others-in-If : goal.statement-returns-in_ok-others-i
 statement-returns-in_ok-others-in-If t c =
     ap (λ e. statement e c.args.view.now) c.in-If.is
     ∙ conditional c.in-If.at c.in-If.first c.in-If.more c.in-If.others c.args.view.now c.guarded.new.view c.branches.new.view c.statements.new.view c.in_ok-first-in-If.first c.in_ok-more-in-If.more c.in_ok-others-in-If.others c.in_ok-first-in-If.ensures
-        (ap (λ ys. each named_branch [] ys c.guarded.new.view) (sym c.as_slice.ensures) ∙ c.in_ok-more-in-If.ensures)
-        (ap (λ ys. each statement [] ys c.branches.new.view) (sym c.as_slice-in-If.ensures) ∙ c.in_ok-others-in-If.ensures)
+    (ap (λ ys. each named_branch [] ys c.guarded.new.view) (sym c.as_slice.ensures) ∙ c.in_ok-more-in-If.ensures)
+    (ap (λ ys. each statement [] ys c.branches.new.view) (sym c.as_slice-in-If.ensures) ∙ c.in_ok-others-in-If.ensures)
 
 pub statement-returns-in_ok-repeated-in-Loop : goal.statement-returns-in_ok-repeated-in-Loop
 statement-returns-in_ok-repeated-in-Loop t c =
     ap (λ e. statement e c.args.view.now) c.in-Loop.is
     ∙ endless c.in-Loop.at c.in-Loop.all c.args.view.now c.statements-in-Loop.new.view c.in_ok-repeated-in-Loop.repeated
-        (ap (λ ys. each statement [] ys c.args.view.now) (sym c.as_slice-in-Loop.ensures) ∙ c.in_ok-repeated-in-Loop.ensures)
+    (ap (λ ys. each statement [] ys c.args.view.now) (sym c.as_slice-in-Loop.ensures) ∙ c.in_ok-repeated-in-Loop.ensures)
 
 pub statement-returns-in_ok-repeated-in-While : goal.statement-returns-in_ok-repeated-in-While
 statement-returns-in_ok-repeated-in-While t c =
     ap (λ e. statement e c.args.view.now) c.in-While.is
     ∙ while_true c.in-While.at c.in-While.condition c.in-While.all c.args.view.now c.expression-in-While.new.view c.statements-in-While.new.view c.in_ok-condition-in-While.condition c.in_ok-repeated-in-While.repeated c.in_ok-condition-in-While.ensures
-        (ap (λ ys. each statement [] ys c.expression-in-While.new.view) (sym c.as_slice-in-While.ensures) ∙ c.in_ok-repeated-in-While.ensures)
+    (ap (λ ys. each statement [] ys c.expression-in-While.new.view) (sym c.as_slice-in-While.ensures) ∙ c.in_ok-repeated-in-While.ensures)
