@@ -8,7 +8,7 @@ use Rattle.ctl_syntax.specs.declared.item.Item.{Item}
 use Rattle.ctl_syntax.specs.declared.item.Statement.{Statement}
 use Rattle.ctl_syntax.specs.declared.item.Body.{Body, roll-Body, out-Body, fold_out-Body}
 use Rattle.ctl_resolve.specs.declared.view.View.{View}
-use Rattle.ctl_resolve.specs.Naming.{Naming, pure, then_by, ◌>>=◌, after, each}
+use Rattle.ctl_resolve.specs.Naming.{pure, then_by, ◌>>=◌, after, each}
 use Rattle.ctl_resolve.specs.Parts.{Named_statement, Named_body, Named_item, step_statement, step_body, step_item, item_of, statement, statements, body_of, handler, handler_parts, named_handler, note_unfinished, note_choices, chosen_in, chosen_by, Chosen, in_view}
 use Rattle.ctl_resolve.proofs.Each.{each_map}
 

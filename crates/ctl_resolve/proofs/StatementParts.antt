@@ -1,5 +1,5 @@
 -- What the naming of a statement is, by the naming of its parts.
-use Rattle.std.proofs.Common.{◌≡◌, refl, sym, ap, ◌∙◌, List, [], map}
+use Rattle.std.proofs.Common.{◌≡◌, refl, ap, ◌∙◌, List, [], map}
 use Rattle.ctl_tree.specs.declared.span.Span.{Span}
 use Rattle.ctl_syntax.specs.declared.denoted.Definition.{Definition}
 use Rattle.ctl_syntax.specs.declared.denoted.Use.{Use}
@@ -17,7 +17,7 @@ use Rattle.ctl_resolve.specs.declared.view.Stage.TheVariants.{Complete}
 use Rattle.ctl_resolve.specs.Naming.{Naming, pure, then_by, ◌>>=◌, each}
 use Rattle.ctl_resolve.specs.Expressions.{expression}
 use Rattle.ctl_resolve.specs.Declarations.{new_name}
-use Rattle.ctl_resolve.specs.Parts.{Named_statement, step_statement, statement, statements, branch, branch_parts, named_branch, handler_parts, named_handler, choices, looped}
+use Rattle.ctl_resolve.specs.Parts.{Named_statement, step_statement, statement, statements, branch, branch_parts, named_branch, named_handler, choices, looped}
 use Rattle.ctl_resolve.proofs.Each.{each_map}
 
 -- One layer -------------------------------------------------------------------------------------------

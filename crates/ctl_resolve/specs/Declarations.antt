@@ -54,7 +54,7 @@ is_overridden_here v (Some o) = is_overridden o (drop v.part.start v.table)
 
 -- Does the region declare the name? Overrides of an operation have its name too.
 abbrev pub is_taken : View → Identifier → Bool
-is_taken v id = is_some (own_found v sought.Direct (folded id)) || is_overridden_here v (operation_named (folded id))
+is_taken v id = is_some (own_found v sought.Direct (folded id)) || is_overridden_here v (operation_named id.text)
 
 abbrev pub definition : Identifier → ℕ → ℕ → Definition
 definition id number level = record { identifier = id; number = number; level = level }
@@ -114,7 +114,7 @@ filed_by v s (Some o) = filed_override v o s.formals
 
 -- what a subprogram is filed under
 abbrev pub filed : View → Specification Identifier Identifier → Filing
-filed v s = filed_by v s (operation_named (folded s.name))
+filed v s = filed_by v s (operation_named s.name.text)
 
 abbrev pub sought_of : Role → Sought
 sought_of role.Direct = sought.Direct

@@ -41,7 +41,7 @@ way_on u k n on (Some c) = on c
 -- from a unit, where the first of these identifiers has this number in the name
 abbrev pub way_from : LibraryUnit → ℕ → List Identifier → Way
 way_from u k [] = Reaches u
-way_from u k (id ∷ ids) = way_on u k (folded id) (λ c. way_from c (k + 1) ids) (child_of u (folded id))
+way_from u k (id ∷ ids) = way_on u k id.text (λ c. way_from c (k + 1) ids) (child_of u id.text)
 
 abbrev pub way_of_root : List Identifier → Option LibraryUnit → Option Way
 way_of_root rest None = None
@@ -49,7 +49,7 @@ way_of_root rest (Some u) = Some (way_from u 1 rest)
 
 -- where a path leads
 abbrev pub way_of : Identifier → List Identifier → Option Way
-way_of id rest = way_of_root rest (root_unit (folded id))
+way_of id rest = way_of_root rest (root_unit id.text)
 
 -- a unit that no with clause brings; Ada itself is no unit, and is visible where a child of it is
 abbrev pub not_brought : LibraryUnit → Meaning
@@ -77,7 +77,7 @@ elsewhere v id rest None = way_meaning v.brought (length rest) (way_of id rest)
 -- Standard's names, and those that use clauses make direct, stand outermost (8.4(8)).
 abbrev pub undeclared : View → Identifier → List Identifier → Option LibraryName → Meaning
 undeclared v id rest (Some l) = Means (denoted.Library l) 0
-undeclared v id rest None = elsewhere v id rest (operation_named (folded id))
+undeclared v id rest None = elsewhere v id rest (operation_named id.text)
 
 -- A declaration gives no name before its end (8.3(17)).
 abbrev pub declared : Known → Meaning
@@ -85,7 +85,7 @@ declared k = if is_hidden k.stage then UnknownAt 0 else Means (denoted.Declared 
 
 abbrev pub meaning_by : View → Identifier → List Identifier → Option Known → Meaning
 meaning_by v id rest (Some k) = declared k
-meaning_by v id rest None = undeclared v id rest (direct_name v.used (folded id))
+meaning_by v id rest None = undeclared v id rest (direct_name v.used id.text)
 
 -- what a name means that begins with these identifiers
 abbrev pub meaning : View → Identifier → List Identifier → Meaning

@@ -1,7 +1,7 @@
 -- The library units, and what they declare (A.1, 10.1.1).
 use Rattle.std.specs.Prelude.{ℕ, ◌==◌, Bool, List, [], ◌∷◌, Option, Some, None, codes}
 use Rattle.std.specs.List.{find, list_any}
-use Rattle.std.specs.Str.{bytes_eq}
+use Rattle.ctl_grammar.specs.Spelling.{same_name}
 use Rattle.ctl_syntax.specs.declared.denoted.LibraryName.{LibraryName}
 use Rattle.ctl_syntax.specs.declared.denoted.LibraryName.TheVariants as name
 use Rattle.ctl_syntax.specs.declared.denoted.OperationName.{OperationName}
@@ -113,13 +113,13 @@ operations = operation.Initialize ∷ operation.Adjust ∷ operation.Finalize �
 -- What a name names --------------------------------------------------------------------------------
 
 unfoldable pub is_unit : List ℕ → LibraryUnit → Bool
-is_unit n u = bytes_eq n (unit_spelling u)
+is_unit n u = same_name n (unit_spelling u)
 
 unfoldable pub is_name : List ℕ → LibraryName → Bool
-is_name n l = bytes_eq n (name_spelling l)
+is_name n l = same_name n (name_spelling l)
 
 unfoldable pub is_operation : List ℕ → OperationName → Bool
-is_operation n o = bytes_eq n (operation_spelling o)
+is_operation n o = same_name n (operation_spelling o)
 
 -- the unit of this name that is no child of another
 unfoldable pub root_unit : List ℕ → Option LibraryUnit

@@ -1,10 +1,9 @@
 -- Naming: what a construct is once its names have what they denote, and what is in view behind it, with the first fault by place. No fault ends the
 -- naming; each is noted, and the first by place is kept.
-use Rattle.std.specs.Prelude.{◌≡◌, ℕ, ◌+◌, nat_lt, min, Bool, true, false, List, [], ◌∷◌, ◌++◌, length, take, Option, Some, None, Result, Ok, Err, if◌then◌else◌}
+use Rattle.std.specs.Prelude.{◌≡◌, ℕ, ◌+◌, min, Bool, List, [], ◌∷◌, ◌++◌, length, take, Option, Some, None, Result, Ok, Err, if◌then◌else◌}
 use Rattle.ctl_tree.specs.declared.span.Span.{Span}
 use Rattle.ctl_tree.specs.Faults.{first_of, fault_at}
 use Rattle.ctl_tree.specs.declared.fault.FaultCode.{FaultCode}
-use Rattle.ctl_tree.specs.declared.fault.FaultCode.TheVariants as rule
 use Rattle.ctl_resolve.specs.declared.view.Stage.{Stage}
 use Rattle.ctl_resolve.specs.declared.view.Role.{Role}
 use Rattle.ctl_resolve.specs.declared.view.Part.{Part}

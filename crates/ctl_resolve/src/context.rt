@@ -14,12 +14,12 @@ use sqlite_items::Items;
 use std::alloc::{AllocError, Global};
 
 /// Answers the unit that a path names.
-fn unit_named(alloc: Global, of: &Mark<Identifier>) -> Result<Option<Unit>, AllocError>
-    ensures { IfOk result (λ unit. unit ≡ spec.unit_named of.now) }
+fn unit_named(of: &Mark<Identifier>) -> Option<Unit>
+    ensures { result ≡ spec.unit_named of.now }
 {
-    match way_of(alloc, &of.first, of.rest.as_slice())? {
-        Some(Way::Reaches(unit)) => Ok(Some(unit)),
-        _ => Ok(None),
+    match way_of(&of.first, of.rest.as_slice()) {
+        Some(Way::Reaches(unit)) => Some(unit),
+        _ => None,
     }
 }
 
@@ -49,26 +49,22 @@ fn bring(units: &mut Items<Unit>, unit: Option<Unit>) -> Result<(), AllocError>
 }
 
 /// Brings the units of a with clause.
-fn bring_each(
-    alloc: Global,
-    units: &mut Items<Unit>,
-    all: &[Mark<Identifier>],
-) -> Result<(), AllocError>
+fn bring_each(units: &mut Items<Unit>, all: &[Mark<Identifier>]) -> Result<(), AllocError>
     ensures { OnOk result (units.new ≡ spec.bring_each units.old all.now) }
 {
     for one in all {
-        let unit = unit_named(alloc, one)?;
+        let unit = unit_named(one);
         bring(units, unit)?;
     }
     Ok(())
 }
 
 /// Brings the units of a clause, if it is a with clause.
-fn brought_by(alloc: Global, units: &mut Items<Unit>, clause: &Context) -> Result<(), AllocError>
+fn brought_by(units: &mut Items<Unit>, clause: &Context) -> Result<(), AllocError>
     ensures { OnOk result (units.new ≡ spec.brought_by units.old clause.now) }
 {
     match clause.kind {
-        ContextKind::With => bring_each(alloc, units, clause.units.as_slice()),
+        ContextKind::With => bring_each(units, clause.units.as_slice()),
         ContextKind::Use => Ok(()),
     }
 }
@@ -79,7 +75,7 @@ pub fn brought(alloc: Global, contexts: &[Context]) -> Result<Items<Unit>, Alloc
 {
     let mut units = Items::new(alloc);
     for clause in contexts {
-        brought_by(alloc, &mut units, clause)?;
+        brought_by(&mut units, clause)?;
     }
     Ok(units)
 }
@@ -100,27 +96,23 @@ fn open_unit(units: &mut Items<Unit>, unit: Option<Unit>) -> Result<(), AllocErr
 }
 
 /// Opens the units of a use clause.
-fn open_each(
-    alloc: Global,
-    units: &mut Items<Unit>,
-    all: &[Mark<Identifier>],
-) -> Result<(), AllocError>
+fn open_each(units: &mut Items<Unit>, all: &[Mark<Identifier>]) -> Result<(), AllocError>
     ensures { OnOk result (units.new ≡ spec.open_each units.old all.now) }
 {
     for one in all {
-        let unit = unit_named(alloc, one)?;
+        let unit = unit_named(one);
         open_unit(units, unit)?;
     }
     Ok(())
 }
 
 /// Opens the units of a clause, if it is a use clause.
-fn opened_by(alloc: Global, units: &mut Items<Unit>, clause: &Context) -> Result<(), AllocError>
+fn opened_by(units: &mut Items<Unit>, clause: &Context) -> Result<(), AllocError>
     ensures { OnOk result (units.new ≡ spec.opened_by units.old clause.now) }
 {
     match clause.kind {
         ContextKind::With => Ok(()),
-        ContextKind::Use => open_each(alloc, units, clause.units.as_slice()),
+        ContextKind::Use => open_each(units, clause.units.as_slice()),
     }
 }
 
@@ -130,7 +122,7 @@ pub fn opened(alloc: Global, contexts: &[Context]) -> Result<Items<Unit>, AllocE
 {
     let mut units = Items::new(alloc);
     for clause in contexts {
-        opened_by(alloc, &mut units, clause)?;
+        opened_by(&mut units, clause)?;
     }
     Ok(units)
 }
@@ -147,47 +139,34 @@ fn with_meaning(count: usize, way: Option<Way>) -> Meaning
 }
 
 /// Notes what is wrong with a unit that a clause names.
-fn note_clause(
-    alloc: Global,
-    view: &mut View,
-    kind: ContextKind,
-    of: &Mark<Identifier>,
-) -> Result<(), AllocError>
-    ensures { OnOk result (view.new ≡ spec.note_clause kind of.now view.old) }
+fn note_clause(view: &mut View, kind: ContextKind, of: &Mark<Identifier>)
+    ensures { view.new ≡ spec.note_clause kind of.now view.old }
 {
     let count = of.rest.len();
-    let way = way_of(alloc, &of.first, of.rest.as_slice())?;
+    let way = way_of(&of.first, of.rest.as_slice());
     let meaning = match kind {
         ContextKind::With => with_meaning(count, way),
         ContextKind::Use => way_meaning(view.brought.as_slice(), count, way),
     };
     note_meaning(view, &of.first, of.rest.as_slice(), meaning);
-    Ok(())
 }
 
 /// Notes what is wrong with the units that a clause names.
-fn note_clauses(
-    alloc: Global,
-    view: &mut View,
-    kind: ContextKind,
-    all: &[Mark<Identifier>],
-) -> Result<(), AllocError>
-    ensures { OnOk result (view.new ≡ spec.note_clauses kind all.now view.old) }
+fn note_clauses(view: &mut View, kind: ContextKind, all: &[Mark<Identifier>])
+    ensures { view.new ≡ spec.note_clauses kind all.now view.old }
 {
     for one in all {
-        note_clause(alloc, view, kind, one)?;
+        note_clause(view, kind, one);
     }
-    Ok(())
 }
 
 /// Notes what is wrong with the clauses of the context.
-pub fn note_contexts(alloc: Global, view: &mut View, contexts: &[Context]) -> Result<(), AllocError>
-    ensures { OnOk result (view.new ≡ spec.note_contexts contexts.now view.old) }
+pub fn note_contexts(view: &mut View, contexts: &[Context])
+    ensures { view.new ≡ spec.note_contexts contexts.now view.old }
 {
     for clause in contexts {
-        note_clauses(alloc, view, clause.kind, clause.units.as_slice())?;
+        note_clauses(view, clause.kind, clause.units.as_slice());
     }
-    Ok(())
 }
 
 /// Copies a path.

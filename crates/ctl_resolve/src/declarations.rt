@@ -65,7 +65,7 @@ pub fn is_taken(alloc: Global, view: &View, id: &Identifier) -> Result<bool, All
 {
     let name = folded(alloc, id)?;
     let found = own_found(view, Sought::Direct, name.as_slice());
-    Ok(found.is_some() || is_overridden_here(view, operation_named(name.as_slice())))
+    Ok(found.is_some() || is_overridden_here(view, operation_named(id.text.as_bytes())))
 }
 
 /// Answers the definition of a name that is declared next.

@@ -3,6 +3,7 @@
 ghost use Rattle.std.specs.Prelude.{◌≡◌};
 ghost use Rattle.ctl_resolve.specs.Library as spec;
 
+use ctl_grammar::spelling::is_same_name;
 use ctl_syntax::denoted::{LibraryName, OperationName};
 
 /// A library unit, or the parent of one.
@@ -191,12 +192,12 @@ fn operations() -> &'static [OperationName]
     ]
 }
 
-/// Tells whether this is the name of a unit.
+/// Tells whether this is the last word of the name of a unit (RM 2.3).
 #[tactic(auto, unfolding(crate::specs::Library::is_unit))]
 fn is_unit(name: &[u8], unit: Unit) -> bool
     ensures { result ≡ spec.is_unit name.now unit }
 {
-    name == unit_spelling(unit)
+    is_same_name(name, unit_spelling(unit))
 }
 
 /// Tells whether this is a name of the library.
@@ -204,7 +205,7 @@ fn is_unit(name: &[u8], unit: Unit) -> bool
 fn is_name(name: &[u8], candidate: LibraryName) -> bool
     ensures { result ≡ spec.is_name name.now candidate }
 {
-    name == name_spelling(candidate)
+    is_same_name(name, name_spelling(candidate))
 }
 
 /// Tells whether this is the name of an operation.
@@ -212,7 +213,7 @@ fn is_name(name: &[u8], candidate: LibraryName) -> bool
 fn is_operation(name: &[u8], operation: OperationName) -> bool
     ensures { result ≡ spec.is_operation name.now operation }
 {
-    name == operation_spelling(operation)
+    is_same_name(name, operation_spelling(operation))
 }
 
 /// Finds the unit of this name that is no child of another.

@@ -17,35 +17,27 @@ use ctl_tree::span::Span;
 use std::alloc::{AllocError, Global};
 
 /// Answers where these identifiers lead from a unit, where the first of them is number 1 of its name.
-fn way_from(alloc: Global, root: Unit, rest: &[Identifier]) -> Result<Way, AllocError>
-    ensures { IfOk result (λ w. w ≡ spec.way_from root 1 rest.now) }
+fn way_from(root: Unit, rest: &[Identifier]) -> Way
+    ensures { result ≡ spec.way_from root 1 rest.now }
 {
     let mut unit = root;
     for (index, identifier) in rest.iter().enumerate() {
-        let name = folded(alloc, identifier)?;
-        match child_of(unit, name.as_slice()) {
+        let name = identifier.text.as_bytes();
+        match child_of(unit, name) {
             Some(child) => unit = child,
-            None => return Ok(Way::Stops(unit, index + 1, name_in(unit, name.as_slice()))),
+            None => return Way::Stops(unit, index + 1, name_in(unit, name)),
         }
     }
-    Ok(Way::Reaches(unit))
+    Way::Reaches(unit)
 }
 
 /// Answers where a path leads, if it begins with a library unit.
-pub fn way_of(
-    alloc: Global,
-    first: &Identifier,
-    rest: &[Identifier],
-) -> Result<Option<Way>, AllocError>
-    ensures { IfOk result (λ w. w ≡ spec.way_of first.now rest.now) }
+pub fn way_of(first: &Identifier, rest: &[Identifier]) -> Option<Way>
+    ensures { result ≡ spec.way_of first.now rest.now }
 {
-    let name = folded(alloc, first)?;
-    match root_unit(name.as_slice()) {
-        None => Ok(None),
-        Some(unit) => {
-            let way = way_from(alloc, unit, rest)?;
-            Ok(Some(way))
-        }
+    match root_unit(first.text.as_bytes()) {
+        None => None,
+        Some(unit) => Some(way_from(unit, rest)),
     }
 }
 
@@ -99,38 +91,26 @@ fn declared(known: Known) -> Meaning
 }
 
 /// Answers what a name means that no declaration of the text gives.
-fn undeclared(
-    alloc: Global,
-    view: &View,
-    first: &Identifier,
-    rest: &[Identifier],
-) -> Result<Meaning, AllocError>
-    ensures { IfOk result (λ m. m ≡ spec.meaning_by view.now first.now rest.now None) }
+fn undeclared(view: &View, first: &Identifier, rest: &[Identifier]) -> Meaning
+    ensures { result ≡ spec.meaning_by view.now first.now rest.now None }
 {
-    let name = folded(alloc, first)?;
-    if let Some(library) = direct_name(view.used.as_slice(), name.as_slice()) {
-        return Ok(Meaning::Means(Denoted::Library(library), 0));
+    let name = first.text.as_bytes();
+    if let Some(library) = direct_name(view.used.as_slice(), name) {
+        return Meaning::Means(Denoted::Library(library), 0);
     }
-    if let Some(operation) = operation_named(name.as_slice()) {
-        return Ok(Meaning::Means(Denoted::Operation(operation), 0));
+    if let Some(operation) = operation_named(name) {
+        return Meaning::Means(Denoted::Operation(operation), 0);
     }
-    let way = way_of(alloc, first, rest)?;
-    Ok(way_meaning(view.brought.as_slice(), rest.len(), way))
+    way_meaning(view.brought.as_slice(), rest.len(), way_of(first, rest))
 }
 
 /// Answers what a name means, whose declaration in view is this one.
-fn meaning_by(
-    alloc: Global,
-    view: &View,
-    first: &Identifier,
-    rest: &[Identifier],
-    found: Option<Known>,
-) -> Result<Meaning, AllocError>
-    ensures { IfOk result (λ m. m ≡ spec.meaning_by view.now first.now rest.now found) }
+fn meaning_by(view: &View, first: &Identifier, rest: &[Identifier], found: Option<Known>) -> Meaning
+    ensures { result ≡ spec.meaning_by view.now first.now rest.now found }
 {
     match found {
-        Some(known) => Ok(declared(known)),
-        None => undeclared(alloc, view, first, rest),
+        Some(known) => declared(known),
+        None => undeclared(view, first, rest),
     }
 }
 
@@ -145,7 +125,7 @@ pub fn meaning(
 {
     let name = folded(alloc, first)?;
     let found = view.table.find(Sought::Direct, name.as_slice());
-    meaning_by(alloc, view, first, rest, found)
+    Ok(meaning_by(view, first, rest, found))
 }
 
 /// Answers where the identifier of this number stands.
@@ -218,7 +198,7 @@ pub fn used(
 {
     let name = folded(alloc, first)?;
     let found = view.table.find(Sought::Direct, name.as_slice());
-    let meaning = meaning_by(alloc, view, first, rest, found)?;
+    let meaning = meaning_by(view, first, rest, found);
     note_meaning(view, first, rest, meaning);
     note_if(
         view,

@@ -106,11 +106,10 @@ pub fn filed(
 ) -> Result<Filing, AllocError>
     ensures { IfOk result (λ f. f ≡ spec.filed view.now of.now) }
 {
-    let name = folded(alloc, &of.name)?;
-    match operation_named(name.as_slice()) {
+    match operation_named(of.name.text.as_bytes()) {
         Some(operation) => filed_override(alloc, view, operation, of.formals.as_slice()),
         None => Ok(Filing {
-            key: Text::from_vec(name),
+            key: Text::from_vec(folded(alloc, &of.name)?),
             role: Role::Direct,
         }),
     }

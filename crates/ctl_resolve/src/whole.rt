@@ -65,7 +65,7 @@ pub fn named(
 {
     let contexts = tree.contexts.as_slice();
     let mut view = outermost(alloc, contexts)?;
-    note_contexts(alloc, &mut view, contexts)?;
+    note_contexts(&mut view, contexts);
     let resolved = main(alloc, &mut view, tree)?;
     Ok((resolved, view.fault))
 }

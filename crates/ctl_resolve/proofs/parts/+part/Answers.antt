@@ -1,7 +1,7 @@
-use Rattle.std.proofs.Common.{arith, ◌≡◌, sym, [], ap, ◌∙◌, ◌+◌, drop, map}
+use Rattle.std.proofs.Common.{arith, sym, [], ap, ◌∙◌, ◌+◌, drop, map}
 use Rattle.ctl_syntax.specs.declared.name.Identifier.{Identifier}
 use Rattle.ctl_syntax.specs.declared.item.Body.{out-Body}
-use Rattle.ctl_resolve.specs.Naming.{each, changed, leave, enter_region}
+use Rattle.ctl_resolve.specs.Naming.{each, changed, leave}
 use Rattle.ctl_resolve.specs.Parts.{item_of, statement, named_branch, named_handler, note_choices, looped}
 use Rattle.ctl_resolve.proofs.BodyParts.{bodied}
 use Rattle.ctl_resolve.proofs.StatementDepths.{others_below}
