@@ -10,4 +10,6 @@ mod machine;
 #[cfg(test)]
 mod parse;
 #[cfg(test)]
+mod resolve;
+#[cfg(test)]
 mod text;
