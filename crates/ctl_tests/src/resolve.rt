@@ -81,7 +81,11 @@ fn the_first_broken_rule_on_names(rt: HostRuntime) -> Result<(), Fail> {
         ),
     ];
     for (source, code, column) in faults {
-        assert_eq!(rt; fault_of(rt.alloc(), source), Some((code, 1, column)), "{source}");
+        assert_eq!(rt;
+            fault_of(rt.alloc(), source),
+            Some((code, 1, column)),
+            "{source}"
+        );
     }
     Ok(())
 }
