@@ -4,6 +4,9 @@ pub mod Forms
 pub mod Keeping
 pub mod PartViews
 pub mod Parts
+pub mod ReadExpressions
+pub mod ReadItems
+pub mod ReadTrees
 pub mod Rows
 pub mod Steps
 pub mod Terms

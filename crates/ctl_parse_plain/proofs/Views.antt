@@ -40,11 +40,11 @@ view_name p n = rw (fold_out-Expression, outs-Name p n) (named p n.first _ n.suf
   | suffix.Attribute q a ↦ refl
 ]))
 
-chained : (p : Span) (a : Node) (o : Operand (Expression Identifier)) (F : Operand (Expression Identifier) → Operand Node) (xs : List (Operand (Expression Identifier))) → ((s : Operand (Expression Identifier)) → operand_node (λ v. v) (F s) ≡ operand_node view s)
-    → pair (at p) (chain_node (is_adding o.operator) a (pair (operand_node view o) (row_of (map (operand_node (λ v. v)) (map F xs))))) ≡ pair (at p) (chain_node (is_adding o.operator) a (pair (operand_node view o) (row_of (map (operand_node view) xs))))
-chained p a o F xs h = ap (λ (r : List Node). pair (at p) (chain_node (is_adding o.operator) a (pair (operand_node view o) (row_of r)))) (mapped F (operand_node (λ v. v)) (operand_node view) h xs)
+chained : (p : Span) (a : Node) (o : Operand (Expression Identifier)) (F : Operand (Expression Identifier) → Operand Node) (xs : List (Operand (Expression Identifier))) → ((s : Operand (Expression Identifier)) → operand_node (is_adding o.operator) (λ v. v) (F s) ≡ operand_node (is_adding o.operator) view s)
+    → pair (at p) (chain_node (is_adding o.operator) (at p) a (pair (operand_node (is_adding o.operator) view o) (row_of (map (operand_node (is_adding o.operator) (λ v. v)) (map F xs))))) ≡ pair (at p) (chain_node (is_adding o.operator) (at p) a (pair (operand_node (is_adding o.operator) view o) (row_of (map (operand_node (is_adding o.operator) view) xs))))
+chained p a o F xs h = ap (λ (r : List Node). pair (at p) (chain_node (is_adding o.operator) (at p) a (pair (operand_node (is_adding o.operator) view o) (row_of r)))) (mapped F (operand_node (is_adding o.operator) (λ v. v)) (operand_node (is_adding o.operator) view) h xs)
 
-pub view_chain : (p : Span) (a : Expression Identifier) (o : Operand (Expression Identifier)) (more : List (Operand (Expression Identifier))) → view (e.Chain p a o more) ≡ pair (at p) (chain_node (is_adding o.operator) (view a) (pair (operand_node view o) (row_of (map (operand_node view) more))))
+pub view_chain : (p : Span) (a : Expression Identifier) (o : Operand (Expression Identifier)) (more : List (Operand (Expression Identifier))) → view (e.Chain p a o more) ≡ pair (at p) (chain_node (is_adding o.operator) (at p) (view a) (pair (operand_node (is_adding o.operator) view o) (row_of (map (operand_node (is_adding o.operator) view) more))))
 view_chain p a o more = rw (fold_out-Expression, outs-Chain p a o more) (chained p (view a) o _ more (λ s. refl))
 
 handled : (p : Span) (n : Name Identifier (Expression Identifier)) (m w : Node) (F : Suffix (Expression Identifier) → Suffix Node) → ((s : Suffix (Expression Identifier)) → suffix_node (λ v. v) (F s) ≡ suffix_node view s)
@@ -68,7 +68,7 @@ view_new p (Some n) mark (Some y) = rw (fold_out-Expression, outs-New p (Some n)
 ]))
 
 pub chained_is : (p : Span) (a : Expression Identifier) (o : Operand (Expression Identifier)) (more : List (Operand (Expression Identifier))) → at p ≡ first (view a) → view (e.Chain p a o more) ≡ chain_of (view a) (Some (o, more))
-chained_is p a o more h = view_chain p a o more ∙ ap (λ (z : Node). pair z (chain_node (is_adding o.operator) (view a) (pair (operand_node view o) (row_of (map (operand_node view) more))))) h
+chained_is p a o more h = view_chain p a o more ∙ ap (λ (z : Node). pair z (chain_node (is_adding o.operator) z (view a) (pair (operand_node (is_adding o.operator) view o) (row_of (map (operand_node (is_adding o.operator) view) more))))) h
 
 pub spelled : (p : Span) (a : Attribute) (n : ℕ) → attribute_code a ≡ Some n → attribute_node p a ≡ tag 24 (pair (num n) (at p))
 spelled p attribute.Access n h = absurd cc

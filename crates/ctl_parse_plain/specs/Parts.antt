@@ -1,5 +1,5 @@
 -- What declarations, statements and bodies stand for.
-use Rattle.std.specs.Prelude.{ℕ, List, map, Option, Some, None}
+use Rattle.std.specs.Prelude.{ℕ, List, [], ◌∷◌, map, Option, Some, None}
 use Rattle.ctl_tree.specs.declared.span.Span.{Span}
 use Rattle.ctl_grammar.specs.Form.{Node, none, num, at, pair, tag}
 use Rattle.ctl_grammar.specs.Nodes.{first, second, row_of, yes}
@@ -146,9 +146,14 @@ item_kind_node body (item.Objects o) = tag 52 (pair (row_of (map identifier_node
 abbrev pub branch_node : {S : Type 0} → (S → Node) → Branch S Identifier → Node
 branch_node statement b = pair (view b.condition) (row_of (map statement b.statements))
 
+-- names of exceptions: in a text there is one at least
+abbrev pub exceptions_node : List (Mark Identifier) → Node
+exceptions_node [] = num 0
+exceptions_node (m ∷ ms) = pair (mark_node m) (row_of (map mark_node ms))
+
 abbrev pub choices_node : Choices Identifier → Node
 choices_node choice.Others = none
-choices_node (choice.Exceptions ms) = row_of (map mark_node ms)
+choices_node (choice.Exceptions ms) = exceptions_node ms
 
 abbrev pub handler_node : {S : Type 0} → (S → Node) → Handler S Identifier → Node
 handler_node statement h = pair (at h.span) (pair (choices_node h.choices) (row_of (map statement h.statements)))

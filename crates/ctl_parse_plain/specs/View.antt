@@ -2,7 +2,7 @@
 use Rattle.std.specs.Prelude.{ℕ, ◌==◌, Bool, true, false, ◌&&◌, not, cond, List, map, Option, Some, None}
 use Rattle.ctl_tree.specs.declared.span.Span.{Span}
 use Rattle.ctl_grammar.specs.Form.{Node, none, leaf, num, written, at, pair, tag}
-use Rattle.ctl_grammar.specs.Nodes.{first, second, part_2, is_none, tagged_part, row_of}
+use Rattle.ctl_grammar.specs.Nodes.{first, second, part_2, behind_2, is_none, tagged_part, row_of}
 use Rattle.ctl_syntax.specs.declared.name.Identifier.{Identifier}
 use Rattle.ctl_syntax.specs.declared.name.Mark.{Mark}
 use Rattle.ctl_syntax.specs.declared.name.Name.{Name}
@@ -86,15 +86,23 @@ relational_code relational.LessEqual = 3
 relational_code relational.Greater = 4
 relational_code relational.GreaterEqual = 5
 
--- the number among those that join terms, or among those that join factors
-abbrev pub arithmetic_code : ArithmeticOperator → ℕ
-arithmetic_code arithmetic.Plus = 0
-arithmetic_code arithmetic.Minus = 1
-arithmetic_code arithmetic.Concatenate = 2
-arithmetic_code arithmetic.Times = 0
-arithmetic_code arithmetic.Divide = 1
-arithmetic_code arithmetic.Mod = 2
-arithmetic_code arithmetic.Rem = 3
+-- The number among those that join terms, or among those that join factors. In a tree that no text has, the others may stand there
+-- too, and have numbers of their own.
+abbrev pub arithmetic_code : Bool → ArithmeticOperator → ℕ
+arithmetic_code true arithmetic.Plus = 0
+arithmetic_code true arithmetic.Minus = 1
+arithmetic_code true arithmetic.Concatenate = 2
+arithmetic_code true arithmetic.Times = 3
+arithmetic_code true arithmetic.Divide = 4
+arithmetic_code true arithmetic.Mod = 5
+arithmetic_code true arithmetic.Rem = 6
+arithmetic_code false arithmetic.Times = 0
+arithmetic_code false arithmetic.Divide = 1
+arithmetic_code false arithmetic.Mod = 2
+arithmetic_code false arithmetic.Rem = 3
+arithmetic_code false arithmetic.Plus = 4
+arithmetic_code false arithmetic.Minus = 5
+arithmetic_code false arithmetic.Concatenate = 6
 
 -- whether it joins terms
 abbrev pub is_adding : ArithmeticOperator → Bool
@@ -113,14 +121,15 @@ unary_node unary.Minus v = tag 8 (pair (num 1) (pair v none))
 unary_node unary.Abs v = tag 6 (pair (num 0) v)
 unary_node unary.Not v = tag 6 (pair (num 1) v)
 
-abbrev pub operand_node : {E : Type 0} → (E → Node) → Operand E → Node
-operand_node view o = pair (num (arithmetic_code o.operator)) (view o.operand)
+-- an operand of terms that are joined, or of factors, with its operator
+abbrev pub operand_node : {E : Type 0} → Bool → (E → Node) → Operand E → Node
+operand_node adding view o = pair (num (arithmetic_code adding o.operator)) (view o.operand)
 
 -- ---- expressions
 
--- whether what stands behind a place is a sum with a sign
+-- whether what stands behind a place is a sign with one term
 abbrev pub is_signed_sum : Node → Bool
-is_signed_sum (tag n v) = (n == 8) && not (is_none (first v))
+is_signed_sum (tag n v) = (n == 8) && (not (is_none (first v)) && is_none (behind_2 v))
 is_signed_sum none = false
 is_signed_sum (leaf t) = false
 is_signed_sum (num n) = false
@@ -131,20 +140,44 @@ is_signed_sum (pair a b) = false
 abbrev pub is_signed : Node → Bool
 is_signed v = is_signed_sum (second v)
 
--- a sum from its first term, which a sign may stand before, and those behind it
-abbrev pub sum_node : Node → Node → Node
-sum_node v more = cond (is_signed v) (tag 8 (pair (first (tagged_part (second v))) (pair (part_2 (tagged_part (second v))) more))) (tag 8 (pair none (pair v more)))
+abbrev pub is_same_span : Span → Span → Bool
+is_same_span p q = (p.line == q.line) && (p.column == q.column)
 
--- terms or factors with those behind them
-abbrev pub chain_node : Bool → Node → Node → Node
-chain_node true v more = sum_node v more
-chain_node false v more = tag 7 (pair v more)
+-- whether a node is this place
+abbrev pub is_at : Span → Node → Bool
+is_at p (at q) = is_same_span p q
+is_at p none = false
+is_at p (leaf t) = false
+is_at p (num n) = false
+is_at p (written s) = false
+is_at p (pair a b) = false
+is_at p (tag n v) = false
+
+-- whether two nodes are one place
+abbrev pub is_same_place : Node → Node → Bool
+is_same_place (at p) v = is_at p v
+is_same_place none v = false
+is_same_place (leaf t) v = false
+is_same_place (num n) v = false
+is_same_place (written s) v = false
+is_same_place (pair a b) v = false
+is_same_place (tag n w) v = false
+
+-- A sum from its place, its first term and those behind it. A sign before the first term is the sum's own, where it stands at the
+-- sum's place, as in every text.
+abbrev pub sum_node : Node → Node → Node → Node
+sum_node place v more = cond (is_signed v && is_same_place place (first v)) (tag 8 (pair (first (tagged_part (second v))) (pair (part_2 (tagged_part (second v))) more))) (tag 8 (pair none (pair v more)))
+
+-- terms or factors from their place, the first one and those behind it
+abbrev pub chain_node : Bool → Node → Node → Node → Node
+chain_node true place v more = sum_node place v more
+chain_node false place v more = tag 7 (pair v more)
 
 -- one layer of an expression, from the nodes of its parts
 abbrev pub expression_step : Expression-F Identifier Node → Node
 expression_step (Expression-F.Logical p o a b more) = pair (at p) (tag 10 (pair (num (logical_code o)) (pair a (pair b (row_of more)))))
 expression_step (Expression-F.Relation p o a b) = pair (at p) (tag 9 (pair (num (relational_code o)) (pair a b)))
-expression_step (Expression-F.Chain p a o more) = pair (at p) (chain_node (is_adding o.operator) a (pair (operand_node (λ v. v) o) (row_of (map (operand_node (λ v. v)) more))))
+expression_step (Expression-F.Chain p a o more) = pair (at p) (chain_node (is_adding o.operator) (at p) a (pair (operand_node (is_adding o.operator) (λ v. v) o) (row_of (map (operand_node (is_adding o.operator) (λ v. v)) more))))
 expression_step (Expression-F.Unary p o a) = pair (at p) (unary_node o a)
 expression_step (Expression-F.Number p n) = pair (at p) (tag 1 (num n))
 expression_step (Expression-F.String p s) = pair (at p) (tag 2 (written s))
@@ -172,17 +205,17 @@ joint_node None = none
 joint_node (Some j) = joined_node j.0 j.1 j.2
 
 -- the second operand and those behind it
-abbrev pub operands_node : Operand (Expression Identifier) × List (Operand (Expression Identifier)) → Node
-operands_node p = pair (operand_node view p.0) (row_of (map (operand_node view) p.1))
+abbrev pub operands_node : Bool → Operand (Expression Identifier) × List (Operand (Expression Identifier)) → Node
+operands_node adding p = pair (operand_node adding view p.0) (row_of (map (operand_node adding view) p.1))
 
-abbrev pub further_node : Option (Operand (Expression Identifier) × List (Operand (Expression Identifier))) → Node
-further_node None = none
-further_node (Some p) = operands_node p
+abbrev pub further_node : Bool → Option (Operand (Expression Identifier) × List (Operand (Expression Identifier))) → Node
+further_node adding None = none
+further_node adding (Some p) = operands_node adding p
 
 -- a first operand with those behind it, or alone
 abbrev pub chain_of : Node → Option (Operand (Expression Identifier) × List (Operand (Expression Identifier))) → Node
 chain_of v None = v
-chain_of v (Some p) = pair (first v) (chain_node (is_adding p.0.operator) v (operands_node p))
+chain_of v (Some p) = pair (first v) (chain_node (is_adding p.0.operator) (first v) v (operands_node (is_adding p.0.operator) p))
 
 -- whether what is behind the first operand joins terms, or factors, where there is something
 abbrev pub joins : Bool → Option (Operand (Expression Identifier) × List (Operand (Expression Identifier))) → Bool

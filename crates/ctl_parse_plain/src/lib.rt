@@ -12,6 +12,7 @@ mod depth;
 mod expressions;
 mod headings;
 mod known;
+pub mod laws;
 mod names;
 mod operators;
 mod simple_statements;

@@ -160,7 +160,7 @@ impl<'a> Parser<'a> {
 
     /// Reads what joins terms (RM 4.5.3).
     pub(crate) fn adding(&mut self) -> ArithmeticOperator
-        ensures given { Reads adding none self.old (num (arithmetic_code result)) self.new }
+        ensures given { Reads adding none self.old (num (arithmetic_code true result)) self.new }
         ensures level { is_adding result ≡ true }
     {
         if self.next_is(Kind::Plus) {
@@ -177,7 +177,7 @@ impl<'a> Parser<'a> {
 
     /// Reads what joins factors (RM 4.5.5).
     pub(crate) fn multiplying(&mut self) -> ArithmeticOperator
-        ensures given { Reads multiplying none self.old (num (arithmetic_code result)) self.new }
+        ensures given { Reads multiplying none self.old (num (arithmetic_code false result)) self.new }
         ensures level { not (is_adding result) ≡ true }
     {
         if self.next_is(Kind::Star) {

@@ -1,5 +1,5 @@
 -- Objects, exceptions, instances and headings of subprograms as they are declared (3.3.1, 11.1, 12.3, 6.1, 8.3.1).
-use Rattle.std.specs.Prelude.{ℕ, zero, Bool, true, false, ◌&&◌, ◌||◌, not, if◌then◌else◌, nat_eq, nat_lt, List, [], ◌∷◌, ◌++◌, codes, length, map, slice_get, slice_set, Option, Some, None, option_map}
+use Rattle.std.specs.Prelude.{ℕ, zero, suc, Bool, true, false, ◌&&◌, ◌||◌, not, if◌then◌else◌, nat_eq, nat_lt, List, [], ◌∷◌, ◌++◌, codes, length, map, slice_get, slice_set, Option, Some, None, option_map}
 use Rattle.ctl_grammar.specs.Spelling.{same_name}
 use Rattle.ctl_tree.specs.declared.span.Span.{Span}
 use Rattle.ctl_tree.specs.declared.fault.FaultCode.TheVariants as rule
@@ -35,6 +35,7 @@ use Rattle.ctl_syntax.specs.declared.item.Objects.{Objects}
 use Rattle.ctl_syntax.specs.declared.item.Specification.{Specification}
 use Rattle.ctl_syntax.specs.declared.name.Identifier.{Identifier}
 use Rattle.ctl_syntax.specs.declared.name.Mark.{Mark}
+use Rattle.ctl_syntax.specs.declared.name.Suffix.{Suffix}
 use Rattle.ctl_typing.specs.declared.notes.Deed.{Deed}
 use Rattle.ctl_typing.specs.declared.notes.Deed.TheVariants.{Freezes, Initializes}
 use Rattle.ctl_typing.specs.declared.notes.Notes.{Notes}
@@ -48,6 +49,7 @@ use Rattle.ctl_typing.specs.declared.table.Profile.{Profile}
 use Rattle.ctl_typing.specs.declared.table.RecordEntry.{RecordEntry}
 use Rattle.ctl_typing.specs.declared.table.RecordState.{RecordState}
 use Rattle.ctl_typing.specs.declared.table.Standing.TheVariants as standing
+use Rattle.ctl_typing.specs.declared.found.Asked.{Asked}
 use Rattle.ctl_typing.specs.declared.found.Asked.TheVariants.{Anything, Exactly}
 use Rattle.ctl_types.specs.declared.associations.Associated.TheVariants.{Discriminants, Deallocation}
 use Rattle.ctl_typing.specs.declared.found.Found.{Found}
@@ -62,12 +64,31 @@ use Rattle.ctl_types.specs.declared.draft.Role.{Role}
 use Rattle.ctl_types.specs.declared.draft.Role.TheVariants as role
 use Rattle.ctl_typing.specs.Judgement.{Judgement, known, but, wrong, ◌>>=◌, both, each}
 use Rattle.ctl_typing.specs.Lookup.{same, root_of, designated_by}
-use Rattle.ctl_typing.specs.Typing.{Sense, sense, together, designates_this}
+use Rattle.ctl_typing.specs.Typing.{Sense, sense, found, together, designates_this}
 use Rattle.ctl_types.specs.Draft.{Doing, by_tables, early_when, fault_when, asking, deeds_of, asked, declare, declare_object}
 use Rattle.ctl_types.specs.Marks.{named_type, concrete_type, no_pool, is_pool, is_controlled, positions, root_of_type}
 use Rattle.ctl_types.specs.Freezing.{changed, with_records, is_free_type, done_by}
 use Rattle.ctl_types.specs.Statements.{is_limited, provides, operation_formals, formal}
 use Rattle.ctl_types.specs.Types.{is_given}
+
+-- Names of operations (7.6, 13.11) --------------------------------------------------------------------------
+
+abbrev pub operation_named : List ℕ → Option OperationName
+operation_named name =
+    if same_name name (codes "initialize") then Some Initialize
+    else if same_name name (codes "adjust") then Some Adjust
+    else if same_name name (codes "finalize") then Some Finalize
+    else if same_name name (codes "allocate") then Some Allocate
+    else if same_name name (codes "deallocate") then Some Deallocate
+    else None
+
+-- what is no subprogram has no name of an operation (profile)
+abbrev pub name_kept : Definition → Draft → Draft
+name_kept n d = fault_when (is_given (operation_named n.identifier.text)) rule.Override n.identifier.span d
+
+abbrev pub names_kept : List Definition → Draft → Draft
+names_kept [] d = d
+names_kept (n ∷ ns) d = names_kept ns (name_kept n d)
 
 -- Objects (3.3.1) ------------------------------------------------------------------------------------------
 
@@ -91,13 +112,13 @@ no_aliased_pool tables place aliasing.Unaliased t = known t
 abbrev pub object_type : Span → Objects Definition Use → Tables → Judgement Ty
 object_type place o tables = concrete_type tables place o.mark >>= no_aliased_pool tables o.mark.first.span o.aliasing
 
-abbrev pub asked_of_value : Option Ty → Tables → Sense → Judgement Expr
-asked_of_value None tables x = x.judged tables Anything >>= (λ r. known r.value)
-asked_of_value (Some t) tables x = x.judged tables (Exactly t) >>= (λ r. known r.value)
+abbrev pub asked_of : Option Ty → Asked
+asked_of None = Anything
+asked_of (Some t) = Exactly t
 
 abbrev pub value_of : Option Ty → Option Sense → Tables → Judgement (Option Expr)
 value_of t None tables = known None
-value_of t (Some x) tables = asked_of_value t tables x >>= (λ v. known (Some v))
+value_of t (Some x) tables = x.judged tables (asked_of t) >>= (λ r. known (Some r.value))
 
 abbrev pub discriminant : Tables → ℕ × Association Use → Judgement Checked_association
 discriminant tables p = (sense p.1.value).judged tables (Exactly ty.Count) >>= (λ r. known (record { position = p.0; value = r.value }))
@@ -162,87 +183,113 @@ object_declared around o t is (layers, d) = (with_layers is layers, declare_as a
 abbrev pub object_frozen : Around → Objects Definition Use → Option Ty → Option (List Checked_item) → Draft → Option (List Checked_item) × Draft
 object_frozen around o t is d = object_declared around o t is (done_by around (object_deeds t (is_given o.value) ++ deeds_of d) (asked d))
 
--- a constant has a value (3.3.1(5)), and a limited object has none (7.5)
-abbrev pub object_valued : Around → Order → Span → Objects Definition Use → Definition → Option Ty → Option (List Checked_association) → Option (Option Expr) × Draft → Option (List Checked_item) × Draft
-object_valued around order place o name t as' (v, d) =
-    object_frozen around o t (object_made d.tables (length d.slots) t as' v)
-    (wait_as order name.identifier.span t
-    (fault_when (limited_as d.tables t && is_given o.value) rule.Limited name.identifier.span
-    (fault_when (is_constant o.constancy && not (is_given o.value)) rule.Type place d)))
+-- a constant has a value (3.3.1(5)), and a limited object, of this name, has none (7.5)
+abbrev pub value_kept : Span → Objects Definition Use → Span → Option Ty → Draft → Draft
+value_kept place o name t d =
+    fault_when (limited_as d.tables t && is_given o.value) rule.Limited name (fault_when (is_constant o.constancy && not (is_given o.value)) rule.Type place d)
 
-abbrev pub object_given : Around → Order → Span → Objects Definition Use → Definition → Option Ty → Option (List Checked_association) × Draft → Option (List Checked_item) × Draft
+abbrev pub object_kept : Around → Order → Span → Objects Definition Use → Span → Option Ty → Option (List Checked_item) → Draft → Option (List Checked_item) × Draft
+object_kept around order place o name t is d = object_frozen around o t is (wait_as order name t (value_kept place o name t d))
+
+abbrev pub object_valued : Around → Order → Span → Objects Definition Use → Span → Option Ty → Option (List Checked_association) → Option (Option Expr) × Draft → Option (List Checked_item) × Draft
+object_valued around order place o name t as' (v, d) = object_kept around order place o name t (object_made d.tables (length d.slots) t as' v) d
+
+abbrev pub object_given : Around → Order → Span → Objects Definition Use → Span → Option Ty → Option (List Checked_association) × Draft → Option (List Checked_item) × Draft
 object_given around order place o name t (as', d) = object_valued around order place o name t as' (by_tables (value_of t (option_map sense o.value)) d)
 
-abbrev pub object_typed : Around → Order → Span → Objects Definition Use → Definition → Option Ty × Draft → Option (List Checked_item) × Draft
+abbrev pub object_typed : Around → Order → Span → Objects Definition Use → Span → Option Ty × Draft → Option (List Checked_item) × Draft
 object_typed around order place o name (t, d) = object_given around order place o name t (by_tables (discriminants_given place t o.discriminants) d)
 
--- one object; `A, B : T` are two (3.3.1(7))
+-- one object
 abbrev pub object : Around → Order → Span → Objects Definition Use → Definition → Doing (List Checked_item)
-object around order place o name d = object_typed around order place o name (by_tables (object_type place o) (asking d))
+object around order place o name d = object_typed around order place o name.identifier.span (by_tables (object_type place o) (asking d))
 
+abbrev pub objects_named : Around → Order → Span → Objects Definition Use → List Definition → Doing (List (List Checked_item))
+objects_named around order place o names d = each (object around order place o) (Some []) names d
+
+-- `A, B : T` are two (3.3.1(7))
 abbrev pub objects : Span → Objects Definition Use → Order → Around → Doing (List Checked_item)
-objects place o order around = (λ d. each (object around order place o) (Some []) o.names d) >>= (λ is. known (together is))
+objects place o order around d = (objects_named around order place o o.names >>= (λ is. known (together is))) (names_kept o.names d)
 
 -- Exceptions (11.1) --------------------------------------------------------------------------------------------
 
 abbrev pub exception : Definition → Draft → Draft
 exception name d = declare (entry.Exception (length d.exceptions)) (record d { exceptions = d.exceptions ++ name.identifier.text ∷ [] })
 
+-- those of each name, behind the items so far
+abbrev pub exceptions_on : List Checked_item → List Definition → Draft → List Checked_item × Draft
+exceptions_on before [] d = (before, d)
+exceptions_on before (n ∷ ns) d = exceptions_on (before ++ made.Silent ∷ []) ns (exception n d)
+
 abbrev pub exceptions : List Definition → Draft → List Checked_item × Draft
-exceptions [] d = ([], d)
-exceptions (n ∷ ns) d = behind_silent (exceptions ns (exception n d))
-  where
-    behind_silent : List Checked_item × Draft → List Checked_item × Draft
-    behind_silent (is, d) = (made.Silent ∷ is, d)
+exceptions ns d = exceptions_on [] ns (names_kept ns d)
 
 -- Instances of Ada.Unchecked_Deallocation (12.3, 13.11.2) ----------------------------------------------------------
 
-abbrev pub actual_type : Tables → Span → Sense → Judgement Ty
-actual_type tables place x = by_bare tables place x.bare
-  where
-    type_found : Span → Found → Judgement Ty
-    type_found place (TypeName t) = known t
-    type_found place f = wrong rule.Type place
+abbrev pub type_found : Span → Found → Judgement Ty
+type_found place (TypeName t) = known t
+type_found place f = wrong rule.Type place
 
-    by_bare : Tables → Span → Option (Tables → Judgement Found) → Judgement Ty
-    by_bare tables place None = wrong rule.Type place
-    by_bare tables place (Some name) = name tables >>= type_found place
+abbrev pub type_named : Span → Use → List (Suffix Sense) → Tables → Judgement Ty
+type_named place u xs tables = found u xs tables >>= type_found place
+
+abbrev pub type_by : Tables → Span → Option (Tables → Judgement Found) → Judgement Ty
+type_by tables place None = wrong rule.Type place
+type_by tables place (Some name) = name tables >>= type_found place
+
+abbrev pub actual_type : Tables → Span → Sense → Judgement Ty
+actual_type tables place x = type_by tables place x.bare
 
 -- the access type designates the object type
 abbrev pub deallocated : Tables → Span → Ty → Ty → Judgement (ℕ × Ty)
 deallocated tables place t (ty.Access a) = if designates_this t (designated_by tables a) then known (a, t) else wrong rule.Type place
 deallocated tables place t s = wrong rule.Type place
 
+-- by the actual for the object type, and that for the access type
 abbrev pub instance_types : Tables → Span → Sense → Sense → Judgement (ℕ × Ty)
 instance_types tables place x y = both (actual_type tables place x) (actual_type tables place y) >>= (λ r. deallocated tables place r.0 r.1)
 
-abbrev pub instance_at : Tables → Span → Option (List ℕ) → List (Association Use) → Judgement (ℕ × Ty)
-instance_at tables place (Some (zero ∷ ns)) (x ∷ y ∷ as') = instance_types tables place (sense x.value) (sense y.value)
-instance_at tables place (Some (n ∷ ns)) (x ∷ y ∷ as') = instance_types tables place (sense y.value) (sense x.value)
+-- by the position that the first actual is given for
+abbrev pub instance_with : Tables → Span → ℕ → Sense → Sense → Judgement (ℕ × Ty)
+instance_with tables place zero x y = instance_types tables place x y
+instance_with tables place (suc n) x y = instance_types tables place y x
+
+abbrev pub instance_at : Tables → Span → List ℕ → List (Association Use) → Judgement (ℕ × Ty)
+instance_at tables place (n ∷ m ∷ []) (x ∷ y ∷ []) = instance_with tables place n (sense x.value) (sense y.value)
 instance_at tables place ns as' = wrong rule.Type place
 
+abbrev pub instance_by : Tables → Span → Option (List ℕ) → List (Association Use) → Judgement (ℕ × Ty)
+instance_by tables place None as' = wrong rule.Type place
+instance_by tables place (Some ns) as' = instance_at tables place ns as'
+
+abbrev pub instance_given : Tables → Span → List (Association Use) → Judgement (ℕ × Ty)
+instance_given tables place as' = instance_by tables place (positions Deallocation as') as'
+
 abbrev pub instance_denoted : Tables → Span → Denoted → List (Association Use) → Judgement (ℕ × Ty)
-instance_denoted tables place (denoted.Library library.UncheckedDeallocation) as' = instance_at tables place (positions Deallocation as') as'
+instance_denoted tables place (denoted.Library library.UncheckedDeallocation) as' = instance_given tables place as'
 instance_denoted tables place denoted.Unknown as' = λ n. (None, n)
 instance_denoted tables place d as' = wrong rule.Type place
 
+abbrev pub instance_marked : Tables → Span → Use → List Identifier → List (Association Use) → Judgement (ℕ × Ty)
+instance_marked tables place u [] as' = instance_denoted tables place u.denoted as'
+instance_marked tables place u (i ∷ is) as' = wrong rule.Type place
+
 abbrev pub instance_of : Span → Mark Use → List (Association Use) → Tables → Judgement (ℕ × Ty)
-instance_of place m as' tables = by_rest m.rest
-  where
-    by_rest : List Identifier → Judgement (ℕ × Ty)
-    by_rest [] = instance_denoted tables place m.first.denoted as'
-    by_rest (i ∷ is) = wrong rule.Type place
+instance_of place m as' tables = instance_marked tables place m.first m.rest as'
 
 abbrev pub instance_declared : ℕ → List Checked_item × Draft → Option (List Checked_item) × Draft
 instance_declared a (layers, d) = (Some (layers ++ made.Silent ∷ []), declare (entry.Deallocation a) d)
 
+abbrev pub instance_frozen : Around → ℕ → Ty → Doing (List Checked_item)
+instance_frozen around a t d = instance_declared a (done_by around (Freezes t ∷ Freezes (ty.Access a) ∷ []) d)
+
 abbrev pub instance_known : Around → Option (ℕ × Ty) × Draft → Option (List Checked_item) × Draft
 instance_known around (None, d) = (None, declare entry.Unknown d)
-instance_known around (Some p, d) = instance_declared p.0 (done_by around (Freezes p.1 ∷ Freezes (ty.Access p.0) ∷ []) d)
+instance_known around (Some p, d) = instance_frozen around p.0 p.1 d
 
 -- an instance freezes the types that it names (13.14(5))
-abbrev pub instance : Span → Mark Use → List (Association Use) → Around → Doing (List Checked_item)
-instance place m as' around d = instance_known around (by_tables (instance_of place m as') d)
+abbrev pub instance : Span → Definition → Mark Use → List (Association Use) → Around → Doing (List Checked_item)
+instance place name m as' around d = instance_known around (by_tables (instance_of place m as') (name_kept name d))
 
 -- Headings (6.1) -----------------------------------------------------------------------------------------------------
 
@@ -306,15 +353,6 @@ formal_names [] = []
 formal_names (f ∷ fs) = map (λ n. n.identifier.text) f.names ++ formal_names fs
 
 -- Overriding (3.2.3, 7.6, 8.3.1, 13.11) --------------------------------------------------------------------------------
-
-abbrev pub operation_named : List ℕ → Option OperationName
-operation_named name =
-    if same_name name (codes "initialize") then Some Initialize
-    else if same_name name (codes "adjust") then Some Adjust
-    else if same_name name (codes "finalize") then Some Finalize
-    else if same_name name (codes "allocate") then Some Allocate
-    else if same_name name (codes "deallocate") then Some Deallocate
-    else None
 
 abbrev pub same_mode : Mode → Mode → Bool
 same_mode mode.In mode.In = true

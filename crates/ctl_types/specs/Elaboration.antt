@@ -1,5 +1,5 @@
 -- Statements, items and bodies in their checked form, and the whole program (3.11, 5.1, 6.3, 11.2, 10.1.1).
-use Rattle.std.specs.Prelude.{ℕ, ◌+◌, min, Bool, true, false, ◌&&◌, ◌||◌, if◌then◌else◌, List, [], ◌∷◌, ◌++◌, codes, length, take, map, Option, Some, None, option_map, Result, Ok, Err}
+use Rattle.std.specs.Prelude.{◌≡◌, ◌⊎◌, ℕ, ◌+◌, min, Bool, true, false, ◌&&◌, ◌||◌, if◌then◌else◌, List, [], ◌∷◌, ◌++◌, codes, length, take, map, Option, Some, None, option_map, Result, Ok, Err}
 use Rattle.ctl_tree.specs.declared.span.Span.{Span}
 use Rattle.ctl_tree.specs.declared.fault.Fault.{Fault}
 use Rattle.ctl_tree.specs.declared.fault.FaultCode.TheVariants as rule
@@ -76,7 +76,8 @@ use Rattle.ctl_types.specs.declared.draft.Order.TheVariants as order
 use Rattle.ctl_types.specs.declared.draft.Returning.{Returning}
 use Rattle.ctl_types.specs.declared.draft.Returning.TheVariants as returning
 use Rattle.ctl_tree.specs.Faults.{fault_at}
-use Rattle.ctl_typing.specs.Judgement.{Judgement, known, with_known, ◌>>=◌, both, each}
+use Rattle.ctl_typing.specs.declared.notes.Notes.{Notes}
+use Rattle.ctl_typing.specs.Judgement.{Judgement, known, with_known, ◌>>=◌, both, each, appended}
 use Rattle.ctl_typing.specs.Senses.{suffix_sense}
 use Rattle.ctl_typing.specs.Typing.{Sense, sense, truth_of}
 use Rattle.ctl_types.specs.Draft.{Doing, by_tables, fault_when, declare, declare_object, enter, leave_view, next_var}
@@ -84,7 +85,7 @@ use Rattle.ctl_types.specs.Freezing.{freeze_all, end_of_part}
 use Rattle.ctl_types.specs.Statements.{assignment, call, raising, raising_again, exiting, exception_named, operations_of}
 use Rattle.ctl_types.specs.Statements as simple
 use Rattle.ctl_types.specs.Types.{record_type, extension, access_type, pool_clause}
-use Rattle.ctl_types.specs.Declarations.{objects, exceptions, instance, heading, declaration, subprogram_of, giving_of, enter_formals, put_body, add_subprogram}
+use Rattle.ctl_types.specs.Declarations.{objects, exceptions, instance, heading, declaration, subprogram_of, giving_of, enter_formals, put_body, add_subprogram, name_kept}
 
 -- What each construct is ------------------------------------------------------------------------------
 
@@ -323,19 +324,22 @@ body_item place s body o around d = body_opened place s body around (opened plac
 abbrev pub without_body : Declares → Part_of
 without_body p = record { is_body = false; declares = p }
 
-abbrev pub definition_of : Span → Definition → Type_definition Use → Around → Draft → List Checked_item × Draft
-definition_of place name (definition.Record l cs) around d = record_type place name.number l cs around d
-definition_of place name (definition.Extension m cs) around d = extension place name.number m cs around d
-definition_of place name (definition.Access g m c pool) around d = access_type place name g m c pool around d
+abbrev pub defined_by : Span → Definition → Type_definition Use → Around → Draft → List Checked_item × Draft
+defined_by place name (definition.Record l cs) around d = record_type place name.number l cs around d
+defined_by place name (definition.Extension m cs) around d = extension place name.number m cs around d
+defined_by place name (definition.Access g m c pool) around d = access_type place name g m c pool around d
 
-abbrev pub incomplete : ℕ → Taggedness → Draft → List Checked_item × Draft
-incomplete number t d = (made.Silent ∷ [], enter number (entry.Incomplete t) d)
+abbrev pub definition_of : Span → Definition → Type_definition Use → Around → Draft → List Checked_item × Draft
+definition_of place name def around d = defined_by place name def around (name_kept name d)
+
+abbrev pub incomplete : Definition → Taggedness → Draft → List Checked_item × Draft
+incomplete name t d = (made.Silent ∷ [], enter name.number (entry.Incomplete t) (name_kept name d))
 
 abbrev pub item_of : Span → ItemKind Definition Use Does → Part_of
 item_of place (item.Declaration s) = without_body (λ o around d. surely (declaration place s around d))
 item_of place (item.Body s body) = record { is_body = true; declares = body_item place s body }
-item_of place (item.Instance name m as') = without_body (λ o around. instance place m as' around)
-item_of place (item.Incomplete name t) = without_body (λ o around d. surely (incomplete name.number t d))
+item_of place (item.Instance name m as') = without_body (λ o around. instance place name m as' around)
+item_of place (item.Incomplete name t) = without_body (λ o around d. surely (incomplete name t d))
 item_of place (item.«Type» name def) = without_body (λ o around d. surely (definition_of place name def around d))
 item_of place (item.StoragePool u m) = without_body (λ o around d. surely (pool_clause place u m around d))
 item_of place (item.Exceptions names) = without_body (λ o around d. surely (exceptions names d))
@@ -384,18 +388,29 @@ library_records =
     ∷ library_record root.MarkPool limitation.Limited concreteness.Concrete
     ∷ []
 
+-- nothing of them changes
 abbrev pub library_state : RecordState
 library_state = record { operations = operations_of None; freezing = Frozen; defaults = Used; called = None }
 
+abbrev pub library_states : List RecordState
+library_states = library_state ∷ library_state ∷ library_state ∷ library_state ∷ []
+
+-- they have none that the text sees
+abbrev pub library_components : List (List Component)
+library_components = [] ∷ [] ∷ [] ∷ [] ∷ []
+
 abbrev pub library_exceptions : List (List ℕ)
 library_exceptions = codes "Constraint_Error" ∷ codes "Program_Error" ∷ codes "Storage_Error" ∷ []
+
+abbrev pub library_tables : Tables
+library_tables = record { entries = []; records = library_records; states = record { records = library_states; accesses = [] } }
 
 -- what there is before the text: the types and exceptions of the library
 abbrev pub library : Draft
 library =
     record {
-      tables = record { entries = []; records = library_records; states = record { records = library_state ∷ library_state ∷ library_state ∷ library_state ∷ []; accesses = [] } };
-      components = [] ∷ [] ∷ [] ∷ [] ∷ [];
+      tables = library_tables;
+      components = library_components;
       subprograms = [];
       exceptions = library_exceptions;
       slots = [];
@@ -420,15 +435,26 @@ outside =
     }
 
 -- the main procedure is the first subprogram, and is in view inside itself
-abbrev pub main_declared : Draft → Draft
-main_declared d = declare (entry.Subprogram (record { subprogram = 0; formals = []; names = []; result = None })) (add_subprogram outside kind.Procedure d)
+abbrev pub main_declared : Definition → Draft → Draft
+main_declared name d = declare (entry.Subprogram (record { subprogram = 0; formals = []; names = []; result = None })) (add_subprogram outside kind.Procedure (name_kept name d))
 
 abbrev pub main_put : Option Master × Draft → Draft
 main_put (m, d) = put_body (Some 0) m d
 
+-- its declarations, statements and handlers
+abbrev pub main_judged : Tree Definition Use → Draft → Option Master × Draft
+main_judged t d = left d (body t.body t.span (inside outside giving.Nothing d) (without_slots d))
+
+abbrev pub behind : Option Fault → Notes → Notes
+behind broken n = record { early = broken; fault = n.fault; deeds = n.deeds }
+
+-- what is known before the text, and the first rule on names that it breaks, if it breaks any
+abbrev pub begun : Option Fault → Draft
+begun broken = record library { notes = behind broken library.notes }
+
 -- the program as far as it is checked at the end of the text
-abbrev pub whole : Tree Definition Use → Draft
-whole t = main_put (left (main_declared library) (body t.body t.span (inside outside giving.Nothing (main_declared library)) (main_declared library)))
+abbrev pub whole : Option Fault → Tree Definition Use → Draft
+whole broken t = main_put (main_judged t (main_declared t.name (begun broken)))
 
 -- The checked program ----------------------------------------------------------------------------------------------------------------------------------
 
@@ -447,13 +473,13 @@ abbrev pub access_type_to : AccessEntry → Designated → Option AccessType
 access_type_to a (designated.Known t) = Some (record { collection = a.collection; designated = t; pool = pool_var a.pool })
 access_type_to a d = None
 
-abbrev pub behind_access : Option AccessType → Option (List AccessType) → Option (List AccessType)
-behind_access (Some a) (Some as') = Some (a ∷ as')
-behind_access a as' = None
+-- those of the program, behind those so far; known where each of them is
+abbrev pub access_types_on : Option (List AccessType) → List AccessEntry → Option (List AccessType)
+access_types_on before [] = before
+access_types_on before (a ∷ as') = access_types_on (appended before (access_type_to a a.designated)) as'
 
 abbrev pub access_types : List AccessEntry → Option (List AccessType)
-access_types [] = Some []
-access_types (a ∷ as') = behind_access (access_type_to a a.designated) (access_types as')
+access_types as' = access_types_on (Some []) as'
 
 abbrev pub checked_with : Draft → Option (List AccessType) → Option Checked
 checked_with d None = None
@@ -482,6 +508,10 @@ verdict_by place None None d = or_nothing place (checked_of d)
 abbrev pub verdict : Span → Draft → Result Checked Fault
 verdict place d = verdict_by place d.notes.early d.notes.fault d
 
--- the checked program of a resolved tree, or its first fault: of names, order and completion before any other
-abbrev pub elaborate : Tree Definition Use → Result Checked Fault
-elaborate t = verdict t.span (whole t)
+-- the checked program of a resolved tree, or its first fault: of names, order and completion, the resolver's among them, before any other
+abbrev pub elaborate : Option Fault → Tree Definition Use → Result Checked Fault
+elaborate broken t = verdict t.span (whole broken t)
+
+-- what the check gives: that, or that memory was refused
+abbrev pub Elaborates : Option Fault → Tree Definition Use → Result Checked Fault → Type 0
+Elaborates broken t r = (r ≡ elaborate broken t) ⊎ (r ≡ Err (record { code = rule.Memory; line = 1; column = 1 }))

@@ -3,6 +3,10 @@ use Rattle.std.specs.Prelude.{ℕ, zero, suc, ◌-◌, Bool, List, [], ◌∷◌
 use Rattle.ctl_program.specs.declared.statement.Arm.{Arm}
 use Rattle.ctl_program.specs.declared.statement.Stmt.{Stmt}
 use Rattle.ctl_program.specs.declared.statement.Stmt.TheVariants as stmt
+use Rattle.ctl_program.specs.declared.types.Component.{Component}
+use Rattle.ctl_program.specs.declared.types.RecordType.{RecordType}
+use Rattle.ctl_typing.specs.declared.table.RecordEntry.{RecordEntry}
+use Rattle.ctl_typing.specs.declared.table.RecordState.{RecordState}
 use Rattle.ctl_syntax.specs.declared.denoted.Definition.{Definition}
 use Rattle.ctl_syntax.specs.declared.denoted.Use.{Use}
 use Rattle.ctl_syntax.specs.declared.item.Branch.{Branch}
@@ -20,7 +24,7 @@ use Rattle.ctl_types.specs.declared.draft.Order.TheVariants as order
 use Rattle.ctl_types.specs.declared.draft.Returning.{Returning}
 use Rattle.ctl_types.specs.declared.masters.Outer.{Outer}
 use Rattle.ctl_types.specs.Draft.{leave_view}
-use Rattle.ctl_types.specs.Elaboration.{Says, statement, item_judged, returns_kept}
+use Rattle.ctl_types.specs.Elaboration.{Says, statement, item_judged, returns_kept, record_type_of}
 
 abbrev pub branch_of : Branch (Statement Definition Use) Use → Branch Says Use
 branch_of b = record { condition = b.condition; statements = map statement b.statements }
@@ -62,3 +66,8 @@ bodies_but i n = if is_body i then n - 1 else n
 abbrev pub order_with : ℕ → Order
 order_with zero = order.BehindBodies
 order_with (suc n) = order.BeforeBody
+
+-- a record type, where there are an entry and a state of its number
+abbrev pub record_type_at : Option RecordEntry → Option RecordState → List Component → Option RecordType
+record_type_at (Some r) (Some s) cs = Some (record_type_of r s cs)
+record_type_at r s cs = None

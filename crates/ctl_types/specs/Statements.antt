@@ -160,9 +160,18 @@ operand_found place (Computed t) = known t.ty
 operand_found place (Discriminant p k) = known ty.Count
 operand_found place f = wrong rule.Type place
 
+abbrev pub operand_of : Tables → Span → (Tables → Judgement Found) → Judgement Ty
+operand_of tables place name = name tables >>= settled tables place >>= operand_found place
+
+abbrev pub operand_named : Tables → Span → Use → List (Suffix Sense) → Judgement Ty
+operand_named tables place u xs = operand_of tables place (found u xs)
+
+abbrev pub operand_value : Tables → Sense → Judgement Ty
+operand_value tables x = x.judged tables Anything >>= (λ t. known t.ty)
+
 abbrev pub operand_by : Tables → Sense → Option (Tables → Judgement Found) → Judgement Ty
-operand_by tables x None = x.judged tables Anything >>= (λ t. known t.ty)
-operand_by tables x (Some name) = name tables >>= settled tables x.place >>= operand_found x.place
+operand_by tables x None = operand_value tables x
+operand_by tables x (Some name) = operand_of tables x.place name
 
 abbrev pub operand_type : Tables → Sense → Judgement Ty
 operand_type tables x = operand_by tables x x.bare
@@ -196,21 +205,28 @@ operation_formals o t = formal mode.InOut t ∷ []
 abbrev pub user_called : Tables → Span → OperationName → Ty → ℕ → List Sense → Judgement Stmt
 user_called tables place o t s xs = actuals_of tables place (operation_formals o t) xs >>= (λ as'. known (stmt.Call s as'))
 
-abbrev pub counted : Tables → Sense → Judgement Expr
-counted tables x = x.judged tables (Exactly ty.Count) >>= (λ r. known r.value)
+abbrev pub value_as : Tables → Ty → Sense → Judgement Expr
+value_as tables t x = x.judged tables (Exactly t) >>= (λ r. known r.value)
+
+-- a size and an alignment (13.11)
+abbrev pub measures : Tables → Sense → Sense → Judgement (Expr × Expr)
+measures tables s l = both (value_as tables ty.Count s) (value_as tables ty.Count l)
+
+abbrev pub pool_and_variable : Tables → Ty → Sense → Sense → Judgement (Checked_name × Checked_name)
+pool_and_variable tables t p a = both (writing tables t p) (writing tables ty.Address a)
 
 abbrev pub library_allocate : Tables → Ty → Sense → Sense → Sense → Sense → Judgement Stmt
-library_allocate tables t p a s l =
-    both (both (writing tables t p) (writing tables ty.Address a)) (both (counted tables s) (counted tables l)) >>= (λ r.
-    known (stmt.LibraryAllocate r.0.0 r.0.1 r.1.0 r.1.1))
+library_allocate tables t p a s l = both (pool_and_variable tables t p a) (measures tables s l) >>= (λ r. known (stmt.LibraryAllocate r.0.0 r.0.1 r.1.0 r.1.1))
 
-abbrev pub addressed : Tables → Sense → Judgement Expr
-addressed tables x = x.judged tables (Exactly ty.Address) >>= (λ r. known r.value)
+abbrev pub pool_and_address : Tables → Ty → Sense → Sense → Judgement (Checked_name × Expr)
+pool_and_address tables t p a = both (writing tables t p) (value_as tables ty.Address a)
 
 abbrev pub library_deallocate : Tables → Ty → Sense → Sense → Sense → Sense → Judgement Stmt
-library_deallocate tables t p a s l =
-    both (both (writing tables t p) (addressed tables a)) (both (counted tables s) (counted tables l)) >>= (λ r.
-    known (stmt.LibraryDeallocate r.0.0 r.0.1 r.1.0 r.1.1))
+library_deallocate tables t p a s l = both (pool_and_address tables t p a) (measures tables s l) >>= (λ r. known (stmt.LibraryDeallocate r.0.0 r.0.1 r.1.0 r.1.1))
+
+-- an operation that does nothing
+abbrev pub nothing_called : Tables → Ty → Sense → Judgement Stmt
+nothing_called tables t x = writing tables t x >>= (λ n. known (stmt.Nothing n))
 
 -- the library's operation of the type, in number and type of its actuals
 abbrev pub library_operation : Tables → Span → OperationName → Ty → List Sense → Judgement Stmt
@@ -218,7 +234,7 @@ library_operation tables place Allocate t (p ∷ a ∷ s ∷ l ∷ []) = library
 library_operation tables place Allocate t xs = wrong rule.Type place
 library_operation tables place Deallocate t (p ∷ a ∷ s ∷ l ∷ []) = library_deallocate tables t p a s l
 library_operation tables place Deallocate t xs = wrong rule.Type place
-library_operation tables place o t (x ∷ []) = writing tables t x >>= (λ n. known (stmt.Nothing n))
+library_operation tables place o t (x ∷ []) = nothing_called tables t x
 library_operation tables place o t xs = wrong rule.Type place
 
 abbrev pub operation_by : Tables → Span → OperationName → Ty → Option ℕ → List Sense → Judgement Stmt

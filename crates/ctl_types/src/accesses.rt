@@ -9,6 +9,7 @@ ghost use Rattle.ctl_typing.specs.Judgement.{Answers, Judges, Yields};
 
 use crate::draft::{Around, Draft};
 use crate::named_types::named_type;
+use crate::own_names::keep_name;
 use crate::types::{no_pool, pool_named};
 use ctl_program::statement::Item;
 use ctl_program::types::{Root, Ty, Var};
@@ -94,8 +95,9 @@ pub fn incomplete(
     taggedness: Taggedness,
     draft: &mut Draft,
 ) -> Result<Items<Item>, AllocError>
-    ensures { Yields (elaboration.incomplete name.now.number taggedness) draft.old result draft.new }
+    ensures { Yields (elaboration.incomplete name.now taggedness) draft.old result draft.new }
 {
+    keep_name(name, draft);
     draft.enter(name.number, Entry::Incomplete(taggedness))?;
     silent(alloc)
 }

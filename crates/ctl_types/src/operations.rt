@@ -1,9 +1,9 @@
 //! The operations that types have and may override (RM 7.6, 13.11).
 
-ghost use Rattle.std.specs.Prelude.{◌≡◌, IfOk};
+ghost use Rattle.std.specs.Prelude.{◌≡◌, IfOk, None};
 ghost use Rattle.ctl_types.specs.Statements as spec;
 
-use ctl_program::types::{Root, Ty};
+use ctl_program::types::{Operations, Root, Ty};
 use ctl_syntax::denoted::OperationName;
 use ctl_syntax::item::Mode;
 use ctl_typing::table::FormalEntry;
@@ -48,4 +48,17 @@ pub fn operation_formals(
     formals.push(formal(Mode::In, Ty::Count))?;
     formals.push(formal(Mode::In, Ty::Count))?;
     Ok(formals)
+}
+
+/// Answers that no operation is the user's.
+pub fn no_operations() -> Operations
+    ensures { result ≡ spec.operations_of None }
+{
+    Operations {
+        initialize: None,
+        adjust: None,
+        finalize: None,
+        allocate: None,
+        deallocate: None,
+    }
 }

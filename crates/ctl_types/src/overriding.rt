@@ -23,7 +23,7 @@ use sqlite_items::Items;
 use std::alloc::{AllocError, Global};
 
 /// Answers the operation of a name (RM 7.6, 13.11).
-fn operation_named(name: &Text) -> Option<OperationName>
+pub fn operation_named(name: &Text) -> Option<OperationName>
     ensures { result ≡ spec.operation_named name.now }
 {
     let name = name.as_bytes();

@@ -49,7 +49,7 @@ fn no_body(alloc: Global) -> checked::Master
 }
 
 /// Adds a subprogram without its body, with the next number.
-fn add_subprogram(
+pub fn add_subprogram(
     alloc: Global,
     around: Around,
     kind: SubprogramKind,
@@ -267,7 +267,7 @@ pub fn opened(
 }
 
 /// Puts the body of a subprogram where it belongs.
-fn put_body(number: Option<usize>, master: checked::Master, draft: &mut Draft)
+pub fn put_body(number: Option<usize>, master: checked::Master, draft: &mut Draft)
     ensures { draft.new ≡ spec.put_body number (Some master) draft.old }
 {
     let Some(number) = number else {

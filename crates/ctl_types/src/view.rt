@@ -9,6 +9,7 @@ use ctl_syntax::item::Aliasing;
 use ctl_tree::fault::FaultCode;
 use ctl_tree::span::Span;
 use ctl_typing::judging::{note, note_early};
+use ctl_typing::notes::Deed;
 use ctl_typing::table::{Entry, Mutability, ObjectEntry, Standing};
 use sqlite_items::Items;
 use std::alloc::{AllocError, Global};
@@ -46,6 +47,17 @@ impl Draft {
         ensures { self.new ≡ spec.asking self.old }
     {
         self.notes.deeds = Some(Items::new(alloc));
+    }
+
+    /// Takes what the expressions did since that was asked for; no more is asked for.
+    pub fn take_deeds(&mut self, alloc: Global) -> Items<Deed>
+        ensures deeds { result ≡ spec.deeds_of self.old }
+        ensures draft { self.new ≡ spec.asked self.old }
+    {
+        match self.notes.deeds.take() {
+            Some(deeds) => deeds,
+            None => Items::new(alloc),
+        }
     }
 
     /// Puts one more declaration into view.

@@ -1,4 +1,9 @@
 pub mod Countdown
+pub mod Depths
+pub mod Joined
 pub mod Logical
+pub mod Matching
+pub mod Parting
 pub mod Senses
+pub mod Stages
 pub mod Turns

@@ -1,5 +1,5 @@
 -- What is known of an expression with several parts, by what is known of each of them.
-use Rattle.std.proofs.Common.{◌≡◌, refl, ap, List, [], ◌∷◌, map, Option, Some, None, option_map}
+use Rattle.std.proofs.Common.{◌≡◌, ℕ, refl, ap, List, [], ◌∷◌, map, Option, Some, None, option_map}
 use Rattle.ctl_tree.specs.declared.span.Span.{Span}
 use Rattle.ctl_syntax.specs.declared.denoted.Use.{Use}
 use Rattle.ctl_syntax.specs.declared.name.Name.{Name}
@@ -11,7 +11,7 @@ use Rattle.ctl_syntax.specs.declared.operators.LogicalOperator.{LogicalOperator}
 use Rattle.ctl_syntax.specs.declared.expression.Expression.{Expression, map-Expression, fold-roll-Expression}
 use Rattle.ctl_syntax.specs.declared.expression.Expression.TheOpen.{Expression-F}
 use Rattle.ctl_syntax.specs.declared.expression.Expression.TheVariants as x
-use Rattle.ctl_syntax.specs.declared.expression.Expression.TheVariants.{rolls-Logical, rolls-Name, rolls-Chain, rolls-New}
+use Rattle.ctl_syntax.specs.declared.expression.Expression.TheVariants.{rolls-Number, rolls-Null, rolls-Logical, rolls-Name, rolls-Chain, rolls-New}
 use Rattle.ctl_typing.specs.Senses.{suffix_sense, name_sense, operand_sense}
 use Rattle.ctl_typing.specs.Typing.{Sense, sense, step_of}
 
@@ -56,3 +56,9 @@ new_layer p (Some u) m v = handle_layer p u.first m v u.suffixes
 
 pub sense_new : (p : Span) (h : Option (Name Use (Expression Use))) (m : Mark Use) (v : Option (Expression Use)) → sense (x.New p h m v) ≡ step_of (Expression-F.New p (option_map name_sense h) m (option_map sense v))
 sense_new p h m v = rw (← rolls-New, fold-roll-Expression) (ap step_of (new_layer p h m v))
+
+pub sense_number : (p : Span) (n : ℕ) → sense (x.Number p n) ≡ step_of (Expression-F.Number p n)
+sense_number p n = rw (← rolls-Number, fold-roll-Expression) refl
+
+pub sense_null : (p : Span) → sense (x.Null p) ≡ step_of (Expression-F.Null p)
+sense_null p = rw (← rolls-Null, fold-roll-Expression) refl

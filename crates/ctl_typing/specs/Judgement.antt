@@ -55,6 +55,10 @@ infixl 10 ◌>>=◌
 abbrev pub ◌>>=◌ : {S A B : Type 0} → Judging S A → (A → Judging S B) → Judging S B
 ◌>>=◌ p f s = with_known f (p s)
 
+-- what comes after something, where that is known
+abbrev pub onward : {S A B : Type 0} → Option A → (A → Judging S B) → Judging S B
+onward a f s = with_known f (a, s)
+
 abbrev pub paired : {S A B : Type 0} → Option A → Option B × S → Option (A × B) × S
 paired (Some a) (Some b, s) = (Some (a, b), s)
 paired (Some a) (None, s) = (None, s)

@@ -1,5 +1,5 @@
 -- The parts of the tree, with what is known of each expression in them.
-use Rattle.std.specs.Prelude.{ℕ, Some, ◌+◌, if◌then◌else◌, List, [], ◌∷◌, map}
+use Rattle.std.specs.Prelude.{◌≡◌, ℕ, ◌<◌, Option, Some, None, option_map, ◌+◌, if◌then◌else◌, List, [], ◌∷◌, map, length, take, drop, slice_get}
 use Rattle.ctl_syntax.specs.declared.denoted.Use.{Use}
 use Rattle.ctl_syntax.specs.declared.name.Name.{Name}
 use Rattle.ctl_syntax.specs.declared.name.Suffix.{Suffix}
@@ -21,11 +21,15 @@ use Rattle.ctl_program.specs.declared.types.Ty.{Ty}
 use Rattle.ctl_program.specs.declared.types.Ty.TheVariants as ty
 use Rattle.ctl_program.specs.declared.operators.BinaryOp.TheVariants as op
 use Rattle.ctl_program.specs.declared.operators.Shortcut.TheVariants as shortcut
+use Rattle.ctl_tree.specs.declared.fault.FaultCode.{FaultCode}
+use Rattle.ctl_syntax.specs.declared.operators.ArithmeticOperator.{ArithmeticOperator}
+use Rattle.ctl_syntax.specs.declared.operators.RelationalOperator.{RelationalOperator}
+use Rattle.ctl_syntax.specs.declared.operators.UnaryOperator.{UnaryOperator}
 use Rattle.ctl_syntax.specs.declared.operators.LogicalOperator.{LogicalOperator}
 use Rattle.ctl_syntax.specs.declared.operators.LogicalOperator.TheVariants as logical
 use Rattle.ctl_program.specs.declared.expression.Actual.{Actual}
-use Rattle.ctl_typing.specs.Judgement.{Judgement, known, ◌>>=◌, both, following, each}
-use Rattle.ctl_typing.specs.Typing.{Sense, sense, adopts, fits, asked_like, found, settled, by_value, record_by, converted_number, truth_of, truths_of, logical_operand, Split, split, by_other as by_other_split}
+use Rattle.ctl_typing.specs.Judgement.{Judgement, known, wrong, onward, with_known, paired, ◌>>=◌, both, following, each}
+use Rattle.ctl_typing.specs.Typing.{Sense, sense, adopts, fits, asked_like, found, settled, imaged as image_of_value, selected, all_of, value_found, record_found, by_value, record_by, converted_number, truth_of, truths_of, logical_operand, relation_of, operand_of, unary_of, chain_of, joined, operator_of, arithmetic_of, Split, split}
 
 abbrev pub suffix_sense : Suffix (Expression Use) → Suffix Sense
 suffix_sense (suffix.Selector i) = suffix.Selector i
@@ -39,11 +43,6 @@ name_sense u = record { first = u.first; suffixes = map suffix_sense u.suffixes 
 abbrev pub operand_sense : Operand (Expression Use) → Operand Sense
 operand_sense o = record { operator = o.operator; operand = sense o.operand }
 
--- how many operands stand before the first that has a type of its own
-abbrev pub before_typed : List (Operand Sense) → ℕ
-before_typed [] = 0
-before_typed (o ∷ os) = if adopts o.operand.adopts then 1 + before_typed os else 0
-
 -- a further operand of `and`, `or` or `xor`
 abbrev pub truth_behind : BinaryOp → Tables → Sense → Judgement Checked_operand
 truth_behind o tables x = truth_of tables x >>= (λ v. known (logical_operand o v))
@@ -54,17 +53,6 @@ whole o a b more tables = both (both (truth_of tables a) (truth_of tables b)) (t
 abbrev pub short : Shortcut → Sense → Sense → List Sense → Tables → Judgement Expr
 short form a b more tables = both (both (truth_of tables a) (truth_of tables b)) (truths_of tables more) >>= (λ r. known (e.Short form r.0.0 r.0.1 r.1))
 
--- the value of an operand that takes on the type of another
-abbrev pub value_as : Tables → Asked → Sense → Judgement Expr
-value_as tables asked x = x.judged tables asked >>= (λ r. known r.value)
-
--- by the first operand that has a type of its own
-abbrev pub by_other : Tables → Asked → Sense → List (Operand Sense) → Judgement Typed
-by_other tables asked x os = by_split tables asked x (split os)
-  where
-    by_split : Tables → Asked → Sense → Split → Judgement Typed
-    by_split tables asked x s = by_other_split tables asked x s.before s.typed s.behind
-
 -- a value that is handed on
 abbrev pub actual_value : Tables → Ty → Sense → Judgement Actual
 actual_value tables t x = x.judged tables (asking.Exactly t) >>= by_value
@@ -73,16 +61,8 @@ actual_value tables t x = x.judged tables (asking.Exactly t) >>= by_value
 abbrev pub record_at : Tables → Span → Ty → Sense → Judgement Actual
 record_at tables place t x = record_by tables t (record { place = place; adopts = x.adopts; judged = x.judged; bare = x.bare; named = x.named; texts = x.texts }) x.named
 
--- a name behind which nothing more comes, told at a place
-abbrev pub whole_name : Tables → Span → Name Use Sense → Judgement Found
-whole_name tables place u = found u.first u.suffixes tables >>= settled tables place
-
 abbrev pub number_of : Tables → Ty → Sense → Judgement Found
 number_of tables t x = x.judged tables asking.Number >>= converted_number t
-
--- an operand, and another that has its type
-abbrev pub alike : Tables → Asked → Sense → Sense → Judgement (Typed × Typed)
-alike tables asked x y = following (x.judged tables asked) (λ t. y.judged tables (asked_like asked t))
 
 -- the first two operands of a logical operator
 abbrev pub two_truths : Tables → Sense → Sense → Judgement (Expr × Expr)
@@ -103,3 +83,88 @@ logical_value logical.OrElse a b more tables = short shortcut.OrElse a b more ta
 -- a Boolean value, where its place may ask something
 abbrev pub boolean_at : Span → Asked → Expr → Judgement Typed
 boolean_at place asked v = fits place asked (record { ty = ty.Boolean; value = v })
+
+-- What is known of an expression with several operands, once each of them is judged -----------------------------------------------
+
+abbrev pub swapped : {A B : Type 0} → Option (A × B) → Judgement (B × A)
+swapped p = onward p (λ r. known (r.1, r.0))
+
+abbrev pub valued : Option Typed → Judgement Expr
+valued t = onward t (λ r. known r.value)
+
+abbrev pub operand_behind : BinaryOp → Option Expr → Judgement Checked_operand
+operand_behind o v = onward v (λ w. known (logical_operand o w))
+
+abbrev pub operand_typed : ArithmeticOperator → Option Typed → Judgement Checked_operand
+operand_typed o t = onward t (λ r. known (operand_of (operator_of o) r.ty r.value))
+
+abbrev pub chain_made : BinaryOp → (Expr × Expr) × List Checked_operand → Judgement Expr
+chain_made o r = known (e.Chain r.0.0 (logical_operand o r.0.1) r.1)
+
+abbrev pub short_made : Shortcut → (Expr × Expr) × List Expr → Judgement Expr
+short_made form r = known (e.Short form r.0.0 r.0.1 r.1)
+
+-- the operands of `and`, `or` or `xor` behind the first two, which may be known
+abbrev pub whole_behind : BinaryOp → Option (Expr × Expr) → List Sense → Tables → Judgement Expr
+whole_behind o two more tables n = with_known (chain_made o) (paired two (truths_behind o tables more n))
+
+abbrev pub short_behind : Shortcut → Option (Expr × Expr) → List Sense → Tables → Judgement Expr
+short_behind form two more tables n = with_known (short_made form) (paired two (truths_of tables more n))
+
+abbrev pub logical_behind : LogicalOperator → Option (Expr × Expr) → List Sense → Tables → Judgement Expr
+logical_behind logical.And two more tables = whole_behind op.And two more tables
+logical_behind logical.Or two more tables = whole_behind op.Or two more tables
+logical_behind logical.Xor two more tables = whole_behind op.Xor two more tables
+logical_behind logical.AndThen two more tables = short_behind shortcut.AndThen two more tables
+logical_behind logical.OrElse two more tables = short_behind shortcut.OrElse two more tables
+
+abbrev pub relation_at : Span → RelationalOperator → Asked → Typed × Typed → Judgement Typed
+relation_at place o asked p = fits place asked (relation_of o p.0 p.1)
+
+abbrev pub unary_at : Span → UnaryOperator → Asked → Typed → Judgement Typed
+unary_at place o asked r = fits place asked (record { ty = r.ty; value = e.Unary (unary_of o) r.ty r.value })
+
+-- by a first operand that gives the others their type
+abbrev pub led_by_first : Typed × List Checked_operand → Judgement Typed
+led_by_first r = known (record { ty = r.0.ty; value = chain_of r.0.value r.1 })
+
+-- by another that does
+abbrev pub led_by : ArithmeticOperator → Typed × ((Expr × List Checked_operand) × List Checked_operand) → Judgement Typed
+led_by o r = known (joined (operator_of o) r.0 r.1)
+
+abbrev pub of_literals : Ty → Expr × List Checked_operand → Judgement Typed
+of_literals t r = known (record { ty = t; value = chain_of r.0 r.1 })
+
+abbrev pub arithmetic : Tables → Asked → Sense → List (Operand Sense) → Judgement Typed
+arithmetic tables asked x os = arithmetic_of tables asked x os (split os)
+
+-- where the first operand stands that has a type of its own
+pub record Leading (os : List (Operand (Expression Use))) (at : ℕ) : Type 0 where
+  pub inside : at < length os
+  pub parts : split (map operand_sense os) ≡ record { before = map operand_sense (take at os); typed = option_map operand_sense (slice_get os at); behind = map operand_sense (drop (at + 1) os) }
+
+abbrev pub Parted : List (Operand (Expression Use)) → Option ℕ → Type 0
+Parted os (Some at) = Leading os at
+Parted os None = split (map operand_sense os) ≡ record { before = map operand_sense os; typed = None; behind = [] }
+
+-- an expression that is to be a name alone
+abbrev pub bare_found : FaultCode → Span → Option (Tables → Judgement Found) → Tables → Judgement Found
+bare_found number place None tables = wrong number place
+bare_found number place (Some name) tables = name tables
+
+-- Names, once it may be known what they are -----------------------------------------------------------------------------------------
+
+abbrev pub selected_behind : Tables → Span → List ℕ → Found → Judgement Found
+selected_behind tables place name f = settled tables place f >>= selected tables place name
+
+abbrev pub all_behind : Tables → Span → Found → Judgement Found
+all_behind tables place f = settled tables place f >>= all_of tables place
+
+abbrev pub name_value : Tables → Span → Asked → Option Found → Judgement Typed
+name_value tables place asked f = onward f (settled tables place) >>= value_found tables place asked
+
+abbrev pub record_handed_on : Tables → Span → Ty → Option Found → Judgement Actual
+record_handed_on tables place t f = onward f (settled tables place) >>= record_found place t
+
+abbrev pub imaged : Option Typed → Judgement Found
+imaged t = onward t image_of_value

@@ -2,13 +2,14 @@
 
 ghost use Rattle.std.specs.Prelude.{◌≡◌, IfOk};
 ghost use Rattle.ctl_typing.specs.Judgement.{Answers, Judges};
+ghost use Rattle.ctl_typing.specs.Senses as senses;
 ghost use Rattle.ctl_typing.specs.Typing as spec;
 
 use crate::found::{Found, Head, Place};
 use crate::judging::{is_same, note, note_deed, wrong};
-use crate::names::name_at;
+use crate::names::{name_at, settled_known};
 use crate::notes::{Deed, Notes};
-use crate::table::Mutability;
+use crate::table::{Mutability, Tables};
 use ctl_program::expression::{Actual, Step};
 use ctl_program::operators::CopyStart;
 use ctl_program::types::Ty;
@@ -117,4 +118,21 @@ pub fn record_found(
     let actual = handed_on(alloc, part.head, part.steps)?;
     note_deed(notes, Deed::Freezes(ty))?;
     Ok(Some(actual))
+}
+
+/// Judges what a name is as the actual of a formal of a record type and of mode `in`, where that is known (RM 6.2).
+pub fn record_handed_on(
+    alloc: Global,
+    tables: &Tables,
+    place: Span,
+    ty: Ty,
+    found: Option<Found>,
+    notes: &mut Notes,
+) -> Result<Option<Actual>, AllocError>
+    ensures { Judges (senses.record_handed_on tables.now place ty found) notes.old result notes.new }
+{
+    match settled_known(alloc, tables, place, found, notes) {
+        Some(found) => record_found(alloc, place, ty, found, notes),
+        None => Ok(None),
+    }
 }

@@ -1,13 +1,13 @@
 //! What is known of an expression before its type: where it stands, and whether operands are joined strings.
 
-ghost use Rattle.std.specs.Prelude.{◌≡◌, ◌∷◌, map};
+ghost use Rattle.std.specs.Prelude.{◌≡◌, ◌&&◌, not, ◌∷◌, map};
 ghost use Rattle.ctl_typing.specs.Senses as senses;
 ghost use Rattle.ctl_typing.specs.Typing as spec;
 
 use crate::found::Adopts;
 use ctl_syntax::denoted::Use;
 use ctl_syntax::expression::Expression;
-use ctl_syntax::operators::{ArithmeticOperator, Operand};
+use ctl_syntax::operators::{ArithmeticOperator, Operand, UnaryOperator};
 use ctl_tree::span::Span;
 
 /// Answers where an expression begins.
@@ -76,4 +76,68 @@ pub fn takes_on(adopts: Adopts) -> bool
         Adopts::Nothing => false,
         Adopts::Numbers | Adopts::Accesses => true,
     }
+}
+
+/// Answers what operations on two operands take on: on literals alone, what literals do.
+fn joint(first: Adopts, second: Adopts) -> Adopts
+    ensures { result ≡ spec.joint first second }
+{
+    match (first, second) {
+        (Adopts::Numbers, Adopts::Numbers) => Adopts::Numbers,
+        _ => Adopts::Nothing,
+    }
+}
+
+/// Answers what an operation on one operand takes on.
+fn of_unary(operator: UnaryOperator, operand: Adopts) -> Adopts
+    ensures { result ≡ spec.of_unary operator operand }
+{
+    match operator {
+        UnaryOperator::Not => Adopts::Nothing,
+        UnaryOperator::Plus | UnaryOperator::Minus | UnaryOperator::Abs => joint(operand, operand),
+    }
+}
+
+/// Answers which types an expression takes on from its place.
+#[tactic(auto, using(crate::proofs::Senses::sense_chain))]
+pub fn adopts(x: &Expression<Use>) -> Adopts
+    ensures { result ≡ (spec.sense x.now).adopts }
+{
+    match x {
+        Expression::Number(_, _) => Adopts::Numbers,
+        Expression::Null(_) => Adopts::Accesses,
+        Expression::Unary(_, operator, operand) => of_unary(*operator, adopts(operand.get())),
+        Expression::Parentheses(_, inner) => adopts(inner.get()),
+        Expression::Chain(_, first, second, rest) => {
+            let mut so_far = joint(adopts(first.get()), adopts(&second.get().operand));
+            for operand in rest.as_slice() {
+                so_far = joint(so_far, adopts(&operand.operand));
+            }
+            so_far
+        }
+        Expression::Logical(_, _, _, _, _)
+        | Expression::Relation(_, _, _, _)
+        | Expression::String(_, _)
+        | Expression::Name(_, _)
+        | Expression::New(_, _, _, _) => Adopts::Nothing,
+    }
+}
+
+/// Tells whether the left one of two operands takes on the type of the right one: that one has a type of its own, and the left one none.
+pub fn is_led_by_right(left: &Expression<Use>, right: &Expression<Use>) -> bool
+    ensures { result ≡ (spec.adopts (spec.sense left.now).adopts && not (spec.adopts (spec.sense right.now).adopts)) }
+{
+    takes_on(adopts(left)) && !takes_on(adopts(right))
+}
+
+/// Answers where the first operand stands that has a type of its own.
+pub fn parted(operands: &[Operand<Expression<Use>>]) -> Option<usize>
+    ensures { senses.Parted operands.now result }
+{
+    for (at, operand) in operands.iter().enumerate() {
+        if !takes_on(adopts(&operand.operand)) {
+            return Some(at);
+        }
+    }
+    None
 }

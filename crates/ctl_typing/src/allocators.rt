@@ -1,7 +1,7 @@
 //! What an allocator makes (RM 4.8, 13.11.4).
 
 ghost use Rattle.std.specs.Prelude.{◌≡◌, IfOk, OnOk};
-ghost use Rattle.ctl_typing.specs.Judgement.{Answers, Judges, with_deeds};
+ghost use Rattle.ctl_typing.specs.Judgement.{Answers, Judges, onward, with_deeds};
 ghost use Rattle.ctl_typing.specs.Typing as spec;
 ghost use Rattle.ctl_typing.specs.Typing.{creating};
 ghost use Rattle.ctl_typing.specs.Allocating as allocating;
@@ -9,7 +9,7 @@ ghost use Rattle.ctl_typing.specs.Allocating as allocating;
 use crate::found::{Asked, Found, Typed};
 use crate::judging::{note_deed, wrong};
 use crate::literals::first_found;
-use crate::names::value_at;
+use crate::names::{settled_known, value_at};
 use crate::notes::{Deed, Notes};
 use crate::table::{Concreteness, Tables};
 use crate::values::designates;
@@ -142,6 +142,45 @@ pub fn mark_judged(
     }
     match first_found(alloc, tables, &first, notes)? {
         Some(found) => Ok(marked(first.span, found, notes)),
+        None => Ok(None),
+    }
+}
+
+/// Judges a name as a handle, where it is known what it is (RM 13.11.4).
+pub fn handle_of(
+    alloc: Global,
+    tables: &Tables,
+    place: Span,
+    found: Option<Found>,
+    notes: &mut Notes,
+) -> Result<Option<Option<Expr>>, AllocError>
+    ensures { Judges (allocating.handle_of tables.now place found) notes.old result notes.new }
+{
+    let Some(found) = settled_known(alloc, tables, place, found, notes) else {
+        return Ok(None);
+    };
+    match handle_found(alloc, place, found, notes)? {
+        Some(value) => Ok(Some(Some(value))),
+        None => Ok(None),
+    }
+}
+
+/// Judges an allocator by its parts, where they are known: the handle, the type and the value (RM 4.8).
+pub fn allocator(
+    alloc: Global,
+    tables: &Tables,
+    place: Span,
+    asked: Asked,
+    parts: Option<(Option<Expr>, (Ty, Option<Expr>))>,
+    notes: &mut Notes,
+) -> Result<Option<Typed>, AllocError>
+    ensures { Judges (onward parts (allocating.by_parts tables.now place asked)) notes.old result notes.new }
+{
+    let Some((handle, (ty, value))) = parts else {
+        return Ok(None);
+    };
+    match allocates(tables, place, asked, ty, notes) {
+        Some(access) => allocated(alloc, access, ty, handle, value, notes),
         None => Ok(None),
     }
 }

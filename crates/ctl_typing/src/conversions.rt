@@ -1,7 +1,9 @@
 //! Conversions, and functions on mark pools (RM 4.6, 13.11.4).
 
 ghost use Rattle.std.specs.Prelude.{◌≡◌};
-ghost use Rattle.ctl_typing.specs.Judgement.{Answers, Judges};
+ghost use Rattle.ctl_typing.specs.declared.notes.Notes.{Notes as Noted};
+ghost use Rattle.ctl_typing.specs.Judgement.{Answers, Judges, onward};
+ghost use Rattle.ctl_typing.specs.Senses as senses;
 ghost use Rattle.ctl_typing.specs.Typing as spec;
 
 use crate::actuals::as_variable;
@@ -20,10 +22,17 @@ use ctl_tree::span::Span;
 use sqlite_items::Boxed;
 use std::alloc::{AllocError, Global};
 
-/// Converts a number to a number type (RM 4.6).
-pub fn converted_number(alloc: Global, ty: Ty, typed: Typed) -> Result<Option<Found>, AllocError>
-    ensures { (notes : _) → Judges (spec.converted_number ty typed) notes result notes }
+/// Converts a number to a number type, where it is known (RM 4.6).
+pub fn converted_number(
+    alloc: Global,
+    ty: Ty,
+    typed: Option<Typed>,
+) -> Result<Option<Found>, AllocError>
+    ensures { (notes : Noted) → Judges (onward typed (spec.converted_number ty)) notes result notes }
 {
+    let Some(typed) = typed else {
+        return Ok(None);
+    };
     let value = Expr::Convert(ty, Boxed::new(alloc, typed.value)?);
     Ok(Some(Found::Computed(Typed { ty, value })))
 }
@@ -126,5 +135,15 @@ pub fn subpool_of(
             Ok(as_variable(place, part.mutability, Found::Computed(typed), notes))
         }
         _ => Ok(wrong(FaultCode::Type, place, notes)),
+    }
+}
+
+/// Answers the image of a value, where that is known (RM 3.5).
+pub fn imaged(typed: Option<Typed>) -> Option<Found>
+    ensures { (notes : Noted) → senses.imaged typed notes ≡ (result, notes) }
+{
+    match typed {
+        Some(typed) => Some(Found::Imaged(typed)),
+        None => None,
     }
 }

@@ -100,3 +100,18 @@ pub fn fits(
     note_deed(notes, Deed::Freezes(typed.ty))?;
     Ok(Some(typed))
 }
+
+/// Notes an expression of another type than its place asks, where it is known.
+pub fn fitted(
+    place: Span,
+    asked: Asked,
+    typed: Option<Typed>,
+    notes: &mut Notes,
+) -> Result<Option<Typed>, AllocError>
+    ensures { Judges (judgement.onward typed (spec.fits place asked)) notes.old result notes.new }
+{
+    match typed {
+        Some(typed) => fits(place, asked, typed, notes),
+        None => Ok(None),
+    }
+}

@@ -1,7 +1,8 @@
 //! A name read from its beginning on: components, dereferences, attributes and results.
 
 ghost use Rattle.std.specs.Prelude.{◌≡◌, IfOk};
-ghost use Rattle.ctl_typing.specs.Judgement.{Answers, Judges};
+ghost use Rattle.ctl_typing.specs.Judgement.{Answers, Judges, onward};
+ghost use Rattle.ctl_typing.specs.Senses as senses;
 ghost use Rattle.ctl_typing.specs.Typing as spec;
 
 use crate::found::{Found, Head, Place, Typed};
@@ -213,5 +214,54 @@ pub fn all_of(
     match dereferenced(tables, place, part, notes)? {
         Some(part) => Ok(Some(Found::Part(part))),
         None => Ok(None),
+    }
+}
+
+/// Selects behind a name that nothing more stands before (RM 4.1.3).
+pub fn selector(
+    alloc: Global,
+    tables: &Tables,
+    place: Span,
+    found: Found,
+    name: &Text,
+    notes: &mut Notes,
+) -> Result<Option<Found>, AllocError>
+    ensures { Judges (senses.selected_behind tables.now place name.now found) notes.old result notes.new }
+{
+    match settled(alloc, tables, place, found, notes) {
+        Some(found) => selected(tables, place, name, found, notes),
+        None => Ok(None),
+    }
+}
+
+/// Reads `.all` behind a name that nothing more stands before (RM 4.1).
+pub fn dereference(
+    alloc: Global,
+    tables: &Tables,
+    place: Span,
+    found: Found,
+    notes: &mut Notes,
+) -> Result<Option<Found>, AllocError>
+    ensures { Judges (senses.all_behind tables.now place found) notes.old result notes.new }
+{
+    match settled(alloc, tables, place, found, notes) {
+        Some(found) => all_of(tables, place, found, notes),
+        None => Ok(None),
+    }
+}
+
+/// Answers what a name is once nothing more comes, where it is known what it was before (RM 6.4).
+pub fn settled_known(
+    alloc: Global,
+    tables: &Tables,
+    place: Span,
+    found: Option<Found>,
+    notes: &mut Notes,
+) -> Option<Found>
+    ensures { Answers (onward found (spec.settled tables.now place)) notes.old result notes.new }
+{
+    match found {
+        Some(found) => settled(alloc, tables, place, found, notes),
+        None => None,
     }
 }

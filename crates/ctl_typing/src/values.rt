@@ -3,12 +3,13 @@
 ghost use Rattle.std.specs.Prelude.{◌≡◌};
 ghost use Rattle.ctl_typing.specs.Judgement.{Answers, Judges};
 ghost use Rattle.ctl_typing.specs.Lookup as lookup;
+ghost use Rattle.ctl_typing.specs.Senses as senses;
 ghost use Rattle.ctl_typing.specs.Typing as spec;
 
 use crate::found::{Asked, Found, Typed};
 use crate::judging::{fits, is_same, note, wrong};
 use crate::lookup::{designated_by, is_general, level_of_access};
-use crate::names::{name_at, value_at};
+use crate::names::{name_at, settled_known, value_at};
 use crate::notes::Notes;
 use crate::table::Tables;
 use ctl_program::expression::Expr;
@@ -100,4 +101,21 @@ pub fn value_found(
         _ => return Ok(wrong(FaultCode::Type, place, notes)),
     };
     fits(place, asked, typed, notes)
+}
+
+/// Judges a name as a value, where it is known what it is (RM 4.1, 4.4).
+pub fn name_value(
+    alloc: Global,
+    tables: &Tables,
+    place: Span,
+    asked: Asked,
+    found: Option<Found>,
+    notes: &mut Notes,
+) -> Result<Option<Typed>, AllocError>
+    ensures { Judges (senses.name_value tables.now place asked found) notes.old result notes.new }
+{
+    match settled_known(alloc, tables, place, found, notes) {
+        Some(found) => value_found(alloc, tables, place, asked, found, notes),
+        None => Ok(None),
+    }
 }

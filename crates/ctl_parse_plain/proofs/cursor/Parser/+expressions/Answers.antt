@@ -1,4 +1,4 @@
-use Rattle.std.proofs.Common.{refl, sym, ap, ◌∙◌}
+use Rattle.std.proofs.Common.{true, false, refl, sym, ap, ◌∙◌}
 use Rattle.ctl_grammar.specs.Form.{none, num, pair, tag}
 use Rattle.ctl_grammar.specs.Grammar.{addend, addends, adding, allocator, behind_and, behind_or, body, compared, expression, expressions, factor, handle, identifier, joined, joiner, multiplicand, multiplicands, multiplying, name, next_expression, next_relation, null, number, primary, qualified, relation, relational, relations, selection, simple, string, suffix, suffixes, term}
 use Rattle.ctl_grammar.specs.Nodes.{first, second, part_2, behind_2, part_3, behind_3, name_of, parentheses_of, unary_of, product_of, sum_of, relation_of, logical_of, allocator_of, arguments_of}
@@ -238,7 +238,7 @@ next_addends-more-smaller t c = smaller refl (sym c.at_adding.ensures ∙ c.more
 
 pub next_addends-more-preserved : goal.next_addends-more-preserved
 unfolding addends addend adding
-next_addends-more-preserved t c = gathering (operand_node view) c.more.invariant refl (sym c.at_adding.ensures ∙ c.more-test.true) c.addend-next.ensures.given c.push.ensures
+next_addends-more-preserved t c = gathering (operand_node true view) c.more.invariant refl (sym c.at_adding.ensures ∙ c.more-test.true) c.addend-next.ensures.given c.push.ensures
 
 pub next_addends-returns : goal.next_addends-returns
 unfolding addends addend adding
@@ -254,7 +254,7 @@ next_multiplicands-more-smaller t c = smaller refl (sym c.at_multiplying.ensures
 
 pub next_multiplicands-more-preserved : goal.next_multiplicands-more-preserved
 unfolding multiplicands multiplicand multiplying
-next_multiplicands-more-preserved t c = gathering (operand_node view) c.more.invariant refl (sym c.at_multiplying.ensures ∙ c.more-test.true) c.multiplicand-next.ensures.given c.push.ensures
+next_multiplicands-more-preserved t c = gathering (operand_node false view) c.more.invariant refl (sym c.at_multiplying.ensures ∙ c.more-test.true) c.multiplicand-next.ensures.given c.push.ensures
 
 pub next_multiplicands-returns : goal.next_multiplicands-returns
 unfolding multiplicands multiplicand multiplying

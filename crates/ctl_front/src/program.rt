@@ -1,0 +1,21 @@
+//! All stages: lexis, grammar, names, types.
+
+ghost use Rattle.ctl_front.specs.Text.{Answers};
+
+use crate::tree::tree_of;
+use ctl_program::program::Checked;
+use ctl_resolve::whole::named;
+use ctl_tree::fault::Fault;
+use ctl_types::whole::check;
+use std::alloc::Global;
+
+/// Answers the checked program of a source text, or its first fault: of its lexis (1 to 5) or its grammar (10 to 13); or the first rule on
+/// names, order and completion that it breaks (20 to 26); or the first rule on types (30 to 41). MEMORY comes only where the host refused
+/// memory.
+pub fn program_of(alloc: Global, source: &[u8]) -> Result<Checked, Fault>
+    ensures { Answers source.now result }
+{
+    let tree = tree_of(alloc, source)?;
+    let (tree, broken) = named(alloc, &tree)?;
+    check(alloc, &tree, broken)
+}

@@ -1,0 +1,388 @@
+-- Declared objects and exceptions grow the draft, and are well typed; tables without types and subprograms of the text.
+use Rattle.std.proofs.Common.{arith, ◌≡◌, ◌≤◌, refl, sym, ap, ◌∙◌, subst, ℕ, suc, ◌+◌, nat_eq, Bool, true, false, ◌&&◌, not, if◌then◌else◌, List, [], ◌∷◌, ◌++◌, length, slice_get, Option, Some, None, option_map}
+use Rattle.std.proofs.lemmas.Bool.Decides.{nat_tests}
+use Rattle.std.proofs.lemmas.List.{length-append}
+use Rattle.ctl_tree.specs.declared.span.Span.{Span}
+use Rattle.ctl_tree.specs.declared.fault.FaultCode.{FaultCode}
+use Rattle.ctl_tree.specs.declared.fault.FaultCode.TheVariants as rule_of
+use Rattle.ctl_program.specs.declared.types.Ty.{Ty}
+use Rattle.ctl_program.specs.declared.types.Ty.TheVariants as ty
+use Rattle.ctl_program.specs.declared.types.Root.{Root}
+use Rattle.ctl_program.specs.declared.types.Root.TheVariants as root
+use Rattle.ctl_program.specs.declared.expression.Expr.{Expr}
+use Rattle.ctl_program.specs.declared.statement.Association.{Association as Checked_association}
+use Rattle.ctl_program.specs.declared.statement.Item.{Item as Checked_item}
+use Rattle.ctl_program.specs.declared.statement.Item.TheVariants as made
+use Rattle.ctl_syntax.specs.declared.denoted.Definition.{Definition}
+use Rattle.ctl_syntax.specs.declared.denoted.Use.{Use}
+use Rattle.ctl_syntax.specs.declared.expression.Expression.{Expression}
+use Rattle.ctl_syntax.specs.declared.item.Aliasing.{Aliasing}
+use Rattle.ctl_syntax.specs.declared.item.Aliasing.TheVariants as aliasing
+use Rattle.ctl_syntax.specs.declared.item.Association.{Association}
+use Rattle.ctl_syntax.specs.declared.item.Objects.{Objects}
+use Rattle.ctl_syntax.specs.declared.name.Identifier.{Identifier}
+use Rattle.ctl_typing.specs.declared.found.Head.TheVariants as head
+use Rattle.ctl_typing.specs.declared.notes.Deed.{Deed}
+use Rattle.ctl_typing.specs.declared.notes.Notes.{Notes}
+use Rattle.ctl_typing.specs.declared.table.Entry.TheVariants as entry
+use Rattle.ctl_typing.specs.declared.table.RecordEntry.{RecordEntry}
+use Rattle.ctl_typing.specs.declared.table.Tables.{Tables}
+use Rattle.ctl_typing.specs.Judgement.{wrong, with_fault, with_known, each}
+use Rattle.ctl_typing.specs.Lookup.{root_of}
+use Rattle.ctl_typing.specs.Typing.{sense, together, discriminant_named}
+use Rattle.ctl_types.specs.declared.associations.Associated.TheVariants.{Discriminants}
+use Rattle.ctl_types.specs.declared.draft.Around.{Around}
+use Rattle.ctl_types.specs.declared.draft.Draft.{Draft}
+use Rattle.ctl_types.specs.declared.draft.Order.{Order}
+use Rattle.ctl_types.specs.declared.draft.Order.TheVariants as order
+use Rattle.ctl_types.specs.Draft.{fault_when, asking, asked, deeds_of, declare}
+use Rattle.ctl_types.specs.Freezing.{done_by}
+use Rattle.ctl_types.specs.Marks as marks
+use Rattle.ctl_types.specs.Types.{is_given}
+use Rattle.ctl_types.specs.Declarations as decl
+use Rattle.ctl_types.specs.Elaboration.{surely}
+use Rattle.ctl_well_typed.specs.Setting.{Declared, declared, Frames, Names, Setting, InView}
+use Rattle.ctl_well_typed.specs.Types.{HasDiscriminant, block_size, block_count, pool_size}
+use Rattle.ctl_well_typed.specs.Expressions.{Perhaps}
+use Rattle.ctl_well_typed.specs.Statements as rule
+use Rattle.ctl_well_typed.specs.Statements.{Given, Elaborated, ElaboratedEach}
+use Rattle.ctl_sound.specs.Known.{IfSome, All, Gives}
+use Rattle.ctl_sound.specs.Library.{HasLibrary}
+use Rattle.ctl_sound.specs.Sound.{EntryFine, AliasFine, Sound}
+use Rattle.ctl_sound.proofs.Names.{discriminant_is}
+use Rattle.ctl_sound.proofs.Values.{expression_right}
+use Rattle.ctl_sound.proofs.Items.{object_type_good, value_of_good, discriminants_good}
+use Rattle.ctl_sound.proofs.Growing.{behind_same, behind_one, behind_further, behind_length, behind_read, each_with, last_read, Still, still_self, still_noted, still_further, still_grows, Grows, grows_further}
+use Rattle.ctl_sound.proofs.Freezing.{Quiet, done_quiet}
+use Rattle.ctl_sound.proofs.Fronts.{Fronts, fronts_still, fronts_sound}
+use Rattle.ctl_sound.proofs.Steps.{Leads, then_leads, each_goes}
+
+-- Positions of discriminants (3.7.1) ---------------------------------------------------------------
+
+abbrev EachHas : Root → List ℕ → Type 0
+EachHas r ns = All (λ n. HasDiscriminant r n) ns
+
+positional_of : (r : Root) → EachHas r (marks.numbers_on [] (marks.discriminant_count r) 0) × ((length (marks.numbers_on [] (marks.discriminant_count r) 0) ≡ marks.discriminant_count r) × (marks.discriminant_count r ≡ rule.discriminants r))
+positional_of root.BlockPool = ((block_size, (block_count, tt)), (refl, refl))
+positional_of root.MarkPool = ((pool_size, tt), (refl, refl))
+positional_of root.Untagged = (tt, (refl, refl))
+positional_of root.Controlled = (tt, (refl, refl))
+
+all_with : {A : Type 0} (P : A → Type 0) (xs : List A) (x : A) → All P xs → P x → All P (xs ++ x ∷ [])
+all_with P [] x h i = (i, tt)
+all_with P (y ∷ xs) x h i = (h.0, all_with P xs x h.1 i)
+
+any_value : {A : Type 0} (o : Option A) → IfSome (λ (a : A). Unit {0}) o
+any_value None = tt
+any_value (Some a) = tt
+
+module _ (r : Root) (has : (name : List ℕ) → IfSome (HasDiscriminant r) (discriminant_named r name)) where
+  abbrev AsMany : ℕ → List ℕ → Type 0
+  AsMany n ns = EachHas r ns × (length ns ≡ n)
+
+  position_has : (i : Option Identifier) → IfSome (HasDiscriminant r) (marks.position_of (Discriminants r) i)
+  position_has None = tt
+  position_has (Some i) = has i.text
+
+  named_has : (before : List ℕ) (as' : List (Association Use)) → EachHas r before → IfSome (AsMany (length before + length as')) (marks.named_on (Discriminants r) (Some before) as')
+  named_has before [] h = (h, omega arith)
+  named_has before (a ∷ as') h = by_position (marks.position_of (Discriminants r) a.name) (position_has a.name) (λ n g. named_has (before ++ n ∷ []) as' (all_with (λ m. HasDiscriminant r m) before n h g))
+    where
+      by_position : (p : Option ℕ) → IfSome (HasDiscriminant r) p → ((n : ℕ) → HasDiscriminant r n → IfSome (AsMany (length (before ++ n ∷ []) + length as')) (marks.named_on (Discriminants r) (Some (before ++ n ∷ [])) as')) → IfSome (AsMany (length before + suc (length as'))) (marks.named_on (Discriminants r) (marks.with_position before p) as')
+      by_position None g again = tt
+      by_position (Some n) g again = by_test (marks.is_among n before)
+        where
+          one_longer : length (before ++ n ∷ []) + length as' ≡ length before + suc (length as')
+          one_longer = let e = length-append before (n ∷ []) in omega (arith, e)
+
+          by_test : (b : Bool) → IfSome (AsMany (length before + suc (length as'))) (marks.named_on (Discriminants r) (if b then None else Some (before ++ n ∷ [])) as')
+          by_test true = tt
+          by_test false = subst (λ m. IfSome (AsMany m) (marks.named_on (Discriminants r) (Some (before ++ n ∷ [])) as')) one_longer (again n g)
+
+  abbrev Right : List (Association Use) → List ℕ → Type 0
+  Right as' ns = AsMany (length as') ns × (length as' ≡ rule.discriminants r)
+
+  pub positions_right : (as' : List (Association Use)) → IfSome (Right as') (marks.positions (Discriminants r) as')
+  positions_right as' = by_count (nat_eq (marks.discriminant_count r) (length as')) refl
+    where
+      named : marks.discriminant_count r ≡ length as' → (o : Option (List ℕ)) → IfSome (AsMany (length as')) o → IfSome (Right as') o
+      named e None h = tt
+      named e (Some ns) h = (h, sym e ∙ (positional_of r).1.1)
+
+      by_form : (b : Bool) → marks.discriminant_count r ≡ length as' → IfSome (Right as') (if b then Some (marks.numbers_on [] (length as') 0) else marks.named_on (Discriminants r) (Some []) as')
+      by_form true e = subst (λ n. (EachHas r (marks.numbers_on [] n 0) × (length (marks.numbers_on [] n 0) ≡ n)) × (n ≡ rule.discriminants r)) e (((positional_of r).0, (positional_of r).1.0), (positional_of r).1.1)
+      by_form false e = let none : 0 + length as' ≡ length as' = omega arith in named e (marks.named_on (Discriminants r) (Some []) as') (subst (λ n. IfSome (AsMany n) (marks.named_on (Discriminants r) (Some []) as')) none (named_has [] as' tt))
+
+      by_count : (b : Bool) → nat_eq (marks.discriminant_count r) (length as') ≡ b → IfSome (Right as') (if b then (if marks.all_positional as' then Some (marks.numbers_on [] (length as') 0) else marks.named_on (Discriminants r) (Some []) as') else None)
+      by_count true h = let e : marks.discriminant_count r ≡ length as' = grind (arith, nat_tests) in by_form (marks.all_positional as') e
+      by_count false h = tt
+
+  pub at_has : (ns : List ℕ) (as' : List (Association Use)) → EachHas r ns → All (λ (p : ℕ × Association Use). HasDiscriminant r p.0) (decl.discriminants_at ns as')
+  at_has [] as' h = tt
+  at_has (n ∷ ns) [] h = tt
+  at_has (n ∷ ns) (a ∷ as') h = (h.0, at_has ns as' h.1)
+
+at_length : (ns : List ℕ) (as' : List (Association Use)) → length ns ≡ length as' → length (decl.discriminants_at ns as') ≡ length as'
+at_length [] [] h = refl
+at_length [] (a ∷ as') h = absurd (cc)
+at_length (n ∷ ns) [] h = absurd (cc)
+at_length (n ∷ ns) (a ∷ as') h = let same : length ns ≡ length as' = omega (arith, h) in ap suc (at_length ns as' same)
+
+-- What is known of an object -----------------------------------------------------------------------------
+
+module _ (k : Setting) (env : Frames) (tables : Tables) (sound : Sound k env tables) where
+  abbrev AllGiven : Root → List Checked_association → Type 0
+  AllGiven r as' = Given k env r as' × (length as' ≡ rule.discriminants r)
+
+  abbrev pub GivenFor : Option Ty → List Checked_association → Type 0
+  GivenFor None as' = Unit {0}
+  GivenFor (Some t) as' = AllGiven (marks.root_of_type tables t) as'
+
+  abbrev pub ValueFor : Option Ty → Option Expr → Type 0
+  ValueFor None v = Unit {0}
+  ValueFor (Some t) v = Perhaps k env v t
+
+  wrong_behind : {A C : Type 0} (Q : C → Type 0) (which : FaultCode) (place : Span) (r : Option A × Notes) → IfSome Q (with_known (λ (a : A). wrong {A = C} which place) r).0
+  wrong_behind Q which place (None, n) = tt
+  wrong_behind Q which place (Some a, n) = tt
+
+  discriminants_right : (place : Span) (r : Root) (as' : List (Association Use)) → Gives (AllGiven r) (decl.discriminants_by place (marks.positions (Discriminants r) as') as' tables)
+  discriminants_right place r as' = by_positions (marks.positions (Discriminants r) as') (positions_right r (discriminant_is k env tables sound r) as')
+    where
+      longer : (ns : List ℕ) (o : Option (List Checked_association)) → length ns ≡ length as' → length as' ≡ rule.discriminants r → IfSome (λ cs. Given k env r cs × (length cs ≡ length (decl.discriminants_at ns as'))) o → IfSome (AllGiven r) o
+      longer ns None e g h = tt
+      longer ns (Some cs) e g h = (h.0, h.1 ∙ at_length ns as' e ∙ g)
+
+      by_positions : (p : Option (List ℕ)) → IfSome (Right r (discriminant_is k env tables sound r) as') p → Gives (AllGiven r) (decl.discriminants_by place p as' tables)
+      by_positions None h n = wrong_behind (AllGiven r) _ place (each (decl.anything tables) (Some []) as' n)
+      by_positions (Some ns) h n = longer ns (each (decl.discriminant tables) (Some []) (decl.discriminants_at ns as') n).0 h.0.1 h.1 (discriminants_good k env tables sound r (decl.discriminants_at ns as') (at_has r (discriminant_is k env tables sound r) ns as' h.0.0) n)
+
+  pub given_right : (place : Span) (t : Option Ty) (as' : List (Association Use)) → Gives (GivenFor t) (decl.discriminants_given place t as' tables)
+  given_right place None as' n = any_value (decl.discriminants_given place None as' tables n).0
+  given_right place (Some t) as' n = discriminants_right place (marks.root_of_type tables t) as' n
+
+  pub value_right : (t : Option Ty) (x : Option (Expression Use)) → IfSome (InView k env) t → Gives (ValueFor t) (decl.value_of t (option_map sense x) tables)
+  value_right None x v n = any_value (decl.value_of None (option_map sense x) tables n).0
+  value_right (Some t) None v n = value_of_good k env tables sound t None v tt n
+  value_right (Some t) (Some x) v n = value_of_good k env tables sound t (Some (sense x)) v (expression_right k env tables sound x) n
+
+  -- it has this slot
+  abbrev pub SlotFor : ℕ → Option Ty → Type 0
+  SlotFor n None = Unit {0}
+  SlotFor n (Some t) = Names env (record { level = length env; slot = n }) (Declared t)
+
+  one_item : (i : Checked_item) → Elaborated k env i → ElaboratedEach k env (i ∷ [])
+  one_item i h = rule.one_more_item h rule.no_more_items
+
+  same_pools : (r : Root) → marks.is_pool_root r ≡ true → rule.is_pool r ≡ true
+  same_pools root.BlockPool h = refl
+  same_pools root.MarkPool h = refl
+  same_pools root.Untagged h = absurd (cc)
+  same_pools root.Controlled h = absurd (cc)
+
+  pool_right : (n t : ℕ) (as' : List Checked_association) (o : Option RecordEntry) → slice_get tables.records t ≡ o → marks.is_pool_root (root_of o) ≡ true → InView k env (ty.Record t) → SlotFor n (Some (ty.Record t)) → AllGiven (root_of o) as' → Elaborated k env (made.Pool n t as')
+  pool_right n t as' None e h v names g = absurd (cc)
+  pool_right n t as' (Some r) e h v names g = rule.pool (rule.fills names) v (sound.types.rooted t r e) (same_pools r.root h) g.1 g.0
+
+  item_right : (n : ℕ) (t : Ty) (as' : List Checked_association) (v : Option Expr) → InView k env t → GivenFor (Some t) as' → Perhaps k env v t → SlotFor n (Some t) → Elaborated k env (decl.object_item tables t n as' v)
+  item_right n (ty.Record t) as' v i g p names = by_pool (marks.is_pool tables (ty.Record t)) refl
+    where
+      by_pool : (b : Bool) → marks.is_pool tables (ty.Record t) ≡ b → Elaborated k env (if b then made.Pool n t as' else made.Object n (ty.Record t) v)
+      by_pool true e = pool_right n t as' (slice_get tables.records t) refl e i names g
+      by_pool false e = rule.object (rule.fills names) i p
+  item_right n ty.Integer as' v i g p names = rule.object (rule.fills names) i p
+  item_right n ty.Count as' v i g p names = rule.object (rule.fills names) i p
+  item_right n ty.Boolean as' v i g p names = rule.object (rule.fills names) i p
+  item_right n ty.Address as' v i g p names = rule.object (rule.fills names) i p
+  item_right n ty.Handle as' v i g p names = rule.object (rule.fills names) i p
+  item_right n (ty.Access a) as' v i g p names = rule.object (rule.fills names) i p
+
+  pub made_right : (n : ℕ) (t : Option Ty) (as' : Option (List Checked_association)) (v : Option (Option Expr)) → IfSome (InView k env) t → IfSome (GivenFor t) as' → IfSome (ValueFor t) v → SlotFor n t → IfSome (ElaboratedEach k env) (decl.object_made tables n t as' v)
+  made_right n None as' v i g p names = tt
+  made_right n (Some t) None v i g p names = tt
+  made_right n (Some t) (Some as') None i g p names = tt
+  made_right n (Some t) (Some as') (Some v) i g p names = one_item (decl.object_item tables t n as' v) (item_right n t as' v i g p names)
+
+-- Drafts as objects are judged ----------------------------------------------------------------------------
+
+pub told_still : (b : Bool) (which : FaultCode) (place : Span) (d : Draft) → Still d (fault_when b which place d)
+told_still true which place d = still_noted d d.returning d.waiting (with_fault which place d.notes)
+told_still false which place d = still_self d
+
+names_still : (ns : List Definition) (d : Draft) → Still d (decl.names_kept ns d)
+names_still [] d = still_self d
+names_still (n ∷ ns) d = still_further d (decl.name_kept n d) (decl.names_kept ns (decl.name_kept n d)) (told_still (is_given (decl.operation_named n.identifier.text)) _ n.identifier.span d) (names_still ns (decl.name_kept n d))
+
+waits_still : (o : Order) (place : Span) (t : Option Ty) (d : Draft) → Still d (decl.wait_as o place t d)
+waits_still order.BeforeBody place None d = still_noted d d.returning _ d.notes
+waits_still order.BeforeBody place (Some t) d = still_noted d d.returning _ d.notes
+waits_still order.BehindBodies place None d = still_self d
+waits_still order.BehindBodies place (Some t) d = still_self d
+
+value_still : (place : Span) (o : Objects Definition Use) (name : Span) (t : Option Ty) (d : Draft) → Still d (decl.value_kept place o name t d)
+value_still place o name t d =
+    let b = decl.is_constant o.constancy && not (is_given o.value) in
+    let e = fault_when b rule_of.Type place d in
+    still_further d e (decl.value_kept place o name t d) (told_still b rule_of.Type place d) (told_still (decl.limited_as d.tables t && is_given o.value) rule_of.Limited name e)
+
+-- behind declarations: each slot is of a declared object
+pub record ItemBack (k : Setting) (env : Frames) (d : Draft) : Type 0 where
+  pub declares : (n : ℕ) (t : Ty) → slice_get d.slots n ≡ Some t → Names env (record { level = length env; slot = n }) (Declared t)
+  pub exceptions : length d.exceptions ≤ k.exceptions
+
+pub items_backwards : (k : Setting) (env : Frames) (d e : Draft) → Grows d e → ItemBack k env e → ItemBack k env d
+items_backwards k env d e g b =
+    let exceptions = behind_length d.exceptions e.exceptions g.exceptions in
+    record { declares = λ n t h. b.declares n t (behind_read d.slots e.slots n t g.slots h); exceptions = omega (arith, exceptions, b.exceptions) }
+
+pub items_noted : (k : Setting) (env : Frames) (d : Draft) (n : Notes) → Fronts k env d → Fronts k env (record d { notes = n })
+items_noted k env d n f = fronts_still k env d (record d { notes = n }) (still_noted d d.returning d.waiting n) f
+
+module _ (k : Setting) (has : HasLibrary k) (env : Frames) (a : Around) (level : a.level ≡ length env) where
+  abbrev pub Comes : {A : Type 0} → (A → Type 0) → Draft → Option A × Draft → Type 0
+  Comes Q d r = Leads (Fronts k env) (ItemBack k env) (items_backwards k env) (items_noted k env) Q d r
+
+  abbrev pub RightItems : List Checked_item → Type 0
+  RightItems is' = ElaboratedEach k env is'
+
+  pub still_comes : {A : Type 0} (Q : A → Type 0) (d e : Draft) (r : Option A × Draft) → Still d e → Comes Q e r → Comes Q d r
+  still_comes Q d e r s h = record { grows = grows_further d e r.1 (still_grows d e s) h.grows; right = λ f b. h.right (fronts_still k env d e s f) b }
+
+  abbrev SlotOf : ℕ → Option Ty → Type 0
+  SlotOf n None = Unit {0}
+  SlotOf n (Some t) = Names env (record { level = length env; slot = n }) (Declared t)
+
+  alias_right : (q : Aliasing) (n : ℕ) (t : Ty) → Names env (record { level = a.level; slot = n }) (Declared t) → AliasFine env q (head.At (record { level = a.level; slot = n })) t
+  alias_right aliasing.Aliased n t h = h
+  alias_right aliasing.Unaliased n t h = tt
+
+  layered : (is' : Option (List Checked_item)) (ls : List Checked_item) → ls ≡ [] → IfSome RightItems is' → IfSome RightItems (decl.with_layers is' ls)
+  layered None ls e h = tt
+  layered (Some is') ls e h = subst (λ xs. ElaboratedEach k env (xs ++ is')) (sym e) h
+
+  unknown_comes : (d g : Draft) (is' : Option (List Checked_item)) → Still d g → (Fronts k env d → IfSome RightItems is') → Comes RightItems d (is', declare entry.Unknown g)
+  unknown_comes d g is' s made' = record {
+    grows = record {
+      records = s.records;
+      operations = s.operations;
+      accesses = s.accesses;
+      entries = behind_further d.tables.entries g.tables.entries (g.tables.entries ++ entry.Unknown ∷ []) (behind_same d.tables.entries g.tables.entries s.entries) (behind_one g.tables.entries entry.Unknown);
+      slots = behind_same d.slots g.slots s.slots;
+      exceptions = behind_same d.exceptions g.exceptions s.exceptions;
+      components = s.components;
+      subprograms = s.subprograms;
+    };
+    right = λ f b. let h = fronts_still k env d g s f in (record { records = h.records; operations = h.operations; accesses = h.accesses; entries = each_with (EntryFine k env) g.tables.entries entry.Unknown h.entries tt }, made' f);
+  }
+
+  declared_comes : (o : Objects Definition Use) (t : Ty) (d g : Draft) (is' : Option (List Checked_item)) → Still d g → (Fronts k env d → InView k env t) → (Fronts k env d → SlotOf (length d.slots) (Some t) → IfSome RightItems is') →
+      Comes RightItems d (is', decl.declare_as a o (Some t) g)
+  declared_comes o t d g is' s usable made' = record {
+    grows = record {
+      records = s.records;
+      operations = s.operations;
+      accesses = s.accesses;
+      entries = behind_further d.tables.entries g.tables.entries (decl.declare_as a o (Some t) g).tables.entries (behind_same d.tables.entries g.tables.entries s.entries) (behind_one g.tables.entries _);
+      slots = behind_further d.slots g.slots (g.slots ++ t ∷ []) (behind_same d.slots g.slots s.slots) (behind_one g.slots t);
+      exceptions = behind_same d.exceptions g.exceptions s.exceptions;
+      components = s.components;
+      subprograms = s.subprograms;
+    };
+    right = λ f b.
+        let h = fronts_still k env d g s f in
+        let names = b.declares (length g.slots) t (last_read g.slots t) in
+        let own = subst (λ l. Names env (record { level = l; slot = length g.slots }) (Declared t)) (sym level) names in (
+          record {
+            records = h.records;
+            operations = h.operations;
+            accesses = h.accesses;
+            entries = each_with (EntryFine k env) g.tables.entries _ h.entries (record { holding = Declared t; names = own; stands = declared; in_view = usable f; alias = alias_right o.aliasing (length g.slots) t own; declared = own });
+          },
+          made' f (subst (λ xs. Names env (record { level = length env; slot = length xs }) (Declared t)) s.slots names),
+        );
+  }
+
+  frozen_comes : (o : Objects Definition Use) (t : Option Ty) (d e : Draft) (is' : Option (List Checked_item)) → Still d e → (Fronts k env d → IfSome (InView k env) t) → (Fronts k env d → SlotOf (length d.slots) t → IfSome RightItems is') →
+      Comes RightItems d (decl.object_frozen a o t is' e)
+  frozen_comes o t d e is' s usable made' = by_type t usable made' (done_by a ds (asked e)) (done_quiet a ds (asked e))
+    where
+      ds : List Deed
+      ds = decl.object_deeds t (is_given o.value) ++ deeds_of e
+
+      asked_still : Still d (asked e)
+      asked_still = still_further d e (asked e) s (still_noted e e.returning e.waiting _)
+
+      by_type : (u : Option Ty) → (Fronts k env d → IfSome (InView k env) u) → (Fronts k env d → SlotOf (length d.slots) u → IfSome RightItems is') → (r : List Checked_item × Draft) → Quiet (asked e) r → Comes RightItems d (decl.object_declared a o u is' r)
+      by_type None v m (ls, g) q = unknown_comes d g (decl.with_layers is' ls) (still_further d (asked e) g asked_still q.still) (λ f. layered is' ls (q.layers (asked_still.accesses ∙ f.accesses)) (m f tt))
+      by_type (Some u) v m (ls, g) q = declared_comes o u d g (decl.with_layers is' ls) (still_further d (asked e) g asked_still q.still) v (λ f names. layered is' ls (q.layers (asked_still.accesses ∙ f.accesses)) (m f names))
+
+  slot_for : (t : Option Ty) (n : ℕ) (d : Draft) (f : Fronts k env d) → SlotOf n t → SlotFor k env d.tables (fronts_sound k has env d f) n t
+  slot_for None n d f h = tt
+  slot_for (Some t) n d f h = h
+
+  object_comes : (o : Objects Definition Use) (q : Order) (place : Span) (name : Definition) (d : Draft) → Comes RightItems d (decl.object a q place o name d)
+  object_comes o q place name d =
+      let r1 = decl.object_type place o d.tables (asking d).notes in
+      let r2 = decl.discriminants_given place r1.0 o.discriminants d.tables r1.1 in
+      let r3 = decl.value_of r1.0 (option_map sense o.value) d.tables r2.1 in
+      let e : Draft = record d { notes = r3.1 } in
+      let valued = decl.value_kept place o name.identifier.span r1.0 e in
+      let usable : Fronts k env d → IfSome (InView k env) r1.0 = λ f. object_type_good k env d.tables (fronts_sound k has env d f) place o (asking d).notes in
+      frozen_comes o r1.0 d (decl.wait_as q name.identifier.span r1.0 valued) (decl.object_made d.tables (length d.slots) r1.0 r2.0 r3.0)
+      (still_further d e (decl.wait_as q name.identifier.span r1.0 valued) (still_noted d d.returning d.waiting r3.1) (still_further e valued (decl.wait_as q name.identifier.span r1.0 valued) (value_still place o name.identifier.span r1.0 e) (waits_still q name.identifier.span r1.0 valued)))
+      usable
+      (λ f names. let sound = fronts_sound k has env d f in made_right k env d.tables sound (length d.slots) r1.0 r2.0 r3.0 (usable f) (given_right k env d.tables sound place r1.0 o.discriminants r1.1) (value_right k env d.tables sound r1.0 o.value (usable f) r2.1) (slot_for r1.0 (length d.slots) d f names))
+
+  pub elaborated_joined : (is' more : List Checked_item) → ElaboratedEach k env is' → ElaboratedEach k env more → ElaboratedEach k env (is' ++ more)
+  elaborated_joined [] more rule.no_more_items h = h
+  elaborated_joined (i ∷ is') more (rule.one_more_item g rest) h = rule.one_more_item g (elaborated_joined is' more rest h)
+
+  together_more : (xss : List (List Checked_item)) (ys : List Checked_item) → RightItems (together xss) → RightItems ys → RightItems (together (xss ++ ys ∷ []))
+  together_more [] ys h i = elaborated_joined ys [] i rule.no_more_items
+  together_more (xs ∷ xss) ys h i = let parts = split xs (together xss) h in elaborated_joined xs (together (xss ++ ys ∷ [])) parts.0 (together_more xss ys parts.1 i)
+    where
+      split : (is' more : List Checked_item) → ElaboratedEach k env (is' ++ more) → ElaboratedEach k env is' × ElaboratedEach k env more
+      split [] more h = (rule.no_more_items, h)
+      split (j ∷ is') more (rule.one_more_item g rest) = let s = split is' more rest in (rule.one_more_item g s.0, s.1)
+
+  each_object : (o : Objects Definition Use) (q : Order) (place : Span) (ns : List Definition) → All (λ n. (d : Draft) → Comes RightItems d (decl.object a q place o n d)) ns
+  each_object o q place [] = tt
+  each_object o q place (n ∷ ns) = (object_comes o q place n, each_object o q place ns)
+
+  pub objects_come : (place : Span) (o : Objects Definition Use) (q : Order) (d : Draft) → Comes RightItems d (decl.objects place o q a d)
+  objects_come place o q d =
+      let e = decl.names_kept o.names d in
+      still_comes RightItems d e (decl.objects place o q a d) (names_still o.names d)
+      (then_leads (Fronts k env) (ItemBack k env) (items_backwards k env) (items_noted k env) (λ xss. RightItems (together xss)) RightItems (λ xss. together xss) e (decl.objects_named a q place o o.names e) (λ xss h. h)
+      (each_goes (Fronts k env) (ItemBack k env) (items_backwards k env) (items_noted k env) (λ xss. RightItems (together xss)) RightItems (decl.object a q place o) together_more rule.no_more_items o.names (each_object o q place o.names) e))
+
+  -- Exceptions (11.1) ---------------------------------------------------------------------------------------
+
+  exception_grows : (n : Definition) (d : Draft) → Grows d (decl.exception n d)
+  exception_grows n d = record {
+    records = refl;
+    operations = refl;
+    accesses = refl;
+    entries = behind_one d.tables.entries (entry.Exception (length d.exceptions));
+    slots = behind_same d.slots d.slots refl;
+    exceptions = behind_one d.exceptions n.identifier.text;
+    components = refl;
+    subprograms = refl;
+  }
+
+  exception_comes : (n : Definition) (d : Draft) (r : Option (List Checked_item) × Draft) → Comes RightItems (decl.exception n d) r → Comes RightItems d r
+  exception_comes n d r h = record {
+    grows = grows_further d (decl.exception n d) r.1 (exception_grows n d) h.grows;
+    right = λ f b.
+        let inner = items_backwards k env (decl.exception n d) r.1 h.grows b in
+        let longer = length-append d.exceptions (n.identifier.text ∷ []) in
+        h.right (record { records = f.records; operations = f.operations; accesses = f.accesses; entries = each_with (EntryFine k env) d.tables.entries (entry.Exception (length d.exceptions)) f.entries (omega (arith, longer, inner.exceptions)) }) b;
+  }
+
+  exceptions_come : (ns : List Definition) (before : List Checked_item) (d : Draft) → RightItems before → Comes RightItems d (surely (decl.exceptions_on before ns d))
+  exceptions_come [] before d h = record { grows = still_grows d d (still_self d); right = λ f b. (f, h) }
+  exceptions_come (n ∷ ns) before d h = exception_comes n d (surely (decl.exceptions_on (before ++ made.Silent ∷ []) ns (decl.exception n d)))
+      (exceptions_come ns (before ++ made.Silent ∷ []) (decl.exception n d) (elaborated_joined before (made.Silent ∷ []) h (rule.one_more_item rule.silent rule.no_more_items)))
+
+  pub exceptions_declared : (ns : List Definition) (d : Draft) → Comes RightItems d (surely (decl.exceptions ns d))
+  exceptions_declared ns d = still_comes RightItems d (decl.names_kept ns d) (surely (decl.exceptions ns d)) (names_still ns d) (exceptions_come ns [] (decl.names_kept ns d) rule.no_more_items)

@@ -1,0 +1,5 @@
+pub mod Known
+pub mod Sound
+pub mod Law
+pub mod Library
+pub mod Plain

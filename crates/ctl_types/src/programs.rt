@@ -1,0 +1,142 @@
+//! The checked program, of what was checked.
+
+ghost use Rattle.std.specs.Prelude.{◌≡◌, IfOk, reverse, slice_get};
+ghost use Rattle.ctl_types.specs.Elaboration as spec;
+ghost use Rattle.ctl_types.specs.Parts as part;
+
+use crate::draft::Draft;
+use ctl_program::program::Checked;
+use ctl_program::types::{AccessType, Component, RecordType, Var};
+use ctl_typing::operators::appended;
+use ctl_typing::table::{AccessEntry, Designated, RecordEntry, RecordState};
+use sqlite_items::Items;
+use std::alloc::{AllocError, Global};
+
+/// Turns items round: the last one is the first.
+fn turned<T: Drop>(alloc: Global, items: Items<T>) -> Result<Items<T>, AllocError>
+    ensures { IfOk result (λ all. all ≡ reverse items) }
+{
+    let mut left = items;
+    let mut all = Items::new(alloc);
+    while let Some(item) = left.pop() {
+        all.push(item)?;
+    }
+    Ok(all)
+}
+
+/// Makes a record type of its entry, its state and its own components (RM 3.8).
+fn record_type_of(entry: &RecordEntry, state: &RecordState, own: Items<Component>) -> RecordType
+    ensures { result ≡ spec.record_type_of entry.now state.now own }
+{
+    RecordType {
+        level: entry.level,
+        root: entry.root,
+        parent: entry.parent,
+        own,
+        operations: state.operations,
+    }
+}
+
+/// Makes the record type of a number, of its own components.
+fn record_type_at(
+    entries: &[RecordEntry],
+    states: &[RecordState],
+    number: usize,
+    own: Items<Component>,
+) -> Option<RecordType>
+    ensures { result ≡ part.record_type_at (slice_get entries.now number) (slice_get states.now number) own }
+{
+    let entry = sqlite_items::at(entries, number)?;
+    let state = sqlite_items::at(states, number)?;
+    Some(record_type_of(entry, state, own))
+}
+
+/// Makes the record types of their components, the last of which stand first.
+fn record_types_of(
+    alloc: Global,
+    entries: &[RecordEntry],
+    states: &[RecordState],
+    components: Items<Items<Component>>,
+) -> Result<Items<RecordType>, AllocError>
+    ensures { IfOk result (λ types. types ≡ spec.record_types entries.now states.now (reverse components)) }
+{
+    let mut left = components;
+    let mut types = Items::new(alloc);
+    while let Some(own) = left.pop() {
+        let Some(ty) = record_type_at(entries, states, types.len(), own) else {
+            return Ok(types);
+        };
+        types.push(ty)?;
+    }
+    Ok(types)
+}
+
+/// Makes the record types of the program, in their order (RM 3.8).
+fn record_types(
+    alloc: Global,
+    entries: &[RecordEntry],
+    states: &[RecordState],
+    components: Items<Items<Component>>,
+) -> Result<Items<RecordType>, AllocError>
+    ensures { IfOk result (λ types. types ≡ spec.record_types entries.now states.now components) }
+{
+    record_types_of(alloc, entries, states, turned(alloc, components)?)
+}
+
+/// Answers the object of a pool, if there is one.
+fn pool_var(pool: Option<(Var, usize)>) -> Option<Var>
+    ensures { result ≡ spec.pool_var pool }
+{
+    match pool {
+        Some((var, _)) => Some(var),
+        None => None,
+    }
+}
+
+/// Makes an access type, where it is known what it designates (RM 3.10).
+fn access_type_of(access: AccessEntry) -> Option<AccessType>
+    ensures { result ≡ spec.access_type_to access access.designated }
+{
+    match access.designated {
+        Designated::Known(designated) => Some(AccessType {
+            collection: access.collection,
+            designated,
+            pool: pool_var(access.pool),
+        }),
+        _ => None,
+    }
+}
+
+/// Makes the access types of the program, where each of them is known.
+fn access_types(
+    alloc: Global,
+    accesses: &[AccessEntry],
+) -> Result<Option<Items<AccessType>>, AllocError>
+    ensures { IfOk result (λ types. types ≡ spec.access_types accesses.now) }
+{
+    let mut done = Some(Items::new(alloc));
+    for access in accesses {
+        done = appended(done, access_type_of(*access))?;
+    }
+    Ok(done)
+}
+
+/// Makes the program of what was checked, where all is known.
+pub fn checked_of(alloc: Global, draft: Draft) -> Result<Option<Checked>, AllocError>
+    ensures { IfOk result (λ program. program ≡ spec.checked_of draft) }
+{
+    let tables = draft.tables;
+    let Some(accesses) = access_types(alloc, tables.states.accesses.as_slice())? else {
+        return Ok(None);
+    };
+    let entries = tables.records.as_slice();
+    let states = tables.states.records.as_slice();
+    let records = record_types(alloc, entries, states, draft.components)?;
+    Ok(Some(Checked {
+        exceptions: draft.exceptions,
+        records,
+        accesses,
+        subprograms: draft.subprograms,
+        main: 0,
+    }))
+}

@@ -1,0 +1,124 @@
+//! The whole text: from its resolved tree to the checked program (RM 10.1.1).
+
+ghost use Rattle.std.specs.Prelude.{◌≡◌, IfOk, OnOk};
+ghost use Rattle.ctl_types.specs.Elaboration as spec;
+ghost use Rattle.ctl_typing.specs.Judgement.{Judges};
+
+use crate::draft::{Around, Draft, Giving, Handling, Looping};
+use crate::library::library;
+use crate::masters::{enter_master, inside, leave_master};
+use crate::own_names::keep_name;
+use crate::parts::master;
+use crate::programs::checked_of;
+use crate::subprograms::{add_subprogram, put_body};
+use ctl_program::operators::SubprogramKind;
+use ctl_program::program::Checked;
+use ctl_program::statement::Master;
+use ctl_syntax::denoted::{Definition, Named};
+use ctl_tree::fault::{Fault, FaultCode};
+use ctl_tree::span::Span;
+use ctl_typing::table::{Entry, Profile};
+use sqlite_items::Items;
+use std::alloc::{AllocError, Global};
+
+/// The number of the main procedure, which is the first subprogram.
+const MAIN: usize = 0;
+
+/// Answers what stands around the main procedure: nothing.
+fn outside() -> Around
+    ensures { result ≡ spec.outside }
+{
+    Around {
+        level: 0,
+        start: 0,
+        first_subprogram: 0,
+        first_record: 0,
+        first_access: 0,
+        looping: Looping::Outside,
+        handling: Handling::Outside,
+        giving: Giving::Nothing,
+    }
+}
+
+/// Declares the main procedure, which is in view inside itself (RM 10.1.1).
+fn declare_main(alloc: Global, name: &Definition, draft: &mut Draft) -> Result<(), AllocError>
+    ensures { OnOk result (draft.new ≡ spec.main_declared name.now draft.old) }
+{
+    keep_name(name, draft);
+    add_subprogram(alloc, outside(), SubprogramKind::Procedure, draft)?;
+    draft.declare(Entry::Subprogram(Profile {
+        subprogram: MAIN,
+        formals: Items::new(alloc),
+        names: Items::new(alloc),
+        result: None,
+    }))
+}
+
+/// Judges the declarations, statements and handlers of the main procedure.
+fn main_judged(alloc: Global, tree: &Named, draft: &mut Draft) -> Result<Option<Master>, AllocError>
+    ensures { Judges (spec.main_judged tree.now) draft.old result draft.new }
+{
+    let around = inside(outside(), Giving::Nothing, draft);
+    let outer = enter_master(alloc, draft);
+    let judged = master(alloc, &tree.body, tree.span, around, draft)?;
+    leave_master(outer, draft);
+    Ok(judged)
+}
+
+/// Answers what is known before the text, and the first rule on names that it breaks, if it breaks any.
+fn begin(alloc: Global, broken: Option<Fault>) -> Result<Draft, AllocError>
+    ensures { IfOk result (λ draft. draft ≡ spec.begun broken) }
+{
+    let mut draft = library(alloc)?;
+    draft.notes.early = broken;
+    Ok(draft)
+}
+
+/// Judges the whole text, as far as no rule is broken.
+fn whole(alloc: Global, broken: Option<Fault>, tree: &Named) -> Result<Draft, AllocError>
+    ensures { IfOk result (λ draft. draft ≡ spec.whole broken tree.now) }
+{
+    let mut draft = begin(alloc, broken)?;
+    declare_main(alloc, &tree.name, &mut draft)?;
+    let judged = main_judged(alloc, tree, &mut draft)?;
+    if let Some(body) = judged {
+        put_body(Some(MAIN), body, &mut draft);
+    }
+    Ok(draft)
+}
+
+/// Answers the program, or the fault that is told: of names, order and completion before any other.
+fn verdict(alloc: Global, place: Span, draft: Draft) -> Result<Result<Checked, Fault>, AllocError>
+    ensures { IfOk result (λ verdict. verdict ≡ spec.verdict place draft) }
+{
+    if let Some(fault) = draft.notes.early {
+        return Ok(Err(fault));
+    }
+    if let Some(fault) = draft.notes.fault {
+        return Ok(Err(fault));
+    }
+    match checked_of(alloc, draft)? {
+        Some(program) => Ok(Ok(program)),
+        None => Ok(Err(Fault::at(FaultCode::Type, place))),
+    }
+}
+
+/// Answers what the resolved tree of a text gives.
+fn elaborated(
+    alloc: Global,
+    broken: Option<Fault>,
+    tree: &Named,
+) -> Result<Result<Checked, Fault>, AllocError>
+    ensures { IfOk result (λ verdict. verdict ≡ spec.elaborate broken tree.now) }
+{
+    let draft = whole(alloc, broken, tree)?;
+    verdict(alloc, tree.span, draft)
+}
+
+/// Answers the checked program of a resolved tree, or its first fault, where the resolver's first broken rule is given; or that memory was
+/// refused.
+pub fn check(alloc: Global, tree: &Named, broken: Option<Fault>) -> Result<Checked, Fault>
+    ensures { spec.Elaborates broken tree.now result }
+{
+    elaborated(alloc, broken, tree)?
+}

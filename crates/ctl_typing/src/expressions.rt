@@ -1,0 +1,807 @@
+//! The judgement of expressions (RM 4.4).
+
+ghost use Rattle.std.specs.Prelude.{◌∷◌, [], Some, map, option_map};
+ghost use Rattle.ctl_typing.specs.Judgement as judgement;
+ghost use Rattle.ctl_typing.specs.Judgement.{Judges};
+ghost use Rattle.ctl_typing.specs.Senses as senses;
+ghost use Rattle.ctl_typing.specs.Typing as spec;
+
+use crate::actuals::{record_handed_on, written_found};
+use crate::adopting::{adopts, has_joining, is_led_by_right, parted, place_of, takes_on};
+use crate::allocators::{allocator, handle_of, mark_judged};
+use crate::attributes::attributed;
+use crate::conversions::{converted_access, converted_number, imaged, subpool_of, viewed};
+use crate::found::{Asked, Found, Typed};
+use crate::joining::{
+    boolean, chain_joined, chain_typed, literals_joined, operand_behind, operand_typed, paired,
+    relation_joined, short_circuit, swapped, truths_joined, unary_joined, value_of,
+};
+use crate::judging::{fitted, wrong};
+use crate::literals::{adopted, first_found, null, number};
+use crate::lookup::profile_of;
+use crate::names::{dereference, result_found, selector};
+use crate::notes::Notes;
+use crate::operators::{appended, asked_by_one, asked_like, compared};
+use crate::table::{FormalEntry, Tables};
+use crate::values::name_value;
+use ctl_program::expression::{Actual, Expr, Operand};
+use ctl_program::operators::{BinaryOp, Shortcut, SubpoolFunction};
+use ctl_program::types::Ty;
+use ctl_syntax::denoted::Use;
+use ctl_syntax::expression::Expression;
+use ctl_syntax::item::Mode;
+use ctl_syntax::name::{Name, Suffix};
+use ctl_syntax::operators::{LogicalOperator, Operand as WrittenOperand, RelationalOperator};
+use ctl_tree::fault::FaultCode;
+use ctl_tree::span::Span;
+use sqlite_items::{Boxed, Items};
+use std::alloc::{AllocError, Global};
+
+/// Judges an expression: its type and its checked form, by what its place asks (RM 4.4).
+#[cycle(expression)]
+pub fn expression(
+    alloc: Global,
+    tables: &Tables,
+    x: &Expression<Use>,
+    asked: Asked,
+    notes: &mut Notes,
+) -> Result<Option<Typed>, AllocError>
+    ensures { Judges ((spec.sense x.now).judged tables.now asked) notes.old result notes.new }
+{
+    match x {
+        Expression::Logical(place, operator, first, second, more) => {
+            let first = truth(alloc, tables, first.get(), notes)?;
+            let second = truth(alloc, tables, second.get(), notes)?;
+            let two = paired(first, second);
+            let value = logical(alloc, tables, more.as_slice(), *operator, two, notes)?;
+            boolean(*place, asked, value, notes)
+        }
+        Expression::Relation(place, operator, left, right) => {
+            relation(
+                alloc,
+                tables,
+                left.get(),
+                right.get(),
+                *place,
+                *operator,
+                asked,
+                notes,
+            )
+        }
+        Expression::Chain(place, first, second, rest) => {
+            let (first, second) = (first.get(), second.get());
+            chain(
+                alloc,
+                tables,
+                first,
+                second,
+                rest.as_slice(),
+                *place,
+                asked,
+                notes,
+            )
+        }
+        Expression::Unary(place, operator, operand) => {
+            let operand = operand.get();
+            let taken = asked_by_one(*operator, asked, adopts(operand));
+            let typed = expression(alloc, tables, operand, taken, notes)?;
+            unary_joined(alloc, *place, *operator, typed, asked, notes)
+        }
+        Expression::Number(place, value) => number(*place, *value, asked, notes),
+        Expression::String(place, _) => Ok(wrong(FaultCode::Type, *place, notes)),
+        Expression::Null(place) => Ok(null(*place, asked, notes)),
+        Expression::Name(_, name) => {
+            let found = found(alloc, tables, name, notes)?;
+            name_value(alloc, tables, name.first.span, asked, found, notes)
+        }
+        Expression::Parentheses(_, inner) => expression(alloc, tables, inner.get(), asked, notes),
+        Expression::New(place, handle, mark, value) => {
+            let handle = handle_or_none(alloc, tables, handle, notes)?;
+            let ty = mark_judged(alloc, tables, mark.first, mark.rest.as_slice(), notes)?;
+            let value = value_or_none(alloc, tables, value, ty, notes)?;
+            let parts = paired(handle, paired(ty, value));
+            allocator(alloc, tables, *place, asked, parts, notes)
+        }
+    }
+}
+
+/// Judges an operand of a logical operator (RM 4.5.1).
+#[cycle(expression)]
+pub fn truth(
+    alloc: Global,
+    tables: &Tables,
+    x: &Expression<Use>,
+    notes: &mut Notes,
+) -> Result<Option<Expr>, AllocError>
+    ensures { Judges (spec.truth_of tables.now (spec.sense x.now)) notes.old result notes.new }
+{
+    let typed = expression(alloc, tables, x, Asked::Exactly(Ty::Boolean), notes)?;
+    Ok(value_of(typed))
+}
+
+/// Judges the operands of a logical operator behind the second, and joins all of them (RM 4.5.1).
+#[cycle(expression)]
+fn logical(
+    alloc: Global,
+    tables: &Tables,
+    more: &[Expression<Use>],
+    operator: LogicalOperator,
+    two: Option<(Expr, Expr)>,
+    notes: &mut Notes,
+) -> Result<Option<Expr>, AllocError>
+    ensures { Judges (senses.logical_behind operator two (map spec.sense more.now) tables.now) notes.old result notes.new }
+{
+    match operator {
+        LogicalOperator::And => whole(alloc, tables, more, BinaryOp::And, two, notes),
+        LogicalOperator::Or => whole(alloc, tables, more, BinaryOp::Or, two, notes),
+        LogicalOperator::Xor => whole(alloc, tables, more, BinaryOp::Xor, two, notes),
+        LogicalOperator::AndThen => short(alloc, tables, more, Shortcut::AndThen, two, notes),
+        LogicalOperator::OrElse => short(alloc, tables, more, Shortcut::OrElse, two, notes),
+    }
+}
+
+/// Judges the operands of `and`, `or` or `xor` behind the second, and joins all of them (RM 4.5.1).
+#[cycle(expression)]
+fn whole(
+    alloc: Global,
+    tables: &Tables,
+    more: &[Expression<Use>],
+    op: BinaryOp,
+    two: Option<(Expr, Expr)>,
+    notes: &mut Notes,
+) -> Result<Option<Expr>, AllocError>
+    ensures { Judges (senses.whole_behind op two (map spec.sense more.now) tables.now) notes.old result notes.new }
+{
+    let more = truths_behind(alloc, tables, more, op, notes)?;
+    truths_joined(alloc, op, paired(two, more))
+}
+
+/// Judges the operands of `and`, `or` or `xor` behind the second, each with its operator (RM 4.5.1).
+#[cycle(expression)]
+fn truths_behind(
+    alloc: Global,
+    tables: &Tables,
+    more: &[Expression<Use>],
+    op: BinaryOp,
+    notes: &mut Notes,
+) -> Result<Option<Items<Operand>>, AllocError>
+    ensures { Judges (senses.truths_behind op tables.now (map spec.sense more.now)) notes.old result notes.new }
+{
+    let mut done = Some(Items::new(alloc));
+    for x in more {
+        let value = truth(alloc, tables, x, notes)?;
+        done = appended(done, operand_behind(op, value))?;
+    }
+    Ok(done)
+}
+
+/// Judges the operands of a short-circuit form behind the second, and joins all of them (RM 4.5.1).
+#[cycle(expression)]
+fn short(
+    alloc: Global,
+    tables: &Tables,
+    more: &[Expression<Use>],
+    form: Shortcut,
+    two: Option<(Expr, Expr)>,
+    notes: &mut Notes,
+) -> Result<Option<Expr>, AllocError>
+    ensures { Judges (senses.short_behind form two (map spec.sense more.now) tables.now) notes.old result notes.new }
+{
+    let more = truths(alloc, tables, more, notes)?;
+    short_circuit(alloc, form, paired(two, more))
+}
+
+/// Judges the operands of a short-circuit form behind the second (RM 4.5.1).
+#[cycle(expression)]
+fn truths(
+    alloc: Global,
+    tables: &Tables,
+    more: &[Expression<Use>],
+    notes: &mut Notes,
+) -> Result<Option<Items<Expr>>, AllocError>
+    ensures { Judges (spec.truths_of tables.now (map spec.sense more.now)) notes.old result notes.new }
+{
+    let mut done = Some(Items::new(alloc));
+    for x in more {
+        let value = truth(alloc, tables, x, notes)?;
+        done = appended(done, value)?;
+    }
+    Ok(done)
+}
+
+/// Judges a relation: the right operand has the type of the left one; a literal or null on the left takes on that of the right one
+/// (RM 4.5.2).
+#[cycle(expression)]
+fn relation(
+    alloc: Global,
+    tables: &Tables,
+    left: &Expression<Use>,
+    right: &Expression<Use>,
+    place: Span,
+    operator: RelationalOperator,
+    asked: Asked,
+    notes: &mut Notes,
+) -> Result<Option<Typed>, AllocError>
+    ensures { Judges (spec.relation_judged place operator (spec.sense left.now) (spec.sense right.now) tables.now asked) notes.old result notes.new }
+{
+    let taken = compared(operator);
+    if is_led_by_right(left, right) {
+        let right = expression(alloc, tables, right, taken, notes)?;
+        let left = expression(alloc, tables, left, asked_like(taken, &right), notes)?;
+        let both = swapped(paired(right, left));
+        return relation_joined(alloc, place, operator, both, asked, notes);
+    }
+    let left = expression(alloc, tables, left, taken, notes)?;
+    let right = expression(alloc, tables, right, asked_like(taken, &left), notes)?;
+    relation_joined(alloc, place, operator, paired(left, right), asked, notes)
+}
+
+/// Judges a chain; a string is no value outside of Put and Put_Line (RM 4.5.3, profile).
+#[cycle(expression)]
+fn chain(
+    alloc: Global,
+    tables: &Tables,
+    first: &Expression<Use>,
+    second: &WrittenOperand<Expression<Use>>,
+    rest: &[WrittenOperand<Expression<Use>>],
+    place: Span,
+    asked: Asked,
+    notes: &mut Notes,
+) -> Result<Option<Typed>, AllocError>
+    ensures { Judges (spec.chain_judged place (spec.sense first.now) (senses.operand_sense second.now ∷ map senses.operand_sense rest.now) tables.now asked) notes.old result notes.new }
+{
+    if has_joining(second, rest) {
+        return Ok(wrong(FaultCode::Type, place, notes));
+    }
+    let typed = arithmetic(alloc, tables, first, second, rest, asked, notes)?;
+    fitted(place, asked, typed, notes)
+}
+
+/// Judges a chain of numbers: by the first operand that has a type of its own (RM 4.5.3, profile).
+#[cycle(expression)]
+fn arithmetic(
+    alloc: Global,
+    tables: &Tables,
+    first: &Expression<Use>,
+    second: &WrittenOperand<Expression<Use>>,
+    rest: &[WrittenOperand<Expression<Use>>],
+    asked: Asked,
+    notes: &mut Notes,
+) -> Result<Option<Typed>, AllocError>
+    ensures { Judges (senses.arithmetic tables.now asked (spec.sense first.now) (senses.operand_sense second.now ∷ map senses.operand_sense rest.now)) notes.old result notes.new }
+{
+    if !takes_on(adopts(first)) {
+        return by_first(alloc, tables, first, second, rest, notes);
+    }
+    if !takes_on(adopts(&second.operand)) {
+        return by_second(alloc, tables, first, second, rest, notes);
+    }
+    match parted(rest) {
+        Some(at) => {
+            let (before, behind) = (&rest[..at], &rest[at + 1..]);
+            by_further(
+                alloc, tables, first, second, before, &rest[at], behind, notes,
+            )
+        }
+        None => by_place(alloc, tables, first, second, rest, asked, notes),
+    }
+}
+
+/// Judges a chain of which the first operand has a type of its own, which the others have (RM 4.5.3).
+#[cycle(expression)]
+fn by_first(
+    alloc: Global,
+    tables: &Tables,
+    first: &Expression<Use>,
+    second: &WrittenOperand<Expression<Use>>,
+    rest: &[WrittenOperand<Expression<Use>>],
+    notes: &mut Notes,
+) -> Result<Option<Typed>, AllocError>
+    ensures { Judges (spec.by_first tables.now (spec.sense first.now) (senses.operand_sense second.now ∷ map senses.operand_sense rest.now)) notes.old result notes.new }
+{
+    let typed = expression(alloc, tables, first, Asked::Number, notes)?;
+    let like = asked_like(Asked::Number, &typed);
+    let operands = operands_as(alloc, tables, second, rest, like, notes)?;
+    chain_typed(alloc, paired(typed, operands))
+}
+
+/// Judges a chain of which the second operand is the first with a type of its own (RM 4.5.3).
+#[cycle(expression)]
+fn by_second(
+    alloc: Global,
+    tables: &Tables,
+    first: &Expression<Use>,
+    second: &WrittenOperand<Expression<Use>>,
+    rest: &[WrittenOperand<Expression<Use>>],
+    notes: &mut Notes,
+) -> Result<Option<Typed>, AllocError>
+    ensures { (asked : _) → Judges (spec.by_other tables.now asked (spec.sense first.now) [] (Some (senses.operand_sense second.now)) (map senses.operand_sense rest.now)) notes.old result notes.new }
+{
+    let typed = expression(alloc, tables, &second.operand, Asked::Number, notes)?;
+    let like = asked_like(Asked::Number, &typed);
+    let value = expression(alloc, tables, first, like, notes)?;
+    let first = paired(value_of(value), Some(Items::new(alloc)));
+    let behind = operands_behind(alloc, tables, rest, like, Some(Items::new(alloc)), notes)?;
+    chain_joined(alloc, second.operator, paired(typed, paired(first, behind)))
+}
+
+/// Judges a chain of literals alone: they take on the type that the place asks (RM 4.5.3, profile).
+#[cycle(expression)]
+fn by_place(
+    alloc: Global,
+    tables: &Tables,
+    first: &Expression<Use>,
+    second: &WrittenOperand<Expression<Use>>,
+    rest: &[WrittenOperand<Expression<Use>>],
+    asked: Asked,
+    notes: &mut Notes,
+) -> Result<Option<Typed>, AllocError>
+    ensures { Judges (spec.by_other tables.now asked (spec.sense first.now) (senses.operand_sense second.now ∷ map senses.operand_sense rest.now) None []) notes.old result notes.new }
+{
+    let ty = adopted(asked);
+    let whole = first_as(
+        alloc,
+        tables,
+        first,
+        second,
+        rest,
+        Asked::Exactly(ty),
+        notes,
+    )?;
+    literals_joined(alloc, ty, whole)
+}
+
+/// Judges a chain of which an operand behind the second is the first with a type of its own (RM 4.5.3).
+#[cycle(expression)]
+fn by_further(
+    alloc: Global,
+    tables: &Tables,
+    first: &Expression<Use>,
+    second: &WrittenOperand<Expression<Use>>,
+    before: &[WrittenOperand<Expression<Use>>],
+    leading: &WrittenOperand<Expression<Use>>,
+    behind: &[WrittenOperand<Expression<Use>>],
+    notes: &mut Notes,
+) -> Result<Option<Typed>, AllocError>
+    ensures { (asked : _) → Judges (spec.by_other tables.now asked (spec.sense first.now) (senses.operand_sense second.now ∷ map senses.operand_sense before.now) (Some (senses.operand_sense leading.now)) (map senses.operand_sense behind.now)) notes.old result notes.new }
+{
+    let typed = expression(alloc, tables, &leading.operand, Asked::Number, notes)?;
+    let like = asked_like(Asked::Number, &typed);
+    let first = first_as(alloc, tables, first, second, before, like, notes)?;
+    let behind = operands_behind(alloc, tables, behind, like, Some(Items::new(alloc)), notes)?;
+    chain_joined(
+        alloc,
+        leading.operator,
+        paired(typed, paired(first, behind)),
+    )
+}
+
+/// Judges the first operands of a chain, which take on the type of another (RM 4.5.3).
+#[cycle(expression)]
+fn first_as(
+    alloc: Global,
+    tables: &Tables,
+    first: &Expression<Use>,
+    second: &WrittenOperand<Expression<Use>>,
+    rest: &[WrittenOperand<Expression<Use>>],
+    asked: Asked,
+    notes: &mut Notes,
+) -> Result<Option<(Expr, Items<Operand>)>, AllocError>
+    ensures { Judges (spec.first_as tables.now asked (spec.sense first.now) (senses.operand_sense second.now ∷ map senses.operand_sense rest.now)) notes.old result notes.new }
+{
+    let value = value_of(expression(alloc, tables, first, asked, notes)?);
+    let operands = operands_as(alloc, tables, second, rest, asked, notes)?;
+    Ok(paired(value, operands))
+}
+
+/// Judges the operands of a chain behind the first (RM 4.5.3, 4.5.5).
+#[cycle(expression)]
+fn operands_as(
+    alloc: Global,
+    tables: &Tables,
+    second: &WrittenOperand<Expression<Use>>,
+    rest: &[WrittenOperand<Expression<Use>>],
+    asked: Asked,
+    notes: &mut Notes,
+) -> Result<Option<Items<Operand>>, AllocError>
+    ensures { Judges (spec.operands_as tables.now asked (senses.operand_sense second.now ∷ map senses.operand_sense rest.now)) notes.old result notes.new }
+{
+    let typed = expression(alloc, tables, &second.operand, asked, notes)?;
+    let one = operand_typed(second.operator, typed);
+    let so_far = appended(Some(Items::new(alloc)), one)?;
+    operands_behind(alloc, tables, rest, asked, so_far, notes)
+}
+
+/// Judges operands behind those so far (RM 4.5.3, 4.5.5).
+#[cycle(expression)]
+fn operands_behind(
+    alloc: Global,
+    tables: &Tables,
+    rest: &[WrittenOperand<Expression<Use>>],
+    asked: Asked,
+    so_far: Option<Items<Operand>>,
+    notes: &mut Notes,
+) -> Result<Option<Items<Operand>>, AllocError>
+    ensures { Judges (judgement.each (spec.operand_as tables.now asked) so_far (map senses.operand_sense rest.now)) notes.old result notes.new }
+{
+    let mut done = so_far;
+    for operand in rest {
+        let typed = expression(alloc, tables, &operand.operand, asked, notes)?;
+        done = appended(done, operand_typed(operand.operator, typed))?;
+    }
+    Ok(done)
+}
+
+/// Judges a name, as far as it was read (RM 4.1).
+#[cycle(expression)]
+pub fn found(
+    alloc: Global,
+    tables: &Tables,
+    name: &Name<Use, Expression<Use>>,
+    notes: &mut Notes,
+) -> Result<Option<Found>, AllocError>
+    ensures { Judges (spec.found name.now.first (map senses.suffix_sense name.now.suffixes) tables.now) notes.old result notes.new }
+{
+    let place = name.first.span;
+    let first = first_found(alloc, tables, &name.first, notes)?;
+    suffixes(alloc, tables, name.suffixes.as_slice(), place, first, notes)
+}
+
+/// Judges what stands behind the beginning of a name, where it is known what that is (RM 4.1).
+#[cycle(expression)]
+fn suffixes(
+    alloc: Global,
+    tables: &Tables,
+    all: &[Suffix<Expression<Use>>],
+    place: Span,
+    first: Option<Found>,
+    notes: &mut Notes,
+) -> Result<Option<Found>, AllocError>
+    ensures { Judges (judgement.onward first (spec.suffixes tables.now place (map senses.suffix_sense all.now))) notes.old result notes.new }
+{
+    let mut found = first;
+    for suffix in all {
+        found = suffixed(alloc, tables, suffix, place, found, notes)?;
+    }
+    Ok(found)
+}
+
+/// Judges a name with one suffix more, where it is known what it was before; it is told at its beginning where it is wrong (RM 4.1).
+#[cycle(expression)]
+fn suffixed(
+    alloc: Global,
+    tables: &Tables,
+    suffix: &Suffix<Expression<Use>>,
+    place: Span,
+    found: Option<Found>,
+    notes: &mut Notes,
+) -> Result<Option<Found>, AllocError>
+    ensures { Judges (judgement.onward found (λ f. spec.suffixed tables.now place f (senses.suffix_sense suffix.now))) notes.old result notes.new }
+{
+    let Some(found) = found else {
+        return Ok(None);
+    };
+    match suffix {
+        Suffix::Selector(identifier) => {
+            selector(alloc, tables, place, found, &identifier.text, notes)
+        }
+        Suffix::All(_) => dereference(alloc, tables, place, found, notes),
+        Suffix::Arguments(_, first, more) => {
+            with_arguments(alloc, tables, first, more.as_slice(), place, &found, notes)
+        }
+        Suffix::Attribute(_, attribute) => Ok(attributed(place, *attribute, found, notes)),
+    }
+}
+
+/// Judges arguments behind a name: only a subprogram takes more than one (RM 6.4).
+#[cycle(expression)]
+fn with_arguments(
+    alloc: Global,
+    tables: &Tables,
+    first: &Expression<Use>,
+    more: &[Expression<Use>],
+    place: Span,
+    found: &Found,
+    notes: &mut Notes,
+) -> Result<Option<Found>, AllocError>
+    ensures { Judges (spec.with_arguments tables.now place found.now (spec.sense first.now) (map spec.sense more.now)) notes.old result notes.new }
+{
+    if let Found::Callable(number) = found {
+        return called(alloc, tables, first, more, place, *number, notes);
+    }
+    if !more.is_empty() {
+        return Ok(wrong(FaultCode::Type, place, notes));
+    }
+    with_one(alloc, tables, first, place, found, notes)
+}
+
+/// Judges the one argument of a conversion, of a function on a mark pool, or of the attribute Image (RM 4.6, 13.11.4, 3.5).
+#[cycle(expression)]
+fn with_one(
+    alloc: Global,
+    tables: &Tables,
+    x: &Expression<Use>,
+    place: Span,
+    found: &Found,
+    notes: &mut Notes,
+) -> Result<Option<Found>, AllocError>
+    ensures { Judges (spec.with_one tables.now place found.now (spec.sense x.now)) notes.old result notes.new }
+{
+    match found {
+        Found::TypeName(ty) => converted(alloc, tables, x, place, *ty, notes),
+        Found::Subpools(function) => with_pool(alloc, tables, x, *function, notes),
+        Found::Image(ty) => {
+            let typed = expression(alloc, tables, x, Asked::Exactly(*ty), notes)?;
+            Ok(imaged(typed))
+        }
+        _ => Ok(wrong(FaultCode::Type, place, notes)),
+    }
+}
+
+/// Judges the argument of a function on a mark pool: it is a name (RM 13.11.4).
+#[cycle(expression)]
+fn with_pool(
+    alloc: Global,
+    tables: &Tables,
+    x: &Expression<Use>,
+    function: SubpoolFunction,
+    notes: &mut Notes,
+) -> Result<Option<Found>, AllocError>
+    ensures { Judges (spec.subpool_by tables.now function (spec.sense x.now).place (spec.sense x.now).bare) notes.old result notes.new }
+{
+    let place = place_of(x);
+    match bare(alloc, tables, x, FaultCode::Mode, place, notes)? {
+        Some(part) => subpool_of(alloc, place, function, part, notes),
+        None => Ok(None),
+    }
+}
+
+/// Judges a conversion (RM 4.6).
+#[cycle(expression)]
+fn converted(
+    alloc: Global,
+    tables: &Tables,
+    x: &Expression<Use>,
+    place: Span,
+    ty: Ty,
+    notes: &mut Notes,
+) -> Result<Option<Found>, AllocError>
+    ensures { Judges (spec.converted tables.now place ty (spec.sense x.now)) notes.old result notes.new }
+{
+    match ty {
+        Ty::Integer => number_as(alloc, tables, x, Ty::Integer, notes),
+        Ty::Count => number_as(alloc, tables, x, Ty::Count, notes),
+        Ty::Access(access) => match expression(alloc, tables, x, Asked::Anything, notes)? {
+            Some(typed) => Ok(converted_access(alloc, tables, place, access, typed, notes)),
+            None => Ok(None),
+        },
+        Ty::Record(number) => match bare(alloc, tables, x, FaultCode::Type, place, notes)? {
+            Some(part) => Ok(viewed(tables, place, number, part, notes)),
+            None => Ok(None),
+        },
+        Ty::Boolean | Ty::Address | Ty::Handle => Ok(wrong(FaultCode::Type, place, notes)),
+    }
+}
+
+/// Judges a conversion to a number type (RM 4.6).
+#[cycle(expression)]
+fn number_as(
+    alloc: Global,
+    tables: &Tables,
+    x: &Expression<Use>,
+    ty: Ty,
+    notes: &mut Notes,
+) -> Result<Option<Found>, AllocError>
+    ensures { Judges (senses.number_of tables.now ty (spec.sense x.now)) notes.old result notes.new }
+{
+    let typed = expression(alloc, tables, x, Asked::Number, notes)?;
+    converted_number(alloc, ty, typed)
+}
+
+/// Judges an expression that is to be a name alone; any other is told with a code at a place.
+#[cycle(expression)]
+fn bare(
+    alloc: Global,
+    tables: &Tables,
+    x: &Expression<Use>,
+    code: FaultCode,
+    place: Span,
+    notes: &mut Notes,
+) -> Result<Option<Found>, AllocError>
+    ensures { Judges (senses.bare_found code place (spec.sense x.now).bare tables.now) notes.old result notes.new }
+{
+    match x {
+        Expression::Name(_, name) => found(alloc, tables, name, notes),
+        _ => Ok(wrong(code, place, notes)),
+    }
+}
+
+/// Judges the actual of a formal that is written to: it is a name (RM 6.4.1).
+#[cycle(expression)]
+fn written_by(
+    alloc: Global,
+    tables: &Tables,
+    x: &Expression<Use>,
+    mode: Mode,
+    ty: Ty,
+    notes: &mut Notes,
+) -> Result<Option<Actual>, AllocError>
+    ensures { Judges (spec.written_by tables.now (spec.sense x.now).place mode ty (spec.sense x.now).bare) notes.old result notes.new }
+{
+    let place = place_of(x);
+    match bare(alloc, tables, x, FaultCode::Mode, place, notes)? {
+        Some(part) => written_found(alloc, place, mode, ty, part, notes),
+        None => Ok(None),
+    }
+}
+
+/// Judges an actual that is handed on as a value (RM 6.2).
+#[cycle(expression)]
+fn actual_value(
+    alloc: Global,
+    tables: &Tables,
+    x: &Expression<Use>,
+    ty: Ty,
+    notes: &mut Notes,
+) -> Result<Option<Actual>, AllocError>
+    ensures { Judges (senses.actual_value tables.now ty (spec.sense x.now)) notes.old result notes.new }
+{
+    match expression(alloc, tables, x, Asked::Exactly(ty), notes)? {
+        Some(typed) => Ok(Some(Actual::ByValue(typed.value))),
+        None => Ok(None),
+    }
+}
+
+/// Judges a record that is handed on, by reference where a name denotes it, perhaps in parentheses; told at a place (RM 6.2).
+#[cycle(expression)]
+fn record_by(
+    alloc: Global,
+    tables: &Tables,
+    x: &Expression<Use>,
+    place: Span,
+    ty: Ty,
+    notes: &mut Notes,
+) -> Result<Option<Actual>, AllocError>
+    ensures { Judges (senses.record_at tables.now place ty (spec.sense x.now)) notes.old result notes.new }
+{
+    match x {
+        Expression::Name(_, name) => {
+            let found = found(alloc, tables, name, notes)?;
+            record_handed_on(alloc, tables, place, ty, found, notes)
+        }
+        Expression::Parentheses(_, inner) => {
+            record_by(alloc, tables, inner.get(), place, ty, notes)
+        }
+        _ => actual_value(alloc, tables, x, ty, notes),
+    }
+}
+
+/// Judges the actual of a formal (RM 6.4.1).
+#[cycle(expression)]
+fn actual_of(
+    alloc: Global,
+    tables: &Tables,
+    x: &Expression<Use>,
+    formal: FormalEntry,
+    notes: &mut Notes,
+) -> Result<Option<Actual>, AllocError>
+    ensures { Judges (spec.actual_of tables.now (formal, spec.sense x.now)) notes.old result notes.new }
+{
+    match (formal.mode, formal.ty) {
+        (Mode::In, Ty::Record(_)) => { record_by(alloc, tables, x, place_of(x), formal.ty, notes) }
+        (Mode::In, _) => actual_value(alloc, tables, x, formal.ty, notes),
+        _ => written_by(alloc, tables, x, formal.mode, formal.ty, notes),
+    }
+}
+
+/// Judges actuals behind those so far, each of its formal's type (RM 6.4.1).
+#[cycle(expression)]
+fn actuals_behind(
+    alloc: Global,
+    tables: &Tables,
+    more: &[Expression<Use>],
+    formals: &[FormalEntry],
+    so_far: Option<Items<Actual>>,
+    notes: &mut Notes,
+) -> Result<Option<Items<Actual>>, AllocError>
+    ensures { Judges (judgement.each (spec.actual_of tables.now) so_far (spec.matched formals.now (map spec.sense more.now))) notes.old result notes.new }
+{
+    let mut done = so_far;
+    for (at, x) in more.iter().enumerate() {
+        let Some(formal) = formals.get(at) else {
+            return Ok(done);
+        };
+        let one = actual_of(alloc, tables, x, *formal, notes)?;
+        done = appended(done, one)?;
+    }
+    Ok(done)
+}
+
+/// Judges the actuals of a call, a first one and more: as many as formals, each of its formal's type (RM 6.4.1).
+#[cycle(expression)]
+pub fn actuals(
+    alloc: Global,
+    tables: &Tables,
+    place: Span,
+    formals: &[FormalEntry],
+    first: &Expression<Use>,
+    more: &[Expression<Use>],
+    notes: &mut Notes,
+) -> Result<Option<Items<Actual>>, AllocError>
+    ensures { Judges (spec.actuals_of tables.now place formals.now (spec.sense first.now ∷ map spec.sense more.now)) notes.old result notes.new }
+{
+    let Some((formal, others)) = formals.split_first() else {
+        return Ok(wrong(FaultCode::Type, place, notes));
+    };
+    if others.len() != more.len() {
+        return Ok(wrong(FaultCode::Type, place, notes));
+    }
+    let one = actual_of(alloc, tables, first, *formal, notes)?;
+    let so_far = appended(Some(Items::new(alloc)), one)?;
+    actuals_behind(alloc, tables, more, others, so_far, notes)
+}
+
+/// Judges a call in an expression (RM 6.4).
+#[cycle(expression)]
+fn called(
+    alloc: Global,
+    tables: &Tables,
+    first: &Expression<Use>,
+    more: &[Expression<Use>],
+    place: Span,
+    number: usize,
+    notes: &mut Notes,
+) -> Result<Option<Found>, AllocError>
+    ensures { Judges (spec.called tables.now place (spec.profile_of tables.now number) (spec.sense first.now ∷ map spec.sense more.now)) notes.old result notes.new }
+{
+    let Some(profile) = profile_of(tables, number) else {
+        return Ok(wrong(FaultCode::Type, place, notes));
+    };
+    let formals = profile.formals.as_slice();
+    match actuals(alloc, tables, place, formals, first, more, notes)? {
+        Some(actuals) => Ok(result_found(alloc, place, profile, actuals, notes)),
+        None => Ok(None),
+    }
+}
+
+/// Judges the handle of an allocator, where it has one (RM 13.11.4).
+#[cycle(expression)]
+fn handle_or_none(
+    alloc: Global,
+    tables: &Tables,
+    handle: &Option<Boxed<Name<Use, Expression<Use>>>>,
+    notes: &mut Notes,
+) -> Result<Option<Option<Expr>>, AllocError>
+    ensures { Judges (spec.held (option_map (spec.handle_judged tables.now) (option_map senses.name_sense handle.now))) notes.old result notes.new }
+{
+    let Some(name) = handle else {
+        return Ok(Some(None));
+    };
+    let name = name.get();
+    let found = found(alloc, tables, name, notes)?;
+    handle_of(alloc, tables, name.first.span, found, notes)
+}
+
+/// Judges the value of an allocator, where it has one, by the type of the new object, where that is known (RM 4.8).
+#[cycle(expression)]
+fn value_or_none(
+    alloc: Global,
+    tables: &Tables,
+    value: &Option<Boxed<Expression<Use>>>,
+    ty: Option<Ty>,
+    notes: &mut Notes,
+) -> Result<Option<Option<Expr>>, AllocError>
+    ensures { Judges (spec.value_judged tables.now ty (option_map spec.sense value.now)) notes.old result notes.new }
+{
+    let Some(value) = value else {
+        return Ok(Some(None));
+    };
+    let asked = match ty {
+        Some(ty) => Asked::Exactly(ty),
+        None => Asked::Anything,
+    };
+    match expression(alloc, tables, value.get(), asked, notes)? {
+        Some(typed) => Ok(Some(Some(typed.value))),
+        None => Ok(None),
+    }
+}
