@@ -4,7 +4,7 @@ use Rattle.ctl_grammar.specs.Spelling.{same_name}
 use Rattle.ctl_syntax.specs.declared.denoted.Definition.{Definition}
 use Rattle.ctl_syntax.specs.declared.denoted.Denoted.{Denoted}
 use Rattle.ctl_syntax.specs.declared.denoted.Denoted.TheVariants.{Declared, Library}
-use Rattle.ctl_syntax.specs.declared.denoted.LibraryName.TheVariants.{Integer, Boolean, Put, PutLine, NewLine, Controlled, LimitedControlled, Address, StorageCount}
+use Rattle.ctl_syntax.specs.declared.denoted.LibraryName.TheVariants.{Integer, Boolean, Put, PutLine, NewLine, Controlled, LimitedControlled}
 use Rattle.ctl_syntax.specs.declared.denoted.Use.{Use}
 use Rattle.ctl_syntax.specs.declared.expression.Expression.{Expression}
 use Rattle.ctl_syntax.specs.declared.item.Association.{Association}
@@ -41,12 +41,10 @@ abbrev pub of_type : Type_definition Use → Support
 of_type (Extension parent added) = support_when (is_empty added && is_controlled parent.first.denoted)
 of_type d = LeftOut
 
--- a scalar type of the library (3.5.3, 3.5.4, 13.7, 13.7.1)
+-- Integer or Boolean (3.5.3, 3.5.4)
 abbrev pub is_scalar : Denoted → Bool
 is_scalar (Library Integer) = true
 is_scalar (Library Boolean) = true
-is_scalar (Library Address) = true
-is_scalar (Library StorageCount) = true
 is_scalar d = false
 
 -- objects of this type, with these discriminants and this value: of a type of the text without either, and of a scalar one (3.3.1)

@@ -56,18 +56,13 @@ fn is_controlled(denoted: Denoted) -> bool
     )
 }
 
-/// Tells whether this is a scalar type of the library (RM 3.5.3, 3.5.4, 13.7, 13.7.1).
+/// Tells whether this is Integer or Boolean (RM 3.5.3, 3.5.4).
 fn is_scalar(denoted: Denoted) -> bool
     ensures { result ≡ spec.is_scalar denoted }
 {
     matches!(
         denoted,
-        Denoted::Library(
-            LibraryName::Integer
-                | LibraryName::Boolean
-                | LibraryName::Address
-                | LibraryName::StorageCount
-        )
+        Denoted::Library(LibraryName::Integer | LibraryName::Boolean)
     )
 }
 
