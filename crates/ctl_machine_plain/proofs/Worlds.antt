@@ -137,7 +137,7 @@ unfolding opened_changes opened_objects
 written g l slot ty x m ms xs behind = rw (newest_changes g (with_cells 0 (x ∷ [])) xs (record { number = g + 1; ty = ty; cells = 0 ∷ []; state = W.Untouched; origin = W.Declared (newest_master (world_from g l m ms xs)); joined = false }) behind refl) refl
 
 pub begun : (g : ℕ) (l : Lists) (n : ℕ) (m : Master) (ms : List Master) (xs ys : List Existing) → objects_of ys ≡ change_in n with_begun (objects_of xs) → world_from g l m ms ys ≡ C.begin_finalization n (world_from g l m ms xs)
-unfolding opened_changes opened_ledger opened_lists
+unfolding opened_changes
 begun g l n m ms xs ys changed = rw changed refl
 
 pub ended : (g : ℕ) (l : Lists) (n : ℕ) (m : Master) (ms : List Master) (xs ys : List Existing) → objects_of ys ≡ change_in n with_finalized (objects_of xs) → world_from g l m ms ys ≡ C.end_finalization n (world_from g l m ms xs)
