@@ -211,24 +211,24 @@ checked_is d m records components subprograms accesses =
 
 -- Whole programs -----------------------------------------------------------------------------------------------------
 
-module _ (t : Tree Definition Use) (broken : Option Fault) (n : ℕ) (plain : PlainBody n t.body) (room : n + 1 ≤ deepest) where
-  named : Still (spec.begun broken) (name_kept t.name (spec.begun broken))
-  named = told_still (is_given (operation_named t.name.identifier.text)) fault.Override t.name.identifier.span (spec.begun broken)
+module _ (t : Tree Definition Use) (names uses : Option Fault) (n : ℕ) (plain : PlainBody n t.body) (room : n + 1 ≤ deepest) where
+  named : Still (spec.begun names uses) (name_kept t.name (spec.begun names uses))
+  named = told_still (is_given (operation_named t.name.identifier.text)) fault.Override t.name.identifier.span (spec.begun names uses)
 
   abbrev judged : Option Master × Draft
-  judged = spec.body t.body t.span (spec.inside spec.outside giving.Nothing (spec.main_declared t.name (spec.begun broken))) (spec.without_slots (spec.main_declared t.name (spec.begun broken)))
+  judged = spec.body t.body t.span (spec.inside spec.outside giving.Nothing (spec.main_declared t.name (spec.begun names uses))) (spec.without_slots (spec.main_declared t.name (spec.begun names uses)))
 
-  level : (spec.inside spec.outside giving.Nothing (spec.main_declared t.name (spec.begun broken))).level ≡ 1
+  level : (spec.inside spec.outside giving.Nothing (spec.main_declared t.name (spec.begun names uses))).level ≡ 1
   level = deeper_level [] spec.outside refl (omega arith)
 
-  fits : (f : Frame) → Fits ([] ++ f ∷ []) (spec.inside spec.outside giving.Nothing (spec.main_declared t.name (spec.begun broken))) within
+  fits : (f : Frame) → Fits ([] ++ f ∷ []) (spec.inside spec.outside giving.Nothing (spec.main_declared t.name (spec.begun names uses))) within
   fits f = record { level = level ∙ sym (one_longer [] f); loop = λ e. absurd (cc); handler = λ e. absurd (cc); giving = refl; gives = refl }
 
-  bodied : (k : Setting) → HasLibrary k → Bodied k [] within (spec.without_slots (spec.main_declared t.name (spec.begun broken))) judged
-  bodied k has = body_right k has n t.body plain [] within (spec.inside spec.outside giving.Nothing (spec.main_declared t.name (spec.begun broken))) t.span (spec.without_slots (spec.main_declared t.name (spec.begun broken))) refl level
+  bodied : (k : Setting) → HasLibrary k → Bodied k [] within (spec.without_slots (spec.main_declared t.name (spec.begun names uses))) judged
+  bodied k has = body_right k has n t.body plain [] within (spec.inside spec.outside giving.Nothing (spec.main_declared t.name (spec.begun names uses))) t.span (spec.without_slots (spec.main_declared t.name (spec.begun names uses))) refl level
       (λ f. (fits f, let e = one_longer [] f in omega (arith, e, room)))
 
-  grows : Grows (spec.without_slots (spec.main_declared t.name (spec.begun broken))) judged.1
+  grows : Grows (spec.without_slots (spec.main_declared t.name (spec.begun names uses))) judged.1
   grows = (bodied (setting_of library_states 3) (has_library library_states 3 refl (omega arith))).grows
 
   records : judged.1.tables.records ≡ library_records
@@ -249,8 +249,8 @@ module _ (t : Tree Definition Use) (broken : Option Fault) (n : ℕ) (plain : Pl
   three : 3 ≤ length judged.1.exceptions
   three = let more = behind_length _ judged.1.exceptions grows.exceptions in let same = ap length named.exceptions in omega (arith, more, same)
 
-  fronts : (k : Setting) → HasLibrary k → Fronts k [] (spec.without_slots (spec.main_declared t.name (spec.begun broken)))
-  fronts k has = record { records = named.records; operations = named.operations; accesses = named.accesses; entries = (beginning_sound.sound k [] has t.name broken).entries }
+  fronts : (k : Setting) → HasLibrary k → Fronts k [] (spec.without_slots (spec.main_declared t.name (spec.begun names uses)))
+  fronts k has = record { records = named.records; operations = named.operations; accesses = named.accesses; entries = (beginning_sound.sound k [] has t.name names uses).entries }
 
   mastering : Mastering (setting_of judged.1.tables.states.records (length judged.1.exceptions)) [] within (body_of judged.0)
   mastering =
@@ -263,23 +263,23 @@ module _ (t : Tree Definition Use) (broken : Option Fault) (n : ℕ) (plain : Pl
       by_body (Some m) h = h
 
   -- the draft at the end
-  whole_checked : checked_of (spec.whole broken t) ≡ Some (program_of judged.1.exceptions judged.1.tables.states.records (body_of judged.0))
+  whole_checked : checked_of (spec.whole names uses t) ≡ Some (program_of judged.1.exceptions judged.1.tables.states.records (body_of judged.0))
   whole_checked =
-      let left = (spec.left (spec.main_declared t.name (spec.begun broken)) judged).1 in
+      let left = (spec.left (spec.main_declared t.name (spec.begun names uses)) judged).1 in
       let same = put_same judged.0 left in
-      checked_is (spec.whole broken t) (body_of judged.0) (ap (λ x. x.records) same.tables ∙ records) (same.components ∙ components) (put_subprograms judged.0 left subprograms) (ap (λ x. length x.states.accesses) same.tables ∙ accesses)
-      ∙ ap (λ x. Some (program_of x (spec.whole broken t).tables.states.records (body_of judged.0))) same.exceptions
+      checked_is (spec.whole names uses t) (body_of judged.0) (ap (λ x. x.records) same.tables ∙ records) (same.components ∙ components) (put_subprograms judged.0 left subprograms) (ap (λ x. length x.states.accesses) same.tables ∙ accesses)
+      ∙ ap (λ x. Some (program_of x (spec.whole names uses t).tables.states.records (body_of judged.0))) same.exceptions
       ∙ ap (λ x. Some (program_of judged.1.exceptions x.states.records (body_of judged.0))) same.tables
 
-  pub whole_well_typed : (p : Checked) → Elaborates broken t (Ok p) → WellTyped p
+  pub whole_well_typed : (p : Checked) → Elaborates names uses t (Ok p) → WellTyped p
   whole_well_typed p h = elim h [ inl e ↦ from_verdict e | inr e ↦ absurd (cc) ]
     where
-      from_verdict : Ok p ≡ spec.elaborate broken t → WellTyped p
+      from_verdict : Ok p ≡ spec.elaborate names uses t → WellTyped p
       from_verdict e =
-          let known = verdict_known t.span (spec.whole broken t).notes.early (spec.whole broken t).notes.fault (spec.whole broken t) p e in
+          let known = verdict_known t.span (spec.whole names uses t).notes.early (spec.whole names uses t).notes.fault (spec.whole names uses t) p e in
           let is' : Some (program_of judged.1.exceptions judged.1.tables.states.records (body_of judged.0)) ≡ Some p = sym whole_checked ∙ known in
           let same : program_of judged.1.exceptions judged.1.tables.states.records (body_of judged.0) ≡ p = cc in
           subst WellTyped same (program_fine judged.1.exceptions judged.1.tables.states.records (body_of judged.0) operations three mastering)
 
 pub plain_programs_well_typed : (t : Tree Definition Use) → PlainProgramWellTyped t
-plain_programs_well_typed t = record { well_typed = λ broken n p plain room h. whole_well_typed t broken n plain room p h }
+plain_programs_well_typed t = record { well_typed = λ names uses n p plain room h. whole_well_typed t names uses n plain room p h }

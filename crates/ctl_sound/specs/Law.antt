@@ -80,4 +80,4 @@ pub record DeclarationsKeepFaults (o : Objects Definition Use) (s : Specificatio
 -- the program that the check gives of a tree is well typed, where the tree declares objects and exceptions alone, and its blocks stand inside one another
 -- at most so deep that their levels can be counted
 pub record PlainProgramWellTyped (t : Tree Definition Use) : Type 0 where
-  pub well_typed : (broken : Option Fault) (depth : ℕ) (p : Checked) → PlainBody depth t.body → depth + 1 ≤ 18446744073709551615 → Elaborates broken t (Ok p) → WellTyped p
+  pub well_typed : (names uses : Option Fault) (depth : ℕ) (p : Checked) → PlainBody depth t.body → depth + 1 ≤ 18446744073709551615 → Elaborates names uses t (Ok p) → WellTyped p

@@ -62,13 +62,13 @@ use Rattle.ctl_types.specs.declared.draft.Order.{Order}
 use Rattle.ctl_types.specs.declared.draft.Order.TheVariants as order
 use Rattle.ctl_types.specs.declared.draft.Role.{Role}
 use Rattle.ctl_types.specs.declared.draft.Role.TheVariants as role
-use Rattle.ctl_typing.specs.Judgement.{Judgement, known, but, wrong, ◌>>=◌, both, each}
-use Rattle.ctl_typing.specs.Lookup.{same, root_of, designated_by}
+use Rattle.ctl_typing.specs.Judgement.{Judgement, known, but, wrong, unresolved, ◌>>=◌, both, each}
+use Rattle.ctl_typing.specs.Lookup.{same, root_of, is_limited, designated_by}
 use Rattle.ctl_typing.specs.Typing.{Sense, sense, found, together, designates_this}
 use Rattle.ctl_types.specs.Draft.{Doing, by_tables, early_when, fault_when, asking, deeds_of, asked, declare, declare_object}
 use Rattle.ctl_types.specs.Marks.{named_type, concrete_type, no_pool, is_pool, is_controlled, positions, root_of_type}
 use Rattle.ctl_types.specs.Freezing.{changed, with_records, is_free_type, done_by}
-use Rattle.ctl_types.specs.Statements.{is_limited, provides, operation_formals, formal}
+use Rattle.ctl_types.specs.Statements.{provides, operation_formals, formal}
 use Rattle.ctl_types.specs.Types.{is_given}
 
 -- Names of operations (7.6, 13.11) --------------------------------------------------------------------------
@@ -267,7 +267,7 @@ instance_given tables place as' = instance_by tables place (positions Deallocati
 
 abbrev pub instance_denoted : Tables → Span → Denoted → List (Association Use) → Judgement (ℕ × Ty)
 instance_denoted tables place (denoted.Library library.UncheckedDeallocation) as' = instance_given tables place as'
-instance_denoted tables place denoted.Unknown as' = λ n. (None, n)
+instance_denoted tables place denoted.Unknown as' = unresolved place
 instance_denoted tables place d as' = wrong rule.Type place
 
 abbrev pub instance_marked : Tables → Span → Use → List Identifier → List (Association Use) → Judgement (ℕ × Ty)

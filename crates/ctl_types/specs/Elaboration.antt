@@ -445,16 +445,16 @@ main_put (m, d) = put_body (Some 0) m d
 abbrev pub main_judged : Tree Definition Use → Draft → Option Master × Draft
 main_judged t d = left d (body t.body t.span (inside outside giving.Nothing d) (without_slots d))
 
-abbrev pub behind : Option Fault → Notes → Notes
-behind broken n = record { early = broken; fault = n.fault; deeds = n.deeds }
+abbrev pub behind : Option Fault → Option Fault → Notes → Notes
+behind names uses n = record { early = names; fault = uses; deeds = n.deeds }
 
--- what is known before the text, and the first rule on names that it breaks, if it breaks any
-abbrev pub begun : Option Fault → Draft
-begun broken = record library { notes = behind broken library.notes }
+-- what is known before the text, and the first broken rule on names and the first use clause of what is no package, if there are such
+abbrev pub begun : Option Fault → Option Fault → Draft
+begun names uses = record library { notes = behind names uses library.notes }
 
 -- the program as far as it is checked at the end of the text
-abbrev pub whole : Option Fault → Tree Definition Use → Draft
-whole broken t = main_put (main_judged t (main_declared t.name (begun broken)))
+abbrev pub whole : Option Fault → Option Fault → Tree Definition Use → Draft
+whole names uses t = main_put (main_judged t (main_declared t.name (begun names uses)))
 
 -- The checked program ----------------------------------------------------------------------------------------------------------------------------------
 
@@ -509,9 +509,9 @@ abbrev pub verdict : Span → Draft → Result Checked Fault
 verdict place d = verdict_by place d.notes.early d.notes.fault d
 
 -- the checked program of a resolved tree, or its first fault: of names, order and completion, the resolver's among them, before any other
-abbrev pub elaborate : Option Fault → Tree Definition Use → Result Checked Fault
-elaborate broken t = verdict t.span (whole broken t)
+abbrev pub elaborate : Option Fault → Option Fault → Tree Definition Use → Result Checked Fault
+elaborate names uses t = verdict t.span (whole names uses t)
 
 -- what the check gives: that, or that memory was refused
-abbrev pub Elaborates : Option Fault → Tree Definition Use → Result Checked Fault → Type 0
-Elaborates broken t r = (r ≡ elaborate broken t) ⊎ (r ≡ Err (record { code = rule.Memory; line = 1; column = 1 }))
+abbrev pub Elaborates : Option Fault → Option Fault → Tree Definition Use → Result Checked Fault → Type 0
+Elaborates names uses t r = (r ≡ elaborate names uses t) ⊎ (r ≡ Err (record { code = rule.Memory; line = 1; column = 1 }))

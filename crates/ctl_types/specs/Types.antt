@@ -50,13 +50,13 @@ use Rattle.ctl_typing.specs.declared.found.Asked.TheVariants.{Exactly}
 use Rattle.ctl_types.specs.declared.draft.Draft.{Draft}
 use Rattle.ctl_types.specs.declared.draft.Around.{Around}
 use Rattle.ctl_types.specs.declared.draft.Enclosing.{Enclosing}
-use Rattle.ctl_typing.specs.Judgement.{Judgement, known, but, wrong, ◌>>=◌, each, with_early}
-use Rattle.ctl_typing.specs.Lookup.{component_of, root_of}
+use Rattle.ctl_typing.specs.Judgement.{Judgement, known, but, wrong, unresolved, ◌>>=◌, each, with_early}
+use Rattle.ctl_typing.specs.Lookup.{component_of, root_of, is_limited, is_mark_root}
 use Rattle.ctl_typing.specs.Typing.{Sense, sense, discriminant_named, together}
 use Rattle.ctl_types.specs.Draft.{Doing, by_tables, early_when, fault_when, asking, deeds_of, asked, enter, take_slot, next_var}
 use Rattle.ctl_types.specs.Marks.{concrete_type, named_type, no_pool, is_controlled, pool_named}
 use Rattle.ctl_types.specs.Freezing.{changed, changed_each, with_accesses, is_free_type, done_by}
-use Rattle.ctl_types.specs.Statements.{is_limited, operations_of}
+use Rattle.ctl_types.specs.Statements.{operations_of}
 
 -- Counting --------------------------------------------------------------------------------------
 
@@ -327,10 +327,6 @@ abbrev pub designated_named : Span → Mark Use → Coverage → Tables → Judg
 designated_named place m coverage.Specific tables = designated_denoted tables place m m.first.denoted
 designated_named place m coverage.ClassWide tables = wrong rule.Type place
 
-abbrev pub is_mark_root : Root → Bool
-is_mark_root root.MarkPool = true
-is_mark_root r = false
-
 abbrev pub is_all : Generality → Bool
 is_all generality.General = true
 is_all generality.PoolSpecific = false
@@ -410,7 +406,7 @@ abbrev pub clause_type : Around → Span → Denoted → Tables → Judgement �
 clause_type around place (denoted.Declared number level) tables = clause_entry tables around place number (slice_get tables.entries number)
 clause_type around place (denoted.Library l) tables = if is_library_type l then order_broken place else wrong rule.Type place
 clause_type around place (denoted.Operation o) tables = wrong rule.Type place
-clause_type around place denoted.Unknown tables = λ n. (None, n)
+clause_type around place denoted.Unknown tables = unresolved place
 
 -- a type has one pool (13.11)
 abbrev pub pool_for_entry : Tables → Span → Option AccessEntry → Var × ℕ → Judgement (Var × ℕ)

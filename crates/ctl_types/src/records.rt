@@ -12,7 +12,7 @@ use crate::draft::{Around, Draft, Enclosing};
 use crate::freezing::done_by;
 use crate::named_types::named_type;
 use crate::operations::no_operations;
-use crate::types::{is_controlled, is_limited};
+use crate::types::is_controlled;
 use ctl_program::statement::Item;
 use ctl_program::types::{Component, Operations, Root, Ty};
 use ctl_syntax::denoted::Use;
@@ -21,7 +21,7 @@ use ctl_syntax::name::Mark;
 use ctl_tree::fault::FaultCode;
 use ctl_tree::span::Span;
 use ctl_typing::judging::wrong;
-use ctl_typing::lookup::root_of;
+use ctl_typing::lookup::{is_limited, root_of};
 use ctl_typing::notes::{Deed, Notes};
 use ctl_typing::table::{
     ComponentEntry, Concreteness, Control, Defaults, Entry, Freezing, RecordEntry, RecordState,
