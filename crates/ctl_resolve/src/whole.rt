@@ -43,7 +43,7 @@ fn main(
     ensures { Names (spec.main of.now) view.old result view.new }
 {
     let name = new_name(alloc, view, Stage::Complete, &of.name)?;
-    let around = enter_master(view);
+    let around = enter_master(view)?;
     let body = body(alloc, view, &of.body)?;
     leave(view, around);
     let contexts = clauses(alloc, of.contexts.as_slice())?;

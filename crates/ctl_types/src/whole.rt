@@ -45,7 +45,7 @@ fn declare_main(alloc: Global, name: &Definition, draft: &mut Draft) -> Result<(
     ensures { OnOk result (draft.new ≡ spec.main_declared name.now draft.old) }
 {
     keep_name(name, draft);
-    add_subprogram(alloc, outside(), SubprogramKind::Procedure, draft)?;
+    add_subprogram(outside(), SubprogramKind::Procedure, draft)?;
     draft.declare(Entry::Subprogram(Profile {
         subprogram: MAIN,
         formals: Items::new(alloc),
@@ -58,7 +58,7 @@ fn declare_main(alloc: Global, name: &Definition, draft: &mut Draft) -> Result<(
 fn main_judged(alloc: Global, tree: &Named, draft: &mut Draft) -> Result<Option<Master>, AllocError>
     ensures { Judges (spec.main_judged tree.now) draft.old result draft.new }
 {
-    let around = inside(outside(), Giving::Nothing, draft);
+    let around = inside(outside(), Giving::Nothing, draft)?;
     let outer = enter_master(alloc, draft);
     let judged = master(alloc, &tree.body, tree.span, around, draft)?;
     leave_master(outer, draft);
