@@ -67,11 +67,7 @@ fn main_judged(alloc: Global, tree: &Named, draft: &mut Draft) -> Result<Option<
 
 /// Answers what is known before the text, and the first broken rule on names and the first use clause of what is no package, if there are
 /// such.
-fn begin(
-    alloc: Global,
-    names: Option<Fault>,
-    uses: Option<Fault>,
-) -> Result<Draft, AllocError>
+fn begin(alloc: Global, names: Option<Fault>, uses: Option<Fault>) -> Result<Draft, AllocError>
     ensures { IfOk result (λ draft. draft ≡ spec.begun names uses) }
 {
     let mut draft = library(alloc)?;
