@@ -126,7 +126,7 @@ relation-returns-then-is_led_by_right t c =
     let start = c.args.notes.now in
     let middle = c.expression.new.notes in
     let ended = c.expression-then-is_led_by_right.new.notes in
-    let beside = c.asked_beside.ensures ∙ ap (spec.asked_beside op) c.adopts.ensures in
+    let beside = c.asked_beside-beside.ensures ∙ ap (spec.asked_beside op) c.adopts.ensures in
     let first = ap (λ a. right.judged tables a start) (sym beside) ∙ c.in_ok-right.ensures in
     let second =
     ap (λ a. left.judged tables (spec.asked_like a c.in_ok-right.right) middle) (sym c.compared-taken.ensures)
