@@ -65,7 +65,7 @@ use Rattle.ctl_types.specs.declared.draft.Role.TheVariants as role
 use Rattle.ctl_typing.specs.Judgement.{Judgement, known, but, wrong, unresolved, ◌>>=◌, both, each}
 use Rattle.ctl_typing.specs.Lookup.{same, root_of, is_limited, designated_by}
 use Rattle.ctl_typing.specs.Typing.{Sense, sense, found, together, designates_this}
-use Rattle.ctl_types.specs.Draft.{Doing, by_tables, early_when, fault_when, asking, deeds_of, asked, declare, declare_object}
+use Rattle.ctl_types.specs.Draft.{Doing, by_tables, early_when, fault_when, asking, deeds_of, asked, is_declared_in, declare, declare_object}
 use Rattle.ctl_types.specs.Marks.{named_type, concrete_type, no_pool, is_pool, is_controlled, positions, root_of_type}
 use Rattle.ctl_types.specs.Freezing.{changed, with_records, is_free_type, done_by}
 use Rattle.ctl_types.specs.Statements.{provides, operation_formals, formal}
@@ -478,7 +478,7 @@ completed place s e (h, d) = (None, d)
 -- the subprogram of a body, which may complete a declaration
 abbrev pub subprogram_of : Around → Span → Specification Definition Use → Option (List FormalEntry × Option Ty) × Draft → Option ℕ × Draft
 subprogram_of around place s (h, d) =
-    if is_of_part around s.name.number d then completed place s (slice_get d.tables.entries s.name.number) (h, d) else introduce around s (h, d)
+    if is_declared_in around s.name.number d then completed place s (slice_get d.tables.entries s.name.number) (h, d) else introduce around s (h, d)
 
 abbrev pub giving_of : Option (Mark Use) → Option (List FormalEntry × Option Ty) → Giving
 giving_of None h = giving.Nothing

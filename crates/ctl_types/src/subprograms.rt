@@ -213,7 +213,7 @@ fn subprogram_of(
 ) -> Result<Option<usize>, AllocError>
     ensures { Judges (λ d. spec.subprogram_of around place specification.now (heading, d)) draft.old result draft.new }
 {
-    if draft.is_of_part(around, specification.name.number) {
+    if draft.is_declared_in(around, specification.name.number) {
         completed(alloc, place, specification, heading, draft)
     } else {
         introduce(alloc, around, specification, heading, draft)

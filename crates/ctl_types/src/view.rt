@@ -68,8 +68,8 @@ impl Draft {
     }
 
     /// Tells whether the part around has a declaration of a number.
-    pub fn is_of_part(&self, around: Around, number: usize) -> bool
-        ensures { result ≡ spec.is_of_part around number self.now }
+    pub fn is_declared_in(&self, around: Around, number: usize) -> bool
+        ensures { result ≡ spec.is_declared_in around number self.now }
     {
         around.start <= number && number < self.tables.entries.len()
     }
@@ -78,7 +78,7 @@ impl Draft {
     pub fn enter(&mut self, around: Around, number: usize, entry: Entry) -> Result<(), AllocError>
         ensures { OnOk result (self.new ≡ spec.enter around number entry self.old) }
     {
-        if self.is_of_part(around, number) {
+        if self.is_declared_in(around, number) {
             self.tables.entries.set(number, entry);
             return Ok(());
         }
