@@ -1,5 +1,5 @@
 -- What holds of all that the check gives.
-use Rattle.std.specs.Prelude.{Option, ◌≡◌, ◌≤◌, ◌+◌, ℕ, true, List, [], length, map, Some, Ok}
+use Rattle.std.specs.Prelude.{Option, ◌≡◌, ℕ, true, List, [], length, map, Some, Ok}
 use Rattle.ctl_program.specs.declared.types.Ty.{Ty}
 use Rattle.ctl_program.specs.declared.program.Checked.{Checked}
 use Rattle.ctl_tree.specs.declared.fault.Fault.{Fault}
