@@ -1,7 +1,6 @@
 -- Parts, blocks and bodies that declare objects and exceptions are well typed, from what stands in them.
 use Rattle.std.proofs.Common.{arith, ◌≡◌, ◌≤◌, ◌<◌, refl, sym, ap, ◌∙◌, subst, ℕ, zero, suc, ◌+◌, List, [], ◌∷◌, ◌++◌, map, length, take, slice_get, Option, Some, None}
 use Rattle.std.proofs.lemmas.List.{append-nil, length-append}
-use Rattle.std.proofs.Math.Nat.{min-eq_left}
 use Rattle.ctl_tree.specs.declared.span.Span.{Span}
 use Rattle.ctl_program.specs.declared.types.Ty.{Ty}
 use Rattle.ctl_program.specs.declared.statement.Handler.{Handler as Checked_handler}
@@ -240,12 +239,8 @@ module _ (k : Setting) (has : HasLibrary k) (env : Frames) (w : rule.Around) (a 
 
 -- Blocks (5.6) --------------------------------------------------------------------------------------------------
 
--- levels do not end before the places of the text do
-abbrev pub deepest : ℕ
-deepest = 18446744073709551615
-
-pub deeper_level : (env : Frames) (a : Around) → a.level ≡ length env → suc (length env) ≤ deepest → spec.deeper a.level ≡ suc (length env)
-deeper_level env a e h = let next : a.level + 1 ≡ suc (length env) = omega (arith, e) in let within : a.level + 1 ≤ deepest = omega (arith, next, h) in min-eq_left within ∙ next
+pub deeper_level : (env : Frames) (a : Around) → a.level ≡ length env → spec.deeper a.level ≡ suc (length env)
+deeper_level env a e = omega (arith, e)
 
 block_leads : (k : Setting) (has : HasLibrary k) (env : Frames) (from : ℕ) (w : rule.Around) (d : Draft) (r : Option Master × Draft) → Bodied k env w (spec.without_slots d) r → Reaches k has env from (Done k env w) d (with_known (λ m. (λ (e : Draft). (Some (stmt.Block m), e))) (spec.left d r))
 block_leads k has env from w d (None, e) h = record {
@@ -259,51 +254,44 @@ block_leads k has env from w d (Some m, e) h = record {
       (record { known = fronts_left k env (spec.without_slots d) e _ h.grows refl refl (behind_cut d.tables.entries e.tables.entries h.grows.entries) fronts; past = f.past }, rule.block (h.right fronts b.exceptions).1);
 }
 
-fits_block : (env : Frames) (f : Frame) (a : Around) (w : rule.Around) (d : Draft) → Fits env a w → suc (length env) ≤ deepest → Fits (env ++ f ∷ []) (spec.inside_block a d) w
-fits_block env f a w d h room = record { level = deeper_level env a h.level room ∙ sym (one_longer env f); loop = h.loop; handler = h.handler; giving = h.giving; gives = h.gives }
+fits_block : (env : Frames) (f : Frame) (a : Around) (w : rule.Around) (d : Draft) → Fits env a w → Fits (env ++ f ∷ []) (spec.inside_block a d) w
+fits_block env f a w d h = record { level = deeper_level env a h.level ∙ sym (one_longer env f); loop = h.loop; handler = h.handler; giving = h.giving; gives = h.gives }
 
 -- Trees ----------------------------------------------------------------------------------------------------------
 
 module _ (k : Setting) (has : HasLibrary k) where
-  -- what stands around agrees, in whatever masters
-  abbrev Placed : Frames → rule.Around → Around → ℕ → Type 0
-  Placed env w a n = Fits env a w × (length env + n ≤ deepest)
-
-  room_left : (env : Frames) (n : ℕ) → length env + suc n ≤ deepest → suc (length env) ≤ deepest
-  room_left env n h = omega (arith, h)
-
   mutual
-    pub plain_right : (n : ℕ) (x : Statement Definition Use) → Plain n x → (env : Frames) (from : ℕ) (w : rule.Around) (a : Around) → Placed env w a n → SaysRight k has env from w a (statement x)
-    plain_right n _ (plain.null {p = p}) env from w a g = subst (SaysRight k has env from w a) (sym (statement_null p)) (λ d. record { grows = still_grows d d (still_self d); right = λ f b. (f, rule.null) })
-    plain_right n _ (plain.assignment {p = p} {to = to} {x = x}) env from w a g = subst (SaysRight k has env from w a) (sym (statement_assignment p to x)) (assignment_walk k has env from w to x)
-    plain_right n _ (plain.call {p = p} {to = to}) env from w a g = subst (SaysRight k has env from w a) (sym (statement_call p to)) (call_walk k has env from w p to)
-    plain_right n _ (plain.exit {p = p} {c = c}) env from w a g = subst (SaysRight k has env from w a) (sym (statement_exit p c)) (exiting_walk k has env from w p a.looping c g.0.loop)
-    plain_right n _ (plain.return {p = p} {x = x}) env from w a g = subst (SaysRight k has env from w a) (sym (statement_return p x)) (returning_walk k has env from w a p x g.0)
-    plain_right n _ (plain.raise {p = p} {m = m}) env from w a g = subst (SaysRight k has env from w a) (sym (statement_raise p m)) (raising_walk k has env from w p m)
-    plain_right n _ (plain.raise_again {p = p}) env from w a g = subst (SaysRight k has env from w a) (sym (statement_raise_again p)) (raising_again_walk k has env from w p a.handling g.0.handler)
-    plain_right n _ (plain.choose {p = p} {first = first} {more = more} {otherwise = otherwise} bs os) env from w a g = subst (SaysRight k has env from w a) (sym (statement_if p first more otherwise)) (conditional_walk k has env from w a (branch_of first) (map branch_of more) (map statement otherwise) (branches_right n (first ∷ more) bs env from w a g) (each_right n otherwise os env from w a g))
-    plain_right n _ (plain.loop {p = p} {ss = ss} h) env from w a g = subst (SaysRight k has env from w a) (sym (statement_loop p ss)) (endless_walk k has env from w a (map statement ss) (each_right n ss h env from (inside_loop w) (spec.in_loop a) (fits_loop env a w g.0, g.1)))
-    plain_right n _ (plain.while {p = p} {c = c} {ss = ss} h) env from w a g = subst (SaysRight k has env from w a) (sym (statement_while p c ss)) (while_walk k has env from w a c (map statement ss) (each_right n ss h env from (inside_loop w) (spec.in_loop a) (fits_loop env a w g.0, g.1)))
-    plain_right n _ (plain.for {p = p} {name = name} {way = way} {low = low} {high = high} {ss = ss} h) env from w a g = subst (SaysRight k has env from w a) (sym (statement_for p name way low high ss)) (counting_walk k has env from w a way low high (map statement ss) g.0 (each_right n ss h env from (inside_loop w) (spec.in_loop a) (fits_loop env a w g.0, g.1)))
-    plain_right _ _ (plain.block {n = n} {p = p} {b = b} h) env from w a g = subst (SaysRight k has env from w a) (sym (statement_block p b)) (λ d. block_leads k has env from w d (body b p (spec.inside_block a d) (spec.without_slots d))
-        (body_right n b h env w (spec.inside_block a d) p (spec.without_slots d) refl (deeper_level env a g.0.level (room_left env n g.1)) (λ f. (fits_block env f a w d g.0 (room_left env n g.1), let e = one_longer env f in let room = g.1 in omega (arith, e, room)))))
+    pub plain_right : (x : Statement Definition Use) → Plain x → (env : Frames) (from : ℕ) (w : rule.Around) (a : Around) → Fits env a w → SaysRight k has env from w a (statement x)
+    plain_right _ (plain.null {p = p}) env from w a g = subst (SaysRight k has env from w a) (sym (statement_null p)) (λ d. record { grows = still_grows d d (still_self d); right = λ f b. (f, rule.null) })
+    plain_right _ (plain.assignment {p = p} {to = to} {x = x}) env from w a g = subst (SaysRight k has env from w a) (sym (statement_assignment p to x)) (assignment_walk k has env from w to x)
+    plain_right _ (plain.call {p = p} {to = to}) env from w a g = subst (SaysRight k has env from w a) (sym (statement_call p to)) (call_walk k has env from w p to)
+    plain_right _ (plain.exit {p = p} {c = c}) env from w a g = subst (SaysRight k has env from w a) (sym (statement_exit p c)) (exiting_walk k has env from w p a.looping c g.loop)
+    plain_right _ (plain.return {p = p} {x = x}) env from w a g = subst (SaysRight k has env from w a) (sym (statement_return p x)) (returning_walk k has env from w a p x g)
+    plain_right _ (plain.raise {p = p} {m = m}) env from w a g = subst (SaysRight k has env from w a) (sym (statement_raise p m)) (raising_walk k has env from w p m)
+    plain_right _ (plain.raise_again {p = p}) env from w a g = subst (SaysRight k has env from w a) (sym (statement_raise_again p)) (raising_again_walk k has env from w p a.handling g.handler)
+    plain_right _ (plain.choose {p = p} {first = first} {more = more} {otherwise = otherwise} bs os) env from w a g = subst (SaysRight k has env from w a) (sym (statement_if p first more otherwise)) (conditional_walk k has env from w a (branch_of first) (map branch_of more) (map statement otherwise) (branches_right (first ∷ more) bs env from w a g) (each_right otherwise os env from w a g))
+    plain_right _ (plain.loop {p = p} {ss = ss} h) env from w a g = subst (SaysRight k has env from w a) (sym (statement_loop p ss)) (endless_walk k has env from w a (map statement ss) (each_right ss h env from (inside_loop w) (spec.in_loop a) (fits_loop env a w g)))
+    plain_right _ (plain.while {p = p} {c = c} {ss = ss} h) env from w a g = subst (SaysRight k has env from w a) (sym (statement_while p c ss)) (while_walk k has env from w a c (map statement ss) (each_right ss h env from (inside_loop w) (spec.in_loop a) (fits_loop env a w g)))
+    plain_right _ (plain.for {p = p} {name = name} {way = way} {low = low} {high = high} {ss = ss} h) env from w a g = subst (SaysRight k has env from w a) (sym (statement_for p name way low high ss)) (counting_walk k has env from w a way low high (map statement ss) g (each_right ss h env from (inside_loop w) (spec.in_loop a) (fits_loop env a w g)))
+    plain_right _ (plain.block {p = p} {b = b} h) env from w a g = subst (SaysRight k has env from w a) (sym (statement_block p b)) (λ d. block_leads k has env from w d (body b p (spec.inside_block a d) (spec.without_slots d))
+        (body_right b h env w (spec.inside_block a d) p (spec.without_slots d) refl (deeper_level env a g.level) (λ f. fits_block env f a w d g)))
 
-    each_right : (n : ℕ) (ss : List (Statement Definition Use)) → PlainEach n ss → (env : Frames) (from : ℕ) (w : rule.Around) (a : Around) → Placed env w a n → All (SaysRight k has env from w a) (map statement ss)
-    each_right n [] plain.no_more_statements env from w a g = tt
-    each_right n (x ∷ ss) (plain.one_more_statement h more) env from w a g = (plain_right n x h env from w a g, each_right n ss more env from w a g)
+    each_right : (ss : List (Statement Definition Use)) → PlainEach ss → (env : Frames) (from : ℕ) (w : rule.Around) (a : Around) → Fits env a w → All (SaysRight k has env from w a) (map statement ss)
+    each_right [] plain.no_more_statements env from w a g = tt
+    each_right (x ∷ ss) (plain.one_more_statement h more) env from w a g = (plain_right x h env from w a g, each_right ss more env from w a g)
 
-    branches_right : (n : ℕ) (bs : List (Branch (Statement Definition Use) Use)) → PlainBranches n bs → (env : Frames) (from : ℕ) (w : rule.Around) (a : Around) → Placed env w a n → All (BranchRight k has env from w a) (map branch_of bs)
-    branches_right n [] plain.no_more_branches env from w a g = tt
-    branches_right n (b ∷ bs) (plain.one_more_branch {c = c} {ss = ss} h more) env from w a g = (branch_walk k has env from w a c (map statement ss) (each_right n ss h env from w a g), branches_right n bs more env from w a g)
+    branches_right : (bs : List (Branch (Statement Definition Use) Use)) → PlainBranches bs → (env : Frames) (from : ℕ) (w : rule.Around) (a : Around) → Fits env a w → All (BranchRight k has env from w a) (map branch_of bs)
+    branches_right [] plain.no_more_branches env from w a g = tt
+    branches_right (b ∷ bs) (plain.one_more_branch {c = c} {ss = ss} h more) env from w a g = (branch_walk k has env from w a c (map statement ss) (each_right ss h env from w a g), branches_right bs more env from w a g)
 
-    handlers_right : (n : ℕ) (hs : List (Handler (Statement Definition Use) Use)) → PlainHandlers n hs → (env : Frames) (from : ℕ) (w : rule.Around) (a : Around) (place : Span) → Placed env w a n → All (HandlerRight k has env from w a place) (map handler_of hs)
-    handlers_right n [] plain.no_more_handlers env from w a place g = tt
-    handlers_right n (x ∷ hs) (plain.one_more_handler {p = p} {c = c} {ss = ss} h more) env from w a place g = (handler_walk k has env from w a place p c (map statement ss) (each_right n ss h env from (inside_handler w) (spec.in_handler a) (fits_handler env a w g.0, g.1)), handlers_right n hs more env from w a place g)
+    handlers_right : (hs : List (Handler (Statement Definition Use) Use)) → PlainHandlers hs → (env : Frames) (from : ℕ) (w : rule.Around) (a : Around) (place : Span) → Fits env a w → All (HandlerRight k has env from w a place) (map handler_of hs)
+    handlers_right [] plain.no_more_handlers env from w a place g = tt
+    handlers_right (x ∷ hs) (plain.one_more_handler {p = p} {c = c} {ss = ss} h more) env from w a place g = (handler_walk k has env from w a place p c (map statement ss) (each_right ss h env from (inside_handler w) (spec.in_handler a) (fits_handler env a w g)), handlers_right hs more env from w a place g)
 
-    pub body_right : (n : ℕ) (b : Body Definition Use) → PlainBody n b → (env : Frames) (w : rule.Around) (a : Around) (place : Span) (d : Draft) → d.slots ≡ [] → a.level ≡ suc (length env) → ((f : Frame) → Placed (env ++ f ∷ []) w a n) → Bodied k env w d (body b place a d)
-    body_right n _ (plain.body is' ss hs pi ps ph) env w a place d empty level g = subst (λ j. Bodied k env w d (j place a d)) (sym (body_parts is' ss hs))
+    pub body_right : (b : Body Definition Use) → PlainBody b → (env : Frames) (w : rule.Around) (a : Around) (place : Span) (d : Draft) → d.slots ≡ [] → a.level ≡ suc (length env) → ((f : Frame) → Fits (env ++ f ∷ []) a w) → Bodied k env w d (body b place a d)
+    body_right _ (plain.body is' ss hs pi ps ph) env w a place d empty level g = subst (λ j. Bodied k env w d (j place a d)) (sym (body_parts is' ss hs))
         (body_bodied k has env w a (spec.part (map item_judged is') a) (spec.sequence (map statement ss) a) (spec.handlers place a (map handler_of hs)) d empty
         (λ f e. part_comes k has (env ++ f ∷ []) a e is' pi d)
-        (λ f from. sequence_walk k has (env ++ f ∷ []) from w a (map statement ss) (each_right n ss ps (env ++ f ∷ []) from w a (g f)))
-        (λ f from. handlers_walk k has (env ++ f ∷ []) from w a place (map handler_of hs) (handlers_right n hs ph (env ++ f ∷ []) from w a place (g f)))
+        (λ f from. sequence_walk k has (env ++ f ∷ []) from w a (map statement ss) (each_right ss ps (env ++ f ∷ []) from w a (g f)))
+        (λ f from. handlers_walk k has (env ++ f ∷ []) from w a place (map handler_of hs) (handlers_right hs ph (env ++ f ∷ []) from w a place (g f)))
         level)

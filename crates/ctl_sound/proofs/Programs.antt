@@ -19,12 +19,13 @@ use Rattle.ctl_typing.specs.declared.table.Concreteness.TheVariants as concreten
 use Rattle.ctl_typing.specs.declared.table.RecordEntry.{RecordEntry}
 use Rattle.ctl_typing.specs.declared.table.RecordState.{RecordState}
 use Rattle.ctl_types.specs.declared.draft.Draft.{Draft}
+use Rattle.ctl_types.specs.declared.draft.Routine.{Routine}
 use Rattle.ctl_types.specs.declared.draft.Giving.TheVariants as giving
-use Rattle.ctl_types.specs.Declarations.{no_body, put_body, with_body, name_kept, operation_named}
+use Rattle.ctl_types.specs.Declarations.{put_body, with_body, name_kept, operation_named}
 use Rattle.ctl_types.specs.Statements.{operations_of}
 use Rattle.ctl_types.specs.Types.{is_given}
 use Rattle.ctl_types.specs.Elaboration as spec
-use Rattle.ctl_types.specs.Elaboration.{library_records, library_states, library_components, record_types, record_type_of, checked_of, checked_with, access_types, or_nothing, verdict_by, Elaborates}
+use Rattle.ctl_types.specs.Elaboration.{library_records, library_states, library_components, record_types, record_type_of, checked_of, checked_with, access_types, subprograms, or_nothing, verdict_by, Elaborates}
 use Rattle.ctl_well_typed.specs.Setting.{Frame, Frames, Setting}
 use Rattle.ctl_well_typed.specs.Statements as rule
 use Rattle.ctl_well_typed.specs.Programs as program
@@ -38,7 +39,7 @@ use Rattle.ctl_sound.proofs.Growing.{operations_in, behind_length, Still, Grows}
 use Rattle.ctl_sound.proofs.Fronts.{Fronts}
 use Rattle.ctl_sound.proofs.Compounds.{Fits}
 use Rattle.ctl_sound.proofs.Objects.{told_still}
-use Rattle.ctl_sound.proofs.Bodies.{Mastering, Bodied, body_right, deepest, deeper_level, one_longer}
+use Rattle.ctl_sound.proofs.Bodies.{Mastering, Bodied, body_right, deeper_level, one_longer}
 
 -- The program ------------------------------------------------------------------------------------------
 
@@ -54,6 +55,10 @@ within = record { in_loop = false; in_handler = false; gives = None }
 
 abbrev main_with : Master → Subprogram
 main_with m = record { level = 0; kind = kind.Procedure; body = m }
+
+-- with its body, once that has come
+abbrev main_begun : Option Master → Routine
+main_begun m = record { level = 0; kind = kind.Procedure; body = m }
 
 -- the types of the library, and the main procedure
 abbrev program_of : List (List ℕ) → List RecordState → Master → Checked
@@ -169,20 +174,16 @@ program_fine es ss m e h body =
 
 -- The draft at the end of the text -----------------------------------------------------------------------------
 
-abbrev body_of : Option Master → Master
-body_of None = no_body
-body_of (Some m) = m
-
-put_subprograms : (m : Option Master) (d : Draft) → d.subprograms ≡ main_with no_body ∷ [] → (put_body (Some 0) m d).subprograms ≡ main_with (body_of m) ∷ []
+put_subprograms : (m : Option Master) (d : Draft) → d.subprograms ≡ main_begun None ∷ [] → (put_body (Some 0) m d).subprograms ≡ main_begun m ∷ []
 put_subprograms None d e = e
-put_subprograms (Some m) d e = ap (λ o. (with_body 0 m o d).subprograms) (ap (λ xs. slice_get xs 0) e) ∙ ap (λ xs. slice_set xs 0 (main_with m)) e
+put_subprograms (Some m) d e = ap (λ o. (with_body 0 m o d).subprograms) (ap (λ xs. slice_get xs 0) e) ∙ ap (λ xs. slice_set xs 0 (main_begun (Some m))) e
 
 record SameTables (d e : Draft) : Type 0 where
   tables : e.tables ≡ d.tables
   components : e.components ≡ d.components
   exceptions : e.exceptions ≡ d.exceptions
 
-with_same : (m : Master) (o : Option Subprogram) (d : Draft) → SameTables d (with_body 0 m o d)
+with_same : (m : Master) (o : Option Routine) (d : Draft) → SameTables d (with_body 0 m o d)
 with_same m None d = record { tables = refl; components = refl; exceptions = refl }
 with_same m (Some s) d = record { tables = refl; components = refl; exceptions = refl }
 
@@ -202,33 +203,41 @@ verdict_known place None None d p h = by_checked (checked_of d) h
 no_access_types : (as' : List _) → length as' ≡ 0 → access_types as' ≡ Some []
 no_access_types as' h = ap (λ xs. access_types xs) (nil_from_length as' h)
 
-checked_is : (d : Draft) (m : Master) → d.tables.records ≡ library_records → d.components ≡ library_components → d.subprograms ≡ main_with m ∷ [] → length d.tables.states.accesses ≡ 0 → checked_of d ≡ Some (program_of d.exceptions d.tables.states.records m)
-checked_is d m records components subprograms accesses =
-    ap (checked_with d) (no_access_types d.tables.states.accesses accesses)
-    ∙ ap (λ rs. Some (record { exceptions = d.exceptions; records = record_types rs d.tables.states.records d.components; accesses = []; subprograms = d.subprograms; main = 0 })) records
-    ∙ ap (λ cs. Some (record { exceptions = d.exceptions; records = record_types library_records d.tables.states.records cs; accesses = []; subprograms = d.subprograms; main = 0 })) components
-    ∙ ap (λ xs. Some (record { exceptions = d.exceptions; records = record_types library_records d.tables.states.records library_components; accesses = []; subprograms = xs; main = 0 })) subprograms
+-- where the main procedure has no body, there is no program
+unchecked : (d : Draft) → d.subprograms ≡ main_begun None ∷ [] → checked_of d ≡ None
+unchecked d e = ap (λ xs. checked_with d (access_types d.tables.states.accesses) (subprograms xs)) e ∙ by_types (access_types d.tables.states.accesses)
+  where
+    by_types : (o : _) → checked_with d o None ≡ None
+    by_types None = refl
+    by_types (Some as') = refl
+
+checked_is : (d : Draft) (m : Master) → d.tables.records ≡ library_records → d.components ≡ library_components → d.subprograms ≡ main_begun (Some m) ∷ [] → length d.tables.states.accesses ≡ 0 → checked_of d ≡ Some (program_of d.exceptions d.tables.states.records m)
+checked_is d m records components bodies accesses =
+    ap (λ as'. checked_with d as' (subprograms d.subprograms)) (no_access_types d.tables.states.accesses accesses)
+    ∙ ap (λ xs. checked_with d (Some []) (subprograms xs)) bodies
+    ∙ ap (λ rs. Some (record { exceptions = d.exceptions; records = record_types rs d.tables.states.records d.components; accesses = []; subprograms = main_with m ∷ []; main = 0 })) records
+    ∙ ap (λ cs. Some (record { exceptions = d.exceptions; records = record_types library_records d.tables.states.records cs; accesses = []; subprograms = main_with m ∷ []; main = 0 })) components
 
 -- Whole programs -----------------------------------------------------------------------------------------------------
 
-module _ (t : Tree Definition Use) (broken : Option Fault) (n : ℕ) (plain : PlainBody n t.body) (room : n + 1 ≤ deepest) where
-  named : Still (spec.begun broken) (name_kept t.name (spec.begun broken))
-  named = told_still (is_given (operation_named t.name.identifier.text)) fault.Override t.name.identifier.span (spec.begun broken)
+module _ (t : Tree Definition Use) (names uses : Option Fault) (plain : PlainBody t.body) where
+  named : Still (spec.begun names uses) (name_kept t.name (spec.begun names uses))
+  named = told_still (is_given (operation_named t.name.identifier.text)) fault.Override t.name.identifier.span (spec.begun names uses)
 
   abbrev judged : Option Master × Draft
-  judged = spec.body t.body t.span (spec.inside spec.outside giving.Nothing (spec.main_declared t.name (spec.begun broken))) (spec.without_slots (spec.main_declared t.name (spec.begun broken)))
+  judged = spec.body t.body t.span (spec.inside spec.outside giving.Nothing (spec.main_declared t.name (spec.begun names uses))) (spec.without_slots (spec.main_declared t.name (spec.begun names uses)))
 
-  level : (spec.inside spec.outside giving.Nothing (spec.main_declared t.name (spec.begun broken))).level ≡ 1
-  level = deeper_level [] spec.outside refl (omega arith)
+  level : (spec.inside spec.outside giving.Nothing (spec.main_declared t.name (spec.begun names uses))).level ≡ 1
+  level = deeper_level [] spec.outside refl
 
-  fits : (f : Frame) → Fits ([] ++ f ∷ []) (spec.inside spec.outside giving.Nothing (spec.main_declared t.name (spec.begun broken))) within
+  fits : (f : Frame) → Fits ([] ++ f ∷ []) (spec.inside spec.outside giving.Nothing (spec.main_declared t.name (spec.begun names uses))) within
   fits f = record { level = level ∙ sym (one_longer [] f); loop = λ e. absurd (cc); handler = λ e. absurd (cc); giving = refl; gives = refl }
 
-  bodied : (k : Setting) → HasLibrary k → Bodied k [] within (spec.without_slots (spec.main_declared t.name (spec.begun broken))) judged
-  bodied k has = body_right k has n t.body plain [] within (spec.inside spec.outside giving.Nothing (spec.main_declared t.name (spec.begun broken))) t.span (spec.without_slots (spec.main_declared t.name (spec.begun broken))) refl level
-      (λ f. (fits f, let e = one_longer [] f in omega (arith, e, room)))
+  bodied : (k : Setting) → HasLibrary k → Bodied k [] within (spec.without_slots (spec.main_declared t.name (spec.begun names uses))) judged
+  bodied k has = body_right k has t.body plain [] within (spec.inside spec.outside giving.Nothing (spec.main_declared t.name (spec.begun names uses))) t.span (spec.without_slots (spec.main_declared t.name (spec.begun names uses))) refl level
+      fits
 
-  grows : Grows (spec.without_slots (spec.main_declared t.name (spec.begun broken))) judged.1
+  grows : Grows (spec.without_slots (spec.main_declared t.name (spec.begun names uses))) judged.1
   grows = (bodied (setting_of library_states 3) (has_library library_states 3 refl (omega arith))).grows
 
   records : judged.1.tables.records ≡ library_records
@@ -243,43 +252,55 @@ module _ (t : Tree Definition Use) (broken : Option Fault) (n : ℕ) (plain : Pl
   components : judged.1.components ≡ library_components
   components = grows.components ∙ named.components
 
-  subprograms : judged.1.subprograms ≡ main_with no_body ∷ []
-  subprograms = grows.subprograms ∙ ap (λ xs. xs ++ main_with no_body ∷ []) named.subprograms
+  begun_alone : judged.1.subprograms ≡ main_begun None ∷ []
+  begun_alone = grows.subprograms ∙ ap (λ xs. xs ++ main_begun None ∷ []) named.subprograms
 
   three : 3 ≤ length judged.1.exceptions
   three = let more = behind_length _ judged.1.exceptions grows.exceptions in let same = ap length named.exceptions in omega (arith, more, same)
 
-  fronts : (k : Setting) → HasLibrary k → Fronts k [] (spec.without_slots (spec.main_declared t.name (spec.begun broken)))
-  fronts k has = record { records = named.records; operations = named.operations; accesses = named.accesses; entries = (beginning_sound.sound k [] has t.name broken).entries }
+  fronts : (k : Setting) → HasLibrary k → Fronts k [] (spec.without_slots (spec.main_declared t.name (spec.begun names uses)))
+  fronts k has = record { records = named.records; operations = named.operations; accesses = named.accesses; entries = (beginning_sound.sound k [] has t.name names uses).entries }
 
-  mastering : Mastering (setting_of judged.1.tables.states.records (length judged.1.exceptions)) [] within (body_of judged.0)
+  abbrev Masters : Master → Type 0
+  Masters = Mastering (setting_of judged.1.tables.states.records (length judged.1.exceptions)) [] within
+
+  mastering : IfSome Masters judged.0
   mastering =
       let k = setting_of judged.1.tables.states.records (length judged.1.exceptions) in
       let has = has_library judged.1.tables.states.records (length judged.1.exceptions) operations three in
-      by_body judged.0 ((bodied k has).right (fronts k has) (omega arith))
-    where
-      by_body : (m : Option Master) → IfSome (Mastering (setting_of judged.1.tables.states.records (length judged.1.exceptions)) [] within) m → Mastering (setting_of judged.1.tables.states.records (length judged.1.exceptions)) [] within (body_of m)
-      by_body None h = ([], rule.master rule.no_more_items rule.no_more_statements rule.no_more_handlers)
-      by_body (Some m) h = h
+      (bodied k has).right (fronts k has) (omega arith)
 
   -- the draft at the end
-  whole_checked : checked_of (spec.whole broken t) ≡ Some (program_of judged.1.exceptions judged.1.tables.states.records (body_of judged.0))
-  whole_checked =
-      let left = (spec.left (spec.main_declared t.name (spec.begun broken)) judged).1 in
-      let same = put_same judged.0 left in
-      checked_is (spec.whole broken t) (body_of judged.0) (ap (λ x. x.records) same.tables ∙ records) (same.components ∙ components) (put_subprograms judged.0 left subprograms) (ap (λ x. length x.states.accesses) same.tables ∙ accesses)
-      ∙ ap (λ x. Some (program_of x (spec.whole broken t).tables.states.records (body_of judged.0))) same.exceptions
-      ∙ ap (λ x. Some (program_of judged.1.exceptions x.states.records (body_of judged.0))) same.tables
+  abbrev at_end : Draft
+  at_end = spec.whole names uses t
 
-  pub whole_well_typed : (p : Checked) → Elaborates broken t (Ok p) → WellTyped p
+  -- the draft at the end, by what is known of the main procedure's body
+  abbrev ended : Option Master → Draft
+  ended m = put_body (Some 0) m (spec.left (spec.main_declared t.name (spec.begun names uses)) judged).1
+
+  with_main : (m : Master) → checked_of (ended (Some m)) ≡ Some (program_of judged.1.exceptions judged.1.tables.states.records m)
+  with_main m =
+      let left = (spec.left (spec.main_declared t.name (spec.begun names uses)) judged).1 in
+      let same = put_same (Some m) left in
+      checked_is (ended (Some m)) m (ap (λ x. x.records) same.tables ∙ records) (same.components ∙ components) (put_subprograms (Some m) left begun_alone) (ap (λ x. length x.states.accesses) same.tables ∙ accesses)
+      ∙ ap (λ x. Some (program_of x (ended (Some m)).tables.states.records m)) same.exceptions
+      ∙ ap (λ x. Some (program_of judged.1.exceptions x.states.records m)) same.tables
+
+  without_main : checked_of (ended None) ≡ None
+  without_main = unchecked (ended None) begun_alone
+
+  pub whole_well_typed : (p : Checked) → Elaborates names uses t (Ok p) → WellTyped p
   whole_well_typed p h = elim h [ inl e ↦ from_verdict e | inr e ↦ absurd (cc) ]
     where
-      from_verdict : Ok p ≡ spec.elaborate broken t → WellTyped p
-      from_verdict e =
-          let known = verdict_known t.span (spec.whole broken t).notes.early (spec.whole broken t).notes.fault (spec.whole broken t) p e in
-          let is' : Some (program_of judged.1.exceptions judged.1.tables.states.records (body_of judged.0)) ≡ Some p = sym whole_checked ∙ known in
-          let same : program_of judged.1.exceptions judged.1.tables.states.records (body_of judged.0) ≡ p = cc in
-          subst WellTyped same (program_fine judged.1.exceptions judged.1.tables.states.records (body_of judged.0) operations three mastering)
+      by_main : (m : Option Master) → IfSome Masters m → checked_of (ended m) ≡ Some p → WellTyped p
+      by_main None h e = absurd (let none = without_main in cc)
+      by_main (Some m) h e =
+          let is' : Some (program_of judged.1.exceptions judged.1.tables.states.records m) ≡ Some p = sym (with_main m) ∙ e in
+          let same : program_of judged.1.exceptions judged.1.tables.states.records m ≡ p = cc in
+          subst WellTyped same (program_fine judged.1.exceptions judged.1.tables.states.records m operations three h)
+
+      from_verdict : Ok p ≡ spec.elaborate names uses t → WellTyped p
+      from_verdict e = by_main judged.0 mastering (verdict_known t.span at_end.notes.early at_end.notes.fault at_end p e)
 
 pub plain_programs_well_typed : (t : Tree Definition Use) → PlainProgramWellTyped t
-plain_programs_well_typed t = record { well_typed = λ broken n p plain room h. whole_well_typed t broken n plain room p h }
+plain_programs_well_typed t = record { well_typed = λ names uses p plain h. whole_well_typed t names uses plain p h }

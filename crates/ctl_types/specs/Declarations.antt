@@ -1,5 +1,5 @@
 -- Objects, exceptions, instances and headings of subprograms as they are declared (3.3.1, 11.1, 12.3, 6.1, 8.3.1).
-use Rattle.std.specs.Prelude.{ℕ, zero, suc, Bool, true, false, ◌&&◌, ◌||◌, not, if◌then◌else◌, nat_eq, nat_lt, List, [], ◌∷◌, ◌++◌, codes, length, map, slice_get, slice_set, Option, Some, None, option_map}
+use Rattle.std.specs.Prelude.{ℕ, zero, suc, Bool, true, false, ◌&&◌, ◌||◌, not, if◌then◌else◌, nat_eq, List, [], ◌∷◌, ◌++◌, codes, length, map, slice_get, slice_set, Option, Some, None, option_map}
 use Rattle.ctl_grammar.specs.Spelling.{same_name}
 use Rattle.ctl_tree.specs.declared.span.Span.{Span}
 use Rattle.ctl_tree.specs.declared.fault.FaultCode.TheVariants as rule
@@ -9,11 +9,10 @@ use Rattle.ctl_program.specs.declared.types.Operations.{Operations}
 use Rattle.ctl_program.specs.declared.expression.Expr.{Expr}
 use Rattle.ctl_program.specs.declared.operators.SubprogramKind.{SubprogramKind}
 use Rattle.ctl_program.specs.declared.operators.SubprogramKind.TheVariants as kind
-use Rattle.ctl_program.specs.declared.program.Subprogram.{Subprogram}
 use Rattle.ctl_program.specs.declared.statement.Association.{Association as Checked_association}
 use Rattle.ctl_program.specs.declared.statement.Item.{Item as Checked_item}
 use Rattle.ctl_program.specs.declared.statement.Item.TheVariants as made
-use Rattle.ctl_program.specs.declared.statement.Master.{Master, roll-Master}
+use Rattle.ctl_program.specs.declared.statement.Master.{Master}
 use Rattle.ctl_syntax.specs.declared.denoted.Denoted.{Denoted}
 use Rattle.ctl_syntax.specs.declared.denoted.Denoted.TheVariants as denoted
 use Rattle.ctl_syntax.specs.declared.denoted.Definition.{Definition}
@@ -55,6 +54,7 @@ use Rattle.ctl_types.specs.declared.associations.Associated.TheVariants.{Discrim
 use Rattle.ctl_typing.specs.declared.found.Found.{Found}
 use Rattle.ctl_typing.specs.declared.found.Found.TheVariants.{TypeName}
 use Rattle.ctl_types.specs.declared.draft.Draft.{Draft}
+use Rattle.ctl_types.specs.declared.draft.Routine.{Routine}
 use Rattle.ctl_types.specs.declared.draft.Around.{Around}
 use Rattle.ctl_types.specs.declared.draft.Giving.{Giving}
 use Rattle.ctl_types.specs.declared.draft.Giving.TheVariants as giving
@@ -62,13 +62,13 @@ use Rattle.ctl_types.specs.declared.draft.Order.{Order}
 use Rattle.ctl_types.specs.declared.draft.Order.TheVariants as order
 use Rattle.ctl_types.specs.declared.draft.Role.{Role}
 use Rattle.ctl_types.specs.declared.draft.Role.TheVariants as role
-use Rattle.ctl_typing.specs.Judgement.{Judgement, known, but, wrong, ◌>>=◌, both, each}
-use Rattle.ctl_typing.specs.Lookup.{same, root_of, designated_by}
+use Rattle.ctl_typing.specs.Judgement.{Judgement, known, but, wrong, unresolved, ◌>>=◌, both, each}
+use Rattle.ctl_typing.specs.Lookup.{same, root_of, is_limited, designated_by}
 use Rattle.ctl_typing.specs.Typing.{Sense, sense, found, together, designates_this}
-use Rattle.ctl_types.specs.Draft.{Doing, by_tables, early_when, fault_when, asking, deeds_of, asked, declare, declare_object}
+use Rattle.ctl_types.specs.Draft.{Doing, by_tables, early_when, fault_when, asking, deeds_of, asked, is_declared_in, declare, declare_object}
 use Rattle.ctl_types.specs.Marks.{named_type, concrete_type, no_pool, is_pool, is_controlled, positions, root_of_type}
 use Rattle.ctl_types.specs.Freezing.{changed, with_records, is_free_type, done_by}
-use Rattle.ctl_types.specs.Statements.{is_limited, provides, operation_formals, formal}
+use Rattle.ctl_types.specs.Statements.{provides, operation_formals, formal}
 use Rattle.ctl_types.specs.Types.{is_given}
 
 -- Names of operations (7.6, 13.11) --------------------------------------------------------------------------
@@ -267,7 +267,7 @@ instance_given tables place as' = instance_by tables place (positions Deallocati
 
 abbrev pub instance_denoted : Tables → Span → Denoted → List (Association Use) → Judgement (ℕ × Ty)
 instance_denoted tables place (denoted.Library library.UncheckedDeallocation) as' = instance_given tables place as'
-instance_denoted tables place denoted.Unknown as' = λ n. (None, n)
+instance_denoted tables place denoted.Unknown as' = unresolved place
 instance_denoted tables place d as' = wrong rule.Type place
 
 abbrev pub instance_marked : Tables → Span → Use → List Identifier → List (Association Use) → Judgement (ℕ × Ty)
@@ -415,12 +415,9 @@ abbrev pub kind_of : Option (Mark Use) → SubprogramKind
 kind_of None = kind.Procedure
 kind_of (Some m) = kind.Function
 
--- a body that has not come yet
-abbrev pub no_body : Master
-no_body = roll-Master (record { slots = 0; items = []; body = []; handlers = [] })
-
+-- its body has not come yet
 abbrev pub add_subprogram : Around → SubprogramKind → Draft → Draft
-add_subprogram around k d = record d { subprograms = d.subprograms ++ (record { level = around.level; kind = k; body = no_body }) ∷ [] }
+add_subprogram around k d = record d { subprograms = d.subprograms ++ (record { level = around.level; kind = k; body = None }) ∷ [] }
 
 abbrev pub profile : ℕ → List (List ℕ) → List FormalEntry × Option Ty → Profile
 profile s names h = record { subprogram = s; formals = h.0; names = names; result = h.1 }
@@ -481,7 +478,7 @@ completed place s e (h, d) = (None, d)
 -- the subprogram of a body, which may complete a declaration
 abbrev pub subprogram_of : Around → Span → Specification Definition Use → Option (List FormalEntry × Option Ty) × Draft → Option ℕ × Draft
 subprogram_of around place s (h, d) =
-    if nat_lt s.name.number (length d.tables.entries) then completed place s (slice_get d.tables.entries s.name.number) (h, d) else introduce around s (h, d)
+    if is_declared_in around s.name.number d then completed place s (slice_get d.tables.entries s.name.number) (h, d) else introduce around s (h, d)
 
 abbrev pub giving_of : Option (Mark Use) → Option (List FormalEntry × Option Ty) → Giving
 giving_of None h = giving.Nothing
@@ -511,9 +508,9 @@ enter_formals around place [] d = d
 enter_formals around place (f ∷ fs) d = enter_formals around place fs (enter_formal around place f d)
 
 -- the body of this number is known
-abbrev pub with_body : ℕ → Master → Option Subprogram → Draft → Draft
+abbrev pub with_body : ℕ → Master → Option Routine → Draft → Draft
 with_body s m None d = d
-with_body s m (Some p) d = record d { subprograms = slice_set d.subprograms s (record { level = p.level; kind = p.kind; body = m }) }
+with_body s m (Some p) d = record d { subprograms = slice_set d.subprograms s (record { level = p.level; kind = p.kind; body = Some m }) }
 
 abbrev pub put_body : Option ℕ → Option Master → Draft → Draft
 put_body (Some s) (Some m) d = with_body s m (slice_get d.subprograms s) d

@@ -4,8 +4,8 @@ ghost use Rattle.std.specs.Prelude.{◌≡◌, IfOk, reverse, slice_get};
 ghost use Rattle.ctl_types.specs.Elaboration as spec;
 ghost use Rattle.ctl_types.specs.Parts as part;
 
-use crate::draft::Draft;
-use ctl_program::program::Checked;
+use crate::draft::{Draft, Routine};
+use ctl_program::program::{Checked, Subprogram};
 use ctl_program::types::{AccessType, Component, RecordType, Var};
 use ctl_typing::operators::appended;
 use ctl_typing::table::{AccessEntry, Designated, RecordEntry, RecordState};
@@ -121,12 +121,54 @@ fn access_types(
     Ok(done)
 }
 
+/// Makes a subprogram of the program, where it has its body.
+fn bodied(routine: Routine) -> Option<Subprogram>
+    ensures { result ≡ spec.subprogram_with routine routine.body }
+{
+    match routine.body {
+        Some(body) => Some(Subprogram {
+            level: routine.level,
+            kind: routine.kind,
+            body,
+        }),
+        None => None,
+    }
+}
+
+/// Makes the subprograms of the program, the last of which stand first, where each has its body.
+fn subprograms_of(
+    alloc: Global,
+    routines: Items<Routine>,
+) -> Result<Option<Items<Subprogram>>, AllocError>
+    ensures { IfOk result (λ all. all ≡ spec.subprograms (reverse routines)) }
+{
+    let mut left = routines;
+    let mut done = Some(Items::new(alloc));
+    while let Some(routine) = left.pop() {
+        done = appended(done, bodied(routine))?;
+    }
+    Ok(done)
+}
+
+/// Makes the subprograms of the program, in their order, where each has its body.
+fn subprograms(
+    alloc: Global,
+    routines: Items<Routine>,
+) -> Result<Option<Items<Subprogram>>, AllocError>
+    ensures { IfOk result (λ all. all ≡ spec.subprograms routines) }
+{
+    subprograms_of(alloc, turned(alloc, routines)?)
+}
+
 /// Makes the program of what was checked, where all is known.
 pub fn checked_of(alloc: Global, draft: Draft) -> Result<Option<Checked>, AllocError>
     ensures { IfOk result (λ program. program ≡ spec.checked_of draft) }
 {
     let tables = draft.tables;
     let Some(accesses) = access_types(alloc, tables.states.accesses.as_slice())? else {
+        return Ok(None);
+    };
+    let Some(subprograms) = subprograms(alloc, draft.subprograms)? else {
         return Ok(None);
     };
     let entries = tables.records.as_slice();
@@ -136,7 +178,7 @@ pub fn checked_of(alloc: Global, draft: Draft) -> Result<Option<Checked>, AllocE
         exceptions: draft.exceptions,
         records,
         accesses,
-        subprograms: draft.subprograms,
+        subprograms,
         main: 0,
     }))
 }

@@ -5,14 +5,13 @@ ghost use Rattle.ctl_types.specs.Declarations as spec;
 ghost use Rattle.ctl_types.specs.Elaboration as elaboration;
 ghost use Rattle.ctl_typing.specs.Judgement.{Judges, Yields};
 
-use crate::draft::{Around, Draft, Giving};
+use crate::draft::{Around, Draft, Giving, Routine};
 use crate::freezing::freeze_all;
 use crate::headings::{Heading, heading};
 use crate::masters::Opened;
 use crate::overriding::{has_same_formals, keep_indicator, play, role_of};
 use ctl_grammar::spelling::is_same_name;
 use ctl_program::operators::SubprogramKind;
-use ctl_program::program::Subprogram;
 use ctl_program::statement as checked;
 use ctl_program::types::Ty;
 use ctl_syntax::denoted::{Definition, Use};
@@ -36,31 +35,18 @@ fn kind_of(returned: &Option<Mark<Use>>) -> SubprogramKind
     }
 }
 
-/// Makes what stands for a body that has not come yet.
-fn no_body(alloc: Global) -> checked::Master
-    ensures { result ≡ spec.no_body }
-{
-    checked::Master {
-        slots: 0,
-        items: Items::new(alloc),
-        body: Items::new(alloc),
-        handlers: Items::new(alloc),
-    }
-}
-
 /// Adds a subprogram without its body, with the next number.
 pub fn add_subprogram(
-    alloc: Global,
     around: Around,
     kind: SubprogramKind,
     draft: &mut Draft,
 ) -> Result<(), AllocError>
     ensures { OnOk result (draft.new ≡ spec.add_subprogram around kind draft.old) }
 {
-    draft.subprograms.push(Subprogram {
+    draft.subprograms.push(Routine {
         level: around.level,
         kind,
-        body: no_body(alloc),
+        body: None,
     })
 }
 
@@ -121,7 +107,7 @@ fn introduce(
     let number = draft.subprograms.len();
     let role = role_of(alloc, around, specification, &heading, &draft.tables)?;
     play(specification.name.identifier.span, number, role, draft);
-    add_subprogram(alloc, around, kind_of(&specification.result), draft)?;
+    add_subprogram(around, kind_of(&specification.result), draft)?;
     let names = formal_names(alloc, specification.formals.as_slice())?;
     draft.declare(entry_of(number, names, heading))?;
     Ok(Some(number))
@@ -227,7 +213,7 @@ fn subprogram_of(
 ) -> Result<Option<usize>, AllocError>
     ensures { Judges (λ d. spec.subprogram_of around place specification.now (heading, d)) draft.old result draft.new }
 {
-    if specification.name.number < draft.tables.entries.len() {
+    if draft.is_declared_in(around, specification.name.number) {
         completed(alloc, place, specification, heading, draft)
     } else {
         introduce(alloc, around, specification, heading, draft)
@@ -278,10 +264,10 @@ pub fn put_body(number: Option<usize>, master: checked::Master, draft: &mut Draf
         let kind = found.kind;
         draft.subprograms.set(
             number,
-            Subprogram {
+            Routine {
                 level,
                 kind,
-                body: master,
+                body: Some(master),
             },
         );
     }
