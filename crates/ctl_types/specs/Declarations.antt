@@ -415,12 +415,22 @@ abbrev pub kind_of : Option (Mark Use) → SubprogramKind
 kind_of None = kind.Procedure
 kind_of (Some m) = kind.Function
 
--- a body that has not come yet
-abbrev pub no_body : Master
-no_body = roll-Master (record { slots = 0; items = []; body = []; handlers = [] })
+-- a body that has not come yet, of a subprogram with so many formals
+abbrev pub no_body : ℕ → Master
+no_body n = roll-Master (record { slots = n; items = []; body = []; handlers = [] })
 
-abbrev pub add_subprogram : Around → SubprogramKind → Draft → Draft
-add_subprogram around k d = record d { subprograms = d.subprograms ++ (record { level = around.level; kind = k; body = no_body }) ∷ [] }
+abbrev pub add_subprogram : Around → SubprogramKind → ℕ → Draft → Draft
+add_subprogram around k n d = record d { subprograms = d.subprograms ++ (record { level = around.level; kind = k; body = no_body n }) ∷ [] }
+
+-- how many formals a heading has, as far as it is known
+abbrev pub formal_count : Option (List FormalEntry × Option Ty) → ℕ
+formal_count None = 0
+formal_count (Some h) = length h.0
+
+-- a subprogram takes a body where its heading is known
+abbrev pub numbered : ℕ → Option (List FormalEntry × Option Ty) → Option ℕ
+numbered s None = None
+numbered s (Some h) = Some s
 
 abbrev pub profile : ℕ → List (List ℕ) → List FormalEntry × Option Ty → Profile
 profile s names h = record { subprogram = s; formals = h.0; names = names; result = h.1 }
@@ -436,9 +446,9 @@ role_of around s (Some h) tables = role_by tables around.level s.indicator (oper
 -- a subprogram that is declared here, with the next number
 abbrev pub introduce : Around → Specification Definition Use → Option (List FormalEntry × Option Ty) × Draft → Option ℕ × Draft
 introduce around s (h, d) = (
-  Some (length d.subprograms),
+  numbered (length d.subprograms) h,
   declare (entry_of (length d.subprograms) (formal_names s.formals) h)
-      (add_subprogram around (kind_of s.result) (play s.name.identifier.span (length d.subprograms) (role_of around s h d.tables) d)),
+      (add_subprogram around (kind_of s.result) (formal_count h) (play s.name.identifier.span (length d.subprograms) (role_of around s h d.tables) d)),
 )
 
 abbrev pub declaration : Span → Specification Definition Use → Around → Draft → List Checked_item × Draft
@@ -474,14 +484,24 @@ is_unfounded i o = false
 abbrev pub indicator_kept : Specification Definition Use → Draft → Draft
 indicator_kept s d = fault_when (is_unfounded s.indicator (operation_named s.name.identifier.text)) rule.Override s.name.identifier.span d
 
-abbrev pub completed : Span → Specification Definition Use → Option Entry → Option (List FormalEntry × Option Ty) × Draft → Option ℕ × Draft
-completed place s (Some (entry.Subprogram p)) (h, d) = (Some p.subprogram, indicator_kept s (fault_when (not (conformed p (formal_names s.formals) h)) rule.Type place d))
-completed place s e (h, d) = (None, d)
+abbrev pub is_of_level : ℕ → Option Subprogram → Bool
+is_of_level level None = false
+is_of_level level (Some p) = nat_eq p.level level
+
+-- the subprogram takes the body where that repeats its declaration, which stands in the same part
+abbrev pub completes : Around → List Subprogram → Profile → List (List ℕ) → Option (List FormalEntry × Option Ty) → Option ℕ
+completes around ss p names None = None
+completes around ss p names (Some h) = if conforms p names h && is_of_level around.level (slice_get ss p.subprogram) then Some p.subprogram else None
+
+abbrev pub completed : Around → Span → Specification Definition Use → Option Entry → Option (List FormalEntry × Option Ty) × Draft → Option ℕ × Draft
+completed around place s (Some (entry.Subprogram p)) (h, d) =
+    (completes around d.subprograms p (formal_names s.formals) h, indicator_kept s (fault_when (not (conformed p (formal_names s.formals) h)) rule.Type place d))
+completed around place s e (h, d) = (None, d)
 
 -- the subprogram of a body, which may complete a declaration
 abbrev pub subprogram_of : Around → Span → Specification Definition Use → Option (List FormalEntry × Option Ty) × Draft → Option ℕ × Draft
 subprogram_of around place s (h, d) =
-    if nat_lt s.name.number (length d.tables.entries) then completed place s (slice_get d.tables.entries s.name.number) (h, d) else introduce around s (h, d)
+    if nat_lt s.name.number (length d.tables.entries) then completed around place s (slice_get d.tables.entries s.name.number) (h, d) else introduce around s (h, d)
 
 abbrev pub giving_of : Option (Mark Use) → Option (List FormalEntry × Option Ty) → Giving
 giving_of None h = giving.Nothing

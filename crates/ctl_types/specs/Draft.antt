@@ -1,5 +1,5 @@
 -- How the program grows that was checked so far.
-use Rattle.std.specs.Prelude.{ℕ, Bool, if◌then◌else◌, nat_lt, List, [], ◌∷◌, ◌++◌, length, take, slice_set, Option, Some, None}
+use Rattle.std.specs.Prelude.{ℕ, Bool, ◌&&◌, if◌then◌else◌, nat_le, nat_lt, List, [], ◌∷◌, ◌++◌, length, take, slice_set, Option, Some, None}
 use Rattle.ctl_tree.specs.declared.span.Span.{Span}
 use Rattle.ctl_tree.specs.declared.fault.FaultCode.{FaultCode}
 use Rattle.ctl_program.specs.declared.types.Ty.{Ty}
@@ -69,9 +69,9 @@ with_entries es d = record d { tables = record d.tables { entries = es } }
 abbrev pub declare : Entry → Draft → Draft
 declare e d = with_entries (d.tables.entries ++ e ∷ []) d
 
--- a declaration of this number: a new one, or what completes one that is in view (3.11.1)
-abbrev pub enter : ℕ → Entry → Draft → Draft
-enter number e d = if nat_lt number (length d.tables.entries) then with_entries (slice_set d.tables.entries number e) d else declare e d
+-- a declaration of this number: a new one, or what completes one of the part, which begins with the first number (3.11.1)
+abbrev pub enter : ℕ → ℕ → Entry → Draft → Draft
+enter start number e d = if nat_le start number && nat_lt number (length d.tables.entries) then with_entries (slice_set d.tables.entries number e) d else declare e d
 
 -- only the first declarations stay in view
 abbrev pub leave_view : ℕ → Draft → Draft

@@ -332,14 +332,14 @@ defined_by place name (definition.Access g m c pool) around d = access_type plac
 abbrev pub definition_of : Span → Definition → Type_definition Use → Around → Draft → List Checked_item × Draft
 definition_of place name def around d = defined_by place name def around (name_kept name d)
 
-abbrev pub incomplete : Definition → Taggedness → Draft → List Checked_item × Draft
-incomplete name t d = (made.Silent ∷ [], enter name.number (entry.Incomplete t) (name_kept name d))
+abbrev pub incomplete : Definition → Taggedness → Around → Draft → List Checked_item × Draft
+incomplete name t around d = (made.Silent ∷ [], enter around.start name.number (entry.Incomplete t) (name_kept name d))
 
 abbrev pub item_of : Span → ItemKind Definition Use Does → Part_of
 item_of place (item.Declaration s) = without_body (λ o around d. surely (declaration place s around d))
 item_of place (item.Body s body) = record { is_body = true; declares = body_item place s body }
 item_of place (item.Instance name m as') = without_body (λ o around. instance place name m as' around)
-item_of place (item.Incomplete name t) = without_body (λ o around d. surely (incomplete name t d))
+item_of place (item.Incomplete name t) = without_body (λ o around d. surely (incomplete name t around d))
 item_of place (item.«Type» name def) = without_body (λ o around d. surely (definition_of place name def around d))
 item_of place (item.StoragePool u m) = without_body (λ o around d. surely (pool_clause place u m around d))
 item_of place (item.Exceptions names) = without_body (λ o around d. surely (exceptions names d))
@@ -436,7 +436,7 @@ outside =
 
 -- the main procedure is the first subprogram, and is in view inside itself
 abbrev pub main_declared : Definition → Draft → Draft
-main_declared name d = declare (entry.Subprogram (record { subprogram = 0; formals = []; names = []; result = None })) (add_subprogram outside kind.Procedure (name_kept name d))
+main_declared name d = declare (entry.Subprogram (record { subprogram = 0; formals = []; names = []; result = None })) (add_subprogram outside kind.Procedure 0 (name_kept name d))
 
 abbrev pub main_put : Option Master × Draft → Draft
 main_put (m, d) = put_body (Some 0) m d

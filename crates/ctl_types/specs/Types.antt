@@ -244,7 +244,7 @@ complete around number t d = with_accesses (changed_each (completed_access numbe
 
 -- the type of this number of declaration is known from here on
 abbrev pub enter_type : Around → ℕ → Ty → Draft → Draft
-enter_type around number t d = complete around number t (enter number (entry.«Type» t) d)
+enter_type around number t d = complete around number t (enter around.start number (entry.«Type» t) d)
 
 abbrev pub is_said_tagged : Option Entry → Bool
 is_said_tagged (Some (entry.Incomplete taggedness.Tagged)) = true
@@ -297,11 +297,11 @@ extend around place number t cs (layers, d) =
     (layers ++ made.Silent ∷ [], declare_record around (derived place number t d) (root_of (slice_get d.tables.records t)) (limitation_in (slice_get d.tables.records t)) cs d)
 
 -- where the parent is wrong, nothing is known of the type; its components are judged all the same
-abbrev pub enter_unknown : ℕ → Option (List Component) × Draft → Draft
-enter_unknown number (cs, d) = enter number entry.Unknown (without_own d)
+abbrev pub enter_unknown : Around → ℕ → Option (List Component) × Draft → Draft
+enter_unknown around number (cs, d) = enter around.start number entry.Unknown (without_own d)
 
 abbrev pub extension_of : Span → ℕ → List (Components Use) → Around → Option ℕ × Draft → List Checked_item × Draft
-extension_of place number cs around (None, d) = (made.Silent ∷ [], enter_unknown number (components (underived place number) cs d))
+extension_of place number cs around (None, d) = (made.Silent ∷ [], enter_unknown around number (components (underived place number) cs d))
 extension_of place number cs around (Some t, d) = extend around place number t cs (done_by around (Freezes (ty.Record t) ∷ []) d)
 
 -- an extension freezes its parent (13.14(7))
