@@ -46,7 +46,7 @@ changed_length f (suc n) (x ∷ xs) = by_rest (slice_get xs n) (changed_length f
     by_rest None e = refl
     by_rest (Some y) e = ap suc e
 
-each_length : {A : Type 0} (f : A → A) (n : ℕ) (xs : List A) → length (spec.changed_each f n xs) ≡ length xs
+pub each_length : {A : Type 0} (f : A → A) (n : ℕ) (xs : List A) → length (spec.changed_each f n xs) ≡ length xs
 each_length f n [] = refl
 each_length f zero (x ∷ xs) = ap suc (each_length f zero xs)
 each_length f (suc n) (x ∷ xs) = ap suc (each_length f n xs)

@@ -36,7 +36,7 @@ use Rattle.ctl_sound.specs.Known.{IfSome, All}
 use Rattle.ctl_sound.specs.Library.{HasLibrary}
 use Rattle.ctl_sound.specs.Sound.{EntryFine, ObjectFine, ProfileFine, AliasFine, DeclaredFine, TypesFine, Sound}
 use Rattle.ctl_sound.proofs.Beginning.{types_sound}
-use Rattle.ctl_sound.proofs.Growing.{operations_in, Behind, behind_same, behind_further, behind_length, behind_read, From, from_first, from_rest, front_read, Still, still_noted, Made, and_then, Grows}
+use Rattle.ctl_sound.proofs.Growing.{operations_in, Behind, behind_same, behind_further, behind_length, behind_read, From, from_first, from_rest, front_read, Still, still_noted, still_grows, Made, nothing, and_then, Grows}
 use Rattle.ctl_sound.proofs.Sites.{Site, around_site, RecordKnown, OperationKnown, no_operations, operations_at, Known, Front, Back, Agrees}
 
 -- Deeper masters ------------------------------------------------------------------------------
@@ -60,7 +60,7 @@ names_deeper : (env : Frames) (f : Frame) (v : Var) (h : Holding) → Names env 
 names_deeper env f v h (slot a b) = slot (front_read env (f ∷ []) _ _ a) b
 
 module _ (k : Setting) (env : Frames) (f : Frame) where
-  in_view_deeper : (t : Ty) → InView k env t → InView k (env ++ f ∷ []) t
+  pub in_view_deeper : (t : Ty) → InView k env t → InView k (env ++ f ∷ []) t
   in_view_deeper (ty.Record t) h = record { is = h.is; home = h.home; found = h.found; at_home = h.at_home; encloses = encloses_deeper h.home env f h.encloses }
   in_view_deeper (ty.Access a) h = record { is = h.is; home = h.home; found = h.found; at_home = h.at_home; encloses = encloses_deeper h.home env f h.encloses }
   in_view_deeper ty.Integer h = tt
@@ -190,6 +190,9 @@ backwards k m d e g b = record {
   records = λ t r cs h i. b.records t r cs (behind_read d.tables.records e.tables.records t r g.records h) (behind_read d.components e.components t cs g.components i);
 }
 
+pub back_still : (k : Setting) (d e : Draft) → Still d e → Back k e → Back k d
+back_still k d e s b = backwards k nothing d e (still_grows d e s) b
+
 pub agrees_first : (s : Site) (d : Draft) (m n : Made) → Agrees s d (and_then m n) → Agrees s d m
 agrees_first s d m n h = record {
   holdings = from_first (length d.slots) m.holdings n.holdings s.frame h.holdings;
@@ -225,7 +228,7 @@ parent_at : (k : Setting) (home : Frames) (t p : ℕ) (r : Root) (o : Option ℕ
 parent_at k home t p r _ e program.none = absurd (cc)
 parent_at k home t p r _ e (program.extends {p = q} below has rooted) = let same : q ≡ p = cc in subst (λ n. HasRecord k home n) same has
 
-one_home : (a b : Frames) (o : Option Frames) → o ≡ Some a → o ≡ Some b → a ≡ b
+pub one_home : (a b : Frames) (o : Option Frames) → o ≡ Some a → o ≡ Some b → a ≡ b
 one_home a b o h i = cc
 
 module _ (k : Setting) (rs : List RecordEntry) (known : (t : ℕ) (r : RecordEntry) → slice_get rs t ≡ Some r → RecordKnown k t r) where
@@ -280,7 +283,7 @@ module _ (k : Setting) (rs : List RecordEntry) (known : (t : ℕ) (r : RecordEnt
       by_same above true e h = let same : u ≡ t = grind (arith, nat_tests) in subst (λ m. Descends k u m) same itself
       by_same above false e h = by_record above (slice_get rs t) refl h
 
-read_at : (ss : List RecordState) (n : ℕ) → operations_of (slice_get ss n) ≡ operations_at (map operations_in ss) n
+pub read_at : (ss : List RecordState) (n : ℕ) → operations_of (slice_get ss n) ≡ operations_at (map operations_in ss) n
 read_at [] n = refl
 read_at (s ∷ ss) zero = refl
 read_at (s ∷ ss) (suc n) = read_at ss n

@@ -119,6 +119,19 @@ still_further d e f h i = record {
   own = i.own ∙ h.own;
 }
 
+pub still_back : (d e : Draft) → Still d e → Still e d
+still_back d e h = record {
+  records = sym h.records;
+  operations = sym h.operations;
+  accesses = sym h.accesses;
+  entries = sym h.entries;
+  slots = sym h.slots;
+  exceptions = sym h.exceptions;
+  components = sym h.components;
+  subprograms = sym h.subprograms;
+  own = sym h.own;
+}
+
 -- What is made beside a draft --------------------------------------------------------------------
 
 -- the masters around the types that a construct declares, those around its subprograms, and what is known of these

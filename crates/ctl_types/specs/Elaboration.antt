@@ -1,5 +1,5 @@
 -- Statements, items and bodies in their checked form, and the whole program (3.11, 5.1, 6.3, 11.2, 10.1.1).
-use Rattle.std.specs.Prelude.{◌≡◌, ◌⊎◌, ℕ, ◌+◌, min, Bool, true, false, ◌&&◌, ◌||◌, if◌then◌else◌, List, [], ◌∷◌, ◌++◌, codes, length, take, map, Option, Some, None, option_map, Result, Ok, Err}
+use Rattle.std.specs.Prelude.{◌≡◌, ◌⊎◌, ℕ, ◌+◌, Bool, true, false, ◌&&◌, ◌||◌, if◌then◌else◌, List, [], ◌∷◌, ◌++◌, codes, length, take, map, Option, Some, None, option_map, Result, Ok, Err}
 use Rattle.ctl_tree.specs.declared.span.Span.{Span}
 use Rattle.ctl_tree.specs.declared.fault.Fault.{Fault}
 use Rattle.ctl_tree.specs.declared.fault.FaultCode.TheVariants as rule
@@ -159,7 +159,7 @@ counting way low high ss around d = counting_at way low high ss around (next_var
 -- Masters (5.6, 6.3, 7.6.1) ------------------------------------------------------------------------------------------
 
 abbrev pub deeper : ℕ → ℕ
-deeper level = min (level + 1) 18446744073709551615
+deeper level = level + 1
 
 -- what stands around the items of a new master
 abbrev pub inside : Around → Giving → Draft → Around
