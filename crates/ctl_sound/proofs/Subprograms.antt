@@ -215,7 +215,7 @@ module _ (a : Around) (n : ℕ) (h : Heading) (d : Draft) where
       by_late true = refl
       by_late false = refl
 
-  play_played : (place : Span) (x : Role) → HeadingRole d.tables a.level h x → Played a n h d (decl.play place n x d)
+  pub play_played : (place : Span) (x : Role) → HeadingRole d.tables a.level h x → Played a n h d (decl.play place n x d)
   play_played place role.Plain g = played_still d.notes
   play_played place role.Misplaced g = played_still _
   play_played place (role.Overrides o t) g = by_heading h refl g
@@ -405,7 +405,7 @@ of_level : (level : ℕ) (o : Option Subprogram) → decl.is_of_level level o �
 of_level level None h = absurd (cc)
 of_level level (Some q) h = let same_level : q.level ≡ level = grind (arith, nat_tests) in (q, (refl, same_level))
 
-one_signature : (x y : Signature) (o : Option Signature) → o ≡ Some x → o ≡ Some y → x ≡ y
+pub one_signature : (x y : Signature) (o : Option Signature) → o ≡ Some x → o ≡ Some y → x ≡ y
 one_signature x y o h i = cc
 
 module _ (a : Around) (s : Site) (i : IsHere s (here a)) (d : Draft) (f : Front s d) (p : Profile) (fine : ProfileFine s.k (around_site s) p) where
