@@ -1,5 +1,5 @@
 -- What holds of all that the check gives.
-use Rattle.std.specs.Prelude.{Option, ◌≡◌, ◌≤◌, ◌+◌, ℕ, true, List, [], length, map, Some, Ok}
+use Rattle.std.specs.Prelude.{Option, ◌≡◌, ℕ, true, List, [], length, map, Some, Ok}
 use Rattle.ctl_program.specs.declared.types.Ty.{Ty}
 use Rattle.ctl_program.specs.declared.program.Checked.{Checked}
 use Rattle.ctl_tree.specs.declared.fault.Fault.{Fault}
@@ -77,7 +77,7 @@ pub record DeclarationsKeepFaults (o : Objects Definition Use) (s : Specificatio
   pub discriminants : (tables : Tables) (ps : List (ℕ × Association Use)) → Stays (λ n. each (discriminant tables) (Some []) ps n)
   pub heading : (tables : Tables) (place : Span) → Stays (heading_types place s tables)
 
--- the program that the check gives of a tree is well typed, where the tree declares objects and exceptions alone, and its blocks stand inside one another
--- at most so deep that their levels can be counted
+-- the program that the check gives of a tree is well typed, where the tree declares nothing but objects, exceptions, extensions without components,
+-- and subprograms with their bodies
 pub record PlainProgramWellTyped (t : Tree Definition Use) : Type 0 where
-  pub well_typed : (broken : Option Fault) (depth : ℕ) (p : Checked) → PlainBody depth t.body → depth + 1 ≤ 18446744073709551615 → Elaborates broken t (Ok p) → WellTyped p
+  pub well_typed : (broken : Option Fault) (p : Checked) → PlainBody t.body → Elaborates broken t (Ok p) → WellTyped p
