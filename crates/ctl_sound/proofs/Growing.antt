@@ -67,7 +67,7 @@ From {A} n xs ys = (i : ℕ) (x : A) → slice_get xs i ≡ Some x → slice_get
 pub from_first : {A : Type 0} (n : ℕ) (xs zs ys : List A) → From n (xs ++ zs) ys → From n xs ys
 from_first n xs zs ys h i x e = h i x (front_read xs zs i x e)
 
-behind_place : {A : Type 0} (xs zs : List A) (i : ℕ) → slice_get (xs ++ zs) (length xs + i) ≡ slice_get zs i
+pub behind_place : {A : Type 0} (xs zs : List A) (i : ℕ) → slice_get (xs ++ zs) (length xs + i) ≡ slice_get zs i
 behind_place [] zs i = let same : 0 + i ≡ i = omega arith in ap (λ n. slice_get zs n) same
 behind_place (x ∷ xs) zs i = let same : suc (length xs) + i ≡ suc (length xs + i) = omega arith in ap (λ n. slice_get (x ∷ (xs ++ zs)) n) same ∙ behind_place xs zs i
 

@@ -275,7 +275,7 @@ heading_count : (h : Heading) → length (map OfFormal (map formal_of (formals_i
 heading_count None = refl
 heading_count (Some h) = slots_count h.0
 
-empty_master : (k : Setting) (env : Frames) (f : Frame) (w : rule.Around) (n : ℕ) → length f ≡ n → rule.Mastered k env f w (decl.no_body n)
+pub empty_master : (k : Setting) (env : Frames) (f : Frame) (w : rule.Around) (n : ℕ) → length f ≡ n → rule.Mastered k env f w (decl.no_body n)
 empty_master k env f w n e = subst (λ m. rule.Mastered k env f w (decl.no_body m)) e (rule.master rule.no_more_items rule.no_more_statements rule.no_more_handlers)
 
 module _ (a : Around) (m : Option (Mark Use)) (h : Heading) (kind : HeadingKind m h) (s : Site) (i : IsHere s (here a)) (usable : HeadingUsable s h) (n : ℕ) (found : slice_get s.k.subprograms n ≡ Some (signature_of m h (around_site s))) where
