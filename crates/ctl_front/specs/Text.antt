@@ -1,5 +1,5 @@
 -- What the bytes of a source text are: the program of the tree that they spell, or the first fault.
-use Rattle.std.specs.Prelude.{◌≡◌, ◌⊎◌, ℕ, List, Option, Result, Ok, Err}
+use Rattle.std.specs.Prelude.{◌≡◌, ◌⊎◌, ℕ, List, Result, Ok, Err}
 use Rattle.ctl_tree.specs.declared.fault.Fault.{Fault}
 use Rattle.ctl_tree.specs.declared.fault.FaultCode.TheVariants.{Memory}
 use Rattle.ctl_tree.specs.declared.token.Token.{Token}
@@ -14,6 +14,7 @@ use Rattle.ctl_syntax.specs.declared.item.Tree.{Tree}
 use Rattle.ctl_program.specs.declared.program.Checked.{Checked}
 use Rattle.ctl_parse_plain.specs.Kept.{kept_program}
 use Rattle.ctl_parse_plain.specs.Read.{read_tree}
+use Rattle.ctl_resolve.specs.declared.context.Broken.{Broken}
 use Rattle.ctl_resolve.specs.Whole.{named}
 use Rattle.ctl_types.specs.Elaboration.{elaborate}
 
@@ -38,13 +39,13 @@ pub data BreaksForm : List ℕ → Fault → Type 0 where
   of_lexis : {source : List ℕ} {fault : Fault} → HasFault source fault → BreaksForm source fault
   of_grammar : {source : List ℕ} {fault : Fault} (tokens : List Token) → HasTokens source tokens → HasGrammarFault room tokens fault → BreaksForm source fault
 
--- a tree with what its names denote, and the first rule on names that it breaks (8)
-unfoldable pub resolved : Written → Tree Definition Use × Option Fault
+-- a tree with what its names denote, and its first broken rules on names and on use clauses (8)
+unfoldable pub resolved : Written → Tree Definition Use × Broken
 resolved tree = named tree
 
 -- the program of a tree, or the first rule that it breaks: on names, order and completion (8, 3.11), or else on types
 unfoldable pub judged : Written → Result Checked Fault
-judged tree = elaborate (resolved tree).1 (resolved tree).0
+judged tree = elaborate (resolved tree).1.names (resolved tree).1.uses (resolved tree).0
 
 -- what a text is: its program, or its first fault
 pub data IsAnswer : List ℕ → Result Checked Fault → Type 0 where

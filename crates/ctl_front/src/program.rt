@@ -17,5 +17,5 @@ pub fn program_of(alloc: Global, source: &[u8]) -> Result<Checked, Fault>
 {
     let tree = tree_of(alloc, source)?;
     let (tree, broken) = named(alloc, &tree)?;
-    check(alloc, &tree, broken)
+    check(alloc, &tree, broken.names, broken.uses)
 }

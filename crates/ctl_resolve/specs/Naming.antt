@@ -1,6 +1,6 @@
 -- Naming: what a construct is once its names have what they denote, and what is in view behind it, with the first fault by place. No fault ends the
 -- naming; each is noted, and the first by place is kept.
-use Rattle.std.specs.Prelude.{◌≡◌, ℕ, ◌+◌, min, Bool, List, [], ◌∷◌, ◌++◌, length, take, Option, Some, None, Result, Ok, Err, if◌then◌else◌}
+use Rattle.std.specs.Prelude.{◌≡◌, ℕ, ◌+◌, Bool, List, [], ◌∷◌, ◌++◌, length, take, Option, Some, None, Result, Ok, Err, if◌then◌else◌}
 use Rattle.ctl_tree.specs.declared.span.Span.{Span}
 use Rattle.ctl_tree.specs.Faults.{first_of, fault_at}
 use Rattle.ctl_tree.specs.declared.fault.FaultCode.{FaultCode}
@@ -90,7 +90,7 @@ cut count v = record v { table = take count v.table }
 
 -- the level inside a master (3.10.2)
 abbrev pub deeper : ℕ → ℕ
-deeper level = min (level + 1) 18446744073709551615
+deeper level = level + 1
 
 -- the part of a body or a block begins here
 abbrev pub enter_master : View → View

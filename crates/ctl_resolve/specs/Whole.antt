@@ -1,16 +1,21 @@
 -- The context, and the whole text (10.1.1, 10.1.2, 8.4).
-use Rattle.std.specs.Prelude.{ℕ, List, [], ◌∷◌, ◌++◌, length, Option, Some, None, if◌then◌else◌}
+use Rattle.std.specs.Prelude.{ℕ, Bool, true, false, ◌||◌, List, [], ◌∷◌, ◌++◌, length, Option, Some, None, if◌then◌else◌}
 use Rattle.ctl_tree.specs.declared.fault.Fault.{Fault}
+use Rattle.ctl_tree.specs.declared.fault.FaultCode.TheVariants as rule
+use Rattle.ctl_tree.specs.Faults.{first_of, fault_at}
 use Rattle.ctl_syntax.specs.declared.name.Identifier.{Identifier}
 use Rattle.ctl_syntax.specs.declared.name.Mark.{Mark}
 use Rattle.ctl_syntax.specs.declared.denoted.Use.{Use}
 use Rattle.ctl_syntax.specs.declared.denoted.Denoted.TheVariants as denoted
+use Rattle.ctl_syntax.specs.declared.denoted.LibraryName.{LibraryName}
+use Rattle.ctl_syntax.specs.declared.denoted.LibraryName.TheVariants as name
 use Rattle.ctl_syntax.specs.declared.denoted.Definition.{Definition}
 use Rattle.ctl_syntax.specs.declared.item.Context.{Context}
 use Rattle.ctl_syntax.specs.declared.item.ContextKind.{ContextKind}
 use Rattle.ctl_syntax.specs.declared.item.ContextKind.TheVariants.{With, Use as Using}
 use Rattle.ctl_syntax.specs.declared.item.Tree.{Tree}
 use Rattle.ctl_resolve.specs.declared.library.Unit.{Unit as LibraryUnit}
+use Rattle.ctl_resolve.specs.declared.context.Broken.{Broken}
 use Rattle.ctl_resolve.specs.declared.view.Meaning.{Meaning}
 use Rattle.ctl_resolve.specs.declared.view.Meaning.TheVariants.{Means, UnknownAt}
 use Rattle.ctl_resolve.specs.declared.view.Progress.TheVariants.{BeforeBodies}
@@ -78,7 +83,7 @@ with_meaning count (Some (Stops u k l)) = UnknownAt k
 abbrev pub note_with : Mark Identifier → View → View
 note_with m v = note_meaning m.first m.rest (with_meaning (length m.rest) (way_of m.first m.rest)) v
 
--- A use clause names a unit that is brought; that it has to be a package is a rule on types (8.4(5)).
+-- A use clause names a unit that is brought.
 abbrev pub note_use : Mark Identifier → View → View
 note_use m v = note_meaning m.first m.rest (way_meaning v.brought (length m.rest) (way_of m.first m.rest)) v
 
@@ -93,6 +98,31 @@ note_clauses k (m ∷ ms) v = note_clauses k ms (note_clause k m v)
 abbrev pub note_contexts : List Context → View → View
 note_contexts [] v = v
 note_contexts (c ∷ cs) v = note_contexts cs (note_clauses c.kind c.units v)
+
+-- What is no package (8.4(5)) -----------------------------------------------------------------------------------
+
+abbrev pub is_package : LibraryName → Bool
+is_package name.Package = true
+is_package _ = false
+
+-- A path leads elsewhere than to a package: to a procedure, or to what a package declares. One that leads nowhere breaks a rule on names.
+abbrev pub leads_elsewhere : Option Way → Bool
+leads_elsewhere None = false
+leads_elsewhere (Some (Reaches u)) = if is_package (unit_itself u) then false else true
+leads_elsewhere (Some (Stops u k None)) = false
+leads_elsewhere (Some (Stops u k (Some l))) = true
+
+abbrev pub any_elsewhere : List (Mark Identifier) → Bool
+any_elsewhere [] = false
+any_elsewhere (m ∷ ms) = leads_elsewhere (way_of m.first m.rest) || any_elsewhere ms
+
+-- TYPE: a use clause of what is no package. The first of such faults so far, and of this clause
+abbrev pub uses_by : Option Fault → Context → Option Fault
+uses_by f c = elim c.kind [ With ↦ f | Using ↦ if any_elsewhere c.units then first_of f (fault_at rule.Type c.span) else f ]
+
+abbrev pub uses_broken : Option Fault → List Context → Option Fault
+uses_broken f [] = f
+uses_broken f (c ∷ cs) = uses_broken (uses_by f c) cs
 
 -- The whole text --------------------------------------------------------------------------------------------------
 
@@ -112,9 +142,9 @@ main t = do
   b ← within enter_master (body_of t.body)
   pure (record { contexts = t.contexts; span = t.span; name = d; body = b })
 
-abbrev pub with_fault : {A : Type 0} → A × View → A × Option Fault
-with_fault (a, v) = (a, v.fault)
+abbrev pub with_broken : {A : Type 0} → Option Fault → A × View → A × Broken
+with_broken uses (a, v) = (a, record { names = v.fault; uses = uses })
 
--- a text with what its names denote, and the first fault by place
-abbrev pub named : Tree Identifier Identifier → Tree Definition Use × Option Fault
-named t = with_fault (main t (note_contexts t.contexts (outermost t.contexts)))
+-- a text with what its names denote, and the first broken rules by place
+abbrev pub named : Tree Identifier Identifier → Tree Definition Use × Broken
+named t = with_broken (uses_broken None t.contexts) (main t (note_contexts t.contexts (outermost t.contexts)))

@@ -1,17 +1,27 @@
 //! The context: which units with and use clauses bring and open (RM 10.1.2, 8.4).
 
-ghost use Rattle.std.specs.Prelude.{◌≡◌, ◌++◌, [], IfOk, OnOk};
+ghost use Rattle.std.specs.Prelude.{◌≡◌, ◌++◌, [], IfOk, None, OnOk};
 ghost use Rattle.ctl_resolve.specs.Whole as spec;
 
 use crate::copies::{identifier, identifiers};
 use crate::library::{Unit, is_among, unit_itself, with_ancestors};
 use crate::names::{note_meaning, way_meaning, way_of};
 use crate::view::{Meaning, View, Way};
-use ctl_syntax::denoted::Denoted;
+use ctl_syntax::denoted::{Denoted, LibraryName};
 use ctl_syntax::item::{Context, ContextKind};
 use ctl_syntax::name::{Identifier, Mark};
+use ctl_tree::fault::{Fault, FaultCode};
 use sqlite_items::Items;
 use std::alloc::{AllocError, Global};
+
+/// The first broken rules of a text whose names are resolved, by place.
+#[derive(Clone, Copy, Debug, PartialEq, Eq)]
+pub struct Broken {
+    /// on names, order and completion (20 to 26)
+    pub names: Option<Fault>,
+    /// a use clause of what is no package, a rule on types (RM 8.4(5))
+    pub uses: Option<Fault>,
+}
 
 /// Answers the unit that a path names.
 fn unit_named(of: &Mark<Identifier>) -> Option<Unit>
@@ -167,6 +177,55 @@ pub fn note_contexts(view: &mut View, contexts: &[Context])
     for clause in contexts {
         note_clauses(view, clause.kind, clause.units.as_slice());
     }
+}
+
+/// Tells whether a path leads elsewhere than to a package: to a procedure, or to what a package declares (RM 8.4(5)).
+fn leads_elsewhere(way: Option<Way>) -> bool
+    ensures { result ≡ spec.leads_elsewhere way }
+{
+    match way {
+        Some(Way::Reaches(unit)) => match unit_itself(unit) {
+            LibraryName::Package => false,
+            _ => true,
+        },
+        Some(Way::Stops(_, _, Some(_))) => true,
+        Some(Way::Stops(_, _, None)) | None => false,
+    }
+}
+
+/// Tells whether some path leads elsewhere than to a package.
+fn any_elsewhere(all: &[Mark<Identifier>]) -> bool
+    ensures { result ≡ spec.any_elsewhere all.now }
+{
+    for one in all {
+        if leads_elsewhere(way_of(&one.first, one.rest.as_slice())) {
+            return true;
+        }
+    }
+    false
+}
+
+/// Answers the first of a fault and that of a use clause of what is no package.
+fn uses_by(so_far: Option<Fault>, clause: &Context) -> Option<Fault>
+    ensures { result ≡ spec.uses_by so_far clause.now }
+{
+    match clause.kind {
+        ContextKind::Use if any_elsewhere(clause.units.as_slice()) => {
+            Fault::first_of(so_far, Fault::at(FaultCode::Type, clause.span))
+        }
+        ContextKind::With | ContextKind::Use => so_far,
+    }
+}
+
+/// Answers the first fault of a use clause of what is no package.
+pub fn uses_broken(contexts: &[Context]) -> Option<Fault>
+    ensures { result ≡ spec.uses_broken None contexts.now }
+{
+    let mut fault = None;
+    for clause in contexts {
+        fault = uses_by(fault, clause);
+    }
+    fault
 }
 
 /// Copies a path.

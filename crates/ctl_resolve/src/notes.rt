@@ -1,11 +1,12 @@
 //! What is noted on the way, and what comes into view and goes out of it.
 
-ghost use Rattle.std.specs.Prelude.{◌≡◌};
+ghost use Rattle.std.specs.Prelude.{◌≡◌, IfOk, OnOk};
 ghost use Rattle.ctl_resolve.specs.Naming as spec;
 
 use crate::view::{Part, Progress, Stage, View};
 use ctl_tree::fault::{Fault, FaultCode};
 use ctl_tree::span::Span;
+use std::alloc::AllocError;
 
 /// Notes that a rule is broken at a place.
 pub fn note(view: &mut View, code: FaultCode, at: Span)
@@ -23,25 +24,25 @@ pub fn note_if(view: &mut View, broken: bool, code: FaultCode, at: Span)
     }
 }
 
-/// Answers the level inside a master (RM 3.10.2).
-fn deeper(level: usize) -> usize
-    ensures { result ≡ spec.deeper level }
+/// Answers the level inside a master (RM 3.10.2); one that cannot be counted is answered as want of memory.
+fn deeper(level: usize) -> Result<usize, AllocError>
+    ensures { IfOk result (λ inner. inner ≡ spec.deeper level) }
 {
-    level.saturating_add(1)
+    level.checked_add(1).ok_or(AllocError)
 }
 
 /// Begins the part of a body or a block, and answers the region around.
-pub fn enter_master(view: &mut View) -> Part
-    ensures around { result ≡ view.old.part }
-    ensures inside { view.new ≡ spec.enter_master view.old }
+pub fn enter_master(view: &mut View) -> Result<Part, AllocError>
+    ensures around { IfOk result (λ around. around ≡ view.old.part) }
+    ensures inside { OnOk result (view.new ≡ spec.enter_master view.old) }
 {
     let around = view.part;
     view.part = Part {
         start: view.table.count(),
-        level: deeper(around.level),
+        level: deeper(around.level)?,
         progress: Progress::BeforeBodies,
     };
-    around
+    Ok(around)
 }
 
 /// Begins a region that is no master, and answers the region around.

@@ -129,7 +129,7 @@ fn body_item(
 {
     let definition = begun(alloc, view, of)?;
     let number = definition.number;
-    let around = enter_master(view);
+    let around = enter_master(view)?;
     let heading = heading(alloc, view, of, definition)?;
     set_stage(view, number, Stage::Complete);
     let part = body(alloc, view, part.get())?;
@@ -209,7 +209,7 @@ fn statement(
             Ok(Statement::For(*at, parameter, *direction, low, high, repeated))
         }
         Statement::Block(at, part) => {
-            let around = enter_master(view);
+            let around = enter_master(view)?;
             let part = body(alloc, view, part.get())?;
             leave(view, around);
             let part = Boxed::new(alloc, part)?;

@@ -263,7 +263,7 @@ fn announce(
     let number = view.table.count();
     let name = next(alloc, view, &of.name)?;
     declare_subprogram(alloc, view, of, filing)?;
-    let around = enter_master(view);
+    let around = enter_master(view)?;
     let heading = heading(alloc, view, of, name)?;
     leave(view, around);
     set_stage(view, number, announced(is_second));

@@ -4,7 +4,7 @@ ghost use Rattle.std.specs.Prelude.{◌≡◌, IfOk};
 ghost use Rattle.ctl_resolve.specs.Naming.{Names};
 ghost use Rattle.ctl_resolve.specs.Whole as spec;
 
-use crate::context::{brought, clauses, note_contexts, opened};
+use crate::context::{Broken, brought, clauses, note_contexts, opened, uses_broken};
 use crate::declarations::new_name;
 use crate::notes::{enter_master, leave};
 use crate::parts::body;
@@ -13,7 +13,6 @@ use crate::view::{Part, Progress, Stage, View};
 use ctl_syntax::denoted::{Definition, Use};
 use ctl_syntax::item::{Context, Tree};
 use ctl_syntax::name::Identifier;
-use ctl_tree::fault::Fault;
 use std::alloc::{AllocError, Global};
 
 /// Makes what is in view before the text, where nothing is declared yet.
@@ -44,7 +43,7 @@ fn main(
     ensures { Names (spec.main of.now) view.old result view.new }
 {
     let name = new_name(alloc, view, Stage::Complete, &of.name)?;
-    let around = enter_master(view);
+    let around = enter_master(view)?;
     let body = body(alloc, view, &of.body)?;
     leave(view, around);
     let contexts = clauses(alloc, of.contexts.as_slice())?;
@@ -56,16 +55,20 @@ fn main(
     })
 }
 
-/// Answers a text with what its names denote, and its first broken rule on names by place (RM 8, 10.1).
+/// Answers a text with what its names denote, and its first broken rules by place (RM 8, 10.1).
 pub fn named(
     alloc: Global,
     tree: &Tree<Identifier, Identifier>,
-) -> Result<(Tree<Definition, Use>, Option<Fault>), AllocError>
+) -> Result<(Tree<Definition, Use>, Broken), AllocError>
     ensures { IfOk result (λ n. n ≡ spec.named tree.now) }
 {
     let contexts = tree.contexts.as_slice();
     let mut view = outermost(alloc, contexts)?;
     note_contexts(&mut view, contexts);
     let resolved = main(alloc, &mut view, tree)?;
-    Ok((resolved, view.fault))
+    let broken = Broken {
+        names: view.fault,
+        uses: uses_broken(contexts),
+    };
+    Ok((resolved, broken))
 }

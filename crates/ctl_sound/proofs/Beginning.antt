@@ -26,12 +26,12 @@ use Rattle.ctl_sound.specs.Library.{HasLibrary, BeginningSound}
 
 -- the tables before the text, however the main procedure is called
 abbrev tables : Tables
-tables = (declare (entry.Subprogram (record { subprogram = 0; formals = []; names = []; result = None })) (add_subprogram outside kind.Procedure 0 library)).tables
+tables = (declare (entry.Subprogram (record { subprogram = 0; formals = []; names = []; result = None })) (add_subprogram outside kind.Procedure library)).tables
 
-same_tables : (name : Definition) (broken : Option Fault) → tables ≡ (main_declared name (begun broken)).tables
-same_tables name broken = by_name (is_given (operation_named name.identifier.text))
+same_tables : (name : Definition) (names uses : Option Fault) → tables ≡ (main_declared name (begun names uses)).tables
+same_tables name names uses = by_name (is_given (operation_named name.identifier.text))
   where
-    by_name : (b : Bool) → tables ≡ (declare (entry.Subprogram (record { subprogram = 0; formals = []; names = []; result = None })) (add_subprogram outside kind.Procedure 0 (if b then record (begun broken) { notes = with_fault rule.Override name.identifier.span (begun broken).notes } else begun broken))).tables
+    by_name : (b : Bool) → tables ≡ (declare (entry.Subprogram (record { subprogram = 0; formals = []; names = []; result = None })) (add_subprogram outside kind.Procedure (if b then record (begun names uses) { notes = with_fault rule.Override name.identifier.span (begun names uses).notes } else begun names uses))).tables
     by_name true = refl
     by_name false = refl
 
@@ -124,4 +124,4 @@ module _ (k : Setting) (env : Frames) (has : HasLibrary k) where
   }
 
 pub beginning_sound : BeginningSound
-beginning_sound = record { sound = λ k env has name broken. subst (λ t. Sound k env t) (same_tables name broken) (beginning k env has) }
+beginning_sound = record { sound = λ k env has name names uses. subst (λ t. Sound k env t) (same_tables name names uses) (beginning k env has) }

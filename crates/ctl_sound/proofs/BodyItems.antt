@@ -4,7 +4,7 @@ use Rattle.std.proofs.lemmas.List.{append-nil, length-append}
 use Rattle.ctl_tree.specs.declared.span.Span.{Span}
 use Rattle.ctl_tree.specs.declared.fault.FaultCode.TheVariants as fault
 use Rattle.ctl_program.specs.declared.types.Ty.{Ty}
-use Rattle.ctl_program.specs.declared.program.Subprogram.{Subprogram}
+use Rattle.ctl_types.specs.declared.draft.Routine.{Routine}
 use Rattle.ctl_program.specs.declared.statement.Item.{Item as Checked_item}
 use Rattle.ctl_program.specs.declared.statement.Item.TheVariants as made
 use Rattle.ctl_program.specs.declared.statement.Master.{Master}
@@ -25,7 +25,7 @@ use Rattle.ctl_types.specs.declared.draft.Draft.{Draft}
 use Rattle.ctl_types.specs.declared.draft.Giving.{Giving}
 use Rattle.ctl_types.specs.declared.draft.Giving.TheVariants as giving
 use Rattle.ctl_types.specs.Declarations as decl
-use Rattle.ctl_types.specs.Draft.{fault_when, leave_view}
+use Rattle.ctl_types.specs.Draft.{fault_when, is_declared_in, leave_view}
 use Rattle.ctl_types.specs.Freezing.{freeze_all}
 use Rattle.ctl_types.specs.Elaboration as spec
 use Rattle.ctl_types.specs.Elaboration.{Does, surely}
@@ -38,7 +38,7 @@ use Rattle.ctl_sound.specs.Sound.{EntryFine, formal_of}
 use Rattle.ctl_sound.proofs.Items.{heading_types_good}
 use Rattle.ctl_sound.proofs.Growing.{Behind, behind_same, behind_self, behind_one, behind_further, From, from_start, Still, still_self, still_noted, still_further, Made, and_then, Grows, grows_behind, grows_further}
 use Rattle.ctl_sound.proofs.Freezing.{Quiet, freeze_all_quiet}
-use Rattle.ctl_sound.proofs.Sites.{Site, around_site, Here, here, gives_of, IsHere, SubprogramKnown, Known, Front, Back, Agrees}
+use Rattle.ctl_sound.proofs.Sites.{Site, around_site, Here, here, gives_of, IsHere, BodyFor, SubprogramKnown, Known, Front, Back, Agrees}
 use Rattle.ctl_sound.proofs.Fronts.{in_view_deeper, front_still, front_sound, back_still, backwards, agrees_first, agrees_rest, agrees_still}
 use Rattle.ctl_sound.proofs.Declared.{known_same}
 use Rattle.ctl_sound.proofs.Compounds.{around_of}
@@ -122,27 +122,25 @@ set_length [] m x = refl
 set_length (y ∷ xs) zero x = refl
 set_length (y ∷ xs) (suc m) x = ap suc (set_length xs m x)
 
--- a body for this signature
+-- a body for the subprogram of this number
 pub record MasteredFor (k : Setting) (n : ℕ) (m : Master) : Type 0 where
   pub is : Signature
   pub found : slice_get k.subprograms n ≡ Some is
-  pub others : Frame
-  pub body : Mastered k is.home (map OfFormal is.formals ++ others) (record { in_loop = false; in_handler = false; gives = is.result }) m
+  pub body : BodyFor k is m
 
 pub record Put (n : Option ℕ) (m : Option Master) (d e : Draft) : Type 0 where
-  pub subprograms : List Subprogram
+  pub subprograms : List Routine
   pub is : e ≡ record d { subprograms = subprograms }
   pub count : length subprograms ≡ length d.subprograms
-  pub known : (k : Setting) → ((j : ℕ) (p : Subprogram) → slice_get d.subprograms j ≡ Some p → SubprogramKnown k j p) → ((j : ℕ) (x : Master) → n ≡ Some j → m ≡ Some x → MasteredFor k j x) → (j : ℕ) (p : Subprogram) → slice_get subprograms j ≡ Some p → SubprogramKnown k j p
+  pub known : (k : Setting) → ((j : ℕ) (p : Routine) → slice_get d.subprograms j ≡ Some p → SubprogramKnown k j p) → ((j : ℕ) (x : Master) → n ≡ Some j → m ≡ Some x → MasteredFor k j x) → (j : ℕ) (p : Routine) → slice_get subprograms j ≡ Some p → SubprogramKnown k j p
 
 put_nothing : (n : Option ℕ) (m : Option Master) (d : Draft) → Put n m d d
 put_nothing n m d = record { subprograms = d.subprograms; is = refl; count = refl; known = λ k h g. h }
 
-with_body_known : (k : Setting) (j : ℕ) (m : Master) (p : Subprogram) → SubprogramKnown k j p → MasteredFor k j m → SubprogramKnown k j (record { level = p.level; kind = p.kind; body = m })
+with_body_known : (k : Setting) (j : ℕ) (m : Master) (p : Routine) → SubprogramKnown k j p → MasteredFor k j m → SubprogramKnown k j (record { level = p.level; kind = p.kind; body = Some m })
 with_body_known k j m p h g =
     let same = one_signature g.is h.is (slice_get k.subprograms j) g.found h.found in
-    let fine = subst (λ y. SubprogramFine k p y) (sym same) h.fine in
-    record { is = g.is; found = g.found; fine = record { level = fine.level; result = fine.result; formals = fine.formals; others = g.others; body = g.body } }
+    record { is = h.is; found = h.found; level = h.level; result = h.result; formals = h.formals; body = subst (λ x. BodyFor k x m) same g.body }
 
 pub put_known : (n : Option ℕ) (m : Option Master) (d : Draft) → Put n m d (decl.put_body n m d)
 put_known None None d = put_nothing None None d
@@ -150,10 +148,10 @@ put_known None (Some m) d = put_nothing None (Some m) d
 put_known (Some j) None d = put_nothing (Some j) None d
 put_known (Some j) (Some m) d = by_old (slice_get d.subprograms j) refl
   where
-    by_old : (o : Option Subprogram) → slice_get d.subprograms j ≡ o → Put (Some j) (Some m) d (decl.with_body j m o d)
+    by_old : (o : Option Routine) → slice_get d.subprograms j ≡ o → Put (Some j) (Some m) d (decl.with_body j m o d)
     by_old None e = put_nothing (Some j) (Some m) d
     by_old (Some p) e = record {
-      subprograms = slice_set d.subprograms j (record { level = p.level; kind = p.kind; body = m });
+      subprograms = slice_set d.subprograms j (record { level = p.level; kind = p.kind; body = Some m });
       is = refl;
       count = set_length d.subprograms j _;
       known = λ k h g. set_at (SubprogramKnown k) d.subprograms j _ h (with_body_known k j m p (h j p e) (g j m refl refl));
@@ -213,7 +211,7 @@ module _ (a : Around) (place : Span) (x : Specification Definition Use) (h : Hea
   all_grows = grows_further (slots_made formal_slots) own_made begun formals_in_view judged.1 entered.grows body_lead.grows
 
   -- the draft behind the body, with its subprograms changed
-  body_grows : (ps : List Subprogram) → length ps ≡ length behind.subprograms → Grows inside_made d (record behind { subprograms = ps })
+  body_grows : (ps : List Routine) → length ps ≡ length behind.subprograms → Grows inside_made d (record behind { subprograms = ps })
   body_grows ps same =
       let g = all_grows in
       let q = returned_still in
@@ -274,9 +272,8 @@ module _ (a : Around) (place : Span) (x : Specification Definition Use) (h : Hea
       record {
         is = record { home = around_site s; formals = map formal_of num.formals; result = num.result };
         found = num.found;
-        others = own_made.holdings;
-        body = subst (λ o. Mastered s.k (around_site s) (map OfFormal (map formal_of num.formals) ++ own_made.holdings) (record { in_loop = false; in_handler = false; gives = o }) m) gives'
-            (subst (λ hs. Mastered s.k (around_site s) (hs ++ own_made.holdings) (around_of within) m) slots body);
+        body = (own_made.holdings, subst (λ o. Mastered s.k (around_site s) (map OfFormal (map formal_of num.formals) ++ own_made.holdings) (record { in_loop = false; in_handler = false; gives = o }) m) gives'
+            (subst (λ hs. Mastered s.k (around_site s) (hs ++ own_made.holdings) (around_of within) m) slots body));
       }
 
   -- where the number of the subprogram is known
@@ -319,7 +316,7 @@ module _ (a : Around) (place : Span) (x : Specification Definition Use) (h : Hea
 -- Bodies among the items of a part -------------------------------------------------------------------------------------
 
 subprogram_entries : (a : Around) (place : Span) (x : Specification Definition Use) (h : Heading) (d : Draft) → Behind d.tables.entries (decl.subprogram_of a place x (h, d)).1.tables.entries
-subprogram_entries a place x h d = by_test (nat_lt x.name.number (length d.tables.entries))
+subprogram_entries a place x h d = by_test (is_declared_in a x.name.number d)
   where
     completed_entries : (o : Option Entry) → Behind d.tables.entries (decl.completed a place x o (h, d)).1.tables.entries
     completed_entries (Some (entry.Subprogram p)) =

@@ -27,7 +27,7 @@ use Rattle.ctl_typing.specs.declared.found.Typed.{Typed as Typed_value}
 use Rattle.ctl_typing.specs.declared.found.Found.{Found}
 use Rattle.ctl_typing.specs.declared.found.Found.TheVariants as is
 use Rattle.ctl_typing.specs.Judgement.{Judgement, known, but, wrong, doing, noting, ◌>>=◌, both, following}
-use Rattle.ctl_typing.specs.Lookup.{same, is_general, level_of_access, designated_by}
+use Rattle.ctl_typing.specs.Lookup.{same, is_general, is_limited, has_subpools, level_of_access, designated_by}
 use Rattle.ctl_typing.specs.Senses.{suffix_sense}
 use Rattle.ctl_typing.specs.Typing as spec
 use Rattle.ctl_typing.specs.Typing.{Sense, Split, sense, step_of, adopted}
@@ -110,18 +110,18 @@ chain_stays place x os tables asked g i =
     (if_stays (spec.adopts x.adopts) (spec.by_other tables asked x s.before s.typed s.behind) (spec.by_first tables x os) (by_other_stays tables asked x s.before s.typed s.behind g h.0 h.1.0 h.1.1) (by_first_stays tables x os g i))
     (fits_stays place asked))
 
-two_stay : (tables : Tables) (o : RelationalOperator) (x y : Sense) → Keeps x → Keeps y → Stays (following (x.judged tables (spec.compared o)) (λ t. y.judged tables (spec.asked_like (spec.compared o) t)))
-two_stay tables o x y g h = following_stays (x.judged tables (spec.compared o)) (λ t. y.judged tables (spec.asked_like (spec.compared o) t)) (g.judged tables (spec.compared o)) (λ t. h.judged tables (spec.asked_like (spec.compared o) t))
+two_stay : (tables : Tables) (first : Asked) (o : RelationalOperator) (x y : Sense) → Keeps x → Keeps y → Stays (following (x.judged tables first) (λ t. y.judged tables (spec.asked_like (spec.compared o) t)))
+two_stay tables first o x y g h = following_stays (x.judged tables first) (λ t. y.judged tables (spec.asked_like (spec.compared o) t)) (g.judged tables first) (λ t. h.judged tables (spec.asked_like (spec.compared o) t))
 
 relation_stays : (place : Span) (o : RelationalOperator) (l r : Sense) (tables : Tables) (asked : Asked) → Keeps l → Keeps r → Stays (spec.relation_judged place o l r tables asked)
 relation_stays place o l r tables asked g h = by_test (spec.adopts l.adopts && not (spec.adopts r.adopts))
   where
     by_test : (b : Bool) → Stays
         (if b
-        then (following (r.judged tables (spec.compared o)) (λ t. l.judged tables (spec.asked_like (spec.compared o) t)) >>= (λ p. spec.fits place asked (spec.relation_of o p.1 p.0)))
+        then (following (r.judged tables (spec.asked_beside o l.adopts)) (λ t. l.judged tables (spec.asked_like (spec.compared o) t)) >>= (λ p. spec.fits place asked (spec.relation_of o p.1 p.0)))
         else (following (l.judged tables (spec.compared o)) (λ t. r.judged tables (spec.asked_like (spec.compared o) t)) >>= (λ p. spec.fits place asked (spec.relation_of o p.0 p.1))))
-    by_test true = next_stays (following (r.judged tables (spec.compared o)) (λ t. l.judged tables (spec.asked_like (spec.compared o) t))) (λ p. spec.fits place asked (spec.relation_of o p.1 p.0)) (two_stay tables o r l h g) (λ p. fits_stays place asked (spec.relation_of o p.1 p.0))
-    by_test false = next_stays (following (l.judged tables (spec.compared o)) (λ t. r.judged tables (spec.asked_like (spec.compared o) t))) (λ p. spec.fits place asked (spec.relation_of o p.0 p.1)) (two_stay tables o l r g h) (λ p. fits_stays place asked (spec.relation_of o p.0 p.1))
+    by_test true = next_stays (following (r.judged tables (spec.asked_beside o l.adopts)) (λ t. l.judged tables (spec.asked_like (spec.compared o) t))) (λ p. spec.fits place asked (spec.relation_of o p.1 p.0)) (two_stay tables (spec.asked_beside o l.adopts) o r l h g) (λ p. fits_stays place asked (spec.relation_of o p.1 p.0))
+    by_test false = next_stays (following (l.judged tables (spec.compared o)) (λ t. r.judged tables (spec.asked_like (spec.compared o) t))) (λ p. spec.fits place asked (spec.relation_of o p.0 p.1)) (two_stay tables (spec.compared o) o l r g h) (λ p. fits_stays place asked (spec.relation_of o p.0 p.1))
 
 pub truth_stays : (tables : Tables) (x : Sense) → Keeps x → Stays (spec.truth_of tables x)
 truth_stays tables x g = value_stays tables (asking.Exactly ty.Boolean) x g
@@ -167,14 +167,28 @@ handle_found_stays place _ = wrong_stays Expr fault.Type place
 abbrev KeepsHandle : Option (Name Use Sense) → Type 0
 KeepsHandle o = IfSome (λ (u : Name Use Sense). All KeepsSuffix u.suffixes) o
 
-held_stays : (tables : Tables) (o : Option (Name Use Sense)) → KeepsHandle o → Stays (spec.held (option_map (spec.handle_judged tables) o))
-held_stays tables None h = λ n c. c
-held_stays tables (Some u) h = next_stays (spec.handle_judged tables u) (λ a. known (Some a)) (next_stays (spec.found u.first u.suffixes tables >>= spec.settled tables u.first.span) (spec.handle_found u.first.span) (settled_found_stays u.first u.suffixes tables u.first.span h) (handle_found_stays u.first.span)) (λ a n c. c)
+in_subpools_stays : (tables : Tables) (place : Span) (asked : Asked) (x : Expr) → Stays (spec.in_subpools tables place asked x)
+in_subpools_stays tables place (asking.Exactly (ty.Access a)) x = if_stays (has_subpools tables (slice_get tables.states.accesses a)) (known x) (but fault.Pool place x) (known_stays x) (but_stays fault.Pool place x)
+in_subpools_stays tables place _ x = known_stays x
 
-value_judged_stays : (tables : Tables) (t : Option Ty) (o : Option Sense) → IfSome Keeps o → Stays (spec.value_judged tables t o)
-value_judged_stays tables t None h = λ n c. c
-value_judged_stays tables None (Some x) h = next_stays (x.judged tables asking.Anything) (λ r. known (Some r.value)) (h.judged tables asking.Anything) (λ r n c. c)
-value_judged_stays tables (Some t) (Some x) h = next_stays (x.judged tables (asking.Exactly t)) (λ r. known (Some r.value)) (h.judged tables (asking.Exactly t)) (λ r n c. c)
+handle_judged_stays : (tables : Tables) (asked : Asked) (u : Name Use Sense) → All KeepsSuffix u.suffixes → Stays (spec.handle_judged tables asked u)
+handle_judged_stays tables asked u h =
+    let place = u.first.span in
+    next_stays (spec.found u.first u.suffixes tables >>= spec.settled tables place >>= spec.handle_found place) (spec.in_subpools tables place asked)
+    (next_stays (spec.found u.first u.suffixes tables >>= spec.settled tables place) (spec.handle_found place) (settled_found_stays u.first u.suffixes tables place h) (handle_found_stays place))
+    (in_subpools_stays tables place asked)
+
+held_stays : (tables : Tables) (asked : Asked) (o : Option (Name Use Sense)) → KeepsHandle o → Stays (spec.held (option_map (spec.handle_judged tables asked) o))
+held_stays tables asked None h = λ n c. c
+held_stays tables asked (Some u) h = next_stays (spec.handle_judged tables asked u) (λ a. known (Some a)) (handle_judged_stays tables asked u h) (λ a n c. c)
+
+value_asked_stays : (tables : Tables) (place : Span) (t : Option Ty) → Stays (spec.value_asked tables place t)
+value_asked_stays tables place None = known_stays asking.Anything
+value_asked_stays tables place (Some t) = if_stays (is_limited tables t) (but fault.Limited place (asking.Exactly t)) (known (asking.Exactly t)) (but_stays fault.Limited place (asking.Exactly t)) (known_stays (asking.Exactly t))
+
+value_judged_stays : (tables : Tables) (place : Span) (t : Option Ty) (o : Option Sense) → IfSome Keeps o → Stays (spec.value_judged tables place t o)
+value_judged_stays tables place t None h = λ n c. c
+value_judged_stays tables place t (Some x) h = next_stays (spec.value_asked tables place t >>= x.judged tables) (λ r. known (Some r.value)) (next_stays (spec.value_asked tables place t) (x.judged tables) (value_asked_stays tables place t) (h.judged tables)) (λ r n c. c)
 
 allocates_stays : (tables : Tables) (place : Span) (asked : Asked) (t : Ty) → Stays (spec.allocates tables place asked t)
 allocates_stays tables place (asking.Exactly (ty.Access a)) t = if_stays (spec.designates_this t (designated_by tables a) && spec.has_objects tables t) (known a) (wrong fault.Type place) (known_stays a) (wrong_stays ℕ fault.Type place)
@@ -182,10 +196,10 @@ allocates_stays tables place _ t = wrong_stays ℕ fault.Type place
 
 new_stays : (place : Span) (handle : Option (Name Use Sense)) (m : Mark Use) (value : Option Sense) (tables : Tables) (asked : Asked) → KeepsHandle handle → IfSome Keeps value → Stays (spec.new_judged place handle m value tables asked)
 new_stays place handle m value tables asked h i =
-    let p = spec.held (option_map (spec.handle_judged tables) handle) in
+    let p = spec.held (option_map (spec.handle_judged tables asked) handle) in
     let mark = spec.mark_judged tables m.first m.rest in
-    next_stays (both p (following mark (λ t. spec.value_judged tables t value))) (λ r. spec.allocates tables place asked r.1.0 >>= (λ a. doing (spec.making a r.1.0 r.1.1) (record { ty = ty.Access a; value = e.New a r.1.0 r.0 r.1.1 })))
-    (both_stays p (following mark (λ t. spec.value_judged tables t value)) (held_stays tables handle h) (following_stays mark (λ t. spec.value_judged tables t value) (mark_stays tables m.first m.rest) (λ t. value_judged_stays tables t value i)))
+    next_stays (both p (following mark (λ t. spec.value_judged tables place t value))) (λ r. spec.allocates tables place asked r.1.0 >>= (λ a. doing (spec.making a r.1.0 r.1.1) (record { ty = ty.Access a; value = e.New a r.1.0 r.0 r.1.1 })))
+    (both_stays p (following mark (λ t. spec.value_judged tables place t value)) (held_stays tables asked handle h) (following_stays mark (λ t. spec.value_judged tables place t value) (mark_stays tables m.first m.rest) (λ t. value_judged_stays tables place t value i)))
     (λ r. next_stays (spec.allocates tables place asked r.1.0) (λ a. doing (spec.making a r.1.0 r.1.1) (record { ty = ty.Access a; value = e.New a r.1.0 r.0 r.1.1 })) (allocates_stays tables place asked r.1.0) (λ a. doing_stays {A = Typed_value} (spec.making a r.1.0 r.1.1) (record { ty = ty.Access a; value = e.New a r.1.0 r.0 r.1.1 })))
 
 -- What is put ---------------------------------------------------------------------------------------------

@@ -29,7 +29,7 @@ use Rattle.ctl_typing.specs.declared.found.Place.{Place}
 use Rattle.ctl_typing.specs.declared.found.Found.{Found}
 use Rattle.ctl_typing.specs.declared.found.Found.TheVariants as is
 use Rattle.ctl_typing.specs.Judgement.{Judgement, known, but, wrong, noting, ◌>>=◌, both, following}
-use Rattle.ctl_typing.specs.Lookup.{same, root_of}
+use Rattle.ctl_typing.specs.Lookup.{same, root_of, is_limited}
 use Rattle.ctl_typing.specs.Senses.{suffix_sense}
 use Rattle.ctl_typing.specs.Typing as expr
 use Rattle.ctl_typing.specs.Typing.{Sense, sense}
@@ -64,7 +64,7 @@ writing_stays tables t x g = writing_by_stays tables x.place t x.bare g.bare
 target_found_stays : (tables : Tables) (place : Span) (f : Found) → Stays (spec.target_found tables place f)
 target_found_stays tables place (is.Part p) =
     let t : Target = record { name = expr.name_of p; ty = p.ty } in
-    next_stays (expr.as_variable place p.mutability t) (spec.limited_kept tables place) (as_variable_stays place p.mutability t) (λ q. if_stays (spec.is_limited tables q.ty) (but fault.Limited place q) (known q) (but_stays fault.Limited place q) (known_stays q))
+    next_stays (expr.as_variable place p.mutability t) (spec.limited_kept tables place) (as_variable_stays place p.mutability t) (λ q. if_stays (is_limited tables q.ty) (but fault.Limited place q) (known q) (but_stays fault.Limited place q) (known_stays q))
 target_found_stays tables place (is.Computed t) = wrong_stays Target fault.Mode place
 target_found_stays tables place (is.Discriminant p k) = wrong_stays Target fault.Mode place
 target_found_stays tables place _ = wrong_stays Target fault.Type place
@@ -137,7 +137,7 @@ operation_by_stays tables place o t (Some s) xs g = next_stays (expr.actuals_of 
 operation_of_stays : (tables : Tables) (place : Span) (o : OperationName) (xs : List Sense) (t : Ty) → All Keeps xs → Stays (spec.operation_of tables place o xs t)
 operation_of_stays tables place o xs (ty.Record t) g =
     let q = spec.user_operation o (spec.operations_of (slice_get tables.states.records t)) in
-    if_stays (spec.provides (root_of (slice_get tables.records t)) (spec.is_limited tables (ty.Record t)) o) (spec.operation_by tables place o (ty.Record t) q xs) (wrong fault.Type place) (operation_by_stays tables place o (ty.Record t) q xs g) (wrong_stays Stmt fault.Type place)
+    if_stays (spec.provides (root_of (slice_get tables.records t)) (is_limited tables (ty.Record t)) o) (spec.operation_by tables place o (ty.Record t) q xs) (wrong fault.Type place) (operation_by_stays tables place o (ty.Record t) q xs g) (wrong_stays Stmt fault.Type place)
 operation_of_stays tables place o xs _ g = wrong_stays Stmt fault.Type place
 
 operation_with_stays : (tables : Tables) (place : Span) (o : OperationName) (xs : Option (List Sense)) → IfSome (All Keeps) xs → Stays (spec.operation_with tables place o xs)
@@ -177,7 +177,7 @@ called_by_stays : (tables : Tables) (place : Span) (d : Denoted) (xs : Option (L
 called_by_stays tables place (denoted.Declared n level) xs g = declared_with_stays tables place (slice_get tables.entries n) xs g
 called_by_stays tables place (denoted.Library l) xs g = library_with_stays tables place l xs g
 called_by_stays tables place (denoted.Operation o) xs g = operation_with_stays tables place o xs g
-called_by_stays tables place denoted.Unknown xs g = silent_stays Stmt
+called_by_stays tables place denoted.Unknown xs g = wrong_stays Stmt fault.Unknown place
 
 -- Exceptions, exits, returns ------------------------------------------------------------------------
 
@@ -191,7 +191,7 @@ exception_denoted_stays tables place (denoted.Declared n level) = exception_entr
 exception_denoted_stays tables place (denoted.Library library.ConstraintError) = λ n h. h
 exception_denoted_stays tables place (denoted.Library library.ProgramError) = λ n h. h
 exception_denoted_stays tables place (denoted.Library library.StorageError) = λ n h. h
-exception_denoted_stays tables place denoted.Unknown = silent_stays ℕ
+exception_denoted_stays tables place denoted.Unknown = wrong_stays ℕ fault.Unknown place
 exception_denoted_stays tables place d = wrong_stays ℕ fault.Type place
 
 pub exception_named_stays : (tables : Tables) (place : Span) (u : Use) (rest : List Identifier) → Stays (spec.exception_named tables place u rest)

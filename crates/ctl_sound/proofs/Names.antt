@@ -346,19 +346,19 @@ module _ (k : Setting) (env : Frames) (tables : Tables) (sound : Sound k env tab
   viewed_as_good place t p ty.Handle v part = λ n. tt
   viewed_as_good place t p (ty.Access a) v part = λ n. tt
 
-  viewed_good : (place : Span) (t : ℕ) (f : Found) → InView k env (ty.Record t) → FoundFine k env f → FoundRight (spec.viewed tables place t f)
-  viewed_good place t (is.Part p) v h = viewed_as_good place t p p.ty v h.part
-  viewed_good place t _ v h = λ s. tt
+  viewed_good : (place inner : Span) (t : ℕ) (f : Found) → InView k env (ty.Record t) → FoundFine k env f → FoundRight (spec.viewed tables place inner t f)
+  viewed_good place inner t (is.Part p) v h = viewed_as_good place t p p.ty v h.part
+  viewed_good place inner t _ v h = λ s. tt
 
-  viewed_by_good : (place : Span) (t : ℕ) (o : Option (Tables → Judgement Found)) → InView k env (ty.Record t) → Named o → FoundRight (spec.viewed_by tables place t o)
-  viewed_by_good place t None v h = λ s. tt
-  viewed_by_good place t (Some name) v h = next (FoundFine k env) (FoundFine k env) (name tables) (spec.viewed tables place t) h (λ f i. viewed_good place t f v i)
+  viewed_by_good : (place inner : Span) (t : ℕ) (o : Option (Tables → Judgement Found)) → InView k env (ty.Record t) → Named o → FoundRight (spec.viewed_by tables place inner t o)
+  viewed_by_good place inner t None v h = λ s. tt
+  viewed_by_good place inner t (Some name) v h = next (FoundFine k env) (FoundFine k env) (name tables) (spec.viewed tables place inner t) h (λ f i. viewed_good place inner t f v i)
 
   converted_good : (place : Span) (t : Ty) (x : Sense) → InView k env t → Right x → FoundRight (spec.converted tables place t x)
   converted_good place ty.Integer x v g = number_converted ty.Integer x refl refl tt g
   converted_good place ty.Count x v g = number_converted ty.Count x refl refl tt g
   converted_good place (ty.Access a) x v g = next (Fine k env asking.Anything x.named) (FoundFine k env) (x.judged tables asking.Anything) (spec.converted_access tables place a) (g.judged asking.Anything tt) (λ r h. access_converted place a r v h.typed h.in_view)
-  converted_good place (ty.Record t) x v g = viewed_by_good place t x.bare v g.bare
+  converted_good place (ty.Record t) x v g = viewed_by_good place x.place t x.bare v g.bare
   converted_good place ty.Boolean x v g = λ s. tt
   converted_good place ty.Address x v g = λ s. tt
   converted_good place ty.Handle x v g = λ s. tt

@@ -50,6 +50,26 @@ operator_arithmetic arithmetic.Divide = refl
 operator_arithmetic arithmetic.Mod = refl
 operator_arithmetic arithmetic.Rem = refl
 
+-- what is comparable and ordered is compared by each operator
+compares : (o : RelationalOperator) (t : Ty) → meets asking.Comparable t ≡ true → meets asking.Ordered t ≡ true → meets (spec.compared o) t ≡ true
+compares relational.Equal t c d = c
+compares relational.NotEqual t c d = c
+compares relational.Less t c d = d
+compares relational.LessEqual t c d = d
+compares relational.Greater t c d = d
+compares relational.GreaterEqual t c d = d
+
+number_compares : (o : RelationalOperator) (t : Ty) → meets asking.Number t ≡ true → meets (spec.compared o) t ≡ true
+number_compares o ty.Integer h = compares o ty.Integer refl refl
+number_compares o ty.Count h = compares o ty.Count refl refl
+number_compares o t h = absurd (cc)
+
+-- what is asked beside a literal is what the comparison takes
+beside_meets : (o : RelationalOperator) (a : Adopts) (t : Ty) → meets (spec.asked_beside o a) t ≡ true → meets (spec.compared o) t ≡ true
+beside_meets o adopting.Numbers t h = number_compares o t h
+beside_meets o adopting.Accesses t h = h
+beside_meets o adopting.Nothing t h = h
+
 relation_joins : (o : RelationalOperator) (t : Ty) → meets (spec.compared o) t ≡ true → Joins (spec.comparison o) t ty.Boolean
 relation_joins relational.Equal t h = types.equality refl (comparable_is t h)
 relation_joins relational.NotEqual t h = types.equality refl (comparable_is t h)
@@ -201,19 +221,24 @@ module _ (k : Setting) (env : Frames) (tables : Tables) (sound : Sound k env tab
   compared_fine relational.GreaterEqual = tt
 
   -- two operands, of which the second has the type of the first
-  two_good : (o : RelationalOperator) (x y : Sense) → Right x → Right y → Gives (λ p. Fine k env (spec.compared o) x.named p.0 × Fine k env (asking.Exactly p.0.ty) y.named p.1) (following (x.judged tables (spec.compared o)) (λ t. y.judged tables (spec.asked_like (spec.compared o) t)))
-  two_good o x y g h = following_give (Fine k env (spec.compared o) x.named) (λ a b. Fine k env (asking.Exactly a.ty) y.named b) (x.judged tables (spec.compared o)) (λ t. y.judged tables (spec.asked_like (spec.compared o) t)) (g.judged (spec.compared o) (compared_fine o)) (λ a i. h.judged (asking.Exactly a.ty) i.in_view)
+  beside_fine : (o : RelationalOperator) (a : Adopts) → AskedFine k env (spec.asked_beside o a)
+  beside_fine o adopting.Numbers = tt
+  beside_fine o adopting.Accesses = compared_fine o
+  beside_fine o adopting.Nothing = compared_fine o
+
+  two_good : (first : Asked) → AskedFine k env first → (o : RelationalOperator) (x y : Sense) → Right x → Right y → Gives (λ p. Fine k env first x.named p.0 × Fine k env (asking.Exactly p.0.ty) y.named p.1) (following (x.judged tables first) (λ t. y.judged tables (spec.asked_like (spec.compared o) t)))
+  two_good first fine o x y g h = following_give (Fine k env first x.named) (λ a b. Fine k env (asking.Exactly a.ty) y.named b) (x.judged tables first) (λ t. y.judged tables (spec.asked_like (spec.compared o) t)) (g.judged first fine) (λ a i. h.judged (asking.Exactly a.ty) i.in_view)
 
   pub relation_good : (place : Span) (o : RelationalOperator) (l r : Sense) (asked : Asked) → Right l → Right r → Gives (Fine k env asked Unnamed) (spec.relation_judged place o l r tables asked)
   relation_good place o l r asked g h = by_test (spec.adopts l.adopts && not (spec.adopts r.adopts))
     where
       by_test : (b : Bool) → Gives (Fine k env asked Unnamed)
           (if b
-          then (following (r.judged tables (spec.compared o)) (λ t. l.judged tables (spec.asked_like (spec.compared o) t)) >>= (λ p. spec.fits place asked (spec.relation_of o p.1 p.0)))
+          then (following (r.judged tables (spec.asked_beside o l.adopts)) (λ t. l.judged tables (spec.asked_like (spec.compared o) t)) >>= (λ p. spec.fits place asked (spec.relation_of o p.1 p.0)))
           else (following (l.judged tables (spec.compared o)) (λ t. r.judged tables (spec.asked_like (spec.compared o) t)) >>= (λ p. spec.fits place asked (spec.relation_of o p.0 p.1))))
-      by_test true = next (λ p. Fine k env (spec.compared o) r.named p.0 × Fine k env (asking.Exactly p.0.ty) l.named p.1) (Fine k env asked Unnamed) (following (r.judged tables (spec.compared o)) (λ t. l.judged tables (spec.asked_like (spec.compared o) t))) (λ p. spec.fits place asked (spec.relation_of o p.1 p.0)) (two_good o r l h g)
-          (λ p i. let same = same_is p.0.ty p.1.ty i.1.met in relation_of_good place o asked p.1 p.0 (subst (λ t. meets (spec.compared o) t ≡ true) same i.0.met) i.1.typed (subst (λ t. Value t p.0.value) same i.0.typed))
-      by_test false = next (λ p. Fine k env (spec.compared o) l.named p.0 × Fine k env (asking.Exactly p.0.ty) r.named p.1) (Fine k env asked Unnamed) (following (l.judged tables (spec.compared o)) (λ t. r.judged tables (spec.asked_like (spec.compared o) t))) (λ p. spec.fits place asked (spec.relation_of o p.0 p.1)) (two_good o l r g h)
+      by_test true = next (λ p. Fine k env (spec.asked_beside o l.adopts) r.named p.0 × Fine k env (asking.Exactly p.0.ty) l.named p.1) (Fine k env asked Unnamed) (following (r.judged tables (spec.asked_beside o l.adopts)) (λ t. l.judged tables (spec.asked_like (spec.compared o) t))) (λ p. spec.fits place asked (spec.relation_of o p.1 p.0)) (two_good (spec.asked_beside o l.adopts) (beside_fine o l.adopts) o r l h g)
+          (λ p i. let same = same_is p.0.ty p.1.ty i.1.met in relation_of_good place o asked p.1 p.0 (subst (λ t. meets (spec.compared o) t ≡ true) same (beside_meets o l.adopts p.0.ty i.0.met)) i.1.typed (subst (λ t. Value t p.0.value) same i.0.typed))
+      by_test false = next (λ p. Fine k env (spec.compared o) l.named p.0 × Fine k env (asking.Exactly p.0.ty) r.named p.1) (Fine k env asked Unnamed) (following (l.judged tables (spec.compared o)) (λ t. r.judged tables (spec.asked_like (spec.compared o) t))) (λ p. spec.fits place asked (spec.relation_of o p.0 p.1)) (two_good (spec.compared o) (compared_fine o) o l r g h)
           (λ p i. let same = same_is p.0.ty p.1.ty i.1.met in relation_of_good place o asked p.0 p.1 i.0.met i.0.typed (subst (λ t. Value t p.1.value) (sym same) i.1.typed))
 
   -- Logical operators ----------------------------------------------------------------------------------------

@@ -1,9 +1,10 @@
 -- Whole programs are well typed: the setting that is found, the library's types, the main procedure.
 use Rattle.std.proofs.Common.{arith, ◌≡◌, ◌≤◌, refl, sym, ap, ◌∙◌, subst, ℕ, zero, suc, ◌+◌, false, List, [], ◌∷◌, ◌++◌, map, length, slice_get, Option, Some, None, Ok, inl, inr}
-use Rattle.std.proofs.lemmas.List.{nil_from_length, length-append}
+use Rattle.std.proofs.lemmas.List.{append-nil, append_assoc, nil_from_length, length-append}
 use Rattle.ctl_tree.specs.declared.span.Span.{Span}
 use Rattle.ctl_tree.specs.declared.fault.Fault.{Fault}
 use Rattle.ctl_tree.specs.declared.fault.FaultCode.TheVariants as fault
+use Rattle.ctl_program.specs.declared.types.AccessType.{AccessType}
 use Rattle.ctl_program.specs.declared.types.Component.{Component}
 use Rattle.ctl_program.specs.declared.types.Operations.{Operations}
 use Rattle.ctl_program.specs.declared.types.RecordType.{RecordType}
@@ -22,15 +23,17 @@ use Rattle.ctl_typing.specs.declared.table.AccessEntry.{AccessEntry}
 use Rattle.ctl_typing.specs.declared.table.FormalEntry.{FormalEntry}
 use Rattle.ctl_typing.specs.declared.table.RecordEntry.{RecordEntry}
 use Rattle.ctl_typing.specs.declared.table.RecordState.{RecordState}
+use Rattle.ctl_typing.specs.Judgement.{appended}
 use Rattle.ctl_typing.specs.Lookup.{component_among}
 use Rattle.ctl_types.specs.declared.draft.Around.{Around}
 use Rattle.ctl_types.specs.declared.draft.Draft.{Draft}
 use Rattle.ctl_types.specs.declared.draft.Giving.TheVariants as giving
-use Rattle.ctl_types.specs.Declarations.{no_body, put_body, name_kept, operation_named}
+use Rattle.ctl_types.specs.declared.draft.Routine.{Routine}
+use Rattle.ctl_types.specs.Declarations.{name_kept, operation_named}
 use Rattle.ctl_types.specs.Statements.{user_operation, operations_of, operation_formals}
 use Rattle.ctl_types.specs.Types.{is_given}
 use Rattle.ctl_types.specs.Elaboration as spec
-use Rattle.ctl_types.specs.Elaboration.{library_records, library_state, library_states, library_components, record_types, record_type_of, checked_of, checked_with, access_types, or_nothing, verdict_by, Elaborates}
+use Rattle.ctl_types.specs.Elaboration.{components_on, subprograms_on, subprogram_with, library_records, library_state, library_states, library_components, record_types, record_type_of, checked_of, checked_with, access_types, or_nothing, verdict_by, Elaborates}
 use Rattle.ctl_well_typed.specs.Setting.{InOut, Formal, Frame, Frames, Encloses, Signature, Setting}
 use Rattle.ctl_well_typed.specs.Programs as program
 use Rattle.ctl_well_typed.specs.Programs.{WellTyped, SettingFits, RecordFine, SubprogramFine, Overrides, Overridden, formal}
@@ -42,14 +45,77 @@ use Rattle.ctl_sound.specs.Plain.{PlainBody}
 use Rattle.ctl_sound.specs.Sound.{EntryFine, formal_of}
 use Rattle.ctl_sound.proofs.Beginning.{beginning_sound}
 use Rattle.ctl_sound.proofs.Growing.{operations_in, Behind, behind_self, behind_length, behind_read, behind_place, From, from_start, Still, Made, Homes, Grows}
-use Rattle.ctl_sound.proofs.Sites.{Site, around_site, here, IsHere, RecordKnown, OperationKnown, SubprogramKnown, no_operations, operations_at, Known, Front, InTable, Back, Agrees}
+use Rattle.ctl_sound.proofs.Sites.{Site, around_site, here, IsHere, RecordKnown, OperationKnown, BodyFor, SubprogramKnown, no_operations, operations_at, Known, Front, InTable, Back, Agrees}
 use Rattle.ctl_sound.proofs.Fronts.{one_home}
 use Rattle.ctl_sound.proofs.Objects.{told_still}
 use Rattle.ctl_sound.proofs.Bodies.{RightMaster, DoesRight}
-use Rattle.ctl_sound.proofs.Subprograms.{one_signature, empty_master}
+use Rattle.ctl_sound.proofs.Subprograms.{one_signature}
 use Rattle.ctl_sound.proofs.BodyItems.{MasteredFor, Put, put_known}
 use Rattle.ctl_sound.proofs.Steps.{Leads}
 use Rattle.ctl_sound.proofs.Trees.{plain_body_right}
+
+-- What is known of each ------------------------------------------------------------------------------------
+
+-- the second row has what each of the first gives
+pub data EachGives {A B : Type 0} (f : A → Option B) : List A → List B → Type 0 where
+  none_given : EachGives f [] []
+  one_given : {x : A} {y : B} {xs : List A} {ys : List B} → f x ≡ Some y → EachGives f xs ys → EachGives f (x ∷ xs) (y ∷ ys)
+
+record GivesBehind {A B : Type 0} (f : A → Option B) (before : List B) (xs : List A) (all : List B) : Type 0 where
+  more : List B
+  is : all ≡ before ++ more
+  each : EachGives f xs more
+
+given_length : {A B : Type 0} (f : A → Option B) (xs : List A) (ys : List B) → EachGives f xs ys → length ys ≡ length xs
+given_length f _ _ none_given = refl
+given_length f _ _ (one_given {xs = xs} {ys = ys} e more) = ap suc (given_length f xs ys more)
+
+record GivenAt {A B : Type 0} (f : A → Option B) (xs : List A) (n : ℕ) (y : B) : Type 0 where
+  from : A
+  found : slice_get xs n ≡ Some from
+  gives : f from ≡ Some y
+
+given_at : {A B : Type 0} (f : A → Option B) (xs : List A) (ys : List B) → EachGives f xs ys → (n : ℕ) (y : B) → slice_get ys n ≡ Some y → GivenAt f xs n y
+given_at f _ _ none_given n y h = absurd (cc)
+given_at f _ _ (one_given {x = x} {y = z} e more) zero y h = let same : z ≡ y = cc in record { from = x; found = refl; gives = e ∙ ap (λ w. Some w) same }
+given_at f _ _ (one_given {xs = xs} {ys = ys} e more) (suc n) y h = let g = given_at f xs ys more n y h in record { from = g.from; found = g.found; gives = g.gives }
+
+record GivingAt {A B : Type 0} (f : A → Option B) (x : A) : Type 0 where
+  given : B
+  gives : f x ≡ Some given
+
+giving_at : {A B : Type 0} (f : A → Option B) (xs : List A) (ys : List B) → EachGives f xs ys → (n : ℕ) (x : A) → slice_get xs n ≡ Some x → GivingAt f x
+giving_at f _ _ none_given n x h = absurd (cc)
+giving_at f _ _ (one_given {x = z} {y = y} e more) zero x h = let same : z ≡ x = cc in record { given = y; gives = ap f (sym same) ∙ e }
+giving_at f _ _ (one_given {xs = xs} {ys = ys} e more) (suc n) x h = giving_at f xs ys more n x h
+
+-- one more of those that are given
+given_further : {A B : Type 0} (f : A → Option B) (before : List B) (x : A) (xs : List A) (all : List B) (y : B) → f x ≡ Some y → GivesBehind f (before ++ y ∷ []) xs all → GivesBehind f before (x ∷ xs) all
+given_further f before x xs all y e g = record { more = y ∷ g.more; is = g.is ∙ append_assoc before (y ∷ []) g.more; each = one_given e g.each }
+
+no_components : (css : List (Option (List Component))) → components_on None css ≡ None
+no_components [] = refl
+no_components (cs ∷ css) = no_components css
+
+components_given : (css : List (Option (List Component))) (before all : List (List Component)) → components_on (Some before) css ≡ Some all → GivesBehind (λ cs. cs) before css all
+components_given [] before all h = let same : before ≡ all = cc in record { more = []; is = sym same ∙ sym (append-nil before); each = none_given }
+components_given (None ∷ css) before all h = absurd (let no = no_components css in cc)
+components_given (Some cs ∷ css) before all h = given_further (λ cs. cs) before (Some cs) css all cs refl (components_given css (before ++ cs ∷ []) all h)
+
+no_subprograms : (rs : List Routine) → subprograms_on None rs ≡ None
+no_subprograms [] = refl
+no_subprograms (r ∷ rs) = no_subprograms rs
+
+abbrev with_its_body : Routine → Option Subprogram
+with_its_body r = subprogram_with r r.body
+
+subprograms_given : (rs : List Routine) (before all : List Subprogram) → subprograms_on (Some before) rs ≡ Some all → GivesBehind with_its_body before rs all
+subprograms_given [] before all h = let same : before ≡ all = cc in record { more = []; is = sym same ∙ sym (append-nil before); each = none_given }
+subprograms_given (r ∷ rs) before all h = by_body (with_its_body r) refl h (λ p. subprograms_given rs (before ++ p ∷ []) all)
+  where
+    by_body : (o : Option Subprogram) → with_its_body r ≡ o → subprograms_on (appended (Some before) o) rs ≡ Some all → ((p : Subprogram) → subprograms_on (Some (before ++ p ∷ [])) rs ≡ Some all → GivesBehind with_its_body (before ++ p ∷ []) rs all) → GivesBehind with_its_body before (r ∷ rs) all
+    by_body None e h again = absurd (let no = no_subprograms rs in cc)
+    by_body (Some p) e h again = given_further with_its_body before r rs all p e (again p h)
 
 -- The table of record types -----------------------------------------------------------------------------
 
@@ -57,42 +123,47 @@ abbrev first_state : List RecordState → RecordState
 first_state [] = library_state
 first_state (s ∷ ss) = s
 
-abbrev first_components : List (List Component) → List Component
+abbrev first_components : List (Option (List Component)) → List Component
 first_components [] = []
-first_components (cs ∷ css) = cs
+first_components (None ∷ css) = []
+first_components (Some cs ∷ css) = cs
 
 abbrev rest : {A : Type 0} → List A → List A
 rest [] = []
 rest (x ∷ xs) = xs
 
 -- one for each entry, whether there is a state of it or not
-abbrev table_of : List RecordEntry → List RecordState → List (List Component) → List RecordType
+abbrev table_of : List RecordEntry → List RecordState → List (Option (List Component)) → List RecordType
 table_of [] ss css = []
 table_of (r ∷ rs) ss css = record_type_of r (first_state ss) (first_components css) ∷ table_of rs (rest ss) (rest css)
 
-table_is : (rs : List RecordEntry) (ss : List RecordState) (css : List (List Component)) → length ss ≡ length rs → length css ≡ length rs → table_of rs ss css ≡ record_types rs ss css
-table_is [] ss css h i = refl
-table_is (r ∷ rs) [] css h i = absurd (cc)
-table_is (r ∷ rs) (s ∷ ss) [] h i = absurd (cc)
-table_is (r ∷ rs) (s ∷ ss) (cs ∷ css) h i = let fewer : length ss ≡ length rs = omega (arith, h) in let less : length css ≡ length rs = omega (arith, i) in ap (λ xs. record_type_of r s cs ∷ xs) (table_is rs ss css fewer less)
-
-table_length : (rs : List RecordEntry) (ss : List RecordState) (css : List (List Component)) → length (table_of rs ss css) ≡ length rs
+table_length : (rs : List RecordEntry) (ss : List RecordState) (css : List (Option (List Component))) → length (table_of rs ss css) ≡ length rs
 table_length [] ss css = refl
 table_length (r ∷ rs) ss css = ap suc (table_length rs (rest ss) (rest css))
 
-read_components : (css : List (List Component)) (t : ℕ) (cs : List Component) → slice_get css (suc t) ≡ Some cs → slice_get (rest css) t ≡ Some cs
+read_components : (css : List (Option (List Component))) (t : ℕ) (cs : Option (List Component)) → slice_get css (suc t) ≡ Some cs → slice_get (rest css) t ≡ Some cs
 read_components [] t cs e = absurd (cc)
 read_components (x ∷ css) t cs e = e
 
-first_read : (css : List (List Component)) (cs : List Component) → slice_get css 0 ≡ Some cs → first_components css ≡ cs
+first_read : (css : List (Option (List Component))) (cs : List Component) → slice_get css 0 ≡ Some (Some cs) → first_components css ≡ cs
 first_read [] cs e = absurd (cc)
-first_read (x ∷ css) cs e = cc
+first_read (None ∷ css) cs e = absurd (let no : None ≡ Some cs = cc in cc)
+first_read (Some x ∷ css) cs e = let same : Some x ≡ Some cs = cc in cc
+
+table_is : (rs : List RecordEntry) (ss : List RecordState) (os : List (Option (List Component))) (css : List (List Component)) → EachGives (λ cs. cs) os css → length ss ≡ length rs → length os ≡ length rs → table_of rs ss os ≡ record_types rs ss css
+table_is [] ss os css g h i = refl
+table_is (r ∷ rs) [] os css g h i = absurd (cc)
+table_is (r ∷ rs) (s ∷ ss) _ _ none_given h i = absurd (cc)
+table_is (r ∷ rs) (s ∷ ss) _ _ (one_given {x = o} {y = cs} {xs = os} {ys = css} e more) h i =
+    let fewer : length ss ≡ length rs = omega (arith, h) in
+    let less : length os ≡ length rs = omega (arith, i) in
+    ap (λ own. record_type_of r s own ∷ table_of rs ss os) (first_read (o ∷ os) cs (ap (λ x. Some x) e)) ∙ ap (λ xs. record_type_of r s cs ∷ xs) (table_is rs ss os css more fewer less)
 
 record InRows (xs : List RecordType) (t : ℕ) (r : RecordEntry) (cs : List Component) : Type 0 where
   operations : Operations
   found : slice_get xs t ≡ Some (record { level = r.level; root = r.root; parent = r.parent; own = cs; operations = operations })
 
-in_rows : (rs : List RecordEntry) (ss : List RecordState) (css : List (List Component)) (t : ℕ) (r : RecordEntry) (cs : List Component) → slice_get rs t ≡ Some r → slice_get css t ≡ Some cs → InRows (table_of rs ss css) t r cs
+in_rows : (rs : List RecordEntry) (ss : List RecordState) (css : List (Option (List Component))) (t : ℕ) (r : RecordEntry) (cs : List Component) → slice_get rs t ≡ Some r → slice_get css t ≡ Some (Some cs) → InRows (table_of rs ss css) t r cs
 in_rows [] ss css t r cs e f = absurd (cc)
 in_rows (x ∷ rs) ss css zero r cs e f =
     let same : x ≡ r = cc in
@@ -100,7 +171,7 @@ in_rows (x ∷ rs) ss css zero r cs e f =
       operations = (first_state ss).operations;
       found = ap (λ y. Some (record_type_of y (first_state ss) (first_components css))) same ∙ ap (λ y. Some (record_type_of r (first_state ss) y)) (first_read css cs f);
     }
-in_rows (x ∷ rs) ss css (suc t) r cs e f = let g = in_rows rs (rest ss) (rest css) t r cs e (read_components css t cs f) in record { operations = g.operations; found = g.found }
+in_rows (x ∷ rs) ss css (suc t) r cs e f = let g = in_rows rs (rest ss) (rest css) t r cs e (read_components css t (Some cs) f) in record { operations = g.operations; found = g.found }
 
 -- the entry that a row is made of
 record RowOf (rs : List RecordEntry) (ss : List RecordState) (t : ℕ) (x : RecordType) : Type 0 where
@@ -116,7 +187,7 @@ first_operations : (ss : List RecordState) → (first_state ss).operations ≡ o
 first_operations [] = refl
 first_operations (s ∷ ss) = refl
 
-row_of : (rs : List RecordEntry) (ss : List RecordState) (css : List (List Component)) (t : ℕ) (x : RecordType) → slice_get (table_of rs ss css) t ≡ Some x → RowOf rs ss t x
+row_of : (rs : List RecordEntry) (ss : List RecordState) (css : List (Option (List Component))) (t : ℕ) (x : RecordType) → slice_get (table_of rs ss css) t ≡ Some x → RowOf rs ss t x
 row_of [] ss css t x e = absurd (cc)
 row_of (r ∷ rs) ss css zero x e =
     let same : record_type_of r (first_state ss) (first_components css) ≡ x = cc in
@@ -130,7 +201,7 @@ library_homes = [] ∷ [] ∷ [] ∷ [] ∷ []
 
 -- what all its types have
 record OfLibrary (t : ℕ) (r : RecordEntry) : Type 0 where
-  components : slice_get library_components t ≡ Some []
+  components : slice_get library_components t ≡ Some (Some [])
   home : (more : List Frames) → slice_get (library_homes ++ more) t ≡ Some []
   level : r.level ≡ 0
   parent : r.parent ≡ None
@@ -160,13 +231,16 @@ none_of Finalize = refl
 none_of Allocate = refl
 none_of Deallocate = refl
 
+one_row : {A : Type 0} (xs ys : List A) → Some xs ≡ Some ys → xs ≡ ys
+one_row xs ys h = cc
+
 no_component : (own : List _) (name : List ℕ) (i : ℕ) (t : _) → own ≡ [] → component_among name own ≡ Some (i, t) → ⊥
 no_component [] name i t e h = absurd (cc)
 no_component (c ∷ cs) name i t e h = absurd (cc)
 
-library_known : (k : Setting) (t : ℕ) (r : RecordEntry) → OfLibrary t r → InTable k t r [] → slice_get k.record_homes t ≡ Some [] → RecordKnown k t r
+library_known : (k : Setting) (t : ℕ) (r : RecordEntry) → OfLibrary t r → InTable k t r (Some []) → slice_get k.record_homes t ≡ Some [] → RecordKnown k t r
 library_known k t r h x home = record {
-  is = record { level = r.level; root = r.root; parent = r.parent; own = []; operations = x.operations };
+  is = record { level = r.level; root = r.root; parent = r.parent; own = x.own; operations = x.operations };
   home = [];
   found = x.found;
   at_home = home;
@@ -175,7 +249,7 @@ library_known k t r h x home = record {
   same_level = refl;
   level = h.level;
   parent = subst (λ o. program.Parent k [] t r.root o) (sym h.parent) program.none;
-  added = program.no_more_components;
+  added = subst (λ cs. program.Added k [] t cs) (one_row [] x.own x.known) program.no_more_components;
   own = λ name i c e. absurd (no_component r.own name i c h.own e);
 }
 
@@ -209,29 +283,76 @@ verdict_known place None None d p h = by_checked (checked_of d) h
     by_checked None h = absurd (cc)
     by_checked (Some q) h = cc
 
-no_access_types : (as' : List AccessEntry) → length as' ≡ 0 → access_types as' ≡ Some []
-no_access_types as' h = ap (λ xs. access_types xs) (nil_from_length as' h)
+-- a program that is given has all its parts
+record Parts (d : Draft) (p : Checked) : Type 0 where
+  accesses : List AccessType
+  subprograms : List Subprogram
+  components : List (List Component)
+  access_types : access_types d.tables.states.accesses ≡ Some accesses
+  bodies : EachGives with_its_body d.subprograms subprograms
+  own : EachGives (λ cs. cs) d.components components
+  is : record { exceptions = d.exceptions; records = record_types d.tables.records d.tables.states.records components; accesses = accesses; subprograms = subprograms; main = 0 } ≡ p
+
+parts_of : (d : Draft) (p : Checked) → checked_of d ≡ Some p → Parts d p
+parts_of d p h = by_accesses (access_types d.tables.states.accesses) refl (spec.subprograms d.subprograms) refl (spec.components_known d.components) refl h
+  where
+    from_nothing : {A B : Type 0} (f : A → Option B) (xs : List A) (ys : List B) → GivesBehind f [] xs ys → EachGives f xs ys
+    from_nothing f xs ys g = subst (λ zs. EachGives f xs zs) (sym g.is) g.each
+
+    by_accesses : (x : Option (List AccessType)) → access_types d.tables.states.accesses ≡ x → (y : Option (List Subprogram)) → spec.subprograms d.subprograms ≡ y → (z : Option (List (List Component))) → spec.components_known d.components ≡ z → checked_with d x y z ≡ Some p → Parts d p
+    by_accesses None e y f z g h = absurd (cc)
+    by_accesses (Some x) e None f z g h = absurd (cc)
+    by_accesses (Some x) e (Some y) f None g h = absurd (cc)
+    by_accesses (Some x) e (Some y) f (Some z) g h = record {
+      accesses = x;
+      subprograms = y;
+      components = z;
+      access_types = e;
+      bodies = from_nothing with_its_body d.subprograms y (subprograms_given d.subprograms [] y f);
+      own = from_nothing (λ cs. cs) d.components z (components_given d.components [] z g);
+      is = cc;
+    }
+
+no_access_types : (as' : List AccessEntry) (xs : List AccessType) → length as' ≡ 0 → access_types as' ≡ Some xs → xs ≡ []
+no_access_types as' xs h e = let none = ap (λ ys. access_types ys) (nil_from_length as' h) in let same : Some [] ≡ Some xs = sym none ∙ e in cc
 
 -- Whole programs -----------------------------------------------------------------------------------------------------
 
-module _ (t : Tree Definition Use) (broken : Option Fault) (right : DoesRight (spec.body t.body)) where
+abbrev begin : Tree Definition Use → Option Fault → Option Fault → Draft
+begin t names uses = spec.main_declared t.name (spec.begun names uses)
+
+abbrev main_around : Tree Definition Use → Option Fault → Option Fault → Around
+main_around t names uses = spec.inside spec.outside giving.Nothing (begin t names uses)
+
+-- the main procedure's body, and the draft behind it
+abbrev main_judged : Tree Definition Use → Option Fault → Option Fault → Option Master × Draft
+main_judged t names uses = spec.body t.body t.span (main_around t names uses) (spec.without_slots (begin t names uses))
+
+abbrev main_left : Tree Definition Use → Option Fault → Option Fault → Draft
+main_left t names uses = (spec.left (begin t names uses) (main_judged t names uses)).1
+
+pub main_put : (t : Tree Definition Use) (names uses : Option Fault) → Put (Some 0) (main_judged t names uses).0 (main_left t names uses) (spec.whole names uses t)
+main_put t names uses = put_known (Some 0) (main_judged t names uses).0 (main_left t names uses)
+
+module _ (t : Tree Definition Use) (names uses : Option Fault) (right : DoesRight (spec.body t.body)) (css : List (List Component)) (own : EachGives (λ cs. cs) (main_judged t names uses).1.components css)
+    (ss : List Subprogram) (bodies : EachGives with_its_body (main_put t names uses).subprograms ss) where
   abbrev before : Draft
-  before = spec.main_declared t.name (spec.begun broken)
+  before = begin t names uses
 
   abbrev start : Draft
   start = spec.without_slots before
 
-  abbrev main_around : Around
-  main_around = spec.inside spec.outside giving.Nothing before
+  abbrev around : Around
+  around = main_around t names uses
 
   abbrev judged : Option Master × Draft
-  judged = spec.body t.body t.span main_around start
+  judged = main_judged t names uses
 
-  named : Still (spec.begun broken) (name_kept t.name (spec.begun broken))
-  named = told_still (is_given (operation_named t.name.identifier.text)) fault.Override t.name.identifier.span (spec.begun broken)
+  named : Still (spec.begun names uses) (name_kept t.name (spec.begun names uses))
+  named = told_still (is_given (operation_named t.name.identifier.text)) fault.Override t.name.identifier.span (spec.begun names uses)
 
-  lead : Leads (here main_around) (RightMaster main_around (length judged.1.slots)) start judged
-  lead = right t.span main_around start
+  lead : Leads (here around) (RightMaster around (length judged.1.slots)) start judged
+  lead = right t.span around start
 
   abbrev end : Draft
   end = judged.1
@@ -255,21 +376,24 @@ module _ (t : Tree Definition Use) (broken : Option Fault) (right : DoesRight (s
   back : Back k end
   back = record {
     exceptions = omega arith;
-    records = λ n r cs e f. let g = in_rows end.tables.records end.tables.states.records end.components n r cs e f in record { operations = g.operations; found = g.found };
+    records = λ n r o e f.
+        let c = giving_at (λ cs. cs) end.components css own n o f in
+        let g = in_rows end.tables.records end.tables.states.records end.components n r c.given e (f ∙ ap (λ x. Some x) c.gives) in
+        record { own = c.given; known = c.gives; operations = g.operations; found = g.found };
   }
 
-  library_table : (n : ℕ) (r : RecordEntry) → slice_get library_records n ≡ Some r → InTable k n r []
+  library_table : (n : ℕ) (r : RecordEntry) → slice_get library_records n ≡ Some r → InTable k n r (Some [])
   library_table n r e =
       let h = of_library n r e in
       let g = lead.grows in
-      back.records n r [] (behind_read start.tables.records end.tables.records n r g.records (subst (λ xs. slice_get xs n ≡ Some r) (sym named.records) e)) (behind_read start.components end.components n [] g.components (subst (λ xs. slice_get xs n ≡ Some []) (sym named.components) h.components))
+      back.records n r (Some []) (behind_read start.tables.records end.tables.records n r g.records (subst (λ xs. slice_get xs n ≡ Some r) (sym named.records) e)) (behind_read start.components end.components n (Some []) g.components (subst (λ xs. slice_get xs n ≡ Some (Some [])) (sym named.components) h.components))
 
   three : 3 ≤ length end.exceptions
   three = let more = behind_length start.exceptions end.exceptions lead.grows.exceptions in let same = ap length named.exceptions in omega (arith, more, same)
 
   has : HasLibrary k
   has = record {
-    records = λ n r e. let x = library_table n r e in let h = of_library n r e in record { is = record { level = r.level; root = r.root; parent = r.parent; own = []; operations = x.operations }; found = x.found; rooted = refl; home = h.home homes.records };
+    records = λ n r e. let x = library_table n r e in let h = of_library n r e in record { is = record { level = r.level; root = r.root; parent = r.parent; own = x.own; operations = x.operations }; found = x.found; rooted = refl; home = h.home homes.records };
     main = refl;
     exceptions = three;
   }
@@ -278,10 +402,10 @@ module _ (t : Tree Definition Use) (broken : Option Fault) (right : DoesRight (s
   site = record { k = k; has = has; outer = []; frame = frame; base = before.tables.entries }
 
   main_body : (f : Frame) (m : Master) → rule.Mastered k [] f (record { in_loop = false; in_handler = false; gives = None }) m → MasteredFor k 0 m
-  main_body f m h = record { is = main_signature; found = refl; others = f; body = h }
+  main_body f m h = record { is = main_signature; found = refl; body = (f, h) }
 
-  main_known : SubprogramKnown k 0 (record { level = 0; kind = kind.Procedure; body = no_body 0 })
-  main_known = record { is = main_signature; found = refl; fine = record { level = refl; result = program.procedure; formals = program.no_more_formals; others = []; body = empty_master k [] [] _ 0 refl } }
+  main_known : SubprogramKnown k 0 (record { level = 0; kind = kind.Procedure; body = None })
+  main_known = record { is = main_signature; found = refl; level = refl; result = program.procedure; formals = program.no_more_formals; body = tt }
 
   known : Known k start
   known = record {
@@ -293,11 +417,11 @@ module _ (t : Tree Definition Use) (broken : Option Fault) (right : DoesRight (s
     components = ap length named.components ∙ ap length (sym named.records);
   }
     where
-      subprograms : (n : ℕ) (p : Subprogram) → slice_get start.subprograms n ≡ Some p → SubprogramKnown k n p
-      subprograms n p e = by_number n (subst (λ xs. slice_get (xs ++ record { level = 0; kind = kind.Procedure; body = no_body 0 } ∷ []) n ≡ Some p) named.subprograms e)
+      subprograms : (n : ℕ) (p : Routine) → slice_get start.subprograms n ≡ Some p → SubprogramKnown k n p
+      subprograms n p e = by_number n (subst (λ xs. slice_get (xs ++ record { level = 0; kind = kind.Procedure; body = None } ∷ []) n ≡ Some p) named.subprograms e)
         where
-          by_number : (n : ℕ) → slice_get (record { level = 0; kind = kind.Procedure; body = no_body 0 } ∷ []) n ≡ Some p → SubprogramKnown k n p
-          by_number zero e = let same : record { level = 0; kind = kind.Procedure; body = no_body 0 } ≡ p = cc in subst (SubprogramKnown k 0) same main_known
+          by_number : (n : ℕ) → slice_get (record { level = 0; kind = kind.Procedure; body = None } ∷ []) n ≡ Some p → SubprogramKnown k n p
+          by_number zero e = let same : record { level = 0; kind = kind.Procedure; body = None } ≡ p = cc in subst (SubprogramKnown k 0) same main_known
           by_number (suc n) e = absurd (cc)
 
       mapped : (ss : List RecordState) → length (map operations_in ss) ≡ length ss
@@ -308,9 +432,9 @@ module _ (t : Tree Definition Use) (broken : Option Fault) (right : DoesRight (s
       states_counted = sym (mapped start.tables.states.records) ∙ ap length named.operations ∙ ap length (sym named.records)
 
   front : Front site start
-  front = record { entries = (beginning_sound.sound k (around_site site) has t.name broken).entries; base = behind_self before.tables.entries; known = known; own = named.own }
+  front = record { entries = (beginning_sound.sound k (around_site site) has t.name names uses).entries; base = behind_self before.tables.entries; known = known; own = named.own }
 
-  begins : IsHere site (here main_around)
+  begins : IsHere site (here around)
   begins = record { level = refl; start = refl; giving = tt }
 
   agrees : Agrees site start lead.made
@@ -322,9 +446,9 @@ module _ (t : Tree Definition Use) (broken : Option Fault) (right : DoesRight (s
   }
     where
       counted : length start.subprograms ≡ 1
-      counted = ap (λ xs. length (xs ++ record { level = 0; kind = kind.Procedure; body = no_body 0 } ∷ [])) named.subprograms
+      counted = ap (λ xs. length (xs ++ record { level = 0; kind = kind.Procedure; body = None } ∷ [])) named.subprograms
 
-  whole_right : Front site end × IfSome (RightMaster main_around (length end.slots) site) judged.0
+  whole_right : Front site end × IfSome (RightMaster around (length end.slots) site) judged.0
   whole_right = lead.right site begins front back agrees
 
   abbrev at_end : Known k end
@@ -333,17 +457,10 @@ module _ (t : Tree Definition Use) (broken : Option Fault) (right : DoesRight (s
   frame_counts : length frame ≡ length end.slots
   frame_counts = let more = lead.grows.slots in omega (arith, more)
 
-  -- the main procedure has its body
-  abbrev left : Draft
-  left = (spec.left before judged).1
-
-  put : Put (Some 0) judged.0 left (spec.whole broken t)
-  put = put_known (Some 0) judged.0 left
-
-  put_right : (n : ℕ) (p : Subprogram) → slice_get put.subprograms n ≡ Some p → SubprogramKnown k n p
-  put_right = put.known k at_end.subprograms main_mastered
+  put_right : (n : ℕ) (p : Routine) → slice_get (main_put t names uses).subprograms n ≡ Some p → SubprogramKnown k n p
+  put_right = (main_put t names uses).known k at_end.subprograms main_mastered
     where
-      by_body : (o : Option Master) → IfSome (RightMaster main_around (length end.slots) site) o → (m : Master) → o ≡ Some m → MasteredFor k 0 m
+      by_body : (o : Option Master) → IfSome (RightMaster around (length end.slots) site) o → (m : Master) → o ≡ Some m → MasteredFor k 0 m
       by_body None h m e = absurd (cc)
       by_body (Some x) h m e = let same : x ≡ m = cc in subst (MasteredFor k 0) same (main_body frame x (h frame_counts))
 
@@ -351,13 +468,10 @@ module _ (t : Tree Definition Use) (broken : Option Fault) (right : DoesRight (s
       main_mastered n m e f = let same : 0 ≡ n = cc in subst (λ j. MasteredFor k j m) same (by_body judged.0 whole_right.1 m f)
 
   abbrev checked : Checked
-  checked = record { exceptions = end.exceptions; records = record_types end.tables.records end.tables.states.records end.components; accesses = []; subprograms = put.subprograms; main = 0 }
-
-  whole_checked : checked_of (spec.whole broken t) ≡ Some checked
-  whole_checked = ap checked_of put.is ∙ ap (checked_with (record left { subprograms = put.subprograms })) (no_access_types end.tables.states.accesses at_end.accesses)
+  checked = record { exceptions = end.exceptions; records = record_types end.tables.records end.tables.states.records css; accesses = []; subprograms = ss; main = 0 }
 
   table_same : k.records ≡ checked.records
-  table_same = table_is end.tables.records end.tables.states.records end.components at_end.states at_end.components
+  table_same = table_is end.tables.records end.tables.states.records end.components css own at_end.states at_end.components
 
   each_record : (n : ℕ) (r : RecordType) (home : Frames) → slice_get checked.records n ≡ Some r → slice_get k.record_homes n ≡ Some home → RecordFine k n r home
   each_record n r home e f =
@@ -376,8 +490,21 @@ module _ (t : Tree Definition Use) (broken : Option Fault) (right : DoesRight (s
       one_record : (x y : RecordType) (o : Option RecordType) → o ≡ Some x → o ≡ Some y → x ≡ y
       one_record x y o h i = cc
 
+  bodied_fine : (n : ℕ) (r : Routine) (p : Subprogram) (is' : Signature) → SubprogramKnown k n r → slice_get k.subprograms n ≡ Some is' → with_its_body r ≡ Some p → SubprogramFine k p is'
+  bodied_fine n r p is' q f e = by_body r.body q.body e
+    where
+      same : q.is ≡ is'
+      same = one_signature q.is is' (slice_get k.subprograms n) q.found f
+
+      by_body : (o : Option Master) → IfSome (BodyFor k q.is) o → subprogram_with r o ≡ Some p → SubprogramFine k p is'
+      by_body None h e = absurd (cc)
+      by_body (Some m) h e =
+          let made : record { level = r.level; kind = r.kind; body = m } ≡ p = cc in
+          subst (λ y. SubprogramFine k y is') made (subst (λ x. SubprogramFine k (record { level = r.level; kind = r.kind; body = m }) x) same
+          (record { level = q.level; result = q.result; formals = q.formals; others = h.0; body = h.1 }))
+
   each_subprogram : (n : ℕ) (p : Subprogram) (is' : Signature) → slice_get checked.subprograms n ≡ Some p → slice_get k.subprograms n ≡ Some is' → SubprogramFine k p is'
-  each_subprogram n p is' e f = let q = put_right n p e in subst (λ x. SubprogramFine k p x) (one_signature q.is is' (slice_get k.subprograms n) q.found f) q.fine
+  each_subprogram n p is' e f = let g = given_at with_its_body (main_put t names uses).subprograms ss bodies n p e in bodied_fine n g.from p is' (put_right n g.from g.found) f g.gives
 
   fits : SettingFits checked k
   fits = record {
@@ -386,11 +513,11 @@ module _ (t : Tree Definition Use) (broken : Option Fault) (right : DoesRight (s
     exceptions = refl;
     record_homes = let more = lead.grows.record_homes (frame ∷ []) in let first = ap length named.records in let counted = table_length end.tables.records end.tables.states.records end.components in let same = ap length table_same in let sum = length-append library_homes homes.records in omega (arith, more, first, counted, same, sum);
     access_homes = let more = lead.grows.access_homes (frame ∷ []) in let first = at_end.accesses in omega (arith, more, first);
-    subprograms = let more = lead.grows.signatures (frame ∷ []) in let counted = put.count in let first = ap (λ xs. length (xs ++ record { level = 0; kind = kind.Procedure; body = no_body 0 } ∷ [])) named.subprograms in omega (arith, more, counted, first);
+    subprograms = let more = lead.grows.signatures (frame ∷ []) in let counted = (main_put t names uses).count in let given = given_length with_its_body (main_put t names uses).subprograms ss bodies in let first = ap (λ xs. length (xs ++ record { level = 0; kind = kind.Procedure; body = None } ∷ [])) named.subprograms in omega (arith, more, counted, given, first);
   }
 
-  checked_well_typed : WellTyped checked
-  checked_well_typed = record {
+  pub checked_well_typed : (as' : List AccessType) → access_types end.tables.states.accesses ≡ Some as' → WellTyped (record checked { accesses = as' })
+  checked_well_typed as' e = subst (λ xs. WellTyped (record checked { accesses = xs })) (sym (no_access_types end.tables.states.accesses as' at_end.accesses e)) (record {
     k = k;
     fits = fits;
     exceptions = three;
@@ -398,17 +525,21 @@ module _ (t : Tree Definition Use) (broken : Option Fault) (right : DoesRight (s
     each_access = λ n x home found at_home. absurd (cc);
     each_subprogram = each_subprogram;
     main = record { found = refl; encloses = refl };
-  }
+  })
 
-  pub whole_well_typed : (p : Checked) → Elaborates broken t (Ok p) → WellTyped p
+module _ (t : Tree Definition Use) (names uses : Option Fault) (right : DoesRight (spec.body t.body)) where
+  pub whole_well_typed : (p : Checked) → Elaborates names uses t (Ok p) → WellTyped p
   whole_well_typed p h = elim h [ inl e ↦ from_verdict e | inr e ↦ absurd (cc) ]
     where
-      from_verdict : Ok p ≡ spec.elaborate broken t → WellTyped p
+      put : Put (Some 0) (main_judged t names uses).0 (main_left t names uses) (spec.whole names uses t)
+      put = main_put t names uses
+
+      from_verdict : Ok p ≡ spec.elaborate names uses t → WellTyped p
       from_verdict e =
-          let known' = verdict_known t.span (spec.whole broken t).notes.early (spec.whole broken t).notes.fault (spec.whole broken t) p e in
-          let same' : Some checked ≡ Some p = sym whole_checked ∙ known' in
-          let same : checked ≡ p = cc in
-          subst WellTyped same checked_well_typed
+          let whole = spec.whole names uses t in
+          let known = verdict_known t.span whole.notes.early whole.notes.fault whole p e in
+          let x = parts_of (record (main_left t names uses) { subprograms = put.subprograms }) p (subst (λ d. checked_of d ≡ Some p) put.is known) in
+          subst WellTyped x.is (checked_well_typed t names uses right x.components x.own x.subprograms x.bodies x.accesses x.access_types)
 
 pub plain_programs_well_typed : (t : Tree Definition Use) → PlainProgramWellTyped t
-plain_programs_well_typed t = record { well_typed = λ broken p plain h. whole_well_typed t broken (plain_body_right t.body plain) p h }
+plain_programs_well_typed t = record { well_typed = λ names uses p plain h. whole_well_typed t names uses (plain_body_right t.body plain) p h }

@@ -26,7 +26,7 @@ use Rattle.ctl_typing.specs.Lookup.{component_among, root_of}
 use Rattle.ctl_types.specs.declared.draft.Around.{Around}
 use Rattle.ctl_types.specs.declared.draft.Draft.{Draft}
 use Rattle.ctl_types.specs.Declarations.{name_kept, operation_named}
-use Rattle.ctl_types.specs.Draft.{asking, asked, declare, enter, with_entries}
+use Rattle.ctl_types.specs.Draft.{asking, asked, declare, enter, is_declared_in, with_entries}
 use Rattle.ctl_types.specs.Elaboration as spec
 use Rattle.ctl_types.specs.Elaboration.{surely}
 use Rattle.ctl_types.specs.Freezing.{changed_each, done_by, with_accesses}
@@ -79,8 +79,8 @@ set_behind (y ∷ xs) more (suc m) x h = let r = set_behind xs more m x (omega (
 abbrev entered : ℕ → ℕ → Entry → List Entry → List Entry
 entered start number x es = if nat_le start number && nat_lt number (length es) then slice_set es number x else es ++ x ∷ []
 
-pub enter_is : (start number : ℕ) (x : Entry) (d : Draft) → enter start number x d ≡ with_entries (entered start number x d.tables.entries) d
-enter_is start number x d = by_test (nat_le start number && nat_lt number (length d.tables.entries))
+pub enter_is : (a : Around) (number : ℕ) (x : Entry) (d : Draft) → enter a number x d ≡ with_entries (entered a.start number x d.tables.entries) d
+enter_is a number x d = by_test (is_declared_in a number d)
   where
     by_test : (b : Bool) → (if b then with_entries (slice_set d.tables.entries number x) d else declare x d) ≡ with_entries (if b then slice_set d.tables.entries number x else d.tables.entries ++ x ∷ []) d
     by_test true = refl
@@ -126,7 +126,7 @@ pub record NextKnown (s : Site) (n : ℕ) (r : RecordEntry) (os : Operations) : 
   pub type : RecordKnown s.k n r
   pub operations : (o : OperationName) (m : ℕ) → user_operation o os ≡ Some m → OperationKnown s.k o n m
 
-module _ (a : Around) (number : ℕ) (r : RecordEntry) (st : RecordState) (cs : List Component) (d : Draft) where
+module _ (a : Around) (number : ℕ) (r : RecordEntry) (st : RecordState) (cs : Option (List Component)) (d : Draft) where
   abbrev n : ℕ
   n = length d.tables.records
 
@@ -143,7 +143,7 @@ module _ (a : Around) (number : ℕ) (r : RecordEntry) (st : RecordState) (cs : 
   with_record = types.enter_type a number (ty.Record n) plain
 
   record_is : with_record ≡ completed behind
-  record_is = ap completed (enter_is a.start number (entry.«Type» (ty.Record n)) plain)
+  record_is = ap completed (enter_is a number (entry.«Type» (ty.Record n)) plain)
 
   record_known : (k : Setting) → Known k d → RecordKnown k n r → ((o : OperationName) (m : ℕ) → user_operation o st.operations ≡ Some m → OperationKnown k o n m) → Known k (completed behind)
   record_known k h g i = record {
@@ -188,6 +188,9 @@ module _ (a : Around) (number : ℕ) (r : RecordEntry) (st : RecordState) (cs : 
 pub front_unowned : (s : Site) (d : Draft) → Front s d → Front s (types.without_own d)
 front_unowned s d f = record { entries = f.entries; base = f.base; known = known_same s.k d (types.without_own d) refl refl refl refl f.known; own = refl }
 
+one_row : {A : Type 0} (xs ys : List A) → Some xs ≡ Some ys → xs ≡ ys
+one_row xs ys h = cc
+
 no_component : (own : List ComponentEntry) (name : List ℕ) (i : ℕ) (t : Ty) → own ≡ [] → component_among name own ≡ Some (i, t) → ⊥
 no_component [] name i t e h = absurd (cc)
 no_component (c ∷ cs) name i t e h = absurd (cc)
@@ -211,7 +214,7 @@ module _ (a : Around) (s : Site) (here' : IsHere s (here a)) (d : Draft) (f : Fr
   parent_root : HasRoot s.k p root
   parent_root = let q = f.known.records p r found in record { is = q.is; found = q.found; rooted = q.rooted ∙ sym rooted }
 
-  inherited_known : slice_get s.k.record_homes m ≡ Some env → (x : InTable s.k m is' []) → (o : OperationName) (n : ℕ) → user_operation o (operations_of (slice_get d.tables.states.records p)) ≡ Some n → OperationKnown s.k o m n
+  inherited_known : slice_get s.k.record_homes m ≡ Some env → (x : InTable s.k m is' (Some [])) → (o : OperationName) (n : ℕ) → user_operation o (operations_of (slice_get d.tables.states.records p)) ≡ Some n → OperationKnown s.k o m n
   inherited_known home x o n e =
       let q = f.known.operations o p n (ap (user_operation o) (sym (read_at d.tables.states.records p)) ∙ e) in
       let same = one_home q.home has.home (slice_get s.k.record_homes p) q.at_home has.at_home in
@@ -227,10 +230,10 @@ module _ (a : Around) (s : Site) (here' : IsHere s (here a)) (d : Draft) (f : Fr
         result = q.result;
       }
 
-  pub extension_known : slice_get s.k.record_homes m ≡ Some env → InTable s.k m is' [] → NextKnown s m is' (operations_of (slice_get d.tables.states.records p))
+  pub extension_known : slice_get s.k.record_homes m ≡ Some env → InTable s.k m is' (Some []) → NextKnown s m is' (operations_of (slice_get d.tables.states.records p))
   extension_known home x = record {
     type = record {
-      is = record { level = a.level; root = root; parent = Some p; own = []; operations = x.operations };
+      is = record { level = a.level; root = root; parent = Some p; own = x.own; operations = x.operations };
       home = env;
       found = x.found;
       at_home = home;
@@ -239,7 +242,7 @@ module _ (a : Around) (s : Site) (here' : IsHere s (here a)) (d : Draft) (f : Fr
       same_level = refl;
       level = here'.level;
       parent = program.extends (below d.tables.records p r found) has parent_root;
-      added = program.no_more_components;
+      added = subst (λ cs. program.Added s.k env m cs) (one_row [] x.own x.known) program.no_more_components;
       own = λ name i c e. absurd (no_component d.own name i c f.own e);
     };
     operations = inherited_known home x;
@@ -247,8 +250,8 @@ module _ (a : Around) (s : Site) (here' : IsHere s (here a)) (d : Draft) (f : Fr
 
 module _ (a : Around) (place : Span) (number : ℕ) where
   -- nothing is known of a type whose parent is wrong
-  unknown_leads : (d : Draft) (x : List Checked_item) → ((s : Site) → RightItems a s x) → Leads (here a) (RightItems a) d (Some x, enter a.start number entry.Unknown (types.without_own d))
-  unknown_leads d x right = subst (λ e. Leads (here a) (RightItems a) d (Some x, e)) (sym (enter_is a.start number entry.Unknown (types.without_own d))) (record {
+  unknown_leads : (d : Draft) (x : List Checked_item) → ((s : Site) → RightItems a s x) → Leads (here a) (RightItems a) d (Some x, enter a number entry.Unknown (types.without_own d))
+  unknown_leads d x right = subst (λ e. Leads (here a) (RightItems a) d (Some x, e)) (sym (enter_is a number entry.Unknown (types.without_own d))) (record {
     made = nothing;
     grows = let g = grows_self d in record { records = g.records; components = g.components; exceptions = g.exceptions; slots = g.slots; record_homes = g.record_homes; access_homes = g.access_homes; signatures = g.signatures };
     right = λ s i f b g. (front_entered s a.start number entry.Unknown (types.without_own d) i.start tt (front_unowned s d f), right s);
@@ -267,7 +270,7 @@ module _ (a : Around) (place : Span) (number : ℕ) where
       let next = asking e in
       let all : Still d next = still_further d e next q.still (still_noted e e.returning e.waiting next.notes) in
       still_leads (here a) (RightItems a) d next (surely (types.extend a place number t [] (ls, e))) all
-      (record_leads a number (types.record_entry a root limited (Some t) next) (types.inherited_state (slice_get e.tables.states.records t)) [] next (ls ++ made.Silent ∷ [])
+      (record_leads a number (types.record_entry a root limited (Some t) next) (types.inherited_state (slice_get e.tables.states.records t)) (Some []) next (ls ++ made.Silent ∷ [])
       (λ s f. elaborated_joined s.k (around_site s) ls (made.Silent ∷ []) (subst (λ xs. RightItems a s xs) (sym (q.layers (sym all.accesses ∙ f.known.accesses))) rule.no_more_items) (rule.one_more_item rule.silent rule.no_more_items))
       (λ s i f home x.
           let p = parent s (front_still s next d (still_back d next all) f) in

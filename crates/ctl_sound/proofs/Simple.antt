@@ -33,7 +33,7 @@ use Rattle.ctl_typing.specs.declared.found.Place.{Place}
 use Rattle.ctl_typing.specs.declared.found.Found.{Found}
 use Rattle.ctl_typing.specs.declared.found.Found.TheVariants as is
 use Rattle.ctl_typing.specs.Judgement.{Judgement, known, but, wrong, noting, ◌>>=◌, both, following}
-use Rattle.ctl_typing.specs.Lookup.{same, root_of}
+use Rattle.ctl_typing.specs.Lookup.{same, root_of, is_limited}
 use Rattle.ctl_typing.specs.Typing as expr
 use Rattle.ctl_typing.specs.Typing.{Sense}
 use Rattle.ctl_types.specs.Statements as spec
@@ -114,7 +114,7 @@ module _ (k : Setting) (env : Frames) (tables : Tables) (sound : Sound k env tab
     pub in_view : InView k env t.ty
 
   limited_kept_good : (place : Span) (t : Target) → TargetFine t → Gives TargetFine (spec.limited_kept tables place t)
-  limited_kept_good place t h = by_test (spec.is_limited tables t.ty)
+  limited_kept_good place t h = by_test (is_limited tables t.ty)
     where
       by_test : (b : Bool) → Gives TargetFine (if b then but fault.Limited place t else known t)
       by_test true s = h
@@ -282,10 +282,10 @@ module _ (k : Setting) (env : Frames) (tables : Tables) (sound : Sound k env tab
 
   operation_of_good : (a : Around) (place : Span) (o : OperationName) (xs : List Sense) (t : Ty) → InView k env t → All Right xs → Gives (Does a) (spec.operation_of tables place o xs t)
   operation_of_good a place o xs (ty.Record t) v g =
-      let is_limited = spec.is_limited tables (ty.Record t) in
+      let limited = is_limited tables (ty.Record t) in
       let q = spec.user_operation o (spec.operations_of (slice_get tables.states.records t)) in
-      tested (Does a) (spec.provides (root_of (slice_get tables.records t)) is_limited o) (spec.operation_by tables place o (ty.Record t) q xs) (wrong fault.Type place)
-      (λ h. operation_by_good a place o t q xs refl v (provided o t is_limited (slice_get tables.records t) refl h) g) (λ s. tt)
+      tested (Does a) (spec.provides (root_of (slice_get tables.records t)) limited o) (spec.operation_by tables place o (ty.Record t) q xs) (wrong fault.Type place)
+      (λ h. operation_by_good a place o t q xs refl v (provided o t limited (slice_get tables.records t) refl h) g) (λ s. tt)
   operation_of_good a place o xs ty.Integer v g = λ s. tt
   operation_of_good a place o xs ty.Count v g = λ s. tt
   operation_of_good a place o xs ty.Boolean v g = λ s. tt

@@ -1,12 +1,12 @@
 -- Places of the text: the program that is found in the end with the masters around a place of it, and what holds of the tables there.
-use Rattle.std.specs.Prelude.{◌≡◌, ◌≤◌, ℕ, zero, suc, List, [], ◌∷◌, ◌++◌, map, length, slice_get, Option, Some, None}
+use Rattle.std.specs.Prelude.{◌≡◌, ◌≤◌, ℕ, zero, suc, false, List, [], ◌∷◌, ◌++◌, map, length, slice_get, Option, Some, None}
 use Rattle.ctl_program.specs.declared.types.Ty.{Ty}
 use Rattle.ctl_program.specs.declared.types.Ty.TheVariants as ty
 use Rattle.ctl_program.specs.declared.types.Component.{Component}
 use Rattle.ctl_program.specs.declared.types.Operations.{Operations}
 use Rattle.ctl_program.specs.declared.types.RecordType.{RecordType}
+use Rattle.ctl_program.specs.declared.statement.Master.{Master}
 use Rattle.ctl_program.specs.declared.expression.Step.TheVariants as step
-use Rattle.ctl_program.specs.declared.program.Subprogram.{Subprogram}
 use Rattle.ctl_syntax.specs.declared.denoted.OperationName.{OperationName}
 use Rattle.ctl_typing.specs.declared.table.ComponentEntry.{ComponentEntry}
 use Rattle.ctl_typing.specs.declared.table.Entry.{Entry}
@@ -16,10 +16,12 @@ use Rattle.ctl_types.specs.declared.draft.Around.{Around}
 use Rattle.ctl_types.specs.declared.draft.Draft.{Draft}
 use Rattle.ctl_types.specs.declared.draft.Giving.{Giving}
 use Rattle.ctl_types.specs.declared.draft.Giving.TheVariants as giving
+use Rattle.ctl_types.specs.declared.draft.Routine.{Routine}
 use Rattle.ctl_types.specs.Statements.{user_operation, operations_of, operation_formals}
-use Rattle.ctl_well_typed.specs.Setting.{Frame, Frames, Encloses, Signature, Setting, InView}
+use Rattle.ctl_well_typed.specs.Setting.{OfFormal, Frame, Frames, Encloses, Signature, Setting, InView}
 use Rattle.ctl_well_typed.specs.Types.{Descends, Leads}
-use Rattle.ctl_well_typed.specs.Programs.{Parent, Added, SubprogramFine}
+use Rattle.ctl_well_typed.specs.Programs.{Parent, Added, FormalsInView, Results}
+use Rattle.ctl_well_typed.specs.Statements.{Mastered}
 use Rattle.ctl_sound.specs.Known.{IfSome}
 use Rattle.ctl_sound.specs.Library.{HasLibrary}
 use Rattle.ctl_sound.specs.Sound.{EntryFine, formal_of}
@@ -86,10 +88,18 @@ pub record OperationKnown (k : Setting) (o : OperationName) (t s : ℕ) : Type 0
   pub formals : is.formals ≡ map formal_of (operation_formals o (ty.Record root))
   pub result : is.result ≡ None
 
-pub record SubprogramKnown (k : Setting) (n : ℕ) (p : Subprogram) : Type 0 where
+-- a body for this signature
+abbrev pub BodyFor : Setting → Signature → Master → Type 0
+BodyFor k is m = (others : Frame) × Mastered k is.home (map OfFormal is.formals ++ others) (record { in_loop = false; in_handler = false; gives = is.result }) m
+
+-- a subprogram, whose body is right where it has come
+pub record SubprogramKnown (k : Setting) (n : ℕ) (p : Routine) : Type 0 where
   pub is : Signature
   pub found : slice_get k.subprograms n ≡ Some is
-  pub fine : SubprogramFine k p is
+  pub level : p.level ≡ length is.home
+  pub result : Results k is.home is.result p.kind
+  pub formals : FormalsInView k is.home is.formals
+  pub body : IfSome (BodyFor k is) p.body
 
 abbrev pub no_operations : Operations
 no_operations = operations_of None
@@ -103,7 +113,7 @@ operations_at (o ∷ os) (suc n) = operations_at os n
 pub record Known (k : Setting) (d : Draft) : Type 0 where
   pub records : (t : ℕ) (r : RecordEntry) → slice_get d.tables.records t ≡ Some r → RecordKnown k t r
   pub operations : (o : OperationName) (t s : ℕ) → user_operation o (operations_at (map operations_in d.tables.states.records) t) ≡ Some s → OperationKnown k o t s
-  pub subprograms : (n : ℕ) (p : Subprogram) → slice_get d.subprograms n ≡ Some p → SubprogramKnown k n p
+  pub subprograms : (n : ℕ) (p : Routine) → slice_get d.subprograms n ≡ Some p → SubprogramKnown k n p
   pub accesses : length d.tables.states.accesses ≡ 0
   pub states : length d.tables.states.records ≡ length d.tables.records
   pub components : length d.components ≡ length d.tables.records
@@ -117,15 +127,17 @@ pub record Front (s : Site) (d : Draft) : Type 0 where
 
 -- Behind a construct --------------------------------------------------------------------------------
 
--- a record type of the tables is in the program, with some operations
-pub record InTable (k : Setting) (t : ℕ) (r : RecordEntry) (cs : List Component) : Type 0 where
+-- a record type of the tables is in the program, with its components and some operations
+pub record InTable (k : Setting) (t : ℕ) (r : RecordEntry) (cs : Option (List Component)) : Type 0 where
+  pub own : List Component
+  pub known : cs ≡ Some own
   pub operations : Operations
-  pub found : slice_get k.records t ≡ Some (record { level = r.level; root = r.root; parent = r.parent; own = cs; operations = operations })
+  pub found : slice_get k.records t ≡ Some (record { level = r.level; root = r.root; parent = r.parent; own = own; operations = operations })
 
 -- the program has what is in the tables
 pub record Back (k : Setting) (d : Draft) : Type 0 where
   pub exceptions : length d.exceptions ≤ k.exceptions
-  pub records : (t : ℕ) (r : RecordEntry) (cs : List Component) → slice_get d.tables.records t ≡ Some r → slice_get d.components t ≡ Some cs → InTable k t r cs
+  pub records : (t : ℕ) (r : RecordEntry) (cs : Option (List Component)) → slice_get d.tables.records t ≡ Some r → slice_get d.components t ≡ Some cs → InTable k t r cs
 
 -- the program has what a construct makes, from this draft on
 pub record Agrees (s : Site) (d : Draft) (m : Made) : Type 0 where

@@ -149,7 +149,7 @@ first_stays tables u = by_denoted u.denoted
     by_denoted (denoted.Declared n level) = entry_stays u.span n (slice_get tables.entries n)
     by_denoted (denoted.Library l) = library_stays u.span l
     by_denoted (denoted.Operation o) = wrong_stays Found fault.Type u.span
-    by_denoted denoted.Unknown = silent_stays Found
+    by_denoted denoted.Unknown = wrong_stays Found fault.Unknown u.span
 
 result_stays : (place : Span) (p : Profile) (actuals : List Actual) (r : Option Ty) → p.result ≡ r → Stays (spec.result_found place p actuals)
 result_stays place p actuals None e n = rw e (wrong_stays Found fault.Type place n)
@@ -244,19 +244,20 @@ viewed_as_stays : (tables : Tables) (place : Span) (t : ℕ) (p : Place) (s : Ty
 viewed_as_stays tables place t p (ty.Record s) = if_stays (descends tables t s) (known (is.View (spec.as_type (ty.Record t) p))) (wrong fault.Type place) (λ n h. h) (wrong_stays Found fault.Type place)
 viewed_as_stays tables place t p _ = wrong_stays Found fault.Type place
 
-viewed_stays : (tables : Tables) (place : Span) (t : ℕ) (f : Found) → Stays (spec.viewed tables place t f)
-viewed_stays tables place t (is.Part p) = viewed_as_stays tables place t p p.ty
-viewed_stays tables place t _ = wrong_stays Found fault.Type place
+viewed_stays : (tables : Tables) (place inner : Span) (t : ℕ) (f : Found) → Stays (spec.viewed tables place inner t f)
+viewed_stays tables place inner t (is.Part p) = viewed_as_stays tables place t p p.ty
+viewed_stays tables place inner t (is.View p) = wrong_stays Found fault.Type inner
+viewed_stays tables place inner t _ = wrong_stays Found fault.Type place
 
-viewed_by_stays : (tables : Tables) (place : Span) (t : ℕ) (o : Option (Tables → Judgement Found)) → FoundStays o → Stays (spec.viewed_by tables place t o)
-viewed_by_stays tables place t None h = wrong_stays Found fault.Type place
-viewed_by_stays tables place t (Some name) h = next_stays (name tables) (spec.viewed tables place t) (h tables) (viewed_stays tables place t)
+viewed_by_stays : (tables : Tables) (place inner : Span) (t : ℕ) (o : Option (Tables → Judgement Found)) → FoundStays o → Stays (spec.viewed_by tables place inner t o)
+viewed_by_stays tables place inner t None h = wrong_stays Found fault.Type place
+viewed_by_stays tables place inner t (Some name) h = next_stays (name tables) (spec.viewed tables place inner t) (h tables) (viewed_stays tables place inner t)
 
 converted_stays : (tables : Tables) (place : Span) (t : Ty) (x : Sense) → Keeps x → Stays (spec.converted tables place t x)
 converted_stays tables place ty.Integer x g = next_stays (x.judged tables asking.Number) (spec.converted_number ty.Integer) (g.judged tables asking.Number) (λ r n h. h)
 converted_stays tables place ty.Count x g = next_stays (x.judged tables asking.Number) (spec.converted_number ty.Count) (g.judged tables asking.Number) (λ r n h. h)
 converted_stays tables place (ty.Access a) x g = next_stays (x.judged tables asking.Anything) (spec.converted_access tables place a) (g.judged tables asking.Anything) (access_converted_stays tables place a)
-converted_stays tables place (ty.Record t) x g = viewed_by_stays tables place t x.bare g.bare
+converted_stays tables place (ty.Record t) x g = viewed_by_stays tables place x.place t x.bare g.bare
 converted_stays tables place _ x g = wrong_stays Found fault.Type place
 
 subpool_in_stays : (place : Span) (which : SubpoolFunction) (p : Place) (t : Ty) → Stays (spec.subpool_in place which p t)

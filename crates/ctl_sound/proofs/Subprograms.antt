@@ -9,10 +9,9 @@ use Rattle.ctl_program.specs.declared.types.Operations.{Operations}
 use Rattle.ctl_program.specs.declared.types.Ty.{Ty}
 use Rattle.ctl_program.specs.declared.types.Ty.TheVariants as ty
 use Rattle.ctl_program.specs.declared.operators.SubprogramKind.{SubprogramKind}
-use Rattle.ctl_program.specs.declared.program.Subprogram.{Subprogram}
+use Rattle.ctl_types.specs.declared.draft.Routine.{Routine}
 use Rattle.ctl_program.specs.declared.statement.Item.{Item as Checked_item}
 use Rattle.ctl_program.specs.declared.statement.Item.TheVariants as made
-use Rattle.ctl_program.specs.declared.statement.Master.{Master, roll-Master}
 use Rattle.ctl_syntax.specs.declared.denoted.Definition.{Definition}
 use Rattle.ctl_syntax.specs.declared.denoted.OperationName.{OperationName}
 use Rattle.ctl_syntax.specs.declared.denoted.OperationName.TheVariants.{Initialize, Adjust, Finalize, Allocate, Deallocate}
@@ -38,7 +37,7 @@ use Rattle.ctl_types.specs.declared.draft.Draft.{Draft}
 use Rattle.ctl_types.specs.declared.draft.Role.{Role}
 use Rattle.ctl_types.specs.declared.draft.Role.TheVariants as role
 use Rattle.ctl_types.specs.Declarations as decl
-use Rattle.ctl_types.specs.Draft.{declare, fault_when}
+use Rattle.ctl_types.specs.Draft.{declare, fault_when, is_declared_in}
 use Rattle.ctl_types.specs.Freezing.{changed, changed_from, with_records, is_free_type}
 use Rattle.ctl_types.specs.Statements.{user_operation, operation_formals}
 use Rattle.ctl_well_typed.specs.Setting.{Holding, OfFormal, Formal, Frame, Frames, Encloses, Signature, Setting, InView}
@@ -267,17 +266,6 @@ first_usable k env Finalize t h = h.0
 first_usable k env Allocate t h = h.0
 first_usable k env Deallocate t h = h.0
 
-slots_count : (fs : List FormalEntry) → length (map OfFormal (map formal_of fs) ++ []) ≡ length fs
-slots_count [] = refl
-slots_count (f ∷ fs) = ap suc (slots_count fs)
-
-heading_count : (h : Heading) → length (map OfFormal (map formal_of (formals_in h)) ++ []) ≡ decl.formal_count h
-heading_count None = refl
-heading_count (Some h) = slots_count h.0
-
-pub empty_master : (k : Setting) (env : Frames) (f : Frame) (w : rule.Around) (n : ℕ) → length f ≡ n → rule.Mastered k env f w (decl.no_body n)
-empty_master k env f w n e = subst (λ m. rule.Mastered k env f w (decl.no_body m)) e (rule.master rule.no_more_items rule.no_more_statements rule.no_more_handlers)
-
 module _ (a : Around) (m : Option (Mark Use)) (h : Heading) (kind : HeadingKind m h) (s : Site) (i : IsHere s (here a)) (usable : HeadingUsable s h) (n : ℕ) (found : slice_get s.k.subprograms n ≡ Some (signature_of m h (around_site s))) where
   abbrev env : Frames
   env = around_site s
@@ -292,18 +280,8 @@ module _ (a : Around) (m : Option (Mark Use)) (h : Heading) (kind : HeadingKind 
   usable_formals None u = program.no_more_formals
   usable_formals (Some y) u = formals_usable s.k env y.0 u.0
 
-  without_body : SubprogramKnown s.k n (record { level = a.level; kind = decl.kind_of m; body = decl.no_body (decl.formal_count h) })
-  without_body = record {
-    is = signature_of m h env;
-    found = found;
-    fine = record {
-      level = i.level;
-      result = results_of m h kind usable;
-      formals = usable_formals h usable;
-      others = [];
-      body = empty_master s.k env (map OfFormal (map formal_of (formals_in h)) ++ []) _ (decl.formal_count h) (heading_count h);
-    };
-  }
+  without_body : SubprogramKnown s.k n (record { level = a.level; kind = decl.kind_of m; body = None })
+  without_body = record { is = signature_of m h env; found = found; level = i.level; result = results_of m h kind usable; formals = usable_formals h usable; body = tt }
 
   -- it overrides an operation of a type that is declared here
   overriding_known : (d : Draft) → Front s d → (o : OperationName) (t : ℕ) (fs : List FormalEntry) (r : Option Ty) → h ≡ Some (fs, r) → Overriding d.tables a.level fs r o t → OperationKnown s.k o t n
@@ -349,7 +327,7 @@ module _ (a : Around) (x : Specification Definition Use) (h : Heading) (kind : H
   next = length d.subprograms
 
   abbrev added : Draft → Draft
-  added e = decl.add_subprogram a (decl.kind_of x.result) (decl.formal_count h) e
+  added e = decl.add_subprogram a (decl.kind_of x.result) e
 
   abbrev own_entry : Entry
   own_entry = decl.entry_of next (decl.formal_names x.formals) h
@@ -401,7 +379,7 @@ both_hold true true h = (refl, refl)
 both_hold true false h = absurd (cc)
 both_hold false b h = absurd (cc)
 
-of_level : (level : ℕ) (o : Option Subprogram) → decl.is_of_level level o ≡ true → (q : Subprogram) × ((o ≡ Some q) × (q.level ≡ level))
+of_level : (level : ℕ) (o : Option Routine) → decl.is_of_level level o ≡ true → (q : Routine) × ((o ≡ Some q) × (q.level ≡ level))
 of_level level None h = absurd (cc)
 of_level level (Some q) h = let same_level : q.level ≡ level = grind (arith, nat_tests) in (q, (refl, same_level))
 
@@ -416,7 +394,7 @@ module _ (a : Around) (s : Site) (i : IsHere s (here a)) (d : Draft) (f : Front 
       let known = f.known.subprograms p.subprogram q.0 q.1.0 in
       let same = one_signature known.is fine.is (slice_get s.k.subprograms p.subprogram) known.found fine.callable.found in
       let counted = ap (λ x. length x.home) same in
-      let l1 = known.fine.level in
+      let l1 = known.level in
       let l2 = q.1.1 in
       let l3 = i.level in
       encloses_all fine.is.home (around_site s) fine.callable.encloses (omega (arith, counted, l1, l2, l3))
@@ -458,7 +436,7 @@ module _ (a : Around) (place : Span) (x : Specification Definition Use) (h : Hea
   completed_leads (Some entry.Unknown) fine = nothing_completed
 
   pub subprogram_leads : ((s : Site) → IsHere s (here a) → Front s d → HeadingUsable s h) → Leads (here a) (Numbered h) d (decl.subprogram_of a place x (h, d))
-  subprogram_leads usable = by_test (nat_lt x.name.number (length d.tables.entries))
+  subprogram_leads usable = by_test (is_declared_in a x.name.number d)
     where
       by_test : (b : Bool) → Leads (here a) (Numbered h) d (if b then decl.completed a place x (slice_get d.tables.entries x.name.number) (h, d) else decl.introduce a x (h, d))
       by_test true = completed_leads (slice_get d.tables.entries x.name.number) (λ s f. f.entries x.name.number)

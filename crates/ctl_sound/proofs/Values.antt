@@ -1,5 +1,5 @@
 -- What the check makes of each expression is well typed.
-use Rattle.std.proofs.Common.{◌≡◌, refl, sym, ap, ◌∙◌, subst, ℕ, nat_lt, Bool, true, false, ◌&&◌, if◌then◌else◌, List, [], ◌∷◌, ◌++◌, map, Option, Some, None, option_map}
+use Rattle.std.proofs.Common.{◌≡◌, refl, sym, ap, ◌∙◌, subst, ℕ, nat_lt, Bool, true, false, ◌&&◌, if◌then◌else◌, List, [], ◌∷◌, ◌++◌, map, slice_get, Option, Some, None, option_map}
 use Rattle.ctl_tree.specs.declared.span.Span.{Span}
 use Rattle.ctl_tree.specs.declared.fault.FaultCode.TheVariants as fault
 use Rattle.ctl_program.specs.declared.types.Ty.{Ty}
@@ -25,7 +25,7 @@ use Rattle.ctl_typing.specs.declared.found.Typed.{Typed as Typed_value}
 use Rattle.ctl_typing.specs.declared.found.Found.{Found}
 use Rattle.ctl_typing.specs.declared.found.Found.TheVariants as is
 use Rattle.ctl_typing.specs.Judgement.{Judgement, known, but, wrong, doing, ◌>>=◌, both, following}
-use Rattle.ctl_typing.specs.Lookup.{same, designated_by}
+use Rattle.ctl_typing.specs.Lookup.{same, designated_by, is_limited, has_subpools}
 use Rattle.ctl_typing.specs.Typing as spec
 use Rattle.ctl_typing.specs.Typing.{Sense, sense, step_of, adopted}
 use Rattle.ctl_well_typed.specs.Setting.{Frames, Setting, InView, HasAccess}
@@ -96,19 +96,34 @@ module _ (k : Setting) (env : Frames) (tables : Tables) (sound : Sound k env tab
   abbrev RightHandle : Option (Name Use Sense) → Type 0
   RightHandle o = IfSome (λ (u : Name Use Sense). All (RightSuffix k env tables sound) u.suffixes) o
 
-  handle_good : (h : Name Use Sense) → All (RightSuffix k env tables sound) h.suffixes → Gives (Value ty.Handle) (spec.handle_judged tables h)
-  handle_good h g = next (FoundFine k env) (Value ty.Handle) (spec.found h.first h.suffixes tables >>= spec.settled tables h.first.span) (spec.handle_found h.first.span) (settled_found k env tables sound h.first h.suffixes h.first.span g) (handle_found_good h.first.span)
+  in_subpools_good : (place : Span) (asked : Asked) (x : Expr) → Value ty.Handle x → Gives (Value ty.Handle) (spec.in_subpools tables place asked x)
+  in_subpools_good place (asking.Exactly (ty.Access a)) x h = tested (Value ty.Handle) (has_subpools tables (slice_get tables.states.accesses a)) (known x) (but fault.Pool place x) (λ q s. h) (λ s. h)
+  in_subpools_good place _ x h = λ s. h
+
+  handle_good : (asked : Asked) (h : Name Use Sense) → All (RightSuffix k env tables sound) h.suffixes → Gives (Value ty.Handle) (spec.handle_judged tables asked h)
+  handle_good asked h g =
+      let place = h.first.span in
+      next (Value ty.Handle) (Value ty.Handle) (spec.found h.first h.suffixes tables >>= spec.settled tables place >>= spec.handle_found place) (spec.in_subpools tables place asked)
+      (next (FoundFine k env) (Value ty.Handle) (spec.found h.first h.suffixes tables >>= spec.settled tables place) (spec.handle_found place) (settled_found k env tables sound h.first h.suffixes place g) (handle_found_good place))
+      (in_subpools_good place asked)
 
   abbrev Maybe : Ty → Option Expr → Type 0
   Maybe t o = Perhaps k env o t
 
-  held_good : (o : Option (Name Use Sense)) → RightHandle o → Gives (Maybe ty.Handle) (spec.held (option_map (spec.handle_judged tables) o))
-  held_good None h = λ s. rule.left_out
-  held_good (Some u) h = next (Value ty.Handle) (Maybe ty.Handle) (spec.handle_judged tables u) (λ a. known (Some a)) (handle_good u h) (λ a i s. rule.given i)
+  held_good : (asked : Asked) (o : Option (Name Use Sense)) → RightHandle o → Gives (Maybe ty.Handle) (spec.held (option_map (spec.handle_judged tables asked) o))
+  held_good asked None h = λ s. rule.left_out
+  held_good asked (Some u) h = next (Value ty.Handle) (Maybe ty.Handle) (spec.handle_judged tables asked u) (λ a. known (Some a)) (handle_good asked u h) (λ a i s. rule.given i)
 
-  value_given : (t : Ty) (o : Option Sense) → InView k env t → IfSome Right o → Gives (Maybe t) (spec.value_judged tables (Some t) o)
-  value_given t None v h = λ s. rule.left_out
-  value_given t (Some x) v h = next (Fine k env (asking.Exactly t) x.named) (Maybe t) (x.judged tables (asking.Exactly t)) (λ r. known (Some r.value)) (h.judged (asking.Exactly t) v) (λ r i s. rule.given (subst (λ u. Value u r.value) (sym (same_is t r.ty i.met)) i.typed))
+  value_asked_is : (place : Span) (t : Ty) → Gives (λ (a : Asked). a ≡ asking.Exactly t) (spec.value_asked tables place (Some t))
+  value_asked_is place t = tested (λ (a : Asked). a ≡ asking.Exactly t) (is_limited tables t) (but fault.Limited place (asking.Exactly t)) (known (asking.Exactly t)) (λ q s. refl) (λ s. refl)
+
+  value_given : (place : Span) (t : Ty) (o : Option Sense) → InView k env t → IfSome Right o → Gives (Maybe t) (spec.value_judged tables place (Some t) o)
+  value_given place t None v h = λ s. rule.left_out
+  value_given place t (Some x) v h =
+      let judged : Gives (Fine k env (asking.Exactly t) x.named) (x.judged tables (asking.Exactly t)) = h.judged (asking.Exactly t) v in
+      next (Fine k env (asking.Exactly t) x.named) (Maybe t) (spec.value_asked tables place (Some t) >>= x.judged tables) (λ r. known (Some r.value))
+      (next (λ (a : Asked). a ≡ asking.Exactly t) (Fine k env (asking.Exactly t) x.named) (spec.value_asked tables place (Some t)) (x.judged tables) (value_asked_is place t) (λ a q. subst (λ b. Gives (Fine k env (asking.Exactly t) x.named) (x.judged tables b)) (sym q) judged))
+      (λ r i s. rule.given (subst (λ u. Value u r.value) (sym (same_is t r.ty i.met)) i.typed))
 
   pub record Allocates (asked : Asked) (t : Ty) (a : ℕ) : Type 0 where
     pub asks : asked ≡ asking.Exactly (ty.Access a)
@@ -139,11 +154,11 @@ module _ (k : Setting) (env : Frames) (tables : Tables) (sound : Sound k env tab
 
   new_good : (place : Span) (handle : Option (Name Use Sense)) (m : Mark Use) (value : Option Sense) (asked : Asked) → RightHandle handle → IfSome Right value → AskedFine k env asked → Gives (Fine k env asked Unnamed) (spec.new_judged place handle m value tables asked)
   new_good place handle m value asked h i q =
-      let p = spec.held (option_map (spec.handle_judged tables) handle) in
+      let p = spec.held (option_map (spec.handle_judged tables asked) handle) in
       let mark = spec.mark_judged tables m.first m.rest in
-      let rest = following mark (λ t. spec.value_judged tables t value) in
+      let rest = following mark (λ t. spec.value_judged tables place t value) in
       next (λ (r : Option Expr × (Ty × Option Expr)). Maybe ty.Handle r.0 × (InView k env r.1.0 × Maybe r.1.0 r.1.1)) (Fine k env asked Unnamed) (both p rest) (λ r. spec.allocates tables place asked r.1.0 >>= (λ a. doing (spec.making a r.1.0 r.1.1) (record { ty = ty.Access a; value = e.New a r.1.0 r.0 r.1.1 })))
-      (both_give (Maybe ty.Handle) (λ (r : Ty × Option Expr). InView k env r.0 × Maybe r.0 r.1) p rest (held_good handle h) (following_give (InView k env) Maybe mark (λ t. spec.value_judged tables t value) (mark_good m.first m.rest) (λ t v. value_given t value v i)))
+      (both_give (Maybe ty.Handle) (λ (r : Ty × Option Expr). InView k env r.0 × Maybe r.0 r.1) p rest (held_good asked handle h) (following_give (InView k env) Maybe mark (λ t. spec.value_judged tables place t value) (mark_good m.first m.rest) (λ t v. value_given place t value v i)))
       (λ r g. next (Allocates asked r.1.0) (Fine k env asked Unnamed) (spec.allocates tables place asked r.1.0) (λ a. doing (spec.making a r.1.0 r.1.1) (record { ty = ty.Access a; value = e.New a r.1.0 r.0 r.1.1 })) (allocates_good place asked r.1.0) (λ a l. allocated_good asked r.1.0 a r.0 r.1.1 l q g.1.0 g.0 g.1.1))
 
   -- What is put (A.10.7) --------------------------------------------------------------------------------------

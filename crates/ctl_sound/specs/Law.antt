@@ -80,4 +80,4 @@ pub record DeclarationsKeepFaults (o : Objects Definition Use) (s : Specificatio
 -- the program that the check gives of a tree is well typed, where the tree declares nothing but objects, exceptions, extensions without components,
 -- and subprograms with their bodies
 pub record PlainProgramWellTyped (t : Tree Definition Use) : Type 0 where
-  pub well_typed : (broken : Option Fault) (p : Checked) → PlainBody t.body → Elaborates broken t (Ok p) → WellTyped p
+  pub well_typed : (names uses : Option Fault) (p : Checked) → PlainBody t.body → Elaborates names uses t (Ok p) → WellTyped p

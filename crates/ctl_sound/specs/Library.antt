@@ -25,4 +25,4 @@ pub record HasLibrary (k : Setting) : Type 0 where
 
 -- the tables before the text are sound
 pub record BeginningSound : Type 0 where
-  pub sound : (k : Setting) (env : Frames) → HasLibrary k → (name : Definition) (broken : Option Fault) → Sound k env (main_declared name (begun broken)).tables
+  pub sound : (k : Setting) (env : Frames) → HasLibrary k → (name : Definition) (names uses : Option Fault) → Sound k env (main_declared name (begun names uses)).tables

@@ -14,7 +14,7 @@ fn fault_of(alloc: Global, source: &str) -> Option<(FaultCode, usize, usize)> {
         Ok(tokens) => match parse(alloc, &tokens) {
             Err(fault) => Some(fault),
             Ok(tree) => match named(alloc, &tree) {
-                Ok((_, fault)) => fault,
+                Ok((_, broken)) => broken.names,
                 Err(_) => Some(Fault::memory()),
             },
         },

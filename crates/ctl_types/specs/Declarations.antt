@@ -9,11 +9,10 @@ use Rattle.ctl_program.specs.declared.types.Operations.{Operations}
 use Rattle.ctl_program.specs.declared.expression.Expr.{Expr}
 use Rattle.ctl_program.specs.declared.operators.SubprogramKind.{SubprogramKind}
 use Rattle.ctl_program.specs.declared.operators.SubprogramKind.TheVariants as kind
-use Rattle.ctl_program.specs.declared.program.Subprogram.{Subprogram}
 use Rattle.ctl_program.specs.declared.statement.Association.{Association as Checked_association}
 use Rattle.ctl_program.specs.declared.statement.Item.{Item as Checked_item}
 use Rattle.ctl_program.specs.declared.statement.Item.TheVariants as made
-use Rattle.ctl_program.specs.declared.statement.Master.{Master, roll-Master}
+use Rattle.ctl_program.specs.declared.statement.Master.{Master}
 use Rattle.ctl_syntax.specs.declared.denoted.Denoted.{Denoted}
 use Rattle.ctl_syntax.specs.declared.denoted.Denoted.TheVariants as denoted
 use Rattle.ctl_syntax.specs.declared.denoted.Definition.{Definition}
@@ -55,6 +54,7 @@ use Rattle.ctl_types.specs.declared.associations.Associated.TheVariants.{Discrim
 use Rattle.ctl_typing.specs.declared.found.Found.{Found}
 use Rattle.ctl_typing.specs.declared.found.Found.TheVariants.{TypeName}
 use Rattle.ctl_types.specs.declared.draft.Draft.{Draft}
+use Rattle.ctl_types.specs.declared.draft.Routine.{Routine}
 use Rattle.ctl_types.specs.declared.draft.Around.{Around}
 use Rattle.ctl_types.specs.declared.draft.Giving.{Giving}
 use Rattle.ctl_types.specs.declared.draft.Giving.TheVariants as giving
@@ -62,13 +62,13 @@ use Rattle.ctl_types.specs.declared.draft.Order.{Order}
 use Rattle.ctl_types.specs.declared.draft.Order.TheVariants as order
 use Rattle.ctl_types.specs.declared.draft.Role.{Role}
 use Rattle.ctl_types.specs.declared.draft.Role.TheVariants as role
-use Rattle.ctl_typing.specs.Judgement.{Judgement, known, but, wrong, ◌>>=◌, both, each}
-use Rattle.ctl_typing.specs.Lookup.{same, root_of, designated_by}
+use Rattle.ctl_typing.specs.Judgement.{Judgement, known, but, wrong, unresolved, ◌>>=◌, both, each}
+use Rattle.ctl_typing.specs.Lookup.{same, root_of, is_limited, designated_by}
 use Rattle.ctl_typing.specs.Typing.{Sense, sense, found, together, designates_this}
-use Rattle.ctl_types.specs.Draft.{Doing, by_tables, early_when, fault_when, asking, deeds_of, asked, declare, declare_object}
+use Rattle.ctl_types.specs.Draft.{Doing, by_tables, early_when, fault_when, asking, deeds_of, asked, is_declared_in, declare, declare_object}
 use Rattle.ctl_types.specs.Marks.{named_type, concrete_type, no_pool, is_pool, is_controlled, positions, root_of_type}
 use Rattle.ctl_types.specs.Freezing.{changed, with_records, is_free_type, done_by}
-use Rattle.ctl_types.specs.Statements.{is_limited, provides, operation_formals, formal}
+use Rattle.ctl_types.specs.Statements.{provides, operation_formals, formal}
 use Rattle.ctl_types.specs.Types.{is_given}
 
 -- Names of operations (7.6, 13.11) --------------------------------------------------------------------------
@@ -267,7 +267,7 @@ instance_given tables place as' = instance_by tables place (positions Deallocati
 
 abbrev pub instance_denoted : Tables → Span → Denoted → List (Association Use) → Judgement (ℕ × Ty)
 instance_denoted tables place (denoted.Library library.UncheckedDeallocation) as' = instance_given tables place as'
-instance_denoted tables place denoted.Unknown as' = λ n. (None, n)
+instance_denoted tables place denoted.Unknown as' = unresolved place
 instance_denoted tables place d as' = wrong rule.Type place
 
 abbrev pub instance_marked : Tables → Span → Use → List Identifier → List (Association Use) → Judgement (ℕ × Ty)
@@ -415,17 +415,9 @@ abbrev pub kind_of : Option (Mark Use) → SubprogramKind
 kind_of None = kind.Procedure
 kind_of (Some m) = kind.Function
 
--- a body that has not come yet, of a subprogram with so many formals
-abbrev pub no_body : ℕ → Master
-no_body n = roll-Master (record { slots = n; items = []; body = []; handlers = [] })
-
-abbrev pub add_subprogram : Around → SubprogramKind → ℕ → Draft → Draft
-add_subprogram around k n d = record d { subprograms = d.subprograms ++ (record { level = around.level; kind = k; body = no_body n }) ∷ [] }
-
--- how many formals a heading has, as far as it is known
-abbrev pub formal_count : Option (List FormalEntry × Option Ty) → ℕ
-formal_count None = 0
-formal_count (Some h) = length h.0
+-- its body has not come yet
+abbrev pub add_subprogram : Around → SubprogramKind → Draft → Draft
+add_subprogram around k d = record d { subprograms = d.subprograms ++ (record { level = around.level; kind = k; body = None }) ∷ [] }
 
 -- a subprogram takes a body where its heading is known
 abbrev pub numbered : ℕ → Option (List FormalEntry × Option Ty) → Option ℕ
@@ -448,7 +440,7 @@ abbrev pub introduce : Around → Specification Definition Use → Option (List 
 introduce around s (h, d) = (
   numbered (length d.subprograms) h,
   declare (entry_of (length d.subprograms) (formal_names s.formals) h)
-      (add_subprogram around (kind_of s.result) (formal_count h) (play s.name.identifier.span (length d.subprograms) (role_of around s h d.tables) d)),
+      (add_subprogram around (kind_of s.result) (play s.name.identifier.span (length d.subprograms) (role_of around s h d.tables) d)),
 )
 
 abbrev pub declaration : Span → Specification Definition Use → Around → Draft → List Checked_item × Draft
@@ -484,14 +476,14 @@ is_unfounded i o = false
 abbrev pub indicator_kept : Specification Definition Use → Draft → Draft
 indicator_kept s d = fault_when (is_unfounded s.indicator (operation_named s.name.identifier.text)) rule.Override s.name.identifier.span d
 
-abbrev pub is_of_level : ℕ → Option Subprogram → Bool
+abbrev pub is_of_level : ℕ → Option Routine → Bool
 is_of_level level None = false
-is_of_level level (Some p) = nat_eq p.level level
+is_of_level level (Some r) = nat_eq r.level level
 
--- the subprogram takes the body where that repeats its declaration, which stands in the same part
-abbrev pub completes : Around → List Subprogram → Profile → List (List ℕ) → Option (List FormalEntry × Option Ty) → Option ℕ
-completes around ss p names None = None
-completes around ss p names (Some h) = if conforms p names h && is_of_level around.level (slice_get ss p.subprogram) then Some p.subprogram else None
+-- a subprogram of the part takes the body that repeats its declaration
+abbrev pub completes : Around → List Routine → Profile → List (List ℕ) → Option (List FormalEntry × Option Ty) → Option ℕ
+completes around rs p names None = None
+completes around rs p names (Some h) = if conforms p names h && is_of_level around.level (slice_get rs p.subprogram) then Some p.subprogram else None
 
 abbrev pub completed : Around → Span → Specification Definition Use → Option Entry → Option (List FormalEntry × Option Ty) × Draft → Option ℕ × Draft
 completed around place s (Some (entry.Subprogram p)) (h, d) =
@@ -501,7 +493,7 @@ completed around place s e (h, d) = (None, d)
 -- the subprogram of a body, which may complete a declaration
 abbrev pub subprogram_of : Around → Span → Specification Definition Use → Option (List FormalEntry × Option Ty) × Draft → Option ℕ × Draft
 subprogram_of around place s (h, d) =
-    if nat_lt s.name.number (length d.tables.entries) then completed around place s (slice_get d.tables.entries s.name.number) (h, d) else introduce around s (h, d)
+    if is_declared_in around s.name.number d then completed around place s (slice_get d.tables.entries s.name.number) (h, d) else introduce around s (h, d)
 
 abbrev pub giving_of : Option (Mark Use) → Option (List FormalEntry × Option Ty) → Giving
 giving_of None h = giving.Nothing
@@ -531,9 +523,9 @@ enter_formals around place [] d = d
 enter_formals around place (f ∷ fs) d = enter_formals around place fs (enter_formal around place f d)
 
 -- the body of this number is known
-abbrev pub with_body : ℕ → Master → Option Subprogram → Draft → Draft
+abbrev pub with_body : ℕ → Master → Option Routine → Draft → Draft
 with_body s m None d = d
-with_body s m (Some p) d = record d { subprograms = slice_set d.subprograms s (record { level = p.level; kind = p.kind; body = m }) }
+with_body s m (Some p) d = record d { subprograms = slice_set d.subprograms s (record { level = p.level; kind = p.kind; body = Some m }) }
 
 abbrev pub put_body : Option ℕ → Option Master → Draft → Draft
 put_body (Some s) (Some m) d = with_body s m (slice_get d.subprograms s) d

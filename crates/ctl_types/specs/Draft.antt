@@ -69,9 +69,13 @@ with_entries es d = record d { tables = record d.tables { entries = es } }
 abbrev pub declare : Entry → Draft → Draft
 declare e d = with_entries (d.tables.entries ++ e ∷ []) d
 
--- a declaration of this number: a new one, or what completes one of the part, which begins with the first number (3.11.1)
-abbrev pub enter : ℕ → ℕ → Entry → Draft → Draft
-enter start number e d = if nat_le start number && nat_lt number (length d.tables.entries) then with_entries (slice_set d.tables.entries number e) d else declare e d
+-- whether the part around has a declaration of this number
+abbrev pub is_declared_in : Around → ℕ → Draft → Bool
+is_declared_in around number d = nat_le around.start number && nat_lt number (length d.tables.entries)
+
+-- a declaration of this number: a new one, or what completes one of the part (3.11.1)
+abbrev pub enter : Around → ℕ → Entry → Draft → Draft
+enter around number e d = if is_declared_in around number d then with_entries (slice_set d.tables.entries number e) d else declare e d
 
 -- only the first declarations stay in view
 abbrev pub leave_view : ℕ → Draft → Draft

@@ -16,6 +16,7 @@ use Rattle.ctl_program.specs.declared.operators.Direction.{Direction as Checked_
 use Rattle.ctl_program.specs.declared.operators.Direction.TheVariants as way
 use Rattle.ctl_program.specs.declared.operators.SubprogramKind.TheVariants as kind
 use Rattle.ctl_program.specs.declared.program.Checked.{Checked}
+use Rattle.ctl_program.specs.declared.program.Subprogram.{Subprogram}
 use Rattle.ctl_program.specs.declared.statement.Arm.{Arm, roll-Arm}
 use Rattle.ctl_program.specs.declared.statement.Choices.{Choices as Checked_choices}
 use Rattle.ctl_program.specs.declared.statement.Choices.TheVariants as chosen
@@ -65,6 +66,7 @@ use Rattle.ctl_typing.specs.declared.table.Standing.TheVariants as standing
 use Rattle.ctl_syntax.specs.declared.item.Aliasing.TheVariants as aliasing
 use Rattle.ctl_typing.specs.declared.found.Asked.TheVariants.{Exactly}
 use Rattle.ctl_types.specs.declared.draft.Draft.{Draft}
+use Rattle.ctl_types.specs.declared.draft.Routine.{Routine}
 use Rattle.ctl_types.specs.declared.draft.Around.{Around}
 use Rattle.ctl_types.specs.declared.draft.Giving.{Giving}
 use Rattle.ctl_types.specs.declared.draft.Giving.TheVariants as giving
@@ -333,7 +335,7 @@ abbrev pub definition_of : Span → Definition → Type_definition Use → Aroun
 definition_of place name def around d = defined_by place name def around (name_kept name d)
 
 abbrev pub incomplete : Definition → Taggedness → Around → Draft → List Checked_item × Draft
-incomplete name t around d = (made.Silent ∷ [], enter around.start name.number (entry.Incomplete t) (name_kept name d))
+incomplete name t around d = (made.Silent ∷ [], enter around name.number (entry.Incomplete t) (name_kept name d))
 
 abbrev pub item_of : Span → ItemKind Definition Use Does → Part_of
 item_of place (item.Declaration s) = without_body (λ o around d. surely (declaration place s around d))
@@ -396,8 +398,8 @@ abbrev pub library_states : List RecordState
 library_states = library_state ∷ library_state ∷ library_state ∷ library_state ∷ []
 
 -- they have none that the text sees
-abbrev pub library_components : List (List Component)
-library_components = [] ∷ [] ∷ [] ∷ [] ∷ []
+abbrev pub library_components : List (Option (List Component))
+library_components = Some [] ∷ Some [] ∷ Some [] ∷ Some [] ∷ []
 
 abbrev pub library_exceptions : List (List ℕ)
 library_exceptions = codes "Constraint_Error" ∷ codes "Program_Error" ∷ codes "Storage_Error" ∷ []
@@ -436,7 +438,7 @@ outside =
 
 -- the main procedure is the first subprogram, and is in view inside itself
 abbrev pub main_declared : Definition → Draft → Draft
-main_declared name d = declare (entry.Subprogram (record { subprogram = 0; formals = []; names = []; result = None })) (add_subprogram outside kind.Procedure 0 (name_kept name d))
+main_declared name d = declare (entry.Subprogram (record { subprogram = 0; formals = []; names = []; result = None })) (add_subprogram outside kind.Procedure (name_kept name d))
 
 abbrev pub main_put : Option Master × Draft → Draft
 main_put (m, d) = put_body (Some 0) m d
@@ -445,16 +447,16 @@ main_put (m, d) = put_body (Some 0) m d
 abbrev pub main_judged : Tree Definition Use → Draft → Option Master × Draft
 main_judged t d = left d (body t.body t.span (inside outside giving.Nothing d) (without_slots d))
 
-abbrev pub behind : Option Fault → Notes → Notes
-behind broken n = record { early = broken; fault = n.fault; deeds = n.deeds }
+abbrev pub behind : Option Fault → Option Fault → Notes → Notes
+behind names uses n = record { early = names; fault = uses; deeds = n.deeds }
 
--- what is known before the text, and the first rule on names that it breaks, if it breaks any
-abbrev pub begun : Option Fault → Draft
-begun broken = record library { notes = behind broken library.notes }
+-- what is known before the text, and the first broken rule on names and the first use clause of what is no package, if there are such
+abbrev pub begun : Option Fault → Option Fault → Draft
+begun names uses = record library { notes = behind names uses library.notes }
 
 -- the program as far as it is checked at the end of the text
-abbrev pub whole : Option Fault → Tree Definition Use → Draft
-whole broken t = main_put (main_judged t (main_declared t.name (begun broken)))
+abbrev pub whole : Option Fault → Option Fault → Tree Definition Use → Draft
+whole names uses t = main_put (main_judged t (main_declared t.name (begun names uses)))
 
 -- The checked program ----------------------------------------------------------------------------------------------------------------------------------
 
@@ -481,21 +483,42 @@ access_types_on before (a ∷ as') = access_types_on (appended before (access_ty
 abbrev pub access_types : List AccessEntry → Option (List AccessType)
 access_types as' = access_types_on (Some []) as'
 
-abbrev pub checked_with : Draft → Option (List AccessType) → Option Checked
-checked_with d None = None
-checked_with d (Some as') =
+abbrev pub subprogram_with : Routine → Option Master → Option Subprogram
+subprogram_with r None = None
+subprogram_with r (Some m) = Some (record { level = r.level; kind = r.kind; body = m })
+
+-- those of the program, behind those so far; known where each has its body
+abbrev pub subprograms_on : Option (List Subprogram) → List Routine → Option (List Subprogram)
+subprograms_on before [] = before
+subprograms_on before (r ∷ rs) = subprograms_on (appended before (subprogram_with r r.body)) rs
+
+abbrev pub subprograms : List Routine → Option (List Subprogram)
+subprograms rs = subprograms_on (Some []) rs
+
+-- the components of the record types, behind those so far; known where those of each are
+abbrev pub components_on : Option (List (List Component)) → List (Option (List Component)) → Option (List (List Component))
+components_on before [] = before
+components_on before (cs ∷ css) = components_on (appended before cs) css
+
+abbrev pub components_known : List (Option (List Component)) → Option (List (List Component))
+components_known css = components_on (Some []) css
+
+abbrev pub checked_with : Draft → Option (List AccessType) → Option (List Subprogram) → Option (List (List Component)) → Option Checked
+checked_with d (Some as') (Some ss) (Some css) =
     Some (record {
       exceptions = d.exceptions;
-      records = record_types d.tables.records d.tables.states.records d.components;
+      records = record_types d.tables.records d.tables.states.records css;
       accesses = as';
-      subprograms = d.subprograms;
+      subprograms = ss;
       main = 0;
     })
+checked_with d as' ss css = None
 
 abbrev pub checked_of : Draft → Option Checked
-checked_of d = checked_with d (access_types d.tables.states.accesses)
+checked_of d = checked_with d (access_types d.tables.states.accesses) (subprograms d.subprograms) (components_known d.components)
 
--- a tree that `resolve` did not give may hold names that denote nothing: where nothing else is wrong, its program is
+-- a tree that `resolve` did not give may leave a type incomplete, or a subprogram without a body; where the components of a type are wrong that was
+-- told: then the fault stands where the text begins
 abbrev pub or_nothing : Span → Option Checked → Result Checked Fault
 or_nothing place None = Err (fault_at rule.Type place)
 or_nothing place (Some p) = Ok p
@@ -509,9 +532,9 @@ abbrev pub verdict : Span → Draft → Result Checked Fault
 verdict place d = verdict_by place d.notes.early d.notes.fault d
 
 -- the checked program of a resolved tree, or its first fault: of names, order and completion, the resolver's among them, before any other
-abbrev pub elaborate : Option Fault → Tree Definition Use → Result Checked Fault
-elaborate broken t = verdict t.span (whole broken t)
+abbrev pub elaborate : Option Fault → Option Fault → Tree Definition Use → Result Checked Fault
+elaborate names uses t = verdict t.span (whole names uses t)
 
 -- what the check gives: that, or that memory was refused
-abbrev pub Elaborates : Option Fault → Tree Definition Use → Result Checked Fault → Type 0
-Elaborates broken t r = (r ≡ elaborate broken t) ⊎ (r ≡ Err (record { code = rule.Memory; line = 1; column = 1 }))
+abbrev pub Elaborates : Option Fault → Option Fault → Tree Definition Use → Result Checked Fault → Type 0
+Elaborates names uses t r = (r ≡ elaborate names uses t) ⊎ (r ≡ Err (record { code = rule.Memory; line = 1; column = 1 }))

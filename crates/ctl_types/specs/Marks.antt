@@ -25,7 +25,7 @@ use Rattle.ctl_typing.specs.declared.table.Control.{Control}
 use Rattle.ctl_typing.specs.declared.table.Control.TheVariants as control
 use Rattle.ctl_types.specs.declared.associations.Associated.{Associated}
 use Rattle.ctl_types.specs.declared.associations.Associated.TheVariants.{Discriminants, Deallocation}
-use Rattle.ctl_typing.specs.Judgement.{Judgement, known, but, wrong, ◌>>=◌}
+use Rattle.ctl_typing.specs.Judgement.{Judgement, known, but, wrong, unresolved, ◌>>=◌}
 use Rattle.ctl_typing.specs.Lookup.{root_of}
 use Rattle.ctl_typing.specs.Typing.{mark_judged, has_objects, discriminant_named}
 
@@ -88,7 +88,7 @@ pool_entry tables place e = wrong rule.Pool place
 
 abbrev pub pool_denoted : Tables → Span → Denoted → Judgement (Var × ℕ)
 pool_denoted tables place (denoted.Declared number level) = pool_entry tables place (slice_get tables.entries number)
-pool_denoted tables place denoted.Unknown = λ n. (None, n)
+pool_denoted tables place denoted.Unknown = unresolved place
 pool_denoted tables place d = wrong rule.Pool place
 
 abbrev pub pool_by : Tables → Use → List Identifier → Judgement (Var × ℕ)

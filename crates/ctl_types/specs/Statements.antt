@@ -19,8 +19,6 @@ use Rattle.ctl_syntax.specs.declared.denoted.LibraryName.TheVariants as library
 use Rattle.ctl_syntax.specs.declared.denoted.OperationName.{OperationName}
 use Rattle.ctl_syntax.specs.declared.denoted.OperationName.TheVariants.{Initialize, Adjust, Finalize, Allocate, Deallocate}
 use Rattle.ctl_syntax.specs.declared.denoted.Use.{Use}
-use Rattle.ctl_syntax.specs.declared.item.Limitation.{Limitation}
-use Rattle.ctl_syntax.specs.declared.item.Limitation.TheVariants as limitation
 use Rattle.ctl_syntax.specs.declared.item.Mode.{Mode}
 use Rattle.ctl_syntax.specs.declared.item.Mode.TheVariants as mode
 use Rattle.ctl_syntax.specs.declared.name.Identifier.{Identifier}
@@ -32,7 +30,6 @@ use Rattle.ctl_typing.specs.declared.table.Entry.{Entry}
 use Rattle.ctl_typing.specs.declared.table.Entry.TheVariants as entry
 use Rattle.ctl_typing.specs.declared.table.FormalEntry.{FormalEntry}
 use Rattle.ctl_typing.specs.declared.table.Profile.{Profile}
-use Rattle.ctl_typing.specs.declared.table.RecordEntry.{RecordEntry}
 use Rattle.ctl_typing.specs.declared.table.RecordState.{RecordState}
 use Rattle.ctl_typing.specs.declared.found.Asked.{Asked}
 use Rattle.ctl_typing.specs.declared.found.Asked.TheVariants.{Anything, Exactly}
@@ -50,24 +47,10 @@ use Rattle.ctl_types.specs.declared.draft.Looping.TheVariants as looping
 use Rattle.ctl_types.specs.declared.draft.Handling.{Handling}
 use Rattle.ctl_types.specs.declared.draft.Handling.TheVariants as handling
 use Rattle.ctl_types.specs.declared.draft.Returning.TheVariants.{Somewhere}
-use Rattle.ctl_typing.specs.Judgement.{Judgement, known, but, wrong, noting, ◌>>=◌, both, following}
-use Rattle.ctl_typing.specs.Lookup.{same, root_of}
+use Rattle.ctl_typing.specs.Judgement.{Judgement, known, but, wrong, unresolved, noting, ◌>>=◌, both, following}
+use Rattle.ctl_typing.specs.Lookup.{same, root_of, is_limited}
 use Rattle.ctl_typing.specs.Typing.{Sense, found, settled, name_of, as_variable, actuals_of, handed_on, truth_of}
 use Rattle.ctl_types.specs.Draft.{Doing, by_tables, broken}
-
--- Limited types (7.5) -------------------------------------------------------------------------
-
-abbrev pub says_limited : Limitation → Bool
-says_limited limitation.Limited = true
-says_limited limitation.Nonlimited = false
-
-abbrev pub limited_in : Option RecordEntry → Bool
-limited_in None = false
-limited_in (Some r) = says_limited r.limitation
-
-abbrev pub is_limited : Tables → Ty → Bool
-is_limited tables (ty.Record t) = limited_in (slice_get tables.records t)
-is_limited tables t = false
 
 -- Variables that are written to ---------------------------------------------------------------
 
@@ -310,7 +293,7 @@ abbrev pub called_by : Tables → Span → Denoted → Option (List Sense) → J
 called_by tables place (denoted.Declared number level) xs = declared_called tables place number xs
 called_by tables place (denoted.Library l) xs = library_with tables place l xs
 called_by tables place (denoted.Operation o) xs = operation_with tables place o xs
-called_by tables place denoted.Unknown xs = λ n. (None, n)
+called_by tables place denoted.Unknown xs = unresolved place
 
 -- a call of a procedure
 abbrev pub call : Span → Use → List (Suffix Sense) → Tables → Judgement Stmt
@@ -341,7 +324,7 @@ exception_denoted tables place (denoted.Declared number level) = exception_of ta
 exception_denoted tables place (denoted.Library library.ConstraintError) = known constraint_error
 exception_denoted tables place (denoted.Library library.ProgramError) = known program_error
 exception_denoted tables place (denoted.Library library.StorageError) = known storage_error
-exception_denoted tables place denoted.Unknown = λ n. (None, n)
+exception_denoted tables place denoted.Unknown = unresolved place
 exception_denoted tables place d = wrong rule.Type place
 
 abbrev pub exception_named : Tables → Span → Use → List Identifier → Judgement ℕ

@@ -1,5 +1,5 @@
 -- Types and their components as they are declared (3.8, 3.9.1, 3.10, 13.11), and the pools of access types.
-use Rattle.std.specs.Prelude.{ℕ, ◌+◌, min, Bool, true, false, ◌&&◌, ◌||◌, if◌then◌else◌, nat_eq, nat_lt, nat_le, List, [], ◌∷◌, ◌++◌, length, slice_get, Option, Some, None, option_map}
+use Rattle.std.specs.Prelude.{ℕ, ◌+◌, Bool, true, false, ◌&&◌, ◌||◌, if◌then◌else◌, nat_eq, nat_lt, nat_le, List, [], ◌∷◌, ◌++◌, length, slice_get, Option, Some, None, option_map}
 use Rattle.ctl_grammar.specs.Spelling.{same_name}
 use Rattle.ctl_tree.specs.declared.span.Span.{Span}
 use Rattle.ctl_tree.specs.declared.fault.FaultCode.{FaultCode}
@@ -50,19 +50,13 @@ use Rattle.ctl_typing.specs.declared.found.Asked.TheVariants.{Exactly}
 use Rattle.ctl_types.specs.declared.draft.Draft.{Draft}
 use Rattle.ctl_types.specs.declared.draft.Around.{Around}
 use Rattle.ctl_types.specs.declared.draft.Enclosing.{Enclosing}
-use Rattle.ctl_typing.specs.Judgement.{Judgement, known, but, wrong, ◌>>=◌, each, with_early}
-use Rattle.ctl_typing.specs.Lookup.{component_of, root_of}
+use Rattle.ctl_typing.specs.Judgement.{Judgement, known, but, wrong, unresolved, ◌>>=◌, each, with_early}
+use Rattle.ctl_typing.specs.Lookup.{component_of, root_of, is_limited, is_mark_root}
 use Rattle.ctl_typing.specs.Typing.{Sense, sense, discriminant_named, together}
 use Rattle.ctl_types.specs.Draft.{Doing, by_tables, early_when, fault_when, asking, deeds_of, asked, enter, take_slot, next_var}
 use Rattle.ctl_types.specs.Marks.{concrete_type, named_type, no_pool, is_controlled, pool_named}
 use Rattle.ctl_types.specs.Freezing.{changed, changed_each, with_accesses, is_free_type, done_by}
-use Rattle.ctl_types.specs.Statements.{is_limited, operations_of}
-
--- Counting --------------------------------------------------------------------------------------
-
--- no count goes past what a machine word holds
-abbrev pub next : ℕ → ℕ
-next n = min (n + 1) 18446744073709551615
+use Rattle.ctl_types.specs.Statements.{operations_of}
 
 -- Components (3.8) --------------------------------------------------------------------------------
 
@@ -114,7 +108,7 @@ last_position count (c ∷ cs) = last_position c.position cs
 
 -- inherited components have the first positions (3.9.1)
 abbrev pub next_position : Draft → Option ℕ → ℕ
-next_position d parent = next (last_position (inherited_count (on_parent d.tables parent)) d.own)
+next_position d parent = last_position (inherited_count (on_parent d.tables parent)) d.own + 1
 
 abbrev pub is_name_among : List ℕ → List (List ℕ) → Bool
 is_name_among name [] = false
@@ -218,16 +212,12 @@ abbrev pub state_on : Tables → Option ℕ → Option RecordState
 state_on tables None = None
 state_on tables (Some t) = slice_get tables.states.records t
 
-abbrev pub add_record : RecordEntry → RecordState → List Component → Draft → Draft
+abbrev pub add_record : RecordEntry → RecordState → Option (List Component) → Draft → Draft
 add_record r s cs d =
     record d {
       tables = record d.tables { records = d.tables.records ++ r ∷ []; states = record d.tables.states { records = d.tables.states.records ++ s ∷ [] } };
       components = d.components ++ cs ∷ [];
     }
-
-abbrev pub known_components : Option (List Component) → List Component
-known_components None = []
-known_components (Some cs) = cs
 
 -- Incomplete types (3.10.1) --------------------------------------------------------------------------------------
 
@@ -244,7 +234,7 @@ complete around number t d = with_accesses (changed_each (completed_access numbe
 
 -- the type of this number of declaration is known from here on
 abbrev pub enter_type : Around → ℕ → Ty → Draft → Draft
-enter_type around number t d = complete around number t (enter around.start number (entry.«Type» t) d)
+enter_type around number t d = complete around number t (enter around number (entry.«Type» t) d)
 
 abbrev pub is_said_tagged : Option Entry → Bool
 is_said_tagged (Some (entry.Incomplete taggedness.Tagged)) = true
@@ -259,7 +249,7 @@ untagged_kept place number d = fault_when (is_said_tagged (slice_get d.tables.en
 abbrev pub enter_record : Around → Enclosing → Root → Limitation → Option (List Component) × Draft → Draft
 enter_record around within r l (cs, d) =
     enter_type around within.number (ty.Record (length d.tables.records))
-    (asked (without_own (add_record (record_entry around r l within.parent d) (inherited_state (state_on d.tables within.parent)) (known_components cs) d)))
+    (asked (without_own (add_record (record_entry around r l within.parent d) (inherited_state (state_on d.tables within.parent)) cs d)))
 
 -- the record type that is declared here, with its components
 abbrev pub declare_record : Around → Enclosing → Root → Limitation → List (Components Use) → Draft → Draft
@@ -298,7 +288,7 @@ extend around place number t cs (layers, d) =
 
 -- where the parent is wrong, nothing is known of the type; its components are judged all the same
 abbrev pub enter_unknown : Around → ℕ → Option (List Component) × Draft → Draft
-enter_unknown around number (cs, d) = enter around.start number entry.Unknown (without_own d)
+enter_unknown around number (cs, d) = enter around number entry.Unknown (without_own d)
 
 abbrev pub extension_of : Span → ℕ → List (Components Use) → Around → Option ℕ × Draft → List Checked_item × Draft
 extension_of place number cs around (None, d) = (made.Silent ∷ [], enter_unknown around number (components (underived place number) cs d))
@@ -326,10 +316,6 @@ designated_denoted tables place m d = designated_type tables place m
 abbrev pub designated_named : Span → Mark Use → Coverage → Tables → Judgement Designated
 designated_named place m coverage.Specific tables = designated_denoted tables place m m.first.denoted
 designated_named place m coverage.ClassWide tables = wrong rule.Type place
-
-abbrev pub is_mark_root : Root → Bool
-is_mark_root root.MarkPool = true
-is_mark_root r = false
 
 abbrev pub is_all : Generality → Bool
 is_all generality.General = true
@@ -410,7 +396,7 @@ abbrev pub clause_type : Around → Span → Denoted → Tables → Judgement �
 clause_type around place (denoted.Declared number level) tables = clause_entry tables around place number (slice_get tables.entries number)
 clause_type around place (denoted.Library l) tables = if is_library_type l then order_broken place else wrong rule.Type place
 clause_type around place (denoted.Operation o) tables = wrong rule.Type place
-clause_type around place denoted.Unknown tables = λ n. (None, n)
+clause_type around place denoted.Unknown tables = unresolved place
 
 -- a type has one pool (13.11)
 abbrev pub pool_for_entry : Tables → Span → Option AccessEntry → Var × ℕ → Judgement (Var × ℕ)

@@ -64,7 +64,7 @@ pub fn enter_type(
 ) -> Result<(), AllocError>
     ensures { OnOk result (draft.new ≡ spec.enter_type around number ty draft.old) }
 {
-    draft.enter(number, Entry::Type(ty))?;
+    draft.enter(around, number, Entry::Type(ty))?;
     let first = around.first_access;
     complete_each(&mut draft.tables.states.accesses, first, number, ty);
     Ok(())
@@ -93,12 +93,13 @@ pub fn incomplete(
     alloc: Global,
     name: &Definition,
     taggedness: Taggedness,
+    around: Around,
     draft: &mut Draft,
 ) -> Result<Items<Item>, AllocError>
-    ensures { Yields (elaboration.incomplete name.now taggedness) draft.old result draft.new }
+    ensures { Yields (elaboration.incomplete name.now taggedness around) draft.old result draft.new }
 {
     keep_name(name, draft);
-    draft.enter(name.number, Entry::Incomplete(taggedness))?;
+    draft.enter(around, name.number, Entry::Incomplete(taggedness))?;
     silent(alloc)
 }
 

@@ -6,7 +6,6 @@ ghost use Rattle.ctl_typing.specs.Judgement.{Answers, Judges};
 ghost use Rattle.ctl_typing.specs.Senses.{suffix_sense};
 ghost use Rattle.ctl_typing.specs.Typing.{sense};
 
-use crate::types::is_limited;
 use ctl_program::expression::{Actual, Expr, Name};
 use ctl_program::statement::Stmt;
 use ctl_program::types::Ty;
@@ -20,6 +19,7 @@ use ctl_typing::adopting::place_of;
 use ctl_typing::expressions::{expression, found};
 use ctl_typing::found::{Asked, Found, Place};
 use ctl_typing::judging::{is_same, note, note_deed, wrong};
+use ctl_typing::lookup::is_limited;
 use ctl_typing::names::{name_at, settled};
 use ctl_typing::notes::{Deed, Notes};
 use ctl_typing::table::Tables;

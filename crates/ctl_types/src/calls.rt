@@ -16,7 +16,7 @@ use ctl_syntax::name::{Name as SourceName, Suffix};
 use ctl_tree::fault::FaultCode;
 use ctl_tree::span::Span;
 use ctl_typing::expressions::actuals;
-use ctl_typing::judging::wrong;
+use ctl_typing::judging::{unresolved, wrong};
 use ctl_typing::notes::Notes;
 use ctl_typing::table::{Entry, Profile, Tables};
 use ctl_typing::texts::texts;
@@ -206,7 +206,7 @@ fn called_with(
         Denoted::Operation(operation) => {
             operation_called(alloc, tables, place, operation, first, more, notes)
         }
-        Denoted::Unknown => Ok(None),
+        Denoted::Unknown => Ok(unresolved(place, notes)),
         _ => Ok(wrong(FaultCode::Type, place, notes)),
     }
 }
@@ -224,7 +224,7 @@ fn called_alone(
     match denoted {
         Denoted::Declared(number, _) => declared_alone(alloc, tables, place, number, notes),
         Denoted::Library(LibraryName::NewLine) => Some(Stmt::NewLine),
-        Denoted::Unknown => None,
+        Denoted::Unknown => unresolved(place, notes),
         _ => wrong(FaultCode::Type, place, notes),
     }
 }
@@ -240,7 +240,7 @@ fn called_otherwise(
 {
     match denoted {
         Denoted::Declared(number, _) => declared_otherwise(tables, place, number, notes),
-        Denoted::Unknown => None,
+        Denoted::Unknown => unresolved(place, notes),
         _ => wrong(FaultCode::Type, place, notes),
     }
 }

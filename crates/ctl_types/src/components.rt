@@ -8,7 +8,7 @@ ghost use Rattle.ctl_typing.specs.Typing.{sense};
 use crate::draft::{Draft, Enclosing};
 use crate::named_types::concrete_type;
 use crate::rows::together;
-use crate::types::{is_limited, no_pool};
+use crate::types::no_pool;
 use ctl_grammar::spelling::is_same_name;
 use ctl_program::expression::Expr;
 use ctl_program::types::{Component, Ty};
@@ -22,7 +22,7 @@ use ctl_tree::text::Text;
 use ctl_typing::expressions::expression;
 use ctl_typing::found::Asked;
 use ctl_typing::judging::{note, wrong};
-use ctl_typing::lookup::{component_of, root_of};
+use ctl_typing::lookup::{component_of, is_limited, root_of};
 use ctl_typing::names::discriminant_named;
 use ctl_typing::notes::Notes;
 use ctl_typing::operators::appended;
@@ -134,12 +134,14 @@ pub fn last_position(count: usize, own: &[ComponentEntry]) -> usize
     position
 }
 
-/// Answers the position of the next component: inherited ones have the first positions (RM 3.9.1).
-fn next_position(draft: &Draft, parent: Option<usize>) -> usize
-    ensures { result ≡ spec.next_position draft.now parent }
+/// Answers the position of the next component: inherited ones have the first positions (RM 3.9.1). One that cannot be counted is answered as
+/// want of memory.
+fn next_position(draft: &Draft, parent: Option<usize>) -> Result<usize, AllocError>
+    ensures { IfOk result (λ position. position ≡ spec.next_position draft.now parent) }
 {
     let inherited = inherited_count(&draft.tables, parent);
-    last_position(inherited, draft.own.as_slice()).saturating_add(1)
+    let last = last_position(inherited, draft.own.as_slice());
+    last.checked_add(1).ok_or(AllocError)
 }
 
 /// Tells whether a name is one of these.
@@ -201,7 +203,7 @@ fn enter_component(
     let Some(ty) = ty else {
         return Ok(());
     };
-    let position = next_position(draft, within.parent);
+    let position = next_position(draft, within.parent)?;
     draft.own.push(ComponentEntry {
         name: Text::from_slice(alloc, name.as_bytes())?,
         position,

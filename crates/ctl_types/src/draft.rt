@@ -1,6 +1,7 @@
 //! The program as far as it was checked, and what stands around a statement or an item.
 
-use ctl_program::program::Subprogram;
+use ctl_program::operators::SubprogramKind;
+use ctl_program::statement::Master;
 use ctl_program::types::{Component, Ty};
 use ctl_syntax::denoted::OperationName;
 use ctl_syntax::item::Limitation;
@@ -26,14 +27,22 @@ pub enum Returning {
     Somewhere,
 }
 
+/// A subprogram, whose body may not have come yet.
+#[derive(Drop)]
+pub struct Routine {
+    /// how many masters stand around its declaration
+    pub level: usize,
+    pub kind: SubprogramKind,
+    pub body: Option<Master>,
+}
+
 /// The program as far as it was checked.
 #[derive(Drop)]
 pub struct Draft {
     pub tables: Tables,
-    /// the components that each record type does not inherit, with their defaults
-    pub components: Items<Items<Component>>,
-    /// the subprograms; a body that has not come yet is empty
-    pub subprograms: Items<Subprogram>,
+    /// the components that each record type does not inherit, with their defaults, where all of them are known
+    pub components: Items<Option<Items<Component>>>,
+    pub subprograms: Items<Routine>,
     pub exceptions: Items<Text>,
     /// the types of what the declarations of the master around hold, by their slots
     pub slots: Items<Ty>,

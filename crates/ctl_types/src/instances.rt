@@ -20,7 +20,7 @@ use ctl_tree::fault::FaultCode;
 use ctl_tree::span::Span;
 use ctl_typing::expressions::found;
 use ctl_typing::found::Found;
-use ctl_typing::judging::wrong;
+use ctl_typing::judging::{unresolved, wrong};
 use ctl_typing::notes::{Deed, Notes};
 use ctl_typing::table::{Entry, Tables};
 use ctl_typing::values::designates;
@@ -192,7 +192,7 @@ fn instance_of(
         Denoted::Library(LibraryName::UncheckedDeallocation) => {
             instance_given(alloc, tables, place, associations, notes)
         }
-        Denoted::Unknown => Ok(None),
+        Denoted::Unknown => Ok(unresolved(place, notes)),
         _ => Ok(wrong(FaultCode::Type, place, notes)),
     }
 }

@@ -32,12 +32,12 @@ pub struct Opened {
     pub layers: Items<checked::Item>,
 }
 
-/// Answers what stands around the items of a new master.
-pub fn inside(around: Around, giving: Giving, draft: &Draft) -> Around
-    ensures { result ≡ spec.inside around giving draft.now }
+/// Answers what stands around the items of a new master; where its level cannot be counted, that is answered as want of memory.
+pub fn inside(around: Around, giving: Giving, draft: &Draft) -> Result<Around, AllocError>
+    ensures { IfOk result (λ inner. inner ≡ spec.inside around giving draft.now) }
 {
-    Around {
-        level: around.level.saturating_add(1),
+    Ok(Around {
+        level: around.level.checked_add(1).ok_or(AllocError)?,
         start: draft.tables.entries.len(),
         first_subprogram: draft.subprograms.len(),
         first_record: draft.tables.records.len(),
@@ -45,18 +45,18 @@ pub fn inside(around: Around, giving: Giving, draft: &Draft) -> Around
         looping: Looping::Outside,
         handling: Handling::Outside,
         giving,
-    }
+    })
 }
 
 /// Answers what stands around the items of a block: the exits, returns and raises in it may leave what stands around it (RM 5.7, 6.5).
-pub fn inside_block(around: Around, draft: &Draft) -> Around
-    ensures { result ≡ spec.inside_block around draft.now }
+pub fn inside_block(around: Around, draft: &Draft) -> Result<Around, AllocError>
+    ensures { IfOk result (λ inner. inner ≡ spec.inside_block around draft.now) }
 {
-    Around {
+    Ok(Around {
         looping: around.looping,
         handling: around.handling,
-        ..inside(around, around.giving, draft)
-    }
+        ..inside(around, around.giving, draft)?
+    })
 }
 
 /// Enters a master: it has slots of its own.

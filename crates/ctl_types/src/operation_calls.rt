@@ -7,7 +7,6 @@ ghost use Rattle.ctl_typing.specs.Senses.{suffix_sense};
 ghost use Rattle.ctl_typing.specs.Typing.{sense};
 
 use crate::operations::{operation_formals, provides};
-use crate::types::is_limited;
 use crate::writing::writing;
 use ctl_program::expression::{Expr, Name as CheckedName};
 use ctl_program::statement::Stmt;
@@ -20,7 +19,7 @@ use ctl_tree::span::Span;
 use ctl_typing::expressions::{actuals, expression, found};
 use ctl_typing::found::{Asked, Found};
 use ctl_typing::judging::wrong;
-use ctl_typing::lookup::root_of;
+use ctl_typing::lookup::{is_limited, root_of};
 use ctl_typing::names::settled;
 use ctl_typing::notes::Notes;
 use ctl_typing::table::Tables;

@@ -358,7 +358,7 @@ fn block(
 ) -> Result<Option<Stmt>, AllocError>
     ensures { Judges (spec.block place (spec.body body.now) around) draft.old result draft.new }
 {
-    let inside = inside_block(around, draft);
+    let inside = inside_block(around, draft)?;
     let outer = enter_master(alloc, draft);
     let judged = master(alloc, body, place, inside, draft)?;
     leave_master(outer, draft);
@@ -451,7 +451,7 @@ fn item(
             )
         }
         ItemKind::Incomplete(name, taggedness) => {
-            Ok(Some(incomplete(alloc, name, *taggedness, draft)?))
+            Ok(Some(incomplete(alloc, name, *taggedness, around, draft)?))
         }
         ItemKind::Type(name, definition) => {
             Ok(Some(type_definition(alloc, place, name, definition, around, draft)?))
@@ -502,7 +502,7 @@ fn subprogram_body(
 ) -> Result<Option<Master>, AllocError>
     ensures { Judges (spec.subprogram_body place specification.now (spec.body body.now) around giving) draft.old result draft.new }
 {
-    let inside = inside(around, giving, draft);
+    let inside = inside(around, giving, draft)?;
     let returning = draft.returning;
     let outer = enter_master(alloc, draft);
     draft.returning = Returning::Nowhere;

@@ -15,7 +15,7 @@ use ctl_syntax::denoted::{Denoted, LibraryName, Use};
 use ctl_syntax::name::Mark;
 use ctl_tree::fault::FaultCode;
 use ctl_tree::span::Span;
-use ctl_typing::judging::{note, note_early};
+use ctl_typing::judging::{note, note_early, unresolved};
 use ctl_typing::notes::Notes;
 use ctl_typing::table::{AccessEntry, Entry, Tables};
 use sqlite_items::Items;
@@ -95,7 +95,7 @@ fn clause_type(
         Denoted::Declared(number, _) => clause_entry(tables, around, place, number, notes),
         Denoted::Library(name) => misplaced(is_library_type(name), place, notes),
         Denoted::Operation(_) => misplaced(false, place, notes),
-        Denoted::Unknown => None,
+        Denoted::Unknown => unresolved(place, notes),
     }
 }
 

@@ -4,8 +4,8 @@ ghost use Rattle.std.specs.Prelude.{◌≡◌, IfOk, reverse, slice_get};
 ghost use Rattle.ctl_types.specs.Elaboration as spec;
 ghost use Rattle.ctl_types.specs.Parts as part;
 
-use crate::draft::Draft;
-use ctl_program::program::Checked;
+use crate::draft::{Draft, Routine};
+use ctl_program::program::{Checked, Subprogram};
 use ctl_program::types::{AccessType, Component, RecordType, Var};
 use ctl_typing::operators::appended;
 use ctl_typing::table::{AccessEntry, Designated, RecordEntry, RecordState};
@@ -121,6 +121,70 @@ fn access_types(
     Ok(done)
 }
 
+/// Makes a subprogram of the program, where it has its body.
+fn bodied(routine: Routine) -> Option<Subprogram>
+    ensures { result ≡ spec.subprogram_with routine routine.body }
+{
+    match routine.body {
+        Some(body) => Some(Subprogram {
+            level: routine.level,
+            kind: routine.kind,
+            body,
+        }),
+        None => None,
+    }
+}
+
+/// Makes the subprograms of the program, the last of which stand first, where each has its body.
+fn subprograms_of(
+    alloc: Global,
+    routines: Items<Routine>,
+) -> Result<Option<Items<Subprogram>>, AllocError>
+    ensures { IfOk result (λ all. all ≡ spec.subprograms (reverse routines)) }
+{
+    let mut left = routines;
+    let mut done = Some(Items::new(alloc));
+    while let Some(routine) = left.pop() {
+        done = appended(done, bodied(routine))?;
+    }
+    Ok(done)
+}
+
+/// Makes the subprograms of the program, in their order, where each has its body.
+fn subprograms(
+    alloc: Global,
+    routines: Items<Routine>,
+) -> Result<Option<Items<Subprogram>>, AllocError>
+    ensures { IfOk result (λ all. all ≡ spec.subprograms routines) }
+{
+    subprograms_of(alloc, turned(alloc, routines)?)
+}
+
+/// Makes the components of the record types, the last of which stand first, where those of each are known.
+fn components_of(
+    alloc: Global,
+    components: Items<Option<Items<Component>>>,
+) -> Result<Option<Items<Items<Component>>>, AllocError>
+    ensures { IfOk result (λ all. all ≡ spec.components_known (reverse components)) }
+{
+    let mut left = components;
+    let mut done = Some(Items::new(alloc));
+    while let Some(own) = left.pop() {
+        done = appended(done, own)?;
+    }
+    Ok(done)
+}
+
+/// Makes the components of the record types, in their order, where those of each are known.
+fn components_known(
+    alloc: Global,
+    components: Items<Option<Items<Component>>>,
+) -> Result<Option<Items<Items<Component>>>, AllocError>
+    ensures { IfOk result (λ all. all ≡ spec.components_known components) }
+{
+    components_of(alloc, turned(alloc, components)?)
+}
+
 /// Makes the program of what was checked, where all is known.
 pub fn checked_of(alloc: Global, draft: Draft) -> Result<Option<Checked>, AllocError>
     ensures { IfOk result (λ program. program ≡ spec.checked_of draft) }
@@ -129,14 +193,20 @@ pub fn checked_of(alloc: Global, draft: Draft) -> Result<Option<Checked>, AllocE
     let Some(accesses) = access_types(alloc, tables.states.accesses.as_slice())? else {
         return Ok(None);
     };
+    let Some(subprograms) = subprograms(alloc, draft.subprograms)? else {
+        return Ok(None);
+    };
+    let Some(components) = components_known(alloc, draft.components)? else {
+        return Ok(None);
+    };
     let entries = tables.records.as_slice();
     let states = tables.states.records.as_slice();
-    let records = record_types(alloc, entries, states, draft.components)?;
+    let records = record_types(alloc, entries, states, components)?;
     Ok(Some(Checked {
         exceptions: draft.exceptions,
         records,
         accesses,
-        subprograms: draft.subprograms,
+        subprograms,
         main: 0,
     }))
 }

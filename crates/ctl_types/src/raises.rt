@@ -14,7 +14,7 @@ use ctl_syntax::item::Choices;
 use ctl_syntax::name::Mark;
 use ctl_tree::fault::FaultCode;
 use ctl_tree::span::Span;
-use ctl_typing::judging::wrong;
+use ctl_typing::judging::{unresolved, wrong};
 use ctl_typing::notes::Notes;
 use ctl_typing::operators::appended;
 use ctl_typing::table::{Entry, Tables};
@@ -53,7 +53,7 @@ fn exception_denoted(
         Denoted::Library(LibraryName::ConstraintError) => Some(CONSTRAINT_ERROR),
         Denoted::Library(LibraryName::ProgramError) => Some(PROGRAM_ERROR),
         Denoted::Library(LibraryName::StorageError) => Some(STORAGE_ERROR),
-        Denoted::Unknown => None,
+        Denoted::Unknown => unresolved(place, notes),
         _ => wrong(FaultCode::Type, place, notes),
     }
 }

@@ -12,7 +12,7 @@ use crate::draft::{Around, Draft, Enclosing};
 use crate::freezing::done_by;
 use crate::named_types::named_type;
 use crate::operations::no_operations;
-use crate::types::{is_controlled, is_limited};
+use crate::types::is_controlled;
 use ctl_program::statement::Item;
 use ctl_program::types::{Component, Operations, Root, Ty};
 use ctl_syntax::denoted::Use;
@@ -21,7 +21,7 @@ use ctl_syntax::name::Mark;
 use ctl_tree::fault::FaultCode;
 use ctl_tree::span::Span;
 use ctl_typing::judging::wrong;
-use ctl_typing::lookup::root_of;
+use ctl_typing::lookup::{is_limited, root_of};
 use ctl_typing::notes::{Deed, Notes};
 use ctl_typing::table::{
     ComponentEntry, Concreteness, Control, Defaults, Entry, Freezing, RecordEntry, RecordState,
@@ -142,7 +142,7 @@ fn inherited_operations(tables: &Tables, parent: Option<usize>) -> Operations
 fn add_record(
     entry: RecordEntry,
     state: RecordState,
-    components: Items<Component>,
+    components: Option<Items<Component>>,
     draft: &mut Draft,
 ) -> Result<(), AllocError>
     ensures { OnOk result (draft.new ≡ spec.add_record entry state components draft.old) }
@@ -167,7 +167,6 @@ fn enter_record(
     let ty = Ty::Record(draft.tables.records.len());
     let state = inherited_state(&draft.tables, within.parent);
     let entry = take_record(alloc, around, root, said, within.parent, draft);
-    let components = components.unwrap_or(Items::new(alloc));
     add_record(entry, state, components, draft)?;
     enter_type(around, within.number, ty, draft)
 }
@@ -295,16 +294,17 @@ fn extend(
 /// Declares a type whose parent is wrong: nothing is known of it, and its components are judged all the same.
 fn extend_nothing(
     alloc: Global,
+    around: Around,
     place: Span,
     number: usize,
     declared: &[Components<Use>],
     draft: &mut Draft,
 ) -> Result<(), AllocError>
-    ensures { OnOk result (draft.new ≡ spec.enter_unknown number (spec.components (spec.underived place number) declared.now draft.old)) }
+    ensures { OnOk result (draft.new ≡ spec.enter_unknown around number (spec.components (spec.underived place number) declared.now draft.old)) }
 {
     components(alloc, underived(place, number), declared, draft)?;
     take_own(alloc, draft);
-    draft.enter(number, Entry::Unknown)
+    draft.enter(around, number, Entry::Unknown)
 }
 
 /// Declares a type that extends another (RM 3.9.1).
@@ -323,6 +323,6 @@ pub fn extension(
     if let Some(parent) = parent {
         return extend(alloc, around, place, number, parent, declared, draft);
     }
-    extend_nothing(alloc, place, number, declared, draft)?;
+    extend_nothing(alloc, around, place, number, declared, draft)?;
     silent(alloc)
 }

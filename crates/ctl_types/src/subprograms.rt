@@ -1,18 +1,18 @@
 //! Subprograms: their declarations, and what is known where their bodies begin and end (RM 6.1, 6.3).
 
+ghost use Rattle.std.specs.Option.{option_copied};
 ghost use Rattle.std.specs.Prelude.{◌≡◌, ◌++◌, IfOk, OnOk, Some, map, slice_get};
 ghost use Rattle.ctl_types.specs.Declarations as spec;
 ghost use Rattle.ctl_types.specs.Elaboration as elaboration;
 ghost use Rattle.ctl_typing.specs.Judgement.{Judges, Yields};
 
-use crate::draft::{Around, Draft, Giving};
+use crate::draft::{Around, Draft, Giving, Routine};
 use crate::freezing::freeze_all;
 use crate::headings::{Heading, heading};
 use crate::masters::Opened;
 use crate::overriding::{has_same_formals, keep_indicator, play, role_of};
 use ctl_grammar::spelling::is_same_name;
 use ctl_program::operators::SubprogramKind;
-use ctl_program::program::Subprogram;
 use ctl_program::statement as checked;
 use ctl_program::types::Ty;
 use ctl_syntax::denoted::{Definition, Use};
@@ -36,31 +36,18 @@ fn kind_of(returned: &Option<Mark<Use>>) -> SubprogramKind
     }
 }
 
-/// Makes what stands for a body that has not come yet.
-fn no_body(alloc: Global) -> checked::Master
-    ensures { result ≡ spec.no_body }
-{
-    checked::Master {
-        slots: 0,
-        items: Items::new(alloc),
-        body: Items::new(alloc),
-        handlers: Items::new(alloc),
-    }
-}
-
 /// Adds a subprogram without its body, with the next number.
 pub fn add_subprogram(
-    alloc: Global,
     around: Around,
     kind: SubprogramKind,
     draft: &mut Draft,
 ) -> Result<(), AllocError>
     ensures { OnOk result (draft.new ≡ spec.add_subprogram around kind draft.old) }
 {
-    draft.subprograms.push(Subprogram {
+    draft.subprograms.push(Routine {
         level: around.level,
         kind,
-        body: no_body(alloc),
+        body: None,
     })
 }
 
@@ -108,6 +95,16 @@ fn entry_of(subprogram: usize, names: Items<Text>, heading: Option<Heading>) -> 
     }
 }
 
+/// Answers the number of a subprogram that takes a body: its heading is known.
+fn numbered(subprogram: usize, heading: &Option<Heading>) -> Option<usize>
+    ensures { result ≡ spec.numbered subprogram heading.now }
+{
+    match heading {
+        None => None,
+        Some(_) => Some(subprogram),
+    }
+}
+
 /// Declares a subprogram, with the next number.
 fn introduce(
     alloc: Global,
@@ -121,10 +118,11 @@ fn introduce(
     let number = draft.subprograms.len();
     let role = role_of(alloc, around, specification, &heading, &draft.tables)?;
     play(specification.name.identifier.span, number, role, draft);
-    add_subprogram(alloc, around, kind_of(&specification.result), draft)?;
+    add_subprogram(around, kind_of(&specification.result), draft)?;
     let names = formal_names(alloc, specification.formals.as_slice())?;
+    let taking = numbered(number, &heading);
     draft.declare(entry_of(number, names, heading))?;
-    Ok(Some(number))
+    Ok(taking)
 }
 
 /// Declares a subprogram whose body stands behind (RM 6.1).
@@ -193,15 +191,49 @@ fn has_conformed(profile: &Profile, names: &[Text], heading: &Option<Heading>) -
     }
 }
 
+/// Tells whether there is a subprogram that is declared so deep.
+fn is_of_level(level: usize, routine: Option<&Routine>) -> bool
+    ensures { result ≡ spec.is_of_level level (option_copied routine.routine) }
+{
+    match routine {
+        None => false,
+        Some(routine) => routine.level == level,
+    }
+}
+
+/// Answers the subprogram of the part that takes a body which repeats its declaration (RM 6.3.1).
+fn completes(
+    around: Around,
+    routines: &[Routine],
+    profile: &Profile,
+    names: &[Text],
+    heading: &Option<Heading>,
+) -> Option<usize>
+    ensures { result ≡ spec.completes around routines.now profile.now names.now heading.now }
+{
+    match heading {
+        None => None,
+        Some(heading) => {
+            let routine = sqlite_items::at(routines, profile.subprogram);
+            if conforms(profile, names, heading) && is_of_level(around.level, routine) {
+                Some(profile.subprogram)
+            } else {
+                None
+            }
+        }
+    }
+}
+
 /// Answers the subprogram that a body completes; the body repeats its declaration (RM 6.3.1).
 fn completed(
     alloc: Global,
+    around: Around,
     place: Span,
     specification: &Specification<Definition, Use>,
     heading: Option<Heading>,
     draft: &mut Draft,
 ) -> Result<Option<usize>, AllocError>
-    ensures { Judges (λ d. spec.completed place specification.now (slice_get d.tables.entries specification.now.name.number) (heading, d)) draft.old result draft.new }
+    ensures { Judges (λ d. spec.completed around place specification.now (slice_get d.tables.entries specification.now.name.number) (heading, d)) draft.old result draft.new }
 {
     let names = formal_names(alloc, specification.formals.as_slice())?;
     let entries = draft.tables.entries.as_slice();
@@ -209,11 +241,12 @@ fn completed(
     else {
         return Ok(None);
     };
-    let number = profile.subprogram;
+    let routines = draft.subprograms.as_slice();
+    let number = completes(around, routines, profile, names.as_slice(), &heading);
     let is_kept = has_conformed(profile, names.as_slice(), &heading);
     draft.fault_when(!is_kept, FaultCode::Type, place);
     keep_indicator(specification, draft);
-    Ok(Some(number))
+    Ok(number)
 }
 
 /// Answers the subprogram of a body, which may complete a declaration (RM 6.3).
@@ -227,8 +260,8 @@ fn subprogram_of(
 ) -> Result<Option<usize>, AllocError>
     ensures { Judges (λ d. spec.subprogram_of around place specification.now (heading, d)) draft.old result draft.new }
 {
-    if specification.name.number < draft.tables.entries.len() {
-        completed(alloc, place, specification, heading, draft)
+    if draft.is_declared_in(around, specification.name.number) {
+        completed(alloc, around, place, specification, heading, draft)
     } else {
         introduce(alloc, around, specification, heading, draft)
     }
@@ -278,10 +311,10 @@ pub fn put_body(number: Option<usize>, master: checked::Master, draft: &mut Draf
         let kind = found.kind;
         draft.subprograms.set(
             number,
-            Subprogram {
+            Routine {
                 level,
                 kind,
-                body: master,
+                body: Some(master),
             },
         );
     }

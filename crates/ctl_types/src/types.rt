@@ -3,15 +3,13 @@
 ghost use Rattle.std.specs.Prelude.{◌≡◌, slice_get};
 ghost use Rattle.ctl_typing.specs.Judgement.{Answers};
 ghost use Rattle.ctl_types.specs.Marks as spec;
-ghost use Rattle.ctl_types.specs.Statements as statements;
 
 use ctl_program::types::{Root, Ty, Var};
 use ctl_syntax::denoted::{Denoted, Use};
-use ctl_syntax::item::Limitation;
 use ctl_syntax::name::Mark;
 use ctl_tree::fault::FaultCode;
 use ctl_tree::span::Span;
-use ctl_typing::judging::note;
+use ctl_typing::judging::{note, unresolved};
 use ctl_typing::lookup::root_of;
 use ctl_typing::notes::Notes;
 use ctl_typing::table::{Control, Entry, ObjectEntry, Standing, Tables};
@@ -59,19 +57,6 @@ pub fn is_controlled(tables: &Tables, ty: Ty) -> bool
     }
 }
 
-/// Tells whether a type is limited (RM 7.5).
-pub fn is_limited(tables: &Tables, ty: Ty) -> bool
-    ensures { result ≡ statements.is_limited tables.now ty }
-{
-    match ty {
-        Ty::Record(number) => match sqlite_items::at(tables.records.as_slice(), number) {
-            Some(entry) => entry.limitation == Limitation::Limited,
-            None => false,
-        },
-        _ => false,
-    }
-}
-
 /// Answers the pool that an object is: a declared one, of a pool type.
 fn pool_standing(
     tables: &Tables,
@@ -99,7 +84,7 @@ pub fn pool_named(tables: &Tables, mark: &Mark<Use>, notes: &mut Notes) -> Optio
     let place = mark.first.span;
     if mark.rest.is_empty() {
         match mark.first.denoted {
-            Denoted::Unknown => return None,
+            Denoted::Unknown => return unresolved(place, notes),
             Denoted::Declared(number, _) => {
                 match sqlite_items::at(tables.entries.as_slice(), number) {
                     Some(Entry::Object(object)) => {

@@ -67,11 +67,18 @@ impl Draft {
         self.tables.entries.push(entry)
     }
 
-    /// Enters the declaration of a number: a new one, or what completes one that is in view (RM 3.11.1).
-    pub fn enter(&mut self, number: usize, entry: Entry) -> Result<(), AllocError>
-        ensures { OnOk result (self.new ≡ spec.enter number entry self.old) }
+    /// Tells whether the part around has a declaration of a number.
+    pub fn is_declared_in(&self, around: Around, number: usize) -> bool
+        ensures { result ≡ spec.is_declared_in around number self.now }
     {
-        if number < self.tables.entries.len() {
+        around.start <= number && number < self.tables.entries.len()
+    }
+
+    /// Enters the declaration of a number: a new one, or what completes one of the part (RM 3.11.1).
+    pub fn enter(&mut self, around: Around, number: usize, entry: Entry) -> Result<(), AllocError>
+        ensures { OnOk result (self.new ≡ spec.enter around number entry self.old) }
+    {
+        if self.is_declared_in(around, number) {
             self.tables.entries.set(number, entry);
             return Ok(());
         }

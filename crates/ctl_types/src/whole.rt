@@ -45,7 +45,7 @@ fn declare_main(alloc: Global, name: &Definition, draft: &mut Draft) -> Result<(
     ensures { OnOk result (draft.new ≡ spec.main_declared name.now draft.old) }
 {
     keep_name(name, draft);
-    add_subprogram(alloc, outside(), SubprogramKind::Procedure, draft)?;
+    add_subprogram(outside(), SubprogramKind::Procedure, draft)?;
     draft.declare(Entry::Subprogram(Profile {
         subprogram: MAIN,
         formals: Items::new(alloc),
@@ -58,27 +58,34 @@ fn declare_main(alloc: Global, name: &Definition, draft: &mut Draft) -> Result<(
 fn main_judged(alloc: Global, tree: &Named, draft: &mut Draft) -> Result<Option<Master>, AllocError>
     ensures { Judges (spec.main_judged tree.now) draft.old result draft.new }
 {
-    let around = inside(outside(), Giving::Nothing, draft);
+    let around = inside(outside(), Giving::Nothing, draft)?;
     let outer = enter_master(alloc, draft);
     let judged = master(alloc, &tree.body, tree.span, around, draft)?;
     leave_master(outer, draft);
     Ok(judged)
 }
 
-/// Answers what is known before the text, and the first rule on names that it breaks, if it breaks any.
-fn begin(alloc: Global, broken: Option<Fault>) -> Result<Draft, AllocError>
-    ensures { IfOk result (λ draft. draft ≡ spec.begun broken) }
+/// Answers what is known before the text, and the first broken rule on names and the first use clause of what is no package, if there are
+/// such.
+fn begin(alloc: Global, names: Option<Fault>, uses: Option<Fault>) -> Result<Draft, AllocError>
+    ensures { IfOk result (λ draft. draft ≡ spec.begun names uses) }
 {
     let mut draft = library(alloc)?;
-    draft.notes.early = broken;
+    draft.notes.early = names;
+    draft.notes.fault = uses;
     Ok(draft)
 }
 
 /// Judges the whole text, as far as no rule is broken.
-fn whole(alloc: Global, broken: Option<Fault>, tree: &Named) -> Result<Draft, AllocError>
-    ensures { IfOk result (λ draft. draft ≡ spec.whole broken tree.now) }
+fn whole(
+    alloc: Global,
+    names: Option<Fault>,
+    uses: Option<Fault>,
+    tree: &Named,
+) -> Result<Draft, AllocError>
+    ensures { IfOk result (λ draft. draft ≡ spec.whole names uses tree.now) }
 {
-    let mut draft = begin(alloc, broken)?;
+    let mut draft = begin(alloc, names, uses)?;
     declare_main(alloc, &tree.name, &mut draft)?;
     let judged = main_judged(alloc, tree, &mut draft)?;
     if let Some(body) = judged {
@@ -106,19 +113,25 @@ fn verdict(alloc: Global, place: Span, draft: Draft) -> Result<Result<Checked, F
 /// Answers what the resolved tree of a text gives.
 fn elaborated(
     alloc: Global,
-    broken: Option<Fault>,
+    names: Option<Fault>,
+    uses: Option<Fault>,
     tree: &Named,
 ) -> Result<Result<Checked, Fault>, AllocError>
-    ensures { IfOk result (λ verdict. verdict ≡ spec.elaborate broken tree.now) }
+    ensures { IfOk result (λ verdict. verdict ≡ spec.elaborate names uses tree.now) }
 {
-    let draft = whole(alloc, broken, tree)?;
+    let draft = whole(alloc, names, uses, tree)?;
     verdict(alloc, tree.span, draft)
 }
 
-/// Answers the checked program of a resolved tree, or its first fault, where the resolver's first broken rule is given; or that memory was
-/// refused.
-pub fn check(alloc: Global, tree: &Named, broken: Option<Fault>) -> Result<Checked, Fault>
-    ensures { spec.Elaborates broken tree.now result }
+/// Answers the checked program of a resolved tree, or its first fault, where the resolver's first broken rules on names and on use clauses
+/// are given; or that memory was refused.
+pub fn check(
+    alloc: Global,
+    tree: &Named,
+    names: Option<Fault>,
+    uses: Option<Fault>,
+) -> Result<Checked, Fault>
+    ensures { spec.Elaborates names uses tree.now result }
 {
-    elaborated(alloc, broken, tree)?
+    elaborated(alloc, names, uses, tree)?
 }

@@ -10,7 +10,7 @@ use Rattle.ctl_program.specs.declared.expression.Expr.TheVariants as e
 use Rattle.ctl_typing.specs.declared.found.Found.{Found}
 use Rattle.ctl_typing.specs.declared.found.Typed.{Typed}
 use Rattle.ctl_typing.specs.Judgement.{Judgement, known, onward, ◌>>=◌, doing}
-use Rattle.ctl_typing.specs.Typing.{making, allocates, settled, handle_found}
+use Rattle.ctl_typing.specs.Typing.{making, allocates, settled, handle_found, in_subpools}
 
 abbrev pub allocated : ℕ → Ty → Option Expr → Option Expr → Judgement Typed
 allocated a t handle value = doing (making a t value) (record { ty = ty.Access a; value = e.New a t handle value })
@@ -24,5 +24,5 @@ abbrev pub by_parts : Tables → Span → Asked → Option Expr × (Ty × Option
 by_parts tables place asked r = allocates tables place asked r.1.0 >>= (λ a. allocated a r.1.0 r.0 r.1.1)
 
 -- the handle of an allocator, once it may be known what its name is
-abbrev pub handle_of : Tables → Span → Option Found → Judgement (Option Expr)
-handle_of tables place f = onward f (settled tables place) >>= handle_found place >>= given
+abbrev pub handle_of : Tables → Span → Asked → Option Found → Judgement (Option Expr)
+handle_of tables place asked f = onward f (settled tables place) >>= handle_found place >>= in_subpools tables place asked >>= given

@@ -2,6 +2,7 @@
 use Rattle.std.specs.Prelude.{◌≡◌, List, [], ◌∷◌, ◌++◌, Option, Some, None, Result, Ok, Err}
 use Rattle.ctl_tree.specs.declared.span.Span.{Span}
 use Rattle.ctl_tree.specs.declared.fault.FaultCode.{FaultCode}
+use Rattle.ctl_tree.specs.declared.fault.FaultCode.TheVariants as rule
 use Rattle.ctl_program.specs.declared.types.Ty.{Ty}
 use Rattle.ctl_typing.specs.declared.notes.Deed.{Deed}
 use Rattle.ctl_typing.specs.declared.notes.Deed.TheVariants.{Freezes}
@@ -38,6 +39,10 @@ but code place a n = (Some a, with_fault code place n)
 -- a rule is broken, and nothing is known
 abbrev pub wrong : {A : Type 0} → FaultCode → Span → Judgement A
 wrong code place n = (None, with_fault code place n)
+
+-- a use that denotes nothing: the rules on names are broken there (8.3), and nothing is known
+abbrev pub unresolved : {A : Type 0} → Span → Judgement A
+unresolved place n = wrong rule.Unknown place n
 
 -- an expression does this to the part around it
 abbrev pub doing : {A : Type 0} → List Deed → A → Judgement A

@@ -3,8 +3,11 @@ use Rattle.std.specs.Prelude.{ℕ, zero, suc, Bool, true, false, ◌||◌, if◌
 use Rattle.ctl_grammar.specs.Spelling.{same_name}
 use Rattle.ctl_program.specs.declared.types.Ty.{Ty}
 use Rattle.ctl_program.specs.declared.types.Ty.TheVariants as ty
+use Rattle.ctl_program.specs.declared.types.Var.{Var}
 use Rattle.ctl_program.specs.declared.types.Root.{Root}
 use Rattle.ctl_program.specs.declared.types.Root.TheVariants as root
+use Rattle.ctl_syntax.specs.declared.item.Limitation.{Limitation}
+use Rattle.ctl_syntax.specs.declared.item.Limitation.TheVariants as limitation
 use Rattle.ctl_syntax.specs.declared.item.Generality.{Generality}
 use Rattle.ctl_syntax.specs.declared.item.Generality.TheVariants as generality
 use Rattle.ctl_typing.specs.declared.table.Tables.{Tables}
@@ -93,6 +96,19 @@ abbrev pub root_of : Option RecordEntry → Root
 root_of None = root.Untagged
 root_of (Some r) = r.root
 
+abbrev pub says_limited : Limitation → Bool
+says_limited limitation.Limited = true
+says_limited limitation.Nonlimited = false
+
+abbrev pub limited_in : Option RecordEntry → Bool
+limited_in None = false
+limited_in (Some r) = says_limited r.limitation
+
+-- whether values of a type cannot be copied (7.5)
+abbrev pub is_limited : Tables → Ty → Bool
+is_limited tables (ty.Record t) = limited_in (slice_get tables.records t)
+is_limited tables t = false
+
 -- Access types -------------------------------------------------------------------
 
 abbrev pub designated_in : AccessEntry → Option Ty
@@ -114,6 +130,20 @@ is_general (Some a) = says_all a.generality
     says_all : Generality → Bool
     says_all generality.General = true
     says_all generality.PoolSpecific = false
+
+abbrev pub is_mark_root : Root → Bool
+is_mark_root root.MarkPool = true
+is_mark_root r = false
+
+-- whether a pool is one with subpools (13.11.4)
+abbrev pub is_mark_pool : Tables → Option (Var × ℕ) → Bool
+is_mark_pool tables None = false
+is_mark_pool tables (Some p) = is_mark_root (root_of (slice_get tables.records p.1))
+
+-- whether the objects of an access type stand in subpools
+abbrev pub has_subpools : Tables → Option AccessEntry → Bool
+has_subpools tables None = false
+has_subpools tables (Some a) = is_mark_pool tables a.pool
 
 abbrev pub level_of_access : Option AccessEntry → ℕ
 level_of_access None = 0

@@ -78,8 +78,8 @@ use Rattle.ctl_typing.specs.declared.found.Head.TheVariants.{At, Given}
 use Rattle.ctl_typing.specs.declared.found.Place.{Place}
 use Rattle.ctl_typing.specs.declared.found.Found.{Found}
 use Rattle.ctl_typing.specs.declared.found.Found.TheVariants.{Part, TypeName, Callable, Computed, Subpools, Image, Imaged, Discriminant, View, Accessed}
-use Rattle.ctl_typing.specs.Judgement.{Judgement, known, but, wrong, doing, noting, ◌>>=◌, both, following, each}
-use Rattle.ctl_typing.specs.Lookup.{same, is_numeric, is_ordered, is_comparable, is_record, component_of, descends, root_of, designated_by, is_general, level_of_access}
+use Rattle.ctl_typing.specs.Judgement.{Judgement, known, but, wrong, unresolved, doing, noting, ◌>>=◌, both, following, each}
+use Rattle.ctl_typing.specs.Lookup.{same, is_numeric, is_ordered, is_comparable, is_record, component_of, descends, root_of, designated_by, is_general, is_limited, has_subpools, level_of_access}
 
 -- What a place asks -------------------------------------------------------------
 
@@ -171,7 +171,7 @@ first_found tables u = denotes tables u.span u.denoted
     denotes tables place (denoted.Declared number level) = entry_found place number (slice_get tables.entries number)
     denotes tables place (denoted.Library l) = library_found place l
     denotes tables place (denoted.Operation o) = wrong rule.«Type» place
-    denotes tables place denoted.Unknown = λ n. (None, n)
+    denotes tables place denoted.Unknown = unresolved place
 
 -- Calls (6.4) ----------------------------------------------------------------------------
 
@@ -325,19 +325,21 @@ abbrev pub viewed_as : Tables → Span → ℕ → Place → Ty → Judgement Fo
 viewed_as tables place t p (ty.Record s) = if descends tables t s then known (View (as_type (ty.Record t) p)) else wrong rule.Type place
 viewed_as tables place t p s = wrong rule.Type place
 
-abbrev pub viewed : Tables → Span → ℕ → Found → Judgement Found
-viewed tables place t (Part p) = viewed_as tables place t p p.ty
-viewed tables place t f = wrong rule.Type place
+-- what stands in the conversion begins at `inner`: another view is no value, and wrong itself
+abbrev pub viewed : Tables → Span → Span → ℕ → Found → Judgement Found
+viewed tables place inner t (Part p) = viewed_as tables place t p p.ty
+viewed tables place inner t (View p) = wrong rule.Type inner
+viewed tables place inner t f = wrong rule.Type place
 
-abbrev pub viewed_by : Tables → Span → ℕ → Option (Tables → Judgement Found) → Judgement Found
-viewed_by tables place t None = wrong rule.Type place
-viewed_by tables place t (Some name) = name tables >>= viewed tables place t
+abbrev pub viewed_by : Tables → Span → Span → ℕ → Option (Tables → Judgement Found) → Judgement Found
+viewed_by tables place inner t None = wrong rule.Type place
+viewed_by tables place inner t (Some name) = name tables >>= viewed tables place inner t
 
 abbrev pub converted : Tables → Span → Ty → Sense → Judgement Found
 converted tables place ty.Integer x = x.judged tables Number >>= converted_number ty.Integer
 converted tables place ty.Count x = x.judged tables Number >>= converted_number ty.Count
 converted tables place (ty.Access a) x = x.judged tables Anything >>= converted_access tables place a
-converted tables place (ty.Record t) x = viewed_by tables place t x.bare
+converted tables place (ty.Record t) x = viewed_by tables place x.place t x.bare
 converted tables place t x = wrong rule.Type place
 
 -- Functions on mark pools (13.11.4) -------------------------------------------------------------
@@ -570,11 +572,16 @@ comparison relational.GreaterEqual = op.GreaterEqual
 abbrev pub relation_of : RelationalOperator → Typed → Typed → Typed
 relation_of o l r = record { ty = ty.Boolean; value = e.Chain l.value (operand_of (comparison o) ty.Boolean r.value) [] }
 
+-- what is asked of the other operand of a comparison with one that takes on its type
+abbrev pub asked_beside : RelationalOperator → Adopts → Asked
+asked_beside o Numbers = Number
+asked_beside o a = compared o
+
 -- the right operand has the type of the left one; a literal or null on the left takes on that of the right one
 abbrev pub relation_judged : Span → RelationalOperator → Sense → Sense → Tables → Asked → Judgement Typed
 relation_judged place o l r tables asked =
     if adopts l.adopts && not (adopts r.adopts)
-    then (following (r.judged tables (compared o)) (λ t. l.judged tables (asked_like (compared o) t)) >>= (λ p. fits place asked (relation_of o p.1 p.0)))
+    then (following (r.judged tables (asked_beside o l.adopts)) (λ t. l.judged tables (asked_like (compared o) t)) >>= (λ p. fits place asked (relation_of o p.1 p.0)))
     else (following (l.judged tables (compared o)) (λ t. r.judged tables (asked_like (compared o) t)) >>= (λ p. fits place asked (relation_of o p.0 p.1)))
 
 -- an operand of a logical operator (4.5.1)
@@ -653,8 +660,14 @@ handle_found place (Part p) = if same p.ty ty.Handle then known (value_at p.head
 handle_found place (Computed t) = if same t.ty ty.Handle then known t.value else wrong rule.Type place
 handle_found place f = wrong rule.Type place
 
-abbrev pub handle_judged : Tables → Name Use Sense → Judgement Expr
-handle_judged tables h = found h.first h.suffixes tables >>= settled tables h.first.span >>= handle_found h.first.span
+-- a handle goes with an access type whose objects stand in subpools (4.8, 13.11.4)
+abbrev pub in_subpools : {A : Type 0} → Tables → Span → Asked → A → Judgement A
+in_subpools tables place (Exactly (ty.Access a)) x = if has_subpools tables (slice_get tables.states.accesses a) then known x else but rule.Pool place x
+in_subpools tables place asked x = known x
+
+-- the handle of an allocator of which its place may ask something
+abbrev pub handle_judged : Tables → Asked → Name Use Sense → Judgement Expr
+handle_judged tables asked h = found h.first h.suffixes tables >>= settled tables h.first.span >>= handle_found h.first.span >>= in_subpools tables h.first.span asked
 
 abbrev pub is_abstract : Concreteness → Bool
 is_abstract concreteness.Abstract = true
@@ -674,10 +687,14 @@ abbrev pub allocates : Tables → Span → Asked → Ty → Judgement ℕ
 allocates tables place (Exactly (ty.Access a)) t = if designates_this t (designated_by tables a) && has_objects tables t then known a else wrong rule.Type place
 allocates tables place asked t = wrong rule.Type place
 
-abbrev pub value_judged : Tables → Option Ty → Option Sense → Judgement (Option Expr)
-value_judged tables t None = known None
-value_judged tables None (Some x) = x.judged tables Anything >>= (λ r. known (Some r.value))
-value_judged tables (Some t) (Some x) = x.judged tables (Exactly t) >>= (λ r. known (Some r.value))
+-- what is asked of the value of a new object: its type, where that is known; an allocator gives no value to a limited object (7.5)
+abbrev pub value_asked : Tables → Span → Option Ty → Judgement Asked
+value_asked tables place None = known Anything
+value_asked tables place (Some t) = if is_limited tables t then but rule.Limited place (Exactly t) else known (Exactly t)
+
+abbrev pub value_judged : Tables → Span → Option Ty → Option Sense → Judgement (Option Expr)
+value_judged tables place t None = known None
+value_judged tables place t (Some x) = value_asked tables place t >>= x.judged tables >>= (λ r. known (Some r.value))
 
 -- it allocates, and creates an object, whose type is frozen with its own (13.14)
 abbrev pub creating : ℕ → Ty → List Deed
@@ -690,7 +707,7 @@ making a t (Some v) = creating a t
 
 abbrev pub new_judged : Span → Option (Name Use Sense) → Mark Use → Option Sense → Tables → Asked → Judgement Typed
 new_judged place handle mark value tables asked =
-    both (held (option_map (handle_judged tables) handle)) (following (mark_judged tables mark.first mark.rest) (λ t. value_judged tables t value)) >>= (λ r.
+    both (held (option_map (handle_judged tables asked) handle)) (following (mark_judged tables mark.first mark.rest) (λ t. value_judged tables place t value)) >>= (λ r.
     allocates tables place asked r.1.0 >>= (λ a. doing (making a r.1.0 r.1.1) (record { ty = ty.Access a; value = e.New a r.1.0 r.0 r.1.1 })))
 
 -- What is put (A.10.7; profile) --------------------------------------------------------------------------

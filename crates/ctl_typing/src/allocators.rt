@@ -1,14 +1,15 @@
 //! What an allocator makes (RM 4.8, 13.11.4).
 
-ghost use Rattle.std.specs.Prelude.{◌≡◌, IfOk, OnOk};
+ghost use Rattle.std.specs.Prelude.{◌≡◌, IfOk, OnOk, Some};
 ghost use Rattle.ctl_typing.specs.Judgement.{Answers, Judges, onward, with_deeds};
 ghost use Rattle.ctl_typing.specs.Typing as spec;
 ghost use Rattle.ctl_typing.specs.Typing.{creating};
 ghost use Rattle.ctl_typing.specs.Allocating as allocating;
 
 use crate::found::{Asked, Found, Typed};
-use crate::judging::{note_deed, wrong};
+use crate::judging::{note, note_deed, wrong};
 use crate::literals::first_found;
+use crate::lookup::{has_subpools, is_limited};
 use crate::names::{settled_known, value_at};
 use crate::notes::{Deed, Notes};
 use crate::table::{Concreteness, Tables};
@@ -146,23 +147,56 @@ pub fn mark_judged(
     }
 }
 
+/// Notes a handle where the objects of the access type that is asked stand in no subpools (RM 4.8, 13.11.4).
+fn in_subpools(
+    tables: &Tables,
+    place: Span,
+    asked: Asked,
+    handle: Expr,
+    notes: &mut Notes,
+) -> Expr
+    ensures { spec.in_subpools tables.now place asked handle notes.old ≡ (Some result, notes.new) }
+{
+    match asked {
+        Asked::Exactly(Ty::Access(access)) if !has_subpools(tables, access) => {
+            note(notes, FaultCode::Pool, place)
+        }
+        _ => {}
+    }
+    handle
+}
+
 /// Judges a name as a handle, where it is known what it is (RM 13.11.4).
 pub fn handle_of(
     alloc: Global,
     tables: &Tables,
     place: Span,
+    asked: Asked,
     found: Option<Found>,
     notes: &mut Notes,
 ) -> Result<Option<Option<Expr>>, AllocError>
-    ensures { Judges (allocating.handle_of tables.now place found) notes.old result notes.new }
+    ensures { Judges (allocating.handle_of tables.now place asked found) notes.old result notes.new }
 {
     let Some(found) = settled_known(alloc, tables, place, found, notes) else {
         return Ok(None);
     };
     match handle_found(alloc, place, found, notes)? {
-        Some(value) => Ok(Some(Some(value))),
+        Some(handle) => Ok(Some(Some(in_subpools(tables, place, asked, handle, notes)))),
         None => Ok(None),
     }
+}
+
+/// Answers what is asked of the value of a new object: its type, where that is known. A limited object begins with no value (RM 4.8, 7.5).
+pub fn value_asked(tables: &Tables, place: Span, ty: Option<Ty>, notes: &mut Notes) -> Asked
+    ensures { spec.value_asked tables.now place ty notes.old ≡ (Some result, notes.new) }
+{
+    let Some(ty) = ty else {
+        return Asked::Anything;
+    };
+    if is_limited(tables, ty) {
+        note(notes, FaultCode::Limited, place);
+    }
+    Asked::Exactly(ty)
 }
 
 /// Judges an allocator by its parts, where they are known: the handle, the type and the value (RM 4.8).

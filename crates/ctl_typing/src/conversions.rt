@@ -86,19 +86,16 @@ pub fn converted_access(
     at_level(place, operand, level_of_access(tables, access), part, notes)
 }
 
-/// Views a record object as its ancestor (RM 4.6).
-pub fn viewed(
+/// Views a part as a record type, its ancestor (RM 4.6).
+fn viewed_as(
     tables: &Tables,
     place: Span,
     number: usize,
-    found: Found,
+    part: Place,
     notes: &mut Notes,
 ) -> Option<Found>
-    ensures { Answers (spec.viewed tables.now place number found) notes.old result notes.new }
+    ensures { Answers (spec.viewed_as tables.now place number part part.ty) notes.old result notes.new }
 {
-    let Found::Part(part) = found else {
-        return wrong(FaultCode::Type, place, notes);
-    };
     match part.ty {
         Ty::Record(from) if descends(tables, number, from) => Some(Found::View(Place {
             head: part.head,
@@ -107,6 +104,24 @@ pub fn viewed(
             mutability: part.mutability,
             aliasing: part.aliasing,
         })),
+        _ => wrong(FaultCode::Type, place, notes),
+    }
+}
+
+/// Views a record object as its ancestor; another view is no value, and wrong where it begins itself (RM 4.6).
+pub fn viewed(
+    tables: &Tables,
+    place: Span,
+    inner: Span,
+    number: usize,
+    found: Found,
+    notes: &mut Notes,
+) -> Option<Found>
+    ensures { Answers (spec.viewed tables.now place inner number found) notes.old result notes.new }
+{
+    match found {
+        Found::Part(part) => viewed_as(tables, place, number, part, notes),
+        Found::View(_) => wrong(FaultCode::Type, inner, notes),
         _ => wrong(FaultCode::Type, place, notes),
     }
 }

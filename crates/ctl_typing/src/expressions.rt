@@ -8,7 +8,7 @@ ghost use Rattle.ctl_typing.specs.Typing as spec;
 
 use crate::actuals::{record_handed_on, written_found};
 use crate::adopting::{adopts, has_joining, is_led_by_right, parted, place_of, takes_on};
-use crate::allocators::{allocator, handle_of, mark_judged};
+use crate::allocators::{allocator, handle_of, mark_judged, value_asked};
 use crate::attributes::attributed;
 use crate::conversions::{converted_access, converted_number, imaged, subpool_of, viewed};
 use crate::found::{Asked, Found, Typed};
@@ -21,7 +21,7 @@ use crate::literals::{adopted, first_found, null, number};
 use crate::lookup::profile_of;
 use crate::names::{dereference, result_found, selector};
 use crate::notes::Notes;
-use crate::operators::{appended, asked_by_one, asked_like, compared};
+use crate::operators::{appended, asked_beside, asked_by_one, asked_like, compared};
 use crate::table::{FormalEntry, Tables};
 use crate::values::name_value;
 use ctl_program::expression::{Actual, Expr, Operand};
@@ -96,9 +96,9 @@ pub fn expression(
         }
         Expression::Parentheses(_, inner) => expression(alloc, tables, inner.get(), asked, notes),
         Expression::New(place, handle, mark, value) => {
-            let handle = handle_or_none(alloc, tables, handle, notes)?;
+            let handle = handle_or_none(alloc, tables, handle, asked, notes)?;
             let ty = mark_judged(alloc, tables, mark.first, mark.rest.as_slice(), notes)?;
-            let value = value_or_none(alloc, tables, value, ty, notes)?;
+            let value = value_or_none(alloc, tables, value, *place, ty, notes)?;
             let parts = paired(handle, paired(ty, value));
             allocator(alloc, tables, *place, asked, parts, notes)
         }
@@ -226,7 +226,8 @@ fn relation(
 {
     let taken = compared(operator);
     if is_led_by_right(left, right) {
-        let right = expression(alloc, tables, right, taken, notes)?;
+        let beside = asked_beside(operator, adopts(left));
+        let right = expression(alloc, tables, right, beside, notes)?;
         let left = expression(alloc, tables, left, asked_like(taken, &right), notes)?;
         let both = swapped(paired(right, left));
         return relation_joined(alloc, place, operator, both, asked, notes);
@@ -576,7 +577,7 @@ fn converted(
             None => Ok(None),
         },
         Ty::Record(number) => match bare(alloc, tables, x, FaultCode::Type, place, notes)? {
-            Some(part) => Ok(viewed(tables, place, number, part, notes)),
+            Some(part) => Ok(viewed(tables, place, place_of(x), number, part, notes)),
             None => Ok(None),
         },
         Ty::Boolean | Ty::Address | Ty::Handle => Ok(wrong(FaultCode::Type, place, notes)),
@@ -764,22 +765,23 @@ fn called(
     }
 }
 
-/// Judges the handle of an allocator, where it has one (RM 13.11.4).
+/// Judges the handle of an allocator, where it has one, by the type that is asked of the allocator (RM 13.11.4).
 #[cycle(expression)]
 fn handle_or_none(
     alloc: Global,
     tables: &Tables,
     handle: &Option<Boxed<Name<Use, Expression<Use>>>>,
+    asked: Asked,
     notes: &mut Notes,
 ) -> Result<Option<Option<Expr>>, AllocError>
-    ensures { Judges (spec.held (option_map (spec.handle_judged tables.now) (option_map senses.name_sense handle.now))) notes.old result notes.new }
+    ensures { Judges (spec.held (option_map (spec.handle_judged tables.now asked) (option_map senses.name_sense handle.now))) notes.old result notes.new }
 {
     let Some(name) = handle else {
         return Ok(Some(None));
     };
     let name = name.get();
     let found = found(alloc, tables, name, notes)?;
-    handle_of(alloc, tables, name.first.span, found, notes)
+    handle_of(alloc, tables, name.first.span, asked, found, notes)
 }
 
 /// Judges the value of an allocator, where it has one, by the type of the new object, where that is known (RM 4.8).
@@ -788,18 +790,16 @@ fn value_or_none(
     alloc: Global,
     tables: &Tables,
     value: &Option<Boxed<Expression<Use>>>,
+    place: Span,
     ty: Option<Ty>,
     notes: &mut Notes,
 ) -> Result<Option<Option<Expr>>, AllocError>
-    ensures { Judges (spec.value_judged tables.now ty (option_map spec.sense value.now)) notes.old result notes.new }
+    ensures { Judges (spec.value_judged tables.now place ty (option_map spec.sense value.now)) notes.old result notes.new }
 {
     let Some(value) = value else {
         return Ok(Some(None));
     };
-    let asked = match ty {
-        Some(ty) => Asked::Exactly(ty),
-        None => Asked::Anything,
-    };
+    let asked = value_asked(tables, place, ty, notes);
     match expression(alloc, tables, value.get(), asked, notes)? {
         Some(typed) => Ok(Some(Some(typed.value))),
         None => Ok(None),

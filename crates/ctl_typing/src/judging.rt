@@ -35,6 +35,13 @@ pub fn wrong<T>(code: FaultCode, place: Span, notes: &mut Notes) -> Option<T>
     None
 }
 
+/// Notes a use that denotes nothing: the rules on names are broken there (RM 8.3), and nothing is known.
+pub fn unresolved<T>(place: Span, notes: &mut Notes) -> Option<T>
+    ensures { Answers (judgement.unresolved place) notes.old result notes.new }
+{
+    wrong(FaultCode::Unknown, place, notes)
+}
+
 /// Notes what an expression does, where somebody asks for it.
 pub fn note_deed(notes: &mut Notes, deed: Deed) -> Result<(), AllocError>
     ensures { OnOk result (notes.new ≡ record { early = notes.old.early; fault = notes.old.fault; deeds = judgement.with_deeds (deed ∷ []) notes.old.deeds }) }

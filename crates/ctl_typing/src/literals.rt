@@ -6,7 +6,7 @@ ghost use Rattle.ctl_typing.specs.Judgement.{Answers, Judges};
 ghost use Rattle.ctl_typing.specs.Typing as spec;
 
 use crate::found::{Asked, Found, Head, Place, Typed};
-use crate::judging::{fits, note, note_deed};
+use crate::judging::{fits, note, note_deed, unresolved};
 use crate::notes::{Deed, Notes};
 use crate::table::{
     BLOCK_POOL, CONTROLLED, Entry, LIMITED_CONTROLLED, MARK_RELEASE_POOL, ObjectEntry, Tables,
@@ -168,6 +168,6 @@ pub fn first_found(
             note(notes, FaultCode::Type, beginning.span);
             Ok(None)
         }
-        Denoted::Unknown => Ok(None),
+        Denoted::Unknown => Ok(unresolved(beginning.span, notes)),
     }
 }

@@ -8,7 +8,7 @@ ghost use Rattle.ctl_typing.specs.Typing as typing;
 use crate::table::{AccessEntry, ComponentEntry, Designated, Entry, Profile, RecordEntry, Tables};
 use ctl_grammar::spelling::is_same_name;
 use ctl_program::types::{Root, Ty};
-use ctl_syntax::item::Generality;
+use ctl_syntax::item::{Generality, Limitation};
 use ctl_tree::text::Text;
 
 /// Answers the component of a name among these: its position and its type.
@@ -73,6 +73,19 @@ pub fn root_of(tables: &Tables, number: usize) -> Root
     }
 }
 
+/// Tells whether a type is limited (RM 7.5).
+pub fn is_limited(tables: &Tables, ty: Ty) -> bool
+    ensures { result ≡ spec.is_limited tables.now ty }
+{
+    match ty {
+        Ty::Record(number) => match sqlite_items::at(tables.records.as_slice(), number) {
+            Some(entry) => entry.limitation == Limitation::Limited,
+            None => false,
+        },
+        _ => false,
+    }
+}
+
 /// Answers the access type of a number.
 fn access_at(tables: &Tables, access: usize) -> Option<AccessEntry>
     ensures { result ≡ slice_get tables.now.states.accesses access }
@@ -97,6 +110,19 @@ pub fn is_general(tables: &Tables, access: usize) -> bool
     match access_at(tables, access) {
         Some(entry) => entry.generality == Generality::General,
         None => false,
+    }
+}
+
+/// Tells whether the objects of an access type stand in subpools: it has a pool with marks (RM 13.11.4).
+pub fn has_subpools(tables: &Tables, access: usize) -> bool
+    ensures { result ≡ spec.has_subpools tables.now (slice_get tables.now.states.accesses access) }
+{
+    match access_at(tables, access) {
+        Some(AccessEntry {
+            pool: Some((_, number)),
+            ..
+        }) => root_of(tables, number) == Root::MarkPool,
+        _ => false,
     }
 }
 

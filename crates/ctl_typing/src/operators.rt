@@ -93,6 +93,16 @@ pub fn compared(operator: RelationalOperator) -> Asked
     }
 }
 
+/// Answers what is asked of the other operand of a comparison with one that takes on its type (RM 4.5.2, profile).
+pub fn asked_beside(operator: RelationalOperator, adopts: Adopts) -> Asked
+    ensures { result ≡ spec.asked_beside operator adopts }
+{
+    match adopts {
+        Adopts::Numbers => Asked::Number,
+        Adopts::Nothing | Adopts::Accesses => compared(operator),
+    }
+}
+
 /// Answers the operator of the checked program (RM 4.5.2).
 fn comparison(operator: RelationalOperator) -> BinaryOp
     ensures { result ≡ spec.comparison operator }

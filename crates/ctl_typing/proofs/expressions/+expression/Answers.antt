@@ -62,9 +62,9 @@ pub expression-returns-in_ok-value-in-New : goal.expression-returns-in_ok-value-
 expression-returns-in_ok-value-in-New t c =
     let i = c.in-New in
     let tables = c.args.tables.now in
-    let handle = spec.held (option_map (spec.handle_judged tables) (option_map senses.name_sense i.handle)) in
+    let handle = spec.held (option_map (spec.handle_judged tables c.args.asked) (option_map senses.name_sense i.handle)) in
     let mark = spec.mark_judged tables i.mark.first i.mark.rest in
-    let value_of = λ (ty : Option Ty). spec.value_judged tables ty (option_map spec.sense i.value) in
+    let value_of = λ (ty : Option Ty). spec.value_judged tables i.place ty (option_map spec.sense i.value) in
     let typed = ap (λ is'. spec.mark_judged tables i.mark.first is' c.handle_or_none.new.notes) (sym c.as_slice-in-New.ensures) ∙ c.in_ok-ty-in-New.ensures in
     let made = following_are mark value_of c.handle_or_none.new.notes c.mark_judged.new.notes c.value_or_none.new.notes c.in_ok-ty-in-New.ty c.in_ok-value-in-New.value c.paired.result
     typed c.in_ok-value-in-New.ensures (c.paired.ensures c.value_or_none.new.notes) in
@@ -126,15 +126,16 @@ relation-returns-then-is_led_by_right t c =
     let start = c.args.notes.now in
     let middle = c.expression.new.notes in
     let ended = c.expression-then-is_led_by_right.new.notes in
-    let first = ap (λ a. right.judged tables a start) (sym c.compared-taken.ensures) ∙ c.in_ok-right.ensures in
+    let beside = c.asked_beside-beside.ensures ∙ ap (spec.asked_beside op) c.adopts.ensures in
+    let first = ap (λ a. right.judged tables a start) (sym beside) ∙ c.in_ok-right.ensures in
     let second =
     ap (λ a. left.judged tables (spec.asked_like a c.in_ok-right.right) middle) (sym c.compared-taken.ensures)
     ∙ ap (λ a. left.judged tables a middle) (sym c.asked_like.ensures)
     ∙ c.in_ok-left.ensures in
-    let both = following_are (right.judged tables (spec.compared op)) (λ ty. left.judged tables (spec.asked_like (spec.compared op) ty)) start middle ended c.in_ok-right.right c.in_ok-left.left c.paired.result first second (c.paired.ensures ended) in
+    let both = following_are (right.judged tables (spec.asked_beside op left.adopts)) (λ ty. left.judged tables (spec.asked_like (spec.compared op) ty)) start middle ended c.in_ok-right.right c.in_ok-left.left c.paired.result first second (c.paired.ensures ended) in
     judged_as (spec.relation_judged place op left right tables asked) (onward c.swapped-both.result (senses.relation_at place op asked)) start ended c.relation_joined.new.notes c.relation_joined.result
     (ap
-    (λ b. (if b then (following (right.judged tables (spec.compared op)) (λ ty. left.judged tables (spec.asked_like (spec.compared op) ty)) >>= (λ p. spec.fits place asked (spec.relation_of op p.1 p.0)))
+    (λ b. (if b then (following (right.judged tables (spec.asked_beside op left.adopts)) (λ ty. left.judged tables (spec.asked_like (spec.compared op) ty)) >>= (λ p. spec.fits place asked (spec.relation_of op p.1 p.0)))
     else (following (left.judged tables (spec.compared op)) (λ ty. right.judged tables (spec.asked_like (spec.compared op) ty)) >>= (λ p. spec.fits place asked (spec.relation_of op p.0 p.1)))) start)
     (sym c.is_led_by_right.ensures ∙ c.if-is_led_by_right.true)
     ∙ ap (with_known (λ p. spec.fits place asked (spec.relation_of op p.1 p.0))) both
@@ -374,9 +375,10 @@ handle_or_none-returns t c =
     let name = c.get-name.result.now in
     let tables = c.args.tables.now in
     let place = name.first.span in
+    let asked = c.args.asked in
     rw (c.in-Some.is, ← c.get-name.ensures)
-    (judged_as (spec.handle_judged tables (senses.name_sense name) >>= given) (handle_of tables place c.in_ok-found.found) c.args.notes.now c.found.new.notes c.handle_of.new.notes c.handle_of.result
-    (ap (λ q. with_known given (with_known (spec.handle_found place) (with_known (spec.settled tables place) q))) c.in_ok-found.ensures) c.handle_of.ensures)
+    (judged_as (spec.handle_judged tables asked (senses.name_sense name) >>= given) (handle_of tables place asked c.in_ok-found.found) c.args.notes.now c.found.new.notes c.handle_of.new.notes c.handle_of.result
+    (ap (λ q. with_known given (with_known (spec.in_subpools tables place asked) (with_known (spec.handle_found place) (with_known (spec.settled tables place) q)))) c.in_ok-found.ensures) c.handle_of.ensures)
 
 pub number_as-returns : goal.number_as-returns
 number_as-returns t c =

@@ -1,0 +1,66 @@
+-- Which items and statements by themselves this version runs.
+use Rattle.std.specs.Prelude.{Bool, true, false, ◌&&◌, ◌||◌, List, [], ◌∷◌, codes, Option, Some, None, if◌then◌else◌}
+use Rattle.ctl_grammar.specs.Spelling.{same_name}
+use Rattle.ctl_syntax.specs.declared.denoted.Definition.{Definition}
+use Rattle.ctl_syntax.specs.declared.denoted.Denoted.{Denoted}
+use Rattle.ctl_syntax.specs.declared.denoted.Denoted.TheVariants.{Declared, Library}
+use Rattle.ctl_syntax.specs.declared.denoted.LibraryName.TheVariants.{Integer, Boolean, Put, PutLine, NewLine, Controlled, LimitedControlled}
+use Rattle.ctl_syntax.specs.declared.denoted.Use.{Use}
+use Rattle.ctl_syntax.specs.declared.expression.Expression.{Expression}
+use Rattle.ctl_syntax.specs.declared.item.Association.{Association}
+use Rattle.ctl_syntax.specs.declared.item.Definition.{Definition as Type_definition}
+use Rattle.ctl_syntax.specs.declared.item.Definition.TheVariants.{Extension}
+use Rattle.ctl_syntax.specs.declared.item.Objects.{Objects}
+use Rattle.ctl_syntax.specs.declared.item.Specification.{Specification}
+use Rattle.ctl_slice_plain.specs.declared.construct.Support.{Support}
+use Rattle.ctl_slice_plain.specs.declared.construct.Support.TheVariants.{Run, LeftOut}
+
+abbrev pub support_when : Bool → Support
+support_when is_run = if is_run then Run else LeftOut
+
+-- Initialize and Finalize of a controlled type (7.6)
+abbrev pub of_heading : Specification Definition Use → Support
+of_heading s = support_when (same_name s.name.identifier.text (codes "initialize") || same_name s.name.identifier.text (codes "finalize"))
+
+-- Controlled or Limited_Controlled (7.6)
+abbrev pub is_controlled : Denoted → Bool
+is_controlled (Library Controlled) = true
+is_controlled (Library LimitedControlled) = true
+is_controlled d = false
+
+abbrev pub is_empty : {A : Type 0} → List A → Bool
+is_empty [] = true
+is_empty (x ∷ xs) = false
+
+abbrev pub is_absent : {A : Type 0} → Option A → Bool
+is_absent None = true
+is_absent (Some a) = false
+
+-- a type that extends one of these by no component
+abbrev pub of_type : Type_definition Use → Support
+of_type (Extension parent added) = support_when (is_empty added && is_controlled parent.first.denoted)
+of_type d = LeftOut
+
+-- Integer or Boolean (3.5.3, 3.5.4)
+abbrev pub is_scalar : Denoted → Bool
+is_scalar (Library Integer) = true
+is_scalar (Library Boolean) = true
+is_scalar d = false
+
+-- objects of this type, with these discriminants and this value: of a type of the text without either, and of a scalar one (3.3.1)
+abbrev pub of_objects_as : Denoted → List (Association Use) → Option (Expression Use) → Support
+of_objects_as (Declared number level) discriminants value = support_when (is_empty discriminants && is_absent value)
+of_objects_as d discriminants value = support_when (is_scalar d)
+
+abbrev pub of_objects : Objects Definition Use → Support
+of_objects o = of_objects_as o.mark.first.denoted o.discriminants o.value
+
+-- calls of Put, Put_Line and New_Line (A.10.7)
+abbrev pub is_output : Denoted → Bool
+is_output (Library Put) = true
+is_output (Library PutLine) = true
+is_output (Library NewLine) = true
+is_output d = false
+
+abbrev pub of_call : Denoted → Support
+of_call d = support_when (is_output d)

@@ -1,0 +1,90 @@
+//! Items and statements by themselves, without those that they hold.
+
+ghost use Rattle.std.specs.Prelude.{◌≡◌};
+ghost use Rattle.ctl_slice_plain.specs.Constructs as spec;
+
+use ctl_grammar::spelling::is_same_name;
+use ctl_syntax::denoted::{Definition, Denoted, LibraryName, Use};
+use ctl_syntax::item::{Definition as TypeDefinition, Objects, Specification};
+
+/// Whether this version runs a construct.
+#[derive(Clone, Copy, Debug, PartialEq, Eq)]
+pub enum Support {
+    Run,
+    LeftOut,
+}
+
+/// Chooses by whether a construct is run.
+fn support_when(is_run: bool) -> Support
+    ensures { result ≡ spec.support_when is_run }
+{
+    if is_run {
+        Support::Run
+    } else {
+        Support::LeftOut
+    }
+}
+
+/// Judges a heading: Initialize and Finalize of a controlled type are run (RM 7.6).
+pub(crate) fn of_heading(heading: &Specification<Definition, Use>) -> Support
+    ensures { result ≡ spec.of_heading heading.now }
+{
+    let name = heading.name.identifier.text.as_bytes();
+    let is_run = is_same_name(name, b"initialize") || is_same_name(name, b"finalize");
+    support_when(is_run)
+}
+
+/// Judges a type: one that extends Controlled or Limited_Controlled by no component is run (RM 7.6).
+pub(crate) fn of_type(definition: &TypeDefinition<Use>) -> Support
+    ensures { result ≡ spec.of_type definition.now }
+{
+    match definition {
+        TypeDefinition::Extension(parent, components) => {
+            support_when(components.as_slice().is_empty() && is_controlled(parent.first.denoted))
+        }
+        _ => Support::LeftOut,
+    }
+}
+
+/// Tells whether this is Controlled or Limited_Controlled (RM 7.6).
+fn is_controlled(denoted: Denoted) -> bool
+    ensures { result ≡ spec.is_controlled denoted }
+{
+    matches!(
+        denoted,
+        Denoted::Library(LibraryName::Controlled | LibraryName::LimitedControlled)
+    )
+}
+
+/// Tells whether this is Integer or Boolean (RM 3.5.3, 3.5.4).
+fn is_scalar(denoted: Denoted) -> bool
+    ensures { result ≡ spec.is_scalar denoted }
+{
+    matches!(
+        denoted,
+        Denoted::Library(LibraryName::Integer | LibraryName::Boolean)
+    )
+}
+
+/// Judges objects: scalar ones are run, and others of a declared type without a value (RM 3.3.1).
+pub(crate) fn of_objects(objects: &Objects<Definition, Use>) -> Support
+    ensures { result ≡ spec.of_objects objects.now }
+{
+    match objects.mark.first.denoted {
+        Denoted::Declared(_, _) => {
+            support_when(objects.discriminants.as_slice().is_empty() && objects.value.is_none())
+        }
+        denoted => support_when(is_scalar(denoted)),
+    }
+}
+
+/// Judges what is called: Put, Put_Line and New_Line are run (RM A.10.7).
+pub(crate) fn of_call(denoted: Denoted) -> Support
+    ensures { result ≡ spec.of_call denoted }
+{
+    let is_run = matches!(
+        denoted,
+        Denoted::Library(LibraryName::Put | LibraryName::PutLine | LibraryName::NewLine)
+    );
+    support_when(is_run)
+}
