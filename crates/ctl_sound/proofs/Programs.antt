@@ -35,6 +35,7 @@ use Rattle.ctl_types.specs.Types.{is_given}
 use Rattle.ctl_types.specs.Elaboration as spec
 use Rattle.ctl_types.specs.Elaboration.{components_on, subprograms_on, subprogram_with, library_records, library_state, library_states, library_components, record_types, record_type_of, checked_of, checked_with, access_types, or_nothing, verdict_by, Elaborates}
 use Rattle.ctl_well_typed.specs.Setting.{InOut, Formal, Frame, Frames, Encloses, Signature, Setting}
+use Rattle.ctl_well_typed.specs.Types.{underived}
 use Rattle.ctl_well_typed.specs.Programs as program
 use Rattle.ctl_well_typed.specs.Programs.{WellTyped, SettingFits, RecordFine, SubprogramFine, Overrides, Overridden, formal}
 use Rattle.ctl_well_typed.specs.Statements as rule
@@ -206,15 +207,16 @@ record OfLibrary (t : ℕ) (r : RecordEntry) : Type 0 where
   level : r.level ≡ 0
   parent : r.parent ≡ None
   own : r.own ≡ []
+  count : r.count ≡ 0
 
 one_of : (t : ℕ) (q r : RecordEntry) → Some q ≡ Some r → OfLibrary t q → OfLibrary t r
 one_of t q r e h = let same : q ≡ r = cc in subst (OfLibrary t) same h
 
 of_library : (t : ℕ) (r : RecordEntry) → slice_get library_records t ≡ Some r → OfLibrary t r
-of_library zero r e = one_of 0 _ r e (record { components = refl; home = λ more. refl; level = refl; parent = refl; own = refl })
-of_library (suc zero) r e = one_of 1 _ r e (record { components = refl; home = λ more. refl; level = refl; parent = refl; own = refl })
-of_library (suc (suc zero)) r e = one_of 2 _ r e (record { components = refl; home = λ more. refl; level = refl; parent = refl; own = refl })
-of_library (suc (suc (suc zero))) r e = one_of 3 _ r e (record { components = refl; home = λ more. refl; level = refl; parent = refl; own = refl })
+of_library zero r e = one_of 0 _ r e (record { components = refl; home = λ more. refl; level = refl; parent = refl; own = refl; count = refl })
+of_library (suc zero) r e = one_of 1 _ r e (record { components = refl; home = λ more. refl; level = refl; parent = refl; own = refl; count = refl })
+of_library (suc (suc zero)) r e = one_of 2 _ r e (record { components = refl; home = λ more. refl; level = refl; parent = refl; own = refl; count = refl })
+of_library (suc (suc (suc zero))) r e = one_of 3 _ r e (record { components = refl; home = λ more. refl; level = refl; parent = refl; own = refl; count = refl })
 of_library (suc (suc (suc (suc t)))) r e = absurd (cc)
 
 library_has_none : (t : ℕ) → operations_at (map operations_in library_states) t ≡ no_operations
@@ -250,6 +252,9 @@ library_known k t r h x home = record {
   level = h.level;
   parent = subst (λ o. program.Parent k [] t r.root o) (sym h.parent) program.none;
   added = subst (λ cs. program.Added k [] t cs) (one_row [] x.own x.known) program.no_more_components;
+  all = x.own;
+  components = underived x.found h.parent;
+  count = ap length (sym (one_row [] x.own x.known)) ∙ sym h.count;
   own = λ name i c e. absurd (no_component r.own name i c h.own e);
 }
 

@@ -5,18 +5,24 @@ use Rattle.std.proofs.lemmas.List.{append_assoc, length-append}
 use Rattle.ctl_tree.specs.declared.span.Span.{Span}
 use Rattle.ctl_program.specs.declared.types.Component.{Component}
 use Rattle.ctl_program.specs.declared.types.Operations.{Operations}
+use Rattle.ctl_program.specs.declared.types.RecordType.{RecordType}
 use Rattle.ctl_program.specs.declared.types.Root.{Root}
+use Rattle.ctl_program.specs.declared.types.Root.TheVariants as root
+use Rattle.ctl_program.specs.declared.expression.Step.TheVariants as step
 use Rattle.ctl_program.specs.declared.types.Ty.{Ty}
 use Rattle.ctl_program.specs.declared.types.Ty.TheVariants as ty
 use Rattle.ctl_program.specs.declared.statement.Item.{Item as Checked_item}
 use Rattle.ctl_program.specs.declared.statement.Item.TheVariants as made
 use Rattle.ctl_syntax.specs.declared.denoted.Definition.{Definition}
 use Rattle.ctl_syntax.specs.declared.denoted.OperationName.{OperationName}
+use Rattle.ctl_syntax.specs.declared.denoted.OperationName.TheVariants.{Initialize, Adjust, Finalize, Allocate, Deallocate}
 use Rattle.ctl_syntax.specs.declared.denoted.Use.{Use}
+use Rattle.ctl_syntax.specs.declared.item.Components.{Components as Components_of}
 use Rattle.ctl_syntax.specs.declared.item.Definition.TheVariants as definition
 use Rattle.ctl_syntax.specs.declared.item.Limitation.{Limitation}
 use Rattle.ctl_syntax.specs.declared.name.Mark.{Mark}
 use Rattle.ctl_typing.specs.declared.notes.Deed.TheVariants.{Freezes}
+use Rattle.ctl_typing.specs.declared.notes.Notes.{Notes}
 use Rattle.ctl_typing.specs.declared.table.ComponentEntry.{ComponentEntry}
 use Rattle.ctl_typing.specs.declared.table.Entry.{Entry}
 use Rattle.ctl_typing.specs.declared.table.Entry.TheVariants as entry
@@ -25,6 +31,7 @@ use Rattle.ctl_typing.specs.declared.table.RecordState.{RecordState}
 use Rattle.ctl_typing.specs.Lookup.{component_among, root_of}
 use Rattle.ctl_types.specs.declared.draft.Around.{Around}
 use Rattle.ctl_types.specs.declared.draft.Draft.{Draft}
+use Rattle.ctl_types.specs.declared.draft.Enclosing.{Enclosing}
 use Rattle.ctl_types.specs.Declarations.{name_kept, operation_named}
 use Rattle.ctl_types.specs.Draft.{asking, asked, declare, enter, is_declared_in, with_entries}
 use Rattle.ctl_types.specs.Elaboration as spec
@@ -34,17 +41,18 @@ use Rattle.ctl_types.specs.Statements.{user_operation, operations_of}
 use Rattle.ctl_types.specs.Types as types
 use Rattle.ctl_types.specs.Types.{is_given}
 use Rattle.ctl_well_typed.specs.Setting.{Frames, Encloses, Setting, HasRecord, InView}
-use Rattle.ctl_well_typed.specs.Types.{Descends, from_parent, Leads as Reaches, HasRoot}
+use Rattle.ctl_well_typed.specs.Types.{Components, underived, derived, Descends, from_parent, Leads as Reaches, component, HasRoot}
 use Rattle.ctl_well_typed.specs.Programs as program
 use Rattle.ctl_well_typed.specs.Statements as rule
 use Rattle.ctl_sound.specs.Known.{IfSome, Gives}
 use Rattle.ctl_sound.specs.Sound.{EntryFine}
 use Rattle.ctl_sound.proofs.Items.{Extends, parent_named_good}
-use Rattle.ctl_sound.proofs.Growing.{operations_in, Behind, behind_same, behind_one, behind_length, last_read, Still, still_noted, still_further, still_back, Made, no_homes, nothing, Grows, grows_self}
+use Rattle.ctl_sound.proofs.Growing.{operations_in, Behind, behind_same, behind_one, behind_length, behind_place, last_read, Still, still_noted, still_further, still_back, Made, no_homes, nothing, Grows, grows_self}
 use Rattle.ctl_sound.proofs.Freezing.{Quiet, done_quiet, each_length}
 use Rattle.ctl_sound.proofs.Sites.{Site, around_site, here, IsHere, RecordKnown, OperationKnown, no_operations, operations_at, Known, Front, InTable, Back, Agrees}
-use Rattle.ctl_sound.proofs.Fronts.{encloses_self, encloses_further, one_home, read_at, front_still, front_sound}
+use Rattle.ctl_sound.proofs.Fronts.{encloses_self, encloses_further, one_home, read_at, front_still, front_noted, front_sound}
 use Rattle.ctl_sound.proofs.Declared.{known_same}
+use Rattle.ctl_sound.proofs.Components.{Aligned, FoundOwn, aligned_added, aligned_count, aligned_found, below, Only, components_only, components_beside}
 use Rattle.ctl_sound.proofs.Steps.{Leads, still_leads, still_given}
 use Rattle.ctl_sound.proofs.Objects.{RightItems, told_still, elaborated_joined}
 
@@ -126,9 +134,13 @@ pub record NextKnown (s : Site) (n : ℕ) (r : RecordEntry) (os : Operations) : 
   pub type : RecordKnown s.k n r
   pub operations : (o : OperationName) (m : ℕ) → user_operation o os ≡ Some m → OperationKnown s.k o n m
 
-module _ (a : Around) (number : ℕ) (r : RecordEntry) (st : RecordState) (cs : Option (List Component)) (d : Draft) where
+-- behind a draft in which components were judged
+module _ (a : Around) (number : ℕ) (r : RecordEntry) (st : RecordState) (cs : Option (List Component)) (base : Draft) (notes : Notes) where
   abbrev n : ℕ
-  n = length d.tables.records
+  n = length base.tables.records
+
+  abbrev d : Draft
+  d = record base { own = []; own_names = []; notes = notes }
 
   abbrev plain : Draft
   plain = asked (types.without_own (types.add_record r st cs d))
@@ -145,77 +157,161 @@ module _ (a : Around) (number : ℕ) (r : RecordEntry) (st : RecordState) (cs : 
   record_is : with_record ≡ completed behind
   record_is = ap completed (enter_is a number (entry.«Type» (ty.Record n)) plain)
 
-  record_known : (k : Setting) → Known k d → RecordKnown k n r → ((o : OperationName) (m : ℕ) → user_operation o st.operations ≡ Some m → OperationKnown k o n m) → Known k (completed behind)
+  record_known : (k : Setting) → Known k base → RecordKnown k n r → ((o : OperationName) (m : ℕ) → user_operation o st.operations ≡ Some m → OperationKnown k o n m) → Known k (completed behind)
   record_known k h g i = record {
-    records = each_at (RecordKnown k) d.tables.records r h.records g;
-    operations = λ o t m e. operations_with (λ t os. (o : OperationName) (m : ℕ) → user_operation o os ≡ Some m → OperationKnown k o t m) d.tables.states.records st (λ t o m. h.operations o t m) (subst (λ x. (o : OperationName) (m : ℕ) → user_operation o st.operations ≡ Some m → OperationKnown k o x m) (sym h.states) i) t o m e;
+    records = each_at (RecordKnown k) base.tables.records r h.records g;
+    operations = λ o t m e. operations_with (λ t os. (o : OperationName) (m : ℕ) → user_operation o os ≡ Some m → OperationKnown k o t m) base.tables.states.records st (λ t o m. h.operations o t m) (subst (λ x. (o : OperationName) (m : ℕ) → user_operation o st.operations ≡ Some m → OperationKnown k o x m) (sym h.states) i) t o m e;
     subprograms = h.subprograms;
-    accesses = each_length (types.completed_access number (ty.Record n)) a.first_access d.tables.states.accesses ∙ h.accesses;
-    states = let one = length-append d.tables.states.records (st ∷ []) in let two = length-append d.tables.records (r ∷ []) in let same = h.states in omega (arith, one, two, same);
-    components = let one = length-append d.components (cs ∷ []) in let two = length-append d.tables.records (r ∷ []) in let same = h.components in omega (arith, one, two, same);
+    accesses = each_length (types.completed_access number (ty.Record n)) a.first_access base.tables.states.accesses ∙ h.accesses;
+    states = let one = length-append base.tables.states.records (st ∷ []) in let two = length-append base.tables.records (r ∷ []) in let same = h.states in omega (arith, one, two, same);
+    components = let one = length-append base.components (cs ∷ []) in let two = length-append base.tables.records (r ∷ []) in let same = h.components in omega (arith, one, two, same);
   }
 
-  record_grows : Grows record_made d (completed behind)
+  record_grows : Grows record_made base (completed behind)
   record_grows = record {
-    records = behind_one d.tables.records r;
-    components = behind_one d.components cs;
-    exceptions = behind_same d.exceptions d.exceptions refl;
+    records = behind_one base.tables.records r;
+    components = behind_one base.components cs;
+    exceptions = behind_same base.exceptions base.exceptions refl;
     slots = omega arith;
-    record_homes = λ env. length-append d.tables.records (r ∷ []);
-    access_homes = λ env. let same = each_length (types.completed_access number (ty.Record n)) a.first_access d.tables.states.accesses in omega (arith, same);
+    record_homes = λ env. length-append base.tables.records (r ∷ []);
+    access_homes = λ env. let same = each_length (types.completed_access number (ty.Record n)) a.first_access base.tables.states.accesses in omega (arith, same);
     signatures = λ env. omega arith;
   }
 
-  pub record_leads : (x : List Checked_item) → ((s : Site) → Front s d → RightItems a s x) →
-      ((s : Site) → IsHere s (here a) → Front s d → slice_get s.k.record_homes n ≡ Some (around_site s) → InTable s.k n r cs → NextKnown s n r st.operations) → Leads (here a) (RightItems a) d (Some x, with_record)
-  record_leads x right shown = subst (λ e. Leads (here a) (RightItems a) d (Some x, e)) (sym record_is) (record {
+  pub record_leads : (x : List Checked_item) → ((s : Site) → Front s base → RightItems a s x) →
+      ((s : Site) → IsHere s (here a) → Front s base → slice_get s.k.record_homes n ≡ Some (around_site s) → InTable s.k n r cs → NextKnown s n r st.operations) → Leads (here a) (RightItems a) base (Some x, with_record)
+  record_leads x right shown = subst (λ e. Leads (here a) (RightItems a) base (Some x, e)) (sym record_is) (record {
     made = record_made;
     grows = record_grows;
     right = λ s i f b g.
         let env = around_site s in
         let same : n + 0 ≡ n = omega arith in
         let home : slice_get s.k.record_homes n ≡ Some env = subst (λ m. slice_get s.k.record_homes m ≡ Some env) same (g.records 0 env refl) in
-        let in_table : InTable s.k n r cs = b.records n r cs (last_read d.tables.records r) (subst (λ m. slice_get (d.components ++ cs ∷ []) m ≡ Some cs) f.known.components (last_read d.components cs)) in
+        let in_table : InTable s.k n r cs = b.records n r cs (last_read base.tables.records r) (subst (λ m. slice_get (base.components ++ cs ∷ []) m ≡ Some cs) f.known.components (last_read base.components cs)) in
         let next = shown s i f home in_table in
         let k' = record_known s.k f.known next.type next.operations in
         let has : HasRecord s.k env n = record { is = next.type.is; home = env; found = next.type.found; at_home = home; encloses = encloses_self env } in
-        let entries = entries_entered s a.start number (entry.«Type» (ty.Record n)) d.tables.entries i.start has (f.entries, f.base) in
+        let entries = entries_entered s a.start number (entry.«Type» (ty.Record n)) base.tables.entries i.start has (f.entries, f.base) in
         (record { entries = entries.0; base = entries.1; known = k'; own = refl }, right s f);
   })
 
--- Extensions without components (3.9.1) -----------------------------------------------------------------
+-- What is known of a record type, by its parent and its components ------------------------------------------
+
+-- the parent, if there is one, with the components that are inherited
+pub record ParentKnown (s : Site) (d : Draft) (root : Root) (parent : Option ℕ) : Type 0 where
+  pub fine : program.Parent s.k (around_site s) (length d.tables.records) root parent
+  pub inherited : List Component
+  pub count : length inherited ≡ types.inherited_count (types.on_parent d.tables parent)
+  pub components : (is : RecordType) → slice_get s.k.records (length d.tables.records) ≡ Some is → is.parent ≡ parent → Components s.k (length d.tables.records) (inherited ++ is.own)
+  pub operations : slice_get s.k.record_homes (length d.tables.records) ≡ Some (around_site s) → (is : RecordType) → slice_get s.k.records (length d.tables.records) ≡ Some is → is.parent ≡ parent →
+      (o : OperationName) (n : ℕ) → user_operation o (operations_of (types.state_on d.tables parent)) ≡ Some n → OperationKnown s.k o (length d.tables.records) n
+
+module _ (a : Around) (within : Enclosing) (root : Root) (limited : Limitation) (cs : List (Components_of Use)) (base : Draft) where
+  abbrev judged : Option (List Component) × Draft
+  judged = types.components within cs base
+
+  abbrev own_entry : RecordEntry
+  own_entry = types.record_entry a root limited within.parent judged.1
+
+  abbrev m : ℕ
+  m = length base.tables.records
+
+  judged_only : Only base judged.1
+  judged_only = components_only within cs base
+
+  same_tables : judged.1.tables ≡ base.tables
+  same_tables = ap (λ z. z.tables) judged_only
+
+  record_shown : (s : Site) → IsHere s (here a) → Front s base → ParentKnown s base root within.parent → slice_get s.k.record_homes m ≡ Some (around_site s) → InTable s.k m own_entry judged.0 →
+      NextKnown s m own_entry (operations_of (types.state_on judged.1.tables within.parent))
+  record_shown s i f p home x =
+      let env = around_site s in
+      let own : RecordType = record { level = a.level; root = root; parent = within.parent; own = x.own; operations = x.operations } in
+      let beside = subst (λ o. IfSome (λ ys. Aligned s.k env m (types.inherited_count (types.on_parent base.tables within.parent)) judged.1.own ys) o) x.known (components_beside within base s.k env (front_sound s base f) cs f.own) in
+      let c = types.inherited_count (types.on_parent base.tables within.parent) in
+      let counted = aligned_count s.k env m c judged.1.own x.own beside in
+      let all = p.components own x.found refl in
+      let lengths = length-append p.inherited x.own in
+      let first = p.count in
+      let count' : length (p.inherited ++ x.own) ≡ types.last_position c judged.1.own = omega (arith, lengths, first, counted) in
+      record {
+        type = record {
+          is = own;
+          home = env;
+          found = x.found;
+          at_home = home;
+          rooted = refl;
+          same_parent = refl;
+          same_level = refl;
+          level = i.level;
+          parent = p.fine;
+          added = aligned_added s.k env m c judged.1.own x.own beside;
+          all = p.inherited ++ x.own;
+          components = all;
+          count = count' ∙ ap (λ t. types.last_position (types.inherited_count (types.on_parent t within.parent)) judged.1.own) (sym same_tables);
+          own = λ name j t e. own_leads s.k env p.inherited x.own c first all name j t (aligned_found s.k env m name c judged.1.own x.own j t beside e);
+        };
+        operations = λ o n e. p.operations home own x.found refl o n (ap (λ t. user_operation o (operations_of (types.state_on t within.parent))) (sym same_tables) ∙ e);
+      }
+    where
+      own_leads : (k : Setting) (env : Frames) (inherited ys : List Component) (c : ℕ) → length inherited ≡ c → Components k m (inherited ++ ys) → (name : List ℕ) (j : ℕ) (t : Ty) → FoundOwn k env m c ys j t → Reaches k (ty.Record m) (step.Component m j) t × InView k env t
+      own_leads k env inherited ys c e all name j t g =
+          let place : length inherited + g.at ≡ c + g.at = omega (arith, e) in
+          let at : slice_get (inherited ++ ys) (c + g.at) ≡ Some g.is = ap (λ n. slice_get (inherited ++ ys) n) (sym place) ∙ behind_place inherited ys g.at ∙ g.found in
+          (subst (λ q. Reaches k (ty.Record m) (step.Component m q) t) (sym g.position) (subst (λ u. Reaches k (ty.Record m) (step.Component m (suc (c + g.at))) u) g.type (component all at)), g.in_view)
+
+  -- it is declared with what is known of it
+  pub declared_leads : (x : List Checked_item) → ((s : Site) → Front s base → RightItems a s x) → ((s : Site) → Front s base → ParentKnown s base root within.parent) → Leads (here a) (RightItems a) base (Some x, types.enter_record a within root limited judged)
+  declared_leads x right parent =
+      let canonical : Draft = record base { own = []; own_names = []; notes = judged.1.notes } in
+      let same : types.without_own judged.1 ≡ canonical = ap (λ z. types.without_own z) judged_only in
+      let st = types.inherited_state (types.state_on judged.1.tables within.parent) in
+      subst (λ z. Leads (here a) (RightItems a) base (Some x, types.enter_type a within.number (ty.Record (length z.tables.records)) (asked (types.without_own (types.add_record own_entry st judged.0 z))))) (sym same)
+      (record_leads a within.number own_entry st judged.0 base judged.1.notes x right (λ s i f home y. record_shown s i f (parent s f) home y))
+
+-- Record types without a parent (3.8) ---------------------------------------------------------------------------
+
+underived_known : (s : Site) (d : Draft) (root : Root) → Front s d → ParentKnown s d root None
+underived_known s d root f = record {
+  fine = program.none;
+  inherited = [];
+  count = refl;
+  components = λ is' found parent. underived found parent;
+  operations = λ home is' found parent o n e. absurd (let no = no_user o in cc);
+}
+  where
+    no_user : (o : OperationName) → user_operation o no_operations ≡ None
+    no_user Initialize = refl
+    no_user Adjust = refl
+    no_user Finalize = refl
+    no_user Allocate = refl
+    no_user Deallocate = refl
+
+silent_right : (a : Around) (s : Site) → RightItems a s (made.Silent ∷ [])
+silent_right a s = rule.one_more_item rule.silent rule.no_more_items
+
+pub record_type_leads : (a : Around) (place : Span) (number : ℕ) (l : Limitation) (cs : List (Components_of Use)) (d : Draft) → Leads (here a) (RightItems a) d (surely (types.record_type place number l cs a d))
+record_type_leads a place number l cs d =
+    let told = types.untagged_kept place number d in
+    let e = asking told in
+    still_leads (here a) (RightItems a) d e (surely (types.record_type place number l cs a d)) (still_further d told e (told_still (types.is_said_tagged (slice_get d.tables.entries number)) _ place d) (still_noted told told.returning told.waiting e.notes))
+    (declared_leads a (types.underived place number) root.Untagged l cs e (made.Silent ∷ []) (λ s f. silent_right a s) (λ s f. underived_known s e root.Untagged f))
+
+-- Extensions (3.9.1) -------------------------------------------------------------------------------------------------
 
 pub front_unowned : (s : Site) (d : Draft) → Front s d → Front s (types.without_own d)
 front_unowned s d f = record { entries = f.entries; base = f.base; known = known_same s.k d (types.without_own d) refl refl refl refl f.known; own = refl }
 
-one_row : {A : Type 0} (xs ys : List A) → Some xs ≡ Some ys → xs ≡ ys
-one_row xs ys h = cc
-
-no_component : (own : List ComponentEntry) (name : List ℕ) (i : ℕ) (t : Ty) → own ≡ [] → component_among name own ≡ Some (i, t) → ⊥
-no_component [] name i t e h = absurd (cc)
-no_component (c ∷ cs) name i t e h = absurd (cc)
-
--- what is known of an extension that adds no components, by its parent
-module _ (a : Around) (s : Site) (here' : IsHere s (here a)) (d : Draft) (f : Front s d) (root : Root) (limited : Limitation) (p : ℕ) (has : HasRecord s.k (around_site s) p) (r : RecordEntry) (found : slice_get d.tables.records p ≡ Some r) (rooted : root ≡ r.root) where
+module _ (s : Site) (d : Draft) (f : Front s d) (root : Root) (p : ℕ) (has : HasRecord s.k (around_site s) p) (r : RecordEntry) (found : slice_get d.tables.records p ≡ Some r) (rooted : root ≡ r.root) where
   abbrev env : Frames
   env = around_site s
 
-  abbrev is' : RecordEntry
-  is' = types.record_entry a root limited (Some p) d
+  abbrev parent_is : RecordKnown s.k p r
+  parent_is = f.known.records p r found
 
-  abbrev m : ℕ
-  m = length d.tables.records
-
-  below : (xs : List RecordEntry) (i : ℕ) (x : RecordEntry) → slice_get xs i ≡ Some x → i < length xs
-  below [] i x e = absurd (cc)
-  below (y ∷ xs) zero x e = omega arith
-  below (y ∷ xs) (suc i) x e = let inner = below xs i x e in omega (arith, inner)
-
-  parent_root : HasRoot s.k p root
-  parent_root = let q = f.known.records p r found in record { is = q.is; found = q.found; rooted = q.rooted ∙ sym rooted }
-
-  inherited_known : slice_get s.k.record_homes m ≡ Some env → (x : InTable s.k m is' (Some [])) → (o : OperationName) (n : ℕ) → user_operation o (operations_of (slice_get d.tables.states.records p)) ≡ Some n → OperationKnown s.k o m n
-  inherited_known home x o n e =
+  inherited_known : slice_get s.k.record_homes (length d.tables.records) ≡ Some env → (is' : RecordType) → slice_get s.k.records (length d.tables.records) ≡ Some is' → is'.parent ≡ Some p →
+      (o : OperationName) (n : ℕ) → user_operation o (operations_of (slice_get d.tables.states.records p)) ≡ Some n → OperationKnown s.k o (length d.tables.records) n
+  inherited_known home is' at parent o n e =
       let q = f.known.operations o p n (ap (user_operation o) (sym (read_at d.tables.states.records p)) ∙ e) in
       let same = one_home q.home has.home (slice_get s.k.record_homes p) q.at_home has.at_home in
       record {
@@ -225,37 +321,35 @@ module _ (a : Around) (s : Site) (here' : IsHere s (here a)) (d : Draft) (f : Fr
         at_home = home;
         found = q.found;
         encloses = encloses_further q.is.home has.home env (subst (λ g. Encloses q.is.home g) same q.encloses) has.encloses;
-        descends = from_parent x.found refl q.descends;
+        descends = from_parent at parent q.descends;
         formals = q.formals;
         result = q.result;
       }
 
-  pub extension_known : slice_get s.k.record_homes m ≡ Some env → InTable s.k m is' (Some []) → NextKnown s m is' (operations_of (slice_get d.tables.states.records p))
-  extension_known home x = record {
-    type = record {
-      is = record { level = a.level; root = root; parent = Some p; own = x.own; operations = x.operations };
-      home = env;
-      found = x.found;
-      at_home = home;
-      rooted = refl;
-      same_parent = refl;
-      same_level = refl;
-      level = here'.level;
-      parent = program.extends (below d.tables.records p r found) has parent_root;
-      added = subst (λ cs. program.Added s.k env m cs) (one_row [] x.own x.known) program.no_more_components;
-      own = λ name i c e. absurd (no_component d.own name i c f.own e);
-    };
-    operations = inherited_known home x;
+  derived_known : ParentKnown s d root (Some p)
+  derived_known = record {
+    fine = program.extends (below d.tables d.tables.records p r found) has (record { is = parent_is.is; found = parent_is.found; rooted = parent_is.rooted ∙ sym rooted });
+    inherited = parent_is.all;
+    count = parent_is.count ∙ ap types.inherited_count (sym found);
+    components = λ is' at parent. derived at parent parent_is.components;
+    operations = inherited_known;
   }
 
 module _ (a : Around) (place : Span) (number : ℕ) where
   -- nothing is known of a type whose parent is wrong
-  unknown_leads : (d : Draft) (x : List Checked_item) → ((s : Site) → RightItems a s x) → Leads (here a) (RightItems a) d (Some x, enter a number entry.Unknown (types.without_own d))
-  unknown_leads d x right = subst (λ e. Leads (here a) (RightItems a) d (Some x, e)) (sym (enter_is a number entry.Unknown (types.without_own d))) (record {
+  unknown_behind : (d : Draft) (notes : Notes) (x : List Checked_item) → ((s : Site) → RightItems a s x) → Leads (here a) (RightItems a) d (Some x, enter a number entry.Unknown (record d { own = []; own_names = []; notes = notes }))
+  unknown_behind d notes x right = subst (λ e. Leads (here a) (RightItems a) d (Some x, e)) (sym (enter_is a number entry.Unknown (record d { own = []; own_names = []; notes = notes }))) (record {
     made = nothing;
     grows = let g = grows_self d in record { records = g.records; components = g.components; exceptions = g.exceptions; slots = g.slots; record_homes = g.record_homes; access_homes = g.access_homes; signatures = g.signatures };
-    right = λ s i f b g. (front_entered s a.start number entry.Unknown (types.without_own d) i.start tt (front_unowned s d f), right s);
+    right = λ s i f b g. (front_entered s a.start number entry.Unknown (record d { own = []; own_names = []; notes = notes }) i.start tt (front_noted s (types.without_own d) notes (front_unowned s d f)), right s);
   })
+
+  unknown_leads : (cs : List (Components_of Use)) (d : Draft) (x : List Checked_item) → ((s : Site) → RightItems a s x) → Leads (here a) (RightItems a) d (Some x, enter a number entry.Unknown (types.without_own (types.components (types.underived place number) cs d).1))
+  unknown_leads cs d x right =
+      let e = (types.components (types.underived place number) cs d).1 in
+      let same : types.without_own e ≡ record d { own = []; own_names = []; notes = e.notes } = ap (λ z. types.without_own z) (components_only (types.underived place number) cs d) in
+      subst (λ z. Leads (here a) (RightItems a) d (Some x, enter a number entry.Unknown z)) (sym same) (unknown_behind d e.notes x right)
+
 
   -- the parent that a mark names
   record ParentAt (s : Site) (d : Draft) (t : ℕ) : Type 0 where
@@ -263,38 +357,48 @@ module _ (a : Around) (place : Span) (number : ℕ) where
     is : RecordEntry
     found : slice_get d.tables.records t ≡ Some is
 
-  extended_leads : (t : ℕ) (d : Draft) (ls : List Checked_item) (e : Draft) → Quiet d (ls, e) → ((s : Site) → Front s d → ParentAt s d t) → Leads (here a) (RightItems a) d (surely (types.extend a place number t [] (ls, e)))
-  extended_leads t d ls e q parent =
+  extended_leads : (t : ℕ) (cs : List (Components_of Use)) (d : Draft) (ls : List Checked_item) (e : Draft) → Quiet d (ls, e) → ((s : Site) → Front s d → ParentAt s d t) → Leads (here a) (RightItems a) d (surely (types.extend a place number t cs (ls, e)))
+  extended_leads t cs d ls e q parent =
       let root = root_of (slice_get e.tables.records t) in
       let limited = types.limitation_in (slice_get e.tables.records t) in
       let next = asking e in
       let all : Still d next = still_further d e next q.still (still_noted e e.returning e.waiting next.notes) in
-      still_leads (here a) (RightItems a) d next (surely (types.extend a place number t [] (ls, e))) all
-      (record_leads a number (types.record_entry a root limited (Some t) next) (types.inherited_state (slice_get e.tables.states.records t)) (Some []) next (ls ++ made.Silent ∷ [])
-      (λ s f. elaborated_joined s.k (around_site s) ls (made.Silent ∷ []) (subst (λ xs. RightItems a s xs) (sym (q.layers (sym all.accesses ∙ f.known.accesses))) rule.no_more_items) (rule.one_more_item rule.silent rule.no_more_items))
-      (λ s i f home x.
+      still_leads (here a) (RightItems a) d next (surely (types.extend a place number t cs (ls, e))) all
+      (declared_leads a (types.derived place number t e) root limited cs next (ls ++ made.Silent ∷ [])
+      (λ s f. elaborated_joined s.k (around_site s) ls (made.Silent ∷ []) (subst (λ xs. RightItems a s xs) (sym (q.layers (sym all.accesses ∙ f.known.accesses))) rule.no_more_items) (silent_right a s))
+      (λ s f.
           let p = parent s (front_still s next d (still_back d next all) f) in
           let found : slice_get e.tables.records t ≡ Some p.is = subst (λ rs. slice_get rs t ≡ Some p.is) (sym q.still.records) p.found in
-          extension_known a s i next f root limited t p.has p.is found (ap root_of found) home x))
+          derived_known s next f root t p.has p.is found (ap root_of found)))
 
-  extension_by : (o : Option ℕ) (d : Draft) → ((s : Site) → Front s d → IfSome (ParentAt s d) o) → Leads (here a) (RightItems a) d (surely (types.extension_of place number [] a (o, d)))
-  extension_by None d parent = unknown_leads d (made.Silent ∷ []) (λ s. rule.one_more_item rule.silent rule.no_more_items)
-  extension_by (Some t) d parent = let r = done_by a (Freezes (ty.Record t) ∷ []) d in extended_leads t d r.0 r.1 (done_quiet a (Freezes (ty.Record t) ∷ []) d) parent
+  extension_by : (cs : List (Components_of Use)) (o : Option ℕ) (d : Draft) → ((s : Site) → Front s d → IfSome (ParentAt s d) o) → Leads (here a) (RightItems a) d (surely (types.extension_of place number cs a (o, d)))
+  extension_by cs None d parent = unknown_leads cs d (made.Silent ∷ []) (silent_right a)
+  extension_by cs (Some t) d parent = let r = done_by a (Freezes (ty.Record t) ∷ []) d in extended_leads t cs d r.0 r.1 (done_quiet a (Freezes (ty.Record t) ∷ []) d) parent
 
   parent_at : (m : Mark Use) (d e : Draft) (s : Site) (f : Front s d) → e.tables ≡ d.tables → (o : Option ℕ) → IfSome (Extends s.k (around_site s) d.tables (front_sound s d f)) o → IfSome (ParentAt s e) o
   parent_at m d e s f same None h = tt
   parent_at m d e s f same (Some t) h = record { has = h.has; is = h.is; found = subst (λ x. slice_get x.records t ≡ Some h.is) (sym same) h.found }
 
-  pub extension_leads : (m : Mark Use) (d : Draft) → Leads (here a) (RightItems a) d (surely (types.extension place number m [] a d))
-  extension_leads m d =
+  pub extension_leads : (m : Mark Use) (cs : List (Components_of Use)) (d : Draft) → Leads (here a) (RightItems a) d (surely (types.extension place number m cs a d))
+  extension_leads m cs d =
       let r = types.parent_named place m d.tables d.notes in
       let e : Draft = record d { notes = r.1 } in
-      still_leads (here a) (RightItems a) d e (surely (types.extension_of place number [] a (r.0, e))) (still_noted d d.returning d.waiting r.1)
-      (extension_by r.0 e (λ s f.
+      still_leads (here a) (RightItems a) d e (surely (types.extension_of place number cs a (r.0, e))) (still_noted d d.returning d.waiting r.1)
+      (extension_by cs r.0 e (λ s f.
           let g = front_still s e d (still_noted e e.returning e.waiting d.notes) f in
           parent_at m d e s g refl r.0 (parent_named_good s.k (around_site s) d.tables (front_sound s d g) place m d.notes)))
 
--- an extension of this name that adds no components
-pub definition_leads : (a : Around) (place : Span) (name : Definition) (m : Mark Use) (d : Draft) → Leads (here a) (RightItems a) d (surely (spec.definition_of place name (definition.Extension m []) a d))
-definition_leads a place name m d = still_leads (here a) (RightItems a) d (name_kept name d) (surely (spec.definition_of place name (definition.Extension m []) a d))
-    (told_still (is_given (operation_named name.identifier.text)) _ name.identifier.span d) (extension_leads a place name.number m (name_kept name d))
+-- Types by their definitions ---------------------------------------------------------------------------------------
+
+module _ (a : Around) (place : Span) (name : Definition) (d : Draft) where
+  abbrev kept : Draft
+  kept = name_kept name d
+
+  kept_still : Still d kept
+  kept_still = told_still (is_given (operation_named name.identifier.text)) _ name.identifier.span d
+
+  pub extension_defined : (m : Mark Use) (cs : List (Components_of Use)) → Leads (here a) (RightItems a) d (surely (spec.definition_of place name (definition.Extension m cs) a d))
+  extension_defined m cs = still_leads (here a) (RightItems a) d kept (surely (spec.definition_of place name (definition.Extension m cs) a d)) kept_still (extension_leads a place name.number m cs kept)
+
+  pub record_defined : (l : Limitation) (cs : List (Components_of Use)) → Leads (here a) (RightItems a) d (surely (spec.definition_of place name (definition.Record l cs) a d))
+  record_defined l cs = still_leads (here a) (RightItems a) d kept (surely (spec.definition_of place name (definition.Record l cs) a d)) kept_still (record_type_leads a place name.number l cs kept)

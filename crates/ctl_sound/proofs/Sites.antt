@@ -19,7 +19,7 @@ use Rattle.ctl_types.specs.declared.draft.Giving.TheVariants as giving
 use Rattle.ctl_types.specs.declared.draft.Routine.{Routine}
 use Rattle.ctl_types.specs.Statements.{user_operation, operations_of, operation_formals}
 use Rattle.ctl_well_typed.specs.Setting.{OfFormal, Frame, Frames, Encloses, Signature, Setting, InView}
-use Rattle.ctl_well_typed.specs.Types.{Descends, Leads}
+use Rattle.ctl_well_typed.specs.Types.{Components, Descends, Leads}
 use Rattle.ctl_well_typed.specs.Programs.{Parent, Added, FormalsInView, Results}
 use Rattle.ctl_well_typed.specs.Statements.{Mastered}
 use Rattle.ctl_sound.specs.Known.{IfSome}
@@ -74,6 +74,10 @@ pub record RecordKnown (k : Setting) (t : ℕ) (r : RecordEntry) : Type 0 where
   pub level : is.level ≡ length home
   pub parent : Parent k home t is.root is.parent
   pub added : Added k home t is.own
+  -- all its components, those that it inherits first
+  pub all : List Component
+  pub components : Components k t all
+  pub count : length all ≡ r.count
   pub own : (name : List ℕ) (i : ℕ) (c : Ty) → component_among name r.own ≡ Some (i, c) → Leads k (ty.Record t) (step.Component t i) c × InView k home c
 
 -- an operation that the user wrote for a record type, or for one that it descends from (7.6, 13.11)

@@ -32,7 +32,7 @@ use Rattle.ctl_sound.proofs.Growing.{still_self}
 use Rattle.ctl_sound.proofs.Sites.{here}
 use Rattle.ctl_sound.proofs.Compounds.{Right, SaysRight, BranchRight, HandlerRight, branch_walk, conditional_walk, endless_walk, while_walk, counting_walk, assignment_walk, call_walk, raising_walk, raising_again_walk, exiting_walk, returning_walk, handler_walk}
 use Rattle.ctl_sound.proofs.Objects.{objects_come, exceptions_declared}
-use Rattle.ctl_sound.proofs.Records.{definition_leads}
+use Rattle.ctl_sound.proofs.Records.{extension_defined, record_defined}
 use Rattle.ctl_sound.proofs.Bodies.{ItemRight, DoesRight, body_right, block_right}
 use Rattle.ctl_sound.proofs.BodyItems.{declaration_leads, body_item_leads}
 use Rattle.ctl_sound.proofs.Steps.{known_goes}
@@ -129,7 +129,8 @@ mutual
   items_right [] plain.no_more_items = tt
   items_right (i ∷ is') (plain.objects p os more) = (subst ItemRight (sym (item_objects p os)) (λ o a d. objects_come a p os o d), items_right is' more)
   items_right (i ∷ is') (plain.exceptions p ns more) = (subst ItemRight (sym (item_exceptions p ns)) (λ o a d. exceptions_declared a ns d), items_right is' more)
-  items_right (i ∷ is') (plain.extension p n m more) = (subst ItemRight (sym (item_definition p n (definition.Extension m []))) (λ o a d. definition_leads a p n m d), items_right is' more)
+  items_right (i ∷ is') (plain.extension p n m cs more) = (subst ItemRight (sym (item_definition p n (definition.Extension m cs))) (λ o a d. extension_defined a p n d m cs), items_right is' more)
+  items_right (i ∷ is') (plain.record_type p n l cs more) = (subst ItemRight (sym (item_definition p n (definition.Record l cs))) (λ o a d. record_defined a p n d l cs), items_right is' more)
   items_right (i ∷ is') (plain.declaration p x more) = (subst ItemRight (sym (item_declaration p x)) (λ o a d. declaration_leads a p x d), items_right is' more)
   items_right (i ∷ is') (plain.subprogram p x b h more) = (subst ItemRight (sym (item_body p x b)) (body_item_leads p x (body b) (plain_body_right b h)), items_right is' more)
 

@@ -1,5 +1,5 @@
--- Bodies whose parts declare objects, exceptions, extensions without components, and subprograms with their bodies (3.11), and no other types, no
--- Storage_Pool clauses and no instances.
+-- Bodies whose parts declare objects, exceptions, record types and extensions, and subprograms with their bodies (3.11), and no access types, no incomplete
+-- types, no Storage_Pool clauses and no instances.
 use Rattle.std.specs.Prelude.{List, [], ◌∷◌, Option}
 use Rattle.ctl_tree.specs.declared.span.Span.{Span}
 use Rattle.ctl_syntax.specs.declared.denoted.Definition.{Definition}
@@ -8,7 +8,9 @@ use Rattle.ctl_syntax.specs.declared.expression.Expression.{Expression}
 use Rattle.ctl_syntax.specs.declared.item.Body.{Body, roll-Body}
 use Rattle.ctl_syntax.specs.declared.item.Branch.{Branch}
 use Rattle.ctl_syntax.specs.declared.item.Choices.{Choices}
+use Rattle.ctl_syntax.specs.declared.item.Components.{Components}
 use Rattle.ctl_syntax.specs.declared.item.Definition.TheVariants as definition
+use Rattle.ctl_syntax.specs.declared.item.Limitation.{Limitation}
 use Rattle.ctl_syntax.specs.declared.item.Direction.{Direction}
 use Rattle.ctl_syntax.specs.declared.item.Handler.{Handler}
 use Rattle.ctl_syntax.specs.declared.item.Item.{Item, roll-Item}
@@ -25,7 +27,8 @@ mutual
     no_more_items : PlainItems []
     objects : (p : Span) (os : Objects Definition Use) {more : List (Item Definition Use)} → PlainItems more → PlainItems (roll-Item Definition Use (record { span = p; kind = item.Objects os }) ∷ more)
     exceptions : (p : Span) (names : List Definition) {more : List (Item Definition Use)} → PlainItems more → PlainItems (roll-Item Definition Use (record { span = p; kind = item.Exceptions names }) ∷ more)
-    extension : (p : Span) (name : Definition) (parent : Mark Use) {more : List (Item Definition Use)} → PlainItems more → PlainItems (roll-Item Definition Use (record { span = p; kind = item.«Type» name (definition.Extension parent []) }) ∷ more)
+    record_type : (p : Span) (name : Definition) (l : Limitation) (cs : List (Components Use)) {more : List (Item Definition Use)} → PlainItems more → PlainItems (roll-Item Definition Use (record { span = p; kind = item.«Type» name (definition.Record l cs) }) ∷ more)
+    extension : (p : Span) (name : Definition) (parent : Mark Use) (cs : List (Components Use)) {more : List (Item Definition Use)} → PlainItems more → PlainItems (roll-Item Definition Use (record { span = p; kind = item.«Type» name (definition.Extension parent cs) }) ∷ more)
     declaration : (p : Span) (x : Specification Definition Use) {more : List (Item Definition Use)} → PlainItems more → PlainItems (roll-Item Definition Use (record { span = p; kind = item.Declaration x }) ∷ more)
     subprogram : (p : Span) (x : Specification Definition Use) (b : Body Definition Use) {more : List (Item Definition Use)} → PlainBody b → PlainItems more → PlainItems (roll-Item Definition Use (record { span = p; kind = item.Body x b }) ∷ more)
 
