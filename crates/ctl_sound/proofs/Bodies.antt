@@ -1,6 +1,6 @@
 -- Parts, blocks and bodies are well typed, from what stands in them.
-use Rattle.std.proofs.Common.{arith, ◌≡◌, refl, sym, ap, ◌∙◌, subst, ℕ, zero, suc, ◌+◌, List, [], ◌∷◌, ◌++◌, map, length, take, slice_get, Option, Some, None}
-use Rattle.std.proofs.lemmas.List.{append-nil}
+use Rattle.std.proofs.Common.{arith, ◌≡◌, ◌≤◌, ◌<◌, nat_lt, Bool, true, false, refl, sym, ap, ◌∙◌, subst, ℕ, zero, suc, ◌+◌, List, [], ◌∷◌, ◌++◌, map, length, take, slice_get, Option, Some, None}
+use Rattle.std.proofs.lemmas.Bool.Decides.{nat_tests}
 use Rattle.ctl_tree.specs.declared.span.Span.{Span}
 use Rattle.ctl_program.specs.declared.types.Ty.{Ty}
 use Rattle.ctl_program.specs.declared.statement.Handler.{Handler as Checked_handler}
@@ -20,7 +20,7 @@ use Rattle.ctl_types.specs.Draft.{leave_view}
 use Rattle.ctl_types.specs.Freezing.{freeze_all, end_of_part}
 use Rattle.ctl_types.specs.Elaboration as spec
 use Rattle.ctl_types.specs.Elaboration.{Says, Does, Part_of}
-use Rattle.ctl_well_typed.specs.Setting.{Holding, Frame, Frames, Setting, InView}
+use Rattle.ctl_well_typed.specs.Setting.{Holding, Frame, Frames, Encloses, Setting, InView}
 use Rattle.ctl_well_typed.specs.Statements as rule
 use Rattle.ctl_well_typed.specs.Statements.{Done, Mastered}
 use Rattle.ctl_sound.specs.Known.{IfSome, All}
@@ -28,7 +28,7 @@ use Rattle.ctl_sound.specs.Sound.{EntryFine}
 use Rattle.ctl_sound.proofs.Growing.{Behind, behind_same, behind_cut, behind_self, From, from_start, Still, still_noted, still_further, Made, Homes, no_homes, and_then, Grows, grows_before}
 use Rattle.ctl_sound.proofs.Freezing.{Quiet, freeze_all_quiet, end_still}
 use Rattle.ctl_sound.proofs.Sites.{Site, around_site, Here, here, gives_of, IsHere, Front, Back, Agrees}
-use Rattle.ctl_sound.proofs.Fronts.{in_view_deeper, entries_deeper, front_still, back_still}
+use Rattle.ctl_sound.proofs.Fronts.{encloses_front, encloses_further, in_view_deeper, entries_deeper, front_still, back_still}
 use Rattle.ctl_sound.proofs.Declared.{one_longer, known_same}
 use Rattle.ctl_sound.proofs.Steps.{Leads, Goes, Both, both_goes, Further, nothing_further, once_further}
 use Rattle.ctl_sound.proofs.Compounds.{around_of, Right, RightEach, RightHandlers, SaysRight, HandlerRight, sequence_walk, handlers_walk}
@@ -59,11 +59,11 @@ module _ (a : Around) where
   ended_still : (waiting : ℕ) (d : Draft) → Still d (spec.part_ended a waiting d)
   ended_still waiting d = let e = end_of_part a waiting d in still_further d e (spec.part_ended a waiting d) (end_still a waiting d) (still_noted e e.returning (take waiting e.waiting) e.notes)
 
-  quiet_items : (s : Site) (o : Option (List Checked_item)) (ls : List Checked_item) → ls ≡ [] → IfSome (RightItems a s) o → IfSome (RightItems a s) (spec.more_items o (Some ls))
+  quiet_items : (s : Site) (o : Option (List Checked_item)) (ls : List Checked_item) → RightItems a s ls → IfSome (RightItems a s) o → IfSome (RightItems a s) (spec.more_items o (Some ls))
   quiet_items s None ls e h = tt
-  quiet_items s (Some is') ls e h = subst (λ xs. RightItems a s xs) (sym (ap (λ xs. is' ++ xs) e ∙ append-nil is')) h
+  quiet_items s (Some is') ls e h = elaborated_joined s.k (around_site s) is' ls h e
 
-  behind_leads : (waiting : ℕ) (d : Draft) (o : Option (List Checked_item)) (e : Draft) (r : List Checked_item × Draft) → Further (here a) (RightItems a) d (Some []) (o, e) → Quiet e r → Leads (here a) (RightItems a) d (spec.part_frozen a waiting o r)
+  behind_leads : (waiting : ℕ) (d : Draft) (o : Option (List Checked_item)) (e : Draft) (r : List Checked_item × Draft) → Further (here a) (RightItems a) d (Some []) (o, e) → Quiet a e r → Leads (here a) (RightItems a) d (spec.part_frozen a waiting o r)
   behind_leads waiting d o e (ls, g) h q =
       let last = spec.part_ended a waiting g in
       let ended : Still e last = still_further e g last q.still (ended_still waiting g) in
@@ -72,7 +72,7 @@ module _ (a : Around) where
         grows = grows_before h.made d e last h.grows ended;
         right = λ s i f b k.
             let y = h.right s i f (back_still s.k e last ended b) k rule.no_more_items in
-            (front_still s e last ended y.0, quiet_items s o ls (q.layers y.0.known.accesses) y.1);
+            (front_still s e last ended y.0, quiet_items s o ls (q.layers s i y.0) y.1);
       }
 
   pub part_goes : (is' : List Part_of) → All ItemRight is' → Goes (here a) (RightItems a) (spec.part is' a)
@@ -113,7 +113,7 @@ body_right b ss hs is' place a d =
 
 -- the site of a master with this frame inside a site, in front of which this draft stands
 abbrev pub inner : Site → Frame → Draft → Site
-inner s f d = record { k = s.k; has = s.has; outer = around_site s; frame = f; base = d.tables.entries }
+inner s f d = record { k = s.k; has = s.has; outer = around_site s; frame = f; base = d.tables.entries; first = length d.tables.states.accesses }
 
 pub deeper_level : (s : Site) (f : Frame) (d : Draft) (level : ℕ) → level ≡ length (around_site s) → level + 1 ≡ length (around_site (inner s f d))
 deeper_level s f d level e = let one = one_longer (around_site s) f in omega (arith, e, one)
@@ -124,6 +124,7 @@ front_inner s f d e ts cs ps os g = record {
   base = subst (λ t. Behind d.tables.entries t.entries) (sym ts) (behind_self d.tables.entries);
   known = known_same s.k d e (ap (λ t. t.records) ts) (ap (λ t. t.states) ts) cs ps g.known;
   own = os ∙ g.own;
+  inner = λ n home first less at. absurd (let same = ap (λ t. length t.states.accesses) ts in omega (arith, same, first, less));
 }
 
 -- what was declared inside goes out of view again
@@ -133,8 +134,13 @@ front_outside s f d e ts g h = record {
   base = subst (λ es. Behind s.base es) (sym same) g.base;
   known = known_same s.k e (record (leave_view (length d.tables.entries) e) { slots = ts }) refl refl refl refl h.known;
   own = h.own;
+  inner = λ n home first less at. by_place n home first less at (nat_lt n (length d.tables.states.accesses)) refl;
 }
   where
+    by_place : (n : ℕ) (home : Frames) → s.first ≤ n → n < length e.tables.states.accesses → slice_get s.k.access_homes n ≡ Some home → (b : Bool) → nat_lt n (length d.tables.states.accesses) ≡ b → Encloses (around_site s) home
+    by_place n home first less at true t = g.inner n home first (grind (arith, nat_tests)) at
+    by_place n home first less at false t = encloses_further (around_site s) (around_site (inner s f d)) home (encloses_front (around_site s) f) (h.inner n home (grind (arith, nat_tests)) less at)
+
     same : take (length d.tables.entries) e.tables.entries ≡ d.tables.entries
     same = behind_cut d.tables.entries e.tables.entries h.base
 
@@ -145,7 +151,7 @@ inside_made m = record { holdings = []; homes = λ env. m.homes (env ++ m.holdin
 
 module _ (a : Around) where
   here_inner : (s : Site) (f : Frame) (d : Draft) → IsHere s (here a) → IsHere (inner s f d) (here (spec.inside_block a d))
-  here_inner s f d i = record { level = deeper_level s f d a.level i.level; start = refl; giving = by_giving (gives_of a.giving) i.giving }
+  here_inner s f d i = record { level = deeper_level s f d a.level i.level; start = refl; first = refl; giving = by_giving (gives_of a.giving) i.giving }
     where
       by_giving : (o : Option Ty) → IfSome (InView s.k (around_site s)) o → IfSome (InView s.k (around_site (inner s f d))) o
       by_giving None h = tt
@@ -156,6 +162,7 @@ module _ (a : Around) where
     records = g.records;
     components = g.components;
     exceptions = g.exceptions;
+    accesses = g.accesses;
     slots = omega arith;
     record_homes = λ env. g.record_homes (env ++ m.holdings ∷ []);
     access_homes = λ env. g.access_homes (env ++ m.holdings ∷ []);
@@ -173,14 +180,14 @@ module _ (a : Around) where
     made = inside_made h.made;
     grows = block_grows h.made d e h.grows;
     right = λ s i f b g.
-        let y = h.right (inner s h.made.holdings d) (here_inner s h.made.holdings d i) (front_inner s h.made.holdings d (spec.without_slots d) refl refl refl refl f) (record { exceptions = b.exceptions; records = b.records }) (agrees_inner s h.made d g) in
+        let y = h.right (inner s h.made.holdings d) (here_inner s h.made.holdings d i) (front_inner s h.made.holdings d (spec.without_slots d) refl refl refl refl f) (record { exceptions = b.exceptions; records = b.records; accesses = b.accesses }) (agrees_inner s h.made d g) in
         (front_outside s h.made.holdings d e d.slots f y.0, tt);
   }
   block_leads d (Some m) e h = record {
     made = inside_made h.made;
     grows = block_grows h.made d e h.grows;
     right = λ s i f b g.
-        let y = h.right (inner s h.made.holdings d) (here_inner s h.made.holdings d i) (front_inner s h.made.holdings d (spec.without_slots d) refl refl refl refl f) (record { exceptions = b.exceptions; records = b.records }) (agrees_inner s h.made d g) in
+        let y = h.right (inner s h.made.holdings d) (here_inner s h.made.holdings d i) (front_inner s h.made.holdings d (spec.without_slots d) refl refl refl refl f) (record { exceptions = b.exceptions; records = b.records; accesses = b.accesses }) (agrees_inner s h.made d g) in
         (front_outside s h.made.holdings d e d.slots f y.0, rule.block (y.1 (frame_counts h.made d e h.grows)));
   }
 

@@ -36,7 +36,7 @@ use Rattle.ctl_well_typed.specs.Statements.{Mastered}
 use Rattle.ctl_sound.specs.Known.{IfSome, All}
 use Rattle.ctl_sound.specs.Sound.{EntryFine, formal_of}
 use Rattle.ctl_sound.proofs.Items.{heading_types_good}
-use Rattle.ctl_sound.proofs.Growing.{Behind, behind_same, behind_self, behind_one, behind_further, From, from_start, Still, still_self, still_noted, still_further, Made, and_then, Grows, grows_behind, grows_further}
+use Rattle.ctl_sound.proofs.Growing.{unfrozen, mapped_length, all_same, all_further, Behind, behind_same, behind_self, behind_one, behind_further, From, from_start, Still, still_self, still_noted, still_further, Made, and_then, Grows, grows_behind, grows_further}
 use Rattle.ctl_sound.proofs.Freezing.{Quiet, freeze_all_quiet}
 use Rattle.ctl_sound.proofs.Sites.{Site, around_site, Here, here, gives_of, IsHere, BodyFor, SubprogramKnown, Known, Front, Back, Agrees}
 use Rattle.ctl_sound.proofs.Fronts.{in_view_deeper, front_still, front_sound, back_still, backwards, agrees_first, agrees_rest, agrees_still}
@@ -219,9 +219,10 @@ module _ (a : Around) (place : Span) (x : Specification Definition Use) (h : Hea
         records = behind_further d.tables.records judged.1.tables.records returned.tables.records g.records (behind_same judged.1.tables.records returned.tables.records q.records);
         components = behind_further d.components judged.1.components returned.components g.components (behind_same judged.1.components returned.components q.components);
         exceptions = behind_further d.exceptions judged.1.exceptions returned.exceptions g.exceptions (behind_same judged.1.exceptions returned.exceptions q.exceptions);
+        accesses = all_further d.tables.states.accesses judged.1.tables.states.accesses returned.tables.states.accesses g.accesses (all_same judged.1.tables.states.accesses returned.tables.states.accesses q.accesses);
         slots = omega arith;
         record_homes = λ env. let one = g.record_homes (env ++ frame ∷ []) in let two = ap length q.records in omega (arith, one, two);
-        access_homes = λ env. let one = g.access_homes (env ++ frame ∷ []) in let two = q.accesses in omega (arith, one, two);
+        access_homes = λ env. let one = g.access_homes (env ++ frame ∷ []) in let two = mapped_length unfrozen judged.1.tables.states.accesses returned.tables.states.accesses q.accesses in omega (arith, one, two);
         signatures = λ env. let one = g.signatures (env ++ frame ∷ []) in let two = ap length q.subprograms in omega (arith, one, two, same);
       }
 
@@ -241,7 +242,7 @@ module _ (a : Around) (place : Span) (x : Specification Definition Use) (h : Hea
       by_heading (Some y) r u = subst (λ o. IfSome (InView s.k (around_site (inner s frame d))) o) (sym (gives_result x.result y.0 y.1 r.result)) (by_result y.1 u.1)
 
   here_inside : (s : Site) → IsHere s (here a) → HeadingUsable s h → IsHere (inner s frame d) (here within)
-  here_inside s i usable = record { level = deeper_level s frame d a.level i.level; start = refl; giving = giving_inside s usable }
+  here_inside s i usable = record { level = deeper_level s frame d a.level i.level; start = refl; first = refl; giving = giving_inside s usable }
 
   agrees_inside : (s : Site) → Agrees s d inside_made → Agrees (inner s frame d) begun (and_then (slots_made formal_slots) own_made)
   agrees_inside s g = record { holdings = from_start frame; records = g.records; accesses = g.accesses; subprograms = g.subprograms }
@@ -291,7 +292,7 @@ module _ (a : Around) (place : Span) (x : Specification Definition Use) (h : Hea
   put_right n layers e p o items = subst (λ z. PutRight n layers (o, z)) (sym p.is) (record {
     grows = body_grows p.subprograms p.count;
     right = λ s i usable num ls f k g.
-        let back : Back s.k returned = record { exceptions = k.exceptions; records = k.records } in
+        let back : Back s.k returned = record { exceptions = k.exceptions; records = k.records; accesses = k.accesses } in
         let y = inside_right s i usable f (back_still s.k judged.1 returned returned_still back) g in
         let q = y.front in
         let known : Known s.k (record behind { subprograms = p.subprograms }) = record {
@@ -302,7 +303,7 @@ module _ (a : Around) (place : Span) (x : Specification Definition Use) (h : Hea
           states = q.known.states;
           components = q.known.components;
         } in
-        (record { entries = q.entries; base = q.base; known = known; own = q.own }, items s ls);
+        (record { entries = q.entries; base = q.base; known = known; own = q.own; inner = q.inner }, items s ls);
   })
 
   pub put_item : (n : Option ℕ) (layers : List Checked_item) → PutRight n layers (spec.body_put n layers (judged.0, behind))
@@ -365,6 +366,6 @@ body_item_leads place x b masters o a d =
           let y = numbered.right s i f1 (backwards s.k inside r2.1 end rest k) (agrees_first s d1 numbered.made inside g1) in
           let f3 = front_still s r2.1 r3.1 q.still y.0 in
           let g3 = agrees_still s r2.1 r3.1 inside q.still (agrees_rest s d1 r2.1 numbered.made inside numbered.grows g1) in
-          let layers = subst (λ xs. RightItems a s xs) (sym (q.layers y.0.known.accesses)) rule.no_more_items in
+          let layers = q.layers s i y.0 in
           p.right s i (heading_usable place x d s f1) y.1 layers f3 k g3;
     }

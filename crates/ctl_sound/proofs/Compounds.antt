@@ -194,12 +194,12 @@ module _ (a : Around) where
       let all = grows_further (slot_made LoopParameter) h.made d (with_parameter d) g one h.grows in
       record {
         made = and_then (slot_made LoopParameter) h.made;
-        grows = record { records = all.records; components = all.components; exceptions = all.exceptions; slots = all.slots; record_homes = all.record_homes; access_homes = all.access_homes; signatures = all.signatures };
+        grows = record { records = all.records; components = all.components; exceptions = all.exceptions; accesses = all.accesses; slots = all.slots; record_homes = all.record_homes; access_homes = all.access_homes; signatures = all.signatures };
         right = λ s t f b i.
             let own = agrees_first s d (slot_made LoopParameter) h.made i in
             let inside = h.right s t
                 (object_front a ty.Integer standing.LoopParameter mutability.Constant aliasing.Unaliased LoopParameter loop_parameter (λ env n names. (tt, tt)) d s t tt f own)
-                (record { exceptions = b.exceptions; records = b.records })
+                (record { exceptions = b.exceptions; records = b.records; accesses = b.accesses })
                 (agrees_rest s d (with_parameter d) (slot_made LoopParameter) h.made one i) in
             (front_left s d g f inside.0, counted (length d.slots) s ss inside.1 (slot_named s d LoopParameter own));
       }

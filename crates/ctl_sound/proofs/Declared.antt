@@ -17,7 +17,7 @@ use Rattle.ctl_types.specs.Statements.{user_operation}
 use Rattle.ctl_well_typed.specs.Setting.{Holding, Stands, Frame, Frames, Names, slot, Setting, InView}
 use Rattle.ctl_sound.specs.Known.{IfSome}
 use Rattle.ctl_sound.specs.Sound.{EntryFine, AliasFine, DeclaredFine}
-use Rattle.ctl_sound.proofs.Growing.{operations_in, Behind, behind_same, behind_one, behind_further, behind_length, each_with, last_read, Made, no_homes, Grows}
+use Rattle.ctl_sound.proofs.Growing.{operations_in, all_same, Behind, behind_same, behind_one, behind_further, behind_length, each_with, last_read, Made, no_homes, Grows}
 use Rattle.ctl_sound.proofs.Sites.{Site, around_site, here, IsHere, Known, operations_at, Front, Agrees}
 
 -- Names of slots --------------------------------------------------------------------------------
@@ -42,14 +42,14 @@ known_same k d e rs ss cs ps h = record {
   records = λ t r q. h.records t r (subst (λ xs. slice_get xs t ≡ Some r) rs q);
   operations = λ o t n q. h.operations o t n (subst (λ x. user_operation o (operations_at (map operations_in x.records) t) ≡ Some n) ss q);
   subprograms = λ n p q. h.subprograms n p (subst (λ xs. slice_get xs n ≡ Some p) ps q);
-  accesses = ap (λ x. length x.accesses) ss ∙ h.accesses;
+  accesses = λ a x q. h.accesses a x (subst (λ y. slice_get y.accesses a ≡ Some x) ss q);
   states = ap (λ x. length x.records) ss ∙ h.states ∙ ap length (sym rs);
   components = ap length cs ∙ h.components ∙ ap length (sym rs);
 }
 
 -- what is in front of a construct does not name the slots
 pub front_slots : (s : Site) (d : Draft) (ts : List Ty) → Front s d → Front s (record d { slots = ts })
-front_slots s d ts f = record { entries = f.entries; base = f.base; known = known_same s.k d (record d { slots = ts }) refl refl refl refl f.known; own = f.own }
+front_slots s d ts f = record { entries = f.entries; base = f.base; known = known_same s.k d (record d { slots = ts }) refl refl refl refl f.known; own = f.own; inner = f.inner }
 
 pub front_declared : (s : Site) (d : Draft) (x : Entry) → EntryFine s.k (around_site s) x → Front s d → Front s (declare x d)
 front_declared s d x h f = record {
@@ -57,6 +57,7 @@ front_declared s d x h f = record {
   base = behind_further s.base d.tables.entries (d.tables.entries ++ x ∷ []) f.base (behind_one d.tables.entries x);
   known = known_same s.k d (declare x d) refl refl refl refl f.known;
   own = f.own;
+  inner = f.inner;
 }
 
 cut_holds : {A : Type 0} (P : A → Type 0) (xs : List A) (m : ℕ) → ((n : ℕ) → IfSome P (slice_get xs n)) → (n : ℕ) → IfSome P (slice_get (take m xs) n)
@@ -77,6 +78,7 @@ front_left s d e f g = record {
   base = subst (λ es. Behind s.base (take (length d.tables.entries) es)) (sym g.base.is) (cut_behind s.base g.base.more (length d.tables.entries) (behind_length s.base d.tables.entries f.base));
   known = known_same s.k e (leave_view (length d.tables.entries) e) refl refl refl refl g.known;
   own = g.own;
+  inner = g.inner;
 }
 
 -- Objects with their slots ------------------------------------------------------------------------------
@@ -87,6 +89,7 @@ module _ (a : Around) (t : Ty) (st : Standing) (m : Mutability) (al : Aliasing) 
     records = behind_same d.tables.records d.tables.records refl;
     components = behind_same d.components d.components refl;
     exceptions = behind_same d.exceptions d.exceptions refl;
+    accesses = all_same d.tables.states.accesses d.tables.states.accesses refl;
     slots = length-append d.slots (t ∷ []);
     record_homes = λ env. omega arith;
     access_homes = λ env. omega arith;

@@ -14,7 +14,10 @@ use Rattle.ctl_syntax.specs.declared.item.Aliasing.{Aliasing}
 use Rattle.ctl_syntax.specs.declared.item.Aliasing.TheVariants as aliasing
 use Rattle.ctl_typing.specs.declared.found.Head.TheVariants as head
 use Rattle.ctl_typing.specs.declared.notes.Notes.{Notes}
+use Rattle.ctl_program.specs.declared.types.AccessType.{AccessType}
 use Rattle.ctl_typing.specs.declared.table.AccessEntry.{AccessEntry}
+use Rattle.ctl_typing.specs.declared.table.Designated.{Designated}
+use Rattle.ctl_typing.specs.declared.table.Designated.TheVariants as designated
 use Rattle.ctl_typing.specs.declared.table.Entry.{Entry}
 use Rattle.ctl_typing.specs.declared.table.Entry.TheVariants as entry
 use Rattle.ctl_typing.specs.declared.table.FormalEntry.{FormalEntry}
@@ -25,7 +28,7 @@ use Rattle.ctl_typing.specs.declared.table.RecordState.{RecordState}
 use Rattle.ctl_typing.specs.declared.table.Standing.{Standing}
 use Rattle.ctl_typing.specs.declared.table.Standing.TheVariants as standing
 use Rattle.ctl_typing.specs.declared.table.Tables.{Tables}
-use Rattle.ctl_typing.specs.Lookup.{component_among, component_in, component_within, descends_within, designated_by, is_parent, on, or_else}
+use Rattle.ctl_typing.specs.Lookup.{component_among, component_in, component_within, descends_within, designated_by, designated_in, is_parent, on, or_else}
 use Rattle.ctl_types.specs.declared.draft.Draft.{Draft}
 use Rattle.ctl_types.specs.Statements.{user_operation, operations_of}
 use Rattle.ctl_well_typed.specs.Setting.{Holding, Declared, Frame, Frames, Names, slot, Encloses, HasRecord, Setting, InView}
@@ -36,8 +39,8 @@ use Rattle.ctl_sound.specs.Known.{IfSome, All}
 use Rattle.ctl_sound.specs.Library.{HasLibrary}
 use Rattle.ctl_sound.specs.Sound.{EntryFine, ObjectFine, ProfileFine, AliasFine, DeclaredFine, TypesFine, Sound}
 use Rattle.ctl_sound.proofs.Beginning.{types_sound}
-use Rattle.ctl_sound.proofs.Growing.{operations_in, Behind, behind_same, behind_further, behind_length, behind_read, From, from_first, from_rest, front_read, Still, still_noted, still_grows, Made, nothing, and_then, Grows}
-use Rattle.ctl_sound.proofs.Sites.{Site, around_site, RecordKnown, OperationKnown, no_operations, operations_at, Known, Front, Back, Agrees}
+use Rattle.ctl_sound.proofs.Growing.{operations_in, unfrozen, mapped_length, mapped_at, Behind, behind_same, behind_further, behind_length, behind_read, From, from_first, from_rest, front_read, Still, still_noted, still_grows, Made, nothing, and_then, Grows}
+use Rattle.ctl_sound.proofs.Sites.{Site, around_site, AccessKnown, RecordKnown, OperationKnown, no_operations, operations_at, Known, Front, Back, Agrees}
 
 -- Deeper masters ------------------------------------------------------------------------------
 
@@ -134,6 +137,9 @@ pub encloses_self : (a : Frames) → Encloses a a
 encloses_self [] = refl
 encloses_self (x ∷ xs) = ap (λ es. x ∷ es) (encloses_self xs)
 
+pub encloses_front : (a : Frames) (f : Frame) → Encloses a (a ++ f ∷ [])
+encloses_front a f = encloses_deeper a a f (encloses_self a)
+
 -- of as many masters, the ones that stand around a place are those of the place
 pub encloses_all : (a b : Frames) → Encloses a b → length a ≡ length b → a ≡ b
 encloses_all [] [] h e = refl
@@ -156,12 +162,27 @@ in_view_further k home env ty.Handle e h = tt
 
 -- Drafts in which nothing is declared -----------------------------------------------------------------
 
+pub access_below : (xs : List AccessEntry) (n : ℕ) (x : AccessEntry) → slice_get xs n ≡ Some x → n < length xs
+access_below [] n x e = absurd (cc)
+access_below (y ∷ xs) zero x e = omega arith
+access_below (y ∷ xs) (suc n) x e = let inner = access_below xs n x e in omega (arith, inner)
+
+-- what is known of an access type does not name whether it is frozen
+pub access_same : (k : Setting) (a : ℕ) (x y : AccessEntry) → unfrozen y ≡ unfrozen x → AccessKnown k a x → AccessKnown k a y
+access_same k a x y same h = thawed (subst (AccessKnown k a) (sym same) frozen)
+  where
+    frozen : AccessKnown k a (unfrozen x)
+    frozen = record { is = h.is; home = h.home; found = h.found; at_home = h.at_home; collection = h.collection; own_level = h.own_level; level = h.level; names = h.names; designated = h.designated; pool = h.pool }
+
+    thawed : AccessKnown k a (unfrozen y) → AccessKnown k a y
+    thawed g = record { is = g.is; home = g.home; found = g.found; at_home = g.at_home; collection = g.collection; own_level = g.own_level; level = g.level; names = g.names; designated = g.designated; pool = g.pool }
+
 pub known_still : (k : Setting) (d e : Draft) → Still d e → Known k d → Known k e
 known_still k d e s h = record {
   records = λ t r q. h.records t r (subst (λ rs. slice_get rs t ≡ Some r) s.records q);
   operations = λ o t n q. h.operations o t n (subst (λ os. user_operation o (operations_at os t) ≡ Some n) s.operations q);
   subprograms = λ n p q. h.subprograms n p (subst (λ ps. slice_get ps n ≡ Some p) s.subprograms q);
-  accesses = s.accesses ∙ h.accesses;
+  accesses = λ a y q. let x = mapped_at unfrozen e.tables.states.accesses d.tables.states.accesses (sym s.accesses) a y q in access_same k a x.is y (sym x.same) (h.accesses a x.is x.found);
   states = by_states;
   components = ap length s.components ∙ h.components ∙ ap length (sym s.records);
 }
@@ -179,6 +200,7 @@ front_still s d e q f = record {
   base = behind_further s.base d.tables.entries e.tables.entries f.base (behind_same d.tables.entries e.tables.entries q.entries);
   known = known_still s.k d e q f.known;
   own = q.own ∙ f.own;
+  inner = λ n home first less at. f.inner n home first (let same = mapped_length unfrozen d.tables.states.accesses e.tables.states.accesses q.accesses in omega (arith, same, less)) at;
 }
 
 pub front_noted : (s : Site) (d : Draft) (n : Notes) → Front s d → Front s (record d { notes = n })
@@ -188,6 +210,10 @@ pub backwards : (k : Setting) (m : Made) (d e : Draft) → Grows m d e → Back 
 backwards k m d e g b = record {
   exceptions = let fewer = behind_length d.exceptions e.exceptions g.exceptions in let within = b.exceptions in omega (arith, fewer, within);
   records = λ t r cs h i. b.records t r cs (behind_read d.tables.records e.tables.records t r g.records h) (behind_read d.components e.components t cs g.components i);
+  accesses = λ a x h.
+      let y = g.accesses a x h in
+      let q = b.accesses a y.is y.found in
+      record { is = q.is; found = q.found; collection = q.collection ∙ y.later.collection; designated = λ t i. q.designated t (y.later.designated t i) };
 }
 
 pub back_still : (k : Setting) (d e : Draft) → Still d e → Back k e → Back k d
@@ -213,7 +239,7 @@ pub agrees_still : (s : Site) (d e : Draft) (m : Made) → Still d e → Agrees 
 agrees_still s d e m q h = record {
   holdings = subst (λ n. From n m.holdings s.frame) (sym (ap length q.slots)) h.holdings;
   records = subst (λ n. From n (m.homes (around_site s)).records s.k.record_homes) (sym (ap length q.records)) h.records;
-  accesses = subst (λ n. From n (m.homes (around_site s)).accesses s.k.access_homes) (sym q.accesses) h.accesses;
+  accesses = subst (λ n. From n (m.homes (around_site s)).accesses s.k.access_homes) (sym (mapped_length unfrozen d.tables.states.accesses e.tables.states.accesses q.accesses)) h.accesses;
   subprograms = subst (λ n. From n (m.homes (around_site s)).subprograms s.k.subprograms) (sym (ap length q.subprograms)) h.subprograms;
 }
 
@@ -288,8 +314,26 @@ read_at [] n = refl
 read_at (s ∷ ss) zero = refl
 read_at (s ∷ ss) (suc n) = read_at ss n
 
-nothing_designated : (tables : Tables) (a : ℕ) → length tables.states.accesses ≡ 0 → designated_by tables a ≡ None
-nothing_designated tables a h = ap (λ (as' : List AccessEntry). designated_by (record tables { states = record tables.states { accesses = as' } }) a) (nil_from_length tables.states.accesses h)
+-- what an access type designates, where that is known
+record DesignatesKnown (tables : Tables) (a : ℕ) (t : Ty) : Type 0 where
+  is : AccessEntry
+  found : slice_get tables.states.accesses a ≡ Some is
+  designated : is.designated ≡ designated.Known t
+
+designates_known : (tables : Tables) (a : ℕ) (t : Ty) → designated_by tables a ≡ Some t → DesignatesKnown tables a t
+designates_known tables a t h = by_entry (slice_get tables.states.accesses a) refl h
+  where
+    by_designated : (x : AccessEntry) → slice_get tables.states.accesses a ≡ Some x → (w : Designated) → x.designated ≡ w → designated_in (record x { designated = w }) ≡ Some t → DesignatesKnown tables a t
+    by_designated x e (designated.Known u) q h = let same : u ≡ t = cc in record { is = x; found = e; designated = q ∙ ap designated.Known same }
+    by_designated x e designated.Unclear q h = absurd (cc)
+    by_designated x e (designated.Awaited n) q h = absurd (cc)
+
+    by_entry : (o : Option AccessEntry) → slice_get tables.states.accesses a ≡ o → on designated_in o ≡ Some t → DesignatesKnown tables a t
+    by_entry None e h = absurd (cc)
+    by_entry (Some x) e h = by_designated x e x.designated refl h
+
+pub one_access : (x y : AccessType) (o : Option AccessType) → o ≡ Some x → o ≡ Some y → x ≡ y
+one_access x y o h i = cc
 
 module _ (k : Setting) (has : HasLibrary k) (env : Frames) (d : Draft) (known : Known k d) where
   pub types_known : TypesFine k env d.tables
@@ -299,8 +343,15 @@ module _ (k : Setting) (has : HasLibrary k) (env : Frames) (d : Draft) (known : 
     rooted = λ t r e. let h = known.records t r e in record { is = h.is; found = h.found; rooted = h.rooted };
     library = (types_sound k env has).library;
     mark_pool = (types_sound k env has).mark_pool;
-    designated = λ a t x e f. absurd (let no = nothing_designated d.tables a known.accesses in cc);
-    designated_in_view = λ a t e v. absurd (let no = nothing_designated d.tables a known.accesses in cc);
+    designated = λ a t x e f.
+        let g = designates_known d.tables a t e in
+        let q = known.accesses a g.is g.found in
+        ap (λ y. y.designated) (one_access x q.is (slice_get k.accesses a) f q.found) ∙ (q.designated t g.designated).0;
+    designated_in_view = λ a t e v.
+        let g = designates_known d.tables a t e in
+        let q = known.accesses a g.is g.found in
+        let same = one_home q.home v.home (slice_get k.access_homes a) q.at_home v.at_home in
+        in_view_further k v.home env t v.encloses (subst (λ h. InView k h t) same (q.designated t g.designated).1);
   }
 
 pub front_sound : (s : Site) (d : Draft) → Front s d → Sound s.k (around_site s) d.tables

@@ -2,7 +2,12 @@
 use Rattle.std.proofs.Common.{arith, ◌≡◌, ◌≤◌, refl, sym, ap, ◌∙◌, subst, ℕ, zero, suc, ◌+◌, List, [], ◌∷◌, ◌++◌, map, length, take, slice_get, Some}
 use Rattle.std.proofs.lemmas.List.{append-nil, append_assoc, length-append}
 use Rattle.ctl_program.specs.declared.types.Operations.{Operations}
+use Rattle.ctl_program.specs.declared.types.Ty.{Ty}
+use Rattle.ctl_program.specs.declared.types.Var.{Var}
 use Rattle.ctl_typing.specs.declared.notes.Notes.{Notes}
+use Rattle.ctl_typing.specs.declared.table.AccessEntry.{AccessEntry}
+use Rattle.ctl_typing.specs.declared.table.Designated.TheVariants as designated
+use Rattle.ctl_typing.specs.declared.table.Freezing.TheVariants.{Free}
 use Rattle.ctl_typing.specs.declared.table.RecordState.{RecordState}
 use Rattle.ctl_typing.specs.declared.table.States.{States}
 use Rattle.ctl_types.specs.declared.draft.Draft.{Draft}
@@ -84,11 +89,70 @@ from_start xs i x e = let same : i ≡ 0 + i = omega arith in subst (λ p. slice
 abbrev pub operations_in : RecordState → Operations
 operations_in s = s.operations
 
+-- an access type, but for whether it is frozen
+abbrev pub unfrozen : AccessEntry → AccessEntry
+unfrozen a = record a { freezing = Free }
+
+pub mapped_length : {A B : Type 0} (f : A → B) (xs ys : List A) → map f ys ≡ map f xs → length ys ≡ length xs
+mapped_length f xs ys h = sym (counted ys) ∙ ap length h ∙ counted xs
+  where
+    counted : (zs : List _) → length (map f zs) ≡ length zs
+    counted [] = refl
+    counted (z ∷ zs) = ap suc (counted zs)
+
+-- what stands at the same place of a row that says the same
+pub record SaysSame {A B : Type 0} (f : A → B) (ys : List A) (n : ℕ) (x : A) : Type 0 where
+  pub is : A
+  pub found : slice_get ys n ≡ Some is
+  pub same : f is ≡ f x
+
+pub mapped_at : {A B : Type 0} (f : A → B) (xs ys : List A) → map f ys ≡ map f xs → (n : ℕ) (x : A) → slice_get xs n ≡ Some x → SaysSame f ys n x
+mapped_at f [] ys h n x e = absurd (cc)
+mapped_at f (z ∷ xs) [] h n x e = absurd (cc)
+mapped_at f (z ∷ xs) (y ∷ ys) h zero x e = let own : z ≡ x = cc in let first : f y ≡ f z = cc in record { is = y; found = refl; same = first ∙ ap f own }
+mapped_at f (z ∷ xs) (y ∷ ys) h (suc n) x e = let more : map f ys ≡ map f xs = cc in let g = mapped_at f xs ys more n x e in record { is = g.is; found = g.found; same = g.same }
+
+-- what is known of an access type stays known
+pub record Later (x y : AccessEntry) : Type 0 where
+  pub level : y.level ≡ x.level
+  pub collection : y.collection ≡ x.collection
+  pub designated : (t : Ty) → x.designated ≡ designated.Known t → y.designated ≡ designated.Known t
+  pub pool : (p : Var × ℕ) → x.pool ≡ Some p → y.pool ≡ Some p
+
+pub later_self : (x : AccessEntry) → Later x x
+later_self x = record { level = refl; collection = refl; designated = λ t e. e; pool = λ p e. e }
+
+pub later_further : (x y z : AccessEntry) → Later x y → Later y z → Later x z
+later_further x y z h i = record { level = i.level ∙ h.level; collection = i.collection ∙ h.collection; designated = λ t e. i.designated t (h.designated t e); pool = λ p e. i.pool p (h.pool p e) }
+
+later_same : (x y : AccessEntry) → unfrozen y ≡ unfrozen x → Later x y
+later_same x y h = record {
+  level = ap (λ a. a.level) h;
+  collection = ap (λ a. a.collection) h;
+  designated = λ t e. ap (λ a. a.designated) h ∙ e;
+  pool = λ p e. ap (λ a. a.pool) h ∙ e;
+}
+
+-- an access type that stood at a place stands there later
+pub record StandsLater (ys : List AccessEntry) (n : ℕ) (x : AccessEntry) : Type 0 where
+  pub is : AccessEntry
+  pub found : slice_get ys n ≡ Some is
+  pub later : Later x is
+
+abbrev pub AllLater : List AccessEntry → List AccessEntry → Type 0
+AllLater xs ys = (n : ℕ) (x : AccessEntry) → slice_get xs n ≡ Some x → StandsLater ys n x
+
+pub all_same : (xs ys : List AccessEntry) → map unfrozen ys ≡ map unfrozen xs → AllLater xs ys
+all_same xs ys h n x e = let g = mapped_at unfrozen xs ys h n x e in record { is = g.is; found = g.found; later = later_same x g.is g.same }
+
+pub all_further : (xs ys zs : List AccessEntry) → AllLater xs ys → AllLater ys zs → AllLater xs zs
+all_further xs ys zs h i n x e = let g = h n x e in let j = i n g.is g.found in record { is = j.is; found = j.found; later = later_further x g.is j.is g.later j.later }
+
 -- nothing is declared
 pub record Still (d e : Draft) : Type 0 where
   pub records : e.tables.records ≡ d.tables.records
   pub operations : map operations_in e.tables.states.records ≡ map operations_in d.tables.states.records
-  pub accesses : length e.tables.states.accesses ≡ length d.tables.states.accesses
+  pub accesses : map unfrozen e.tables.states.accesses ≡ map unfrozen d.tables.states.accesses
   pub entries : e.tables.entries ≡ d.tables.entries
   pub slots : e.slots ≡ d.slots
   pub exceptions : e.exceptions ≡ d.exceptions
@@ -103,7 +167,7 @@ still_self d = record { records = refl; operations = refl; accesses = refl; entr
 pub still_noted : (d : Draft) (r : Returning) (w : List Waiting) (n : Notes) → Still d (record d { returning = r; waiting = w; notes = n })
 still_noted d r w n = record { records = refl; operations = refl; accesses = refl; entries = refl; slots = refl; exceptions = refl; components = refl; subprograms = refl; own = refl }
 
-pub still_states : (d : Draft) (s : States) → map operations_in s.records ≡ map operations_in d.tables.states.records → length s.accesses ≡ length d.tables.states.accesses → Still d (with_states s d)
+pub still_states : (d : Draft) (s : States) → map operations_in s.records ≡ map operations_in d.tables.states.records → map unfrozen s.accesses ≡ map unfrozen d.tables.states.accesses → Still d (with_states s d)
 still_states d s o a = record { records = refl; operations = o; accesses = a; entries = refl; slots = refl; exceptions = refl; components = refl; subprograms = refl; own = refl }
 
 pub still_further : (d e f : Draft) → Still d e → Still e f → Still d f
@@ -162,6 +226,7 @@ pub record Grows (m : Made) (d e : Draft) : Type 0 where
   pub records : Behind d.tables.records e.tables.records
   pub components : Behind d.components e.components
   pub exceptions : Behind d.exceptions e.exceptions
+  pub accesses : AllLater d.tables.states.accesses e.tables.states.accesses
   pub slots : length e.slots ≡ length d.slots + length m.holdings
   pub record_homes : (env : Frames) → length e.tables.records ≡ length d.tables.records + length (m.homes env).records
   pub access_homes : (env : Frames) → length e.tables.states.accesses ≡ length d.tables.states.accesses + length (m.homes env).accesses
@@ -172,9 +237,10 @@ still_grows d e h = record {
   records = behind_same d.tables.records e.tables.records h.records;
   components = behind_same d.components e.components h.components;
   exceptions = behind_same d.exceptions e.exceptions h.exceptions;
+  accesses = all_same d.tables.states.accesses e.tables.states.accesses h.accesses;
   slots = let same = ap length h.slots in omega (arith, same);
   record_homes = λ env. let same = ap length h.records in omega (arith, same);
-  access_homes = λ env. let same = h.accesses in omega (arith, same);
+  access_homes = λ env. let same = mapped_length unfrozen d.tables.states.accesses e.tables.states.accesses h.accesses in omega (arith, same);
   signatures = λ env. let same = ap length h.subprograms in omega (arith, same);
 }
 
@@ -190,6 +256,7 @@ grows_further m n d e f h i = record {
   records = behind_further d.tables.records e.tables.records f.tables.records h.records i.records;
   components = behind_further d.components e.components f.components h.components i.components;
   exceptions = behind_further d.exceptions e.exceptions f.exceptions h.exceptions i.exceptions;
+  accesses = all_further d.tables.states.accesses e.tables.states.accesses f.tables.states.accesses h.accesses i.accesses;
   slots = summed (length d.slots) (length e.slots) (length f.slots) m.holdings n.holdings h.slots i.slots;
   record_homes = λ env. summed (length d.tables.records) (length e.tables.records) (length f.tables.records) (m.homes env).records (n.homes env).records (h.record_homes env) (i.record_homes env);
   access_homes = λ env. summed (length d.tables.states.accesses) (length e.tables.states.accesses) (length f.tables.states.accesses) (m.homes env).accesses (n.homes env).accesses (h.access_homes env) (i.access_homes env);
@@ -202,9 +269,10 @@ grows_behind m d e f s g = record {
   records = behind_further d.tables.records e.tables.records f.tables.records (behind_same d.tables.records e.tables.records s.records) g.records;
   components = behind_further d.components e.components f.components (behind_same d.components e.components s.components) g.components;
   exceptions = behind_further d.exceptions e.exceptions f.exceptions (behind_same d.exceptions e.exceptions s.exceptions) g.exceptions;
+  accesses = all_further d.tables.states.accesses e.tables.states.accesses f.tables.states.accesses (all_same d.tables.states.accesses e.tables.states.accesses s.accesses) g.accesses;
   slots = let same = ap length s.slots in let more = g.slots in omega (arith, same, more);
   record_homes = λ env. let same = ap length s.records in let more = g.record_homes env in omega (arith, same, more);
-  access_homes = λ env. let same = s.accesses in let more = g.access_homes env in omega (arith, same, more);
+  access_homes = λ env. let same = mapped_length unfrozen d.tables.states.accesses e.tables.states.accesses s.accesses in let more = g.access_homes env in omega (arith, same, more);
   signatures = λ env. let same = ap length s.subprograms in let more = g.signatures env in omega (arith, same, more);
 }
 
@@ -213,8 +281,9 @@ grows_before m d e f g s = record {
   records = behind_further d.tables.records e.tables.records f.tables.records g.records (behind_same e.tables.records f.tables.records s.records);
   components = behind_further d.components e.components f.components g.components (behind_same e.components f.components s.components);
   exceptions = behind_further d.exceptions e.exceptions f.exceptions g.exceptions (behind_same e.exceptions f.exceptions s.exceptions);
+  accesses = all_further d.tables.states.accesses e.tables.states.accesses f.tables.states.accesses g.accesses (all_same e.tables.states.accesses f.tables.states.accesses s.accesses);
   slots = let same = ap length s.slots in let more = g.slots in omega (arith, same, more);
   record_homes = λ env. let same = ap length s.records in let more = g.record_homes env in omega (arith, same, more);
-  access_homes = λ env. let same = s.accesses in let more = g.access_homes env in omega (arith, same, more);
+  access_homes = λ env. let same = mapped_length unfrozen e.tables.states.accesses f.tables.states.accesses s.accesses in let more = g.access_homes env in omega (arith, same, more);
   signatures = λ env. let same = ap length s.subprograms in let more = g.signatures env in omega (arith, same, more);
 }

@@ -211,7 +211,7 @@ module _ (a : Around) (place : Span) where
   names_entered m None (n ∷ ns) d =
       let rest = names_entered m None ns (declare entry.Unknown d) in
       record {
-        grows = let g = rest.grows in record { records = g.records; components = g.components; exceptions = g.exceptions; slots = g.slots; record_homes = g.record_homes; access_homes = g.access_homes; signatures = g.signatures };
+        grows = let g = rest.grows in record { records = g.records; components = g.components; exceptions = g.exceptions; accesses = g.accesses; slots = g.slots; record_homes = g.record_homes; access_homes = g.access_homes; signatures = g.signatures };
         right = λ s i v f g. rest.right s i v (front_declared s d entry.Unknown tt f) (record { holdings = g.holdings; records = g.records; accesses = g.accesses; subprograms = g.subprograms });
         entries = behind_further d.tables.entries (d.tables.entries ++ entry.Unknown ∷ []) (decl.enter_names a m None ns (declare entry.Unknown d)).tables.entries (behind_one d.tables.entries entry.Unknown) rest.entries;
       }

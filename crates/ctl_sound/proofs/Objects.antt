@@ -247,14 +247,14 @@ module _ (a : Around) where
   alias_right aliasing.Aliased env v t h = h
   alias_right aliasing.Unaliased env v t h = tt
 
-  layered : (s : Site) (is' : Option (List Checked_item)) (ls : List Checked_item) → ls ≡ [] → IfSome (RightItems s) is' → IfSome (RightItems s) (decl.with_layers is' ls)
+  layered : (s : Site) (is' : Option (List Checked_item)) (ls : List Checked_item) → RightItems s ls → IfSome (RightItems s) is' → IfSome (RightItems s) (decl.with_layers is' ls)
   layered s None ls e h = tt
-  layered s (Some is') ls e h = subst (λ xs. RightItems s (xs ++ is')) (sym e) h
+  layered s (Some is') ls e h = elaborated_joined s.k (around_site s) ls is' e h
 
   unknown_comes : (g : Draft) (is' : Option (List Checked_item)) → ((s : Site) → IsHere s (here a) → Front s g → IfSome (RightItems s) is') → Leads (here a) RightItems g (is', declare entry.Unknown g)
   unknown_comes g is' made' = record {
     made = nothing;
-    grows = let h = grows_self g in record { records = h.records; components = h.components; exceptions = h.exceptions; slots = h.slots; record_homes = h.record_homes; access_homes = h.access_homes; signatures = h.signatures };
+    grows = let h = grows_self g in record { records = h.records; components = h.components; exceptions = h.exceptions; accesses = h.accesses; slots = h.slots; record_homes = h.record_homes; access_homes = h.access_homes; signatures = h.signatures };
     right = λ s t f b i. (front_declared s g entry.Unknown tt f, made' s t f);
   }
 
@@ -284,16 +284,16 @@ module _ (a : Around) where
       back_to g z s f = front_still s g d (still_back d g z) f
 
       by_type : (u : Option Ty) → ((s : Site) → IsHere s (here a) → Front s d → UsableAt s u) → ((s : Site) → IsHere s (here a) → Front s d → SlotOf s (length d.slots) u → IfSome (RightItems s) is') →
-          (r : List Checked_item × Draft) → Quiet (asked e) r → Leads (here a) RightItems d (decl.object_declared a o u is' r)
+          (r : List Checked_item × Draft) → Quiet a (asked e) r → Leads (here a) RightItems d (decl.object_declared a o u is' r)
       by_type None v m (ls, g) z =
           let all = still_further d (asked e) g asked_still z.still in
           still_leads (here a) RightItems d g (decl.with_layers is' ls, declare entry.Unknown g) all
-          (unknown_comes g (decl.with_layers is' ls) (λ s i f. layered s is' ls (z.layers (sym z.still.accesses ∙ f.known.accesses)) (m s i (back_to g all s f) tt)))
+          (unknown_comes g (decl.with_layers is' ls) (λ s i f. layered s is' ls (z.layers s i (front_still s g (asked e) (still_back (asked e) g z.still) f)) (m s i (back_to g all s f) tt)))
       by_type (Some u) v m (ls, g) z =
           let all = still_further d (asked e) g asked_still z.still in
           still_leads (here a) RightItems d g (decl.with_layers is' ls, decl.declare_as a o (Some u) g) all
           (declared_comes o u g (decl.with_layers is' ls) (λ s i f. v s i (back_to g all s f))
-          (λ s i f names. layered s is' ls (z.layers (sym z.still.accesses ∙ f.known.accesses))
+          (λ s i f names. layered s is' ls (z.layers s i (front_still s g (asked e) (still_back (asked e) g z.still) f))
               (m s i (back_to g all s f) (subst (λ xs. Names (around_site s) (record { level = length (around_site s); slot = length xs }) (Declared u)) all.slots names))))
 
   slot_for : (t : Option Ty) (n : ℕ) (d : Draft) (s : Site) (f : Front s d) → SlotOf s n t → SlotFor s.k (around_site s) d.tables (front_sound s d f) n t
@@ -344,6 +344,7 @@ module _ (a : Around) where
       records = h.grows.records;
       components = h.grows.components;
       exceptions = behind_further d.exceptions (decl.exception n d).exceptions r.1.exceptions (behind_one d.exceptions n.identifier.text) h.grows.exceptions;
+      accesses = h.grows.accesses;
       slots = h.grows.slots;
       record_homes = h.grows.record_homes;
       access_homes = h.grows.access_homes;
@@ -354,7 +355,7 @@ module _ (a : Around) where
         let fewer = behind_length (decl.exception n d).exceptions r.1.exceptions h.grows.exceptions in
         let within = b.exceptions in
         let declared' = front_declared s d (entry.Exception (length d.exceptions)) (omega (arith, longer, fewer, within)) f in
-        h.right s i (record { entries = declared'.entries; base = declared'.base; known = known_same s.k d (decl.exception n d) refl refl refl refl f.known; own = f.own }) b (record { holdings = g.holdings; records = g.records; accesses = g.accesses; subprograms = g.subprograms });
+        h.right s i (record { entries = declared'.entries; base = declared'.base; known = known_same s.k d (decl.exception n d) refl refl refl refl f.known; own = f.own; inner = f.inner }) b (record { holdings = g.holdings; records = g.records; accesses = g.accesses; subprograms = g.subprograms });
   }
 
   exceptions_come : (ns : List Definition) (before : List Checked_item) (d : Draft) → ((s : Site) → RightItems s before) → Leads (here a) RightItems d (surely (decl.exceptions_on before ns d))

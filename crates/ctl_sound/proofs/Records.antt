@@ -23,6 +23,7 @@ use Rattle.ctl_syntax.specs.declared.item.Limitation.{Limitation}
 use Rattle.ctl_syntax.specs.declared.name.Mark.{Mark}
 use Rattle.ctl_typing.specs.declared.notes.Deed.TheVariants.{Freezes}
 use Rattle.ctl_typing.specs.declared.notes.Notes.{Notes}
+use Rattle.ctl_typing.specs.declared.table.AccessEntry.{AccessEntry}
 use Rattle.ctl_typing.specs.declared.table.ComponentEntry.{ComponentEntry}
 use Rattle.ctl_typing.specs.declared.table.Entry.{Entry}
 use Rattle.ctl_typing.specs.declared.table.Entry.TheVariants as entry
@@ -49,9 +50,10 @@ use Rattle.ctl_sound.specs.Sound.{EntryFine}
 use Rattle.ctl_sound.proofs.Items.{Extends, parent_named_good}
 use Rattle.ctl_sound.proofs.Growing.{operations_in, Behind, behind_same, behind_one, behind_length, behind_place, last_read, Still, still_noted, still_further, still_back, Made, no_homes, nothing, Grows, grows_self}
 use Rattle.ctl_sound.proofs.Freezing.{Quiet, done_quiet, each_length}
-use Rattle.ctl_sound.proofs.Sites.{Site, around_site, here, IsHere, RecordKnown, OperationKnown, no_operations, operations_at, Known, Front, InTable, Back, Agrees}
+use Rattle.ctl_sound.proofs.Sites.{Site, around_site, here, IsHere, AccessKnown, RecordKnown, OperationKnown, no_operations, operations_at, Known, Front, InTable, Back, Agrees}
 use Rattle.ctl_sound.proofs.Fronts.{encloses_self, encloses_further, one_home, read_at, front_still, front_noted, front_sound}
 use Rattle.ctl_sound.proofs.Declared.{known_same}
+use Rattle.ctl_sound.proofs.Completing.{changed_later, completed_later, complete_known}
 use Rattle.ctl_sound.proofs.Components.{Aligned, FoundOwn, aligned_added, aligned_count, aligned_found, below, Only, components_only, components_beside}
 use Rattle.ctl_sound.proofs.Steps.{Leads, still_leads, still_given}
 use Rattle.ctl_sound.proofs.Objects.{RightItems, told_still, elaborated_joined}
@@ -122,7 +124,7 @@ module _ (s : Site) (start number : ℕ) (x : Entry) (es : List Entry) (first : 
 pub front_entered : (s : Site) (start number : ℕ) (x : Entry) (d : Draft) → start ≡ length s.base → EntryFine s.k (around_site s) x → Front s d → Front s (with_entries (entered start number x d.tables.entries) d)
 front_entered s start number x d first h f =
     let g = entries_entered s start number x d.tables.entries first h (f.entries, f.base) in
-    record { entries = g.0; base = g.1; known = known_same s.k d (with_entries (entered start number x d.tables.entries) d) refl refl refl refl f.known; own = f.own }
+    record { entries = g.0; base = g.1; known = known_same s.k d (with_entries (entered start number x d.tables.entries) d) refl refl refl refl f.known; own = f.own; inner = f.inner }
 
 -- One more record type (3.8, 3.9.1) ----------------------------------------------------------------------
 
@@ -157,12 +159,13 @@ module _ (a : Around) (number : ℕ) (r : RecordEntry) (st : RecordState) (cs : 
   record_is : with_record ≡ completed behind
   record_is = ap completed (enter_is a number (entry.«Type» (ty.Record n)) plain)
 
-  record_known : (k : Setting) → Known k base → RecordKnown k n r → ((o : OperationName) (m : ℕ) → user_operation o st.operations ≡ Some m → OperationKnown k o n m) → Known k (completed behind)
-  record_known k h g i = record {
+  record_known : (k : Setting) → Known k base → RecordKnown k n r → ((o : OperationName) (m : ℕ) → user_operation o st.operations ≡ Some m → OperationKnown k o n m) →
+      ((m : ℕ) (x : AccessEntry) → slice_get (completed behind).tables.states.accesses m ≡ Some x → AccessKnown k m x) → Known k (completed behind)
+  record_known k h g i j = record {
     records = each_at (RecordKnown k) base.tables.records r h.records g;
     operations = λ o t m e. operations_with (λ t os. (o : OperationName) (m : ℕ) → user_operation o os ≡ Some m → OperationKnown k o t m) base.tables.states.records st (λ t o m. h.operations o t m) (subst (λ x. (o : OperationName) (m : ℕ) → user_operation o st.operations ≡ Some m → OperationKnown k o x m) (sym h.states) i) t o m e;
     subprograms = h.subprograms;
-    accesses = each_length (types.completed_access number (ty.Record n)) a.first_access base.tables.states.accesses ∙ h.accesses;
+    accesses = j;
     states = let one = length-append base.tables.states.records (st ∷ []) in let two = length-append base.tables.records (r ∷ []) in let same = h.states in omega (arith, one, two, same);
     components = let one = length-append base.components (cs ∷ []) in let two = length-append base.tables.records (r ∷ []) in let same = h.components in omega (arith, one, two, same);
   }
@@ -172,13 +175,14 @@ module _ (a : Around) (number : ℕ) (r : RecordEntry) (st : RecordState) (cs : 
     records = behind_one base.tables.records r;
     components = behind_one base.components cs;
     exceptions = behind_same base.exceptions base.exceptions refl;
+    accesses = changed_later (types.completed_access number (ty.Record n)) (completed_later number (ty.Record n)) a.first_access base.tables.states.accesses;
     slots = omega arith;
     record_homes = λ env. length-append base.tables.records (r ∷ []);
     access_homes = λ env. let same = each_length (types.completed_access number (ty.Record n)) a.first_access base.tables.states.accesses in omega (arith, same);
     signatures = λ env. omega arith;
   }
 
-  pub record_leads : (x : List Checked_item) → ((s : Site) → Front s base → RightItems a s x) →
+  pub record_leads : (x : List Checked_item) → ((s : Site) → IsHere s (here a) → Front s base → RightItems a s x) →
       ((s : Site) → IsHere s (here a) → Front s base → slice_get s.k.record_homes n ≡ Some (around_site s) → InTable s.k n r cs → NextKnown s n r st.operations) → Leads (here a) (RightItems a) base (Some x, with_record)
   record_leads x right shown = subst (λ e. Leads (here a) (RightItems a) base (Some x, e)) (sym record_is) (record {
     made = record_made;
@@ -189,10 +193,12 @@ module _ (a : Around) (number : ℕ) (r : RecordEntry) (st : RecordState) (cs : 
         let home : slice_get s.k.record_homes n ≡ Some env = subst (λ m. slice_get s.k.record_homes m ≡ Some env) same (g.records 0 env refl) in
         let in_table : InTable s.k n r cs = b.records n r cs (last_read base.tables.records r) (subst (λ m. slice_get (base.components ++ cs ∷ []) m ≡ Some cs) f.known.components (last_read base.components cs)) in
         let next = shown s i f home in_table in
-        let k' = record_known s.k f.known next.type next.operations in
         let has : HasRecord s.k env n = record { is = next.type.is; home = env; found = next.type.found; at_home = home; encloses = encloses_self env } in
         let entries = entries_entered s a.start number (entry.«Type» (ty.Record n)) base.tables.entries i.start has (f.entries, f.base) in
-        (record { entries = entries.0; base = entries.1; known = k'; own = refl }, right s f);
+        let accesses = complete_known s number (ty.Record n) a.first_access i.first has base.tables.states.accesses f.inner f.known.accesses b.accesses in
+        let counted = each_length (types.completed_access number (ty.Record n)) a.first_access base.tables.states.accesses in
+        let k' = record_known s.k f.known next.type next.operations accesses in
+        (record { entries = entries.0; base = entries.1; known = k'; own = refl; inner = λ m h first less at. f.inner m h first (omega (arith, counted, less)) at }, right s i f);
   })
 
 -- What is known of a record type, by its parent and its components ------------------------------------------
@@ -261,7 +267,7 @@ module _ (a : Around) (within : Enclosing) (root : Root) (limited : Limitation) 
           (subst (λ q. Reaches k (ty.Record m) (step.Component m q) t) (sym g.position) (subst (λ u. Reaches k (ty.Record m) (step.Component m (suc (c + g.at))) u) g.type (component all at)), g.in_view)
 
   -- it is declared with what is known of it
-  pub declared_leads : (x : List Checked_item) → ((s : Site) → Front s base → RightItems a s x) → ((s : Site) → Front s base → ParentKnown s base root within.parent) → Leads (here a) (RightItems a) base (Some x, types.enter_record a within root limited judged)
+  pub declared_leads : (x : List Checked_item) → ((s : Site) → IsHere s (here a) → Front s base → RightItems a s x) → ((s : Site) → Front s base → ParentKnown s base root within.parent) → Leads (here a) (RightItems a) base (Some x, types.enter_record a within root limited judged)
   declared_leads x right parent =
       let canonical : Draft = record base { own = []; own_names = []; notes = judged.1.notes } in
       let same : types.without_own judged.1 ≡ canonical = ap (λ z. types.without_own z) judged_only in
@@ -295,12 +301,12 @@ record_type_leads a place number l cs d =
     let told = types.untagged_kept place number d in
     let e = asking told in
     still_leads (here a) (RightItems a) d e (surely (types.record_type place number l cs a d)) (still_further d told e (told_still (types.is_said_tagged (slice_get d.tables.entries number)) _ place d) (still_noted told told.returning told.waiting e.notes))
-    (declared_leads a (types.underived place number) root.Untagged l cs e (made.Silent ∷ []) (λ s f. silent_right a s) (λ s f. underived_known s e root.Untagged f))
+    (declared_leads a (types.underived place number) root.Untagged l cs e (made.Silent ∷ []) (λ s i f. silent_right a s) (λ s f. underived_known s e root.Untagged f))
 
 -- Extensions (3.9.1) -------------------------------------------------------------------------------------------------
 
 pub front_unowned : (s : Site) (d : Draft) → Front s d → Front s (types.without_own d)
-front_unowned s d f = record { entries = f.entries; base = f.base; known = known_same s.k d (types.without_own d) refl refl refl refl f.known; own = refl }
+front_unowned s d f = record { entries = f.entries; base = f.base; known = known_same s.k d (types.without_own d) refl refl refl refl f.known; own = refl; inner = f.inner }
 
 module _ (s : Site) (d : Draft) (f : Front s d) (root : Root) (p : ℕ) (has : HasRecord s.k (around_site s) p) (r : RecordEntry) (found : slice_get d.tables.records p ≡ Some r) (rooted : root ≡ r.root) where
   abbrev env : Frames
@@ -340,7 +346,7 @@ module _ (a : Around) (place : Span) (number : ℕ) where
   unknown_behind : (d : Draft) (notes : Notes) (x : List Checked_item) → ((s : Site) → RightItems a s x) → Leads (here a) (RightItems a) d (Some x, enter a number entry.Unknown (record d { own = []; own_names = []; notes = notes }))
   unknown_behind d notes x right = subst (λ e. Leads (here a) (RightItems a) d (Some x, e)) (sym (enter_is a number entry.Unknown (record d { own = []; own_names = []; notes = notes }))) (record {
     made = nothing;
-    grows = let g = grows_self d in record { records = g.records; components = g.components; exceptions = g.exceptions; slots = g.slots; record_homes = g.record_homes; access_homes = g.access_homes; signatures = g.signatures };
+    grows = let g = grows_self d in record { records = g.records; components = g.components; exceptions = g.exceptions; accesses = g.accesses; slots = g.slots; record_homes = g.record_homes; access_homes = g.access_homes; signatures = g.signatures };
     right = λ s i f b g. (front_entered s a.start number entry.Unknown (record d { own = []; own_names = []; notes = notes }) i.start tt (front_noted s (types.without_own d) notes (front_unowned s d f)), right s);
   })
 
@@ -357,7 +363,7 @@ module _ (a : Around) (place : Span) (number : ℕ) where
     is : RecordEntry
     found : slice_get d.tables.records t ≡ Some is
 
-  extended_leads : (t : ℕ) (cs : List (Components_of Use)) (d : Draft) (ls : List Checked_item) (e : Draft) → Quiet d (ls, e) → ((s : Site) → Front s d → ParentAt s d t) → Leads (here a) (RightItems a) d (surely (types.extend a place number t cs (ls, e)))
+  extended_leads : (t : ℕ) (cs : List (Components_of Use)) (d : Draft) (ls : List Checked_item) (e : Draft) → Quiet a d (ls, e) → ((s : Site) → Front s d → ParentAt s d t) → Leads (here a) (RightItems a) d (surely (types.extend a place number t cs (ls, e)))
   extended_leads t cs d ls e q parent =
       let root = root_of (slice_get e.tables.records t) in
       let limited = types.limitation_in (slice_get e.tables.records t) in
@@ -365,7 +371,7 @@ module _ (a : Around) (place : Span) (number : ℕ) where
       let all : Still d next = still_further d e next q.still (still_noted e e.returning e.waiting next.notes) in
       still_leads (here a) (RightItems a) d next (surely (types.extend a place number t cs (ls, e))) all
       (declared_leads a (types.derived place number t e) root limited cs next (ls ++ made.Silent ∷ [])
-      (λ s f. elaborated_joined s.k (around_site s) ls (made.Silent ∷ []) (subst (λ xs. RightItems a s xs) (sym (q.layers (sym all.accesses ∙ f.known.accesses))) rule.no_more_items) (silent_right a s))
+      (λ s i f. elaborated_joined s.k (around_site s) ls (made.Silent ∷ []) (q.layers s i (front_still s next d (still_back d next all) f)) (silent_right a s))
       (λ s f.
           let p = parent s (front_still s next d (still_back d next all) f) in
           let found : slice_get e.tables.records t ≡ Some p.is = subst (λ rs. slice_get rs t ≡ Some p.is) (sym q.still.records) p.found in

@@ -48,7 +48,7 @@ use Rattle.ctl_well_typed.specs.Statements as rule
 use Rattle.ctl_sound.specs.Known.{IfSome, All}
 use Rattle.ctl_sound.specs.Sound.{EntryFine, ProfileFine, formal_of}
 use Rattle.ctl_sound.proofs.Tests.{same_is}
-use Rattle.ctl_sound.proofs.Growing.{operations_in, behind_same, behind_one, Still, still_self, still_noted, still_further, Made, Grows}
+use Rattle.ctl_sound.proofs.Growing.{operations_in, all_same, behind_same, behind_one, Still, still_self, still_noted, still_further, Made, Grows}
 use Rattle.ctl_sound.proofs.Sites.{Site, around_site, here, IsHere, RecordKnown, OperationKnown, SubprogramKnown, no_operations, operations_at, Known, Front, Agrees}
 use Rattle.ctl_sound.proofs.Fronts.{encloses_self, encloses_all, one_home, front_still}
 use Rattle.ctl_sound.proofs.Declared.{front_declared}
@@ -342,6 +342,7 @@ module _ (a : Around) (x : Specification Definition Use) (h : Heading) (kind : H
       records = behind_same d.tables.records d.tables.records refl;
       components = behind_same d.components d.components refl;
       exceptions = behind_same d.exceptions d.exceptions refl;
+      accesses = all_same d.tables.states.accesses d.tables.states.accesses refl;
       slots = omega arith;
       record_homes = λ env. omega arith;
       access_homes = λ env. omega arith;
@@ -359,7 +360,7 @@ module _ (a : Around) (x : Specification Definition Use) (h : Heading) (kind : H
           states = p.count ∙ f.known.states;
           components = f.known.components;
         } in
-        let front : Front s (canonical p.states p.notes) = record { entries = f.entries; base = f.base; known = known; own = f.own } in
+        let front : Front s (canonical p.states p.notes) = record { entries = f.entries; base = f.base; known = known; own = f.own; inner = f.inner } in
         (front_declared s (canonical p.states p.notes) own_entry (entry_right a x.result h kind s i u next found (decl.formal_names x.formals)) front, numbered_right a x.result h kind s i u next found);
   })
 

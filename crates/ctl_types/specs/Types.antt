@@ -382,12 +382,12 @@ abbrev pub misplaced : {A : Type 0} → Bool → Span → Judgement A
 misplaced is_late place = if is_late then order_broken place else wrong rule.Type place
 
 -- an access type of the part that is not frozen (13.1(5), 13.1(9))
-abbrev pub clause_access : Tables → Span → Ty → Judgement ℕ
-clause_access tables place (ty.Access a) = if is_free_type tables.states (ty.Access a) then known a else order_broken place
-clause_access tables place t = if is_free_type tables.states t then wrong rule.Type place else order_broken place
+abbrev pub clause_access : Tables → Around → Span → Ty → Judgement ℕ
+clause_access tables around place (ty.Access a) = if nat_le around.first_access a && is_free_type tables.states (ty.Access a) then known a else order_broken place
+clause_access tables around place t = if is_free_type tables.states t then wrong rule.Type place else order_broken place
 
 abbrev pub clause_entry : Tables → Around → Span → ℕ → Option Entry → Judgement ℕ
-clause_entry tables around place number (Some (entry.«Type» t)) = if nat_le around.start number then clause_access tables place t else order_broken place
+clause_entry tables around place number (Some (entry.«Type» t)) = if nat_le around.start number then clause_access tables around place t else order_broken place
 clause_entry tables around place number (Some (entry.Incomplete t)) = λ n. (None, n)
 clause_entry tables around place number (Some entry.Unknown) = λ n. (None, n)
 clause_entry tables around place number e = wrong rule.Type place
