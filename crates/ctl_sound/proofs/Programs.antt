@@ -8,7 +8,9 @@ use Rattle.ctl_program.specs.declared.types.AccessType.{AccessType}
 use Rattle.ctl_program.specs.declared.types.Component.{Component}
 use Rattle.ctl_program.specs.declared.types.Operations.{Operations}
 use Rattle.ctl_program.specs.declared.types.RecordType.{RecordType}
+use Rattle.ctl_program.specs.declared.types.Ty.{Ty}
 use Rattle.ctl_program.specs.declared.types.Ty.TheVariants as ty
+use Rattle.ctl_program.specs.declared.types.Var.{Var}
 use Rattle.ctl_program.specs.declared.operators.SubprogramKind.TheVariants as kind
 use Rattle.ctl_program.specs.declared.program.Checked.{Checked}
 use Rattle.ctl_program.specs.declared.program.Subprogram.{Subprogram}
@@ -20,6 +22,8 @@ use Rattle.ctl_syntax.specs.declared.denoted.Use.{Use}
 use Rattle.ctl_syntax.specs.declared.item.Mode.TheVariants as mode
 use Rattle.ctl_syntax.specs.declared.item.Tree.{Tree}
 use Rattle.ctl_typing.specs.declared.table.AccessEntry.{AccessEntry}
+use Rattle.ctl_typing.specs.declared.table.Designated.{Designated}
+use Rattle.ctl_typing.specs.declared.table.Designated.TheVariants as designated
 use Rattle.ctl_typing.specs.declared.table.FormalEntry.{FormalEntry}
 use Rattle.ctl_typing.specs.declared.table.RecordEntry.{RecordEntry}
 use Rattle.ctl_typing.specs.declared.table.RecordState.{RecordState}
@@ -33,11 +37,11 @@ use Rattle.ctl_types.specs.Declarations.{name_kept, operation_named}
 use Rattle.ctl_types.specs.Statements.{user_operation, operations_of, operation_formals}
 use Rattle.ctl_types.specs.Types.{is_given}
 use Rattle.ctl_types.specs.Elaboration as spec
-use Rattle.ctl_types.specs.Elaboration.{components_on, subprograms_on, subprogram_with, library_records, library_state, library_states, library_components, record_types, record_type_of, checked_of, checked_with, access_types, or_nothing, verdict_by, Elaborates}
-use Rattle.ctl_well_typed.specs.Setting.{InOut, Formal, Frame, Frames, Encloses, Signature, Setting}
+use Rattle.ctl_types.specs.Elaboration.{access_types_on, access_type_to, components_on, subprograms_on, subprogram_with, library_records, library_state, library_states, library_components, record_types, record_type_of, checked_of, checked_with, access_types, or_nothing, verdict_by, Elaborates}
+use Rattle.ctl_well_typed.specs.Setting.{InOut, Formal, Collection, Names, Frame, Frames, Encloses, Signature, Setting, InView}
 use Rattle.ctl_well_typed.specs.Types.{underived}
 use Rattle.ctl_well_typed.specs.Programs as program
-use Rattle.ctl_well_typed.specs.Programs.{WellTyped, SettingFits, RecordFine, SubprogramFine, Overrides, Overridden, formal}
+use Rattle.ctl_well_typed.specs.Programs.{WellTyped, SettingFits, RecordFine, AccessFine, SubprogramFine, Overrides, Overridden, formal}
 use Rattle.ctl_well_typed.specs.Statements as rule
 use Rattle.ctl_sound.specs.Known.{IfSome}
 use Rattle.ctl_sound.specs.Law.{PlainProgramWellTyped}
@@ -45,8 +49,8 @@ use Rattle.ctl_sound.specs.Library.{HasLibrary, HasLibraryRecord, main_signature
 use Rattle.ctl_sound.specs.Plain.{PlainBody}
 use Rattle.ctl_sound.specs.Sound.{EntryFine, formal_of}
 use Rattle.ctl_sound.proofs.Beginning.{beginning_sound}
-use Rattle.ctl_sound.proofs.Growing.{operations_in, Behind, behind_self, behind_length, behind_read, behind_place, From, from_start, Still, Made, Homes, Grows}
-use Rattle.ctl_sound.proofs.Sites.{Site, around_site, here, IsHere, RecordKnown, OperationKnown, BodyFor, SubprogramKnown, no_operations, operations_at, Known, Front, InTable, Back, Agrees}
+use Rattle.ctl_sound.proofs.Growing.{operations_in, unfrozen, mapped_length, Behind, behind_self, behind_length, behind_read, behind_place, From, from_start, Still, Made, Homes, Grows}
+use Rattle.ctl_sound.proofs.Sites.{Site, around_site, here, IsHere, PoolKnown, RecordKnown, OperationKnown, BodyFor, SubprogramKnown, no_operations, operations_at, Known, Front, InTable, Back, Agrees}
 use Rattle.ctl_sound.proofs.Fronts.{one_home}
 use Rattle.ctl_sound.proofs.Objects.{told_still}
 use Rattle.ctl_sound.proofs.Bodies.{RightMaster, DoesRight}
@@ -81,14 +85,15 @@ given_at f _ _ none_given n y h = absurd (cc)
 given_at f _ _ (one_given {x = x} {y = z} e more) zero y h = let same : z ≡ y = cc in record { from = x; found = refl; gives = e ∙ ap (λ w. Some w) same }
 given_at f _ _ (one_given {xs = xs} {ys = ys} e more) (suc n) y h = let g = given_at f xs ys more n y h in record { from = g.from; found = g.found; gives = g.gives }
 
-record GivingAt {A B : Type 0} (f : A → Option B) (x : A) : Type 0 where
+record GivingAt {A B : Type 0} (f : A → Option B) (ys : List B) (n : ℕ) (x : A) : Type 0 where
   given : B
   gives : f x ≡ Some given
+  found : slice_get ys n ≡ Some given
 
-giving_at : {A B : Type 0} (f : A → Option B) (xs : List A) (ys : List B) → EachGives f xs ys → (n : ℕ) (x : A) → slice_get xs n ≡ Some x → GivingAt f x
+giving_at : {A B : Type 0} (f : A → Option B) (xs : List A) (ys : List B) → EachGives f xs ys → (n : ℕ) (x : A) → slice_get xs n ≡ Some x → GivingAt f ys n x
 giving_at f _ _ none_given n x h = absurd (cc)
-giving_at f _ _ (one_given {x = z} {y = y} e more) zero x h = let same : z ≡ x = cc in record { given = y; gives = ap f (sym same) ∙ e }
-giving_at f _ _ (one_given {xs = xs} {ys = ys} e more) (suc n) x h = giving_at f xs ys more n x h
+giving_at f _ _ (one_given {x = z} {y = y} e more) zero x h = let same : z ≡ x = cc in record { given = y; gives = ap f (sym same) ∙ e; found = refl }
+giving_at f _ _ (one_given {xs = xs} {ys = ys} e more) (suc n) x h = let g = giving_at f xs ys more n x h in record { given = g.given; gives = g.gives; found = g.found }
 
 -- one more of those that are given
 given_further : {A B : Type 0} (f : A → Option B) (before : List B) (x : A) (xs : List A) (all : List B) (y : B) → f x ≡ Some y → GivesBehind f (before ++ y ∷ []) xs all → GivesBehind f before (x ∷ xs) all
@@ -117,6 +122,37 @@ subprograms_given (r ∷ rs) before all h = by_body (with_its_body r) refl h (λ
     by_body : (o : Option Subprogram) → with_its_body r ≡ o → subprograms_on (appended (Some before) o) rs ≡ Some all → ((p : Subprogram) → subprograms_on (Some (before ++ p ∷ [])) rs ≡ Some all → GivesBehind with_its_body (before ++ p ∷ []) rs all) → GivesBehind with_its_body before (r ∷ rs) all
     by_body None e h again = absurd (let no = no_subprograms rs in cc)
     by_body (Some p) e h again = given_further with_its_body before r rs all p e (again p h)
+
+abbrev with_its_type : AccessEntry → Option AccessType
+with_its_type x = access_type_to x x.designated
+
+no_accesses : (as' : List AccessEntry) → access_types_on None as' ≡ None
+no_accesses [] = refl
+no_accesses (a ∷ as') = no_accesses as'
+
+accesses_given : (as' : List AccessEntry) (before all : List AccessType) → access_types_on (Some before) as' ≡ Some all → GivesBehind with_its_type before as' all
+accesses_given [] before all h = let same : before ≡ all = cc in record { more = []; is = sym same ∙ sym (append-nil before); each = none_given }
+accesses_given (a ∷ as') before all h = by_type (with_its_type a) refl h (λ p. accesses_given as' (before ++ p ∷ []) all)
+  where
+    by_type : (o : Option AccessType) → with_its_type a ≡ o → access_types_on (appended (Some before) o) as' ≡ Some all → ((p : AccessType) → access_types_on (Some (before ++ p ∷ [])) as' ≡ Some all → GivesBehind with_its_type (before ++ p ∷ []) as' all) → GivesBehind with_its_type before (a ∷ as') all
+    by_type None e h again = absurd (let no = no_accesses as' in cc)
+    by_type (Some p) e h again = given_further with_its_type before a as' all p e (again p h)
+
+-- an access type of the program is what its entry says
+record TypeIs (x : AccessEntry) (y : AccessType) : Type 0 where
+  collection : y.collection ≡ x.collection
+  designated : x.designated ≡ designated.Known y.designated
+  pool : y.pool ≡ spec.pool_var x.pool
+
+type_is : (x : AccessEntry) (y : AccessType) → with_its_type x ≡ Some y → TypeIs x y
+type_is x y h = by_designated x.designated refl h
+  where
+    by_designated : (w : Designated) → x.designated ≡ w → access_type_to x w ≡ Some y → TypeIs x y
+    by_designated (designated.Known t) e h =
+        let same : record { collection = x.collection; designated = t; pool = spec.pool_var x.pool } ≡ y = cc in
+        record { collection = sym (ap (λ z. z.collection) same); designated = e ∙ ap (λ z. designated.Known z.designated) same; pool = sym (ap (λ z. z.pool) same) }
+    by_designated designated.Unclear e h = absurd (cc)
+    by_designated (designated.Awaited n) e h = absurd (cc)
 
 -- The table of record types -----------------------------------------------------------------------------
 
@@ -293,7 +329,7 @@ record Parts (d : Draft) (p : Checked) : Type 0 where
   accesses : List AccessType
   subprograms : List Subprogram
   components : List (List Component)
-  access_types : access_types d.tables.states.accesses ≡ Some accesses
+  types : EachGives with_its_type d.tables.states.accesses accesses
   bodies : EachGives with_its_body d.subprograms subprograms
   own : EachGives (λ cs. cs) d.components components
   is : record { exceptions = d.exceptions; records = record_types d.tables.records d.tables.states.records components; accesses = accesses; subprograms = subprograms; main = 0 } ≡ p
@@ -312,16 +348,16 @@ parts_of d p h = by_accesses (access_types d.tables.states.accesses) refl (spec.
       accesses = x;
       subprograms = y;
       components = z;
-      access_types = e;
+      types = from_nothing with_its_type d.tables.states.accesses x (accesses_given d.tables.states.accesses [] x e);
       bodies = from_nothing with_its_body d.subprograms y (subprograms_given d.subprograms [] y f);
       own = from_nothing (λ cs. cs) d.components z (components_given d.components [] z g);
       is = cc;
     }
 
-no_access_types : (as' : List AccessEntry) (xs : List AccessType) → length as' ≡ 0 → access_types as' ≡ Some xs → xs ≡ []
-no_access_types as' xs h e = let none = ap (λ ys. access_types ys) (nil_from_length as' h) in let same : Some [] ≡ Some xs = sym none ∙ e in cc
-
 -- Whole programs -----------------------------------------------------------------------------------------------------
+
+known_same_type : (t u : Ty) → designated.Known t ≡ designated.Known u → t ≡ u
+known_same_type t u h = cc
 
 abbrev begin : Tree Definition Use → Option Fault → Option Fault → Draft
 begin t names uses = spec.main_declared t.name (spec.begun names uses)
@@ -340,6 +376,7 @@ pub main_put : (t : Tree Definition Use) (names uses : Option Fault) → Put (So
 main_put t names uses = put_known (Some 0) (main_judged t names uses).0 (main_left t names uses)
 
 module _ (t : Tree Definition Use) (names uses : Option Fault) (right : DoesRight (spec.body t.body)) (css : List (List Component)) (own : EachGives (λ cs. cs) (main_judged t names uses).1.components css)
+    (accs : List AccessType) (given_types : EachGives with_its_type (main_judged t names uses).1.tables.states.accesses accs)
     (ss : List Subprogram) (bodies : EachGives with_its_body (main_put t names uses).subprograms ss) where
   abbrev before : Draft
   before = begin t names uses
@@ -371,7 +408,7 @@ module _ (t : Tree Definition Use) (names uses : Option Fault) (right : DoesRigh
   abbrev k : Setting
   k = record {
     records = table_of end.tables.records end.tables.states.records end.components;
-    accesses = [];
+    accesses = accs;
     exceptions = length end.exceptions;
     record_homes = library_homes ++ homes.records;
     access_homes = homes.accesses;
@@ -385,6 +422,10 @@ module _ (t : Tree Definition Use) (names uses : Option Fault) (right : DoesRigh
         let c = giving_at (λ cs. cs) end.components css own n o f in
         let g = in_rows end.tables.records end.tables.states.records end.components n r c.given e (f ∙ ap (λ x. Some x) c.gives) in
         record { own = c.given; known = c.gives; operations = g.operations; found = g.found };
+    accesses = λ a x e.
+        let c = giving_at with_its_type end.tables.states.accesses accs given_types a x e in
+        let q = type_is x c.given c.gives in
+        record { is = c.given; found = c.found; collection = q.collection; designated = λ u h. known_same_type c.given.designated u (sym q.designated ∙ h) };
   }
 
   library_table : (n : ℕ) (r : RecordEntry) → slice_get library_records n ≡ Some r → InTable k n r (Some [])
@@ -404,7 +445,7 @@ module _ (t : Tree Definition Use) (names uses : Option Fault) (right : DoesRigh
   }
 
   abbrev site : Site
-  site = record { k = k; has = has; outer = []; frame = frame; base = before.tables.entries }
+  site = record { k = k; has = has; outer = []; frame = frame; base = before.tables.entries; first = length before.tables.states.accesses }
 
   main_body : (f : Frame) (m : Master) → rule.Mastered k [] f (record { in_loop = false; in_handler = false; gives = None }) m → MasteredFor k 0 m
   main_body f m h = record { is = main_signature; found = refl; body = (f, h) }
@@ -412,12 +453,15 @@ module _ (t : Tree Definition Use) (names uses : Option Fault) (right : DoesRigh
   main_known : SubprogramKnown k 0 (record { level = 0; kind = kind.Procedure; body = None })
   main_known = record { is = main_signature; found = refl; level = refl; result = program.procedure; formals = program.no_more_formals; body = tt }
 
+  no_types : length start.tables.states.accesses ≡ 0
+  no_types = mapped_length unfrozen (spec.begun names uses).tables.states.accesses start.tables.states.accesses named.accesses
+
   known : Known k start
   known = record {
     records = λ n r e. let f = subst (λ xs. slice_get xs n ≡ Some r) named.records e in let h = of_library n r f in library_known k n r h (library_table n r f) (h.home homes.records);
     operations = λ o n m e. absurd (let none = ap (λ os. user_operation o (operations_at os n)) named.operations ∙ ap (user_operation o) (library_has_none n) ∙ none_of o in cc);
     subprograms = subprograms;
-    accesses = named.accesses;
+    accesses = λ n x e. absurd (let none = ap (λ as'. slice_get as' n) (nil_from_length start.tables.states.accesses no_types) in cc);
     states = states_counted;
     components = ap length named.components ∙ ap length (sym named.records);
   }
@@ -437,16 +481,16 @@ module _ (t : Tree Definition Use) (names uses : Option Fault) (right : DoesRigh
       states_counted = sym (mapped start.tables.states.records) ∙ ap length named.operations ∙ ap length (sym named.records)
 
   front : Front site start
-  front = record { entries = (beginning_sound.sound k (around_site site) has t.name names uses).entries; base = behind_self before.tables.entries; known = known; own = named.own }
+  front = record { entries = (beginning_sound.sound k (around_site site) has t.name names uses).entries; base = behind_self before.tables.entries; known = known; own = named.own; inner = λ n home first less at. absurd (omega (arith, first, less)) }
 
   begins : IsHere site (here around)
-  begins = record { level = refl; start = refl; giving = tt }
+  begins = record { level = refl; start = refl; first = refl; giving = tt }
 
   agrees : Agrees site start lead.made
   agrees = record {
     holdings = from_start frame;
     records = subst (λ n. From n homes.records (library_homes ++ homes.records)) (sym (ap length named.records)) (λ i x e. behind_place library_homes homes.records i ∙ e);
-    accesses = subst (λ n. From n homes.accesses homes.accesses) (sym named.accesses) (from_start homes.accesses);
+    accesses = subst (λ n. From n homes.accesses homes.accesses) (sym no_types) (from_start homes.accesses);
     subprograms = subst (λ n. From n homes.subprograms (main_signature ∷ homes.subprograms)) (sym counted) (λ i x e. behind_place (main_signature ∷ []) homes.subprograms i ∙ e);
   }
     where
@@ -473,7 +517,7 @@ module _ (t : Tree Definition Use) (names uses : Option Fault) (right : DoesRigh
       main_mastered n m e f = let same : 0 ≡ n = cc in subst (λ j. MasteredFor k j m) same (by_body judged.0 whole_right.1 m f)
 
   abbrev checked : Checked
-  checked = record { exceptions = end.exceptions; records = record_types end.tables.records end.tables.states.records css; accesses = []; subprograms = ss; main = 0 }
+  checked = record { exceptions = end.exceptions; records = record_types end.tables.records end.tables.states.records css; accesses = accs; subprograms = ss; main = 0 }
 
   table_same : k.records ≡ checked.records
   table_same = table_is end.tables.records end.tables.states.records end.components css own at_end.states at_end.components
@@ -517,20 +561,37 @@ module _ (t : Tree Definition Use) (names uses : Option Fault) (right : DoesRigh
     accesses = refl;
     exceptions = refl;
     record_homes = let more = lead.grows.record_homes (frame ∷ []) in let first = ap length named.records in let counted = table_length end.tables.records end.tables.states.records end.components in let same = ap length table_same in let sum = length-append library_homes homes.records in omega (arith, more, first, counted, same, sum);
-    access_homes = let more = lead.grows.access_homes (frame ∷ []) in let first = at_end.accesses in omega (arith, more, first);
+    access_homes = let more = lead.grows.access_homes (frame ∷ []) in let first = no_types in let given = given_length with_its_type end.tables.states.accesses accs given_types in omega (arith, more, first, given);
     subprograms = let more = lead.grows.signatures (frame ∷ []) in let counted = (main_put t names uses).count in let given = given_length with_its_body (main_put t names uses).subprograms ss bodies in let first = ap (λ xs. length (xs ++ record { level = 0; kind = kind.Procedure; body = None } ∷ [])) named.subprograms in omega (arith, more, counted, given, first);
   }
 
-  pub checked_well_typed : (as' : List AccessType) → access_types end.tables.states.accesses ≡ Some as' → WellTyped (record checked { accesses = as' })
-  checked_well_typed as' e = subst (λ xs. WellTyped (record checked { accesses = xs })) (sym (no_access_types end.tables.states.accesses as' at_end.accesses e)) (record {
+  pooled : (home : Frames) (o : Option (Var × ℕ)) → ((p : Var × ℕ) → o ≡ Some p → PoolKnown k home p) → program.Pooled k home (spec.pool_var o)
+  pooled home None h = program.standard
+  pooled home (Some p) h = let q = h p refl in program.from_pool q.names q.rooted q.pool
+
+  each_access : (n : ℕ) (x : AccessType) (home : Frames) → slice_get checked.accesses n ≡ Some x → slice_get k.access_homes n ≡ Some home → AccessFine k n x home
+  each_access n x home e f =
+      let g = given_at with_its_type end.tables.states.accesses accs given_types n x e in
+      let q = at_end.accesses n g.from g.found in
+      let says = type_is g.from x g.gives in
+      let here' = one_home q.home home (slice_get k.access_homes n) q.at_home f in
+      record {
+        level = subst (λ h. x.collection.level ≡ length h) here' (ap (λ v. v.level) says.collection ∙ q.level);
+        collection = subst (λ h. Names h x.collection (Collection n)) here' (subst (λ v. Names q.home v (Collection n)) (sym says.collection) q.names);
+        designated = subst (λ h. InView k h x.designated) here' (q.designated x.designated says.designated).1;
+        pool = subst (λ o. program.Pooled k home o) (sym says.pool) (pooled home g.from.pool (λ p e. subst (λ h. PoolKnown k h p) here' (q.pool p e)));
+      }
+
+  pub checked_well_typed : WellTyped checked
+  checked_well_typed = record {
     k = k;
     fits = fits;
     exceptions = three;
     each_record = each_record;
-    each_access = λ n x home found at_home. absurd (cc);
+    each_access = each_access;
     each_subprogram = each_subprogram;
     main = record { found = refl; encloses = refl };
-  })
+  }
 
 module _ (t : Tree Definition Use) (names uses : Option Fault) (right : DoesRight (spec.body t.body)) where
   pub whole_well_typed : (p : Checked) → Elaborates names uses t (Ok p) → WellTyped p
@@ -544,7 +605,7 @@ module _ (t : Tree Definition Use) (names uses : Option Fault) (right : DoesRigh
           let whole = spec.whole names uses t in
           let known = verdict_known t.span whole.notes.early whole.notes.fault whole p e in
           let x = parts_of (record (main_left t names uses) { subprograms = put.subprograms }) p (subst (λ d. checked_of d ≡ Some p) put.is known) in
-          subst WellTyped x.is (checked_well_typed t names uses right x.components x.own x.subprograms x.bodies x.accesses x.access_types)
+          subst WellTyped x.is (checked_well_typed t names uses right x.components x.own x.accesses x.types x.subprograms x.bodies)
 
 pub plain_programs_well_typed : (t : Tree Definition Use) → PlainProgramWellTyped t
 plain_programs_well_typed t = record { well_typed = λ names uses p plain h. whole_well_typed t names uses (plain_body_right t.body plain) p h }
