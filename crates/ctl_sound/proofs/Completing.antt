@@ -40,7 +40,7 @@ changed_later f h (suc m) (y ∷ xs) (suc n) x e = let g = changed_later f h m x
 -- Awaited types ------------------------------------------------------------------------------------------
 
 pub completed_later : (number : ℕ) (t : Ty) (x : AccessEntry) → Later x (completed_access number t x)
-completed_later number t x = record { level = refl; collection = refl; designated = λ u e. ap (completed_designated number t) e; pool = λ p e. e }
+completed_later number t x = record { level = refl; collection = refl; designated = λ u e. ap (completed_designated number t) e }
 
 module _ (s : Site) (number : ℕ) (t : Ty) (first : ℕ) (same_first : first ≡ s.first) (usable : InView s.k (around_site s) t) (xs : List AccessEntry)
     (inner : (n : ℕ) (home : Frames) → s.first ≤ n → n < length xs → slice_get s.k.access_homes n ≡ Some home → Encloses (around_site s) home)

@@ -177,7 +177,7 @@ module _ (k : Setting) (env : Frames) (tables : Tables) (sound : Sound k env tab
   one_item : (i : Checked_item) → Elaborated k env i → ElaboratedEach k env (i ∷ [])
   one_item i h = rule.one_more_item h rule.no_more_items
 
-  same_pools : (r : Root) → marks.is_pool_root r ≡ true → rule.is_pool r ≡ true
+  pub same_pools : (r : Root) → marks.is_pool_root r ≡ true → rule.is_pool r ≡ true
   same_pools root.BlockPool h = refl
   same_pools root.MarkPool h = refl
   same_pools root.Untagged h = absurd (cc)
@@ -251,7 +251,7 @@ module _ (a : Around) where
   layered s None ls e h = tt
   layered s (Some is') ls e h = elaborated_joined s.k (around_site s) ls is' e h
 
-  unknown_comes : (g : Draft) (is' : Option (List Checked_item)) → ((s : Site) → IsHere s (here a) → Front s g → IfSome (RightItems s) is') → Leads (here a) RightItems g (is', declare entry.Unknown g)
+  pub unknown_comes : (g : Draft) (is' : Option (List Checked_item)) → ((s : Site) → IsHere s (here a) → Front s g → IfSome (RightItems s) is') → Leads (here a) RightItems g (is', declare entry.Unknown g)
   unknown_comes g is' made' = record {
     made = nothing;
     grows = let h = grows_self g in record { records = h.records; components = h.components; exceptions = h.exceptions; accesses = h.accesses; slots = h.slots; record_homes = h.record_homes; access_homes = h.access_homes; signatures = h.signatures };

@@ -86,7 +86,7 @@ set_behind (y ∷ xs) more (suc m) x h = let r = set_behind xs more m x (omega (
 
 -- Declarations of a number (3.11.1) ------------------------------------------------------------------
 
-abbrev entered : ℕ → ℕ → Entry → List Entry → List Entry
+abbrev pub entered : ℕ → ℕ → Entry → List Entry → List Entry
 entered start number x es = if nat_le start number && nat_lt number (length es) then slice_set es number x else es ++ x ∷ []
 
 pub enter_is : (a : Around) (number : ℕ) (x : Entry) (d : Draft) → enter a number x d ≡ with_entries (entered a.start number x d.tables.entries) d
@@ -97,10 +97,10 @@ enter_is a number x d = by_test (is_declared_in a number d)
     by_test false = refl
 
 module _ (s : Site) (start number : ℕ) (x : Entry) (es : List Entry) (first : start ≡ length s.base) where
-  abbrev EntriesFine : List Entry → Type 0
+  abbrev pub EntriesFine : List Entry → Type 0
   EntriesFine ys = ((n : ℕ) → IfSome (EntryFine s.k (around_site s)) (slice_get ys n)) × Behind s.base ys
 
-  entries_entered : EntryFine s.k (around_site s) x → EntriesFine es → EntriesFine (entered start number x es)
+  pub entries_entered : EntryFine s.k (around_site s) x → EntriesFine es → EntriesFine (entered start number x es)
   entries_entered h g = by_test (nat_le start number) refl (nat_lt number (length es))
     where
       added : EntriesFine (es ++ x ∷ [])
@@ -293,7 +293,7 @@ underived_known s d root f = record {
     no_user Allocate = refl
     no_user Deallocate = refl
 
-silent_right : (a : Around) (s : Site) → RightItems a s (made.Silent ∷ [])
+pub silent_right : (a : Around) (s : Site) → RightItems a s (made.Silent ∷ [])
 silent_right a s = rule.one_more_item rule.silent rule.no_more_items
 
 pub record_type_leads : (a : Around) (place : Span) (number : ℕ) (l : Limitation) (cs : List (Components_of Use)) (d : Draft) → Leads (here a) (RightItems a) d (surely (types.record_type place number l cs a d))
