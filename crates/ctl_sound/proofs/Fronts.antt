@@ -151,6 +151,15 @@ encloses_all (x ∷ xs) (y ∷ ys) h e =
     let inner = encloses_all xs ys (ap rest_of h) shorter in
     ap (λ z. z ∷ xs) (sym same) ∙ ap (λ zs. y ∷ zs) inner
 
+pub encloses_both : (a b : Frames) → Encloses a b → Encloses b a → a ≡ b
+encloses_both [] [] h i = refl
+encloses_both [] (y ∷ ys) h i = absurd (cc)
+encloses_both (x ∷ xs) [] h i = absurd (cc)
+encloses_both (x ∷ xs) (y ∷ ys) h i =
+    let same = first_is y x (take (length xs) ys) xs h in
+    let inner = encloses_both xs ys (ap rest_of h) (ap rest_of i) in
+    ap (λ z. z ∷ xs) (sym same) ∙ ap (λ zs. y ∷ zs) inner
+
 pub in_view_further : (k : Setting) (home env : Frames) (t : Ty) → Encloses home env → InView k home t → InView k env t
 in_view_further k home env (ty.Record t) e h = record { is = h.is; home = h.home; found = h.found; at_home = h.at_home; encloses = encloses_further h.home home env h.encloses e }
 in_view_further k home env (ty.Access a) e h = record { is = h.is; home = h.home; found = h.found; at_home = h.at_home; encloses = encloses_further h.home home env h.encloses e }

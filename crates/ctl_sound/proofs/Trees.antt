@@ -4,6 +4,8 @@ use Rattle.ctl_tree.specs.declared.span.Span.{Span}
 use Rattle.ctl_syntax.specs.declared.denoted.Definition.{Definition}
 use Rattle.ctl_syntax.specs.declared.denoted.Use.{Use}
 use Rattle.ctl_syntax.specs.declared.expression.Expression.{Expression}
+use Rattle.ctl_syntax.specs.declared.item.Association.{Association}
+use Rattle.ctl_syntax.specs.declared.item.Taggedness.{Taggedness}
 use Rattle.ctl_syntax.specs.declared.item.Body.{Body, roll-Body, fold-roll-Body}
 use Rattle.ctl_syntax.specs.declared.item.Branch.{Branch}
 use Rattle.ctl_syntax.specs.declared.item.Definition.{Definition as Type_definition}
@@ -32,6 +34,7 @@ use Rattle.ctl_sound.proofs.Growing.{still_self}
 use Rattle.ctl_sound.proofs.Sites.{here}
 use Rattle.ctl_sound.proofs.Compounds.{Right, SaysRight, BranchRight, HandlerRight, branch_walk, conditional_walk, endless_walk, while_walk, counting_walk, assignment_walk, call_walk, raising_walk, raising_again_walk, exiting_walk, returning_walk, handler_walk}
 use Rattle.ctl_sound.proofs.Objects.{objects_come, exceptions_declared}
+use Rattle.ctl_sound.proofs.Accesses.{incomplete_leads, access_defined, pool_clause_leads, instance_leads}
 use Rattle.ctl_sound.proofs.Records.{extension_defined, record_defined}
 use Rattle.ctl_sound.proofs.Bodies.{ItemRight, DoesRight, body_right, block_right}
 use Rattle.ctl_sound.proofs.BodyItems.{declaration_leads, body_item_leads}
@@ -83,6 +86,15 @@ item_objects p o = rw fold-roll-Item refl
 item_exceptions : (p : Span) (ns : List Definition) → item_judged (roll-Item Definition Use (record { span = p; kind = item.Exceptions ns })) ≡ spec.item_step (record { span = p; kind = item.Exceptions ns })
 item_exceptions p ns = rw fold-roll-Item refl
 
+item_instance : (p : Span) (n : Definition) (m : Mark Use) (as' : List (Association Use)) → item_judged (roll-Item Definition Use (record { span = p; kind = item.Instance n m as' })) ≡ spec.item_step (record { span = p; kind = item.Instance n m as' })
+item_instance p n m as' = rw fold-roll-Item refl
+
+item_incomplete : (p : Span) (n : Definition) (t : Taggedness) → item_judged (roll-Item Definition Use (record { span = p; kind = item.Incomplete n t })) ≡ spec.item_step (record { span = p; kind = item.Incomplete n t })
+item_incomplete p n t = rw fold-roll-Item refl
+
+item_clause : (p : Span) (u : Use) (m : Mark Use) → item_judged (roll-Item Definition Use (record { span = p; kind = item.StoragePool u m })) ≡ spec.item_step (record { span = p; kind = item.StoragePool u m })
+item_clause p u m = rw fold-roll-Item refl
+
 item_definition : (p : Span) (n : Definition) (def : Type_definition Use) → item_judged (roll-Item Definition Use (record { span = p; kind = item.«Type» n def })) ≡ spec.item_step (record { span = p; kind = item.«Type» n def })
 item_definition p n def = rw fold-roll-Item refl
 
@@ -131,6 +143,10 @@ mutual
   items_right (i ∷ is') (plain.exceptions p ns more) = (subst ItemRight (sym (item_exceptions p ns)) (λ o a d. exceptions_declared a ns d), items_right is' more)
   items_right (i ∷ is') (plain.extension p n m cs more) = (subst ItemRight (sym (item_definition p n (definition.Extension m cs))) (λ o a d. extension_defined a p n d m cs), items_right is' more)
   items_right (i ∷ is') (plain.record_type p n l cs more) = (subst ItemRight (sym (item_definition p n (definition.Record l cs))) (λ o a d. record_defined a p n d l cs), items_right is' more)
+  items_right (i ∷ is') (plain.access_type p n g m c pool more) = (subst ItemRight (sym (item_definition p n (definition.Access g m c pool))) (λ o a d. access_defined a p n g m c pool d), items_right is' more)
+  items_right (i ∷ is') (plain.incomplete p n t more) = (subst ItemRight (sym (item_incomplete p n t)) (λ o a d. incomplete_leads a n t d), items_right is' more)
+  items_right (i ∷ is') (plain.storage_pool p u m more) = (subst ItemRight (sym (item_clause p u m)) (λ o a d. pool_clause_leads a p u m d), items_right is' more)
+  items_right (i ∷ is') (plain.instance p n m as' more) = (subst ItemRight (sym (item_instance p n m as')) (λ o a d. instance_leads a p n m as' d), items_right is' more)
   items_right (i ∷ is') (plain.declaration p x more) = (subst ItemRight (sym (item_declaration p x)) (λ o a d. declaration_leads a p x d), items_right is' more)
   items_right (i ∷ is') (plain.subprogram p x b h more) = (subst ItemRight (sym (item_body p x b)) (body_item_leads p x (body b) (plain_body_right b h)), items_right is' more)
 

@@ -5,6 +5,10 @@ use Rattle.ctl_tree.specs.declared.span.Span.{Span}
 use Rattle.ctl_syntax.specs.declared.denoted.Definition.{Definition}
 use Rattle.ctl_syntax.specs.declared.denoted.Use.{Use}
 use Rattle.ctl_syntax.specs.declared.expression.Expression.{Expression}
+use Rattle.ctl_syntax.specs.declared.item.Association.{Association}
+use Rattle.ctl_syntax.specs.declared.item.Coverage.{Coverage}
+use Rattle.ctl_syntax.specs.declared.item.Generality.{Generality}
+use Rattle.ctl_syntax.specs.declared.item.Taggedness.{Taggedness}
 use Rattle.ctl_syntax.specs.declared.item.Body.{Body, roll-Body}
 use Rattle.ctl_syntax.specs.declared.item.Branch.{Branch}
 use Rattle.ctl_syntax.specs.declared.item.Choices.{Choices}
@@ -29,6 +33,10 @@ mutual
     exceptions : (p : Span) (names : List Definition) {more : List (Item Definition Use)} → PlainItems more → PlainItems (roll-Item Definition Use (record { span = p; kind = item.Exceptions names }) ∷ more)
     record_type : (p : Span) (name : Definition) (l : Limitation) (cs : List (Components Use)) {more : List (Item Definition Use)} → PlainItems more → PlainItems (roll-Item Definition Use (record { span = p; kind = item.«Type» name (definition.Record l cs) }) ∷ more)
     extension : (p : Span) (name : Definition) (parent : Mark Use) (cs : List (Components Use)) {more : List (Item Definition Use)} → PlainItems more → PlainItems (roll-Item Definition Use (record { span = p; kind = item.«Type» name (definition.Extension parent cs) }) ∷ more)
+    access_type : (p : Span) (name : Definition) (g : Generality) (m : Mark Use) (c : Coverage) (pool : Option (Mark Use)) {more : List (Item Definition Use)} → PlainItems more → PlainItems (roll-Item Definition Use (record { span = p; kind = item.«Type» name (definition.Access g m c pool) }) ∷ more)
+    incomplete : (p : Span) (name : Definition) (t : Taggedness) {more : List (Item Definition Use)} → PlainItems more → PlainItems (roll-Item Definition Use (record { span = p; kind = item.Incomplete name t }) ∷ more)
+    storage_pool : (p : Span) (u : Use) (m : Mark Use) {more : List (Item Definition Use)} → PlainItems more → PlainItems (roll-Item Definition Use (record { span = p; kind = item.StoragePool u m }) ∷ more)
+    instance : (p : Span) (name : Definition) (m : Mark Use) (as' : List (Association Use)) {more : List (Item Definition Use)} → PlainItems more → PlainItems (roll-Item Definition Use (record { span = p; kind = item.Instance name m as' }) ∷ more)
     declaration : (p : Span) (x : Specification Definition Use) {more : List (Item Definition Use)} → PlainItems more → PlainItems (roll-Item Definition Use (record { span = p; kind = item.Declaration x }) ∷ more)
     subprogram : (p : Span) (x : Specification Definition Use) (b : Body Definition Use) {more : List (Item Definition Use)} → PlainBody b → PlainItems more → PlainItems (roll-Item Definition Use (record { span = p; kind = item.Body x b }) ∷ more)
 
