@@ -44,9 +44,9 @@ use Rattle.ctl_well_typed.specs.Programs as program
 use Rattle.ctl_well_typed.specs.Programs.{WellTyped, SettingFits, RecordFine, AccessFine, SubprogramFine, Overrides, Overridden, formal}
 use Rattle.ctl_well_typed.specs.Statements as rule
 use Rattle.ctl_sound.specs.Known.{IfSome}
-use Rattle.ctl_sound.specs.Law.{PlainProgramWellTyped}
+use Rattle.ctl_sound.specs.Law.{ProgramWellTyped}
 use Rattle.ctl_sound.specs.Library.{HasLibrary, HasLibraryRecord, main_signature}
-use Rattle.ctl_sound.specs.Plain.{PlainBody}
+use Rattle.ctl_sound.proofs.Plain.{every_body}
 use Rattle.ctl_sound.specs.Sound.{EntryFine, formal_of}
 use Rattle.ctl_sound.proofs.Beginning.{beginning_sound}
 use Rattle.ctl_sound.proofs.Growing.{operations_in, unfrozen, mapped_length, Behind, behind_self, behind_length, behind_read, behind_place, From, from_start, Still, Made, Homes, Grows}
@@ -607,5 +607,5 @@ module _ (t : Tree Definition Use) (names uses : Option Fault) (right : DoesRigh
           let x = parts_of (record (main_left t names uses) { subprograms = put.subprograms }) p (subst (λ d. checked_of d ≡ Some p) put.is known) in
           subst WellTyped x.is (checked_well_typed t names uses right x.components x.own x.accesses x.types x.subprograms x.bodies)
 
-pub plain_programs_well_typed : (t : Tree Definition Use) → PlainProgramWellTyped t
-plain_programs_well_typed t = record { well_typed = λ names uses p plain h. whole_well_typed t names uses (plain_body_right t.body plain) p h }
+pub programs_well_typed : (t : Tree Definition Use) → ProgramWellTyped t
+programs_well_typed t = record { well_typed = λ names uses p h. whole_well_typed t names uses (plain_body_right t.body (every_body t.body)) p h }

@@ -28,8 +28,8 @@ use Rattle.ctl_types.specs.Elaboration.{item_judged, statement, body}
 use Rattle.ctl_types.specs.Parts.{branch_of, handler_of}
 use Rattle.ctl_well_typed.specs.Statements.{Done}
 use Rattle.ctl_sound.specs.Known.{All}
-use Rattle.ctl_sound.specs.Plain as plain
-use Rattle.ctl_sound.specs.Plain.{PlainItems, Plain, PlainEach, PlainBranches, PlainHandlers, PlainBody}
+use Rattle.ctl_sound.proofs.Plain as plain
+use Rattle.ctl_sound.proofs.Plain.{PlainItems, Plain, PlainEach, PlainBranches, PlainHandlers, PlainBody}
 use Rattle.ctl_sound.proofs.Growing.{still_self}
 use Rattle.ctl_sound.proofs.Sites.{here}
 use Rattle.ctl_sound.proofs.Compounds.{Right, SaysRight, BranchRight, HandlerRight, branch_walk, conditional_walk, endless_walk, while_walk, counting_walk, assignment_walk, call_walk, raising_walk, raising_again_walk, exiting_walk, returning_walk, handler_walk}
