@@ -1,6 +1,6 @@
 //! The components of record types, as they are declared (RM 3.8, 3.9.1).
 
-ghost use Rattle.std.specs.Prelude.{◌≡◌, OnOk, option_map, slice_get};
+ghost use Rattle.std.specs.Prelude.{◌≡◌, IfOk, OnOk, option_map, slice_get};
 ghost use Rattle.ctl_types.specs.Types as spec;
 ghost use Rattle.ctl_typing.specs.Judgement.{Answers, Judges};
 ghost use Rattle.ctl_typing.specs.Typing.{sense};

@@ -36,8 +36,9 @@ pub struct Opened {
 pub fn inside(around: Around, giving: Giving, draft: &Draft) -> Result<Around, AllocError>
     ensures { IfOk result (λ inner. inner ≡ spec.inside around giving draft.now) }
 {
+    let level = around.level.checked_add(1).ok_or(AllocError)?;
     Ok(Around {
-        level: around.level.checked_add(1).ok_or(AllocError)?,
+        level,
         start: draft.tables.entries.len(),
         first_subprogram: draft.subprograms.len(),
         first_record: draft.tables.records.len(),
@@ -52,10 +53,11 @@ pub fn inside(around: Around, giving: Giving, draft: &Draft) -> Result<Around, A
 pub fn inside_block(around: Around, draft: &Draft) -> Result<Around, AllocError>
     ensures { IfOk result (λ inner. inner ≡ spec.inside_block around draft.now) }
 {
+    let inner = inside(around, around.giving, draft)?;
     Ok(Around {
         looping: around.looping,
         handling: around.handling,
-        ..inside(around, around.giving, draft)?
+        ..inner
     })
 }
 

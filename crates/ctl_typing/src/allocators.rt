@@ -148,13 +148,7 @@ pub fn mark_judged(
 }
 
 /// Notes a handle where the objects of the access type that is asked stand in no subpools (RM 4.8, 13.11.4).
-fn in_subpools(
-    tables: &Tables,
-    place: Span,
-    asked: Asked,
-    handle: Expr,
-    notes: &mut Notes,
-) -> Expr
+fn in_subpools(tables: &Tables, place: Span, asked: Asked, handle: Expr, notes: &mut Notes) -> Expr
     ensures { spec.in_subpools tables.now place asked handle notes.old ≡ (Some result, notes.new) }
 {
     match asked {

@@ -118,10 +118,12 @@ pub fn has_subpools(tables: &Tables, access: usize) -> bool
     ensures { result ≡ spec.has_subpools tables.now (slice_get tables.now.states.accesses access) }
 {
     match access_at(tables, access) {
-        Some(AccessEntry {
-            pool: Some((_, number)),
-            ..
-        }) => root_of(tables, number) == Root::MarkPool,
+        Some(
+            AccessEntry {
+                pool: Some((_, number)),
+                ..
+            },
+        ) => root_of(tables, number) == Root::MarkPool,
         _ => false,
     }
 }
