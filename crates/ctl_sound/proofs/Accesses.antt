@@ -1,14 +1,11 @@
 -- Access types, incomplete types and Storage_Pool clauses as they are declared (3.10, 3.10.1, 13.11), and instances of Ada.Unchecked_Deallocation
 -- (13.11.2).
-use Rattle.std.proofs.Common.{arith, ◌≡◌, ◌≤◌, ◌<◌, ◌⊎◌, inl, inr, refl, sym, ap, ◌∙◌, subst, ℕ, zero, suc, ◌+◌, nat_eq, nat_le, nat_lt, Bool, true, false, ◌&&◌, if◌then◌else◌, List, [], ◌∷◌, ◌++◌, length, map, take, slice_get, slice_set, Option, Some, None}
+use Rattle.std.proofs.Common.{arith, ◌≡◌, ◌≤◌, ◌<◌, ◌⊎◌, inl, inr, refl, sym, ap, ◌∙◌, subst, ℕ, zero, suc, ◌+◌, nat_le, nat_lt, Bool, true, false, ◌&&◌, if◌then◌else◌, List, [], ◌∷◌, ◌++◌, length, slice_get, Option, Some, None}
 use Rattle.std.proofs.lemmas.Bool.Decides.{nat_tests}
 use Rattle.std.proofs.lemmas.List.{length-append}
 use Rattle.ctl_tree.specs.declared.fault.FaultCode.{FaultCode}
 use Rattle.ctl_tree.specs.declared.fault.FaultCode.TheVariants as fault
 use Rattle.ctl_tree.specs.declared.span.Span.{Span}
-use Rattle.ctl_program.specs.declared.types.AccessType.{AccessType}
-use Rattle.ctl_program.specs.declared.types.Root.{Root}
-use Rattle.ctl_program.specs.declared.types.Root.TheVariants as root
 use Rattle.ctl_program.specs.declared.types.Ty.{Ty}
 use Rattle.ctl_program.specs.declared.types.Ty.TheVariants as ty
 use Rattle.ctl_program.specs.declared.types.Var.{Var}
@@ -17,7 +14,6 @@ use Rattle.ctl_program.specs.declared.statement.Item.TheVariants as made
 use Rattle.ctl_syntax.specs.declared.denoted.Definition.{Definition}
 use Rattle.ctl_syntax.specs.declared.denoted.Denoted.{Denoted}
 use Rattle.ctl_syntax.specs.declared.denoted.Denoted.TheVariants as denoted
-use Rattle.ctl_syntax.specs.declared.denoted.LibraryName.{LibraryName}
 use Rattle.ctl_syntax.specs.declared.denoted.LibraryName.TheVariants as library
 use Rattle.ctl_syntax.specs.declared.denoted.Use.{Use}
 use Rattle.ctl_syntax.specs.declared.expression.Expression.{Expression}
@@ -31,22 +27,21 @@ use Rattle.ctl_syntax.specs.declared.name.Mark.{Mark}
 use Rattle.ctl_typing.specs.declared.found.Found.{Found}
 use Rattle.ctl_typing.specs.declared.found.Found.TheVariants as found
 use Rattle.ctl_typing.specs.declared.notes.Deed.TheVariants.{Freezes}
-use Rattle.ctl_typing.specs.declared.notes.Notes.{Notes}
 use Rattle.ctl_typing.specs.declared.table.AccessEntry.{AccessEntry}
 use Rattle.ctl_typing.specs.declared.table.Designated.{Designated}
 use Rattle.ctl_typing.specs.declared.table.Designated.TheVariants as designated
 use Rattle.ctl_typing.specs.declared.table.Entry.{Entry}
 use Rattle.ctl_typing.specs.declared.table.Entry.TheVariants as entry
 use Rattle.ctl_typing.specs.declared.table.Tables.{Tables}
-use Rattle.ctl_typing.specs.Judgement.{Judgement, known, but, wrong, ◌>>=◌, both}
+use Rattle.ctl_typing.specs.Judgement.{Judgement, known, wrong, ◌>>=◌, both}
 use Rattle.ctl_typing.specs.Lookup.{designated_by, is_mark_root, root_of}
-use Rattle.ctl_typing.specs.Typing.{Sense, sense, designates_this}
+use Rattle.ctl_typing.specs.Typing.{sense, designates_this}
 use Rattle.ctl_types.specs.declared.associations.Associated.TheVariants.{Deallocation}
 use Rattle.ctl_types.specs.declared.draft.Around.{Around}
 use Rattle.ctl_types.specs.declared.draft.Draft.{Draft}
 use Rattle.ctl_types.specs.Declarations as decl
 use Rattle.ctl_types.specs.Declarations.{name_kept, operation_named}
-use Rattle.ctl_types.specs.Draft.{declare, enter, with_entries}
+use Rattle.ctl_types.specs.Draft.{enter, with_entries}
 use Rattle.ctl_types.specs.Elaboration as spec
 use Rattle.ctl_types.specs.Elaboration.{surely}
 use Rattle.ctl_types.specs.Freezing.{changed, changed_from, changed_each, done_by, is_free_type, with_accesses}
@@ -60,11 +55,11 @@ use Rattle.ctl_sound.specs.Sound.{EntryFine, FoundFine, Sound}
 use Rattle.ctl_sound.proofs.Known.{next, tested, both_give}
 use Rattle.ctl_sound.proofs.Values.{expression_right}
 use Rattle.ctl_sound.proofs.Items.{PoolFine, DesignatedFine, pool_named_good, designated_good}
-use Rattle.ctl_sound.proofs.Growing.{Later, later_self, StandsLater, AllLater, all_further, behind_same, last_read, front_read, Still, still_self, still_noted, still_further, still_back, Made, nothing, Grows, grows_self}
+use Rattle.ctl_sound.proofs.Growing.{Later, later_self, StandsLater, AllLater, all_further, behind_same, last_read, front_read, still_self, still_noted, still_further, still_back, Made, nothing, Grows, grows_self}
 use Rattle.ctl_sound.proofs.Freezing.{Quiet, done_quiet, each_length}
-use Rattle.ctl_sound.proofs.Sites.{Site, around_site, here, IsHere, PoolKnown, AccessKnown, Known, Front, InAccesses, Back, Agrees}
-use Rattle.ctl_sound.proofs.Fronts.{access_below, encloses_self, encloses_both, front_still, front_noted, front_sound}
-use Rattle.ctl_sound.proofs.Declared.{known_same, innermost, front_declared}
+use Rattle.ctl_sound.proofs.Sites.{Site, around_site, here, IsHere, PoolKnown, AccessKnown, Known, Front, InAccesses, Back}
+use Rattle.ctl_sound.proofs.Fronts.{access_below, encloses_self, encloses_both, front_still, front_sound}
+use Rattle.ctl_sound.proofs.Declared.{innermost, front_declared}
 use Rattle.ctl_sound.proofs.Completing.{changed_later, completed_later, complete_known}
 use Rattle.ctl_sound.proofs.Objects.{RightItems, told_still, elaborated_joined, same_pools, unknown_comes}
 use Rattle.ctl_sound.proofs.Records.{each_at, enter_is, entered, entries_entered, front_entered, silent_right}
@@ -402,11 +397,11 @@ module _ (a : Around) (place : Span) where
         let h = shown s i f in
         let counts = changed_one_length (types.with_pool p) n d.tables.states.accesses in
         let accesses : (m : ℕ) (y : AccessEntry) → slice_get (changed (types.with_pool p) n d.tables.states.accesses) m ≡ Some y → AccessKnown s.k m y = λ m y e.
-            let c = changed_one (types.with_pool p) n d.tables.states.accesses m y e in
-            elim c.how [
-              inl j ↦ subst (AccessKnown s.k m) (sym j) (f.known.accesses m c.from c.found)
-              | inr j ↦ subst (AccessKnown s.k m) (sym j.1) (subst (λ z. AccessKnown s.k z (types.with_pool p c.from)) (sym j.0) (pooled_known s i d f n p h.0 h.1.0 h.1.1 c.from (subst (λ z. slice_get d.tables.states.accesses z ≡ Some c.from) j.0 c.found)))
-            ] in
+        let c = changed_one (types.with_pool p) n d.tables.states.accesses m y e in
+        elim c.how [
+          | inl j ↦ subst (AccessKnown s.k m) (sym j) (f.known.accesses m c.from c.found)
+          | inr j ↦ subst (AccessKnown s.k m) (sym j.1) (subst (λ z. AccessKnown s.k z (types.with_pool p c.from)) (sym j.0) (pooled_known s i d f n p h.0 h.1.0 h.1.1 c.from (subst (λ z. slice_get d.tables.states.accesses z ≡ Some c.from) j.0 c.found)))
+        ] in
         let known' : Known s.k (pooled n p d) = record { records = f.known.records; operations = f.known.operations; subprograms = f.known.subprograms; accesses = accesses; states = f.known.states; components = f.known.components } in
         (record { entries = f.entries; base = f.base; known = known'; own = f.own; inner = λ m home first less at. f.inner m home first (omega (arith, counts, less)) at }, right s);
   }

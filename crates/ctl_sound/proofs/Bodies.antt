@@ -1,5 +1,5 @@
 -- Parts, blocks and bodies are well typed, from what stands in them.
-use Rattle.std.proofs.Common.{arith, ◌≡◌, ◌≤◌, ◌<◌, nat_lt, Bool, true, false, refl, sym, ap, ◌∙◌, subst, ℕ, zero, suc, ◌+◌, List, [], ◌∷◌, ◌++◌, map, length, take, slice_get, Option, Some, None}
+use Rattle.std.proofs.Common.{arith, ◌≡◌, ◌≤◌, ◌<◌, nat_lt, Bool, true, false, refl, sym, ap, ◌∙◌, subst, ℕ, ◌+◌, List, [], ◌∷◌, ◌++◌, length, take, slice_get, Option, Some, None}
 use Rattle.std.proofs.lemmas.Bool.Decides.{nat_tests}
 use Rattle.ctl_tree.specs.declared.span.Span.{Span}
 use Rattle.ctl_program.specs.declared.types.Ty.{Ty}
@@ -11,8 +11,7 @@ use Rattle.ctl_program.specs.declared.statement.Stmt.TheVariants as stmt
 use Rattle.ctl_syntax.specs.declared.denoted.Use.{Use}
 use Rattle.ctl_syntax.specs.declared.denoted.Definition.{Definition}
 use Rattle.ctl_syntax.specs.declared.item.Body.{Body-F}
-use Rattle.ctl_syntax.specs.declared.item.Handler.{Handler}
-use Rattle.ctl_typing.specs.Judgement.{with_known, both, ◌>>=◌}
+use Rattle.ctl_typing.specs.Judgement.{with_known, both}
 use Rattle.ctl_types.specs.declared.draft.Around.{Around}
 use Rattle.ctl_types.specs.declared.draft.Draft.{Draft}
 use Rattle.ctl_types.specs.declared.draft.Order.{Order}
@@ -20,14 +19,14 @@ use Rattle.ctl_types.specs.Draft.{leave_view}
 use Rattle.ctl_types.specs.Freezing.{freeze_all, end_of_part}
 use Rattle.ctl_types.specs.Elaboration as spec
 use Rattle.ctl_types.specs.Elaboration.{Says, Does, Part_of}
-use Rattle.ctl_well_typed.specs.Setting.{Holding, Frame, Frames, Encloses, Setting, InView}
+use Rattle.ctl_well_typed.specs.Setting.{Frame, Frames, Encloses, InView}
 use Rattle.ctl_well_typed.specs.Statements as rule
 use Rattle.ctl_well_typed.specs.Statements.{Done, Mastered}
 use Rattle.ctl_sound.specs.Known.{IfSome, All}
 use Rattle.ctl_sound.specs.Sound.{EntryFine}
-use Rattle.ctl_sound.proofs.Growing.{Behind, behind_same, behind_cut, behind_self, From, from_start, Still, still_noted, still_further, Made, Homes, no_homes, and_then, Grows, grows_before}
+use Rattle.ctl_sound.proofs.Growing.{Behind, behind_cut, behind_self, from_start, Still, still_noted, still_further, Made, Grows, grows_before}
 use Rattle.ctl_sound.proofs.Freezing.{Quiet, freeze_all_quiet, end_still}
-use Rattle.ctl_sound.proofs.Sites.{Site, around_site, Here, here, gives_of, IsHere, Front, Back, Agrees}
+use Rattle.ctl_sound.proofs.Sites.{Site, around_site, here, gives_of, IsHere, Front, Agrees}
 use Rattle.ctl_sound.proofs.Fronts.{encloses_front, encloses_further, in_view_deeper, entries_deeper, front_still, back_still}
 use Rattle.ctl_sound.proofs.Declared.{one_longer, known_same}
 use Rattle.ctl_sound.proofs.Steps.{Leads, Goes, Both, both_goes, Further, nothing_further, once_further}

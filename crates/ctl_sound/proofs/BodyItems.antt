@@ -1,6 +1,5 @@
 -- Declarations of subprograms, and their bodies as they stand among the items of a part (6.1, 6.3).
-use Rattle.std.proofs.Common.{arith, ◌≡◌, refl, sym, ap, ◌∙◌, subst, ℕ, zero, suc, ◌+◌, nat_lt, Bool, true, false, not, if◌then◌else◌, List, [], ◌∷◌, ◌++◌, map, length, take, slice_get, slice_set, Option, Some, None}
-use Rattle.std.proofs.lemmas.List.{append-nil, length-append}
+use Rattle.std.proofs.Common.{arith, ◌≡◌, refl, sym, ap, ◌∙◌, subst, ℕ, zero, suc, Bool, true, false, not, if◌then◌else◌, List, [], ◌∷◌, ◌++◌, map, length, slice_get, slice_set, Option, Some, None}
 use Rattle.ctl_tree.specs.declared.span.Span.{Span}
 use Rattle.ctl_tree.specs.declared.fault.FaultCode.TheVariants as fault
 use Rattle.ctl_program.specs.declared.types.Ty.{Ty}
@@ -15,7 +14,6 @@ use Rattle.ctl_syntax.specs.declared.item.ItemKind.TheVariants as item
 use Rattle.ctl_syntax.specs.declared.item.Mode.{Mode}
 use Rattle.ctl_syntax.specs.declared.item.Specification.{Specification}
 use Rattle.ctl_syntax.specs.declared.name.Mark.{Mark}
-use Rattle.ctl_typing.specs.declared.notes.Notes.{Notes}
 use Rattle.ctl_typing.specs.declared.table.Entry.{Entry}
 use Rattle.ctl_typing.specs.declared.table.Entry.TheVariants as entry
 use Rattle.ctl_typing.specs.declared.table.FormalEntry.{FormalEntry}
@@ -23,30 +21,27 @@ use Rattle.ctl_typing.specs.declared.table.Tables.{Tables}
 use Rattle.ctl_types.specs.declared.draft.Around.{Around}
 use Rattle.ctl_types.specs.declared.draft.Draft.{Draft}
 use Rattle.ctl_types.specs.declared.draft.Giving.{Giving}
-use Rattle.ctl_types.specs.declared.draft.Giving.TheVariants as giving
 use Rattle.ctl_types.specs.Declarations as decl
 use Rattle.ctl_types.specs.Draft.{fault_when, is_declared_in, leave_view}
 use Rattle.ctl_types.specs.Freezing.{freeze_all}
 use Rattle.ctl_types.specs.Elaboration as spec
 use Rattle.ctl_types.specs.Elaboration.{Does, surely}
-use Rattle.ctl_well_typed.specs.Setting.{Holding, OfFormal, Frame, Frames, Signature, Setting, InView}
-use Rattle.ctl_well_typed.specs.Programs.{SubprogramFine}
+use Rattle.ctl_well_typed.specs.Setting.{Holding, OfFormal, Frame, Signature, Setting, InView}
 use Rattle.ctl_well_typed.specs.Statements as rule
 use Rattle.ctl_well_typed.specs.Statements.{Mastered}
-use Rattle.ctl_sound.specs.Known.{IfSome, All}
-use Rattle.ctl_sound.specs.Sound.{EntryFine, formal_of}
+use Rattle.ctl_sound.specs.Known.{IfSome}
+use Rattle.ctl_sound.specs.Sound.{formal_of}
 use Rattle.ctl_sound.proofs.Items.{heading_types_good}
-use Rattle.ctl_sound.proofs.Growing.{unfrozen, mapped_length, all_same, all_further, Behind, behind_same, behind_self, behind_one, behind_further, From, from_start, Still, still_self, still_noted, still_further, Made, and_then, Grows, grows_behind, grows_further}
-use Rattle.ctl_sound.proofs.Freezing.{Quiet, freeze_all_quiet}
+use Rattle.ctl_sound.proofs.Growing.{unfrozen, mapped_length, all_same, all_further, Behind, behind_same, behind_self, behind_one, behind_further, from_start, Still, still_self, still_noted, still_further, Made, and_then, Grows, grows_behind, grows_further}
+use Rattle.ctl_sound.proofs.Freezing.{freeze_all_quiet}
 use Rattle.ctl_sound.proofs.Sites.{Site, around_site, Here, here, gives_of, IsHere, BodyFor, SubprogramKnown, Known, Front, Back, Agrees}
 use Rattle.ctl_sound.proofs.Fronts.{in_view_deeper, front_still, front_sound, back_still, backwards, agrees_first, agrees_rest, agrees_still}
-use Rattle.ctl_sound.proofs.Declared.{known_same}
 use Rattle.ctl_sound.proofs.Compounds.{around_of}
 use Rattle.ctl_sound.proofs.Objects.{RightItems, told_still, elaborated_joined}
 use Rattle.ctl_sound.proofs.Bodies.{ItemRight, RightMaster, DoesRight, inner, deeper_level, front_inner, front_outside}
 use Rattle.ctl_sound.proofs.Headings.{ResultOf, HeadingRead, heading_read, Entered, slots_made, held, held_is, formals_entered}
-use Rattle.ctl_sound.proofs.Subprograms.{Heading, HeadingUsable, HeadingKind, Numbered, one_signature, Played, play_played, role_fine, introduce_leads, subprogram_leads}
-use Rattle.ctl_sound.proofs.Steps.{Leads, still_leads, still_given}
+use Rattle.ctl_sound.proofs.Subprograms.{Heading, HeadingUsable, HeadingKind, Numbered, one_signature, play_played, role_fine, introduce_leads, subprogram_leads}
+use Rattle.ctl_sound.proofs.Steps.{Leads, still_leads}
 
 -- Headings (6.1) ---------------------------------------------------------------------------------------
 
@@ -273,8 +268,11 @@ module _ (a : Around) (place : Span) (x : Specification Definition Use) (h : Hea
       record {
         is = record { home = around_site s; formals = map formal_of num.formals; result = num.result };
         found = num.found;
-        body = (own_made.holdings, subst (λ o. Mastered s.k (around_site s) (map OfFormal (map formal_of num.formals) ++ own_made.holdings) (record { in_loop = false; in_handler = false; gives = o }) m) gives'
-            (subst (λ hs. Mastered s.k (around_site s) (hs ++ own_made.holdings) (around_of within) m) slots body));
+        body = (
+          own_made.holdings,
+          subst (λ o. Mastered s.k (around_site s) (map OfFormal (map formal_of num.formals) ++ own_made.holdings) (record { in_loop = false; in_handler = false; gives = o }) m) gives'
+              (subst (λ hs. Mastered s.k (around_site s) (hs ++ own_made.holdings) (around_of within) m) slots body),
+        );
       }
 
   -- where the number of the subprogram is known

@@ -1,14 +1,13 @@
 -- Access types that wait for a type, once it is complete (3.10.1).
-use Rattle.std.proofs.Common.{arith, ◌≡◌, ◌≤◌, ◌<◌, ◌⊎◌, inl, inr, refl, sym, ap, ◌∙◌, subst, ℕ, zero, suc, nat_eq, Bool, true, false, if◌then◌else◌, List, [], ◌∷◌, length, slice_get, Option, Some, None}
+use Rattle.std.proofs.Common.{arith, ◌≡◌, ◌≤◌, ◌<◌, ◌⊎◌, inl, inr, refl, sym, ap, ◌∙◌, subst, ℕ, zero, suc, nat_eq, Bool, true, false, if◌then◌else◌, List, [], ◌∷◌, length, slice_get, Some}
 use Rattle.ctl_program.specs.declared.types.Ty.{Ty}
-use Rattle.ctl_program.specs.declared.types.AccessType.{AccessType}
 use Rattle.ctl_typing.specs.declared.table.AccessEntry.{AccessEntry}
 use Rattle.ctl_typing.specs.declared.table.Designated.{Designated}
 use Rattle.ctl_typing.specs.declared.table.Designated.TheVariants as designated
 use Rattle.ctl_types.specs.Freezing.{changed_each}
 use Rattle.ctl_types.specs.Types.{completed_designated, completed_access}
 use Rattle.ctl_well_typed.specs.Setting.{Frames, Encloses, InView}
-use Rattle.ctl_sound.proofs.Growing.{Later, StandsLater, AllLater, later_self}
+use Rattle.ctl_sound.proofs.Growing.{Later, AllLater, later_self}
 use Rattle.ctl_sound.proofs.Sites.{Site, around_site, AccessKnown, InAccesses}
 use Rattle.ctl_sound.proofs.Fronts.{access_below, in_view_further, one_access}
 
@@ -77,6 +76,6 @@ module _ (s : Site) (number : ℕ) (t : Ty) (first : ℕ) (same_first : first �
   complete_known there a y e =
       let g = changed_at (completed_access number t) first xs a y e in
       elim g.how [
-        inl h ↦ subst (AccessKnown s.k a) (sym h) (known a g.from g.found)
+        | inl h ↦ subst (AccessKnown s.k a) (sym h) (known a g.from g.found)
         | inr h ↦ subst (AccessKnown s.k a) (sym h.1) (completed_known a g.from g.found h.0 (subst (InAccesses s.k a) h.1 (there a y e)))
       ]

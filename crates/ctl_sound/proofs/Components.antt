@@ -1,5 +1,5 @@
 -- Components as they are declared: in the tables and in the program they stand side by side (3.8, 3.9.1).
-use Rattle.std.proofs.Common.{arith, ◌≡◌, ◌<◌, refl, sym, ap, ◌∙◌, subst, ℕ, zero, suc, ◌+◌, Bool, true, false, ◌&&◌, ◌||◌, if◌then◌else◌, List, [], ◌∷◌, ◌++◌, length, map, slice_get, Option, Some, None, option_map}
+use Rattle.std.proofs.Common.{arith, ◌≡◌, ◌<◌, refl, sym, ap, ◌∙◌, subst, ℕ, zero, suc, ◌+◌, Bool, true, false, ◌&&◌, ◌||◌, if◌then◌else◌, List, [], ◌∷◌, ◌++◌, length, slice_get, Option, Some, None, option_map}
 use Rattle.std.proofs.lemmas.List.{append-nil, append_assoc}
 use Rattle.ctl_grammar.specs.Spelling.{same_name}
 use Rattle.ctl_tree.specs.declared.span.Span.{Span}
@@ -13,14 +13,13 @@ use Rattle.ctl_syntax.specs.declared.expression.Expression.{Expression}
 use Rattle.ctl_syntax.specs.declared.item.Components.{Components}
 use Rattle.ctl_syntax.specs.declared.name.Identifier.{Identifier}
 use Rattle.ctl_syntax.specs.declared.name.Mark.{Mark}
-use Rattle.ctl_typing.specs.declared.notes.Notes.{Notes}
 use Rattle.ctl_typing.specs.declared.table.Beginning.{Beginning}
 use Rattle.ctl_typing.specs.declared.table.ComponentEntry.{ComponentEntry}
 use Rattle.ctl_typing.specs.declared.table.RecordEntry.{RecordEntry}
 use Rattle.ctl_typing.specs.declared.table.Tables.{Tables}
 use Rattle.ctl_typing.specs.Judgement.{Judgement, known, but, wrong, ◌>>=◌, with_known, appended, each, each_on}
 use Rattle.ctl_typing.specs.Lookup.{component_among, is_limited}
-use Rattle.ctl_typing.specs.Typing.{Sense, sense, has_objects, is_abstract, together}
+use Rattle.ctl_typing.specs.Typing.{Sense, sense, has_objects, together}
 use Rattle.ctl_types.specs.declared.draft.Draft.{Draft}
 use Rattle.ctl_types.specs.declared.draft.Enclosing.{Enclosing}
 use Rattle.ctl_types.specs.Draft.{Doing, early_when}
@@ -243,7 +242,7 @@ module _ (within : Enclosing) (base : Draft) (k : Setting) (env : Frames) (sound
   made_beside i b d e bs same own h (Some t) (Some v) g w =
       let entry = types.component_entry within i.text b t e in
       let position : entry.position ≡ suc (types.last_position count d.own) =
-          ap (λ (x : Tables). types.last_position (types.inherited_count (types.on_parent x within.parent)) e.own + 1) same ∙ ap (λ xs. types.last_position count xs + 1) own ∙ (let one : types.last_position count d.own + 1 ≡ suc (types.last_position count d.own) = omega arith in one) in
+      ap (λ (x : Tables). types.last_position (types.inherited_count (types.on_parent x within.parent)) e.own + 1) same ∙ ap (λ xs. types.last_position count xs + 1) own ∙ (let one : types.last_position count d.own + 1 ≡ suc (types.last_position count d.own) = omega arith in one) in
       subst (λ xs. Aligned k env (length base.tables.records) count (xs ++ entry ∷ []) (bs ++ record { ty = t; default = v } ∷ [])) (sym own)
       (aligned_more k env (length base.tables.records) count d.own bs entry (record { ty = t; default = v }) h position refl g.0 (before_here base.tables t g.1) w)
 
@@ -271,8 +270,8 @@ module _ (within : Enclosing) (base : Draft) (k : Setting) (env : Frames) (sound
   row_beside c d rows o h =
       let f = types.component within c.mark (option_map sense c.default) in
       let run = each_runs f base (λ e bs. Beside e (together rows ++ bs))
-          (λ i e bs q g. joined_each (types.component within c.mark (option_map sense c.default) i e).0 (types.component within c.mark (option_map sense c.default) i e).1 (together rows) bs (component_beside c.mark c.default i e (together rows ++ bs) q g))
-          (component_only within c.mark (option_map sense c.default)) (Some []) c.names d o (subst (λ cs. Beside d cs) (sym (append-nil (together rows))) h) in
+      (λ i e bs q g. joined_each (types.component within c.mark (option_map sense c.default) i e).0 (types.component within c.mark (option_map sense c.default) i e).1 (together rows) bs (component_beside c.mark c.default i e (together rows ++ bs) q g))
+      (component_only within c.mark (option_map sense c.default)) (Some []) c.names d o (subst (λ cs. Beside d cs) (sym (append-nil (together rows))) h) in
       row_joined rows (each f (Some []) c.names d).0 (each f (Some []) c.names d).1 run
     where
       joined_each : (r : Option Component) (e : Draft) (xs bs : List Component) → IfSome (λ b. Beside e ((xs ++ bs) ++ b ∷ [])) r → IfSome (λ b. Beside e (xs ++ (bs ++ b ∷ []))) r

@@ -1,5 +1,5 @@
 -- Statements that hold statements, and handlers, from what they hold.
-use Rattle.std.proofs.Common.{arith, ◌∙◌, ◌≡◌, ◌≤◌, ◌<◌, refl, sym, ap, subst, ℕ, zero, suc, Bool, true, false, List, [], ◌∷◌, ◌++◌, map, length, take, slice_get, Option, Some, None, option_map}
+use Rattle.std.proofs.Common.{◌∙◌, ◌≡◌, ◌<◌, refl, sym, ap, subst, ℕ, Bool, true, false, List, [], ◌∷◌, ◌++◌, map, length, Option, Some, None, option_map}
 use Rattle.ctl_tree.specs.declared.span.Span.{Span}
 use Rattle.ctl_tree.specs.declared.fault.FaultCode.{FaultCode}
 use Rattle.ctl_tree.specs.declared.fault.FaultCode.TheVariants as fault
@@ -24,11 +24,10 @@ use Rattle.ctl_syntax.specs.declared.name.Mark.{Mark}
 use Rattle.ctl_syntax.specs.declared.name.Name.{Name}
 use Rattle.ctl_typing.specs.declared.found.Asked.TheVariants as asking
 use Rattle.ctl_typing.specs.declared.found.Typed.{Typed as Typed_value}
-use Rattle.ctl_typing.specs.declared.notes.Notes.{Notes}
 use Rattle.ctl_typing.specs.declared.table.Mutability.TheVariants as mutability
 use Rattle.ctl_typing.specs.declared.table.Standing.TheVariants as standing
 use Rattle.ctl_typing.specs.declared.table.Tables.{Tables}
-use Rattle.ctl_typing.specs.Judgement.{Judgement, known, wrong, with_fault, with_known, ◌>>=◌, paired, beside, both, each}
+use Rattle.ctl_typing.specs.Judgement.{Judgement, known, wrong, with_fault, ◌>>=◌, paired, beside, both, each}
 use Rattle.ctl_typing.specs.Senses.{suffix_sense}
 use Rattle.ctl_typing.specs.Typing.{sense, truth_of}
 use Rattle.ctl_types.specs.declared.draft.Around.{Around}
@@ -39,7 +38,7 @@ use Rattle.ctl_types.specs.declared.draft.Handling.{Handling}
 use Rattle.ctl_types.specs.declared.draft.Handling.TheVariants as handling
 use Rattle.ctl_types.specs.declared.draft.Looping.{Looping}
 use Rattle.ctl_types.specs.declared.draft.Looping.TheVariants as looping
-use Rattle.ctl_types.specs.Draft.{Doing, by_tables, noted, fault_when, declare_object, leave_view, next_var}
+use Rattle.ctl_types.specs.Draft.{Doing, by_tables, noted, fault_when, declare_object, next_var}
 use Rattle.ctl_types.specs.Elaboration as spec
 use Rattle.ctl_types.specs.Elaboration.{Says}
 use Rattle.ctl_types.specs.Statements as simple
@@ -48,17 +47,16 @@ use Rattle.ctl_well_typed.specs.Expressions.{Typed}
 use Rattle.ctl_well_typed.specs.Statements as rule
 use Rattle.ctl_well_typed.specs.Statements.{inside_loop, inside_handler, Done, DoneEach, GuardedEach, HandledEach, Raised, Chosen}
 use Rattle.ctl_sound.specs.Known.{IfSome, All, Gives}
-use Rattle.ctl_sound.specs.Library.{HasLibrary}
-use Rattle.ctl_sound.specs.Sound.{EntryFine, Sound}
+use Rattle.ctl_sound.specs.Sound.{Sound}
 use Rattle.ctl_sound.proofs.Known.{next}
 use Rattle.ctl_sound.proofs.Operators.{truth_good, value_as_good}
 use Rattle.ctl_sound.proofs.Values.{expression_right, suffixes_right}
 use Rattle.ctl_sound.proofs.Simple.{assignment_good, call_good, exception_named_good, raising_good, exit_good, return_value_good}
-use Rattle.ctl_sound.proofs.Growing.{Still, still_noted, still_grows, Made, nothing, and_then, Grows, grows_further}
-use Rattle.ctl_sound.proofs.Sites.{Site, around_site, Here, here, gives_of, IsHere, Front, Back, Agrees}
-use Rattle.ctl_sound.proofs.Fronts.{backwards, agrees_first, agrees_rest}
+use Rattle.ctl_sound.proofs.Growing.{still_noted, and_then, grows_further}
+use Rattle.ctl_sound.proofs.Sites.{Site, around_site, here, gives_of}
+use Rattle.ctl_sound.proofs.Fronts.{agrees_first, agrees_rest}
 use Rattle.ctl_sound.proofs.Declared.{slot_made, slot_named, front_left, object_grows, object_front}
-use Rattle.ctl_sound.proofs.Steps.{Leads, Goes, Both, still_given, known_goes, noted_leads, tables_lead, still_leads, then_leads, beside_leads, both_goes, each_goes}
+use Rattle.ctl_sound.proofs.Steps.{Leads, Goes, Both, known_goes, noted_leads, tables_lead, still_leads, then_leads, beside_leads, both_goes, each_goes}
 
 -- What stands around a statement -----------------------------------------------------------------
 
@@ -198,9 +196,9 @@ module _ (a : Around) where
         right = λ s t f b i.
             let own = agrees_first s d (slot_made LoopParameter) h.made i in
             let inside = h.right s t
-                (object_front a ty.Integer standing.LoopParameter mutability.Constant aliasing.Unaliased LoopParameter loop_parameter (λ env n names. (tt, tt)) d s t tt f own)
-                (record { exceptions = b.exceptions; records = b.records; accesses = b.accesses })
-                (agrees_rest s d (with_parameter d) (slot_made LoopParameter) h.made one i) in
+            (object_front a ty.Integer standing.LoopParameter mutability.Constant aliasing.Unaliased LoopParameter loop_parameter (λ env n names. (tt, tt)) d s t tt f own)
+            (record { exceptions = b.exceptions; records = b.records; accesses = b.accesses })
+            (agrees_rest s d (with_parameter d) (slot_made LoopParameter) h.made one i) in
             (front_left s d g f inside.0, counted (length d.slots) s ss inside.1 (slot_named s d LoopParameter own));
       }
 

@@ -227,8 +227,8 @@ placed_quiet : (around : Around) (d : Draft) → Quiet around d (spec.placed aro
 placed_quiet around d = record {
   layers = λ s i f. layer_right s.k (around_site s) (spec.unplaced around.level around.first_access (drop around.first_access d.tables.states.accesses))
       (gathers s.k (around_site s) around.level around.first_access (drop around.first_access d.tables.states.accesses) (λ j x e l.
-          let past : s.first ≤ around.first_access + j = let first = i.first in omega (arith, first) in
-          gathered_at around s i d f (around.first_access + j) x past (sym (drop_read around.first_access d.tables.states.accesses j) ∙ e) l));
+      let past : s.first ≤ around.first_access + j = let first = i.first in omega (arith, first) in
+      gathered_at around s i d f (around.first_access + j) x past (sym (drop_read around.first_access d.tables.states.accesses j) ∙ e) l));
   still = still_states d _ refl (each_says unfrozen spec.placed_access (λ r. refl) around.first_access d.tables.states.accesses);
 }
 

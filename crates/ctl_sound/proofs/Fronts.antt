@@ -1,15 +1,12 @@
 -- What is in view in a master is in view in those inside it; tables of which all is known are sound.
-use Rattle.std.proofs.Common.{arith, ◌≡◌, ◌≤◌, ◌<◌, refl, sym, ap, ◌∙◌, subst, ℕ, zero, suc, ◌+◌, nat_eq, Bool, true, false, ◌||◌, List, [], ◌∷◌, ◌++◌, map, length, take, slice_get, Option, Some, None}
+use Rattle.std.proofs.Common.{arith, ◌≡◌, ◌<◌, refl, sym, ap, ◌∙◌, subst, ℕ, zero, suc, nat_eq, Bool, true, false, ◌||◌, List, [], ◌∷◌, ◌++◌, map, length, take, slice_get, Option, Some, None}
 use Rattle.std.proofs.lemmas.Bool.Decides.{nat_tests}
-use Rattle.std.proofs.lemmas.List.{nil_from_length}
-use Rattle.ctl_program.specs.declared.types.Operations.{Operations}
 use Rattle.ctl_program.specs.declared.types.RecordType.{RecordType}
 use Rattle.ctl_program.specs.declared.types.Root.{Root}
 use Rattle.ctl_program.specs.declared.types.Ty.{Ty}
 use Rattle.ctl_program.specs.declared.types.Ty.TheVariants as ty
 use Rattle.ctl_program.specs.declared.types.Var.{Var}
 use Rattle.ctl_program.specs.declared.expression.Step.TheVariants as step
-use Rattle.ctl_syntax.specs.declared.denoted.OperationName.{OperationName}
 use Rattle.ctl_syntax.specs.declared.item.Aliasing.{Aliasing}
 use Rattle.ctl_syntax.specs.declared.item.Aliasing.TheVariants as aliasing
 use Rattle.ctl_typing.specs.declared.found.Head.TheVariants as head
@@ -32,15 +29,15 @@ use Rattle.ctl_typing.specs.Lookup.{component_among, component_in, component_wit
 use Rattle.ctl_types.specs.declared.draft.Draft.{Draft}
 use Rattle.ctl_types.specs.Statements.{user_operation, operations_of}
 use Rattle.ctl_well_typed.specs.Setting.{Holding, Declared, Frame, Frames, Names, slot, Encloses, HasRecord, Setting, InView}
-use Rattle.ctl_well_typed.specs.Types.{Components, derived, Descends, itself, from_parent, HasRoot, Leads, component}
+use Rattle.ctl_well_typed.specs.Types.{derived, Descends, itself, from_parent, Leads, component}
 use Rattle.ctl_well_typed.specs.Programs as program
 use Rattle.ctl_well_typed.specs.Programs.{Parent}
 use Rattle.ctl_sound.specs.Known.{IfSome, All}
 use Rattle.ctl_sound.specs.Library.{HasLibrary}
 use Rattle.ctl_sound.specs.Sound.{EntryFine, ObjectFine, ProfileFine, AliasFine, DeclaredFine, TypesFine, Sound}
 use Rattle.ctl_sound.proofs.Beginning.{types_sound}
-use Rattle.ctl_sound.proofs.Growing.{operations_in, unfrozen, mapped_length, mapped_at, Behind, behind_same, behind_further, behind_length, behind_read, From, from_first, from_rest, front_read, Still, still_noted, still_grows, Made, nothing, and_then, Grows}
-use Rattle.ctl_sound.proofs.Sites.{Site, around_site, AccessKnown, RecordKnown, OperationKnown, no_operations, operations_at, Known, Front, Back, Agrees}
+use Rattle.ctl_sound.proofs.Growing.{operations_in, unfrozen, mapped_length, mapped_at, behind_same, behind_further, behind_length, behind_read, From, from_first, from_rest, front_read, Still, still_noted, still_grows, Made, nothing, and_then, Grows}
+use Rattle.ctl_sound.proofs.Sites.{Site, around_site, AccessKnown, RecordKnown, operations_at, Known, Front, Back, Agrees}
 
 -- Deeper masters ------------------------------------------------------------------------------
 

@@ -1,5 +1,5 @@
 -- Headings of subprograms: what is read of them again where the body stands, and the formals in view there (6.1, 6.3).
-use Rattle.std.proofs.Common.{arith, ◌≡◌, refl, sym, ap, ◌∙◌, subst, ℕ, zero, suc, ◌+◌, Bool, true, false, List, [], ◌∷◌, ◌++◌, map, length, slice_get, Option, Some, None}
+use Rattle.std.proofs.Common.{◌≡◌, refl, sym, ap, ◌∙◌, subst, ℕ, List, [], ◌∷◌, ◌++◌, map, slice_get, Option, Some, None}
 use Rattle.std.proofs.lemmas.List.{append-nil, append_assoc}
 use Rattle.ctl_tree.specs.declared.span.Span.{Span}
 use Rattle.ctl_program.specs.declared.types.Ty.{Ty}
@@ -21,13 +21,13 @@ use Rattle.ctl_typing.specs.declared.table.Entry.TheVariants as entry
 use Rattle.ctl_typing.specs.declared.table.FormalEntry.{FormalEntry}
 use Rattle.ctl_typing.specs.declared.table.Standing.TheVariants as standing
 use Rattle.ctl_typing.specs.declared.table.Tables.{Tables}
-use Rattle.ctl_typing.specs.Judgement.{Judging, Judgement, known, with_known, ◌>>=◌, paired, beside, both}
-use Rattle.ctl_typing.specs.Typing.{entry_found, first_found, library_found, marked, mark_judged}
+use Rattle.ctl_typing.specs.Judgement.{Judging, known, with_known, ◌>>=◌, paired, beside, both}
+use Rattle.ctl_typing.specs.Typing.{entry_found, library_found, marked, mark_judged}
 use Rattle.ctl_types.specs.declared.draft.Around.{Around}
 use Rattle.ctl_types.specs.declared.draft.Draft.{Draft}
 use Rattle.ctl_types.specs.Declarations as decl
 use Rattle.ctl_types.specs.Draft.{declare, declare_object}
-use Rattle.ctl_types.specs.Marks.{named_type, told_at}
+use Rattle.ctl_types.specs.Marks.{named_type}
 use Rattle.ctl_types.specs.Statements.{formal}
 use Rattle.ctl_well_typed.specs.Setting.{Holding, OfFormal, formal as Formal_stands, InView}
 use Rattle.ctl_sound.specs.Known.{IfSome}

@@ -1,5 +1,5 @@
 -- Declared objects and exceptions are well typed.
-use Rattle.std.proofs.Common.{arith, ◌≡◌, ◌≤◌, refl, sym, ap, ◌∙◌, subst, ℕ, suc, ◌+◌, nat_eq, Bool, true, false, ◌&&◌, not, if◌then◌else◌, List, [], ◌∷◌, ◌++◌, length, slice_get, Option, Some, None, option_map}
+use Rattle.std.proofs.Common.{arith, ◌≡◌, refl, sym, ap, ◌∙◌, subst, ℕ, suc, ◌+◌, nat_eq, Bool, true, false, ◌&&◌, not, if◌then◌else◌, List, [], ◌∷◌, ◌++◌, length, slice_get, Option, Some, None, option_map}
 use Rattle.std.proofs.lemmas.Bool.Decides.{nat_tests}
 use Rattle.std.proofs.lemmas.List.{length-append}
 use Rattle.ctl_tree.specs.declared.span.Span.{Span}
@@ -49,7 +49,7 @@ use Rattle.ctl_well_typed.specs.Expressions.{Perhaps}
 use Rattle.ctl_well_typed.specs.Statements as rule
 use Rattle.ctl_well_typed.specs.Statements.{Given, Elaborated, ElaboratedEach}
 use Rattle.ctl_sound.specs.Known.{IfSome, All, Gives}
-use Rattle.ctl_sound.specs.Sound.{EntryFine, AliasFine, Sound}
+use Rattle.ctl_sound.specs.Sound.{AliasFine, Sound}
 use Rattle.ctl_sound.proofs.Names.{discriminant_is}
 use Rattle.ctl_sound.proofs.Values.{expression_right}
 use Rattle.ctl_sound.proofs.Items.{object_type_good, value_of_good, discriminants_good}
@@ -265,7 +265,7 @@ module _ (a : Around) where
     grows = object_grows a t standing.Declared (decl.mutability_of o.constancy) o.aliasing (Declared t) declared g;
     right = λ s i f b q. (
       object_front a t standing.Declared (decl.mutability_of o.constancy) o.aliasing (Declared t) declared (λ env n names. (alias_right o.aliasing env (record { level = a.level; slot = n }) t names, names)) g s i (usable s i f) f q,
-      made' s i f (slot_named s g (Declared t) q)
+      made' s i f (slot_named s g (Declared t) q),
     );
   }
 
@@ -294,7 +294,7 @@ module _ (a : Around) where
           still_leads (here a) RightItems d g (decl.with_layers is' ls, decl.declare_as a o (Some u) g) all
           (declared_comes o u g (decl.with_layers is' ls) (λ s i f. v s i (back_to g all s f))
           (λ s i f names. layered s is' ls (z.layers s i (front_still s g (asked e) (still_back (asked e) g z.still) f))
-              (m s i (back_to g all s f) (subst (λ xs. Names (around_site s) (record { level = length (around_site s); slot = length xs }) (Declared u)) all.slots names))))
+          (m s i (back_to g all s f) (subst (λ xs. Names (around_site s) (record { level = length (around_site s); slot = length xs }) (Declared u)) all.slots names))))
 
   slot_for : (t : Option Ty) (n : ℕ) (d : Draft) (s : Site) (f : Front s d) → SlotOf s n t → SlotFor s.k (around_site s) d.tables (front_sound s d f) n t
   slot_for None n d s f h = tt
@@ -312,9 +312,9 @@ module _ (a : Around) where
       (still_further d e (decl.wait_as q name.identifier.span r1.0 valued) (still_noted d d.returning d.waiting r3.1) (still_further e valued (decl.wait_as q name.identifier.span r1.0 valued) (value_still place o name.identifier.span r1.0 e) (waits_still q name.identifier.span r1.0 valued)))
       (λ s i f. usable s f)
       (λ s i f names.
-          let sound = front_sound s d f in
-          let env = around_site s in
-          made_right s.k env d.tables sound (length d.slots) r1.0 r2.0 r3.0 (usable s f) (given_right s.k env d.tables sound place r1.0 o.discriminants r1.1) (value_right s.k env d.tables sound r1.0 o.value (usable s f) r2.1) (slot_for r1.0 (length d.slots) d s f names))
+      let sound = front_sound s d f in
+      let env = around_site s in
+      made_right s.k env d.tables sound (length d.slots) r1.0 r2.0 r3.0 (usable s f) (given_right s.k env d.tables sound place r1.0 o.discriminants r1.1) (value_right s.k env d.tables sound r1.0 o.value (usable s f) r2.1) (slot_for r1.0 (length d.slots) d s f names))
 
   together_more : (s : Site) (xss : List (List Checked_item)) (ys : List Checked_item) → RightItems s (together xss) → RightItems s ys → RightItems s (together (xss ++ ys ∷ []))
   together_more s [] ys h i = elaborated_joined s.k (around_site s) ys [] i rule.no_more_items

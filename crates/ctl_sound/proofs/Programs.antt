@@ -1,5 +1,5 @@
 -- Whole programs are well typed: the setting that is found, the library's types, the main procedure.
-use Rattle.std.proofs.Common.{arith, ◌≡◌, ◌≤◌, refl, sym, ap, ◌∙◌, subst, ℕ, zero, suc, ◌+◌, false, List, [], ◌∷◌, ◌++◌, map, length, slice_get, Option, Some, None, Ok, inl, inr}
+use Rattle.std.proofs.Common.{arith, ◌≡◌, ◌≤◌, refl, sym, ap, ◌∙◌, subst, ℕ, zero, suc, false, List, [], ◌∷◌, ◌++◌, map, length, slice_get, Option, Some, None, Ok, inl, inr}
 use Rattle.std.proofs.lemmas.List.{append-nil, append_assoc, nil_from_length, length-append}
 use Rattle.ctl_tree.specs.declared.span.Span.{Span}
 use Rattle.ctl_tree.specs.declared.fault.Fault.{Fault}
@@ -19,12 +19,10 @@ use Rattle.ctl_syntax.specs.declared.denoted.Definition.{Definition}
 use Rattle.ctl_syntax.specs.declared.denoted.OperationName.{OperationName}
 use Rattle.ctl_syntax.specs.declared.denoted.OperationName.TheVariants.{Initialize, Adjust, Finalize, Allocate, Deallocate}
 use Rattle.ctl_syntax.specs.declared.denoted.Use.{Use}
-use Rattle.ctl_syntax.specs.declared.item.Mode.TheVariants as mode
 use Rattle.ctl_syntax.specs.declared.item.Tree.{Tree}
 use Rattle.ctl_typing.specs.declared.table.AccessEntry.{AccessEntry}
 use Rattle.ctl_typing.specs.declared.table.Designated.{Designated}
 use Rattle.ctl_typing.specs.declared.table.Designated.TheVariants as designated
-use Rattle.ctl_typing.specs.declared.table.FormalEntry.{FormalEntry}
 use Rattle.ctl_typing.specs.declared.table.RecordEntry.{RecordEntry}
 use Rattle.ctl_typing.specs.declared.table.RecordState.{RecordState}
 use Rattle.ctl_typing.specs.Judgement.{appended}
@@ -34,7 +32,7 @@ use Rattle.ctl_types.specs.declared.draft.Draft.{Draft}
 use Rattle.ctl_types.specs.declared.draft.Giving.TheVariants as giving
 use Rattle.ctl_types.specs.declared.draft.Routine.{Routine}
 use Rattle.ctl_types.specs.Declarations.{name_kept, operation_named}
-use Rattle.ctl_types.specs.Statements.{user_operation, operations_of, operation_formals}
+use Rattle.ctl_types.specs.Statements.{user_operation, operation_formals}
 use Rattle.ctl_types.specs.Types.{is_given}
 use Rattle.ctl_types.specs.Elaboration as spec
 use Rattle.ctl_types.specs.Elaboration.{access_types_on, access_type_to, components_on, subprograms_on, subprogram_with, library_records, library_state, library_states, library_components, record_types, record_type_of, checked_of, checked_with, access_types, or_nothing, verdict_by, Elaborates}
@@ -45,11 +43,11 @@ use Rattle.ctl_well_typed.specs.Programs.{WellTyped, SettingFits, RecordFine, Ac
 use Rattle.ctl_well_typed.specs.Statements as rule
 use Rattle.ctl_sound.specs.Known.{IfSome}
 use Rattle.ctl_sound.specs.Law.{ProgramWellTyped}
-use Rattle.ctl_sound.specs.Library.{HasLibrary, HasLibraryRecord, main_signature}
+use Rattle.ctl_sound.specs.Library.{HasLibrary, main_signature}
 use Rattle.ctl_sound.proofs.Plain.{every_body}
-use Rattle.ctl_sound.specs.Sound.{EntryFine, formal_of}
+use Rattle.ctl_sound.specs.Sound.{formal_of}
 use Rattle.ctl_sound.proofs.Beginning.{beginning_sound}
-use Rattle.ctl_sound.proofs.Growing.{operations_in, unfrozen, mapped_length, Behind, behind_self, behind_length, behind_read, behind_place, From, from_start, Still, Made, Homes, Grows}
+use Rattle.ctl_sound.proofs.Growing.{operations_in, unfrozen, mapped_length, behind_self, behind_length, behind_read, behind_place, From, from_start, Still, Homes}
 use Rattle.ctl_sound.proofs.Sites.{Site, around_site, here, IsHere, PoolKnown, RecordKnown, OperationKnown, BodyFor, SubprogramKnown, no_operations, operations_at, Known, Front, InTable, Back, Agrees}
 use Rattle.ctl_sound.proofs.Fronts.{one_home}
 use Rattle.ctl_sound.proofs.Objects.{told_still}

@@ -1,5 +1,5 @@
 -- Record types and extensions as they are declared: what is known of the tables with one more.
-use Rattle.std.proofs.Common.{arith, ◌≡◌, ◌≤◌, ◌<◌, refl, sym, ap, ◌∙◌, subst, ℕ, zero, suc, ◌+◌, nat_le, nat_lt, Bool, true, false, ◌&&◌, if◌then◌else◌, List, [], ◌∷◌, ◌++◌, map, length, slice_get, slice_set, Option, Some, None}
+use Rattle.std.proofs.Common.{arith, ◌≡◌, ◌≤◌, refl, sym, ap, ◌∙◌, subst, ℕ, zero, suc, ◌+◌, nat_le, nat_lt, Bool, true, false, ◌&&◌, if◌then◌else◌, List, [], ◌∷◌, ◌++◌, map, length, slice_get, slice_set, Option, Some, None}
 use Rattle.std.proofs.lemmas.Bool.Decides.{nat_tests}
 use Rattle.std.proofs.lemmas.List.{append_assoc, length-append}
 use Rattle.ctl_tree.specs.declared.span.Span.{Span}
@@ -24,12 +24,11 @@ use Rattle.ctl_syntax.specs.declared.name.Mark.{Mark}
 use Rattle.ctl_typing.specs.declared.notes.Deed.TheVariants.{Freezes}
 use Rattle.ctl_typing.specs.declared.notes.Notes.{Notes}
 use Rattle.ctl_typing.specs.declared.table.AccessEntry.{AccessEntry}
-use Rattle.ctl_typing.specs.declared.table.ComponentEntry.{ComponentEntry}
 use Rattle.ctl_typing.specs.declared.table.Entry.{Entry}
 use Rattle.ctl_typing.specs.declared.table.Entry.TheVariants as entry
 use Rattle.ctl_typing.specs.declared.table.RecordEntry.{RecordEntry}
 use Rattle.ctl_typing.specs.declared.table.RecordState.{RecordState}
-use Rattle.ctl_typing.specs.Lookup.{component_among, root_of}
+use Rattle.ctl_typing.specs.Lookup.{root_of}
 use Rattle.ctl_types.specs.declared.draft.Around.{Around}
 use Rattle.ctl_types.specs.declared.draft.Draft.{Draft}
 use Rattle.ctl_types.specs.declared.draft.Enclosing.{Enclosing}
@@ -42,20 +41,20 @@ use Rattle.ctl_types.specs.Statements.{user_operation, operations_of}
 use Rattle.ctl_types.specs.Types as types
 use Rattle.ctl_types.specs.Types.{is_given}
 use Rattle.ctl_well_typed.specs.Setting.{Frames, Encloses, Setting, HasRecord, InView}
-use Rattle.ctl_well_typed.specs.Types.{Components, underived, derived, Descends, from_parent, Leads as Reaches, component, HasRoot}
+use Rattle.ctl_well_typed.specs.Types.{Components, underived, derived, from_parent, Leads as Reaches, component}
 use Rattle.ctl_well_typed.specs.Programs as program
 use Rattle.ctl_well_typed.specs.Statements as rule
-use Rattle.ctl_sound.specs.Known.{IfSome, Gives}
+use Rattle.ctl_sound.specs.Known.{IfSome}
 use Rattle.ctl_sound.specs.Sound.{EntryFine}
 use Rattle.ctl_sound.proofs.Items.{Extends, parent_named_good}
-use Rattle.ctl_sound.proofs.Growing.{operations_in, Behind, behind_same, behind_one, behind_length, behind_place, last_read, Still, still_noted, still_further, still_back, Made, no_homes, nothing, Grows, grows_self}
+use Rattle.ctl_sound.proofs.Growing.{operations_in, Behind, behind_same, behind_one, behind_place, last_read, Still, still_noted, still_further, still_back, Made, nothing, Grows, grows_self}
 use Rattle.ctl_sound.proofs.Freezing.{Quiet, done_quiet, each_length}
-use Rattle.ctl_sound.proofs.Sites.{Site, around_site, here, IsHere, AccessKnown, RecordKnown, OperationKnown, no_operations, operations_at, Known, Front, InTable, Back, Agrees}
+use Rattle.ctl_sound.proofs.Sites.{Site, around_site, here, IsHere, AccessKnown, RecordKnown, OperationKnown, no_operations, operations_at, Known, Front, InTable}
 use Rattle.ctl_sound.proofs.Fronts.{encloses_self, encloses_further, one_home, read_at, front_still, front_noted, front_sound}
 use Rattle.ctl_sound.proofs.Declared.{known_same}
 use Rattle.ctl_sound.proofs.Completing.{changed_later, completed_later, complete_known}
 use Rattle.ctl_sound.proofs.Components.{Aligned, FoundOwn, aligned_added, aligned_count, aligned_found, below, Only, components_only, components_beside}
-use Rattle.ctl_sound.proofs.Steps.{Leads, still_leads, still_given}
+use Rattle.ctl_sound.proofs.Steps.{Leads, still_leads}
 use Rattle.ctl_sound.proofs.Objects.{RightItems, told_still, elaborated_joined}
 
 -- Rows with one more ------------------------------------------------------------------------------
@@ -356,7 +355,6 @@ module _ (a : Around) (place : Span) (number : ℕ) where
       let same : types.without_own e ≡ record d { own = []; own_names = []; notes = e.notes } = ap (λ z. types.without_own z) (components_only (types.underived place number) cs d) in
       subst (λ z. Leads (here a) (RightItems a) d (Some x, enter a number entry.Unknown z)) (sym same) (unknown_behind d e.notes x right)
 
-
   -- the parent that a mark names
   record ParentAt (s : Site) (d : Draft) (t : ℕ) : Type 0 where
     has : HasRecord s.k (around_site s) t
@@ -373,9 +371,9 @@ module _ (a : Around) (place : Span) (number : ℕ) where
       (declared_leads a (types.derived place number t e) root limited cs next (ls ++ made.Silent ∷ [])
       (λ s i f. elaborated_joined s.k (around_site s) ls (made.Silent ∷ []) (q.layers s i (front_still s next d (still_back d next all) f)) (silent_right a s))
       (λ s f.
-          let p = parent s (front_still s next d (still_back d next all) f) in
-          let found : slice_get e.tables.records t ≡ Some p.is = subst (λ rs. slice_get rs t ≡ Some p.is) (sym q.still.records) p.found in
-          derived_known s next f root t p.has p.is found (ap root_of found)))
+      let p = parent s (front_still s next d (still_back d next all) f) in
+      let found : slice_get e.tables.records t ≡ Some p.is = subst (λ rs. slice_get rs t ≡ Some p.is) (sym q.still.records) p.found in
+      derived_known s next f root t p.has p.is found (ap root_of found)))
 
   extension_by : (cs : List (Components_of Use)) (o : Option ℕ) (d : Draft) → ((s : Site) → Front s d → IfSome (ParentAt s d) o) → Leads (here a) (RightItems a) d (surely (types.extension_of place number cs a (o, d)))
   extension_by cs None d parent = unknown_leads cs d (made.Silent ∷ []) (silent_right a)
@@ -391,8 +389,8 @@ module _ (a : Around) (place : Span) (number : ℕ) where
       let e : Draft = record d { notes = r.1 } in
       still_leads (here a) (RightItems a) d e (surely (types.extension_of place number cs a (r.0, e))) (still_noted d d.returning d.waiting r.1)
       (extension_by cs r.0 e (λ s f.
-          let g = front_still s e d (still_noted e e.returning e.waiting d.notes) f in
-          parent_at m d e s g refl r.0 (parent_named_good s.k (around_site s) d.tables (front_sound s d g) place m d.notes)))
+      let g = front_still s e d (still_noted e e.returning e.waiting d.notes) f in
+      parent_at m d e s g refl r.0 (parent_named_good s.k (around_site s) d.tables (front_sound s d g) place m d.notes)))
 
 -- Types by their definitions ---------------------------------------------------------------------------------------
 

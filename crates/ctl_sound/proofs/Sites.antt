@@ -12,7 +12,6 @@ use Rattle.ctl_program.specs.declared.statement.Master.{Master}
 use Rattle.ctl_program.specs.declared.expression.Step.TheVariants as step
 use Rattle.ctl_syntax.specs.declared.denoted.OperationName.{OperationName}
 use Rattle.ctl_typing.specs.declared.table.AccessEntry.{AccessEntry}
-use Rattle.ctl_typing.specs.declared.table.ComponentEntry.{ComponentEntry}
 use Rattle.ctl_typing.specs.declared.table.Designated.TheVariants as designated
 use Rattle.ctl_typing.specs.declared.table.Entry.{Entry}
 use Rattle.ctl_typing.specs.declared.table.RecordEntry.{RecordEntry}

@@ -10,7 +10,7 @@ use Rattle.ctl_sound.specs.Known.{IfSome, All, Gives}
 use Rattle.ctl_sound.specs.Sound.{Sound}
 use Rattle.ctl_sound.proofs.Growing.{Still, still_noted, still_grows, Made, nothing, and_then, Grows, grows_self, grows_further, grows_behind}
 use Rattle.ctl_sound.proofs.Sites.{Site, around_site, Here, IsHere, Front, Back, Agrees}
-use Rattle.ctl_sound.proofs.Fronts.{front_still, front_noted, front_sound, backwards, agrees_first, agrees_rest, agrees_still}
+use Rattle.ctl_sound.proofs.Fronts.{front_still, front_sound, backwards, agrees_first, agrees_rest, agrees_still}
 
 module _ (h : Here) where
   -- from this draft to that, with what is known

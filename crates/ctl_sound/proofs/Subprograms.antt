@@ -1,17 +1,14 @@
 -- Subprograms as they are declared: what is known of the tables with one more, the operations that they override, and what their bodies
 -- complete (6.1, 6.3.1, 7.6, 8.3.1).
-use Rattle.std.proofs.Common.{arith, ◌≡◌, refl, sym, ap, ◌∙◌, subst, ℕ, zero, suc, ◌+◌, nat_eq, nat_lt, Bool, true, false, ◌&&◌, not, if◌then◌else◌, List, [], ◌∷◌, ◌++◌, map, length, slice_get, slice_set, Option, Some, None}
+use Rattle.std.proofs.Common.{arith, ◌≡◌, refl, sym, ap, ◌∙◌, subst, ℕ, zero, suc, ◌+◌, Bool, true, false, ◌&&◌, not, if◌then◌else◌, List, [], ◌∷◌, map, length, slice_get, Option, Some, None}
 use Rattle.std.proofs.lemmas.Bool.Decides.{nat_tests}
-use Rattle.std.proofs.lemmas.List.{append-nil, length-append}
+use Rattle.std.proofs.lemmas.List.{length-append}
 use Rattle.ctl_tree.specs.declared.span.Span.{Span}
 use Rattle.ctl_tree.specs.declared.fault.FaultCode.TheVariants as fault
 use Rattle.ctl_program.specs.declared.types.Operations.{Operations}
 use Rattle.ctl_program.specs.declared.types.Ty.{Ty}
 use Rattle.ctl_program.specs.declared.types.Ty.TheVariants as ty
-use Rattle.ctl_program.specs.declared.operators.SubprogramKind.{SubprogramKind}
 use Rattle.ctl_types.specs.declared.draft.Routine.{Routine}
-use Rattle.ctl_program.specs.declared.statement.Item.{Item as Checked_item}
-use Rattle.ctl_program.specs.declared.statement.Item.TheVariants as made
 use Rattle.ctl_syntax.specs.declared.denoted.Definition.{Definition}
 use Rattle.ctl_syntax.specs.declared.denoted.OperationName.{OperationName}
 use Rattle.ctl_syntax.specs.declared.denoted.OperationName.TheVariants.{Initialize, Adjust, Finalize, Allocate, Deallocate}
@@ -40,17 +37,16 @@ use Rattle.ctl_types.specs.Declarations as decl
 use Rattle.ctl_types.specs.Draft.{declare, fault_when, is_declared_in}
 use Rattle.ctl_types.specs.Freezing.{changed, changed_from, with_records, is_free_type}
 use Rattle.ctl_types.specs.Statements.{user_operation, operation_formals}
-use Rattle.ctl_well_typed.specs.Setting.{Holding, OfFormal, Formal, Frame, Frames, Encloses, Signature, Setting, InView}
+use Rattle.ctl_well_typed.specs.Setting.{Frames, Encloses, Signature, Setting, InView}
 use Rattle.ctl_well_typed.specs.Types.{itself}
 use Rattle.ctl_well_typed.specs.Programs as program
 use Rattle.ctl_well_typed.specs.Programs.{FormalsInView, Results, SubprogramFine}
-use Rattle.ctl_well_typed.specs.Statements as rule
 use Rattle.ctl_sound.specs.Known.{IfSome, All}
 use Rattle.ctl_sound.specs.Sound.{EntryFine, ProfileFine, formal_of}
 use Rattle.ctl_sound.proofs.Tests.{same_is}
-use Rattle.ctl_sound.proofs.Growing.{operations_in, all_same, behind_same, behind_one, Still, still_self, still_noted, still_further, Made, Grows}
-use Rattle.ctl_sound.proofs.Sites.{Site, around_site, here, IsHere, RecordKnown, OperationKnown, SubprogramKnown, no_operations, operations_at, Known, Front, Agrees}
-use Rattle.ctl_sound.proofs.Fronts.{encloses_self, encloses_all, one_home, front_still}
+use Rattle.ctl_sound.proofs.Growing.{operations_in, all_same, behind_same, still_self, still_further, Made}
+use Rattle.ctl_sound.proofs.Sites.{Site, around_site, here, IsHere, OperationKnown, SubprogramKnown, operations_at, Known, Front}
+use Rattle.ctl_sound.proofs.Fronts.{encloses_self, encloses_all, one_home}
 use Rattle.ctl_sound.proofs.Declared.{front_declared}
 use Rattle.ctl_sound.proofs.Objects.{told_still}
 use Rattle.ctl_sound.proofs.Records.{each_at}
@@ -407,7 +403,7 @@ module _ (a : Around) (s : Site) (i : IsHere s (here a)) (d : Draft) (f : Front 
       let result : fine.is.result ≡ x.1 = fine.result ∙ same_results_are p.result x.1 parts.1.1 in
       let home = home_here g in
       let own : fine.is ≡ record { home = around_site s; formals = map formal_of x.0; result = x.1 } =
-          ap (λ y. record fine.is { home = y }) home ∙ ap (λ y. record { home = around_site s; formals = y; result = fine.is.result }) formals ∙ ap (λ y. record { home = around_site s; formals = map formal_of x.0; result = y }) result in
+      ap (λ y. record fine.is { home = y }) home ∙ ap (λ y. record { home = around_site s; formals = y; result = fine.is.result }) formals ∙ ap (λ y. record { home = around_site s; formals = map formal_of x.0; result = y }) result in
       record { formals = x.0; result = x.1; known = refl; found = fine.callable.found ∙ ap (λ y. Some y) own }
 
   completes_right : (names : List (List ℕ)) (h : Heading) → IfSome (Numbered h s) (decl.completes a d.subprograms p names h)

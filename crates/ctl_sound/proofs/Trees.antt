@@ -1,5 +1,5 @@
 -- The induction over the tree: what stands in it is well typed.
-use Rattle.std.proofs.Common.{◌≡◌, refl, sym, subst, List, [], ◌∷◌, map, Option, Some, None}
+use Rattle.std.proofs.Common.{◌≡◌, refl, sym, subst, List, [], ◌∷◌, map, Option}
 use Rattle.ctl_tree.specs.declared.span.Span.{Span}
 use Rattle.ctl_syntax.specs.declared.denoted.Definition.{Definition}
 use Rattle.ctl_syntax.specs.declared.denoted.Use.{Use}
@@ -30,7 +30,6 @@ use Rattle.ctl_well_typed.specs.Statements.{Done}
 use Rattle.ctl_sound.specs.Known.{All}
 use Rattle.ctl_sound.proofs.Plain as plain
 use Rattle.ctl_sound.proofs.Plain.{PlainItems, Plain, PlainEach, PlainBranches, PlainHandlers, PlainBody}
-use Rattle.ctl_sound.proofs.Growing.{still_self}
 use Rattle.ctl_sound.proofs.Sites.{here}
 use Rattle.ctl_sound.proofs.Compounds.{Right, SaysRight, BranchRight, HandlerRight, branch_walk, conditional_walk, endless_walk, while_walk, counting_walk, assignment_walk, call_walk, raising_walk, raising_again_walk, exiting_walk, returning_walk, handler_walk}
 use Rattle.ctl_sound.proofs.Objects.{objects_come, exceptions_declared}
