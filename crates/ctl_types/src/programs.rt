@@ -125,12 +125,9 @@ fn access_types(
 fn bodied(routine: Routine) -> Option<Subprogram>
     ensures { result ≡ spec.subprogram_with routine routine.body }
 {
-    match routine.body {
-        Some(body) => Some(Subprogram {
-            level: routine.level,
-            kind: routine.kind,
-            body,
-        }),
+    let Routine { level, kind, body } = routine;
+    match body {
+        Some(body) => Some(Subprogram { level, kind, body }),
         None => None,
     }
 }

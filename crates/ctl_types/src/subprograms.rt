@@ -193,7 +193,7 @@ fn has_conformed(profile: &Profile, names: &[Text], heading: &Option<Heading>) -
 
 /// Tells whether there is a subprogram that is declared so deep.
 fn is_of_level(level: usize, routine: Option<&Routine>) -> bool
-    ensures { result ≡ spec.is_of_level level (option_copied routine.routine) }
+    ensures { result ≡ spec.is_of_level level (option_copied routine.entry) }
 {
     match routine {
         None => false,
