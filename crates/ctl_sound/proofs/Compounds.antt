@@ -1,8 +1,9 @@
--- Statements that hold statements, and handlers, from what they hold; tables without types and subprograms of the text.
-use Rattle.std.proofs.Common.{arith, ◌≡◌, ◌≤◌, ◌<◌, refl, sym, ap, subst, ℕ, zero, suc, Bool, true, false, List, [], ◌∷◌, ◌++◌, map, length, take, slice_get, Option, Some, None, option_map}
+-- Statements that hold statements, and handlers, from what they hold.
+use Rattle.std.proofs.Common.{◌∙◌, ◌≡◌, ◌<◌, refl, sym, ap, subst, ℕ, Bool, true, false, List, [], ◌∷◌, ◌++◌, map, length, Option, Some, None, option_map}
 use Rattle.ctl_tree.specs.declared.span.Span.{Span}
 use Rattle.ctl_tree.specs.declared.fault.FaultCode.{FaultCode}
 use Rattle.ctl_tree.specs.declared.fault.FaultCode.TheVariants as fault
+use Rattle.ctl_program.specs.declared.types.Ty.{Ty}
 use Rattle.ctl_program.specs.declared.types.Ty.TheVariants as ty
 use Rattle.ctl_program.specs.declared.expression.Expr.{Expr}
 use Rattle.ctl_program.specs.declared.statement.Arm.{Arm, roll-Arm}
@@ -21,7 +22,8 @@ use Rattle.ctl_syntax.specs.declared.item.Direction.{Direction}
 use Rattle.ctl_syntax.specs.declared.item.Handler.{Handler}
 use Rattle.ctl_syntax.specs.declared.name.Mark.{Mark}
 use Rattle.ctl_syntax.specs.declared.name.Name.{Name}
-use Rattle.ctl_typing.specs.declared.notes.Notes.{Notes}
+use Rattle.ctl_typing.specs.declared.found.Asked.TheVariants as asking
+use Rattle.ctl_typing.specs.declared.found.Typed.{Typed as Typed_value}
 use Rattle.ctl_typing.specs.declared.table.Mutability.TheVariants as mutability
 use Rattle.ctl_typing.specs.declared.table.Standing.TheVariants as standing
 use Rattle.ctl_typing.specs.declared.table.Tables.{Tables}
@@ -30,64 +32,45 @@ use Rattle.ctl_typing.specs.Senses.{suffix_sense}
 use Rattle.ctl_typing.specs.Typing.{sense, truth_of}
 use Rattle.ctl_types.specs.declared.draft.Around.{Around}
 use Rattle.ctl_types.specs.declared.draft.Draft.{Draft}
+use Rattle.ctl_types.specs.declared.draft.Giving.{Giving}
 use Rattle.ctl_types.specs.declared.draft.Giving.TheVariants as giving
 use Rattle.ctl_types.specs.declared.draft.Handling.{Handling}
 use Rattle.ctl_types.specs.declared.draft.Handling.TheVariants as handling
 use Rattle.ctl_types.specs.declared.draft.Looping.{Looping}
 use Rattle.ctl_types.specs.declared.draft.Looping.TheVariants as looping
-use Rattle.ctl_types.specs.Draft.{Doing, by_tables, noted, fault_when, declare_object, leave_view, next_var}
+use Rattle.ctl_types.specs.Draft.{Doing, by_tables, noted, fault_when, declare_object, next_var}
 use Rattle.ctl_types.specs.Elaboration as spec
 use Rattle.ctl_types.specs.Elaboration.{Says}
 use Rattle.ctl_types.specs.Statements as simple
-use Rattle.ctl_well_typed.specs.Setting.{LoopParameter, loop_parameter, Frames, Names, Setting}
+use Rattle.ctl_well_typed.specs.Setting.{LoopParameter, loop_parameter, Frames, Names, Setting, InView}
 use Rattle.ctl_well_typed.specs.Expressions.{Typed}
 use Rattle.ctl_well_typed.specs.Statements as rule
 use Rattle.ctl_well_typed.specs.Statements.{inside_loop, inside_handler, Done, DoneEach, GuardedEach, HandledEach, Raised, Chosen}
 use Rattle.ctl_sound.specs.Known.{IfSome, All, Gives}
-use Rattle.ctl_sound.specs.Library.{HasLibrary}
-use Rattle.ctl_sound.specs.Sound.{EntryFine, Sound}
+use Rattle.ctl_sound.specs.Sound.{Sound}
+use Rattle.ctl_sound.proofs.Known.{next}
 use Rattle.ctl_sound.proofs.Operators.{truth_good, value_as_good}
 use Rattle.ctl_sound.proofs.Values.{expression_right, suffixes_right}
-use Rattle.ctl_sound.proofs.Simple.{assignment_good, call_good, exception_named_good, raising_good, exit_good}
-use Rattle.ctl_sound.proofs.Growing.{Behind, behind_same, behind_one, behind_further, behind_length, behind_cut, each_with, Still, still_noted, still_grows, Grows, grows_further}
-use Rattle.ctl_sound.proofs.Fronts.{Fronts, fronts_still, fronts_sound}
-use Rattle.ctl_sound.proofs.Steps.{Leads, Goes, known_goes, noted_leads, tables_lead, then_leads, beside_leads, both_goes, each_goes}
+use Rattle.ctl_sound.proofs.Simple.{assignment_good, call_good, exception_named_good, raising_good, exit_good, return_value_good}
+use Rattle.ctl_sound.proofs.Growing.{still_noted, and_then, grows_further}
+use Rattle.ctl_sound.proofs.Sites.{Site, around_site, here, gives_of}
+use Rattle.ctl_sound.proofs.Fronts.{agrees_first, agrees_rest}
+use Rattle.ctl_sound.proofs.Declared.{slot_made, slot_named, front_left, object_grows, object_front}
+use Rattle.ctl_sound.proofs.Steps.{Leads, Goes, Both, known_goes, noted_leads, tables_lead, still_leads, then_leads, beside_leads, both_goes, each_goes}
 
--- what the check knows of a place agrees with what stands around it: no function stands around, since none is declared
-pub record Fits (env : Frames) (a : Around) (w : rule.Around) : Type 0 where
-  pub level : a.level ≡ length env
-  pub loop : a.looping ≡ looping.Inside → w.in_loop ≡ true
-  pub handler : a.handling ≡ handling.Inside → w.in_handler ≡ true
-  pub giving : a.giving ≡ giving.Nothing
-  pub gives : w.gives ≡ None
+-- What stands around a statement -----------------------------------------------------------------
 
-pub fits_loop : (env : Frames) (a : Around) (w : rule.Around) → Fits env a w → Fits env (spec.in_loop a) (inside_loop w)
-fits_loop env a w h = record { level = h.level; loop = λ e. refl; handler = h.handler; giving = h.giving; gives = h.gives }
+abbrev is_inside_loop : Looping → Bool
+is_inside_loop looping.Inside = true
+is_inside_loop looping.Outside = false
 
-pub fits_handler : (env : Frames) (a : Around) (w : rule.Around) → Fits env a w → Fits env (spec.in_handler a) (inside_handler w)
-fits_handler env a w h = record { level = h.level; loop = h.loop; handler = λ e. refl; giving = h.giving; gives = h.gives }
+abbrev is_inside_handler : Handling → Bool
+is_inside_handler handling.Inside = true
+is_inside_handler handling.Outside = false
 
--- in front of a statement, where the declarations of the master have the slots before this one
-pub record Front (k : Setting) (env : Frames) (from : ℕ) (d : Draft) : Type 0 where
-  pub known : Fronts k env d
-  pub past : from ≤ length d.slots
-
--- behind it: the slots from that one on are loop parameters
-pub record Back (k : Setting) (env : Frames) (from : ℕ) (d : Draft) : Type 0 where
-  pub loops : (n : ℕ) → from ≤ n → n < length d.slots → Names env (record { level = length env; slot = n }) LoopParameter
-  pub exceptions : length d.exceptions ≤ k.exceptions
-
-pub backwards : (k : Setting) (env : Frames) (from : ℕ) (d e : Draft) → Grows d e → Back k env from e → Back k env from d
-backwards k env from d e g b =
-    let slots = behind_length d.slots e.slots g.slots in
-    let exceptions = behind_length d.exceptions e.exceptions g.exceptions in
-    record { loops = λ n h i. b.loops n h (omega (arith, slots, i)); exceptions = omega (arith, exceptions, b.exceptions) }
-
-pub front_still : (k : Setting) (env : Frames) (from : ℕ) (d e : Draft) → Still d e → Front k env from d → Front k env from e
-front_still k env from d e s f = record { known = fronts_still k env d e s f.known; past = subst (λ xs. from ≤ length xs) (sym s.slots) f.past }
-
-pub front_noted : (k : Setting) (env : Frames) (from : ℕ) (d : Draft) (n : Notes) → Front k env from d → Front k env from (record d { notes = n })
-front_noted k env from d n f = front_still k env from d (record d { notes = n }) (still_noted d d.returning d.waiting n) f
+-- as the check knows it
+abbrev pub around_of : Around → rule.Around
+around_of a = record { in_loop = is_inside_loop a.looping; in_handler = is_inside_handler a.handling; gives = gives_of a.giving }
 
 -- Rows of statements, arms and handlers ------------------------------------------------------------
 
@@ -108,12 +91,6 @@ module _ (k : Setting) (env : Frames) (w : rule.Around) where
   raised_more [] x rule.no_more_exceptions h = rule.one_more_exception h rule.no_more_exceptions
   raised_more (y ∷ xs) x (rule.one_more_exception g more) h = rule.one_more_exception g (raised_more xs x more h)
 
-cut_holds : {A : Type 0} (P : A → Type 0) (xs : List A) (m : ℕ) → ((n : ℕ) → IfSome P (slice_get xs n)) → (n : ℕ) → IfSome P (slice_get (take m xs) n)
-cut_holds P xs zero h n = tt
-cut_holds P [] (suc m) h n = tt
-cut_holds P (x ∷ xs) (suc m) h zero = h zero
-cut_holds P (x ∷ xs) (suc m) h (suc n) = cut_holds P xs m (λ i. h (suc i)) n
-
 paired_slots : {A B : Type 0} (a : Option A) (r : Option B × Draft) → (paired a r).1.slots ≡ r.1.slots
 paired_slots None r = refl
 paired_slots (Some a) (None, d) = refl
@@ -121,211 +98,204 @@ paired_slots (Some a) (Some b, d) = refl
 
 -- Statements -------------------------------------------------------------------------------------------
 
-module _ (k : Setting) (has : HasLibrary k) (env : Frames) (from : ℕ) where
-  abbrev F : Draft → Type 0
-  F d = Front k env from d
+-- what is right of a row, and of a single one, at a site
+module _ (a : Around) where
+  abbrev pub Right : Site → Stmt → Type 0
+  Right s x = Done s.k (around_site s) (around_of a) x
 
-  abbrev B : Draft → Type 0
-  B d = Back k env from d
+  abbrev pub RightEach : Site → List Stmt → Type 0
+  RightEach s xs = DoneEach s.k (around_site s) (around_of a) xs
 
-  abbrev pub Walks : {A : Type 0} → (A → Type 0) → Doing A → Type 0
-  Walks Q j = Goes F B (backwards k env from) (front_noted k env from) Q j
+  abbrev pub RightArm : Site → Arm → Type 0
+  RightArm s x = GuardedEach s.k (around_site s) (around_of a) (x ∷ [])
 
-  abbrev pub Reaches : {A : Type 0} → (A → Type 0) → Draft → Option A × Draft → Type 0
-  Reaches Q d r = Leads F B (backwards k env from) (front_noted k env from) Q d r
+  abbrev pub RightArms : Site → List Arm → Type 0
+  RightArms s xs = GuardedEach s.k (around_site s) (around_of a) xs
 
-  tables_walk : {A : Type 0} (Q : A → Type 0) (p : Tables → Judgement A) → ((tables : Tables) → Sound k env tables → Gives Q (p tables)) → Walks Q (by_tables p)
-  tables_walk Q p h d = tables_lead F B (backwards k env from) (front_noted k env from) Q p d (λ f. h d.tables (fronts_sound k has env d f.known))
+  abbrev pub RightHandler : Site → Checked_handler → Type 0
+  RightHandler s x = HandledEach s.k (around_site s) (around_of a) (x ∷ [])
 
-  then_walk : {A C : Type 0} (Q : A → Type 0) (R : C → Type 0) (p : Doing A) (g : A → C) → Walks Q p → ((a : A) → Q a → R (g a)) → Walks R (p >>= (λ a. known (g a)))
-  then_walk Q R p g h i d = then_leads F B (backwards k env from) (front_noted k env from) Q R g d (p d) i (h d)
+  abbrev pub RightHandlers : Site → List Checked_handler → Type 0
+  RightHandlers s xs = HandledEach s.k (around_site s) (around_of a) xs
 
-  both_walk : {A C : Type 0} (Q : A → Type 0) (R : C → Type 0) (p : Doing A) (q : Doing C) → Walks Q p → Walks R q → Walks (λ (y : A × C). Q y.0 × R y.1) (both p q)
-  both_walk Q R p q h i = both_goes F B (backwards k env from) (front_noted k env from) Q R p q h i
+  abbrev pub SaysRight : Says → Type 0
+  SaysRight s = Goes (here a) Right (s a)
 
-  each_walk : {A C : Type 0} (P : List C → Type 0) (R : C → Type 0) (f : A → Doing C) → ((bs : List C) (b : C) → P bs → R b → P (bs ++ b ∷ [])) → P [] → (xs : List A) → All (λ x. Walks R (f x)) xs → Walks P (λ d. each f (Some []) xs d)
-  each_walk P R f more none xs g = each_goes F B (backwards k env from) (front_noted k env from) P R f more none xs g
+  abbrev pub BranchRight : Branch Says Use → Type 0
+  BranchRight b = Goes (here a) RightArm (spec.branch a b)
+
+  abbrev pub HandlerRight : Span → Handler Says Use → Type 0
+  HandlerRight place h = Goes (here a) RightHandler (spec.handler place a h)
+
+pub sequence_walk : (a : Around) (ss : List Says) → All (SaysRight a) ss → Goes (here a) (RightEach a) (spec.sequence ss a)
+sequence_walk a ss g = each_goes (here a) (RightEach a) (Right a) (λ x. x a) (λ s. done_more s.k (around_site s) (around_of a)) (λ s. rule.no_more_statements) ss g
+
+module _ (a : Around) where
+  tables_walk : {A : Type 0} (Q : Site → A → Type 0) (p : Tables → Judgement A) → ((s : Site) (tables : Tables) → Sound s.k (around_site s) tables → Gives (Q s) (p tables)) → Goes (here a) Q (by_tables p)
+  tables_walk Q p h d = tables_lead (here a) Q p d (λ s t sound. h s d.tables sound)
+
+  then_walk : {A C : Type 0} (Q : Site → A → Type 0) (R : Site → C → Type 0) (p : Doing A) (g : A → C) → Goes (here a) Q p → ((s : Site) (x : A) → Q s x → R s (g x)) → Goes (here a) R (p >>= (λ x. known (g x)))
+  then_walk Q R p g h i d = then_leads (here a) Q R g d (p d) (λ s t. i s) (h d)
 
   -- a rule that is broken leaves nothing known
-  broken_walk : {A : Type 0} (Q : A → Type 0) (code : FaultCode) (place : Span) → Walks Q (λ d. noted d (wrong {A = A} code place d.notes))
-  broken_walk {A} Q code place d = noted_leads F B (backwards k env from) (front_noted k env from) Q d (wrong {A = A} code place d.notes) (λ f. tt)
+  broken_walk : {A : Type 0} (Q : Site → A → Type 0) (code : FaultCode) (place : Span) → Goes (here a) Q (λ d. noted d (wrong {A = A} code place d.notes))
+  broken_walk {A} Q code place d = noted_leads (here a) Q d (wrong {A = A} code place d.notes) (λ s t f. tt)
 
-  abbrev pub SaysRight : rule.Around → Around → Says → Type 0
-  SaysRight w a s = Walks (Done k env w) (s a)
+  abbrev Truth : Site → Expr → Type 0
+  Truth s x = Typed s.k (around_site s) x ty.Boolean
 
-  pub sequence_walk : (w : rule.Around) (a : Around) (ss : List Says) → All (SaysRight w a) ss → Walks (DoneEach k env w) (spec.sequence ss a)
-  sequence_walk w a ss g = each_walk (DoneEach k env w) (Done k env w) (λ s. s a) (done_more k env w) rule.no_more_statements ss g
+  condition_walk : (x : Expression Use) → Goes (here a) Truth (spec.condition (sense x))
+  condition_walk x = tables_walk Truth (λ tables. truth_of tables (sense x)) (λ s tables sound. truth_good s.k (around_site s) tables sound (sense x) (expression_right s.k (around_site s) tables sound x))
 
-  abbrev Truth : Expr → Type 0
-  Truth x = Typed k env x ty.Boolean
+  pub branch_walk : (c : Expression Use) (ss : List Says) → All (SaysRight a) ss → BranchRight a (record { condition = c; statements = ss })
+  branch_walk c ss g = then_walk (Both (here a) Truth (RightEach a)) (RightArm a) (both (spec.condition (sense c)) (spec.sequence ss a)) (λ r. roll-Arm (record { test = r.0; body = r.1 }))
+      (both_goes (here a) Truth (RightEach a) (spec.condition (sense c)) (spec.sequence ss a) (condition_walk c) (sequence_walk a ss g))
+      (λ s r h. rule.one_more_arm h.0 h.1 rule.no_more_arms)
 
-  condition_walk : (x : Expression Use) → Walks Truth (spec.condition (sense x))
-  condition_walk x = tables_walk Truth (λ tables. truth_of tables (sense x)) (λ tables sound. truth_good k env tables sound (sense x) (expression_right k env tables sound x))
+  pub conditional_walk : (first : Branch Says Use) (more : List (Branch Says Use)) (otherwise : List Says) → All (BranchRight a) (first ∷ more) → All (SaysRight a) otherwise → SaysRight a (spec.conditional first more otherwise)
+  conditional_walk first more otherwise g i = then_walk (Both (here a) (RightArms a) (RightEach a)) (Right a) (both (spec.branches a (first ∷ more)) (spec.sequence otherwise a)) (λ r. stmt.If r.0 r.1)
+      (both_goes (here a) (RightArms a) (RightEach a) (spec.branches a (first ∷ more)) (spec.sequence otherwise a)
+      (each_goes (here a) (RightArms a) (RightArm a) (spec.branch a) (λ s. guarded_more s.k (around_site s) (around_of a)) (λ s. rule.no_more_arms) (first ∷ more) g)
+      (sequence_walk a otherwise i))
+      (λ s r h. rule.choose h.0 h.1)
 
-  pub branch_walk : (w : rule.Around) (a : Around) (c : Expression Use) (ss : List Says) → All (SaysRight w a) ss → Walks (λ x. GuardedEach k env w (x ∷ [])) (spec.branch a (record { condition = c; statements = ss }))
-  branch_walk w a c ss g = then_walk (λ (r : Expr × List Stmt). Truth r.0 × DoneEach k env w r.1) (λ x. GuardedEach k env w (x ∷ [])) (both (spec.condition (sense c)) (spec.sequence ss a)) (λ r. roll-Arm (record { test = r.0; body = r.1 }))
-      (both_walk Truth (DoneEach k env w) (spec.condition (sense c)) (spec.sequence ss a) (condition_walk c) (sequence_walk w a ss g))
-      (λ r h. rule.one_more_arm h.0 h.1 rule.no_more_arms)
+  pub endless_walk : (ss : List Says) → All (SaysRight (spec.in_loop a)) ss → SaysRight a (spec.endless ss)
+  endless_walk ss g = then_walk (RightEach (spec.in_loop a)) (Right a) (spec.sequence ss (spec.in_loop a)) (λ body. stmt.Loop body) (sequence_walk (spec.in_loop a) ss g) (λ s r h. rule.loop h)
 
-  abbrev pub BranchRight : rule.Around → Around → Branch Says Use → Type 0
-  BranchRight w a b = Walks (λ x. GuardedEach k env w (x ∷ [])) (spec.branch a b)
-
-  pub conditional_walk : (w : rule.Around) (a : Around) (first : Branch Says Use) (more : List (Branch Says Use)) (otherwise : List Says) → All (BranchRight w a) (first ∷ more) → All (SaysRight w a) otherwise → SaysRight w a (spec.conditional first more otherwise)
-  conditional_walk w a first more otherwise g i = then_walk (λ (r : List Arm × List Stmt). GuardedEach k env w r.0 × DoneEach k env w r.1) (Done k env w) (both (spec.branches a (first ∷ more)) (spec.sequence otherwise a)) (λ r. stmt.If r.0 r.1)
-      (both_walk (GuardedEach k env w) (DoneEach k env w) (spec.branches a (first ∷ more)) (spec.sequence otherwise a)
-      (each_walk (GuardedEach k env w) (λ x. GuardedEach k env w (x ∷ [])) (spec.branch a) (guarded_more k env w) rule.no_more_arms (first ∷ more) g)
-      (sequence_walk w a otherwise i))
-      (λ r h. rule.choose h.0 h.1)
-
-  pub endless_walk : (w : rule.Around) (a : Around) (ss : List Says) → All (SaysRight (inside_loop w) (spec.in_loop a)) ss → SaysRight w a (spec.endless ss)
-  endless_walk w a ss g = then_walk (DoneEach k env (inside_loop w)) (Done k env w) (spec.sequence ss (spec.in_loop a)) (λ body. stmt.Loop body) (sequence_walk (inside_loop w) (spec.in_loop a) ss g) (λ r h. rule.loop h)
-
-  pub while_walk : (w : rule.Around) (a : Around) (c : Expression Use) (ss : List Says) → All (SaysRight (inside_loop w) (spec.in_loop a)) ss → SaysRight w a (spec.while (sense c) ss)
-  while_walk w a c ss g = then_walk (λ (r : Expr × List Stmt). Truth r.0 × DoneEach k env (inside_loop w) r.1) (Done k env w) (both (spec.condition (sense c)) (spec.sequence ss (spec.in_loop a))) (λ r. stmt.While r.0 r.1)
-      (both_walk Truth (DoneEach k env (inside_loop w)) (spec.condition (sense c)) (spec.sequence ss (spec.in_loop a)) (condition_walk c) (sequence_walk (inside_loop w) (spec.in_loop a) ss g))
-      (λ r h. rule.while h.0 h.1)
+  pub while_walk : (c : Expression Use) (ss : List Says) → All (SaysRight (spec.in_loop a)) ss → SaysRight a (spec.while (sense c) ss)
+  while_walk c ss g = then_walk (Both (here a) Truth (RightEach (spec.in_loop a))) (Right a) (both (spec.condition (sense c)) (spec.sequence ss (spec.in_loop a))) (λ r. stmt.While r.0 r.1)
+      (both_goes (here a) Truth (RightEach (spec.in_loop a)) (spec.condition (sense c)) (spec.sequence ss (spec.in_loop a)) (condition_walk c) (sequence_walk (spec.in_loop a) ss g))
+      (λ s r h. rule.while h.0 h.1)
 
   -- Loops with a parameter (5.5) ----------------------------------------------------------------------
 
-  abbrev Bound : Expr → Type 0
-  Bound x = Typed k env x ty.Integer
+  abbrev Bound : Site → Expr → Type 0
+  Bound s x = Typed s.k (around_site s) x ty.Integer
 
-  bound_walk : (x : Expression Use) → Walks Bound (by_tables (spec.bound (sense x)))
-  bound_walk x = tables_walk Bound (spec.bound (sense x)) (λ tables sound. value_as_good k env tables sound ty.Integer (sense x) tt (expression_right k env tables sound x))
+  bound_walk : (x : Expression Use) → Goes (here a) Bound (by_tables (spec.bound (sense x)))
+  bound_walk x = tables_walk Bound (spec.bound (sense x)) (λ s tables sound. value_as_good s.k (around_site s) tables sound ty.Integer (sense x) tt (expression_right s.k (around_site s) tables sound x))
 
   -- the statements, and the slot of the parameter
-  abbrev Counted : rule.Around → ℕ → List Stmt → Type 0
-  Counted w n ss = DoneEach k env (inside_loop w) ss × Names env (record { level = length env; slot = n }) LoopParameter
+  abbrev Counted : ℕ → Site → List Stmt → Type 0
+  Counted n s ss = RightEach (spec.in_loop a) s ss × Names (around_site s) (record { level = length (around_site s); slot = n }) LoopParameter
 
-  abbrev with_parameter : Around → Draft → Draft
-  with_parameter a d = declare_object a ty.Integer standing.LoopParameter mutability.Constant aliasing.Unaliased d
+  abbrev with_parameter : Draft → Draft
+  with_parameter d = declare_object a ty.Integer standing.LoopParameter mutability.Constant aliasing.Unaliased d
 
-  parameter_front : (w : rule.Around) (a : Around) (d : Draft) → Fits env a w → Names env (record { level = length env; slot = length d.slots }) LoopParameter → F d → F (with_parameter a d)
-  parameter_front w a d fits names f = record {
-    known = record {
-      records = f.known.records;
-      operations = f.known.operations;
-      accesses = f.known.accesses;
-      entries = each_with (EntryFine k env) d.tables.entries _ f.known.entries (record {
-        holding = LoopParameter;
-        names = subst (λ l. Names env (record { level = l; slot = length d.slots }) LoopParameter) (sym fits.level) names;
-        stands = loop_parameter;
-        in_view = tt;
-        alias = tt;
-        declared = tt;
-      });
-    };
-    past = let more = behind_length d.slots (with_parameter a d).slots (behind_one d.slots ty.Integer) in omega (arith, more, f.past);
-  }
+  counted : (n : ℕ) (s : Site) (o : Option (List Stmt)) → IfSome (RightEach (spec.in_loop a) s) o → Names (around_site s) (record { level = length (around_site s); slot = n }) LoopParameter → IfSome (Counted n s) o
+  counted n s None i h = tt
+  counted n s (Some xs) i h = (i, h)
 
-  parameter_leads : (w : rule.Around) (a : Around) (d : Draft) (r : Option (List Stmt) × Draft) → Fits env a w → Reaches (DoneEach k env (inside_loop w)) (with_parameter a d) r → Reaches (Counted w (length d.slots)) d (spec.shown (length d.tables.entries) r)
-  parameter_leads w a d (ss, g) fits h = record { grows = grows; right = right }
-    where
-      entries : Behind d.tables.entries g.tables.entries
-      entries = behind_further d.tables.entries (with_parameter a d).tables.entries g.tables.entries (behind_one d.tables.entries _) h.grows.entries
-
-      slots : Behind d.slots g.slots
-      slots = behind_further d.slots (with_parameter a d).slots g.slots (behind_one d.slots ty.Integer) h.grows.slots
-
-      grows : Grows d (leave_view (length d.tables.entries) g)
-      grows = record {
-        records = h.grows.records;
-        operations = h.grows.operations;
-        accesses = h.grows.accesses;
-        entries = behind_same d.tables.entries (take (length d.tables.entries) g.tables.entries) (behind_cut d.tables.entries g.tables.entries entries);
-        slots = slots;
-        exceptions = h.grows.exceptions;
-        components = h.grows.components;
-        subprograms = h.grows.subprograms;
+  parameter_leads : (d : Draft) (r : Option (List Stmt) × Draft) → Leads (here a) (RightEach (spec.in_loop a)) (with_parameter d) r → Leads (here a) (Counted (length d.slots)) d (spec.shown (length d.tables.entries) r)
+  parameter_leads d (ss, g) h =
+      let one = object_grows a ty.Integer standing.LoopParameter mutability.Constant aliasing.Unaliased LoopParameter loop_parameter d in
+      let all = grows_further (slot_made LoopParameter) h.made d (with_parameter d) g one h.grows in
+      record {
+        made = and_then (slot_made LoopParameter) h.made;
+        grows = record { records = all.records; components = all.components; exceptions = all.exceptions; accesses = all.accesses; slots = all.slots; record_homes = all.record_homes; access_homes = all.access_homes; signatures = all.signatures };
+        right = λ s t f b i.
+            let own = agrees_first s d (slot_made LoopParameter) h.made i in
+            let inside = h.right s t
+            (object_front a ty.Integer standing.LoopParameter mutability.Constant aliasing.Unaliased LoopParameter loop_parameter (λ env n names. (tt, tt)) d s t tt f own)
+            (record { exceptions = b.exceptions; records = b.records; accesses = b.accesses })
+            (agrees_rest s d (with_parameter d) (slot_made LoopParameter) h.made one i) in
+            (front_left s d g f inside.0, counted (length d.slots) s ss inside.1 (slot_named s d LoopParameter own));
       }
 
-      below : length d.slots < length g.slots
-      below = let one = length_one d.slots in let rest = behind_length (with_parameter a d).slots g.slots h.grows.slots in omega (arith, one, rest)
-        where
-          length_one : (xs : List _) → length (xs ++ ty.Integer ∷ []) ≡ suc (length xs)
-          length_one [] = refl
-          length_one (x ∷ xs) = ap suc (length_one xs)
-
-      right : F d → B (leave_view (length d.tables.entries) g) → F (leave_view (length d.tables.entries) g) × IfSome (Counted w (length d.slots)) ss
-      right f b =
-          let names = b.loops (length d.slots) f.past below in
-          let inner = h.right (parameter_front w a d fits names f) (record { loops = b.loops; exceptions = b.exceptions }) in
-          (record { known = record { records = inner.0.known.records; operations = inner.0.known.operations; accesses = inner.0.known.accesses; entries = cut_holds (EntryFine k env) g.tables.entries (length d.tables.entries) inner.0.known.entries }; past = inner.0.past }, counted ss inner.1 names)
-        where
-          counted : (o : Option (List Stmt)) → IfSome (DoneEach k env (inside_loop w)) o → Names env (record { level = length env; slot = length d.slots }) LoopParameter → IfSome (Counted w (length d.slots)) o
-          counted None i n = tt
-          counted (Some xs) i n = (i, n)
-
-  pub counting_walk : (w : rule.Around) (a : Around) (way : Direction) (low high : Expression Use) (ss : List Says) → Fits env a w → All (SaysRight (inside_loop w) (spec.in_loop a)) ss → SaysRight w a (spec.counting way (sense low) (sense high) ss)
-  counting_walk w a way low high ss fits g d =
+  pub counting_walk : (way : Direction) (low high : Expression Use) (ss : List Says) → All (SaysRight (spec.in_loop a)) ss → SaysRight a (spec.counting way (sense low) (sense high) ss)
+  counting_walk way low high ss g d =
       let bounds : Doing (Expr × Expr) = both (by_tables (spec.bound (sense low))) (by_tables (spec.bound (sense high))) in
       let e = (bounds d).1 in
       let same : e.slots ≡ d.slots = paired_slots (by_tables (spec.bound (sense low)) d).0 (by_tables (spec.bound (sense high)) (by_tables (spec.bound (sense low)) d).1) in
-      then_leads F B (backwards k env from) (front_noted k env from) (λ (r : (Expr × Expr) × List Stmt). (Bound r.0.0 × Bound r.0.1) × Counted w (length d.slots) r.1) (Done k env w) (λ r. stmt.For (next_var a d) (spec.way_of way) r.0.0 r.0.1 r.1) d (beside (spec.with_parameter ss a) (bounds d))
-      (λ r h. subst (λ l. Done k env w (stmt.For (record { level = l; slot = length d.slots }) (spec.way_of way) r.0.0 r.0.1 r.1)) (sym fits.level) (rule.for (rule.fills h.1.1) h.0.0 h.0.1 h.1.0))
-      (beside_leads F B (backwards k env from) (front_noted k env from) (λ (r : Expr × Expr). Bound r.0 × Bound r.1) (Counted w (length d.slots)) d (bounds d) (spec.with_parameter ss a)
-      (both_walk Bound Bound (by_tables (spec.bound (sense low))) (by_tables (spec.bound (sense high))) (bound_walk low) (bound_walk high) d)
-      (subst (λ n. Reaches (Counted w n) e (spec.with_parameter ss a e)) (ap length same) (parameter_leads w a e (spec.sequence ss (spec.in_loop a) (with_parameter a e)) fits (sequence_walk (inside_loop w) (spec.in_loop a) ss g (with_parameter a e)))))
+      then_leads (here a) (Both (here a) (Both (here a) Bound Bound) (Counted (length d.slots))) (Right a) (λ r. stmt.For (next_var a d) (spec.way_of way) r.0.0 r.0.1 r.1) d (beside (spec.with_parameter ss a) (bounds d))
+      (λ s t r h. subst (λ l. Right a s (stmt.For (record { level = l; slot = length d.slots }) (spec.way_of way) r.0.0 r.0.1 r.1)) (sym t.level) (rule.for (rule.fills h.1.1) h.0.0 h.0.1 h.1.0))
+      (beside_leads (here a) (Both (here a) Bound Bound) (Counted (length d.slots)) d (bounds d) (spec.with_parameter ss a)
+      (both_goes (here a) Bound Bound (by_tables (spec.bound (sense low))) (by_tables (spec.bound (sense high))) (bound_walk low) (bound_walk high) d)
+      (subst (λ n. Leads (here a) (Counted n) e (spec.with_parameter ss a e)) (ap length same) (parameter_leads e (spec.sequence ss (spec.in_loop a) (with_parameter e)) (sequence_walk (spec.in_loop a) ss g (with_parameter e)))))
 
   -- Transfers (5.7, 6.5, 11.3) and statements that hold none ------------------------------------------------
 
-  pub assignment_walk : (w : rule.Around) (n : Name Use (Expression Use)) (x : Expression Use) → Walks (Done k env w) (by_tables (simple.assignment n.first (map suffix_sense n.suffixes) (sense x)))
-  assignment_walk w n x = tables_walk (Done k env w) (simple.assignment n.first (map suffix_sense n.suffixes) (sense x)) (λ tables sound. assignment_good k env tables sound w n.first (map suffix_sense n.suffixes) (sense x) (suffixes_right k env tables sound n.suffixes) (expression_right k env tables sound x))
+  pub assignment_walk : (n : Name Use (Expression Use)) (x : Expression Use) → Goes (here a) (Right a) (by_tables (simple.assignment n.first (map suffix_sense n.suffixes) (sense x)))
+  assignment_walk n x = tables_walk (Right a) (simple.assignment n.first (map suffix_sense n.suffixes) (sense x)) (λ s tables sound. let env = around_site s in assignment_good s.k env tables sound (around_of a) n.first (map suffix_sense n.suffixes) (sense x) (suffixes_right s.k env tables sound n.suffixes) (expression_right s.k env tables sound x))
 
-  pub call_walk : (w : rule.Around) (place : Span) (n : Name Use (Expression Use)) → Walks (Done k env w) (by_tables (simple.call place n.first (map suffix_sense n.suffixes)))
-  call_walk w place n = tables_walk (Done k env w) (simple.call place n.first (map suffix_sense n.suffixes)) (λ tables sound. call_good k env tables sound w place n.first (map suffix_sense n.suffixes) (suffixes_right k env tables sound n.suffixes))
+  pub call_walk : (place : Span) (n : Name Use (Expression Use)) → Goes (here a) (Right a) (by_tables (simple.call place n.first (map suffix_sense n.suffixes)))
+  call_walk place n = tables_walk (Right a) (simple.call place n.first (map suffix_sense n.suffixes)) (λ s tables sound. let env = around_site s in call_good s.k env tables sound (around_of a) place n.first (map suffix_sense n.suffixes) (suffixes_right s.k env tables sound n.suffixes))
 
-  pub raising_walk : (w : rule.Around) (place : Span) (m : Mark Use) → Walks (Done k env w) (by_tables (simple.raising place m))
-  raising_walk w place m = tables_walk (Done k env w) (simple.raising place m) (λ tables sound. raising_good k env tables sound w place m)
+  pub raising_walk : (place : Span) (m : Mark Use) → Goes (here a) (Right a) (by_tables (simple.raising place m))
+  raising_walk place m = tables_walk (Right a) (simple.raising place m) (λ s tables sound. raising_good s.k (around_site s) tables sound (around_of a) place m)
 
-  pub raising_again_walk : (w : rule.Around) (place : Span) (h : Handling) → (h ≡ handling.Inside → w.in_handler ≡ true) → Walks (Done k env w) (simple.raising_again place h)
-  raising_again_walk w place handling.Outside inside = broken_walk (Done k env w) fault.Return place
-  raising_again_walk w place handling.Inside inside = known_goes F B (backwards k env from) (front_noted k env from) (Done k env w) stmt.RaiseAgain (rule.raise_again (inside refl))
+  raising_again_by : (place : Span) (h : Handling) → (h ≡ handling.Inside → (around_of a).in_handler ≡ true) → Goes (here a) (Right a) (simple.raising_again place h)
+  raising_again_by place handling.Outside inside = broken_walk (Right a) fault.Return place
+  raising_again_by place handling.Inside inside = known_goes (here a) (Right a) stmt.RaiseAgain (λ s. rule.raise_again (inside refl))
 
-  exit_by_walk : (w : rule.Around) (c : Option (Expression Use)) → w.in_loop ≡ true → Walks (Done k env w) (by_tables (simple.exit_by (option_map sense c)))
-  exit_by_walk w None l = tables_walk (Done k env w) (simple.exit_by None) (λ tables sound. exit_good k env tables sound w None l tt)
-  exit_by_walk w (Some x) l = tables_walk (Done k env w) (simple.exit_by (Some (sense x))) (λ tables sound. exit_good k env tables sound w (Some (sense x)) l (expression_right k env tables sound x))
+  pub raising_again_walk : (place : Span) → Goes (here a) (Right a) (simple.raising_again place a.handling)
+  raising_again_walk place = raising_again_by place a.handling (λ e. ap is_inside_handler e)
 
-  pub exiting_walk : (w : rule.Around) (place : Span) (l : Looping) (c : Option (Expression Use)) → (l ≡ looping.Inside → w.in_loop ≡ true) → Walks (Done k env w) (simple.exiting place l (option_map sense c))
-  exiting_walk w place looping.Outside c inside = broken_walk (Done k env w) fault.Return place
-  exiting_walk w place looping.Inside c inside = exit_by_walk w c (inside refl)
+  exit_by_walk : (c : Option (Expression Use)) → (around_of a).in_loop ≡ true → Goes (here a) (Right a) (by_tables (simple.exit_by (option_map sense c)))
+  exit_by_walk None l = tables_walk (Right a) (simple.exit_by None) (λ s tables sound. exit_good s.k (around_site s) tables sound (around_of a) None l tt)
+  exit_by_walk (Some x) l = tables_walk (Right a) (simple.exit_by (Some (sense x))) (λ s tables sound. let env = around_site s in exit_good s.k env tables sound (around_of a) (Some (sense x)) l (expression_right s.k env tables sound x))
 
-  -- what follows an unnoticed change of the draft
-  still_leads : {A : Type 0} (Q : A → Type 0) (d e : Draft) (r : Option A × Draft) → Still d e → Reaches Q e r → Reaches Q d r
-  still_leads Q d e r s h = record { grows = grows_further d e r.1 (still_grows d e s) h.grows; right = λ f b. h.right (front_still k env from d e s f) b }
+  exiting_by : (place : Span) (l : Looping) (c : Option (Expression Use)) → (l ≡ looping.Inside → (around_of a).in_loop ≡ true) → Goes (here a) (Right a) (simple.exiting place l (option_map sense c))
+  exiting_by place looping.Outside c inside = broken_walk (Right a) fault.Return place
+  exiting_by place looping.Inside c inside = exit_by_walk c (inside refl)
 
-  return_by_walk : (w : rule.Around) (place : Span) (x : Option (Expression Use)) → w.gives ≡ None → Walks (Done k env w) (simple.return_by place giving.Nothing (option_map sense x))
-  return_by_walk w place None none = known_goes F B (backwards k env from) (front_noted k env from) (Done k env w) (stmt.Return None) (rule.return (subst (λ o. rule.Returns k env o None) (sym none) rule.nothing))
-  return_by_walk w place (Some x) none = broken_walk (Done k env w) fault.Return place
+  pub exiting_walk : (place : Span) (c : Option (Expression Use)) → Goes (here a) (Right a) (simple.exiting place a.looping (option_map sense c))
+  exiting_walk place c = exiting_by place a.looping c (λ e. ap is_inside_loop e)
 
-  pub returning_walk : (w : rule.Around) (a : Around) (place : Span) (x : Option (Expression Use)) → Fits env a w → Walks (Done k env w) (simple.returning place a.giving (option_map sense x))
-  returning_walk w a place x fits = subst (λ g. Walks (Done k env w) (simple.returning place g (option_map sense x))) (sym fits.giving)
-      (λ d. still_leads (Done k env w) d (simple.with_return d) (simple.return_by place giving.Nothing (option_map sense x) (simple.with_return d)) (still_noted d _ d.waiting d.notes) (return_by_walk w place x fits.gives (simple.with_return d)))
+  nothing_returned : (g : Giving) → a.giving ≡ g → gives_of g ≡ None → Goes (here a) (Right a) (known (stmt.Return None))
+  nothing_returned g e none = known_goes (here a) (Right a) (stmt.Return None) (λ s. rule.return (subst (λ o. rule.Returns s.k (around_site s) o None) (sym (ap gives_of e ∙ none)) rule.nothing))
+
+  -- the value of a return that gives one of this type
+  value_returned : (t : Ty) (x : Expression Use) → a.giving ≡ giving.Value t → Goes (here a) (Right a) (by_tables (simple.return_value (asking.Exactly t) (sense x)))
+  value_returned t x e d = tables_lead (here a) (Right a) (simple.return_value (asking.Exactly t) (sense x)) d (λ s i sound. let env = around_site s in
+      return_value_good s.k env d.tables sound (around_of a) t (sense x) (ap gives_of e) (subst (λ o. IfSome (InView s.k env) o) (ap gives_of e) i.giving) (expression_right s.k env d.tables sound x))
+
+  any_value : {A : Type 0} (o : Option A) → IfSome (λ (x : A). Unit {0}) o
+  any_value None = tt
+  any_value (Some x) = tt
+
+  unclear_returned : (x : Expression Use) → Goes (here a) (Right a) (by_tables (simple.unclear_value (sense x)))
+  unclear_returned x = tables_walk (Right a) (simple.unclear_value (sense x)) (λ s tables sound.
+      next (λ (t : Typed_value). Unit {0}) (Right a s) ((sense x).judged tables asking.Anything) (λ t n. (None, n)) (λ n. any_value ((sense x).judged tables asking.Anything n).0) (λ t u n. tt))
+
+  return_by_walk : (place : Span) (g : Giving) (x : Option (Expression Use)) → a.giving ≡ g → Goes (here a) (Right a) (simple.return_by place g (option_map sense x))
+  return_by_walk place giving.Nothing None e = nothing_returned giving.Nothing e refl
+  return_by_walk place giving.Nothing (Some x) e = broken_walk (Right a) fault.Return place
+  return_by_walk place (giving.Value t) None e = broken_walk (Right a) fault.Return place
+  return_by_walk place (giving.Value t) (Some x) e = value_returned t x e
+  return_by_walk place giving.Unclear None e = broken_walk (Right a) fault.Return place
+  return_by_walk place giving.Unclear (Some x) e = unclear_returned x
+
+  pub returning_walk : (place : Span) (x : Option (Expression Use)) → Goes (here a) (Right a) (simple.returning place a.giving (option_map sense x))
+  returning_walk place x d = still_leads (here a) (Right a) d (simple.with_return d) (simple.return_by place a.giving (option_map sense x) (simple.with_return d)) (still_noted d _ d.waiting d.notes) (return_by_walk place a.giving x refl (simple.with_return d))
 
   -- Handlers (11.2) -------------------------------------------------------------------------------------------
 
-  each_choice : (place : Span) (ms : List (Mark Use)) → All (λ m. Walks (λ n. n < k.exceptions) (by_tables (spec.choice place m))) ms
+  abbrev IsException : Site → ℕ → Type 0
+  IsException s n = n < s.k.exceptions
+
+  each_choice : (place : Span) (ms : List (Mark Use)) → All (λ m. Goes (here a) IsException (by_tables (spec.choice place m))) ms
   each_choice place [] = tt
-  each_choice place (m ∷ ms) = (tables_walk (λ n. n < k.exceptions) (spec.choice place m) (λ tables sound. exception_named_good k env tables sound place m.first m.rest), each_choice place ms)
+  each_choice place (m ∷ ms) = (tables_walk IsException (spec.choice place m) (λ s tables sound. exception_named_good s.k (around_site s) tables sound place m.first m.rest), each_choice place ms)
 
-  choices_walk : (w : rule.Around) (place : Span) (c : Choices Use) → Walks (Chosen k) (spec.choices_of place c)
-  choices_walk w place choices.Others = known_goes F B (backwards k env from) (front_noted k env from) (Chosen k) chosen.Others rule.others
-  choices_walk w place (choices.Exceptions ms) = then_walk (Raised k) (Chosen k) (spec.exceptions_chosen place ms) (λ ns. chosen.Exceptions ns)
-      (each_walk (Raised k) (λ n. n < k.exceptions) (λ m. by_tables (spec.choice place m)) (raised_more k env w) rule.no_more_exceptions ms (each_choice place ms))
-      (λ ns h. rule.exceptions h)
+  abbrev RightChoices : Site → Checked_choices → Type 0
+  RightChoices s c = Chosen s.k c
 
-  pub handler_walk : (w : rule.Around) (a : Around) (place p : Span) (c : Choices Use) (ss : List Says) → All (SaysRight (inside_handler w) (spec.in_handler a)) ss → Walks (λ x. HandledEach k env w (x ∷ [])) (spec.handler place a (record { span = p; choices = c; statements = ss }))
-  handler_walk w a place p c ss g = then_walk (λ (r : Checked_choices × List Stmt). Chosen k r.0 × DoneEach k env (inside_handler w) r.1) (λ x. HandledEach k env w (x ∷ [])) (both (spec.choices_of place c) (spec.sequence ss (spec.in_handler a))) (λ r. roll-Handler (record { choices = r.0; body = r.1 }))
-      (both_walk (Chosen k) (DoneEach k env (inside_handler w)) (spec.choices_of place c) (spec.sequence ss (spec.in_handler a)) (choices_walk w place c) (sequence_walk (inside_handler w) (spec.in_handler a) ss g))
-      (λ r h. rule.one_more_handler h.0 h.1 rule.no_more_handlers)
+  choices_walk : (place : Span) (c : Choices Use) → Goes (here a) RightChoices (spec.choices_of place c)
+  choices_walk place choices.Others = known_goes (here a) RightChoices chosen.Others (λ s. rule.others)
+  choices_walk place (choices.Exceptions ms) = then_walk (λ s. Raised s.k) RightChoices (spec.exceptions_chosen place ms) (λ ns. chosen.Exceptions ns)
+      (each_goes (here a) (λ s. Raised s.k) IsException (λ m. by_tables (spec.choice place m)) (λ s. raised_more s.k (around_site s) (around_of a)) (λ s. rule.no_more_exceptions) ms (each_choice place ms))
+      (λ s ns h. rule.exceptions h)
 
-  abbrev pub HandlerRight : rule.Around → Around → Span → Handler Says Use → Type 0
-  HandlerRight w a place h = Walks (λ x. HandledEach k env w (x ∷ [])) (spec.handler place a h)
+  pub handler_walk : (place p : Span) (c : Choices Use) (ss : List Says) → All (SaysRight (spec.in_handler a)) ss → HandlerRight a place (record { span = p; choices = c; statements = ss })
+  handler_walk place p c ss g = then_walk (Both (here a) RightChoices (RightEach (spec.in_handler a))) (RightHandler a) (both (spec.choices_of place c) (spec.sequence ss (spec.in_handler a))) (λ r. roll-Handler (record { choices = r.0; body = r.1 }))
+      (both_goes (here a) RightChoices (RightEach (spec.in_handler a)) (spec.choices_of place c) (spec.sequence ss (spec.in_handler a)) (choices_walk place c) (sequence_walk (spec.in_handler a) ss g))
+      (λ s r h. rule.one_more_handler h.0 h.1 rule.no_more_handlers)
 
-  told_leads : {A : Type 0} (Q : A → Type 0) (j : Doing A) (b : Bool) (which : FaultCode) (place : Span) (d : Draft) → Walks Q j → Reaches Q d (j (fault_when b which place d))
-  told_leads Q j true which place d h = let e : Draft = record d { notes = with_fault which place d.notes } in still_leads Q d e (j e) (still_noted d d.returning d.waiting (with_fault which place d.notes)) (h e)
+  told_leads : {A : Type 0} (Q : Site → A → Type 0) (j : Doing A) (b : Bool) (which : FaultCode) (place : Span) (d : Draft) → Goes (here a) Q j → Leads (here a) Q d (j (fault_when b which place d))
+  told_leads Q j true which place d h = let e : Draft = record d { notes = with_fault which place d.notes } in still_leads (here a) Q d e (j e) (still_noted d d.returning d.waiting (with_fault which place d.notes)) (h e)
   told_leads Q j false which place d h = h d
 
-  pub handlers_walk : (w : rule.Around) (a : Around) (place : Span) (hs : List (Handler Says Use)) → All (HandlerRight w a place) hs → Walks (HandledEach k env w) (spec.handlers place a hs)
-  handlers_walk w a place hs g d = told_leads (HandledEach k env w) (λ e. each (spec.handler place a) (Some []) hs e) (spec.others_early false hs) fault.Type place d
-      (each_walk (HandledEach k env w) (λ x. HandledEach k env w (x ∷ [])) (spec.handler place a) (handled_more k env w) rule.no_more_handlers hs g)
+  pub handlers_walk : (place : Span) (hs : List (Handler Says Use)) → All (HandlerRight a place) hs → Goes (here a) (RightHandlers a) (spec.handlers place a hs)
+  handlers_walk place hs g d = told_leads (RightHandlers a) (λ e. each (spec.handler place a) (Some []) hs e) (spec.others_early false hs) fault.Type place d
+      (each_goes (here a) (RightHandlers a) (RightHandler a) (spec.handler place a) (λ s. handled_more s.k (around_site s) (around_of a)) (λ s. rule.no_more_handlers) hs g)

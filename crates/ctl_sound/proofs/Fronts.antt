@@ -1,17 +1,20 @@
--- Tables without types and subprograms of the text: they are sound, and what is in view in a master is in view in those inside it.
-use Rattle.std.proofs.Common.{arith, ◌≡◌, ◌<◌, refl, sym, ap, ◌∙◌, subst, ℕ, zero, suc, List, [], ◌∷◌, ◌++◌, map, length, take, slice_get, Option, Some, None}
+-- What is in view in a master is in view in those inside it; tables of which all is known are sound.
+use Rattle.std.proofs.Common.{arith, ◌≡◌, ◌<◌, refl, sym, ap, ◌∙◌, subst, ℕ, zero, suc, nat_eq, Bool, true, false, ◌||◌, List, [], ◌∷◌, ◌++◌, map, length, take, slice_get, Option, Some, None}
 use Rattle.std.proofs.lemmas.Bool.Decides.{nat_tests}
-use Rattle.std.proofs.lemmas.List.{nil_from_length}
-use Rattle.ctl_program.specs.declared.types.Operations.{Operations}
+use Rattle.ctl_program.specs.declared.types.RecordType.{RecordType}
+use Rattle.ctl_program.specs.declared.types.Root.{Root}
 use Rattle.ctl_program.specs.declared.types.Ty.{Ty}
 use Rattle.ctl_program.specs.declared.types.Ty.TheVariants as ty
 use Rattle.ctl_program.specs.declared.types.Var.{Var}
-use Rattle.ctl_syntax.specs.declared.denoted.OperationName.{OperationName}
-use Rattle.ctl_syntax.specs.declared.denoted.OperationName.TheVariants.{Initialize, Adjust, Finalize, Allocate, Deallocate}
+use Rattle.ctl_program.specs.declared.expression.Step.TheVariants as step
 use Rattle.ctl_syntax.specs.declared.item.Aliasing.{Aliasing}
 use Rattle.ctl_syntax.specs.declared.item.Aliasing.TheVariants as aliasing
 use Rattle.ctl_typing.specs.declared.found.Head.TheVariants as head
+use Rattle.ctl_typing.specs.declared.notes.Notes.{Notes}
+use Rattle.ctl_program.specs.declared.types.AccessType.{AccessType}
 use Rattle.ctl_typing.specs.declared.table.AccessEntry.{AccessEntry}
+use Rattle.ctl_typing.specs.declared.table.Designated.{Designated}
+use Rattle.ctl_typing.specs.declared.table.Designated.TheVariants as designated
 use Rattle.ctl_typing.specs.declared.table.Entry.{Entry}
 use Rattle.ctl_typing.specs.declared.table.Entry.TheVariants as entry
 use Rattle.ctl_typing.specs.declared.table.FormalEntry.{FormalEntry}
@@ -21,15 +24,20 @@ use Rattle.ctl_typing.specs.declared.table.RecordEntry.{RecordEntry}
 use Rattle.ctl_typing.specs.declared.table.RecordState.{RecordState}
 use Rattle.ctl_typing.specs.declared.table.Standing.{Standing}
 use Rattle.ctl_typing.specs.declared.table.Standing.TheVariants as standing
+use Rattle.ctl_typing.specs.declared.table.Tables.{Tables}
+use Rattle.ctl_typing.specs.Lookup.{component_among, component_in, component_within, descends_within, designated_by, designated_in, is_parent, on, or_else}
 use Rattle.ctl_types.specs.declared.draft.Draft.{Draft}
-use Rattle.ctl_types.specs.Elaboration.{library_records, library_states}
 use Rattle.ctl_types.specs.Statements.{user_operation, operations_of}
-use Rattle.ctl_well_typed.specs.Setting.{Holding, Declared, Frame, Frames, Names, slot, Encloses, Setting, InView}
+use Rattle.ctl_well_typed.specs.Setting.{Holding, Declared, Frame, Frames, Names, slot, Encloses, HasRecord, Setting, InView}
+use Rattle.ctl_well_typed.specs.Types.{derived, Descends, itself, from_parent, Leads, component}
+use Rattle.ctl_well_typed.specs.Programs as program
+use Rattle.ctl_well_typed.specs.Programs.{Parent}
 use Rattle.ctl_sound.specs.Known.{IfSome, All}
 use Rattle.ctl_sound.specs.Library.{HasLibrary}
 use Rattle.ctl_sound.specs.Sound.{EntryFine, ObjectFine, ProfileFine, AliasFine, DeclaredFine, TypesFine, Sound}
 use Rattle.ctl_sound.proofs.Beginning.{types_sound}
-use Rattle.ctl_sound.proofs.Growing.{operations_in, Still, Grows, front_read}
+use Rattle.ctl_sound.proofs.Growing.{operations_in, unfrozen, mapped_length, mapped_at, behind_same, behind_further, behind_length, behind_read, From, from_first, from_rest, front_read, Still, still_noted, still_grows, Made, nothing, and_then, Grows}
+use Rattle.ctl_sound.proofs.Sites.{Site, around_site, AccessKnown, RecordKnown, operations_at, Known, Front, Back, Agrees}
 
 -- Deeper masters ------------------------------------------------------------------------------
 
@@ -52,7 +60,7 @@ names_deeper : (env : Frames) (f : Frame) (v : Var) (h : Holding) → Names env 
 names_deeper env f v h (slot a b) = slot (front_read env (f ∷ []) _ _ a) b
 
 module _ (k : Setting) (env : Frames) (f : Frame) where
-  in_view_deeper : (t : Ty) → InView k env t → InView k (env ++ f ∷ []) t
+  pub in_view_deeper : (t : Ty) → InView k env t → InView k (env ++ f ∷ []) t
   in_view_deeper (ty.Record t) h = record { is = h.is; home = h.home; found = h.found; at_home = h.at_home; encloses = encloses_deeper h.home env f h.encloses }
   in_view_deeper (ty.Access a) h = record { is = h.is; home = h.home; found = h.found; at_home = h.at_home; encloses = encloses_deeper h.home env f h.encloses }
   in_view_deeper ty.Integer h = tt
@@ -111,80 +119,261 @@ module _ (k : Setting) (env : Frames) (f : Frame) where
   entries_deeper None h = tt
   entries_deeper (Some e) h = entry_deeper e h
 
--- Fronts ------------------------------------------------------------------------------------------
+-- masters around masters around a place stand around it
+pub encloses_further : (a b c : Frames) → Encloses a b → Encloses b c → Encloses a c
+encloses_further [] b c h i = refl
+encloses_further (x ∷ xs) [] c h i = absurd (cc)
+encloses_further (x ∷ xs) (y ∷ ys) [] h i = absurd (cc)
+encloses_further (x ∷ xs) (y ∷ ys) (z ∷ zs) h i =
+    let same = first_is y x (take (length xs) ys) xs h in
+    let again = first_is z y (take (length ys) zs) ys i in
+    let inner = encloses_further xs ys zs (ap rest_of h) (ap rest_of i) in
+    ap (λ e. e ∷ take (length xs) zs) (again ∙ same) ∙ ap (λ es. x ∷ es) inner
 
--- no types are declared, and each declaration in view is right
-pub record Fronts (k : Setting) (env : Frames) (d : Draft) : Type 0 where
-  pub records : d.tables.records ≡ library_records
-  pub operations : map operations_in d.tables.states.records ≡ map operations_in library_states
-  pub accesses : length d.tables.states.accesses ≡ 0
-  pub entries : (n : ℕ) → IfSome (EntryFine k env) (slice_get d.tables.entries n)
+pub encloses_self : (a : Frames) → Encloses a a
+encloses_self [] = refl
+encloses_self (x ∷ xs) = ap (λ es. x ∷ es) (encloses_self xs)
 
-pub fronts_deeper : (k : Setting) (env : Frames) (f : Frame) (d : Draft) → Fronts k env d → Fronts k (env ++ f ∷ []) d
-fronts_deeper k env f d h = record { records = h.records; operations = h.operations; accesses = h.accesses; entries = λ n. entries_deeper k env f (slice_get d.tables.entries n) (h.entries n) }
+pub encloses_front : (a : Frames) (f : Frame) → Encloses a (a ++ f ∷ [])
+encloses_front a f = encloses_deeper a a f (encloses_self a)
 
-pub fronts_still : (k : Setting) (env : Frames) (d e : Draft) → Still d e → Fronts k env d → Fronts k env e
-fronts_still k env d e s h = record {
-  records = s.records ∙ h.records;
-  operations = s.operations ∙ h.operations;
-  accesses = s.accesses ∙ h.accesses;
-  entries = λ n. subst (λ es. IfSome (EntryFine k env) (slice_get es n)) (sym s.entries) (h.entries n);
+-- of as many masters, the ones that stand around a place are those of the place
+pub encloses_all : (a b : Frames) → Encloses a b → length a ≡ length b → a ≡ b
+encloses_all [] [] h e = refl
+encloses_all [] (y ∷ ys) h e = absurd (cc)
+encloses_all (x ∷ xs) [] h e = absurd (cc)
+encloses_all (x ∷ xs) (y ∷ ys) h e =
+    let same = first_is y x (take (length xs) ys) xs h in
+    let shorter : length xs ≡ length ys = omega (arith, e) in
+    let inner = encloses_all xs ys (ap rest_of h) shorter in
+    ap (λ z. z ∷ xs) (sym same) ∙ ap (λ zs. y ∷ zs) inner
+
+pub encloses_both : (a b : Frames) → Encloses a b → Encloses b a → a ≡ b
+encloses_both [] [] h i = refl
+encloses_both [] (y ∷ ys) h i = absurd (cc)
+encloses_both (x ∷ xs) [] h i = absurd (cc)
+encloses_both (x ∷ xs) (y ∷ ys) h i =
+    let same = first_is y x (take (length xs) ys) xs h in
+    let inner = encloses_both xs ys (ap rest_of h) (ap rest_of i) in
+    ap (λ z. z ∷ xs) (sym same) ∙ ap (λ zs. y ∷ zs) inner
+
+pub in_view_further : (k : Setting) (home env : Frames) (t : Ty) → Encloses home env → InView k home t → InView k env t
+in_view_further k home env (ty.Record t) e h = record { is = h.is; home = h.home; found = h.found; at_home = h.at_home; encloses = encloses_further h.home home env h.encloses e }
+in_view_further k home env (ty.Access a) e h = record { is = h.is; home = h.home; found = h.found; at_home = h.at_home; encloses = encloses_further h.home home env h.encloses e }
+in_view_further k home env ty.Integer e h = tt
+in_view_further k home env ty.Count e h = tt
+in_view_further k home env ty.Boolean e h = tt
+in_view_further k home env ty.Address e h = tt
+in_view_further k home env ty.Handle e h = tt
+
+-- Drafts in which nothing is declared -----------------------------------------------------------------
+
+pub access_below : (xs : List AccessEntry) (n : ℕ) (x : AccessEntry) → slice_get xs n ≡ Some x → n < length xs
+access_below [] n x e = absurd (cc)
+access_below (y ∷ xs) zero x e = omega arith
+access_below (y ∷ xs) (suc n) x e = let inner = access_below xs n x e in omega (arith, inner)
+
+-- what is known of an access type does not name whether it is frozen
+pub access_same : (k : Setting) (a : ℕ) (x y : AccessEntry) → unfrozen y ≡ unfrozen x → AccessKnown k a x → AccessKnown k a y
+access_same k a x y same h = thawed (subst (AccessKnown k a) (sym same) frozen)
+  where
+    frozen : AccessKnown k a (unfrozen x)
+    frozen = record { is = h.is; home = h.home; found = h.found; at_home = h.at_home; collection = h.collection; own_level = h.own_level; level = h.level; names = h.names; designated = h.designated; pool = h.pool }
+
+    thawed : AccessKnown k a (unfrozen y) → AccessKnown k a y
+    thawed g = record { is = g.is; home = g.home; found = g.found; at_home = g.at_home; collection = g.collection; own_level = g.own_level; level = g.level; names = g.names; designated = g.designated; pool = g.pool }
+
+pub known_still : (k : Setting) (d e : Draft) → Still d e → Known k d → Known k e
+known_still k d e s h = record {
+  records = λ t r q. h.records t r (subst (λ rs. slice_get rs t ≡ Some r) s.records q);
+  operations = λ o t n q. h.operations o t n (subst (λ os. user_operation o (operations_at os t) ≡ Some n) s.operations q);
+  subprograms = λ n p q. h.subprograms n p (subst (λ ps. slice_get ps n ≡ Some p) s.subprograms q);
+  accesses = λ a y q. let x = mapped_at unfrozen e.tables.states.accesses d.tables.states.accesses (sym s.accesses) a y q in access_same k a x.is y (sym x.same) (h.accesses a x.is x.found);
+  states = by_states;
+  components = ap length s.components ∙ h.components ∙ ap length (sym s.records);
+}
+  where
+    mapped : (ss : List RecordState) → length (map operations_in ss) ≡ length ss
+    mapped [] = refl
+    mapped (x ∷ xs) = ap suc (mapped xs)
+
+    by_states : length e.tables.states.records ≡ length e.tables.records
+    by_states = sym (mapped e.tables.states.records) ∙ ap length s.operations ∙ mapped d.tables.states.records ∙ h.states ∙ ap length (sym s.records)
+
+pub front_still : (s : Site) (d e : Draft) → Still d e → Front s d → Front s e
+front_still s d e q f = record {
+  entries = λ n. subst (λ es. IfSome (EntryFine s.k (around_site s)) (slice_get es n)) (sym q.entries) (f.entries n);
+  base = behind_further s.base d.tables.entries e.tables.entries f.base (behind_same d.tables.entries e.tables.entries q.entries);
+  known = known_still s.k d e q f.known;
+  own = q.own ∙ f.own;
+  inner = λ n home first less at. f.inner n home first (let same = mapped_length unfrozen d.tables.states.accesses e.tables.states.accesses q.accesses in omega (arith, same, less)) at;
 }
 
--- what was declared behind goes out of view again
-pub fronts_left : (k : Setting) (env : Frames) (d e f : Draft) → Grows d e → f.tables.records ≡ e.tables.records → f.tables.states ≡ e.tables.states → f.tables.entries ≡ d.tables.entries → Fronts k env d → Fronts k env f
-fronts_left k env d e f g rs ss es h = record {
-  records = rs ∙ g.records ∙ h.records;
-  operations = ap (λ s. map operations_in s.records) ss ∙ g.operations ∙ h.operations;
-  accesses = ap (λ s. length s.accesses) ss ∙ g.accesses ∙ h.accesses;
-  entries = λ n. subst (λ xs. IfSome (EntryFine k env) (slice_get xs n)) (sym es) (h.entries n);
+pub front_noted : (s : Site) (d : Draft) (n : Notes) → Front s d → Front s (record d { notes = n })
+front_noted s d n f = front_still s d (record d { notes = n }) (still_noted d d.returning d.waiting n) f
+
+pub backwards : (k : Setting) (m : Made) (d e : Draft) → Grows m d e → Back k e → Back k d
+backwards k m d e g b = record {
+  exceptions = let fewer = behind_length d.exceptions e.exceptions g.exceptions in let within = b.exceptions in omega (arith, fewer, within);
+  records = λ t r cs h i. b.records t r cs (behind_read d.tables.records e.tables.records t r g.records h) (behind_read d.components e.components t cs g.components i);
+  accesses = λ a x h.
+      let y = g.accesses a x h in
+      let q = b.accesses a y.is y.found in
+      record { is = q.is; found = q.found; collection = q.collection ∙ y.later.collection; designated = λ t i. q.designated t (y.later.designated t i) };
 }
 
--- They are sound ------------------------------------------------------------------------------------
+pub back_still : (k : Setting) (d e : Draft) → Still d e → Back k e → Back k d
+back_still k d e s b = backwards k nothing d e (still_grows d e s) b
 
-abbrev none : Operations
-none = operations_of None
+pub agrees_first : (s : Site) (d : Draft) (m n : Made) → Agrees s d (and_then m n) → Agrees s d m
+agrees_first s d m n h = record {
+  holdings = from_first (length d.slots) m.holdings n.holdings s.frame h.holdings;
+  records = from_first (length d.tables.records) (m.homes (around_site s)).records (n.homes (around_site s)).records s.k.record_homes h.records;
+  accesses = from_first (length d.tables.states.accesses) (m.homes (around_site s)).accesses (n.homes (around_site s)).accesses s.k.access_homes h.accesses;
+  subprograms = from_first (length d.subprograms) (m.homes (around_site s)).subprograms (n.homes (around_site s)).subprograms s.k.subprograms h.subprograms;
+}
 
-abbrev operations_at : List Operations → ℕ → Operations
-operations_at [] n = none
-operations_at (o ∷ os) zero = o
-operations_at (o ∷ os) (suc n) = operations_at os n
+pub agrees_rest : (s : Site) (d e : Draft) (m n : Made) → Grows m d e → Agrees s d (and_then m n) → Agrees s e n
+agrees_rest s d e m n g h = let env = around_site s in record {
+  holdings = from_rest (length d.slots) (length e.slots) m.holdings n.holdings s.frame g.slots h.holdings;
+  records = from_rest (length d.tables.records) (length e.tables.records) (m.homes env).records (n.homes env).records s.k.record_homes (g.record_homes env) h.records;
+  accesses = from_rest (length d.tables.states.accesses) (length e.tables.states.accesses) (m.homes env).accesses (n.homes env).accesses s.k.access_homes (g.access_homes env) h.accesses;
+  subprograms = from_rest (length d.subprograms) (length e.subprograms) (m.homes env).subprograms (n.homes env).subprograms s.k.subprograms (g.signatures env) h.subprograms;
+}
 
-read_at : (ss : List RecordState) (n : ℕ) → operations_of (slice_get ss n) ≡ operations_at (map operations_in ss) n
+pub agrees_still : (s : Site) (d e : Draft) (m : Made) → Still d e → Agrees s d m → Agrees s e m
+agrees_still s d e m q h = record {
+  holdings = subst (λ n. From n m.holdings s.frame) (sym (ap length q.slots)) h.holdings;
+  records = subst (λ n. From n (m.homes (around_site s)).records s.k.record_homes) (sym (ap length q.records)) h.records;
+  accesses = subst (λ n. From n (m.homes (around_site s)).accesses s.k.access_homes) (sym (mapped_length unfrozen d.tables.states.accesses e.tables.states.accesses q.accesses)) h.accesses;
+  subprograms = subst (λ n. From n (m.homes (around_site s)).subprograms s.k.subprograms) (sym (ap length q.subprograms)) h.subprograms;
+}
+
+-- Tables of which all is known -------------------------------------------------------------------------
+
+-- a component of the parent is one of the type
+inherited : (k : Setting) (t p q i : ℕ) (is' : RecordType) (c : Ty) → slice_get k.records t ≡ Some is' → is'.parent ≡ Some p → Leads k (ty.Record p) (step.Component q i) c → Leads k (ty.Record t) (step.Component t i) c
+inherited k t p q _ is' _ found parent (component {i = n} {cs = cs} {c = x} all at) = component (derived found parent all) (front_read cs is'.own n x at)
+
+-- its home is that of the one parent that it has
+parent_at : (k : Setting) (home : Frames) (t p : ℕ) (r : Root) (o : Option ℕ) → o ≡ Some p → Parent k home t r o → HasRecord k home p
+parent_at k home t p r _ e program.none = absurd (cc)
+parent_at k home t p r _ e (program.extends {p = q} below has rooted) = let same : q ≡ p = cc in subst (λ n. HasRecord k home n) same has
+
+pub one_home : (a b : Frames) (o : Option Frames) → o ≡ Some a → o ≡ Some b → a ≡ b
+one_home a b o h i = cc
+
+module _ (k : Setting) (rs : List RecordEntry) (known : (t : ℕ) (r : RecordEntry) → slice_get rs t ≡ Some r → RecordKnown k t r) where
+  record ComponentKnown (t i : ℕ) (c : Ty) : Type 0 where
+    leads : Leads k (ty.Record t) (step.Component t i) c
+    in_view : (home : Frames) → slice_get k.record_homes t ≡ Some home → InView k home c
+
+  own_known : (t : ℕ) (r : RecordEntry) → slice_get rs t ≡ Some r → (name : List ℕ) (i : ℕ) (c : Ty) → component_among name r.own ≡ Some (i, c) → ComponentKnown t i c
+  own_known t r e name i c h =
+      let q = known t r e in
+      let found = q.own name i c h in
+      record { leads = found.0; in_view = λ home at. subst (λ f. InView k f c) (one_home q.home home (slice_get k.record_homes t) q.at_home at) found.1 }
+
+  parent_known : (t : ℕ) (r : RecordEntry) → slice_get rs t ≡ Some r → (p i : ℕ) (c : Ty) → r.parent ≡ Some p → ComponentKnown p i c → ComponentKnown t i c
+  parent_known t r e p i c is' h =
+      let q = known t r e in
+      let above = parent_at k q.home t p q.is.root q.is.parent (q.same_parent ∙ is') q.parent in
+      record {
+        leads = inherited k t p p i q.is c q.found (q.same_parent ∙ is') h.leads;
+        in_view = λ home at. subst (λ f. InView k f c) (one_home q.home home (slice_get k.record_homes t) q.at_home at) (in_view_further k above.home q.home c above.encloses (h.in_view above.home above.at_home));
+      }
+
+  component_known : (n : ℕ) (name : List ℕ) (t i : ℕ) (c : Ty) → component_within n rs name t ≡ Some (i, c) → ComponentKnown t i c
+  component_known zero name t i c h = absurd (cc)
+  component_known (suc n) name t i c h = by_record (λ p. component_known n name p i c) (slice_get rs t) refl h
+    where
+      by_parent : ((p : ℕ) → component_within n rs name p ≡ Some (i, c) → ComponentKnown p i c) → (r : RecordEntry) → slice_get rs t ≡ Some r → (o : Option ℕ) → r.parent ≡ o → on (component_within n rs name) o ≡ Some (i, c) → ComponentKnown t i c
+      by_parent above r e None q h = absurd (cc)
+      by_parent above r e (Some p) q h = parent_known t r e p i c q (above p h)
+
+      by_own : ((p : ℕ) → component_within n rs name p ≡ Some (i, c) → ComponentKnown p i c) → (r : RecordEntry) → slice_get rs t ≡ Some r → (o : Option (ℕ × Ty)) → component_among name r.own ≡ o → or_else o (on (component_within n rs name) r.parent) ≡ Some (i, c) → ComponentKnown t i c
+      by_own above r e None q h = by_parent above r e r.parent refl h
+      by_own above r e (Some x) q h = own_known t r e name i c (q ∙ h)
+
+      by_record : ((p : ℕ) → component_within n rs name p ≡ Some (i, c) → ComponentKnown p i c) → (o : Option RecordEntry) → slice_get rs t ≡ o → on (component_in (component_within n rs name) name) o ≡ Some (i, c) → ComponentKnown t i c
+      by_record above None e h = absurd (cc)
+      by_record above (Some r) e h = by_own above r e (component_among name r.own) refl h
+
+  ancestor_known : (n u t : ℕ) → descends_within n rs u t ≡ true → Descends k u t
+  ancestor_known zero u t h = let same : u ≡ t = grind (arith, nat_tests) in subst (λ m. Descends k u m) same itself
+  ancestor_known (suc n) u t h = by_same (λ p. ancestor_known n u p) (nat_eq t u) refl h
+    where
+      by_parent : ((p : ℕ) → descends_within n rs u p ≡ true → Descends k u p) → (r : RecordEntry) → slice_get rs t ≡ Some r → (o : Option ℕ) → r.parent ≡ o → is_parent (descends_within n rs u) (Some (record r { parent = o })) ≡ true → Descends k u t
+      by_parent above r e None q h = absurd (cc)
+      by_parent above r e (Some p) q h = let x = known t r e in from_parent x.found (x.same_parent ∙ q) (above p h)
+
+      by_record : ((p : ℕ) → descends_within n rs u p ≡ true → Descends k u p) → (o : Option RecordEntry) → slice_get rs t ≡ o → is_parent (descends_within n rs u) o ≡ true → Descends k u t
+      by_record above None e h = absurd (cc)
+      by_record above (Some r) e h = by_parent above r e r.parent refl h
+
+      by_same : ((p : ℕ) → descends_within n rs u p ≡ true → Descends k u p) → (b : Bool) → nat_eq t u ≡ b → (b || is_parent (descends_within n rs u) (slice_get rs t)) ≡ true → Descends k u t
+      by_same above true e h = let same : u ≡ t = grind (arith, nat_tests) in subst (λ m. Descends k u m) same itself
+      by_same above false e h = by_record above (slice_get rs t) refl h
+
+pub read_at : (ss : List RecordState) (n : ℕ) → operations_of (slice_get ss n) ≡ operations_at (map operations_in ss) n
 read_at [] n = refl
 read_at (s ∷ ss) zero = refl
 read_at (s ∷ ss) (suc n) = read_at ss n
 
-library_has_none : (n : ℕ) → operations_at (map operations_in library_states) n ≡ none
-library_has_none zero = refl
-library_has_none (suc zero) = refl
-library_has_none (suc (suc zero)) = refl
-library_has_none (suc (suc (suc zero))) = refl
-library_has_none (suc (suc (suc (suc n)))) = refl
+-- what an access type designates, where that is known
+record DesignatesKnown (tables : Tables) (a : ℕ) (t : Ty) : Type 0 where
+  is : AccessEntry
+  found : slice_get tables.states.accesses a ≡ Some is
+  designated : is.designated ≡ designated.Known t
 
-no_user_operation : (o : OperationName) → user_operation o none ≡ None
-no_user_operation Initialize = refl
-no_user_operation Adjust = refl
-no_user_operation Finalize = refl
-no_user_operation Allocate = refl
-no_user_operation Deallocate = refl
+designates_known : (tables : Tables) (a : ℕ) (t : Ty) → designated_by tables a ≡ Some t → DesignatesKnown tables a t
+designates_known tables a t h = by_entry (slice_get tables.states.accesses a) refl h
+  where
+    by_designated : (x : AccessEntry) → slice_get tables.states.accesses a ≡ Some x → (w : Designated) → x.designated ≡ w → designated_in (record x { designated = w }) ≡ Some t → DesignatesKnown tables a t
+    by_designated x e (designated.Known u) q h = let same : u ≡ t = cc in record { is = x; found = e; designated = q ∙ ap designated.Known same }
+    by_designated x e designated.Unclear q h = absurd (cc)
+    by_designated x e (designated.Awaited n) q h = absurd (cc)
 
-no_operations : (ss : List RecordState) → map operations_in ss ≡ map operations_in library_states → (o : OperationName) (t : ℕ) → user_operation o (operations_of (slice_get ss t)) ≡ None
-no_operations ss h o t = ap (user_operation o) (read_at ss t ∙ ap (λ os. operations_at os t) h ∙ library_has_none t) ∙ no_user_operation o
+    by_entry : (o : Option AccessEntry) → slice_get tables.states.accesses a ≡ o → on designated_in o ≡ Some t → DesignatesKnown tables a t
+    by_entry None e h = absurd (cc)
+    by_entry (Some x) e h = by_designated x e x.designated refl h
 
-module _ (k : Setting) (has : HasLibrary k) (env : Frames) where
-  types_alone : (es : List Entry) (ss : List RecordState) → TypesFine k env (record { entries = es; records = library_records; states = record { records = ss; accesses = [] } })
-  types_alone es ss = let t = types_sound k env has in record { component = t.component; ancestor = t.ancestor; rooted = t.rooted; library = t.library; mark_pool = t.mark_pool; designated = t.designated; designated_in_view = t.designated_in_view }
+pub one_access : (x y : AccessType) (o : Option AccessType) → o ≡ Some x → o ≡ Some y → x ≡ y
+one_access x y o h i = cc
 
-  types_with : (es : List Entry) (rs : List RecordEntry) (ss : List RecordState) (as' : List AccessEntry) → rs ≡ library_records → as' ≡ [] → TypesFine k env (record { entries = es; records = rs; states = record { records = ss; accesses = as' } })
-  types_with es rs ss as' e g =
-      subst (λ r. TypesFine k env (record { entries = es; records = r; states = record { records = ss; accesses = as' } })) (sym e)
-      (subst (λ a. TypesFine k env (record { entries = es; records = library_records; states = record { records = ss; accesses = a } })) (sym g) (types_alone es ss))
-
-  pub fronts_sound : (d : Draft) → Fronts k env d → Sound k env d.tables
-  fronts_sound d h = record {
-    entries = h.entries;
-    types = types_with d.tables.entries d.tables.records d.tables.states.records d.tables.states.accesses h.records (nil_from_length d.tables.states.accesses h.accesses);
-    operations = λ o t s v e. absurd (let no = no_operations d.tables.states.records h.operations o t in cc);
-    exceptions = λ n l. let below : n < 3 = grind (arith, nat_tests) in omega (arith, has.exceptions, below);
+module _ (k : Setting) (has : HasLibrary k) (env : Frames) (d : Draft) (known : Known k d) where
+  pub types_known : TypesFine k env d.tables
+  types_known = record {
+    component = λ name t i c e v. let h = component_known k d.tables.records known.records (length d.tables.records) name t i c e in (h.leads, in_view_further k v.home env c v.encloses (h.in_view v.home v.at_home));
+    ancestor = λ u t h. ancestor_known k d.tables.records known.records (length d.tables.records) u t h;
+    rooted = λ t r e. let h = known.records t r e in record { is = h.is; found = h.found; rooted = h.rooted };
+    library = (types_sound k env has).library;
+    mark_pool = (types_sound k env has).mark_pool;
+    designated = λ a t x e f.
+        let g = designates_known d.tables a t e in
+        let q = known.accesses a g.is g.found in
+        ap (λ y. y.designated) (one_access x q.is (slice_get k.accesses a) f q.found) ∙ (q.designated t g.designated).0;
+    designated_in_view = λ a t e v.
+        let g = designates_known d.tables a t e in
+        let q = known.accesses a g.is g.found in
+        let same = one_home q.home v.home (slice_get k.access_homes a) q.at_home v.at_home in
+        in_view_further k v.home env t v.encloses (subst (λ h. InView k h t) same (q.designated t g.designated).1);
   }
+
+pub front_sound : (s : Site) (d : Draft) → Front s d → Sound s.k (around_site s) d.tables
+front_sound s d f = record {
+  entries = f.entries;
+  types = types_known s.k s.has (around_site s) d f.known;
+  operations = λ o t n v e.
+      let h = f.known.operations o t n (ap (user_operation o) (sym (read_at d.tables.states.records t)) ∙ e) in
+      let same = one_home h.home v.home (slice_get s.k.record_homes t) h.at_home v.at_home in
+      record {
+        is = h.is;
+        root = h.root;
+        callable = record { found = h.found; encloses = encloses_further h.is.home v.home (around_site s) (subst (λ x. Encloses h.is.home x) same h.encloses) v.encloses };
+        descends = h.descends;
+        formals = h.formals;
+        result = h.result;
+      };
+  exceptions = λ n l. let below : n < 3 = grind (arith, nat_tests) in let three = s.has.exceptions in omega (arith, three, below);
+}

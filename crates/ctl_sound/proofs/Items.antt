@@ -239,8 +239,11 @@ module _ (k : Setting) (env : Frames) (tables : Tables) (sound : Sound k env tab
   component_judged_good within m value i = next Usable Usable (defined.component_type tables within i.span m) (defined.may_be_limited tables within i.span (defined.is_given value)) (component_type_good within i.span m)
       (λ t v. told_good Usable (is_limited tables t && (defined.is_given value || defined.is_unlimited within.limitation)) (but fault.Limited i.span t) t (λ s. v) v)
 
-  abbrev pub Extends : ℕ → Type 0
-  Extends t = HasRecord k env t
+  -- a record type of the tables that can be extended here
+  pub record Extends (t : ℕ) : Type 0 where
+    pub has : HasRecord k env t
+    pub is : RecordEntry
+    pub found : slice_get tables.records t ≡ Some is
 
   parent_with_good : (place mark : Span) (t : ℕ) (r : Root) → Extends t → Gives Extends (defined.parent_with place mark t r)
   parent_with_good place mark t root.Controlled h = λ s. h
@@ -248,8 +251,12 @@ module _ (k : Setting) (env : Frames) (tables : Tables) (sound : Sound k env tab
   parent_with_good place mark t root.MarkPool h = λ s. tt
   parent_with_good place mark t root.Untagged h = λ s. tt
 
+  parent_of_good : (place mark : Span) (t : ℕ) (o : Option RecordEntry) → slice_get tables.records t ≡ o → HasRecord k env t → Gives Extends (defined.parent_with place mark t (root_of o))
+  parent_of_good place mark t None e h = λ s. tt
+  parent_of_good place mark t (Some r) e h = parent_with_good place mark t r.root (record { has = h; is = r; found = e })
+
   parent_of_type_good : (place mark : Span) (t : Ty) → Usable t → Gives Extends (defined.parent_of_type tables place mark t)
-  parent_of_type_good place mark (ty.Record t) v = parent_with_good place mark t (root_of (slice_get tables.records t)) v
+  parent_of_type_good place mark (ty.Record t) v = parent_of_good place mark t (slice_get tables.records t) refl v
   parent_of_type_good place mark ty.Integer v = λ s. tt
   parent_of_type_good place mark ty.Count v = λ s. tt
   parent_of_type_good place mark ty.Boolean v = λ s. tt

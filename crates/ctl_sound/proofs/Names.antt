@@ -1,5 +1,5 @@
 -- What a name is found to be is right, where the tables are.
-use Rattle.std.proofs.Common.{arith, ◌≡◌, refl, sym, ap, ◌∙◌, subst, ℕ, nat_eq, nat_lt, Bool, true, false, ◌&&◌, ◌||◌, if◌then◌else◌, List, [], ◌∷◌, ◌++◌, map, length, slice_get, Option, Some, None, codes}
+use Rattle.std.proofs.Common.{arith, ◌≡◌, refl, sym, ap, ◌∙◌, subst, ℕ, nat_eq, nat_lt, Bool, true, false, ◌&&◌, ◌||◌, if◌then◌else◌, List, [], ◌∷◌, ◌++◌, map, length, slice_get, Option, Some, None, codes, inl, inr}
 use Rattle.std.proofs.lemmas.Bool.Decides.{nat_tests}
 use Rattle.ctl_grammar.specs.Spelling.{same_name}
 use Rattle.ctl_tree.specs.declared.span.Span.{Span}
@@ -51,7 +51,7 @@ use Rattle.ctl_typing.specs.Typing as spec
 use Rattle.ctl_typing.specs.Typing.{Sense}
 use Rattle.ctl_well_typed.specs.Setting.{In, Frames, Setting, InView}
 use Rattle.ctl_well_typed.specs.Types as types
-use Rattle.ctl_well_typed.specs.Types.{is_scalar, is_written, Covers, same_type, ancestor, Walks, arrived, further, Leads, HasRoot, HasDiscriminant}
+use Rattle.ctl_well_typed.specs.Types.{is_scalar, IsCell, is_written, Covers, same_type, ancestor, Walks, arrived, further, Leads, HasRoot, HasDiscriminant}
 use Rattle.ctl_well_typed.specs.Expressions as rule
 use Rattle.ctl_well_typed.specs.Expressions.{Typed, Denotes, Fits, FitEach}
 use Rattle.ctl_sound.specs.Known.{IfSome, Gives, All}
@@ -93,9 +93,9 @@ module _ (k : Setting) (env : Frames) (tables : Tables) (sound : Sound k env tab
   library_good place library.LimitedControlled s = sound.types.library 1 refl
   library_good place library.BlockPool s = sound.types.library 2 refl
   library_good place library.MarkReleasePool s = sound.types.library 3 refl
-  library_good place library.True s = (record { typed = rule.constant refl tt; in_view = tt }, refl)
-  library_good place library.False s = (record { typed = rule.constant refl tt; in_view = tt }, refl)
-  library_good place library.NullAddress s = (record { typed = rule.constant refl tt; in_view = tt }, refl)
+  library_good place library.True s = (record { typed = rule.constant refl (omega arith) tt; in_view = tt }, refl)
+  library_good place library.False s = (record { typed = rule.constant refl (omega arith) tt; in_view = tt }, refl)
+  library_good place library.NullAddress s = (record { typed = rule.constant refl refl tt; in_view = tt }, refl)
   library_good place library.Mark s = tt
   library_good place library.DefaultSubpool s = tt
   library_good place _ s = tt
@@ -475,15 +475,15 @@ module _ (k : Setting) (env : Frames) (tables : Tables) (sound : Sound k env tab
   image_of_good place ty.Boolean = λ s. refl
   image_of_good place _ = λ s. tt
 
-  bound_of_good : (place : Span) (t : Ty) (cell : ℕ) → FoundRight (spec.bound_of place t cell)
-  bound_of_good place ty.Integer cell = λ s. (record { typed = rule.constant refl tt; in_view = tt }, refl)
-  bound_of_good place _ cell = λ s. tt
+  bound_of_good : (place : Span) (t : Ty) (cell : ℕ) → IsCell ty.Integer cell → FoundRight (spec.bound_of place t cell)
+  bound_of_good place ty.Integer cell h = λ s. (record { typed = rule.constant refl h tt; in_view = tt }, refl)
+  bound_of_good place _ cell h = λ s. tt
 
   attributed_good : (place : Span) (a : Attribute) (f : Found) → FoundFine k env f → FoundRight (spec.attributed place a f)
   attributed_good place attribute.Access (is.Part p) h = accessed_good place p.head p.steps p.ty p.mutability p.aliasing h.alias
   attributed_good place attribute.Image (is.TypeName t) h = image_of_good place t
-  attributed_good place attribute.First (is.TypeName t) h = bound_of_good place t 18446744071562067968
-  attributed_good place attribute.Last (is.TypeName t) h = bound_of_good place t 2147483647
+  attributed_good place attribute.First (is.TypeName t) h = bound_of_good place t 18446744071562067968 (inr (omega arith, omega arith))
+  attributed_good place attribute.Last (is.TypeName t) h = bound_of_good place t 2147483647 (inl (omega arith))
   attributed_good place a f h = λ s. tt
 
   -- Suffixes ------------------------------------------------------------------------------------------------------------------

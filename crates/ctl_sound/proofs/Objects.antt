@@ -1,5 +1,5 @@
--- Declared objects and exceptions grow the draft, and are well typed; tables without types and subprograms of the text.
-use Rattle.std.proofs.Common.{arith, ◌≡◌, ◌≤◌, refl, sym, ap, ◌∙◌, subst, ℕ, suc, ◌+◌, nat_eq, Bool, true, false, ◌&&◌, not, if◌then◌else◌, List, [], ◌∷◌, ◌++◌, length, slice_get, Option, Some, None, option_map}
+-- Declared objects and exceptions are well typed.
+use Rattle.std.proofs.Common.{arith, ◌≡◌, refl, sym, ap, ◌∙◌, subst, ℕ, suc, ◌+◌, nat_eq, Bool, true, false, ◌&&◌, not, if◌then◌else◌, List, [], ◌∷◌, ◌++◌, length, slice_get, Option, Some, None, option_map}
 use Rattle.std.proofs.lemmas.Bool.Decides.{nat_tests}
 use Rattle.std.proofs.lemmas.List.{length-append}
 use Rattle.ctl_tree.specs.declared.span.Span.{Span}
@@ -7,6 +7,7 @@ use Rattle.ctl_tree.specs.declared.fault.FaultCode.{FaultCode}
 use Rattle.ctl_tree.specs.declared.fault.FaultCode.TheVariants as rule_of
 use Rattle.ctl_program.specs.declared.types.Ty.{Ty}
 use Rattle.ctl_program.specs.declared.types.Ty.TheVariants as ty
+use Rattle.ctl_program.specs.declared.types.Var.{Var}
 use Rattle.ctl_program.specs.declared.types.Root.{Root}
 use Rattle.ctl_program.specs.declared.types.Root.TheVariants as root
 use Rattle.ctl_program.specs.declared.expression.Expr.{Expr}
@@ -26,6 +27,7 @@ use Rattle.ctl_typing.specs.declared.notes.Deed.{Deed}
 use Rattle.ctl_typing.specs.declared.notes.Notes.{Notes}
 use Rattle.ctl_typing.specs.declared.table.Entry.TheVariants as entry
 use Rattle.ctl_typing.specs.declared.table.RecordEntry.{RecordEntry}
+use Rattle.ctl_typing.specs.declared.table.Standing.TheVariants as standing
 use Rattle.ctl_typing.specs.declared.table.Tables.{Tables}
 use Rattle.ctl_typing.specs.Judgement.{wrong, with_fault, with_known, each}
 use Rattle.ctl_typing.specs.Lookup.{root_of}
@@ -47,15 +49,16 @@ use Rattle.ctl_well_typed.specs.Expressions.{Perhaps}
 use Rattle.ctl_well_typed.specs.Statements as rule
 use Rattle.ctl_well_typed.specs.Statements.{Given, Elaborated, ElaboratedEach}
 use Rattle.ctl_sound.specs.Known.{IfSome, All, Gives}
-use Rattle.ctl_sound.specs.Library.{HasLibrary}
-use Rattle.ctl_sound.specs.Sound.{EntryFine, AliasFine, Sound}
+use Rattle.ctl_sound.specs.Sound.{AliasFine, Sound}
 use Rattle.ctl_sound.proofs.Names.{discriminant_is}
 use Rattle.ctl_sound.proofs.Values.{expression_right}
 use Rattle.ctl_sound.proofs.Items.{object_type_good, value_of_good, discriminants_good}
-use Rattle.ctl_sound.proofs.Growing.{behind_same, behind_one, behind_further, behind_length, behind_read, each_with, last_read, Still, still_self, still_noted, still_further, still_grows, Grows, grows_further}
+use Rattle.ctl_sound.proofs.Growing.{behind_one, behind_further, behind_length, Still, still_self, still_noted, still_further, still_back, nothing, grows_self}
 use Rattle.ctl_sound.proofs.Freezing.{Quiet, done_quiet}
-use Rattle.ctl_sound.proofs.Fronts.{Fronts, fronts_still, fronts_sound}
-use Rattle.ctl_sound.proofs.Steps.{Leads, then_leads, each_goes}
+use Rattle.ctl_sound.proofs.Sites.{Site, around_site, here, IsHere, Front}
+use Rattle.ctl_sound.proofs.Fronts.{front_still, front_sound}
+use Rattle.ctl_sound.proofs.Declared.{slot_made, slot_named, known_same, front_declared, object_grows, object_front}
+use Rattle.ctl_sound.proofs.Steps.{Leads, Goes, still_given, still_leads, then_leads, each_goes}
 
 -- Positions of discriminants (3.7.1) ---------------------------------------------------------------
 
@@ -174,7 +177,7 @@ module _ (k : Setting) (env : Frames) (tables : Tables) (sound : Sound k env tab
   one_item : (i : Checked_item) → Elaborated k env i → ElaboratedEach k env (i ∷ [])
   one_item i h = rule.one_more_item h rule.no_more_items
 
-  same_pools : (r : Root) → marks.is_pool_root r ≡ true → rule.is_pool r ≡ true
+  pub same_pools : (r : Root) → marks.is_pool_root r ≡ true → rule.is_pool r ≡ true
   same_pools root.BlockPool h = refl
   same_pools root.MarkPool h = refl
   same_pools root.Untagged h = absurd (cc)
@@ -225,164 +228,140 @@ value_still place o name t d =
     let e = fault_when b rule_of.Type place d in
     still_further d e (decl.value_kept place o name t d) (told_still b rule_of.Type place d) (told_still (decl.limited_as d.tables t && is_given o.value) rule_of.Limited name e)
 
--- behind declarations: each slot is of a declared object
-pub record ItemBack (k : Setting) (env : Frames) (d : Draft) : Type 0 where
-  pub declares : (n : ℕ) (t : Ty) → slice_get d.slots n ≡ Some t → Names env (record { level = length env; slot = n }) (Declared t)
-  pub exceptions : length d.exceptions ≤ k.exceptions
+pub elaborated_joined : (k : Setting) (env : Frames) (is' more : List Checked_item) → ElaboratedEach k env is' → ElaboratedEach k env more → ElaboratedEach k env (is' ++ more)
+elaborated_joined k env [] more rule.no_more_items h = h
+elaborated_joined k env (i ∷ is') more (rule.one_more_item g rest) h = rule.one_more_item g (elaborated_joined k env is' more rest h)
 
-pub items_backwards : (k : Setting) (env : Frames) (d e : Draft) → Grows d e → ItemBack k env e → ItemBack k env d
-items_backwards k env d e g b =
-    let exceptions = behind_length d.exceptions e.exceptions g.exceptions in
-    record { declares = λ n t h. b.declares n t (behind_read d.slots e.slots n t g.slots h); exceptions = omega (arith, exceptions, b.exceptions) }
+module _ (a : Around) where
+  abbrev pub RightItems : Site → List Checked_item → Type 0
+  RightItems s is' = ElaboratedEach s.k (around_site s) is'
 
-pub items_noted : (k : Setting) (env : Frames) (d : Draft) (n : Notes) → Fronts k env d → Fronts k env (record d { notes = n })
-items_noted k env d n f = fronts_still k env d (record d { notes = n }) (still_noted d d.returning d.waiting n) f
+  abbrev UsableAt : Site → Option Ty → Type 0
+  UsableAt s t = IfSome (InView s.k (around_site s)) t
 
-module _ (k : Setting) (has : HasLibrary k) (env : Frames) (a : Around) (level : a.level ≡ length env) where
-  abbrev pub Comes : {A : Type 0} → (A → Type 0) → Draft → Option A × Draft → Type 0
-  Comes Q d r = Leads (Fronts k env) (ItemBack k env) (items_backwards k env) (items_noted k env) Q d r
+  abbrev SlotOf : Site → ℕ → Option Ty → Type 0
+  SlotOf s n None = Unit {0}
+  SlotOf s n (Some t) = Names (around_site s) (record { level = length (around_site s); slot = n }) (Declared t)
 
-  abbrev pub RightItems : List Checked_item → Type 0
-  RightItems is' = ElaboratedEach k env is'
+  alias_right : (q : Aliasing) (env : Frames) (v : Var) (t : Ty) → Names env v (Declared t) → AliasFine env q (head.At v) t
+  alias_right aliasing.Aliased env v t h = h
+  alias_right aliasing.Unaliased env v t h = tt
 
-  pub still_comes : {A : Type 0} (Q : A → Type 0) (d e : Draft) (r : Option A × Draft) → Still d e → Comes Q e r → Comes Q d r
-  still_comes Q d e r s h = record { grows = grows_further d e r.1 (still_grows d e s) h.grows; right = λ f b. h.right (fronts_still k env d e s f) b }
+  layered : (s : Site) (is' : Option (List Checked_item)) (ls : List Checked_item) → RightItems s ls → IfSome (RightItems s) is' → IfSome (RightItems s) (decl.with_layers is' ls)
+  layered s None ls e h = tt
+  layered s (Some is') ls e h = elaborated_joined s.k (around_site s) ls is' e h
 
-  abbrev SlotOf : ℕ → Option Ty → Type 0
-  SlotOf n None = Unit {0}
-  SlotOf n (Some t) = Names env (record { level = length env; slot = n }) (Declared t)
-
-  alias_right : (q : Aliasing) (n : ℕ) (t : Ty) → Names env (record { level = a.level; slot = n }) (Declared t) → AliasFine env q (head.At (record { level = a.level; slot = n })) t
-  alias_right aliasing.Aliased n t h = h
-  alias_right aliasing.Unaliased n t h = tt
-
-  layered : (is' : Option (List Checked_item)) (ls : List Checked_item) → ls ≡ [] → IfSome RightItems is' → IfSome RightItems (decl.with_layers is' ls)
-  layered None ls e h = tt
-  layered (Some is') ls e h = subst (λ xs. ElaboratedEach k env (xs ++ is')) (sym e) h
-
-  unknown_comes : (d g : Draft) (is' : Option (List Checked_item)) → Still d g → (Fronts k env d → IfSome RightItems is') → Comes RightItems d (is', declare entry.Unknown g)
-  unknown_comes d g is' s made' = record {
-    grows = record {
-      records = s.records;
-      operations = s.operations;
-      accesses = s.accesses;
-      entries = behind_further d.tables.entries g.tables.entries (g.tables.entries ++ entry.Unknown ∷ []) (behind_same d.tables.entries g.tables.entries s.entries) (behind_one g.tables.entries entry.Unknown);
-      slots = behind_same d.slots g.slots s.slots;
-      exceptions = behind_same d.exceptions g.exceptions s.exceptions;
-      components = s.components;
-      subprograms = s.subprograms;
-    };
-    right = λ f b. let h = fronts_still k env d g s f in (record { records = h.records; operations = h.operations; accesses = h.accesses; entries = each_with (EntryFine k env) g.tables.entries entry.Unknown h.entries tt }, made' f);
+  pub unknown_comes : (g : Draft) (is' : Option (List Checked_item)) → ((s : Site) → IsHere s (here a) → Front s g → IfSome (RightItems s) is') → Leads (here a) RightItems g (is', declare entry.Unknown g)
+  unknown_comes g is' made' = record {
+    made = nothing;
+    grows = let h = grows_self g in record { records = h.records; components = h.components; exceptions = h.exceptions; accesses = h.accesses; slots = h.slots; record_homes = h.record_homes; access_homes = h.access_homes; signatures = h.signatures };
+    right = λ s t f b i. (front_declared s g entry.Unknown tt f, made' s t f);
   }
 
-  declared_comes : (o : Objects Definition Use) (t : Ty) (d g : Draft) (is' : Option (List Checked_item)) → Still d g → (Fronts k env d → InView k env t) → (Fronts k env d → SlotOf (length d.slots) (Some t) → IfSome RightItems is') →
-      Comes RightItems d (is', decl.declare_as a o (Some t) g)
-  declared_comes o t d g is' s usable made' = record {
-    grows = record {
-      records = s.records;
-      operations = s.operations;
-      accesses = s.accesses;
-      entries = behind_further d.tables.entries g.tables.entries (decl.declare_as a o (Some t) g).tables.entries (behind_same d.tables.entries g.tables.entries s.entries) (behind_one g.tables.entries _);
-      slots = behind_further d.slots g.slots (g.slots ++ t ∷ []) (behind_same d.slots g.slots s.slots) (behind_one g.slots t);
-      exceptions = behind_same d.exceptions g.exceptions s.exceptions;
-      components = s.components;
-      subprograms = s.subprograms;
-    };
-    right = λ f b.
-        let h = fronts_still k env d g s f in
-        let names = b.declares (length g.slots) t (last_read g.slots t) in
-        let own = subst (λ l. Names env (record { level = l; slot = length g.slots }) (Declared t)) (sym level) names in (
-          record {
-            records = h.records;
-            operations = h.operations;
-            accesses = h.accesses;
-            entries = each_with (EntryFine k env) g.tables.entries _ h.entries (record { holding = Declared t; names = own; stands = declared; in_view = usable f; alias = alias_right o.aliasing (length g.slots) t own; declared = own });
-          },
-          made' f (subst (λ xs. Names env (record { level = length env; slot = length xs }) (Declared t)) s.slots names),
-        );
+  declared_comes : (o : Objects Definition Use) (t : Ty) (g : Draft) (is' : Option (List Checked_item)) → ((s : Site) → IsHere s (here a) → Front s g → InView s.k (around_site s) t) →
+      ((s : Site) → IsHere s (here a) → Front s g → SlotOf s (length g.slots) (Some t) → IfSome (RightItems s) is') → Leads (here a) RightItems g (is', decl.declare_as a o (Some t) g)
+  declared_comes o t g is' usable made' = record {
+    made = slot_made (Declared t);
+    grows = object_grows a t standing.Declared (decl.mutability_of o.constancy) o.aliasing (Declared t) declared g;
+    right = λ s i f b q. (
+      object_front a t standing.Declared (decl.mutability_of o.constancy) o.aliasing (Declared t) declared (λ env n names. (alias_right o.aliasing env (record { level = a.level; slot = n }) t names, names)) g s i (usable s i f) f q,
+      made' s i f (slot_named s g (Declared t) q),
+    );
   }
 
-  frozen_comes : (o : Objects Definition Use) (t : Option Ty) (d e : Draft) (is' : Option (List Checked_item)) → Still d e → (Fronts k env d → IfSome (InView k env) t) → (Fronts k env d → SlotOf (length d.slots) t → IfSome RightItems is') →
-      Comes RightItems d (decl.object_frozen a o t is' e)
-  frozen_comes o t d e is' s usable made' = by_type t usable made' (done_by a ds (asked e)) (done_quiet a ds (asked e))
+  frozen_comes : (o : Objects Definition Use) (t : Option Ty) (d e : Draft) (is' : Option (List Checked_item)) → Still d e → ((s : Site) → IsHere s (here a) → Front s d → UsableAt s t) →
+      ((s : Site) → IsHere s (here a) → Front s d → SlotOf s (length d.slots) t → IfSome (RightItems s) is') → Leads (here a) RightItems d (decl.object_frozen a o t is' e)
+  frozen_comes o t d e is' q usable made' = by_type t usable made' (done_by a ds (asked e)) (done_quiet a ds (asked e))
     where
       ds : List Deed
       ds = decl.object_deeds t (is_given o.value) ++ deeds_of e
 
       asked_still : Still d (asked e)
-      asked_still = still_further d e (asked e) s (still_noted e e.returning e.waiting _)
+      asked_still = still_further d e (asked e) q (still_noted e e.returning e.waiting _)
 
-      by_type : (u : Option Ty) → (Fronts k env d → IfSome (InView k env) u) → (Fronts k env d → SlotOf (length d.slots) u → IfSome RightItems is') → (r : List Checked_item × Draft) → Quiet (asked e) r → Comes RightItems d (decl.object_declared a o u is' r)
-      by_type None v m (ls, g) q = unknown_comes d g (decl.with_layers is' ls) (still_further d (asked e) g asked_still q.still) (λ f. layered is' ls (q.layers (asked_still.accesses ∙ f.accesses)) (m f tt))
-      by_type (Some u) v m (ls, g) q = declared_comes o u d g (decl.with_layers is' ls) (still_further d (asked e) g asked_still q.still) v (λ f names. layered is' ls (q.layers (asked_still.accesses ∙ f.accesses)) (m f names))
+      -- what holds at the draft behind, where nothing is declared between
+      back_to : (g : Draft) → Still d g → (s : Site) → Front s g → Front s d
+      back_to g z s f = front_still s g d (still_back d g z) f
 
-  slot_for : (t : Option Ty) (n : ℕ) (d : Draft) (f : Fronts k env d) → SlotOf n t → SlotFor k env d.tables (fronts_sound k has env d f) n t
-  slot_for None n d f h = tt
-  slot_for (Some t) n d f h = h
+      by_type : (u : Option Ty) → ((s : Site) → IsHere s (here a) → Front s d → UsableAt s u) → ((s : Site) → IsHere s (here a) → Front s d → SlotOf s (length d.slots) u → IfSome (RightItems s) is') →
+          (r : List Checked_item × Draft) → Quiet a (asked e) r → Leads (here a) RightItems d (decl.object_declared a o u is' r)
+      by_type None v m (ls, g) z =
+          let all = still_further d (asked e) g asked_still z.still in
+          still_leads (here a) RightItems d g (decl.with_layers is' ls, declare entry.Unknown g) all
+          (unknown_comes g (decl.with_layers is' ls) (λ s i f. layered s is' ls (z.layers s i (front_still s g (asked e) (still_back (asked e) g z.still) f)) (m s i (back_to g all s f) tt)))
+      by_type (Some u) v m (ls, g) z =
+          let all = still_further d (asked e) g asked_still z.still in
+          still_leads (here a) RightItems d g (decl.with_layers is' ls, decl.declare_as a o (Some u) g) all
+          (declared_comes o u g (decl.with_layers is' ls) (λ s i f. v s i (back_to g all s f))
+          (λ s i f names. layered s is' ls (z.layers s i (front_still s g (asked e) (still_back (asked e) g z.still) f))
+          (m s i (back_to g all s f) (subst (λ xs. Names (around_site s) (record { level = length (around_site s); slot = length xs }) (Declared u)) all.slots names))))
 
-  object_comes : (o : Objects Definition Use) (q : Order) (place : Span) (name : Definition) (d : Draft) → Comes RightItems d (decl.object a q place o name d)
+  slot_for : (t : Option Ty) (n : ℕ) (d : Draft) (s : Site) (f : Front s d) → SlotOf s n t → SlotFor s.k (around_site s) d.tables (front_sound s d f) n t
+  slot_for None n d s f h = tt
+  slot_for (Some t) n d s f h = h
+
+  object_comes : (o : Objects Definition Use) (q : Order) (place : Span) (name : Definition) → Goes (here a) RightItems (decl.object a q place o name)
   object_comes o q place name d =
       let r1 = decl.object_type place o d.tables (asking d).notes in
       let r2 = decl.discriminants_given place r1.0 o.discriminants d.tables r1.1 in
       let r3 = decl.value_of r1.0 (option_map sense o.value) d.tables r2.1 in
       let e : Draft = record d { notes = r3.1 } in
       let valued = decl.value_kept place o name.identifier.span r1.0 e in
-      let usable : Fronts k env d → IfSome (InView k env) r1.0 = λ f. object_type_good k env d.tables (fronts_sound k has env d f) place o (asking d).notes in
+      let usable : (s : Site) → Front s d → UsableAt s r1.0 = λ s f. object_type_good s.k (around_site s) d.tables (front_sound s d f) place o (asking d).notes in
       frozen_comes o r1.0 d (decl.wait_as q name.identifier.span r1.0 valued) (decl.object_made d.tables (length d.slots) r1.0 r2.0 r3.0)
       (still_further d e (decl.wait_as q name.identifier.span r1.0 valued) (still_noted d d.returning d.waiting r3.1) (still_further e valued (decl.wait_as q name.identifier.span r1.0 valued) (value_still place o name.identifier.span r1.0 e) (waits_still q name.identifier.span r1.0 valued)))
-      usable
-      (λ f names. let sound = fronts_sound k has env d f in made_right k env d.tables sound (length d.slots) r1.0 r2.0 r3.0 (usable f) (given_right k env d.tables sound place r1.0 o.discriminants r1.1) (value_right k env d.tables sound r1.0 o.value (usable f) r2.1) (slot_for r1.0 (length d.slots) d f names))
+      (λ s i f. usable s f)
+      (λ s i f names.
+      let sound = front_sound s d f in
+      let env = around_site s in
+      made_right s.k env d.tables sound (length d.slots) r1.0 r2.0 r3.0 (usable s f) (given_right s.k env d.tables sound place r1.0 o.discriminants r1.1) (value_right s.k env d.tables sound r1.0 o.value (usable s f) r2.1) (slot_for r1.0 (length d.slots) d s f names))
 
-  pub elaborated_joined : (is' more : List Checked_item) → ElaboratedEach k env is' → ElaboratedEach k env more → ElaboratedEach k env (is' ++ more)
-  elaborated_joined [] more rule.no_more_items h = h
-  elaborated_joined (i ∷ is') more (rule.one_more_item g rest) h = rule.one_more_item g (elaborated_joined is' more rest h)
-
-  together_more : (xss : List (List Checked_item)) (ys : List Checked_item) → RightItems (together xss) → RightItems ys → RightItems (together (xss ++ ys ∷ []))
-  together_more [] ys h i = elaborated_joined ys [] i rule.no_more_items
-  together_more (xs ∷ xss) ys h i = let parts = split xs (together xss) h in elaborated_joined xs (together (xss ++ ys ∷ [])) parts.0 (together_more xss ys parts.1 i)
+  together_more : (s : Site) (xss : List (List Checked_item)) (ys : List Checked_item) → RightItems s (together xss) → RightItems s ys → RightItems s (together (xss ++ ys ∷ []))
+  together_more s [] ys h i = elaborated_joined s.k (around_site s) ys [] i rule.no_more_items
+  together_more s (xs ∷ xss) ys h i = let parts = split xs (together xss) h in elaborated_joined s.k (around_site s) xs (together (xss ++ ys ∷ [])) parts.0 (together_more s xss ys parts.1 i)
     where
-      split : (is' more : List Checked_item) → ElaboratedEach k env (is' ++ more) → ElaboratedEach k env is' × ElaboratedEach k env more
+      split : (is' more : List Checked_item) → RightItems s (is' ++ more) → RightItems s is' × RightItems s more
       split [] more h = (rule.no_more_items, h)
-      split (j ∷ is') more (rule.one_more_item g rest) = let s = split is' more rest in (rule.one_more_item g s.0, s.1)
+      split (j ∷ is') more (rule.one_more_item g rest) = let p = split is' more rest in (rule.one_more_item g p.0, p.1)
 
-  each_object : (o : Objects Definition Use) (q : Order) (place : Span) (ns : List Definition) → All (λ n. (d : Draft) → Comes RightItems d (decl.object a q place o n d)) ns
+  each_object : (o : Objects Definition Use) (q : Order) (place : Span) (ns : List Definition) → All (λ n. Goes (here a) RightItems (decl.object a q place o n)) ns
   each_object o q place [] = tt
   each_object o q place (n ∷ ns) = (object_comes o q place n, each_object o q place ns)
 
-  pub objects_come : (place : Span) (o : Objects Definition Use) (q : Order) (d : Draft) → Comes RightItems d (decl.objects place o q a d)
+  pub objects_come : (place : Span) (o : Objects Definition Use) (q : Order) → Goes (here a) RightItems (decl.objects place o q a)
   objects_come place o q d =
       let e = decl.names_kept o.names d in
-      still_comes RightItems d e (decl.objects place o q a d) (names_still o.names d)
-      (then_leads (Fronts k env) (ItemBack k env) (items_backwards k env) (items_noted k env) (λ xss. RightItems (together xss)) RightItems (λ xss. together xss) e (decl.objects_named a q place o o.names e) (λ xss h. h)
-      (each_goes (Fronts k env) (ItemBack k env) (items_backwards k env) (items_noted k env) (λ xss. RightItems (together xss)) RightItems (decl.object a q place o) together_more rule.no_more_items o.names (each_object o q place o.names) e))
+      still_leads (here a) RightItems d e (decl.objects place o q a d) (names_still o.names d)
+      (then_leads (here a) (λ s xss. RightItems s (together xss)) RightItems (λ xss. together xss) e (decl.objects_named a q place o o.names e) (λ s i xss h. h)
+      (each_goes (here a) (λ s xss. RightItems s (together xss)) RightItems (decl.object a q place o) together_more (λ s. rule.no_more_items) o.names (each_object o q place o.names) e))
 
   -- Exceptions (11.1) ---------------------------------------------------------------------------------------
 
-  exception_grows : (n : Definition) (d : Draft) → Grows d (decl.exception n d)
-  exception_grows n d = record {
-    records = refl;
-    operations = refl;
-    accesses = refl;
-    entries = behind_one d.tables.entries (entry.Exception (length d.exceptions));
-    slots = behind_same d.slots d.slots refl;
-    exceptions = behind_one d.exceptions n.identifier.text;
-    components = refl;
-    subprograms = refl;
-  }
-
-  exception_comes : (n : Definition) (d : Draft) (r : Option (List Checked_item) × Draft) → Comes RightItems (decl.exception n d) r → Comes RightItems d r
+  exception_comes : (n : Definition) (d : Draft) (r : Option (List Checked_item) × Draft) → Leads (here a) RightItems (decl.exception n d) r → Leads (here a) RightItems d r
   exception_comes n d r h = record {
-    grows = grows_further d (decl.exception n d) r.1 (exception_grows n d) h.grows;
-    right = λ f b.
-        let inner = items_backwards k env (decl.exception n d) r.1 h.grows b in
+    made = h.made;
+    grows = record {
+      records = h.grows.records;
+      components = h.grows.components;
+      exceptions = behind_further d.exceptions (decl.exception n d).exceptions r.1.exceptions (behind_one d.exceptions n.identifier.text) h.grows.exceptions;
+      accesses = h.grows.accesses;
+      slots = h.grows.slots;
+      record_homes = h.grows.record_homes;
+      access_homes = h.grows.access_homes;
+      signatures = h.grows.signatures;
+    };
+    right = λ s i f b g.
         let longer = length-append d.exceptions (n.identifier.text ∷ []) in
-        h.right (record { records = f.records; operations = f.operations; accesses = f.accesses; entries = each_with (EntryFine k env) d.tables.entries (entry.Exception (length d.exceptions)) f.entries (omega (arith, longer, inner.exceptions)) }) b;
+        let fewer = behind_length (decl.exception n d).exceptions r.1.exceptions h.grows.exceptions in
+        let within = b.exceptions in
+        let declared' = front_declared s d (entry.Exception (length d.exceptions)) (omega (arith, longer, fewer, within)) f in
+        h.right s i (record { entries = declared'.entries; base = declared'.base; known = known_same s.k d (decl.exception n d) refl refl refl refl f.known; own = f.own; inner = f.inner }) b (record { holdings = g.holdings; records = g.records; accesses = g.accesses; subprograms = g.subprograms });
   }
 
-  exceptions_come : (ns : List Definition) (before : List Checked_item) (d : Draft) → RightItems before → Comes RightItems d (surely (decl.exceptions_on before ns d))
-  exceptions_come [] before d h = record { grows = still_grows d d (still_self d); right = λ f b. (f, h) }
+  exceptions_come : (ns : List Definition) (before : List Checked_item) (d : Draft) → ((s : Site) → RightItems s before) → Leads (here a) RightItems d (surely (decl.exceptions_on before ns d))
+  exceptions_come [] before d h = still_given (here a) RightItems d (Some before, d) (still_self d) (λ s i f. h s)
   exceptions_come (n ∷ ns) before d h = exception_comes n d (surely (decl.exceptions_on (before ++ made.Silent ∷ []) ns (decl.exception n d)))
-      (exceptions_come ns (before ++ made.Silent ∷ []) (decl.exception n d) (elaborated_joined before (made.Silent ∷ []) h (rule.one_more_item rule.silent rule.no_more_items)))
+      (exceptions_come ns (before ++ made.Silent ∷ []) (decl.exception n d) (λ s. elaborated_joined s.k (around_site s) before (made.Silent ∷ []) (h s) (rule.one_more_item rule.silent rule.no_more_items)))
 
-  pub exceptions_declared : (ns : List Definition) (d : Draft) → Comes RightItems d (surely (decl.exceptions ns d))
-  exceptions_declared ns d = still_comes RightItems d (decl.names_kept ns d) (surely (decl.exceptions ns d)) (names_still ns d) (exceptions_come ns [] (decl.names_kept ns d) rule.no_more_items)
+  pub exceptions_declared : (ns : List Definition) (d : Draft) → Leads (here a) RightItems d (surely (decl.exceptions ns d))
+  exceptions_declared ns d = still_leads (here a) RightItems d (decl.names_kept ns d) (surely (decl.exceptions ns d)) (names_still ns d) (exceptions_come ns [] (decl.names_kept ns d) (λ s. rule.no_more_items))

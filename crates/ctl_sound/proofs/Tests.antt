@@ -1,5 +1,5 @@
 -- What the tests of the check say of types.
-use Rattle.std.proofs.Common.{arith, ◌≡◌, refl, ap, true}
+use Rattle.std.proofs.Common.{arith, ◌≡◌, ◌≤◌, refl, ap, ℕ, nat_lt, Bool, true, false, if◌then◌else◌, inl}
 use Rattle.std.proofs.lemmas.Bool.Decides.{nat_tests}
 use Rattle.ctl_program.specs.declared.types.Ty.{Ty}
 use Rattle.ctl_program.specs.declared.types.Ty.TheVariants as ty
@@ -8,9 +8,9 @@ use Rattle.ctl_syntax.specs.declared.item.Mode.TheVariants as mode
 use Rattle.ctl_typing.specs.declared.found.Asked.{Asked}
 use Rattle.ctl_typing.specs.declared.found.Asked.TheVariants as asking
 use Rattle.ctl_typing.specs.Lookup.{same, is_numeric, is_ordered, is_comparable}
-use Rattle.ctl_typing.specs.Typing.{start_of, adopted}
+use Rattle.ctl_typing.specs.Typing.{start_of, adopted, number_cell}
 use Rattle.ctl_well_typed.specs.Setting.{Setting, Frames, InView}
-use Rattle.ctl_well_typed.specs.Types.{is_number, is_scalar, has_order, Covers, same_type, ancestor, copy_of}
+use Rattle.ctl_well_typed.specs.Types.{is_number, is_scalar, IsCell, has_order, Covers, same_type, ancestor, copy_of}
 use Rattle.ctl_sound.specs.Sound.{passing_of}
 
 pub same_is : (s t : Ty) → same s t ≡ true → s ≡ t
@@ -55,6 +55,19 @@ number_scalar t h = absurd (cc)
 pub order_scalar : (t : Ty) → has_order t ≡ true → is_scalar t ≡ true
 order_scalar (ty.Record n) h = absurd (cc)
 order_scalar t h = refl
+
+-- what stands for a literal is in the range of both number types
+within_range : (m : ℕ) → number_cell m ≤ 2147483647
+within_range m = by_test (nat_lt 2147483647 m) refl
+  where
+    by_test : (b : Bool) → nat_lt 2147483647 m ≡ b → (if b then 0 else m) ≤ 2147483647
+    by_test true h = omega arith
+    by_test false h = grind (arith, nat_tests)
+
+pub number_has_cell : (t : Ty) (m : ℕ) → is_number t ≡ true → IsCell t (number_cell m)
+number_has_cell ty.Integer m h = inl (within_range m)
+number_has_cell ty.Count m h = within_range m
+number_has_cell t m h = absurd (cc)
 
 -- numbers are of types that are in view everywhere
 pub number_in_view : (k : Setting) (env : Frames) (t : Ty) → is_number t ≡ true → InView k env t

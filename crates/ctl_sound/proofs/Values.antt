@@ -40,7 +40,7 @@ use Rattle.ctl_sound.specs.Sound.{Sound, AskedFine, FoundFine, Fine, Good, is_im
 use Rattle.ctl_sound.proofs.Known.{next, tested, both_give, following_give, each_gives}
 use Rattle.ctl_typing.specs.Senses.{suffix_sense}
 use Rattle.ctl_sound.proofs.Layers.{LayerOf, of_each, suffixes_of}
-use Rattle.ctl_sound.proofs.Tests.{same_is, same_self, number_scalar, number_in_view, adopted_number}
+use Rattle.ctl_sound.proofs.Tests.{same_is, same_self, number_scalar, number_has_cell, number_in_view, adopted_number}
 use Rattle.ctl_sound.proofs.Names.{RightSuffix, first_good, value_good, found_good, settled_found, fits_good, name_judged_good}
 use Rattle.ctl_sound.proofs.Operators.{RightOperand, chain_good, relation_good, logical_good, unary_good}
 
@@ -66,13 +66,13 @@ module _ (k : Setting) (env : Frames) (tables : Tables) (sound : Sound k env tab
   number_good : (place : Span) (m : ℕ) (asked : Asked) → Gives (Fine k env asked Unnamed) (spec.number_judged place m tables asked)
   number_good place m asked =
       let n = adopted_number asked in
-      next (Numeral asked) (Fine k env asked Unnamed) (spec.in_range place m (record { ty = adopted asked; value = e.Constant m })) (spec.fits place asked)
-      (in_range_good (Numeral asked) place m (record { ty = adopted asked; value = e.Constant m }) (rule.constant (number_scalar (adopted asked) n) (number_in_view k env (adopted asked) n), n))
+      next (Numeral asked) (Fine k env asked Unnamed) (spec.in_range place m (record { ty = adopted asked; value = e.Constant (spec.number_cell m) })) (spec.fits place asked)
+      (in_range_good (Numeral asked) place m (record { ty = adopted asked; value = e.Constant (spec.number_cell m) }) (rule.constant (number_scalar (adopted asked) n) (number_has_cell (adopted asked) m n) (number_in_view k env (adopted asked) n), n))
       (λ r h. fits_good k env tables sound place asked Unnamed r h.0 (number_in_view k env r.ty h.1) (number_scalar r.ty h.1))
 
   null_good : (place : Span) (asked : Asked) → AskedFine k env asked → Gives (Fine k env asked Unnamed) (spec.null_judged place tables asked)
-  null_good place (asking.Exactly (ty.Access a)) v = λ s. record { typed = rule.constant refl v; in_view = v; met = same_self (ty.Access a); scalar = refl }
-  null_good place (asking.Exactly ty.Handle) v = λ s. record { typed = rule.constant refl tt; in_view = tt; met = refl; scalar = refl }
+  null_good place (asking.Exactly (ty.Access a)) v = λ s. record { typed = rule.constant refl refl v; in_view = v; met = same_self (ty.Access a); scalar = refl }
+  null_good place (asking.Exactly ty.Handle) v = λ s. record { typed = rule.constant refl refl tt; in_view = tt; met = refl; scalar = refl }
   null_good place _ v = λ s. tt
 
   -- Allocators (4.8) --------------------------------------------------------------------------------

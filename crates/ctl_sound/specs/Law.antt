@@ -29,7 +29,6 @@ use Rattle.ctl_typing.specs.Typing.{sense, expression}
 use Rattle.ctl_well_typed.specs.Setting.{Frames, Setting, InView}
 use Rattle.ctl_well_typed.specs.Statements.{Around, Given, Puts, Done}
 use Rattle.ctl_sound.specs.Known.{All, Gives, IfSome, Stays}
-use Rattle.ctl_sound.specs.Plain.{PlainBody}
 use Rattle.ctl_sound.specs.Sound.{Sound, AskedFine, Fine}
 
 -- wherever the tables are sound: what is known of an expression is well typed and of a type that its place asks, and as what is put it is
@@ -77,6 +76,6 @@ pub record DeclarationsKeepFaults (o : Objects Definition Use) (s : Specificatio
   pub discriminants : (tables : Tables) (ps : List (ℕ × Association Use)) → Stays (λ n. each (discriminant tables) (Some []) ps n)
   pub heading : (tables : Tables) (place : Span) → Stays (heading_types place s tables)
 
--- the program that the check gives of a tree is well typed, where the tree declares objects and exceptions alone
-pub record PlainProgramWellTyped (t : Tree Definition Use) : Type 0 where
-  pub well_typed : (names uses : Option Fault) (p : Checked) → PlainBody t.body → Elaborates names uses t (Ok p) → WellTyped p
+-- the program that the check gives of a tree is well typed, whatever the tree is, and whatever faults were found before
+pub record ProgramWellTyped (t : Tree Definition Use) : Type 0 where
+  pub well_typed : (names uses : Option Fault) (p : Checked) → Elaborates names uses t (Ok p) → WellTyped p

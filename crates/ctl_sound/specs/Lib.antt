@@ -2,4 +2,3 @@ pub mod Known
 pub mod Sound
 pub mod Law
 pub mod Library
-pub mod Plain

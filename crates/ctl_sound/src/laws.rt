@@ -1,6 +1,6 @@
 //! What holds of all that the check makes of a resolved tree.
 
-ghost use Rattle.ctl_sound.specs.Law.{DeclarationsKeepFaults, DeclarationsWellTyped, ExpressionKeepsFaults, ExpressionWellTyped, PlainProgramWellTyped, SimpleStatementsKeepFaults, SimpleStatementsWellTyped};
+ghost use Rattle.ctl_sound.specs.Law.{DeclarationsKeepFaults, DeclarationsWellTyped, ExpressionKeepsFaults, ExpressionWellTyped, ProgramWellTyped, SimpleStatementsKeepFaults, SimpleStatementsWellTyped};
 ghost use Rattle.ctl_sound.specs.Library.{BeginningSound};
 
 use ctl_syntax::denoted::{Definition, Use};
@@ -69,10 +69,9 @@ pub fn declarations_keep_faults(
     let _ = heading;
 }
 
-/// Says of a tree that declares objects and exceptions alone that the program which the check gives of it is well typed (RM 3.11, 5, 10.1.1,
-/// 11).
-pub fn every_plain_program_is_well_typed(tree: &Tree<Definition, Use>)
-    ensures { PlainProgramWellTyped tree.now }
+/// Says of a tree that the program which the check gives of it is well typed (RM 10.1.1).
+pub fn every_program_is_well_typed(tree: &Tree<Definition, Use>)
+    ensures { ProgramWellTyped tree.now }
 {
     let _ = tree;
 }

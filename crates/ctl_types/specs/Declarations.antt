@@ -419,6 +419,11 @@ kind_of (Some m) = kind.Function
 abbrev pub add_subprogram : Around → SubprogramKind → Draft → Draft
 add_subprogram around k d = record d { subprograms = d.subprograms ++ (record { level = around.level; kind = k; body = None }) ∷ [] }
 
+-- a subprogram takes a body where its heading is known
+abbrev pub numbered : ℕ → Option (List FormalEntry × Option Ty) → Option ℕ
+numbered s None = None
+numbered s (Some h) = Some s
+
 abbrev pub profile : ℕ → List (List ℕ) → List FormalEntry × Option Ty → Profile
 profile s names h = record { subprogram = s; formals = h.0; names = names; result = h.1 }
 
@@ -433,7 +438,7 @@ role_of around s (Some h) tables = role_by tables around.level s.indicator (oper
 -- a subprogram that is declared here, with the next number
 abbrev pub introduce : Around → Specification Definition Use → Option (List FormalEntry × Option Ty) × Draft → Option ℕ × Draft
 introduce around s (h, d) = (
-  Some (length d.subprograms),
+  numbered (length d.subprograms) h,
   declare (entry_of (length d.subprograms) (formal_names s.formals) h)
       (add_subprogram around (kind_of s.result) (play s.name.identifier.span (length d.subprograms) (role_of around s h d.tables) d)),
 )
@@ -471,14 +476,24 @@ is_unfounded i o = false
 abbrev pub indicator_kept : Specification Definition Use → Draft → Draft
 indicator_kept s d = fault_when (is_unfounded s.indicator (operation_named s.name.identifier.text)) rule.Override s.name.identifier.span d
 
-abbrev pub completed : Span → Specification Definition Use → Option Entry → Option (List FormalEntry × Option Ty) × Draft → Option ℕ × Draft
-completed place s (Some (entry.Subprogram p)) (h, d) = (Some p.subprogram, indicator_kept s (fault_when (not (conformed p (formal_names s.formals) h)) rule.Type place d))
-completed place s e (h, d) = (None, d)
+abbrev pub is_of_level : ℕ → Option Routine → Bool
+is_of_level level None = false
+is_of_level level (Some r) = nat_eq r.level level
+
+-- a subprogram of the part takes the body that repeats its declaration
+abbrev pub completes : Around → List Routine → Profile → List (List ℕ) → Option (List FormalEntry × Option Ty) → Option ℕ
+completes around rs p names None = None
+completes around rs p names (Some h) = if conforms p names h && is_of_level around.level (slice_get rs p.subprogram) then Some p.subprogram else None
+
+abbrev pub completed : Around → Span → Specification Definition Use → Option Entry → Option (List FormalEntry × Option Ty) × Draft → Option ℕ × Draft
+completed around place s (Some (entry.Subprogram p)) (h, d) =
+    (completes around d.subprograms p (formal_names s.formals) h, indicator_kept s (fault_when (not (conformed p (formal_names s.formals) h)) rule.Type place d))
+completed around place s e (h, d) = (None, d)
 
 -- the subprogram of a body, which may complete a declaration
 abbrev pub subprogram_of : Around → Span → Specification Definition Use → Option (List FormalEntry × Option Ty) × Draft → Option ℕ × Draft
 subprogram_of around place s (h, d) =
-    if is_declared_in around s.name.number d then completed place s (slice_get d.tables.entries s.name.number) (h, d) else introduce around s (h, d)
+    if is_declared_in around s.name.number d then completed around place s (slice_get d.tables.entries s.name.number) (h, d) else introduce around s (h, d)
 
 abbrev pub giving_of : Option (Mark Use) → Option (List FormalEntry × Option Ty) → Giving
 giving_of None h = giving.Nothing

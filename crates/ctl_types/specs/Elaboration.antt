@@ -398,8 +398,8 @@ abbrev pub library_states : List RecordState
 library_states = library_state ∷ library_state ∷ library_state ∷ library_state ∷ []
 
 -- they have none that the text sees
-abbrev pub library_components : List (List Component)
-library_components = [] ∷ [] ∷ [] ∷ [] ∷ []
+abbrev pub library_components : List (Option (List Component))
+library_components = Some [] ∷ Some [] ∷ Some [] ∷ Some [] ∷ []
 
 abbrev pub library_exceptions : List (List ℕ)
 library_exceptions = codes "Constraint_Error" ∷ codes "Program_Error" ∷ codes "Storage_Error" ∷ []
@@ -495,21 +495,30 @@ subprograms_on before (r ∷ rs) = subprograms_on (appended before (subprogram_w
 abbrev pub subprograms : List Routine → Option (List Subprogram)
 subprograms rs = subprograms_on (Some []) rs
 
-abbrev pub checked_with : Draft → Option (List AccessType) → Option (List Subprogram) → Option Checked
-checked_with d (Some as') (Some ss) =
+-- the components of the record types, behind those so far; known where those of each are
+abbrev pub components_on : Option (List (List Component)) → List (Option (List Component)) → Option (List (List Component))
+components_on before [] = before
+components_on before (cs ∷ css) = components_on (appended before cs) css
+
+abbrev pub components_known : List (Option (List Component)) → Option (List (List Component))
+components_known css = components_on (Some []) css
+
+abbrev pub checked_with : Draft → Option (List AccessType) → Option (List Subprogram) → Option (List (List Component)) → Option Checked
+checked_with d (Some as') (Some ss) (Some css) =
     Some (record {
       exceptions = d.exceptions;
-      records = record_types d.tables.records d.tables.states.records d.components;
+      records = record_types d.tables.records d.tables.states.records css;
       accesses = as';
       subprograms = ss;
       main = 0;
     })
-checked_with d as' ss = None
+checked_with d as' ss css = None
 
 abbrev pub checked_of : Draft → Option Checked
-checked_of d = checked_with d (access_types d.tables.states.accesses) (subprograms d.subprograms)
+checked_of d = checked_with d (access_types d.tables.states.accesses) (subprograms d.subprograms) (components_known d.components)
 
--- a tree that `resolve` did not give may leave a type incomplete, or a subprogram without a body: then the fault stands where the text begins
+-- a tree that `resolve` did not give may leave a type incomplete, or a subprogram without a body; where the components of a type are wrong that was
+-- told: then the fault stands where the text begins
 abbrev pub or_nothing : Span → Option Checked → Result Checked Fault
 or_nothing place None = Err (fault_at rule.Type place)
 or_nothing place (Some p) = Ok p

@@ -1,5 +1,5 @@
 -- When types are frozen, and what an object that stands too early calls (13.14, 3.11).
-use Rattle.std.specs.Prelude.{ℕ, zero, suc, ◌+◌, ◌-◌, max, Bool, true, false, ◌||◌, if◌then◌else◌, nat_le, List, [], ◌∷◌, length, drop, slice_get, slice_set, Option, Some, None}
+use Rattle.std.specs.Prelude.{ℕ, zero, suc, ◌+◌, ◌-◌, max, Bool, true, false, ◌&&◌, ◌||◌, if◌then◌else◌, nat_eq, nat_le, List, [], ◌∷◌, length, drop, slice_get, slice_set, Option, Some, None}
 use Rattle.ctl_tree.specs.declared.fault.FaultCode.TheVariants as rule
 use Rattle.ctl_program.specs.declared.types.Ty.{Ty}
 use Rattle.ctl_program.specs.declared.types.Ty.TheVariants as ty
@@ -119,10 +119,10 @@ abbrev pub is_frozen : Freezing → Bool
 is_frozen Frozen = true
 is_frozen f = false
 
--- the access types that are frozen, and have no place yet, from this number on
-abbrev pub unplaced : ℕ → List AccessEntry → List ℕ
-unplaced n [] = []
-unplaced n (a ∷ as') = if is_frozen a.freezing then n ∷ unplaced (n + 1) as' else unplaced (n + 1) as'
+-- the access types of this level that are frozen, and have no place yet, from this number on
+abbrev pub unplaced : ℕ → ℕ → List AccessEntry → List ℕ
+unplaced level n [] = []
+unplaced level n (a ∷ as') = if is_frozen a.freezing && nat_eq a.level level then n ∷ unplaced level (n + 1) as' else unplaced level (n + 1) as'
 
 abbrev pub placed_from : Freezing → Freezing
 placed_from Frozen = Placed
@@ -153,7 +153,7 @@ with_accesses as' d = with_states (record d.tables.states { accesses = as' }) d
 -- the collections of the access types of a part that have none yet are one layer, in the order of the types (7.6.1(11), profile)
 abbrev pub placed : Around → Draft → List Checked_item × Draft
 placed around d = (
-  layer (unplaced around.first_access (drop around.first_access d.tables.states.accesses)),
+  layer (unplaced around.level around.first_access (drop around.first_access d.tables.states.accesses)),
   with_accesses (changed_each placed_access around.first_access d.tables.states.accesses) d,
 )
 

@@ -354,10 +354,14 @@ with_return d = record d { returning = Somewhere }
 abbrev pub return_value : Asked → Sense → Tables → Judgement Stmt
 return_value asked x tables = x.judged tables asked >>= (λ r. known (stmt.Return (Some r.value)))
 
+-- where it is not known what a return gives, nothing is known of it
+abbrev pub unclear_value : Sense → Tables → Judgement Stmt
+unclear_value x tables = x.judged tables Anything >>= (λ r n. (None, n))
+
 abbrev pub return_by : Span → Giving → Option Sense → Doing Stmt
 return_by place giving.Nothing None = known (stmt.Return None)
 return_by place (giving.Value t) (Some x) = by_tables (return_value (Exactly t) x)
-return_by place giving.Unclear (Some x) = by_tables (return_value Anything x)
+return_by place giving.Unclear (Some x) = by_tables (unclear_value x)
 return_by place g x = broken rule.Return place
 
 abbrev pub returning : Span → Giving → Option Sense → Doing Stmt

@@ -212,16 +212,12 @@ abbrev pub state_on : Tables → Option ℕ → Option RecordState
 state_on tables None = None
 state_on tables (Some t) = slice_get tables.states.records t
 
-abbrev pub add_record : RecordEntry → RecordState → List Component → Draft → Draft
+abbrev pub add_record : RecordEntry → RecordState → Option (List Component) → Draft → Draft
 add_record r s cs d =
     record d {
       tables = record d.tables { records = d.tables.records ++ r ∷ []; states = record d.tables.states { records = d.tables.states.records ++ s ∷ [] } };
       components = d.components ++ cs ∷ [];
     }
-
-abbrev pub known_components : Option (List Component) → List Component
-known_components None = []
-known_components (Some cs) = cs
 
 -- Incomplete types (3.10.1) --------------------------------------------------------------------------------------
 
@@ -253,7 +249,7 @@ untagged_kept place number d = fault_when (is_said_tagged (slice_get d.tables.en
 abbrev pub enter_record : Around → Enclosing → Root → Limitation → Option (List Component) × Draft → Draft
 enter_record around within r l (cs, d) =
     enter_type around within.number (ty.Record (length d.tables.records))
-    (asked (without_own (add_record (record_entry around r l within.parent d) (inherited_state (state_on d.tables within.parent)) (known_components cs) d)))
+    (asked (without_own (add_record (record_entry around r l within.parent d) (inherited_state (state_on d.tables within.parent)) cs d)))
 
 -- the record type that is declared here, with its components
 abbrev pub declare_record : Around → Enclosing → Root → Limitation → List (Components Use) → Draft → Draft
@@ -386,12 +382,12 @@ abbrev pub misplaced : {A : Type 0} → Bool → Span → Judgement A
 misplaced is_late place = if is_late then order_broken place else wrong rule.Type place
 
 -- an access type of the part that is not frozen (13.1(5), 13.1(9))
-abbrev pub clause_access : Tables → Span → Ty → Judgement ℕ
-clause_access tables place (ty.Access a) = if is_free_type tables.states (ty.Access a) then known a else order_broken place
-clause_access tables place t = if is_free_type tables.states t then wrong rule.Type place else order_broken place
+abbrev pub clause_access : Tables → Around → Span → Ty → Judgement ℕ
+clause_access tables around place (ty.Access a) = if nat_le around.first_access a && is_free_type tables.states (ty.Access a) then known a else order_broken place
+clause_access tables around place t = if is_free_type tables.states t then wrong rule.Type place else order_broken place
 
 abbrev pub clause_entry : Tables → Around → Span → ℕ → Option Entry → Judgement ℕ
-clause_entry tables around place number (Some (entry.«Type» t)) = if nat_le around.start number then clause_access tables place t else order_broken place
+clause_entry tables around place number (Some (entry.«Type» t)) = if nat_le around.start number then clause_access tables around place t else order_broken place
 clause_entry tables around place number (Some (entry.Incomplete t)) = λ n. (None, n)
 clause_entry tables around place number (Some entry.Unknown) = λ n. (None, n)
 clause_entry tables around place number e = wrong rule.Type place

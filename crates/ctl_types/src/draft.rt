@@ -40,8 +40,8 @@ pub struct Routine {
 #[derive(Drop)]
 pub struct Draft {
     pub tables: Tables,
-    /// the components that each record type does not inherit, with their defaults
-    pub components: Items<Items<Component>>,
+    /// the components that each record type does not inherit, with their defaults, where all of them are known
+    pub components: Items<Option<Items<Component>>>,
     pub subprograms: Items<Routine>,
     pub exceptions: Items<Text>,
     /// the types of what the declarations of the master around hold, by their slots

@@ -201,14 +201,16 @@ fn are_new(states: &States, deeds: &[Deed]) -> bool
 /// Answers the access types from a number on that are frozen and whose collections have no place yet.
 fn unplaced(
     alloc: Global,
+    level: usize,
     accesses: &[AccessEntry],
     first: usize,
 ) -> Result<Items<usize>, AllocError>
-    ensures { IfOk result (λ numbers. numbers ≡ spec.unplaced first (drop first accesses.now)) }
+    ensures { IfOk result (λ numbers. numbers ≡ spec.unplaced level first (drop first accesses.now)) }
 {
     let mut numbers = Items::new(alloc);
     for number in first..accesses.len() {
-        if accesses[number].freezing == Freezing::Frozen {
+        let access = accesses[number];
+        if access.freezing == Freezing::Frozen && access.level == level {
             numbers.push(number)?;
         }
     }
@@ -253,7 +255,8 @@ fn placed(alloc: Global, around: Around, draft: &mut Draft) -> Result<Items<Item
     ensures { Yields (spec.placed around) draft.old result draft.new }
 {
     let first = around.first_access;
-    let numbers = unplaced(alloc, draft.tables.states.accesses.as_slice(), first)?;
+    let accesses = draft.tables.states.accesses.as_slice();
+    let numbers = unplaced(alloc, around.level, accesses, first)?;
     place_each(&mut draft.tables.states.accesses, first);
     layer(alloc, numbers)
 }

@@ -98,14 +98,14 @@ fn library_states(alloc: Global) -> Result<Items<RecordState>, AllocError>
 }
 
 /// Makes the components of the library's record types: they have none that the text sees.
-fn library_components(alloc: Global) -> Result<Items<Items<Component>>, AllocError>
+fn library_components(alloc: Global) -> Result<Items<Option<Items<Component>>>, AllocError>
     ensures { IfOk result (λ components. components ≡ spec.library_components) }
 {
     let mut components = Items::new(alloc);
-    components.push(Items::new(alloc))?;
-    components.push(Items::new(alloc))?;
-    components.push(Items::new(alloc))?;
-    components.push(Items::new(alloc))?;
+    components.push(Some(Items::new(alloc)))?;
+    components.push(Some(Items::new(alloc)))?;
+    components.push(Some(Items::new(alloc)))?;
+    components.push(Some(Items::new(alloc)))?;
     Ok(components)
 }
 

@@ -53,12 +53,19 @@ fn misplaced(is_late: bool, place: Span, notes: &mut Notes) -> Option<usize>
 }
 
 /// Answers the access type that a clause is of, where it is not frozen (RM 13.1(9)).
-fn clause_access(tables: &Tables, place: Span, ty: Ty, notes: &mut Notes) -> Option<usize>
-    ensures { Answers (spec.clause_access tables.now place ty) notes.old result notes.new }
+fn clause_access(
+    tables: &Tables,
+    around: Around,
+    place: Span,
+    ty: Ty,
+    notes: &mut Notes,
+) -> Option<usize>
+    ensures { Answers (spec.clause_access tables.now around place ty) notes.old result notes.new }
 {
     let is_free = is_free_type(&tables.states, ty);
     match ty {
-        Ty::Access(access) if is_free => Some(access),
+        Ty::Access(access) if around.first_access <= access && is_free => Some(access),
+        Ty::Access(_) => misplaced(true, place, notes),
         _ => misplaced(!is_free, place, notes),
     }
 }
@@ -74,7 +81,9 @@ fn clause_entry(
     ensures { Answers (spec.clause_entry tables.now around place number (slice_get tables.now.entries number)) notes.old result notes.new }
 {
     match sqlite_items::at(tables.entries.as_slice(), number) {
-        Some(Entry::Type(ty)) if around.start <= number => clause_access(tables, place, *ty, notes),
+        Some(Entry::Type(ty)) if around.start <= number => {
+            clause_access(tables, around, place, *ty, notes)
+        }
         Some(Entry::Type(_)) => misplaced(true, place, notes),
         Some(Entry::Incomplete(_)) | Some(Entry::Unknown) => None,
         _ => misplaced(false, place, notes),

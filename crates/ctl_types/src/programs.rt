@@ -125,12 +125,9 @@ fn access_types(
 fn bodied(routine: Routine) -> Option<Subprogram>
     ensures { result ≡ spec.subprogram_with routine routine.body }
 {
-    match routine.body {
-        Some(body) => Some(Subprogram {
-            level: routine.level,
-            kind: routine.kind,
-            body,
-        }),
+    let Routine { level, kind, body } = routine;
+    match body {
+        Some(body) => Some(Subprogram { level, kind, body }),
         None => None,
     }
 }
@@ -160,6 +157,31 @@ fn subprograms(
     subprograms_of(alloc, turned(alloc, routines)?)
 }
 
+/// Makes the components of the record types, the last of which stand first, where those of each are known.
+fn components_of(
+    alloc: Global,
+    components: Items<Option<Items<Component>>>,
+) -> Result<Option<Items<Items<Component>>>, AllocError>
+    ensures { IfOk result (λ all. all ≡ spec.components_known (reverse components)) }
+{
+    let mut left = components;
+    let mut done = Some(Items::new(alloc));
+    while let Some(own) = left.pop() {
+        done = appended(done, own)?;
+    }
+    Ok(done)
+}
+
+/// Makes the components of the record types, in their order, where those of each are known.
+fn components_known(
+    alloc: Global,
+    components: Items<Option<Items<Component>>>,
+) -> Result<Option<Items<Items<Component>>>, AllocError>
+    ensures { IfOk result (λ all. all ≡ spec.components_known components) }
+{
+    components_of(alloc, turned(alloc, components)?)
+}
+
 /// Makes the program of what was checked, where all is known.
 pub fn checked_of(alloc: Global, draft: Draft) -> Result<Option<Checked>, AllocError>
     ensures { IfOk result (λ program. program ≡ spec.checked_of draft) }
@@ -171,9 +193,12 @@ pub fn checked_of(alloc: Global, draft: Draft) -> Result<Option<Checked>, AllocE
     let Some(subprograms) = subprograms(alloc, draft.subprograms)? else {
         return Ok(None);
     };
+    let Some(components) = components_known(alloc, draft.components)? else {
+        return Ok(None);
+    };
     let entries = tables.records.as_slice();
     let states = tables.states.records.as_slice();
-    let records = record_types(alloc, entries, states, draft.components)?;
+    let records = record_types(alloc, entries, states, components)?;
     Ok(Some(Checked {
         exceptions: draft.exceptions,
         records,

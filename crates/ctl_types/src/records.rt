@@ -142,7 +142,7 @@ fn inherited_operations(tables: &Tables, parent: Option<usize>) -> Operations
 fn add_record(
     entry: RecordEntry,
     state: RecordState,
-    components: Items<Component>,
+    components: Option<Items<Component>>,
     draft: &mut Draft,
 ) -> Result<(), AllocError>
     ensures { OnOk result (draft.new ≡ spec.add_record entry state components draft.old) }
@@ -167,7 +167,6 @@ fn enter_record(
     let ty = Ty::Record(draft.tables.records.len());
     let state = inherited_state(&draft.tables, within.parent);
     let entry = take_record(alloc, around, root, said, within.parent, draft);
-    let components = components.unwrap_or(Items::new(alloc));
     add_record(entry, state, components, draft)?;
     enter_type(around, within.number, ty, draft)
 }

@@ -1,5 +1,6 @@
 //! Subprograms: their declarations, and what is known where their bodies begin and end (RM 6.1, 6.3).
 
+ghost use Rattle.std.specs.Option.{option_copied};
 ghost use Rattle.std.specs.Prelude.{◌≡◌, ◌++◌, IfOk, OnOk, Some, map, slice_get};
 ghost use Rattle.ctl_types.specs.Declarations as spec;
 ghost use Rattle.ctl_types.specs.Elaboration as elaboration;
@@ -94,6 +95,16 @@ fn entry_of(subprogram: usize, names: Items<Text>, heading: Option<Heading>) -> 
     }
 }
 
+/// Answers the number of a subprogram that takes a body: its heading is known.
+fn numbered(subprogram: usize, heading: &Option<Heading>) -> Option<usize>
+    ensures { result ≡ spec.numbered subprogram heading.now }
+{
+    match heading {
+        None => None,
+        Some(_) => Some(subprogram),
+    }
+}
+
 /// Declares a subprogram, with the next number.
 fn introduce(
     alloc: Global,
@@ -109,8 +120,9 @@ fn introduce(
     play(specification.name.identifier.span, number, role, draft);
     add_subprogram(around, kind_of(&specification.result), draft)?;
     let names = formal_names(alloc, specification.formals.as_slice())?;
+    let taking = numbered(number, &heading);
     draft.declare(entry_of(number, names, heading))?;
-    Ok(Some(number))
+    Ok(taking)
 }
 
 /// Declares a subprogram whose body stands behind (RM 6.1).
@@ -179,15 +191,49 @@ fn has_conformed(profile: &Profile, names: &[Text], heading: &Option<Heading>) -
     }
 }
 
+/// Tells whether there is a subprogram that is declared so deep.
+fn is_of_level(level: usize, routine: Option<&Routine>) -> bool
+    ensures { result ≡ spec.is_of_level level (option_copied routine.entry) }
+{
+    match routine {
+        None => false,
+        Some(routine) => routine.level == level,
+    }
+}
+
+/// Answers the subprogram of the part that takes a body which repeats its declaration (RM 6.3.1).
+fn completes(
+    around: Around,
+    routines: &[Routine],
+    profile: &Profile,
+    names: &[Text],
+    heading: &Option<Heading>,
+) -> Option<usize>
+    ensures { result ≡ spec.completes around routines.now profile.now names.now heading.now }
+{
+    match heading {
+        None => None,
+        Some(heading) => {
+            let routine = sqlite_items::at(routines, profile.subprogram);
+            if conforms(profile, names, heading) && is_of_level(around.level, routine) {
+                Some(profile.subprogram)
+            } else {
+                None
+            }
+        }
+    }
+}
+
 /// Answers the subprogram that a body completes; the body repeats its declaration (RM 6.3.1).
 fn completed(
     alloc: Global,
+    around: Around,
     place: Span,
     specification: &Specification<Definition, Use>,
     heading: Option<Heading>,
     draft: &mut Draft,
 ) -> Result<Option<usize>, AllocError>
-    ensures { Judges (λ d. spec.completed place specification.now (slice_get d.tables.entries specification.now.name.number) (heading, d)) draft.old result draft.new }
+    ensures { Judges (λ d. spec.completed around place specification.now (slice_get d.tables.entries specification.now.name.number) (heading, d)) draft.old result draft.new }
 {
     let names = formal_names(alloc, specification.formals.as_slice())?;
     let entries = draft.tables.entries.as_slice();
@@ -195,11 +241,12 @@ fn completed(
     else {
         return Ok(None);
     };
-    let number = profile.subprogram;
+    let routines = draft.subprograms.as_slice();
+    let number = completes(around, routines, profile, names.as_slice(), &heading);
     let is_kept = has_conformed(profile, names.as_slice(), &heading);
     draft.fault_when(!is_kept, FaultCode::Type, place);
     keep_indicator(specification, draft);
-    Ok(Some(number))
+    Ok(number)
 }
 
 /// Answers the subprogram of a body, which may complete a declaration (RM 6.3).
@@ -214,7 +261,7 @@ fn subprogram_of(
     ensures { Judges (λ d. spec.subprogram_of around place specification.now (heading, d)) draft.old result draft.new }
 {
     if draft.is_declared_in(around, specification.name.number) {
-        completed(alloc, place, specification, heading, draft)
+        completed(alloc, around, place, specification, heading, draft)
     } else {
         introduce(alloc, around, specification, heading, draft)
     }

@@ -68,6 +68,19 @@ fn return_value(
     }
 }
 
+/// Judges the value of a return where it is not known what that gives: nothing is known of the return.
+fn unclear_value(
+    alloc: Global,
+    tables: &Tables,
+    x: &Expression<Use>,
+    notes: &mut Notes,
+) -> Result<Option<Stmt>, AllocError>
+    ensures { Judges (spec.unclear_value (sense x.now) tables.now) notes.old result notes.new }
+{
+    expression(alloc, tables, x, Asked::Anything, notes)?;
+    Ok(None)
+}
+
 /// Judges what stands behind `return`, by what the body around gives (RM 6.5).
 fn return_by(
     alloc: Global,
@@ -84,14 +97,13 @@ fn return_by(
             _ => Ok(wrong(FaultCode::Return, place, &mut draft.notes)),
         },
         Some(x) => {
-            let asked = match giving {
-                Giving::Value(ty) => Asked::Exactly(ty),
-                Giving::Unclear => Asked::Anything,
-                Giving::Nothing => {
-                    return Ok(wrong(FaultCode::Return, place, &mut draft.notes));
-                }
-            };
-            return_value(alloc, &draft.tables, asked, x, &mut draft.notes)
+            let tables = &draft.tables;
+            let notes = &mut draft.notes;
+            match giving {
+                Giving::Value(ty) => return_value(alloc, tables, Asked::Exactly(ty), x, notes),
+                Giving::Unclear => unclear_value(alloc, tables, x, notes),
+                Giving::Nothing => Ok(wrong(FaultCode::Return, place, notes)),
+            }
         }
     }
 }

@@ -626,9 +626,13 @@ unary_judged place o x tables asked =
 abbrev pub in_range : Span → ℕ → Typed → Judgement Typed
 in_range place m t = if nat_lt 2147483647 m then but rule.Range place t else known t
 
+-- one that is out of range stands as 0, once that is told
+abbrev pub number_cell : ℕ → ℕ
+number_cell m = if nat_lt 2147483647 m then 0 else m
+
 -- above 2147483647 it is out of range, and a number all the same (2.4, profile)
 abbrev pub number_judged : Span → ℕ → Tables → Asked → Judgement Typed
-number_judged place m tables asked = in_range place m (record { ty = adopted asked; value = e.Constant m }) >>= fits place asked
+number_judged place m tables asked = in_range place m (record { ty = adopted asked; value = e.Constant (number_cell m) }) >>= fits place asked
 
 abbrev pub null_judged : Span → Tables → Asked → Judgement Typed
 null_judged place tables (Exactly (ty.Access a)) = known (record { ty = ty.Access a; value = e.Constant 0 })

@@ -33,6 +33,13 @@ pub fn adopted(asked: Asked) -> Ty
     }
 }
 
+/// Answers what stands for a numeric literal: the number, where it is in range.
+fn number_cell(value: u64) -> u64
+    ensures { result ≡ spec.number_cell value }
+{
+    if value > LARGEST { 0 } else { value }
+}
+
 /// Judges a numeric literal (RM 2.4).
 pub fn number(
     place: Span,
@@ -47,7 +54,7 @@ pub fn number(
     }
     let typed = Typed {
         ty: adopted(asked),
-        value: Expr::Constant(value),
+        value: Expr::Constant(number_cell(value)),
     };
     fits(place, asked, typed, notes)
 }

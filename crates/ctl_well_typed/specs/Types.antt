@@ -1,5 +1,5 @@
 -- What the tables say of types (3.4, 3.8, 3.9.1, 3.10), and what operators take (4.5).
-use Rattle.std.specs.Prelude.{◌≡◌, ℕ, suc, Bool, true, false, List, [], ◌∷◌, ◌++◌, slice_get, Some, None}
+use Rattle.std.specs.Prelude.{◌≡◌, ◌≤◌, ◌<◌, ◌⊎◌, ℕ, suc, Bool, true, false, List, [], ◌∷◌, ◌++◌, slice_get, Some, None}
 use Rattle.ctl_program.specs.declared.types.Ty.{Ty}
 use Rattle.ctl_program.specs.declared.types.Ty.TheVariants as ty
 use Rattle.ctl_program.specs.declared.types.Root.{Root}
@@ -33,6 +33,14 @@ is_scalar t = true
 abbrev pub has_order : Ty → Bool
 has_order ty.Boolean = true
 has_order t = is_number t
+
+-- the cell of a value that a program writes down: a number in the range of its type, in two's complement; a truth value; null (3.5.3, 3.5.4, 4.2)
+abbrev pub IsCell : Ty → ℕ → Type 0
+IsCell ty.Integer cell = (cell ≤ 2147483647) ⊎ ((18446744071562067968 ≤ cell) × (cell < 18446744073709551616))
+IsCell ty.Count cell = cell ≤ 2147483647
+IsCell ty.Boolean cell = cell ≤ 1
+IsCell (ty.Record t) cell = ⊥
+IsCell t cell = cell ≡ 0
 
 -- Records -------------------------------------------------------------------------------------
 

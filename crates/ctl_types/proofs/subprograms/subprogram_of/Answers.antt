@@ -11,5 +11,5 @@ returns-then-is_declared_in c =
     let h = c.args.heading in
     let d = c.args.draft.now in
     let in_part = sym c.is_declared_in.ensures ∙ c.if-is_declared_in.true in
-    let completes = ap (λ (b : Bool). if b then spec.completed place s (slice_get d.tables.entries s.name.number) (h, d) else spec.introduce around s (h, d)) in_part in
-    judges_as (λ e. spec.subprogram_of around place s (h, e)) (λ e. spec.completed place s (slice_get e.tables.entries s.name.number) (h, e)) d d c.completed.result c.completed.new.draft completes c.completed.ensures
+    let completes = ap (λ (b : Bool). if b then spec.completed around place s (slice_get d.tables.entries s.name.number) (h, d) else spec.introduce around s (h, d)) in_part in
+    judges_as (λ e. spec.subprogram_of around place s (h, e)) (λ e. spec.completed around place s (slice_get e.tables.entries s.name.number) (h, e)) d d c.completed.result c.completed.new.draft completes c.completed.ensures
