@@ -26,3 +26,7 @@ pub mod Leave
 pub mod TreeLayers
 pub mod Evaluated
 pub mod Texts
+pub mod Statements
+pub mod Executed
+pub mod Bodies
+pub mod Whole
