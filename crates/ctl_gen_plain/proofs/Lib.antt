@@ -30,3 +30,6 @@ pub mod Statements
 pub mod Executed
 pub mod Bodies
 pub mod Whole
+pub mod Formed
+pub mod FormedValues
+pub mod FormedTexts

@@ -19,12 +19,12 @@ use Rattle.ctl_program.specs.declared.operators.BinaryOp.{BinaryOp}
 use Rattle.ctl_program.specs.declared.operators.Shortcut.{Shortcut}
 use Rattle.ctl_program.specs.declared.operators.SubpoolFunction.{SubpoolFunction}
 use Rattle.ctl_well_typed.specs.Setting.{Passing, In, Formal, Holding, Declared, Stands, Frames, Names, Signature, Setting, HasAccess, InView, Callable}
-use Rattle.ctl_well_typed.specs.Types.{is_number, is_scalar, Covers, HasRoot, HasDiscriminant, Walks, Takes, Joins, copy_of, is_written}
+use Rattle.ctl_well_typed.specs.Types.{is_number, is_scalar, IsCell, Covers, HasRoot, HasDiscriminant, Walks, Takes, Joins, copy_of, is_written}
 
 mutual
   -- an expression, and its type
   pub data Typed (k : Setting) (env : Frames) : Expr → Ty → Type 0 where
-    constant : {cell : ℕ} {t : Ty} → is_scalar t ≡ true → InView k env t → Typed k env (e.Constant cell) t
+    constant : {cell : ℕ} {t : Ty} → is_scalar t ≡ true → IsCell t cell → InView k env t → Typed k env (e.Constant cell) t
     read : {x : Name} {t : Ty} → Denotes k env x t → Typed k env (e.Read x t) t
     call : {s : ℕ} {is : Signature} {actuals : List Actual} {t : Ty} → Callable k env s is → is.result ≡ Some t → FitEach k env is.formals actuals → Typed k env (e.Call s actuals) t
     unary : {o : UnaryOp} {x : Expr} {t : Ty} → Takes o t → Typed k env x t → Typed k env (e.Unary o t x) t

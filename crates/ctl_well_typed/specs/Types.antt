@@ -1,5 +1,5 @@
 -- What the tables say of types (3.4, 3.8, 3.9.1, 3.10), and what operators take (4.5).
-use Rattle.std.specs.Prelude.{◌≡◌, ℕ, suc, Bool, true, false, List, [], ◌∷◌, ◌++◌, slice_get, Some, None}
+use Rattle.std.specs.Prelude.{◌≡◌, ◌≤◌, ℕ, suc, Bool, true, false, List, [], ◌∷◌, ◌++◌, slice_get, Some, None}
 use Rattle.ctl_program.specs.declared.types.Ty.{Ty}
 use Rattle.ctl_program.specs.declared.types.Ty.TheVariants as ty
 use Rattle.ctl_program.specs.declared.types.Root.{Root}
@@ -28,6 +28,11 @@ is_number t = false
 abbrev pub is_scalar : Ty → Bool
 is_scalar (ty.Record t) = false
 is_scalar t = true
+
+-- a cell that a literal of this type may be: False and True are 0 and 1 (3.5.3)
+abbrev pub IsCell : Ty → ℕ → Type 0
+IsCell ty.Boolean cell = cell ≤ 1
+IsCell t cell = Unit {0}
 
 -- numbers and Booleans have an order (4.5.2)
 abbrev pub has_order : Ty → Bool
