@@ -1,6 +1,6 @@
 -- The code of a well-typed expression is well formed, and leaves an operand of its type.
 use Rattle.std.proofs.Common.{◌≡◌, ℕ, ◌+◌, ◌≤◌, List, [], ◌∷◌, ◌++◌, length, map, Option, Some, None, Bool, true, false, ◌⊎◌, inl, inr, refl, sym, ap, ◌∙◌, subst, arith, length-append}
-use Rattle.std.specs.Prelude.{◌&&◌}
+use Rattle.std.specs.Prelude.{◌&&◌, unwrap_or}
 use Rattle.ctl_program.specs.declared.types.Ty.{Ty}
 use Rattle.ctl_program.specs.declared.types.Ty.TheVariants.{Integer, Count, Boolean, Address, Handle, Record}
 use Rattle.ctl_program.specs.declared.types.Ty.TheVariants as TyOf
@@ -54,7 +54,7 @@ number_of Handle e = absurd (cc)
 number_of (TyOf.Access a) e = absurd (cc)
 number_of (Record t) e = absurd (cc)
 
-run_scalar : (t : Ty) → is_run_type t ≡ true → Valid.IsScalar t
+pub run_scalar : (t : Ty) → is_run_type t ≡ true → Valid.IsScalar t
 run_scalar Integer e = tt
 run_scalar Boolean e = tt
 run_scalar Count e = absurd (cc)
@@ -255,6 +255,11 @@ module _ (code : Code) where
   pub usable_as : (x : ValueCode) (ty : Ty) → Valid.IsScalar ty → Fine x ty → Usable x ty
   usable_as x ty scalar (inl h) = h.usable
   usable_as x ty scalar (inr (n, is, cell)) = subst (λ y. Usable y ty) (sym is) (usable_constant n ty scalar (cell_of ty n scalar cell))
+
+  -- where each scalar type will do
+  pub value_usable : (x : ValueCode) (ty : Ty) → Fine x ty → Usable x (value_type x)
+  value_usable x ty (inl h) = subst (Usable x) (sym (ap (λ o. unwrap_or o Integer) h.own)) h.usable
+  value_usable x ty (inr (n, is, cell)) = subst (λ (y : ValueCode). Usable y (value_type y)) (sym is) (usable_constant n Integer tt tt)
 
   -- Operators ---------------------------------------------------------------------------------------
 

@@ -33,3 +33,4 @@ pub mod Whole
 pub mod Formed
 pub mod FormedValues
 pub mod FormedTexts
+pub mod FormedStatements

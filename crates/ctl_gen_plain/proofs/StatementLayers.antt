@@ -63,47 +63,47 @@ unfolding statement_code master_code
 statement_block m = rw (← rolls-Block, fold-roll-Stmt) refl
 
 -- the others have no instructions
-statement_assign_record : (x : Name) (t : ℕ) (a : Actual) → statement_code (s.AssignRecord x t a) ≡ missing_statement
+pub statement_assign_record : (x : Name) (t : ℕ) (a : Actual) → statement_code (s.AssignRecord x t a) ≡ missing_statement
 unfolding statement_code
 statement_assign_record x t a = rw (← rolls-AssignRecord, fold-roll-Stmt) refl
 
-statement_call : (f : ℕ) (actuals : List Actual) → statement_code (s.Call f actuals) ≡ missing_statement
+pub statement_call : (f : ℕ) (actuals : List Actual) → statement_code (s.Call f actuals) ≡ missing_statement
 unfolding statement_code
 statement_call f actuals = rw (← rolls-Call, fold-roll-Stmt) refl
 
-statement_nothing : (x : Name) → statement_code (s.Nothing x) ≡ missing_statement
+pub statement_nothing : (x : Name) → statement_code (s.Nothing x) ≡ missing_statement
 unfolding statement_code
 statement_nothing x = rw (← rolls-Nothing, fold-roll-Stmt) refl
 
-statement_dispatch : (op : Operation) (x : Name) → statement_code (s.Dispatch op x) ≡ missing_statement
+pub statement_dispatch : (op : Operation) (x : Name) → statement_code (s.Dispatch op x) ≡ missing_statement
 unfolding statement_code
 statement_dispatch op x = rw (← rolls-Dispatch, fold-roll-Stmt) refl
 
-statement_allocate : (p x : Name) (size alignment : Expr) → statement_code (s.LibraryAllocate p x size alignment) ≡ missing_statement
+pub statement_allocate : (p x : Name) (size alignment : Expr) → statement_code (s.LibraryAllocate p x size alignment) ≡ missing_statement
 unfolding statement_code
 statement_allocate p x size alignment = rw (← rolls-LibraryAllocate, fold-roll-Stmt) refl
 
-statement_deallocate : (p : Name) (x size alignment : Expr) → statement_code (s.LibraryDeallocate p x size alignment) ≡ missing_statement
+pub statement_deallocate : (p : Name) (x size alignment : Expr) → statement_code (s.LibraryDeallocate p x size alignment) ≡ missing_statement
 unfolding statement_code
 statement_deallocate p x size alignment = rw (← rolls-LibraryDeallocate, fold-roll-Stmt) refl
 
-statement_return : (o : Option Expr) → statement_code (s.Return o) ≡ missing_statement
+pub statement_return : (o : Option Expr) → statement_code (s.Return o) ≡ missing_statement
 unfolding statement_code
 statement_return o = rw (← rolls-Return, fold-roll-Stmt) refl
 
-statement_raise : (x : ℕ) → statement_code (s.Raise x) ≡ missing_statement
+pub statement_raise : (x : ℕ) → statement_code (s.Raise x) ≡ missing_statement
 unfolding statement_code
 statement_raise x = rw (← rolls-Raise, fold-roll-Stmt) refl
 
-statement_raise_again : statement_code s.RaiseAgain ≡ missing_statement
+pub statement_raise_again : statement_code s.RaiseAgain ≡ missing_statement
 unfolding statement_code
 statement_raise_again = rw (← rolls-RaiseAgain, fold-roll-Stmt) refl
 
-statement_free : (access : ℕ) (x : Name) → statement_code (s.Free access x) ≡ missing_statement
+pub statement_free : (access : ℕ) (x : Name) → statement_code (s.Free access x) ≡ missing_statement
 unfolding statement_code
 statement_free access x = rw (← rolls-Free, fold-roll-Stmt) refl
 
-statement_release : (x : Name) → statement_code (s.Release x) ≡ missing_statement
+pub statement_release : (x : Name) → statement_code (s.Release x) ≡ missing_statement
 unfolding statement_code
 statement_release x = rw (← rolls-Release, fold-roll-Stmt) refl
 
