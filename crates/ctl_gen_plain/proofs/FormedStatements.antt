@@ -155,10 +155,10 @@ module _ (code : Code) (k : Tables) (records : (t : ℕ) (r : RecordType) → sl
       both_good code (item_code x).code (all_items (map item_code xs)).code (item_code x).kinds (all_items (map item_code xs)).kinds (item_good x h g.0) (items_good rest g.1)
     where
       item_good : {j : W.Setting} {env : W.Frames} (x : Item) → Elaborated j env x → (item_code x).runs k.records ≡ true → Good code (item_code x).code (item_code x).kinds
-      item_good x (D.object {number = slot} {t = ty} {value = o} fills view perhaps) runs = object_good slot ty o perhaps runs
+      item_good x (D.object {number = slot} {t = ty} {value = o} fresh view perhaps) runs = object_good slot ty o perhaps runs
       item_good x D.silent runs = none_good code
       item_good x (D.collections gathers) runs = absurd (cc)
-      item_good x (D.pool fills view rooted pool long given) runs = absurd (cc)
+      item_good x (D.pool fresh view rooted pool long given) runs = absurd (cc)
 
   -- Statements ---------------------------------------------------------------------------------------
 
@@ -383,7 +383,7 @@ module _ (code : Code) (k : Tables) (records : (t : ℕ) (r : RecordType) → sl
     statement_good (D.choose {arms = arms} {others = others} each rest) = good_as _ _ (statement_if arms others) (branches_good (map arm_code arms) (all (map statement_code others)) (arms_good each) (each_good rest))
     statement_good (D.loop {body = body} h) = good_as _ _ (statement_loop body) (loop_good (all (map statement_code body)) (each_good h))
     statement_good (D.while {test = e} {body = body} t h) = good_as _ _ (statement_while e body) (loop_good (tested (value_code e) InstrOf.ExitUnless (all (map statement_code body))) (tested_good (value_code e) (all (map statement_code body)) (λ runs. usable_as code (value_code e) Boolean tt (typed_fine code t runs)) (each_good h)))
-    statement_good (D.for {env = env} {number = number} {way = way} {low = low} {high = high} {body = body} fills from to h) =
+    statement_good (D.for {env = env} {number = number} {way = way} {low = low} {high = high} {body = body} fresh from to h) =
         good_as _ _ (statement_for (record { level = length env; slot = number }) way low high body)
         (for_good (record { level = length env; slot = number }) way (value_code low) (value_code high) (all (map statement_code body)) (λ runs. usable_as code (value_code low) Integer tt (typed_fine code from runs)) (λ runs. usable_as code (value_code high) Integer tt (typed_fine code to runs)) (each_good h))
     statement_good (D.block {m = m} h) = good_as _ _ (statement_block m) (block_good (master_code m) (master_good h))

@@ -34,3 +34,4 @@ pub mod Formed
 pub mod FormedValues
 pub mod FormedTexts
 pub mod FormedStatements
+pub mod FormedWhole
