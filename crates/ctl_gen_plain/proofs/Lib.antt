@@ -5,6 +5,7 @@ pub mod EmittedValues
 pub mod EmittedTexts
 pub mod EmittedStatements
 pub mod EmittedArms
+pub mod EmittedBodies
 pub mod Known
 pub mod Place
 pub mod Follow

@@ -1,2 +1,0 @@
-use Rattle.ctl_gen_plain.proofs.FormedWhole as H
-use Rattle.ctl_gen_plain.proofs.generate.left_out.Goals as goal
