@@ -8,7 +8,7 @@ use Rattle.ctl_meaning_plain.specs.Changes.{object_at, write_cells}
 use Rattle.ctl_meaning_plain.specs.Choice.{Ask}
 use Rattle.ctl_meaning_plain.specs.Outcome.{constraint_error, ByRaise, Goes, Leaves, Act, add, bind, on_goes, ◌>>=◌, change, ticked, on_some, opened_outcome}
 use Rattle.ctl_meaning_plain.specs.Types.{Tables}
-use Rattle.ctl_meaning_plain.specs.Names.{Call, Default, Tools, Found, InObject, InCopy, Alone, gone, copy_in, slot_at, write_found, walk, opened_names}
+use Rattle.ctl_meaning_plain.specs.Names.{Call, Default, Tools, Found, InObject, InCopy, Alone, gone, copy_in, slot_at, write_found, opened_names}
 use Rattle.ctl_code_plain.specs.declared.code.Instr.TheVariants as InstrOf
 use Rattle.ctl_code_plain.specs.declared.code.Code.{Code}
 use Rattle.ctl_code_plain.specs.States.{Frame, State}

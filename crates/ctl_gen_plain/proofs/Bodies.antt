@@ -3,7 +3,7 @@ use Rattle.std.proofs.Common.{◌≡◌, ℕ, zero, suc, ◌+◌, ◌≤◌, Lis
 use Rattle.std.specs.Prelude.{slice_get, take, drop, replicate}
 use Rattle.ctl_program.specs.declared.operators.SubprogramKind.{SubprogramKind}
 use Rattle.ctl_program.specs.declared.operators.SubprogramKind.TheVariants.{Procedure}
-use Rattle.ctl_program.specs.declared.statement.Master.{Master, out-Master, fold_out-Master}
+use Rattle.ctl_program.specs.declared.statement.Master.{Master, fold_out-Master}
 use Rattle.ctl_program.specs.declared.program.Subprogram.{Subprogram}
 use Rattle.ctl_meaning_plain.specs.World.{Slot, Unset, Log, World, empty_log, empty_world}
 use Rattle.ctl_meaning_plain.specs.Changes.{open_master}

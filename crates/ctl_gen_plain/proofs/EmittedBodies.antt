@@ -1,9 +1,8 @@
 -- What the emitter makes of the bodies of a program, one after another, is their layout.
-use Rattle.std.proofs.Common.{◌≡◌, ℕ, ◌+◌, List, [], ◌∷◌, ◌++◌, length, map, refl, sym, ap, ◌∙◌, append_assoc, length-append}
+use Rattle.std.proofs.Common.{◌≡◌, ℕ, ◌+◌, List, [], ◌∷◌, ◌++◌, length, map, refl, ap, ◌∙◌, append_assoc, length-append}
 use Rattle.ctl_program.specs.declared.program.Subprogram.{Subprogram}
 use Rattle.ctl_code_plain.specs.declared.code.Entry.{Entry}
 use Rattle.ctl_code_plain.specs.declared.code.Instr.TheVariants.{Start}
-use Rattle.ctl_code_plain.specs.Kinds.{Noted}
 use Rattle.ctl_gen_plain.specs.Emitted.{Emitted, appended, as_it_is, followed, none_emitted, one}
 use Rattle.ctl_gen_plain.specs.Layout.{StatementCode, bodies, body_code, entries_from, entry_at, statement}
 use Rattle.ctl_gen_plain.proofs.EmittedStatements.{next_statement, no_statement}

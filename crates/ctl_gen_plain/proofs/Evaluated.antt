@@ -1,23 +1,20 @@
 -- The code of each expression that this version runs does what the expression means.
-use Rattle.std.proofs.Common.{◌≡◌, ℕ, List, [], ◌∷◌, map, Option, Some, None, Bool, true, false, refl, sym, ap, ◌∙◌, subst}
-use Rattle.std.specs.Prelude.{◌&&◌}
+use Rattle.std.proofs.Common.{◌≡◌, List, [], ◌∷◌, map, Option, Some, None, true, refl, sym, ap, ◌∙◌, subst}
 use Rattle.ctl_program.specs.declared.types.Ty.{Ty}
 use Rattle.ctl_program.specs.declared.types.Var.{Var}
 use Rattle.ctl_program.specs.declared.expression.Expr.{Expr, roll-Expr, map-Expr, ind-Expr}
 use Rattle.ctl_program.specs.declared.expression.Name.{Name, roll-Name, map-Name, ind-Name}
-use Rattle.ctl_program.specs.declared.expression.Actual.{Actual, roll-Actual, map-Actual}
+use Rattle.ctl_program.specs.declared.expression.Actual.{Actual}
 use Rattle.ctl_program.specs.declared.expression.Operand.{Operand, Operand-F, roll-Operand, map-Operand}
-use Rattle.ctl_program.specs.declared.expression.Actual.TheOpen.{Actual-F, Expr-F, Name-F}
-use Rattle.ctl_meaning_plain.specs.World.{Log, World}
+use Rattle.ctl_program.specs.declared.expression.Actual.TheOpen.{Expr-F, Name-F}
 use Rattle.ctl_meaning_plain.specs.Choice.{Ask}
-use Rattle.ctl_meaning_plain.specs.Outcome.{Goes, Gives, Act, ◌>>=◌, opened_outcome}
+use Rattle.ctl_meaning_plain.specs.Outcome.{◌>>=◌, opened_outcome}
 use Rattle.ctl_meaning_plain.specs.Types.{Tables}
-use Rattle.ctl_meaning_plain.specs.Names.{Call, Default, Tools, Found, walk, opened_names}
-use Rattle.ctl_meaning_plain.specs.Expressions.{Applied, Naming, Valued, apply, apply_each, eval, eval_name, eval_step, name_step as name_meaning, operand_step, join_each, supply, var_part, opened_expressions}
+use Rattle.ctl_meaning_plain.specs.Names.{Call, Default, Tools, walk, opened_names}
+use Rattle.ctl_meaning_plain.specs.Expressions.{Applied, Naming, Valued, apply, apply_each, eval, eval_name, eval_step, name_step as name_meaning, operand_step, join_each, var_part}
 use Rattle.ctl_meaning_plain.proofs.Trees.{eval_roll, name_roll, operand_roll}
 use Rattle.ctl_code_plain.specs.declared.code.Code.{Code}
-use Rattle.ctl_code_plain.specs.Table.{found_by}
-use Rattle.ctl_gen_plain.specs.Values.{ValueCode, OperatorCode, chain, constant, is_run_type, missing_value, name_step, operator_code, operator_of, operators_run, read, short, unary, value_code, value_step, values_run, variable_of}
+use Rattle.ctl_gen_plain.specs.Values.{ValueCode, OperatorCode, missing_value, operator_code, operator_of, operators_run, read, value_code, values_run, variable_of}
 use Rattle.ctl_gen_plain.proofs.Known.{both_true, scalar_if}
 use Rattle.ctl_gen_plain.proofs.TreeLayers.{value_roll, variable_roll, operator_roll}
 use Rattle.ctl_gen_plain.proofs.Setting.{tools_with}

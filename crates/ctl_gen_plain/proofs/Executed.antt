@@ -3,13 +3,11 @@ use Rattle.std.proofs.Common.{◌≡◌, ℕ, ◌+◌, List, [], ◌∷◌, map,
 use Rattle.std.specs.Prelude.{◌&&◌}
 use Rattle.ctl_program.specs.declared.types.Var.{Var}
 use Rattle.ctl_program.specs.declared.expression.Expr.{Expr}
-use Rattle.ctl_program.specs.declared.expression.Name.{Name}
-use Rattle.ctl_program.specs.declared.statement.Piece.{Piece}
 use Rattle.ctl_program.specs.declared.statement.Item.{Item}
-use Rattle.ctl_program.specs.declared.statement.Stmt.{Stmt, roll-Stmt, map-Stmt, ind-Stmt}
+use Rattle.ctl_program.specs.declared.statement.Stmt.{Stmt, roll-Stmt, map-Stmt}
 use Rattle.ctl_program.specs.declared.statement.Stmt.TheOpen.{Stmt-F}
 use Rattle.ctl_program.specs.declared.statement.Arm.{Arm, Arm-F, roll-Arm, map-Arm}
-use Rattle.ctl_program.specs.declared.statement.Handler.{Handler, Handler-F, roll-Handler, map-Handler}
+use Rattle.ctl_program.specs.declared.statement.Handler.{Handler}
 use Rattle.ctl_program.specs.declared.statement.Master.{Master, Master-F, roll-Master, map-Master, ind-Master}
 use Rattle.ctl_tree.specs.declared.event.Event.TheVariants.{Newline}
 use Rattle.ctl_meaning_plain.specs.Choice.{Ask}
@@ -19,12 +17,12 @@ use Rattle.ctl_meaning_plain.specs.Names.{Default, Tools}
 use Rattle.ctl_meaning_plain.specs.Names as Names
 use Rattle.ctl_meaning_plain.specs.Expressions.{eval, eval_name, Naming}
 use Rattle.ctl_meaning_plain.specs.Masters.{elaborate_item}
-use Rattle.ctl_meaning_plain.specs.Statements.{Body, Doing, arm_of, assign as assign_doing, body_of, do_each, exec, exit as exit_doing, handler_of, loop_for, loop_plainly, loop_while, new_line, null as null_doing, put, put_line, within}
+use Rattle.ctl_meaning_plain.specs.Statements.{Doing, arm_of, assign as assign_doing, body_of, do_each, exec, exit as exit_doing, handler_of, loop_for, loop_plainly, loop_while, new_line, null as null_doing, put, put_line, within}
 use Rattle.ctl_meaning_plain.proofs.Trees.{exec_roll, arm_roll as guarding_roll, master_roll as body_roll}
 use Rattle.ctl_code_plain.specs.declared.code.Code.{Code}
 use Rattle.ctl_code_plain.specs.declared.code.Instr.TheVariants as InstrOf
-use Rattle.ctl_gen_plain.specs.Values.{ValueCode, value_code, variable_of}
-use Rattle.ctl_gen_plain.specs.Layout.{ArmCode, MasterCode, StatementCode, all, all_items, arm_code, assign, exit, has_no_handlers, inside, item_code, master_code, missing_statement, no_code, print, statement_code}
+use Rattle.ctl_gen_plain.specs.Values.{value_code, variable_of}
+use Rattle.ctl_gen_plain.specs.Layout.{StatementCode, all, all_items, arm_code, assign, exit, has_no_handlers, inside, item_code, master_code, missing_statement, no_code, statement_code}
 use Rattle.ctl_gen_plain.proofs.Known.{both_true}
 use Rattle.ctl_gen_plain.proofs.TreeLayers.{arm_roll, master_roll, statement_roll}
 use Rattle.ctl_gen_plain.proofs.Setting.{Setting, Calls, by_code, tools_with}

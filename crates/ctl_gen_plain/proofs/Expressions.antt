@@ -13,7 +13,7 @@ use Rattle.ctl_meaning_plain.specs.Choice.{Ask}
 use Rattle.ctl_meaning_plain.specs.Outcome.{constraint_error, ByRaise, Result, Goes, Leaves, Out, Gives, Act, add, bind, on_goes, ◌>>=◌, done, ticked, either, on_some, opened_outcome}
 use Rattle.ctl_meaning_plain.specs.Numbers.{unary, binary}
 use Rattle.ctl_meaning_plain.specs.Types.{Tables, cells_of}
-use Rattle.ctl_meaning_plain.specs.Names.{Call, Default, Tools, Found, InObject, InCopy, Alone, gone, scalar_of, read_found, walk, or_constraint_error, opened_names}
+use Rattle.ctl_meaning_plain.specs.Names.{Call, Default, Tools, Found, InObject, InCopy, Alone, gone, scalar_of, read_found, or_constraint_error, opened_names}
 use Rattle.ctl_code_plain.specs.declared.code.Instr.{Instr}
 use Rattle.ctl_code_plain.specs.declared.code.Instr.TheVariants as InstrOf
 use Rattle.ctl_code_plain.specs.declared.code.Code.{Code}

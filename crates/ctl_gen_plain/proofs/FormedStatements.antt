@@ -1,5 +1,5 @@
 -- The code of each well-typed construct is well formed, and leaves on the stacks what stood there.
-use Rattle.std.proofs.Common.{◌≡◌, ℕ, ◌+◌, ◌-◌, ◌≤◌, List, [], ◌∷◌, ◌++◌, length, map, Bool, true, false, Option, Some, None, ◌⊎◌, inl, inr, option_map, refl, sym, ap, ◌∙◌, subst, arith, append_assoc, length-append}
+use Rattle.std.proofs.Common.{◌≡◌, ℕ, ◌+◌, ◌-◌, ◌≤◌, List, [], ◌∷◌, ◌++◌, length, map, Bool, true, false, Option, Some, None, option_map, refl, sym, ap, ◌∙◌, subst, arith, append_assoc, length-append}
 use Rattle.std.specs.Prelude.{slice_get, ◌&&◌}
 use Rattle.ctl_program.specs.declared.types.Ty.{Ty}
 use Rattle.ctl_program.specs.declared.types.Ty.TheVariants.{Integer, Count, Boolean, Address, Handle, Access, Record}
@@ -8,10 +8,10 @@ use Rattle.ctl_program.specs.declared.types.RecordType.{RecordType}
 use Rattle.ctl_program.specs.declared.operators.Direction.{Direction}
 use Rattle.ctl_program.specs.declared.expression.Expr.{Expr}
 use Rattle.ctl_program.specs.declared.statement.Item.{Item}
-use Rattle.ctl_program.specs.declared.statement.Item.TheVariants.{Collections, Object, Pool, Silent}
+use Rattle.ctl_program.specs.declared.statement.Item.TheVariants.{Object}
 use Rattle.ctl_program.specs.declared.statement.Stmt.{Stmt}
-use Rattle.ctl_program.specs.declared.statement.Arm.{Arm, roll-Arm}
-use Rattle.ctl_program.specs.declared.statement.Master.{Master, roll-Master}
+use Rattle.ctl_program.specs.declared.statement.Arm.{Arm}
+use Rattle.ctl_program.specs.declared.statement.Master.{Master}
 use Rattle.ctl_meaning_plain.specs.Types.{Tables}
 use Rattle.ctl_well_typed.specs.Setting as W
 use Rattle.ctl_well_typed.specs.Expressions.{Perhaps, Typed}
@@ -24,10 +24,9 @@ use Rattle.ctl_code_plain.specs.declared.kinds.Kind.TheVariants as KindOf
 use Rattle.ctl_code_plain.specs.declared.code.Instr.{Instr}
 use Rattle.ctl_code_plain.specs.declared.code.Instr.TheVariants as InstrOf
 use Rattle.ctl_code_plain.specs.declared.code.Code.{Code}
-use Rattle.ctl_code_plain.specs.Valid as Valid
 use Rattle.ctl_code_plain.specs.Valid.{IsAtEnd, IsFine, IsRecord, Leads}
 use Rattle.ctl_gen_plain.specs.Values.{ValueCode, is_run_type, value_code, value_type, variable_of}
-use Rattle.ctl_gen_plain.specs.Layout.{ArmCode, ItemCode, MasterCode, StatementCode, all, all_items, arm_code, arm_kinds, arms_code, arms_kinds, arms_run, arms_texts, assign, block, branches, exit, for, further_arm, guarded, has_no_handlers, inside, is_declared, item_code, loop, loop_code, master_code, missing_statement, no_code, object, one_statement, rest_code, statement_code, taken, tested, turn_kinds, turns_code, while}
+use Rattle.ctl_gen_plain.specs.Layout.{ArmCode, ItemCode, MasterCode, StatementCode, all, all_items, arm_code, arm_kinds, arms_code, arms_kinds, arms_run, arms_texts, assign, block, branches, exit, for, further_arm, guarded, has_no_handlers, inside, is_declared, item_code, loop, loop_code, master_code, missing_statement, no_code, object, statement_code, tested, turn_kinds, turns_code}
 use Rattle.ctl_gen_plain.proofs.Known.{both_true, known_if}
 use Rattle.ctl_gen_plain.proofs.StatementLayers.{statement_assign, statement_block, statement_exit, statement_for, statement_if, statement_loop, statement_new_line, statement_null, statement_put, statement_put_line, statement_while}
 use Rattle.ctl_gen_plain.proofs.StatementLayers as L

@@ -1,6 +1,6 @@
 -- A text is printed over the values of its images (4.5.3).
 use Rattle.std.proofs.Common.{◌≡◌, ℕ, ◌+◌, List, [], ◌∷◌, ◌++◌, length, Bool, true, false, Some, refl, sym, ap, ◌∙◌, arith, append_assoc, length-append}
-use Rattle.std.specs.Prelude.{reverse, slice_get, ◌&&◌}
+use Rattle.std.specs.Prelude.{reverse, slice_get}
 use Rattle.std.proofs.lemmas.Grind.{reverse_onto}
 use Rattle.ctl_program.specs.declared.types.Ty.TheVariants.{Integer, Boolean}
 use Rattle.ctl_program.specs.declared.statement.Piece.{Piece}
@@ -14,7 +14,7 @@ use Rattle.ctl_code_plain.specs.declared.code.Instr.{Instr}
 use Rattle.ctl_code_plain.specs.declared.code.Code.{Code}
 use Rattle.ctl_code_plain.specs.Valid.{images_of, IsFine, Leads}
 use Rattle.ctl_gen_plain.specs.Values.{value_code}
-use Rattle.ctl_gen_plain.specs.Texts.{parts_of, piece_code, piece_is_run, piece_kinds, pieces_are_run, pieces_code, pieces_kinds, print_code, print_kinds, print_of, with_piece, with_pieces}
+use Rattle.ctl_gen_plain.specs.Texts.{parts_of, piece_code, piece_kinds, pieces_are_run, pieces_code, pieces_kinds, print_code, print_kinds, print_of, with_piece, with_pieces}
 use Rattle.ctl_gen_plain.proofs.Known.{both_true}
 use Rattle.ctl_gen_plain.proofs.Formed.{Formed, both, none, one}
 use Rattle.ctl_gen_plain.proofs.FormedValues.{Usable, typed_fine, usable_as}

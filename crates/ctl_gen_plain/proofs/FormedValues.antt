@@ -1,5 +1,5 @@
 -- The code of a well-typed expression is well formed, and leaves an operand of its type.
-use Rattle.std.proofs.Common.{◌≡◌, ℕ, ◌+◌, ◌≤◌, List, [], ◌∷◌, ◌++◌, length, map, Option, Some, None, Bool, true, false, ◌⊎◌, inl, inr, refl, sym, ap, ◌∙◌, subst, arith, length-append}
+use Rattle.std.proofs.Common.{◌≡◌, ℕ, ◌+◌, List, [], ◌∷◌, length, map, Option, Some, None, Bool, true, ◌⊎◌, inl, inr, refl, sym, ap, ◌∙◌, subst, arith, length-append}
 use Rattle.std.specs.Prelude.{◌&&◌, unwrap_or}
 use Rattle.ctl_program.specs.declared.types.Ty.{Ty}
 use Rattle.ctl_program.specs.declared.types.Ty.TheVariants.{Integer, Count, Boolean, Address, Handle, Record}
@@ -7,7 +7,6 @@ use Rattle.ctl_program.specs.declared.types.Ty.TheVariants as TyOf
 use Rattle.ctl_program.specs.declared.types.Var.{Var}
 use Rattle.ctl_program.specs.declared.operators.Shortcut.{Shortcut}
 use Rattle.ctl_program.specs.declared.operators.UnaryOp.{UnaryOp}
-use Rattle.ctl_program.specs.declared.operators.UnaryOp.TheVariants.{Plus, Minus, Abs, Not}
 use Rattle.ctl_program.specs.declared.operators.BinaryOp.{BinaryOp}
 use Rattle.ctl_program.specs.declared.operators.BinaryOp.TheVariants.{Add, Subtract, Multiply, Divide, Modulo, Remainder, And, Or, Xor, Equal, Unequal, Less, LessEqual, Greater, GreaterEqual}
 use Rattle.ctl_program.specs.declared.expression.Expr.{Expr}
@@ -28,9 +27,9 @@ use Rattle.ctl_code_plain.specs.Valid.{BinaryOf, IsCellOf, IsFine, IsNumber, Lea
 use Rattle.ctl_gen_plain.specs.declared.right.Right.{Right}
 use Rattle.ctl_gen_plain.specs.declared.right.Right.TheVariants as RightOf
 use Rattle.ctl_gen_plain.specs.Emitted.{becoming}
-use Rattle.ctl_gen_plain.specs.Values.{OperatorCode, ValueCode, after_operators, chain, code_by_right, common_type, constant, first_type, is_run_type, kinds_by_right, last_type, missing_value, operand_type, operator_code, operator_kinds, operator_of, operators_code, operators_kinds, operators_run, other_code, other_kinds, others_code, others_kinds, read, short, unary, value_code, value_type, values_run, variable_of}
+use Rattle.ctl_gen_plain.specs.Values.{OperatorCode, ValueCode, chain, code_by_right, common_type, constant, first_type, is_run_type, kinds_by_right, last_type, missing_value, operand_type, operator_code, operator_kinds, operator_of, operators_code, operators_kinds, operators_run, other_code, other_kinds, others_code, others_kinds, read, short, unary, value_code, value_type, values_run, variable_of}
 use Rattle.ctl_gen_plain.proofs.Known.{both_true}
-use Rattle.ctl_gen_plain.proofs.Layers.{operator_is, value_access, value_call, value_chain, value_constant, value_convert, value_discriminant, value_new, value_read, value_short, value_subpool, value_unary}
+use Rattle.ctl_gen_plain.proofs.Layers.{value_access, value_call, value_chain, value_constant, value_convert, value_discriminant, value_new, value_read, value_short, value_subpool, value_unary}
 use Rattle.ctl_gen_plain.proofs.TreeLayers.{operator_roll}
 use Rattle.ctl_gen_plain.proofs.Formed.{Formed, both, end_of, none, one}
 

@@ -6,7 +6,7 @@ use Rattle.ctl_program.specs.declared.program.Subprogram.{Subprogram}
 use Rattle.ctl_program.specs.declared.program.Checked.{Checked}
 use Rattle.ctl_meaning_plain.specs.Types.{Tables, tables_of}
 use Rattle.ctl_well_typed.specs.Setting as W
-use Rattle.ctl_well_typed.specs.Programs.{Overrides, WellTyped, no_operation, operation}
+use Rattle.ctl_well_typed.specs.Programs.{Overrides, WellTyped, operation}
 use Rattle.ctl_code_plain.specs.declared.kinds.Kind.{Kind}
 use Rattle.ctl_code_plain.specs.declared.code.Instr.{Instr}
 use Rattle.ctl_code_plain.specs.declared.code.Instr.TheVariants as InstrOf
@@ -21,7 +21,6 @@ use Rattle.ctl_gen_plain.proofs.Place.{HasAt, has_all}
 use Rattle.ctl_gen_plain.proofs.Place as Place
 use Rattle.ctl_gen_plain.proofs.Formed.{AreFine, as_long, fine_both, Has, has_back, has_front}
 use Rattle.ctl_gen_plain.proofs.FormedStatements.{GoodMaster, master_good}
-use Rattle.ctl_gen_plain.proofs.Whole.{body_is_run}
 
 -- Tables ---------------------------------------------------------------------------------------------
 

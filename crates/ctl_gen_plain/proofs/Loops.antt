@@ -1,6 +1,6 @@
 -- Loops (5.5, 5.7): each turn takes one from the clock when its statements begin.
 use Rattle.std.proofs.Common.{◌≡◌, ℕ, zero, suc, ◌+◌, ◌-◌, ◌≤◌, List, [], ◌∷◌, ◌++◌, length, Bool, true, false, refl, sym, ap, ◌∙◌, subst, arith, length-append, inl}
-use Rattle.std.specs.Prelude.{slice_get, if◌then◌else◌, not, ℤ, pos, negsuc, ◌-ℤ◌}
+use Rattle.std.specs.Prelude.{slice_get, not, ℤ, pos, negsuc, ◌-ℤ◌}
 use Rattle.ctl_program.specs.declared.types.Var.{Var}
 use Rattle.ctl_meaning_plain.specs.World.{Log, World}
 use Rattle.ctl_meaning_plain.specs.Lists.{opened_lists}

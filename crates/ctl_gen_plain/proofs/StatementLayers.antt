@@ -1,5 +1,5 @@
 -- What each statement, arm and master has, by its parts.
-use Rattle.std.proofs.Common.{◌≡◌, ℕ, List, [], ◌∷◌, map, Option, Some, None, option_map, ◌⊎◌, inl, inr, true, false, refl, ap, ◌∙◌}
+use Rattle.std.proofs.Common.{◌≡◌, ℕ, List, map, Option, option_map, ◌⊎◌, inl, inr, true, false, refl, ap, ◌∙◌}
 use Rattle.ctl_program.specs.declared.types.Var.{Var}
 use Rattle.ctl_program.specs.declared.operators.Direction.{Direction}
 use Rattle.ctl_program.specs.declared.operators.Operation.{Operation}
@@ -7,16 +7,14 @@ use Rattle.ctl_program.specs.declared.expression.Expr.{Expr}
 use Rattle.ctl_program.specs.declared.expression.Name.{Name}
 use Rattle.ctl_program.specs.declared.expression.Actual.{Actual}
 use Rattle.ctl_program.specs.declared.statement.Piece.{Piece}
-use Rattle.ctl_program.specs.declared.statement.Item.{Item}
 use Rattle.ctl_program.specs.declared.statement.Arm.{Arm, out-Arm, fold_out-Arm}
-use Rattle.ctl_program.specs.declared.statement.Handler.{Handler}
 use Rattle.ctl_program.specs.declared.statement.Master.{Master, out-Master, fold_out-Master}
 use Rattle.ctl_program.specs.declared.statement.Stmt.{Stmt, fold-roll-Stmt}
 use Rattle.ctl_program.specs.declared.statement.Stmt.TheVariants as s
 use Rattle.ctl_program.specs.declared.statement.Stmt.TheVariants.{rolls-Null, rolls-Assign, rolls-AssignRecord, rolls-Call, rolls-Nothing, rolls-Dispatch, rolls-LibraryAllocate, rolls-LibraryDeallocate, rolls-Put, rolls-PutLine, rolls-NewLine, rolls-Exit, rolls-Return, rolls-Raise, rolls-RaiseAgain, rolls-If, rolls-Loop, rolls-While, rolls-For, rolls-Block, rolls-Free, rolls-Release}
 use Rattle.ctl_code_plain.specs.declared.code.Instr.TheVariants as InstrOf
 use Rattle.ctl_gen_plain.specs.Values.{value_code, variable_of}
-use Rattle.ctl_gen_plain.specs.Layout.{StatementCode, ArmCode, MasterCode, all, all_items, assign, block, branches, exit, for, has_no_handlers, inside, item_code, loop, missing_statement, null, one_statement, print, while, statement_code, arm_code, no_code, master_code}
+use Rattle.ctl_gen_plain.specs.Layout.{all, all_items, assign, block, branches, exit, for, has_no_handlers, inside, item_code, loop, missing_statement, null, one_statement, print, while, statement_code, arm_code, no_code, master_code}
 
 pub statement_null : statement_code s.Null ≡ null
 unfolding statement_code

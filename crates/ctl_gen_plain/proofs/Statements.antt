@@ -1,31 +1,30 @@
 -- The code of each construct does what the construct means, where the code of its parts does.
-use Rattle.std.proofs.Common.{◌≡◌, ℕ, ◌+◌, ◌-◌, ◌≤◌, List, [], ◌∷◌, ◌++◌, length, map, Option, Some, None, Bool, true, false, refl, sym, ap, ◌∙◌, arith, subst, length-append, append_assoc}
+use Rattle.std.proofs.Common.{◌≡◌, ℕ, ◌+◌, ◌-◌, ◌≤◌, List, [], ◌∷◌, ◌++◌, length, map, Some, None, true, false, refl, sym, ap, ◌∙◌, arith, subst, length-append, append_assoc}
 use Rattle.std.specs.Prelude.{slice_get, replicate, ◌&&◌}
 use Rattle.ctl_program.specs.declared.types.Ty.{Ty}
 use Rattle.ctl_program.specs.declared.types.Ty.TheVariants.{Integer, Count, Boolean, Address, Handle, Access, Record}
 use Rattle.ctl_program.specs.declared.statement.Item.{Item}
 use Rattle.ctl_program.specs.declared.statement.Item.TheVariants.{Collections, Object, Pool, Silent}
-use Rattle.ctl_tree.specs.declared.event.Event.TheVariants.{Newline}
 use Rattle.ctl_meaning_plain.specs.World.{Slot, Unset, Log, World}
 use Rattle.ctl_meaning_plain.specs.Lists.{last_of}
 use Rattle.ctl_meaning_plain.specs.Changes.{open_master}
 use Rattle.ctl_meaning_plain.specs.Ledger.{layers_of}
 use Rattle.ctl_meaning_plain.specs.Choice.{Ask}
-use Rattle.ctl_meaning_plain.specs.Outcome.{ByExit, ByReturn, ByRaise, Result, Goes, Leaves, Gives, Act, Done, bind, on_goes, given, tell, then_always, opened_outcome}
+use Rattle.ctl_meaning_plain.specs.Outcome.{ByExit, ByReturn, ByRaise, Result, Goes, Leaves, Gives, Act, Done, bind, on_goes, given, then_always, opened_outcome}
 use Rattle.ctl_meaning_plain.specs.Types.{Tables}
 use Rattle.ctl_meaning_plain.specs.Names.{Default, Returned, Tools}
 use Rattle.ctl_meaning_plain.specs.Names as Names
 use Rattle.ctl_meaning_plain.specs.Expressions.{Valued, eval, if_given}
-use Rattle.ctl_meaning_plain.specs.Masters.{Elaborating, Left, leave_layers, left, leave, in_master, declare, elaborate_item, elaborate, object, silent}
-use Rattle.ctl_meaning_plain.specs.Statements.{Body, Doing, Guarding, choose_arm, do_block, do_each, do_first, guard, handle, handled, leaving, scalar, unset_slots, within}
+use Rattle.ctl_meaning_plain.specs.Masters.{Elaborating, Left, leave_layers, left, leave, in_master, elaborate_item, elaborate, object, silent}
+use Rattle.ctl_meaning_plain.specs.Statements.{Body, Doing, Guarding, choose_arm, do_block, do_each, do_first, guard, handle, handled, leaving, unset_slots, within}
 use Rattle.ctl_code_plain.specs.declared.code.Instr.{Instr}
 use Rattle.ctl_code_plain.specs.declared.code.Instr.TheVariants as InstrOf
 use Rattle.ctl_code_plain.specs.declared.code.Code.{Code}
 use Rattle.ctl_code_plain.specs.States.{After, AfterBlock, Frame, InMaster, State}
 use Rattle.ctl_code_plain.specs.Table.{behind as mode_behind}
 use Rattle.ctl_code_plain.specs.Steps.{step}
-use Rattle.ctl_gen_plain.specs.Values.{ValueCode, is_run_type, value_code}
-use Rattle.ctl_gen_plain.specs.Layout.{ArmCode, ItemCode, MasterCode, StatementCode, all, all_items, arms_code, arms_run, arms_texts, block, block_code, branches, guarded_turn, inside, is_declared, item_code, rest_code}
+use Rattle.ctl_gen_plain.specs.Values.{ValueCode, value_code}
+use Rattle.ctl_gen_plain.specs.Layout.{ArmCode, ItemCode, MasterCode, StatementCode, all, all_items, arms_code, arms_run, arms_texts, block, block_code, branches, guarded_turn, inside, is_declared, item_code}
 use Rattle.ctl_gen_plain.proofs.Known.{both_true, known_if, scalar_if}
 use Rattle.ctl_gen_plain.proofs.Place.{HasAt, has_front, has_back}
 use Rattle.ctl_gen_plain.proofs.Worlds.{Fits, fits_open}
@@ -38,7 +37,7 @@ use Rattle.ctl_gen_plain.proofs.Expressions.{Value}
 use Rattle.ctl_gen_plain.proofs.Evaluated.{value_means}
 use Rattle.ctl_gen_plain.proofs.Branches.{Ends, arm_runs}
 use Rattle.ctl_gen_plain.proofs.Leave.{leaves, leave_runs}
-use Rattle.ctl_gen_plain.proofs.Follow.{Runs, at, arrives, added, within as no_more_than, one_step, last_step, no_step, both, step_both_paid, arriving, left_behind, in_row}
+use Rattle.ctl_gen_plain.proofs.Follow.{Runs, at, arrives, added, within as no_more_than, one_step, no_step, both, step_both_paid, arriving, left_behind, in_row}
 
 module _ (ask : Ask) (k : Tables) (code : Code) (setting : Setting k code) (call : Names.Call) (default : Default) (bound : ℕ) (calls : Calls ask k code setting bound call) where
   abbrev K : Tools

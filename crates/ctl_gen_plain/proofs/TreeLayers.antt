@@ -1,17 +1,16 @@
 -- What each layer of a tree has, by what its parts have.
 use Rattle.std.proofs.Common.{◌≡◌, Option}
 use Rattle.ctl_program.specs.declared.types.Var.{Var}
-use Rattle.ctl_program.specs.declared.expression.Expr.{Expr, roll-Expr, map-Expr, fold-Expr, fold-roll-Expr}
+use Rattle.ctl_program.specs.declared.expression.Expr.{Expr, roll-Expr, map-Expr, fold-roll-Expr}
 use Rattle.ctl_program.specs.declared.expression.Name.{Name, roll-Name, map-Name, fold-roll-Name}
 use Rattle.ctl_program.specs.declared.expression.Actual.{Actual, fold-Actual}
 use Rattle.ctl_program.specs.declared.expression.Operand.{Operand, Operand-F, roll-Operand, map-Operand, fold-roll-Operand}
-use Rattle.ctl_program.specs.declared.expression.Actual.TheOpen.{Actual-F, Expr-F, Name-F}
+use Rattle.ctl_program.specs.declared.expression.Actual.TheOpen.{Expr-F, Name-F}
 use Rattle.ctl_program.specs.declared.statement.Stmt.{Stmt, roll-Stmt, map-Stmt, fold-roll-Stmt}
 use Rattle.ctl_program.specs.declared.statement.Stmt.TheOpen.{Stmt-F}
 use Rattle.ctl_program.specs.declared.statement.Arm.{Arm, Arm-F, roll-Arm, map-Arm, fold-roll-Arm}
 use Rattle.ctl_program.specs.declared.statement.Handler.{Handler}
 use Rattle.ctl_program.specs.declared.statement.Master.{Master, Master-F, roll-Master, map-Master, fold-roll-Master}
-use Rattle.ctl_gen_plain.specs.Values as V
 use Rattle.ctl_gen_plain.specs.Values.{ValueCode, OperatorCode, NoCode, value_code, variable_of, operator_of, actual_step, value_step, name_step, operator_step}
 use Rattle.ctl_gen_plain.specs.Layout.{StatementCode, ArmCode, MasterCode, statement_code, arm_code, no_code, master_code, statement_step, arm_step, handler_step, master_step}
 use Rattle.ctl_gen_plain.specs.Layout as L

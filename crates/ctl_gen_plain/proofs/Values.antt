@@ -7,9 +7,9 @@ use Rattle.ctl_meaning_plain.specs.World.{Object, Log, World}
 use Rattle.ctl_meaning_plain.specs.Lists.{opened_lists}
 use Rattle.ctl_meaning_plain.specs.Objects.{first_cells, cells_at, opened_objects}
 use Rattle.ctl_meaning_plain.specs.Changes.{object_at}
-use Rattle.ctl_meaning_plain.specs.Outcome.{constraint_error, ByRaise, Goes, Leaves, Out, Gives, Act, add, bind, on_goes, ◌>>=◌, done, ticked, either, on_some, opened_outcome}
+use Rattle.ctl_meaning_plain.specs.Outcome.{constraint_error, ByRaise, Goes, Leaves, Out, Gives, Act, add, bind, on_goes, done, either, on_some, opened_outcome}
 use Rattle.ctl_meaning_plain.specs.Types.{Tables, cells_of, opened_types}
-use Rattle.ctl_meaning_plain.specs.Names.{Call, Default, Tools, Found, InObject, InCopy, Alone, gone, copy_in, slot_at, scalar_of, read_found, walk, or_constraint_error, opened_names}
+use Rattle.ctl_meaning_plain.specs.Names.{Found, InObject, InCopy, Alone, gone, copy_in, slot_at, scalar_of, read_found, or_constraint_error, opened_names}
 use Rattle.ctl_gen_plain.proofs.Known.{IsScalar}
 use Rattle.ctl_gen_plain.proofs.Worth.{Is, Fails, Lost, IsPlain}
 

@@ -11,7 +11,7 @@ use Rattle.ctl_tree.specs.declared.ending.End as EndOf
 use Rattle.ctl_meaning_plain.specs.World.{Pick, Log, World, empty_log}
 use Rattle.ctl_meaning_plain.specs.Choice.{Ask, Obeys, replayed}
 use Rattle.ctl_meaning_plain.specs.Outcome.{Result, Goes, Leaves, Out, Gives, Stops, Cut}
-use Rattle.ctl_meaning_plain.specs.Types.{Tables, tables_of, operation, operation_in}
+use Rattle.ctl_meaning_plain.specs.Types.{tables_of, operation, operation_in}
 use Rattle.ctl_meaning_plain.specs.Names.{Returned}
 use Rattle.ctl_meaning_plain.specs.Run.{Outcome, end_by, meaning_of, outcome, outcome_of, routine_of, run}
 use Rattle.ctl_code_plain.specs.declared.code.Instr.{Instr}

@@ -1,5 +1,5 @@
 -- The bodies that are emitted, and those that are still to be emitted, make up the whole; and so do their entries.
-use Rattle.std.proofs.Common.{◌≡◌, ◌++◌, [], ◌∷◌, drop, length}
+use Rattle.std.proofs.Common.{◌≡◌, ◌++◌, [], drop, length}
 use Rattle.ctl_code_plain.specs.declared.code.Instr.TheVariants.{Start}
 use Rattle.ctl_gen_plain.specs.Emitted.{appended, as_it_is, followed, none_emitted, one}
 use Rattle.ctl_gen_plain.specs.Layout.{bodies, entries_from, statement}

@@ -1,4 +1,4 @@
-use Rattle.std.proofs.Common.{None, Some, ap, sym, ◌∙◌}
+use Rattle.std.proofs.Common.{ap, sym, ◌∙◌}
 use Rattle.ctl_code_plain.specs.declared.code.Instr.TheVariants.{Assign, Missing}
 use Rattle.ctl_gen_plain.specs.Emitted.{appended, followed}
 use Rattle.ctl_gen_plain.specs.Values.{value, value_code, value_type}

@@ -1,5 +1,4 @@
-use Rattle.ctl_gen_plain.proofs.Emission.{on_ok}
-use Rattle.std.proofs.Common.{ap, sym, ◌∙◌}
+use Rattle.std.proofs.Common.{ap, ◌∙◌}
 use Rattle.ctl_gen_plain.specs.Emitted.{as_it_is, followed, one}
 use Rattle.ctl_gen_plain.proofs.EmittedTexts.{print_emitted}
 use Rattle.ctl_gen_plain.proofs.emit.Emitter.print.Goals as goal
