@@ -219,8 +219,18 @@ module _ (code : Code) (k : Tables) (records : (t : ℕ) (r : RecordType) → sl
             let l3 = g.long (KindOf.Counting ∷ s) in
             let is = body.code n in
             let ss = body.kinds (KindOf.Counting ∷ s) in
-            omega (arith, l1, l2, l3, length-append (low.code ++ high.code) (turns_code v way is), length-append low.code high.code, length-append is (InstrOf.Next (length is) ∷ []),
-            length-append (low.kinds Integer s ++ high.kinds Integer (Operand Integer ∷ s)) ((Operand Integer ∷ Operand Integer ∷ s) ∷ ss ++ (KindOf.Counting ∷ s) ∷ []), length-append (low.kinds Integer s) (high.kinds Integer (Operand Integer ∷ s)), length-append ss ((KindOf.Counting ∷ s) ∷ []));
+            omega (
+              arith,
+              l1,
+              l2,
+              l3,
+              length-append (low.code ++ high.code) (turns_code v way is),
+              length-append low.code high.code,
+              length-append is (InstrOf.Next (length is) ∷ []),
+              length-append (low.kinds Integer s ++ high.kinds Integer (Operand Integer ∷ s)) ((Operand Integer ∷ Operand Integer ∷ s) ∷ ss ++ (KindOf.Counting ∷ s) ∷ []),
+              length-append (low.kinds Integer s) (high.kinds Integer (Operand Integer ∷ s)),
+              length-append ss ((KindOf.Counting ∷ s) ∷ []),
+            );
         formed = λ s.
             let one_up = Operand Integer ∷ s in
             let two_up = Operand Integer ∷ one_up in
@@ -247,8 +257,18 @@ module _ (code : Code) (k : Tables) (records : (t : ℕ) (r : RecordType) → sl
       let l1 = (good.0 e.0).long s in
       let l2 = (good.1 f.0 n (Place.has_front code.texts.items n a.body.texts (arms_texts more) texts)).long s in
       let l3 = arms_long more good.2 f.1 (n + length a.body.texts) (Place.has_back code.texts.items n a.body.texts (arms_texts more) texts) (back + length test + length body + 2) s in
-      omega (arith, l1, l2, l3, length-append (further_arm back test body) (arms_code (back + length test + length body + 2) more (n + length a.body.texts)), length-append (test ++ InstrOf.Unless (length body + 1) ∷ body) (InstrOf.Repeat (back + length test + 1 + length body) ∷ []), length-append test (InstrOf.Unless (length body + 1) ∷ body),
-      length-append (arm_kinds a s) (arms_kinds more s), length-append (turn_kinds a s) (s ∷ []), length-append (a.test.kinds Boolean s) ((Operand Boolean ∷ s) ∷ a.body.kinds s))
+      omega (
+        arith,
+        l1,
+        l2,
+        l3,
+        length-append (further_arm back test body) (arms_code (back + length test + length body + 2) more (n + length a.body.texts)),
+        length-append (test ++ InstrOf.Unless (length body + 1) ∷ body) (InstrOf.Repeat (back + length test + 1 + length body) ∷ []),
+        length-append test (InstrOf.Unless (length body + 1) ∷ body),
+        length-append (arm_kinds a s) (arms_kinds more s),
+        length-append (turn_kinds a s) (s ∷ []),
+        length-append (a.test.kinds Boolean s) ((Operand Boolean ∷ s) ∷ a.body.kinds s),
+      )
 
   -- further arms, whose ends lead back to the end of the first one
   further_formed : (arms : List ArmCode) → GoodArms arms → arms_run arms k.records ≡ true → (n : ℕ) → HasAt code.texts.items n (arms_texts arms) → (s : List Kind) (back p first : ℕ) → first + back ≡ p → Leads code first s → FormedAt code p (arms_code back arms n) (arms_kinds arms s) s (Some s)
@@ -304,8 +324,21 @@ module _ (code : Code) (k : Tables) (records : (t : ℕ) (r : RecordType) → sl
             let l2 = g.long s in
             let l3 = arms_long more good.2 f.1 n1 texts1 1 s in
             let l4 = o.long s in
-            omega (arith, l1, l2, l3, l4, length-append (turn ++ skip ∷ []) (further ++ os_code), length-append turn (skip ∷ []), length-append test (InstrOf.Unless (length body + 1) ∷ body), length-append further os_code,
-            length-append (arm_kinds a s ++ arms_kinds more s) (others.kinds s), length-append (arm_kinds a s) (arms_kinds more s), length-append (turn_kinds a s) (s ∷ []), length-append (a.test.kinds Boolean s) ((Operand Boolean ∷ s) ∷ a.body.kinds s));
+            omega (
+              arith,
+              l1,
+              l2,
+              l3,
+              l4,
+              length-append (turn ++ skip ∷ []) (further ++ os_code),
+              length-append turn (skip ∷ []),
+              length-append test (InstrOf.Unless (length body + 1) ∷ body),
+              length-append further os_code,
+              length-append (arm_kinds a s ++ arms_kinds more s) (others.kinds s),
+              length-append (arm_kinds a s) (arms_kinds more s),
+              length-append (turn_kinds a s) (s ∷ []),
+              length-append (a.test.kinds Boolean s) ((Operand Boolean ∷ s) ∷ a.body.kinds s),
+            );
         formed = λ s p has.
             let ts = a.test.kinds Boolean s in
             let bs = a.body.kinds s in
@@ -325,11 +358,11 @@ module _ (code : Code) (k : Tables) (records : (t : ℕ) (r : RecordType) → sl
             let last : p + length (arm ++ (rs ++ os)) ≡ first + 1 + length (further ++ os_code) = omega (arith, size, size1, l3, l4, length-append arm (rs ++ os), length-append rs os, length-append further os_code) in
             let skips = leads_at code (p + length (arm ++ (rs ++ os))) (first + 1 + length (further ++ os_code)) s last (has_end code p (arm ++ (rs ++ os)) (Some s) h1) in
             let x = both_at code p (guarded test body skip) arm (further ++ os_code) (rs ++ os) s s (Some s)
-                (arm_formed code s test ts body bs skip p (u.formed s) (g.formed s) skips)
-                (both_at code (p + length arm) further rs os_code os s s (Some s)
-                (further_formed more good.2 f.1 n1 texts1 s 1 (p + length arm) first behind_it lead)
-                (o.formed s (p + length arm + length rs)))
-                h1 in
+            (arm_formed code s test ts body bs skip p (u.formed s) (g.formed s) skips)
+            (both_at code (p + length arm) further rs os_code os s s (Some s)
+            (further_formed more good.2 f.1 n1 texts1 s 1 (p + length arm) first behind_it lead)
+            (o.formed s (p + length arm + length rs)))
+            h1 in
             (x.0, subst (λ ss. AreFine code p (guarded test body skip ++ (further ++ os_code)) ss) (sym (append_assoc arm rs os)) x.1);
       }
 

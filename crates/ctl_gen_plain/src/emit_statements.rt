@@ -235,12 +235,7 @@ impl Emitter {
 
     /// Emits the turns of a loop whose bounds are operands.
     #[cycle(emit)]
-    fn for_loop(
-        &mut self,
-        parameter: Var,
-        way: Direction,
-        body: &[Stmt],
-    ) -> Result<(), AllocError>
+    fn for_loop(&mut self, parameter: Var, way: Direction, body: &[Stmt]) -> Result<(), AllocError>
         ensures { OnOk result (self.new ≡ appended (spec.turns parameter way (spec.all (map spec.statement_code body.now))) self.old) }
     {
         let head = self.place();
@@ -306,12 +301,8 @@ fn declaration(slot: usize, ty: Ty) -> Instr
 {
     match ty {
         Ty::Record(record) => Instr::Declare(slot, record),
-        Ty::Integer
-        | Ty::Count
-        | Ty::Boolean
-        | Ty::Address
-        | Ty::Handle
-        | Ty::Access(_) => Instr::DeclareScalar(slot, ty),
+        Ty::Integer | Ty::Count | Ty::Boolean | Ty::Address | Ty::Handle | Ty::Access(_) =>
+            Instr::DeclareScalar(slot, ty),
     }
 }
 

@@ -16,8 +16,8 @@ loop-subprogram-init c =
     let at = begun_place main in (
       ap (appended (statement (bodies ss))) first,
       ap (λ es. es ++ entries_from (length e.instructions) (length e.texts) ss) c.new-entries.ensures.items
-        ∙ ap (λ n. entries_from n (length e.texts) ss) (ap (λ (x : Emitted). length x.instructions) first ∙ at.0)
-        ∙ ap (λ n. entries_from 1 n ss) (ap (λ (x : Emitted). length x.texts) first ∙ at.1),
+          ∙ ap (λ n. entries_from n (length e.texts) ss) (ap (λ (x : Emitted). length x.instructions) first ∙ at.0)
+          ∙ ap (λ n. entries_from 1 n ss) (ap (λ (x : Emitted). length x.texts) first ∙ at.1),
       ap (λ (x : Emitted). x.notes.standing) first ∙ at.2,
     )
 
@@ -34,12 +34,12 @@ loop-subprogram-preserved c =
     let item = subst (λ xs. s ≡ get_or xs i s) same c.subprogram-item.is in
     let more = drop (i + 1) ss in (
       next_body s more e0 e1 c.in_ok-master.ensures
-        ∙ turn_of (λ xs. appended (statement (bodies xs)) e0) ss i s within item
-        ∙ c.loop-subprogram.invariant.0,
+          ∙ turn_of (λ xs. appended (statement (bodies xs)) e0) ss i s within item
+          ∙ c.loop-subprogram.invariant.0,
       ap (λ es. es ++ entries_from (length e1.instructions) (length e1.texts) more) (c.in_ok-push.ensures.items ∙ ap (λ e. done ++ e ∷ []) c.entry_of.ensures)
-        ∙ next_entry s more done e0 e1 c.in_ok-master.ensures
-        ∙ turn_of (λ xs. done ++ entries_from (length e0.instructions) (length e0.texts) xs) ss i s within item
-        ∙ c.loop-subprogram.invariant.1,
+          ∙ next_entry s more done e0 e1 c.in_ok-master.ensures
+          ∙ turn_of (λ xs. done ++ entries_from (length e0.instructions) (length e0.texts) xs) ss i s within item
+          ∙ c.loop-subprogram.invariant.1,
       nothing_stands (body_code s) e0 e1 c.in_ok-master.ensures c.loop-subprogram.invariant.2,
     )
 
