@@ -446,7 +446,7 @@ module _ (code : Code) where
   -- an access value is a literal here
   as_access : (x : ValueCode) (a b : ℕ) → Fine x (TyOf.Access a) → Fine x (TyOf.Access b)
   as_access x a b (inl h) = absurd h.usable.scalar
-  as_access x a b (inr (n, is, cell)) = inr (n, is, tt)
+  as_access x a b (inr (n, is, cell)) = inr (n, is, cell)
 
   mutual
     pub typed_fine : {k : W.Setting} {env : W.Frames} {x : Expr} {t : Ty} → Typed k env x t → (value_code x).runs ≡ true → Fine (value_code x) t

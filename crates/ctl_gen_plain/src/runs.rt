@@ -64,19 +64,7 @@ fn is_read(name: &Name, ty: Ty) -> bool
 
 /// Tells whether an expression is run.
 #[cycle(values)]
-#[tactic(auto, using(
-    crate::proofs::Layers::value_constant,
-    crate::proofs::Layers::value_read,
-    crate::proofs::Layers::value_call,
-    crate::proofs::Layers::value_unary,
-    crate::proofs::Layers::value_chain,
-    crate::proofs::Layers::value_short,
-    crate::proofs::Layers::value_convert,
-    crate::proofs::Layers::value_access,
-    crate::proofs::Layers::value_new,
-    crate::proofs::Layers::value_subpool,
-    crate::proofs::Layers::value_discriminant
-))]
+#[tactic(auto, using(crate::proofs::Layers::value_constant, crate::proofs::Layers::value_read, crate::proofs::Layers::value_call, crate::proofs::Layers::value_unary, crate::proofs::Layers::value_chain, crate::proofs::Layers::value_short, crate::proofs::Layers::value_convert, crate::proofs::Layers::value_access, crate::proofs::Layers::value_new, crate::proofs::Layers::value_subpool, crate::proofs::Layers::value_discriminant))]
 fn value(expression: &Expr) -> bool
     ensures { result ≡ (values.value_code expression.now).runs }
 {
@@ -158,12 +146,12 @@ fn pieces(pieces: &[Piece]) -> bool
 }
 
 /// Tells whether objects of a record type are run: one that extends Controlled without components.
-fn is_plain(record: &RecordType) -> bool
-    ensures { result ≡ spec.is_plain (Some record.now) }
+fn is_plain(entry: &RecordType) -> bool
+    ensures { result ≡ spec.is_plain (Some entry.now) }
 {
-    matches!(record.root, Root::Controlled)
-        && record.parent.is_none()
-        && record.own.as_slice().is_empty()
+    matches!(entry.root, Root::Controlled)
+        && entry.parent.is_none()
+        && entry.own.as_slice().is_empty()
 }
 
 /// Tells whether objects of a type are run.
@@ -172,7 +160,7 @@ fn is_declared(records: &[RecordType], ty: Ty) -> bool
 {
     match ty {
         Ty::Record(number) => match records.get(number) {
-            Some(record) => is_plain(record),
+            Some(entry) => is_plain(entry),
             None => false,
         },
         _ => is_run_type(ty),
