@@ -9,7 +9,7 @@ use Rattle.ctl_lex.specs.Memory.{IsMemory}
 use Rattle.ctl_resolve.specs.declared.context.Broken.{Broken}
 use Rattle.ctl_resolve.specs.Whole.{named}
 use Rattle.ctl_types.specs.Elaboration.{elaborate, Elaborates}
-use Rattle.ctl_front.specs.Text.{Written, Spells, BreaksForm, resolved, judged, IsAnswer, unspelled, spelled, Answers, HasAnswer, HasOneAnswer}
+use Rattle.ctl_front.specs.Text.{Written, Spells, BreaksForm, resolved, judged, IsAnswer, unspelled, spelled, Answers, SpellsNamed, HasAnswer, HasOneAnswer}
 use Rattle.ctl_front.proofs.Spelling.{one_tree, no_tree, same_fault, tree_or_fault}
 
 -- ---- the answer of the check
@@ -26,6 +26,10 @@ judged_so tree n r e is = is ∙ ap (λ (m : Tree Definition Use × Broken). ela
 pub answered_by : (source : List ℕ) (tree : Written) (n : Tree Definition Use × Broken) (r : Result Checked Fault) → Spells source tree → n ≡ named tree → Elaborates n.1.names n.1.uses n.0 r → Answers source r
 answered_by source tree n r s e (inl is) = inl (subst (λ x. IsAnswer source x) (sym (judged_so tree n r (resolved_so tree n e) is)) (spelled s))
 answered_by source tree n r s e (inr is) = inr is
+
+-- the resolver's tree
+pub resolved_as : (source : List ℕ) (tree : Written) (n : Tree Definition Use × Broken) → Spells source tree → n ≡ named tree → SpellsNamed source n.0
+resolved_as source tree n s e = record { tree = tree; spelled = s; denotes = ap (λ (m : Tree Definition Use × Broken). m.0) (resolved_so tree n e) }
 
 -- where no tree was read
 pub unread : (source : List ℕ) (fault : Fault) → BreaksForm source fault ⊎ IsMemory fault → Answers source (Err fault)

@@ -43,6 +43,12 @@ pub data BreaksForm : List ℕ → Fault → Type 0 where
 unfoldable pub resolved : Written → Tree Definition Use × Broken
 resolved tree = named tree
 
+-- the bytes spell a tree, and this is the tree with what its names denote
+pub record SpellsNamed (source : List ℕ) (named : Tree Definition Use) : Type 0 where
+  pub tree : Written
+  pub spelled : Spells source tree
+  pub denotes : named ≡ (resolved tree).0
+
 -- the program of a tree, or the first rule that it breaks: on names, order and completion (8, 3.11), or else on types
 unfoldable pub judged : Written → Result Checked Fault
 judged tree = elaborate (resolved tree).1.names (resolved tree).1.uses (resolved tree).0

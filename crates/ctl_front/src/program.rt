@@ -1,10 +1,13 @@
 //! All stages: lexis, grammar, names, types.
 
-ghost use Rattle.ctl_front.specs.Text.{Answers};
+ghost use Rattle.std.specs.Prelude.{◌≡◌, ◌⊎◌, IfErr, IfOk};
+ghost use Rattle.ctl_lex.specs.Memory.{IsMemory};
+ghost use Rattle.ctl_front.specs.Text.{Answers, BreaksForm, SpellsNamed};
 
 use crate::tree::tree_of;
 use ctl_program::program::Checked;
 use ctl_resolve::whole::named;
+use ctl_syntax::denoted::Named;
 use ctl_tree::fault::Fault;
 use ctl_types::whole::check;
 use std::alloc::Global;
@@ -18,4 +21,15 @@ pub fn program_of(alloc: Global, source: &[u8]) -> Result<Checked, Fault>
     let tree = tree_of(alloc, source)?;
     let (tree, broken) = named(alloc, &tree)?;
     check(alloc, &tree, broken.names, broken.uses)
+}
+
+/// Answers the tree of a source text with what its names denote, or its first fault of lexis or grammar (1 to 13). MEMORY comes only where
+/// the host refused memory.
+pub fn resolved_of(alloc: Global, source: &[u8]) -> Result<Named, Fault>
+    ensures found { IfOk result (λ named. SpellsNamed source.now named) }
+    ensures refused { IfErr result (λ fault. BreaksForm source.now fault ⊎ IsMemory fault) }
+{
+    let tree = tree_of(alloc, source)?;
+    let (tree, _) = named(alloc, &tree)?;
+    Ok(tree)
 }
