@@ -39,7 +39,7 @@ as_life : (code : Code) (n t : ℕ) (y : Option Object) (v : List ℕ) (place : 
 as_life code n t None v place ks ops w l = refl
 as_life code n t (Some o) v place ks ops w l = refl
 
-module _ (ask : Ask) (k : Tables) (code : Code) (setting : Setting k code) (call : Call) (default : Default) (t : ℕ) (r : RecordType) (here : slice_get k.records t ≡ Some r) (plain : IsPlain r) where
+module _ (ask : Ask) (k : Tables) (code : Code) (setting : Setting k code) (call : Call) (default : Default) (t : ℕ) (r : RecordType) (here : slice_get k.records t ≡ Some r) (plain : IsPlain k r) where
   abbrev K : Tools
   K = tools_with ask k call default
 

@@ -48,7 +48,7 @@ pool_closed k K n c l w fits =
     ap (λ ps. on_some (first_with (λ p. nat_eq p.object n) ps) (on_some (first_with (λ p. nat_eq p.object n) w.pools.block_pools) (done false) (λ p. shut_pool n >> done false)) (λ p. release_each K p.marks false >>= (λ b. shut_pool n >> done b)) c l w) fits.mark_pools
     ∙ ap (λ ps. on_some (first_with (λ p. nat_eq p.object n) ps) (done false) (λ p. shut_pool n >> done false) c l w) fits.block_pools
 
-module _ (ask : Ask) (k : Tables) (code : Code) (setting : Setting k code) (call : Call) (default : Default) (t : ℕ) (r : RecordType) (here : slice_get k.records t ≡ Some r) (plain : IsPlain r) where
+module _ (ask : Ask) (k : Tables) (code : Code) (setting : Setting k code) (call : Call) (default : Default) (t : ℕ) (r : RecordType) (here : slice_get k.records t ≡ Some r) (plain : IsPlain k r) where
   abbrev K : Tools
   K = tools_with ask k call default
 

@@ -11,12 +11,12 @@ use Rattle.ctl_meaning_plain.specs.Initialization.{parts_to_begin}
 use Rattle.ctl_gen_plain.proofs.Known.{IsPlain}
 use Rattle.std.specs.Prelude.{replicate}
 
-module _ (k : Tables) (t : ℕ) (r : RecordType) (at : slice_get k.records t ≡ Some r) (plain : IsPlain r) where
+module _ (k : Tables) (t : ℕ) (r : RecordType) (at : slice_get k.records t ≡ Some r) (plain : IsPlain k r) where
   none_within : (n : ℕ) → components (suc n) k.records t ≡ []
   unfolding components with_own of_parent
   none_within n =
       ap (with_own (components n k.records)) at
-      ∙ ap (λ p. of_parent [] (components n k.records) p ++ r.own) plain.no_parent
+      ∙ ap (λ cs. cs ++ r.own) (plain.inherits_none n)
       ∙ plain.no_components
 
   pub is_controlled_plain : is_controlled k t ≡ true

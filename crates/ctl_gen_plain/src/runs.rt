@@ -145,12 +145,32 @@ fn pieces(pieces: &[Piece]) -> bool
     true
 }
 
-/// Tells whether objects of a record type are run: one that extends Controlled without components.
-fn is_plain(entry: &RecordType) -> bool
-    ensures { result ≡ spec.is_plain (Some entry.now) }
+/// Tells whether a type extends none and has no components, as Controlled and Limited_Controlled themselves.
+fn is_bare(entry: &RecordType) -> bool
+    ensures { result ≡ spec.is_bare (Some entry.now) }
+{
+    entry.parent.is_none() && entry.own.as_slice().is_empty()
+}
+
+/// Tells whether a type with this parent extends none, or such a type.
+fn extends_bare(records: &[RecordType], parent: Option<usize>) -> bool
+    ensures { result ≡ spec.extends_bare records.now parent }
+{
+    match parent {
+        Some(number) => match records.get(number) {
+            Some(entry) => is_bare(entry),
+            None => false,
+        },
+        None => true,
+    }
+}
+
+/// Tells whether objects of a record type are run: one that extends Controlled or Limited_Controlled without components (RM 7.6).
+fn is_plain(records: &[RecordType], entry: &RecordType) -> bool
+    ensures { result ≡ spec.is_plain records.now (Some entry.now) }
 {
     matches!(entry.root, Root::Controlled)
-        && entry.parent.is_none()
+        && extends_bare(records, entry.parent)
         && entry.own.as_slice().is_empty()
 }
 
@@ -160,7 +180,7 @@ fn is_declared(records: &[RecordType], ty: Ty) -> bool
 {
     match ty {
         Ty::Record(number) => match records.get(number) {
-            Some(entry) => is_plain(entry),
+            Some(entry) => is_plain(records, entry),
             None => false,
         },
         _ => is_run_type(ty),
