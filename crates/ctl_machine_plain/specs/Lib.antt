@@ -1,0 +1,13 @@
+pub mod Numbers
+pub mod Objects
+pub mod Masters
+pub mod World
+pub mod Operators
+pub mod Images
+pub mod Turns
+pub mod Variables
+pub mod Control
+pub mod Calls
+pub mod Engine
+pub mod Machine
+pub mod Needs
