@@ -1,0 +1,4 @@
+pub mod Composed
+pub mod Linked
+pub mod Verdicts
+pub mod WellTyped

@@ -1,0 +1,20 @@
+use Rattle.std.proofs.Common.{inl, sym, ◌∙◌}
+use Rattle.std.proofs.lemmas.Result.{err_from_is_err_and}
+use Rattle.ctl_run_plain.specs.Verdict.{accepted}
+use Rattle.ctl_run_plain.proofs.Verdicts.{by_construct, by_first, is_program}
+use Rattle.ctl_run_plain.proofs.run.check_source.Goals as goal
+
+pub returns-in_err-program : goal.returns-in_err-program
+returns-in_err-program c =
+    let p = err_from_is_err_and c.from_residual.result c.from_residual.ensures.1 in
+    rw (p.1, p.2) (by_first c.args.source.now c.in_err-program.field-0.0 c.in_err-program.ensures)
+
+pub returns-then-is_run : goal.returns-then-is_run
+returns-then-is_run c = inl (accepted (is_program c.args.source.now c.in_ok-program.program c.in_ok-program.ensures) (sym c.is_run.ensures ∙ c.if-is_run.true))
+
+pub returns : goal.returns
+returns c =
+    by_construct c.args.source.now c.in_ok-program.program c.left_out.result
+    (is_program c.args.source.now c.in_ok-program.program c.in_ok-program.ensures)
+    (sym c.is_run.ensures ∙ c.if-is_run.false)
+    c.left_out.ensures

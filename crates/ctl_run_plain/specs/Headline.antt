@@ -1,0 +1,62 @@
+-- What a run shows: the promise of the whole product.
+use Rattle.std.specs.Prelude.{◌≡◌, ◌≢◌, ℕ, ◌*◌, ◌≤◌, List, Some, None, Ok}
+use Rattle.ctl_program.specs.declared.program.Checked.{Checked}
+use Rattle.ctl_tree.specs.declared.ending.End.{End}
+use Rattle.ctl_tree.specs.declared.ending.End.TheVariants.{Done, Raised, Stopped, StepLimit, HostMemory}
+use Rattle.ctl_tree.specs.declared.request.Order.{Order}
+use Rattle.ctl_meaning_plain.specs.World.{Pick}
+use Rattle.ctl_meaning_plain.specs.Choice.{Ask, Obeys, answer, replayed}
+use Rattle.ctl_meaning_plain.specs.Run as Meaning
+use Rattle.ctl_meaning_plain.specs.Run.{outcome}
+use Rattle.ctl_code_plain.specs.declared.code.Code.{Code}
+use Rattle.ctl_code_plain.specs.States.{Stuck}
+use Rattle.ctl_code_plain.specs.Steps.{end_of}
+use Rattle.ctl_code_plain.specs.Laws.{IsPrefix}
+use Rattle.ctl_gen_plain.specs.Layout.{IsLaidOut}
+use Rattle.ctl_machine_plain.specs.declared.outcome.Outcome.{Outcome}
+use Rattle.ctl_machine_plain.specs.Machine.{after_steps, chosen}
+use Rattle.ctl_run_plain.specs.Verdict.{IsVerdict}
+
+-- the run ended by itself
+abbrev pub ByItself : End → Type 0
+ByItself Done = Unit {0}
+ByItself (Raised name) = Unit {0}
+ByItself (Stopped s) = Unit {0}
+ByItself StepLimit = ⊥
+ByItself HostMemory = ⊥
+
+-- the run has come to the end of this outcome of the meaning, or has shown at least what it shows
+pub record Reaches (o : Outcome) (taken : List Pick) (meant : Meaning.Outcome) : Type 0 where
+  pub end : (e : End) → meant.end ≡ Some e → (o.end ≡ e) × (o.events.items ≡ meant.trace) × (taken ≡ meant.picks)
+  pub trace : IsPrefix meant.trace o.events.items
+
+-- what a run of a program shows, under an order and within a limit of steps. The only premise is memory: where the host refuses it
+-- the run ends as HostMemory, and all but `in_time` holds of what was shown till then
+pub record Headline (program : Checked) (order : Order) (limit : ℕ) (o : Outcome) : Type 0 where
+  -- the choices that the run reports, each with its number of candidates
+  pub taken : List Pick
+  pub reported : o.picks.items ≡ chosen taken
+  -- the events shown are the beginning of the trace that the meaning gives the program for these choices
+  pub so_far : IsPrefix o.events.items (outcome program (replayed taken) o.steps).trace
+  -- a run that ended by itself has shown the whole trace, and its end is the meaning's
+  pub whole : ByItself o.end → ((outcome program (replayed taken) o.steps).end ≡ Some o.end) × ((outcome program (replayed taken) o.steps).trace ≡ o.events.items)
+  -- the meaning takes all of these choices
+  pub no_pick_left : (outcome program (replayed taken) o.steps).picks ≡ taken
+  -- the choices obey the order, each below its number of candidates
+  pub obeys : Obeys (answer order) taken
+  -- the run took the steps of the program's code, at each of which that code has an instruction
+  pub code : Code
+  pub laid_out : IsLaidOut program code
+  pub shown : o.events.items ≡ (after_steps code order o.steps).log.trace
+  pub not_stuck : (n : ℕ) → (after_steps code order n).mode ≢ Stuck
+  -- no more steps than were asked for, and all of them where the limit ended the run, which has not ended by itself then
+  pub within : o.steps ≤ limit
+  pub at_limit : o.end ≡ StepLimit → (o.steps ≡ limit) × (end_of code (after_steps code order o.steps) ≡ None)
+  -- each outcome of the meaning whose choices obey the order is reached in 64 steps a tick
+  pub in_time : o.end ≢ HostMemory → (other : Ask) (clock : ℕ) → Obeys (answer order) (outcome program other clock).picks → 64 * (outcome program other clock).ticks ≤ limit → Reaches o taken (outcome program other clock)
+
+-- the program of an accepted text, and what its run shows
+pub record RunsSource (source : List ℕ) (order : Order) (limit : ℕ) (o : Outcome) : Type 0 where
+  pub program : Checked
+  pub accepted : IsVerdict source (Ok program)
+  pub headline : Headline program order limit o
