@@ -13,7 +13,7 @@ use crate::source::{ReadFault, Reading, read_source};
 use crate::status::{Status, status_of_end, status_of_fault, status_of_usage};
 use crate::summary::RunFault;
 use ctl_job::{Job, UsageFault};
-use ctl_run::run::check_source;
+use ctl_run_plain::run::check_source;
 use ctl_sink::{PutFault, Sink, put_all};
 use ctl_tree::fault::Fault;
 use ctl_tree::request::{Order, Show};

@@ -1,6 +1,6 @@
 //! What is known of a run whose text has been written, and why none was.
 
-use ctl_machine::outcome::Outcome;
+use ctl_machine_plain::outcome::Outcome;
 use ctl_tree::ending::End;
 use ctl_tree::fault::Fault;
 use thiserror::Error;

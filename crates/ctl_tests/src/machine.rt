@@ -1,12 +1,13 @@
 //! Small codes, run to their ends and to a limit.
 
-use ctl_code::code::{Code, Entry, Instr, Operations};
-use ctl_code::kinds::{Kind, KindNotes, Kinds};
-use ctl_code::template::{Template, TextPart};
-use ctl_code::valid::ValidCode;
-use ctl_machine::machine::Machine;
-use ctl_machine::outcome::{Outcome, Progress};
-use ctl_tree::checked::{BinaryOp, Ty, Var};
+use ctl_code_plain::code::{Code, Entry, Instr, Operations};
+use ctl_code_plain::kinds::{Kind, KindNotes, Kinds};
+use ctl_code_plain::template::{Template, TextPart};
+use ctl_code_plain::valid::ValidCode;
+use ctl_machine_plain::machine::Machine;
+use ctl_machine_plain::outcome::{Outcome, Progress};
+use ctl_program::operators::{BinaryOp, Direction};
+use ctl_program::types::{Ty, Var};
 use ctl_tree::ending::{End, Stop};
 use ctl_tree::event::{Event, Owner};
 use ctl_tree::request::Order;
@@ -94,7 +95,7 @@ const REVERSE_LOOP: &[Instr] = &[
     Instr::Start(0),
     Instr::Push(1),
     Instr::Push(3),
-    Instr::For(FIRST, true, 3),
+    Instr::For(FIRST, Direction::Downward, 3),
     Instr::Read(FIRST),
     Instr::Put(1),
     Instr::Next(2),
@@ -119,7 +120,7 @@ const SQUARES: &[Instr] = &[
     Instr::Start(0),
     Instr::Push(1),
     Instr::Push(3),
-    Instr::For(FIRST, false, 5),
+    Instr::For(FIRST, Direction::Upward, 5),
     Instr::Read(FIRST),
     Instr::BinaryVariable(BinaryOp::Multiply, Ty::Integer, FIRST),
     Instr::BinaryConstant(BinaryOp::Modulo, Ty::Integer, 7),

@@ -1,8 +1,8 @@
 //! Jobs on source texts, with readers and writers that fail.
 
 use ctl_job::{Job, UsageFault};
-use ctl_machine::outcome::Outcome;
-use ctl_run::run::run_source;
+use ctl_machine_plain::outcome::Outcome;
+use ctl_run_plain::run::run_source;
 use ctl_serve::report::{Picks, say, say_end};
 use ctl_serve::status::{Status, status_of_end};
 use ctl_serve::{Reading, RunFault, Summary, put_run, refuse_words, run_into, serve, serve_into};

@@ -1,7 +1,8 @@
 //! Whole texts by the rules on names, order, completion and freezing.
 
-use ctl_legality::view::Denoted;
-use ctl_run::named::named_of;
+use ctl_front::program::{program_of, resolved_of};
+use ctl_syntax::denoted::{Denoted, Named};
+use ctl_syntax::item::Statement;
 use std::alloc::Global;
 use std::test::Fail;
 
@@ -87,13 +88,18 @@ fn own_names_hide_used_ones(rt: HostRuntime) -> Result<(), Fail> {
             false,
         ),
     ] {
-        let found = match named_of(rt.alloc(), source.as_bytes()) {
-            Ok(named) => matches!(named.uses.first(), Some(Denoted::Declared(_, 1))),
-            Err(_) => !is_own,
-        };
-        assert_eq!(rt; found, is_own);
+        let tree = resolved_of(rt.alloc(), source.as_bytes()).map_err(|_| "refused")?;
+        assert_eq!(rt; matches!(called(&tree), Some(Denoted::Declared(_, 1))), is_own);
     }
     Ok(())
+}
+
+/// What the first statement of the main procedure calls.
+fn called(tree: &Named) -> Option<Denoted> {
+    match tree.body.statements.as_slice().first() {
+        Some(Statement::Call(_, name)) => Some(name.first.denoted),
+        _ => None,
+    }
 }
 
 #[test]
@@ -427,7 +433,7 @@ fn operations_by_profile(rt: HostRuntime) -> Result<(), Fail> {
 
 /// The first fault of a text, or nothing.
 fn answer(alloc: Global, source: &str) -> Result<String, Fail> {
-    match named_of(alloc, source.as_bytes()) {
+    match program_of(alloc, source.as_bytes()) {
         Ok(_) => Ok(String::new(alloc)),
         Err(fault) => Ok(fault.to_string(alloc)?),
     }

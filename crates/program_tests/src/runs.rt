@@ -1,6 +1,6 @@
 //! Whole texts: their traces, and their faults with the places.
 
-use ctl_run::run::{check_source, run_source};
+use ctl_run_plain::run::{check_source, run_source};
 use ctl_text::{output_text, trace_text};
 use ctl_tree::ending::End;
 use ctl_tree::request::Order;
