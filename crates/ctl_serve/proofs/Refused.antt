@@ -1,11 +1,8 @@
 -- Why a text is refused.
-use Rattle.std.proofs.Common.{◌≡◌, ◌⊎◌, ℕ, List, inl, inr}
-use Rattle.ctl_lex.specs.Memory.{IsMemory}
+use Rattle.std.proofs.Common.{ℕ, List}
 use Rattle.ctl_lexis.specs.Lexis.{HasFault}
 use Rattle.ctl_front.specs.Text.{BreaksForm, of_lexis, unspelled}
 use Rattle.ctl_run_plain.specs.Verdict.{IsFaultOf, refused}
-use Rattle.ctl_serve.specs.Statuses.{fault_status}
-use Rattle.ctl_serve.specs.declared.status.Status.TheVariants.{Refused}
 use Rattle.ctl_tree.specs.declared.fault.Fault.{Fault}
 
 -- the first fault of a text that spells no tree is its fault
@@ -15,8 +12,3 @@ fault_of_form source fault f = refused (unspelled f)
 -- and so is its first fault of lexis
 pub fault_of_lexis : (source : List ℕ) (fault : Fault) → HasFault source fault → IsFaultOf source fault
 fault_of_lexis source fault f = fault_of_form source fault (of_lexis f)
-
--- where the status tells that the text is refused, it is for its fault
-pub its_fault : (source : List ℕ) (fault : Fault) → IsFaultOf source fault ⊎ IsMemory fault → fault_status fault.code ≡ Refused → IsFaultOf source fault
-its_fault source fault (inl f) told = f
-its_fault source fault (inr m) told = absurd (cc)
