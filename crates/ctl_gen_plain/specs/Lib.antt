@@ -1,0 +1,6 @@
+pub mod Emitted
+pub mod Values
+pub mod Texts
+pub mod Layout
+pub mod Run
+pub mod Correct

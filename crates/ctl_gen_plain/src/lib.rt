@@ -1,0 +1,9 @@
+//! From the checked program to the machine's code.
+#![tactic(auto)]
+
+mod emit;
+mod emit_expressions;
+mod emit_statements;
+pub mod generate;
+mod right;
+mod typing;
