@@ -4,3 +4,11 @@ pub mod EmittedValues
 pub mod EmittedStatements
 pub mod EmittedArms
 pub mod EmittedTexts
+pub mod Follow
+pub mod Place
+pub mod Worlds
+pub mod Plain
+pub mod Worth
+pub mod Operands
+pub mod Setting
+pub mod Does

@@ -4,3 +4,4 @@ pub mod Texts
 pub mod Layout
 pub mod Run
 pub mod Correct
+pub mod Laws

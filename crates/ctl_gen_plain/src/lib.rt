@@ -5,5 +5,6 @@ mod emit;
 mod emit_expressions;
 mod emit_statements;
 pub mod generate;
+pub mod laws;
 mod right;
 mod typing;
