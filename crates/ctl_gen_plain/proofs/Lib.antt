@@ -12,3 +12,6 @@ pub mod Worth
 pub mod Operands
 pub mod Setting
 pub mod Does
+pub mod Values
+pub mod Expressions
+pub mod Evaluations
