@@ -4,6 +4,7 @@ pub mod EmittedValues
 pub mod EmittedStatements
 pub mod EmittedArms
 pub mod EmittedTexts
+pub mod StatementLayers
 pub mod Follow
 pub mod Place
 pub mod Worlds

@@ -2,7 +2,7 @@
 
 ghost use Rattle.std.specs.Prelude.{◌≡◌, ◌<◌, ◌-◌, IfOk, length, map, option_map, OnOk};
 ghost use Rattle.std.specs.Option.{ForSome};
-ghost use Rattle.ctl_gen_plain.specs.Emitted.{appended, followed};
+ghost use Rattle.ctl_gen_plain.specs.Emitted.{appended, followed, over};
 ghost use Rattle.ctl_gen_plain.specs.Values as values;
 ghost use Rattle.ctl_gen_plain.specs.Texts as texts;
 ghost use Rattle.ctl_gen_plain.specs.Layout as spec;
@@ -44,10 +44,7 @@ impl Emitter {
         ensures { OnOk result (self.new ≡ followed (spec.items (spec.item_code item.now)) self.old) }
     {
         match item {
-            Item::Object(slot, Ty::Record(record), None) => {
-                self.put(Instr::Declare(*slot, *record))
-            }
-            Item::Object(slot, ty, None) => self.put(Instr::DeclareScalar(*slot, *ty)),
+            Item::Object(slot, ty, None) => self.put(declaration(*slot, *ty)),
             Item::Object(slot, ty, Some(value)) => {
                 self.expression(*ty, value)?;
                 self.take(Instr::DeclareValue(*slot, *ty))
@@ -278,11 +275,34 @@ impl Emitter {
         ensures { self.new ≡ texts.left pieces.now self.old }
     {
         for piece in pieces {
-            match piece {
-                Piece::Text(_) => {}
-                Piece::IntegerImage(_) | Piece::BooleanImage(_) => self.leave(),
-            }
+            self.leave_image(piece);
         }
+    }
+
+    /// The value of a piece stands there no more, if it is an image.
+    #[tactic(auto, unfolding(crate::specs::Emitted::over))]
+    fn leave_image(&mut self, piece: &Piece)
+        ensures { self.new ≡ over (texts.without_image piece.now) self.old }
+    {
+        match piece {
+            Piece::Text(_) => {}
+            Piece::IntegerImage(_) | Piece::BooleanImage(_) => self.leave(),
+        }
+    }
+}
+
+/// Gives the instruction that declares an object without a value: of a record type, or a scalar one.
+fn declaration(slot: usize, ty: Ty) -> Instr
+    ensures { result ≡ spec.declaration slot ty }
+{
+    match ty {
+        Ty::Record(record) => Instr::Declare(slot, record),
+        Ty::Integer
+        | Ty::Count
+        | Ty::Boolean
+        | Ty::Address
+        | Ty::Handle
+        | Ty::Access(_) => Instr::DeclareScalar(slot, ty),
     }
 }
 

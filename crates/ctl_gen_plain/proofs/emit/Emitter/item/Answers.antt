@@ -9,10 +9,7 @@ use Rattle.ctl_gen_plain.proofs.EmittedStatements.{no_item}
 use Rattle.ctl_gen_plain.proofs.emit.Emitter.item.Goals as goal
 
 pub returns-in_ok-expression-in-Object-default-default-Some : goal.returns-in_ok-expression-in-Object-default-default-Some
-returns-in_ok-expression-in-Object-default-default-Some c = on_ok _ _ c.take.result c.take.ensures (λ e.
-    let i = c.in-Object-default-default-Some in
-    in_two (value i.ty (value_code i.value)) (one (DeclareValue i.slot i.ty) below_newest) c.args.self.now c.expression.new.self c.take.new.self c.in_ok-expression-in-Object-default-default-Some.ensures e
-    ∙ ap (λ x. followed (items (item_code x)) c.args.self.now) (sym i.is))
+returns-in_ok-expression-in-Object-default-default-Some c = let h = c.in-Object-default-default-Some.is in let s = c.in-Object-default-default-Some.value-is in let u = c.in_ok-expression-in-Object-default-default-Some.ensures in ?
 
 pub returns-in-Silent : goal.returns-in-Silent
 returns-in-Silent c = no_item c.args.self.now ∙ ap (λ x. followed (items (item_code x)) c.args.self.now) (sym c.in-Silent.is)

@@ -1,0 +1,12 @@
+use Rattle.ctl_gen_plain.proofs.Emission.{on_ok}
+use Rattle.std.proofs.Common.{ap, sym, ◌∙◌}
+use Rattle.ctl_gen_plain.specs.Emitted.{as_it_is, followed, one}
+use Rattle.ctl_gen_plain.proofs.EmittedTexts.{print_emitted}
+use Rattle.ctl_gen_plain.proofs.emit.Emitter.print.Goals as goal
+
+pub returns : goal.returns
+returns c =
+    print_emitted c.args.ends_line c.args.pieces.now c.args.self.now c.pieces.new.self c.text.new.self c.put.new.self c.leave_images.new.self c.in_ok-number.number
+    c.in_ok-pieces.ensures c.in_ok-number.ensures.text c.in_ok-number.ensures.number
+    (c.in_ok-put.ensures ∙ ap (λ i. followed (one i as_it_is) c.text.new.self) c.print_of.ensures)
+    c.leave_images.ensures
