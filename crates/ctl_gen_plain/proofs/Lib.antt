@@ -16,3 +16,11 @@ pub mod Does
 pub mod Values
 pub mod Expressions
 pub mod Evaluations
+pub mod Assign
+pub mod Branches
+pub mod Loops
+pub mod Finalize
+pub mod Leave
+pub mod Declare
+pub mod Scalars
+pub mod Texts

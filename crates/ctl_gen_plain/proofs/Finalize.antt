@@ -1,0 +1,131 @@
+-- The finalization of a declared object of a plain type.
+use Rattle.std.proofs.Common.{◌≡◌, ℕ, ◌≤◌, List, [], ◌∷◌, length, Option, Some, None, Bool, true, false, refl, sym, ap, ◌∙◌, subst, arith}
+use Rattle.std.specs.Prelude.{slice_get, ◌&&◌, ◌||◌, nat_eq}
+use Rattle.ctl_program.specs.declared.types.Ty.{Ty}
+use Rattle.ctl_program.specs.declared.types.Ty.TheVariants.{Record}
+use Rattle.ctl_program.specs.declared.program.Subprogram.{Subprogram}
+use Rattle.ctl_tree.specs.declared.ending.Stop.TheVariants.{UseAfterFree}
+use Rattle.ctl_tree.specs.declared.event.Event.{Event}
+use Rattle.ctl_tree.specs.declared.event.Event.TheVariants as EventOf
+use Rattle.ctl_tree.specs.declared.event.Cause.TheVariants.{Scope}
+use Rattle.ctl_meaning_plain.specs.World.{Object, Member, Log, World, Binds}
+use Rattle.ctl_meaning_plain.specs.Lists.{first_with, opened_lists}
+use Rattle.ctl_meaning_plain.specs.Pools.{opened_pools}
+use Rattle.ctl_meaning_plain.specs.Changes.{object_at, begin_finalization, end_finalization, home_of}
+use Rattle.ctl_meaning_plain.specs.Choice.{Ask, picked}
+use Rattle.ctl_meaning_plain.specs.Outcome.{ByExit, ByReturn, ByRaise, Result, Goes, Leaves, Out, Gives, Stops, Cut, Act, Done, add, bind, on_goes, ◌>>=◌, ◌>>◌, done, nothing, tell, show, look, change, told, either, on_some, opened_outcome}
+use Rattle.ctl_meaning_plain.specs.Types.{Tables, operation, depth, of_record}
+use Rattle.ctl_meaning_plain.specs.Names.{OfSubprogram, Returned, Call, Tools, gone, opened_names}
+use Rattle.ctl_meaning_plain.specs.Finalization.{whole, Every, component_at, call_operation, after_finalize, own_finalize, in_any_order, finalize_part, finalize, finalize_object, finalize_if_controlled, opened_finalization}
+use Rattle.ctl_meaning_plain.specs.Storage.{close_pool, shut_pool, release_each, opened_storage}
+use Rattle.ctl_code_plain.specs.declared.code.Code.{Code}
+use Rattle.ctl_code_plain.specs.States.{Frame, Finalizing, State}
+use Rattle.ctl_code_plain.specs.Table as Table
+use Rattle.ctl_code_plain.specs.Table.{whole_part, operation_of}
+use Rattle.ctl_code_plain.specs.Steps.{moved, step}
+use Rattle.ctl_gen_plain.proofs.Worlds.{Fits, fits_begin, fits_end}
+use Rattle.ctl_gen_plain.proofs.Plain.{Bare, is_controlled_plain, has_controlled_plain, parts_to_finalize_plain}
+use Rattle.ctl_gen_plain.proofs.Setting.{Setting, returns, Calls, enter_shows}
+use Rattle.ctl_gen_plain.proofs.Follow.{Runs, gives, both, no_step, last_step, stop_step, one_step, within, then_step, more_quits, more_halts}
+
+-- an object that exists is finalized by its own type, and closes then if it is a pool
+abbrev pub finalize_as : Tools → ℕ → Ty → Act Bool
+finalize_as K n ty = finalize_if_controlled K Scope (record { number = n; ty = ty }) >>= (λ a. close_pool K n >>= (λ b. done (a || b)))
+
+-- what becomes of the execution of a Finalize
+abbrev finalized : ℕ → Out Returned → Out Bool
+finalized n o = add 0 (bind (add 1 (bind (bind (bind (bind (add 0 o) (on_goes (λ _. nothing))) told) (on_goes (after_finalize Scope))) (on_goes (λ b. done b)))) (on_goes (λ b. change (end_finalization n) >> done b)))
+
+-- what becomes of a Finalize that the user did not write
+abbrev unwritten : ℕ → Out Done → Out Bool
+unwritten n o = add 0 (bind (add 1 (bind (bind (bind o told) (on_goes (after_finalize Scope))) (on_goes (λ b. done b)))) (on_goes (λ b. change (end_finalization n) >> done b)))
+
+-- an object that is no pool
+pub pool_closed : (k : Tables) (K : Tools) (n c : ℕ) (l : Log) (w : World) → Fits k w → close_pool K n c l w ≡ Gives (Goes false) 0 c l w
+unfolding opened_storage opened_outcome opened_pools opened_lists
+pool_closed k K n c l w fits =
+    ap (λ ps. on_some (first_with (λ p. nat_eq p.object n) ps) (on_some (first_with (λ p. nat_eq p.object n) w.pools.block_pools) (done false) (λ p. shut_pool n >> done false)) (λ p. release_each K p.marks false >>= (λ b. shut_pool n >> done b)) c l w) fits.mark_pools
+    ∙ ap (λ ps. on_some (first_with (λ p. nat_eq p.object n) ps) (done false) (λ p. shut_pool n >> done false) c l w) fits.block_pools
+
+module _ (K : Tools) (bodies : List Subprogram) (code : Code) (setting : Setting K.tables bodies code) (t : ℕ) (plain : Bare K.tables t) where
+  abbrev ask : Ask
+  ask = K.ask
+
+  abbrev k : Tables
+  k = K.tables
+
+  abbrev call : Call
+  call = K.call
+
+  abbrev ends : ℕ → Event
+  ends n = EventOf.Finalize (whole_part n) Scope
+
+  finalize_is : (g : Option ℕ) → operation (λ x. x.finalize) k t ≡ g → (n c : ℕ) (l : Log) (w : World) → finalize K Scope Every (whole n) t c l w ≡ add 1 (bind (bind (bind (call_operation K (whole n) g (ends n) c l w) told) (on_goes (after_finalize Scope))) (on_goes (λ b. done b)))
+  unfolding opened_finalization opened_outcome depth
+  finalize_is g e n c l w =
+      ap (λ ps. add 1 (bind (own_finalize K Scope Every (whole n) t c l w) (on_goes (in_any_order K (λ p. of_record (done false) (finalize_part K Scope Every (length k.records) (component_at (whole n) p)) p.ty) (length ps) ps)))) (parts_to_finalize_plain k t plain K Every (whole n) refl)
+      ∙ ap (λ b. add 1 (bind (either (b && true) (λ c1 l1 w1. bind (bind (call_operation K (whole n) (operation (λ x. x.finalize) k t) (ends n) c1 l1 w1) told) (on_goes (after_finalize Scope))) (done false) c l w) (on_goes (λ b1. done b1)))) (is_controlled_plain k t plain)
+      ∙ ap (λ x. add 1 (bind (bind (bind (call_operation K (whole n) x (ends n) c l w) told) (on_goes (after_finalize Scope))) (on_goes (λ b. done b)))) e
+
+  -- an object that exists
+  object_is : (g : Option ℕ) → operation (λ x. x.finalize) k t ≡ g → (n c : ℕ) (l : Log) (w : World) (o : Object) → object_at n w ≡ Some o → finalize_object K Scope (record { number = n; ty = Record t }) c l w ≡ unwritten n (call_operation K (whole n) g (ends n) c l (begin_finalization n w))
+  unfolding opened_finalization opened_outcome opened_names of_record
+  object_is g e n c l w o at =
+      ap (λ x. bind (bind (on_some x gone (λ _. nothing) c l w) (on_goes (λ _. change (begin_finalization n)))) (on_goes (λ _. finalize K Scope Every (whole n) t >>= (λ b. change (end_finalization n) >> done b)))) at
+      ∙ ap (λ x. add 0 (bind x (on_goes (λ b. change (end_finalization n) >> done b)))) (finalize_is g e n c l (begin_finalization n w))
+
+  call_is : (f n c : ℕ) (l : Log) (w : World) (o : Object) → object_at n w ≡ Some o → call_operation K (whole n) (Some f) (ends n) c l w ≡ bind (add 0 (call (OfSubprogram f (Binds n 0 [] ∷ [])) (home_of o.origin w) c (tell (ends n) l) w)) (on_goes (λ _. nothing))
+  unfolding opened_finalization opened_outcome opened_names
+  call_is f n c l w o at = ap (λ x. on_some x gone (λ o1. look (λ w1. show (ends n) >> call (OfSubprogram f (Binds n 0 [] ∷ [])) (home_of o1.origin w1) >> nothing)) c l w) at
+
+  -- after the execution of a Finalize, one that raised is remembered
+  over : (n : ℕ) (ks : List Frame) (ops : List ℕ) (s0 : State) (c : ℕ) (o : Out Returned) → Runs ask code (Fits k) 2 2 s0 c (returns (Finalizing n ∷ ks) ops) o → Runs ask code (Fits k) 3 2 s0 c (gives ks ops) (finalized n o)
+  unfolding picked opened_outcome opened_finalization
+  over n ks ops s0 c (Gives (Goes x) u c1 l w) z = then_step ask code (Fits k) 2 3 s0 _ _ c c1 u _ w _ z refl (fits_end k n w z.fits) (omega arith)
+  over n ks ops s0 c (Gives (Leaves ByExit) u c1 l w) z = then_step ask code (Fits k) 2 3 s0 _ _ c c1 u _ w _ z refl z.fits (omega arith)
+  over n ks ops s0 c (Gives (Leaves (ByReturn v)) u c1 l w) z = then_step ask code (Fits k) 2 3 s0 _ _ c c1 u _ w _ z refl z.fits (omega arith)
+  over n ks ops s0 c (Gives (Leaves (ByRaise e)) u c1 l w) z = then_step ask code (Fits k) 2 3 s0 _ _ c c1 u _ w _ z refl (fits_end k n w z.fits) (omega arith)
+  over n ks ops s0 c (Stops why u l) z = more_quits ask code (Fits k) 2 2 s0 u _ l why (omega arith) z
+  over n ks ops s0 c (Cut u c1 l) z = more_halts ask code (Fits k) 2 2 s0 c u _ l (omega arith) z
+
+  module _ (bound : ℕ) (calls : Calls K bodies code bound) where
+    -- an object that exists, from the step that begins it
+    object_runs : (n : ℕ) (ks : List Frame) (ops : List ℕ) (c : ℕ) (l : Log) (w : World) (s0 : State) (o : Object) → c ≤ bound → Fits k w → object_at n w ≡ Some o → step ask code s0 ≡ moved l (Table.call_operation code (operation_of (λ x. x.finalize) code t) (ends n) n (object_at n (begin_finalization n w)) (Finalizing n ∷ ks) ops (begin_finalization n w)) → Runs ask code (Fits k) 3 3 s0 c (gives ks ops) (finalize_object K Scope (record { number = n; ty = Record t }) c l w)
+    unfolding picked opened_outcome opened_finalization opened_names of_record
+    object_runs n ks ops c l w s0 o le fits at first = subst goal (sym (object_is (operation (λ x. x.finalize) k t) refl n c l w o at)) (still (operation (λ x. x.finalize) k t) (object_at n w1) refl refl (first ∙ ap (λ g. begun g (object_at n w1)) (setting.finalize t)))
+      where
+        w1 : World
+        w1 = begin_finalization n w
+
+        fits1 : Fits k w1
+        fits1 = fits_begin k n w fits
+
+        goal : Out Bool → Type 0
+        goal o = Runs ask code (Fits k) 3 3 s0 c (gives ks ops) o
+
+        begun : Option ℕ → Option Object → State
+        begun g x = moved l (Table.call_operation code g (ends n) n x (Finalizing n ∷ ks) ops w1)
+
+        still : (g : Option ℕ) (x : Option Object) → operation (λ x. x.finalize) k t ≡ g → object_at n w1 ≡ x → step ask code s0 ≡ begun g x → goal (unwritten n (call_operation K (whole n) g (ends n) c l w1))
+        still None None op at1 e = subst goal (sym (ap (λ x. unwritten n (add 1 (on_some x gone (λ _. nothing) c l w1))) at1)) (stop_step ask code (Fits k) 3 3 s0 _ c 2 (gives ks ops) UseAfterFree l (omega arith) e refl refl)
+        still None (Some o) op at1 e = subst goal (sym (ap (λ x. unwritten n (add 1 (on_some x gone (λ _. nothing) c l w1))) at1)) (one_step ask code (Fits k) 1 0 3 3 s0 _ c c (gives ks ops) (Gives (Goes false) 2 c l (end_finalization n w1)) (omega arith) (omega arith) (omega arith) (omega arith) e (last_step ask code (Fits k) 1 0 _ c 2 (gives ks ops) (Goes false) l (end_finalization n w1) (omega arith) (fits_end k n w1 fits1) refl))
+        still (Some f) None op at1 e = subst goal (sym (ap (λ x. unwritten n (on_some x gone (λ o1. look (λ v. show (ends n) >> call (OfSubprogram f (Binds n 0 [] ∷ [])) (home_of o1.origin v) >> nothing)) c l w1)) at1)) (stop_step ask code (Fits k) 3 3 s0 _ c 1 (gives ks ops) UseAfterFree l (omega arith) e refl refl)
+        still (Some f) (Some o) op at1 e = subst goal (sym (ap (unwritten n) (call_is f n c l w1 o at1))) (within ask code (Fits k) 3 2 3 3 s0 c (gives ks ops) _ (omega arith) (omega arith) (over n ks ops s0 c _ (calls.runs f (setting.finalizes t f op) (home_of o.origin w1) (Binds n 0 [] ∷ []) (Finalizing n ∷ ks) ops c (tell (ends n) l) w1 s0 le fits1 (e ∙ enter_shows (slice_get code.entries.items f) (ends n) (home_of o.origin w1) (Binds n 0 [] ∷ []) (Finalizing n ∷ ks) ops l w1))))
+
+    -- such an object, which is no pool
+    pub declared_runs : (n : ℕ) (ks : List Frame) (ops : List ℕ) (c : ℕ) (l : Log) (w : World) (s0 : State) (o : Object) → c ≤ bound → Fits k w → object_at n w ≡ Some o → step ask code s0 ≡ moved l (Table.call_operation code (operation_of (λ x. x.finalize) code t) (ends n) n (object_at n (begin_finalization n w)) (Finalizing n ∷ ks) ops (begin_finalization n w)) → Runs ask code (Fits k) 3 3 s0 c (gives ks ops) (finalize_as K n (Record t) c l w)
+    unfolding opened_outcome opened_finalization
+    declared_runs n ks ops c l w s0 o le fits at first =
+        subst (λ b. Runs ask code (Fits k) 3 3 s0 c (gives ks ops) (bind (either b (finalize_object K Scope m) (done false) c l w) (on_goes (λ a. close_pool K n >>= (λ b1. done (a || b1)))))) (sym (has_controlled_plain k t plain))
+        (both ask code (Fits k) 3 3 0 0 3 3 s0 c (gives ks ops) (gives ks ops) _ _ (omega arith) (omega arith) (omega arith) (object_runs n ks ops c l w s0 o le fits at first) after)
+      where
+        m : Member
+        m = record { number = n; ty = Record t }
+
+        joined : (a : Bool) (c1 : ℕ) (l1 : Log) (w1 : World) → Fits k w1 → Runs ask code (Fits k) 0 0 (gives ks ops (Goes a) l1 w1) c1 (gives ks ops) (bind (Gives (Goes false) 0 c1 l1 w1) (on_goes (λ b1. done (a || b1))))
+        joined true c1 l1 w1 fits1 = no_step ask code (Fits k) 0 0 _ c1 0 (gives ks ops) (Goes true) l1 w1 fits1 refl
+        joined false c1 l1 w1 fits1 = no_step ask code (Fits k) 0 0 _ c1 0 (gives ks ops) (Goes false) l1 w1 fits1 refl
+
+        after : (a : Result Bool) (c1 : ℕ) (l1 : Log) (w1 : World) → c1 ≤ c → Fits k w1 → Runs ask code (Fits k) 0 0 (gives ks ops a l1 w1) c1 (gives ks ops) (on_goes (λ a. close_pool K n >>= (λ b1. done (a || b1))) a c1 l1 w1)
+        after (Goes a) c1 l1 w1 lo fits1 = subst (λ o. Runs ask code (Fits k) 0 0 (gives ks ops (Goes a) l1 w1) c1 (gives ks ops) (bind o (on_goes (λ b1. done (a || b1))))) (sym (pool_closed k K n c1 l1 w1 fits1)) (joined a c1 l1 w1 fits1)
+        after (Leaves y) c1 l1 w1 lo fits1 = no_step ask code (Fits k) 0 0 _ c1 0 (gives ks ops) (Leaves y) l1 w1 fits1 refl
