@@ -24,3 +24,5 @@ pub mod Leave
 pub mod Declare
 pub mod Scalars
 pub mod Texts
+pub mod Items
+pub mod Masters
