@@ -26,3 +26,4 @@ pub mod Scalars
 pub mod Texts
 pub mod Items
 pub mod Masters
+pub mod Statements

@@ -1,0 +1,104 @@
+-- The execution of a body, and of the main procedure.
+use Rattle.std.proofs.Common.{◌≡◌, ℕ, zero, suc, ◌+◌, ◌≤◌, List, [], ◌∷◌, ◌++◌, length, map, Some, refl, sym, ap, ◌∙◌, subst, arith, inl}
+use Rattle.std.specs.Prelude.{slice_get, take, drop, replicate, IsTrue}
+use Rattle.ctl_program.specs.declared.operators.SubprogramKind.TheVariants.{Procedure}
+use Rattle.ctl_program.specs.declared.program.Subprogram.{Subprogram}
+use Rattle.ctl_meaning_plain.specs.World.{Slot, Unset, Log, World, empty_log, empty_world}
+use Rattle.ctl_meaning_plain.specs.Changes.{open_master}
+use Rattle.ctl_meaning_plain.specs.Choice.{Ask}
+use Rattle.ctl_meaning_plain.specs.Outcome.{ByExit, ByReturn, ByRaise, Result, Goes, Leaves, Done, bind, on_goes, on_some, opened_outcome}
+use Rattle.ctl_meaning_plain.specs.Types.{Tables}
+use Rattle.ctl_meaning_plain.specs.Names.{OfSubprogram, Returned, Tools, gone}
+use Rattle.ctl_meaning_plain.specs.Names as Names
+use Rattle.ctl_meaning_plain.specs.Masters.{Left, in_master}
+use Rattle.ctl_meaning_plain.specs.Statements.{unset_slots, body_of}
+use Rattle.ctl_meaning_plain.specs.Run.{Meaning, Routine, routine_of, returned, slots_for, run_routine, run_number, execute, expression_tools, default_in, tools_with, execution, tools, run_meaning}
+use Rattle.ctl_code_plain.specs.declared.code.Instr.TheVariants as InstrOf
+use Rattle.ctl_code_plain.specs.declared.code.Code.{Code}
+use Rattle.ctl_code_plain.specs.States.{AfterBody, Frame, InMaster, Giving, State}
+use Rattle.ctl_code_plain.specs.Table.{behind_body, enter_body}
+use Rattle.ctl_code_plain.specs.Steps.{moved, step, start}
+use Rattle.ctl_gen_plain.specs.Layout.{body_code, entry_at, master_code}
+use Rattle.ctl_gen_plain.specs.Run.{IsBody}
+use Rattle.ctl_gen_plain.proofs.Place.{HasAt}
+use Rattle.ctl_gen_plain.proofs.Worlds.{Fits, fits_empty}
+use Rattle.ctl_gen_plain.proofs.Setting.{Setting, returns, Calls, by_code}
+use Rattle.ctl_gen_plain.proofs.Leave.{leaves}
+use Rattle.ctl_gen_plain.proofs.Statements.{MasterFollows, master_follows}
+use Rattle.ctl_gen_plain.proofs.Follow.{IsGoing, Runs, at, added, no_step, both}
+
+-- a body stands in the code, with its texts, and is of this version
+pub record Stands (k : Tables) (code : Code) (f : ℕ) (s : Subprogram) : Type 0 where
+  pub place : ℕ
+  pub before : ℕ
+  pub entry : slice_get code.entries.items f ≡ Some (entry_at place s)
+  pub instructions : HasAt code.instructions.items place ((body_code s).code before)
+  pub texts : HasAt code.texts.items before (body_code s).texts
+  pub runs : IsTrue ((body_code s).runs k.records)
+  pub procedure : s.kind ≡ Procedure
+
+-- a subprogram is found in both tables
+routine_at : (ss : List Subprogram) (f : ℕ) (s : Subprogram) → slice_get ss f ≡ Some s → slice_get (map routine_of ss) f ≡ Some (routine_of s)
+routine_at [] f s e = absurd (cc e)
+routine_at (x ∷ ss) zero s e = let same : x ≡ s = cc e in ap (λ y. Some (routine_of y)) same
+routine_at (x ∷ ss) (suc f) s e = routine_at ss f s e
+
+module _ (ask : Ask) (p : Meaning) (bodies : List Subprogram) (same : p.routines ≡ map routine_of bodies) (code : Code) (setting : Setting p.tables bodies code) (stands : (f : ℕ) (s : Subprogram) → slice_get bodies f ≡ Some s → Stands p.tables code f s) where
+  abbrev k : Tables
+  k = p.tables
+
+  -- what everything is done with, where these are the executions
+  abbrev with_calls : Names.Call → Tools
+  with_calls call = record { ask = ask; tables = p.tables; call = call; default = default_in p.defaults (expression_tools ask p call) }
+
+  -- the step that enters a body
+  entered : (f : ℕ) (s : Subprogram) (x : Stands k code f s) → (master_code s.body).slots ≡ (body_of s.body).slots → (env : List ℕ) (actuals : List Slot) (ks : List Frame) (ops : List ℕ) (l : Log) (w : World) → moved l (enter_body (slice_get code.entries.items f) [] env actuals ks ops w) ≡ at (take s.level env ++ w.ledger.next_master ∷ []) x.place (InMaster w.ledger.next_master (length ops) AfterBody ∷ ks) ops l (open_master (take s.level env) (slots_for (body_of s.body) actuals) w)
+  unfolding slots_for unset_slots
+  entered f s x slots env actuals ks ops l w =
+      ap (λ e. moved l (enter_body e [] env actuals ks ops w)) x.entry
+      ∙ ap (λ size. at (take s.level env ++ w.ledger.next_master ∷ []) x.place (InMaster w.ledger.next_master (length ops) AfterBody ∷ ks) ops l (open_master (take s.level env) (actuals ++ drop (length actuals) (replicate size Unset)) w)) slots
+
+  -- how a procedure ends for its call
+  behind_call : (ks : List Frame) (ops : List ℕ) (r : Result Left) (c : ℕ) (l : Log) (w : World) → Fits k w → Runs ask code (Fits k) 0 0 (leaves AfterBody ks ops r l w) c (returns ks ops) (on_goes (λ (x : Left). returned Procedure x.slots x.result) r c l w)
+  unfolding opened_outcome returned
+  behind_call ks ops (Leaves y) c l w fits = no_step ask code (Fits k) 0 0 _ c 0 (returns {A = Returned} ks ops) (Leaves y) l w fits refl
+  behind_call ks ops (Goes x) c l w fits = on x.result
+    where
+      on : (r : Result Done) → Runs ask code (Fits k) 0 0 (record { mode = Giving (behind_body r); control = ks; operands = ops; world = w; log = l }) c (returns ks ops) (returned Procedure x.slots r c l w)
+      on (Goes a) = no_step ask code (Fits k) 0 0 _ c 0 (returns {A = Returned} ks ops) (Goes (record { cells = []; slots = x.slots })) l w fits refl
+      on (Leaves ByExit) = no_step ask code (Fits k) 0 0 _ c 0 (returns {A = Returned} ks ops) (Goes (record { cells = []; slots = x.slots })) l w fits refl
+      on (Leaves (ByReturn v)) = no_step ask code (Fits k) 0 0 _ c 0 (returns {A = Returned} ks ops) (Goes (record { cells = v; slots = x.slots })) l w fits refl
+      on (Leaves (ByRaise e)) = no_step ask code (Fits k) 0 0 _ c 0 (returns {A = Returned} ks ops) (Leaves (ByRaise e)) l w fits refl
+
+  -- a body, from the step that enters it
+  number_runs : (call : Names.Call) (bound : ℕ) → Calls (with_calls call) bodies code bound → (f : ℕ) (s : Subprogram) → slice_get bodies f ≡ Some s → (env : List ℕ) (actuals : List Slot) (ks : List Frame) (ops : List ℕ) (c0 c : ℕ) (l : Log) (w : World) (s0 : State) → c ≤ bound → c ≤ c0 → c0 ≤ c + 1 → Fits k w → step ask code s0 ≡ moved l (enter_body (slice_get code.entries.items f) [] env actuals ks ops w) → Runs ask code (Fits k) 0 1 s0 c0 (returns ks ops) (run_number p (with_calls call) env actuals f c l w)
+  unfolding run_number run_routine opened_outcome
+  number_runs call bound calls f s here env actuals ks ops c0 c l w s0 le lo hi fits first =
+      let x : Stands k code f s = stands f s here in
+      let there : slice_get p.routines f ≡ Some (routine_of s) = ap (λ rs. slice_get rs f) same ∙ routine_at bodies f s here in
+      let m : MasterFollows (with_calls call) bodies code setting bound calls (master_code s.body) (body_of s.body) = master_follows (with_calls call) bodies code setting bound calls s.body in
+      subst (λ o. Runs ask code (Fits k) 0 1 s0 c0 (returns ks ops) o) (sym (ap (λ y. on_some y gone (run_routine (with_calls call) env actuals) c l w) there))
+      (subst (λ b. Runs ask code (Fits k) 0 1 s0 c0 (returns ks ops) (bind (in_master (with_calls call) (take s.level env) (slots_for (body_of s.body) actuals) (λ inner. (body_of s.body).inside (with_calls call) inner 0) c l w) (on_goes (λ (y : Left). returned b y.slots y.result)))) (sym x.procedure)
+      (both ask code (Fits k) 0 1 0 0 0 1 s0 c0 (leaves AfterBody ks ops) (returns ks ops) _ (on_goes (λ (y : Left). returned Procedure y.slots y.result)) (omega arith) (omega arith) (omega arith)
+      (m.runs x.runs x.before x.texts 0 (take s.level env) (slots_for (body_of s.body) actuals) AfterBody ks ops c0 c l w s0 x.place le lo hi fits x.instructions (first ∙ entered f s x m.slots env actuals ks ops l w))
+      (λ r c1 l1 w1 lo1 fits1. behind_call ks ops r c1 l1 w1 fits1)))
+
+  -- an execution takes one from the clock, and is a tick
+  call_runs : (n c : ℕ) → c ≤ n → (f : ℕ) (s : Subprogram) → slice_get bodies f ≡ Some s → (v : List ℕ) (actuals : List Slot) (ks : List Frame) (ops : List ℕ) (l : Log) (w : World) (s0 : State) → Fits k w → step ask code s0 ≡ moved l (enter_body (slice_get code.entries.items f) [] v actuals ks ops w) → Runs ask code (Fits k) 2 2 s0 c (returns ks ops) (execution ask p (suc n) (OfSubprogram f actuals) v c l w)
+  unfolding execution execute tools_with opened_outcome
+  call_runs n zero le f s here v actuals ks ops l w s0 fits first =
+      let e = first ∙ ap (λ o. moved l (enter_body o [] v actuals ks ops w)) (stands f s here).entry in
+      record { n = 1; in_time = omega arith; logged = ap (λ (x : State). x.log) e; going = subst IsGoing (sym e) tt; why = inl (omega arith) }
+  call_runs zero (suc c) le f s here v actuals ks ops l w s0 fits first = absurd (omega (arith, le))
+  call_runs (suc n) (suc c) le f s here v actuals ks ops l w s0 fits first =
+      added ask code (Fits k) 1 0 1 2 2 s0 (suc c) (returns ks ops) _ (omega arith) (omega arith)
+      (number_runs (execution ask p (suc n)) n (record { runs = λ f1 body v1 actuals1 ks1 ops1 c1 l1 w1 s2 le1 fits1 first1. call_runs n c1 le1 f1 body.0 body.1 v1 actuals1 ks1 ops1 l1 w1 s2 fits1 first1 }) f s here v actuals ks ops (suc c) c l w s0 (omega (arith, le)) (omega arith) (omega arith) fits first)
+
+  calls_run : (n : ℕ) → Calls (with_calls (execution ask p (suc n))) bodies code n
+  calls_run n = record { runs = λ f body v actuals ks ops c l w s0 le fits first. call_runs n c le f body.0 body.1 v actuals ks ops l w s0 fits first }
+
+  -- the main procedure
+  pub main_runs : (main : ℕ) → IsBody bodies main → slice_get code.instructions.items 0 ≡ Some (InstrOf.Start main) → (clock : ℕ) → Runs ask code (Fits k) 0 1 start clock (returns [] []) (run_meaning p main ask clock)
+  unfolding run_meaning tools tools_with
+  main_runs main body has clock =
+      number_runs (execution ask p (suc clock)) clock (calls_run clock) main body.0 body.1 [] [] [] [] clock clock empty_log empty_world start (omega arith) (omega arith) (omega arith) (fits_empty k) (by_code ask code [] 0 [] [] empty_log empty_world (InstrOf.Start main) has)
