@@ -27,3 +27,5 @@ pub mod Texts
 pub mod Items
 pub mod Masters
 pub mod Statements
+pub mod Bodies
+pub mod Whole
