@@ -12,7 +12,7 @@ use Rattle.ctl_meaning_plain.specs.Names.{OfSubprogram, Returned, Tools, gone}
 use Rattle.ctl_meaning_plain.specs.Names as Names
 use Rattle.ctl_meaning_plain.specs.Masters.{Left, in_master}
 use Rattle.ctl_meaning_plain.specs.Statements.{unset_slots, body_of}
-use Rattle.ctl_meaning_plain.specs.Run.{Meaning, Routine, routine_of, returned, slots_for, run_routine, run_number, execute, expression_tools, default_in, tools_with, execution, tools, run_meaning}
+use Rattle.ctl_meaning_plain.specs.Run.{Meaning, routine_of, returned, slots_for, run_routine, run_number, execute, expression_tools, default_in, tools_with, execution, tools, run_meaning}
 use Rattle.ctl_code_plain.specs.declared.code.Instr.TheVariants as InstrOf
 use Rattle.ctl_code_plain.specs.declared.code.Code.{Code}
 use Rattle.ctl_code_plain.specs.States.{AfterBody, Frame, InMaster, Giving, State}

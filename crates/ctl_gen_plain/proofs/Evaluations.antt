@@ -1,7 +1,7 @@
 -- The code of every expression that this version runs evaluates it: what the layout says and what the meaning says are folds over the same
 -- tree, and each of their steps keeps that they agree.
-use Rattle.std.proofs.Common.{◌≡◌, ℕ, List, [], ◌∷◌, map, Option, Some, None, Bool, true, false, refl, sym, ap, ◌∙◌, subst}
-use Rattle.std.specs.Prelude.{◌&&◌, IsTrue}
+use Rattle.std.proofs.Common.{◌≡◌, ℕ, List, [], ◌∷◌, map, Option, Some, None, refl, sym, ap, ◌∙◌, subst}
+use Rattle.std.specs.Prelude.{IsTrue}
 use Rattle.std.proofs.lemmas.Bool.{and_parts}
 use Rattle.ctl_program.specs.declared.types.Ty.{Ty}
 use Rattle.ctl_program.specs.declared.types.Var.{Var}
@@ -9,21 +9,19 @@ use Rattle.ctl_program.specs.declared.operators.UnaryOp.{UnaryOp}
 use Rattle.ctl_program.specs.declared.operators.BinaryOp.{BinaryOp}
 use Rattle.ctl_program.specs.declared.operators.Shortcut.{Shortcut}
 use Rattle.ctl_program.specs.declared.expression.Step.{Step}
-use Rattle.ctl_program.specs.declared.expression.Expr.{Expr, roll-Expr, map-Expr, fold-Expr, fold-roll-Expr, ind-Expr}
+use Rattle.ctl_program.specs.declared.expression.Expr.{Expr, roll-Expr, map-Expr, fold-roll-Expr, ind-Expr}
 use Rattle.ctl_program.specs.declared.expression.Name.{Name, roll-Name, map-Name, fold-roll-Name, ind-Name}
-use Rattle.ctl_program.specs.declared.expression.Actual.{Actual, roll-Actual, fold-Actual}
+use Rattle.ctl_program.specs.declared.expression.Actual.{Actual, fold-Actual}
 use Rattle.ctl_program.specs.declared.expression.Operand.{Operand, Operand-F, roll-Operand, map-Operand, fold-roll-Operand}
-use Rattle.ctl_program.specs.declared.expression.Actual.TheOpen.{Actual-F, Expr-F, Name-F}
+use Rattle.ctl_program.specs.declared.expression.Actual.TheOpen.{Expr-F, Name-F}
 use Rattle.ctl_meaning_plain.specs.World.{Log, World}
-use Rattle.ctl_meaning_plain.specs.Outcome.{Goes, Gives, Act, add, bind, on_goes, opened_outcome}
+use Rattle.ctl_meaning_plain.specs.Outcome.{Goes, Gives, add, bind, on_goes, opened_outcome}
 use Rattle.ctl_meaning_plain.specs.Types.{Tables, cells_of}
 use Rattle.ctl_meaning_plain.specs.Names.{Tools, read_found, opened_names}
-use Rattle.ctl_meaning_plain.specs.Expressions as Meaning
 use Rattle.ctl_meaning_plain.specs.Expressions.{Valued, Naming, Applied, Supplied, eval, eval_name, apply, supply, apply_each, join_each, var_part, eval_step, name_step, operand_step}
 use Rattle.ctl_meaning_plain.proofs.Trees.{eval_roll, name_roll, operand_roll}
 use Rattle.ctl_code_plain.specs.declared.code.Code.{Code}
 use Rattle.ctl_code_plain.specs.Table.{found_by}
-use Rattle.ctl_gen_plain.specs.declared.right.Right.TheVariants as RightOf
 use Rattle.ctl_gen_plain.specs.Values as Layout
 use Rattle.ctl_gen_plain.specs.Values.{ValueCode, OperatorCode, NoCode, is_run_type, operators_run, operators_code, operator_code, values_run, others_code, read, actual_step, value_step, value_code, variable_of, operator_of}
 use Rattle.ctl_gen_plain.proofs.Values.{scalar_cells}

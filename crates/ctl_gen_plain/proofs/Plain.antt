@@ -1,5 +1,5 @@
 -- A record type that extends Controlled without components, and what the meaning comes to for it.
-use Rattle.std.proofs.Common.{◌≡◌, ℕ, suc, List, [], ◌∷◌, ◌++◌, length, Option, Some, None, Bool, true, false, refl, ap, ◌∙◌}
+use Rattle.std.proofs.Common.{◌≡◌, ℕ, suc, List, [], ◌∷◌, ◌++◌, length, Option, Some, None, true, false, refl, ap, ◌∙◌}
 use Rattle.std.specs.Prelude.{slice_get, ◌&&◌, ◌||◌, replicate, IsTrue}
 use Rattle.std.proofs.lemmas.Bool.{and_parts}
 use Rattle.ctl_program.specs.declared.types.Ty.TheVariants.{Record}

@@ -8,7 +8,7 @@ use Rattle.ctl_meaning_plain.specs.World.{Object, Single, Declared, Log, World}
 use Rattle.ctl_meaning_plain.specs.Lists.{last_of, opened_lists}
 use Rattle.ctl_meaning_plain.specs.Changes.{object_at, write_cells, add_layer}
 use Rattle.ctl_meaning_plain.specs.Choice.{Ask}
-use Rattle.ctl_meaning_plain.specs.Outcome.{constraint_error, ByRaise, Goes, Leaves, Out, Gives, Done, add, bind, on_goes, ◌>>=◌, done, nothing, change, ticked, on_some, opened_outcome}
+use Rattle.ctl_meaning_plain.specs.Outcome.{constraint_error, ByRaise, Goes, Leaves, Out, Gives, Done, add, bind, on_goes, done, nothing, change, on_some, opened_outcome}
 use Rattle.ctl_meaning_plain.specs.Types.{Tables, opened_types}
 use Rattle.ctl_meaning_plain.specs.Names.{Tools, gone, scalar_of, opened_names}
 use Rattle.ctl_meaning_plain.specs.Expressions.{Valued, if_given}

@@ -1,5 +1,5 @@
 -- What the simulation of each construct stands on: the tables agree, and bodies behave when they are called.
-use Rattle.std.proofs.Common.{arith, ◌≡◌, ℕ, ◌≤◌, List, [], ◌∷◌, Option, Some, None, Bool, false, refl, ap, ◌∙◌, sym, subst}
+use Rattle.std.proofs.Common.{arith, ◌≡◌, ℕ, ◌≤◌, List, [], ◌∷◌, Option, Some, None, Bool, false, refl, ap}
 use Rattle.std.specs.Prelude.{slice_get}
 use Rattle.ctl_program.specs.declared.program.Subprogram.{Subprogram}
 use Rattle.ctl_meaning_plain.specs.World.{Log, World, Slot}

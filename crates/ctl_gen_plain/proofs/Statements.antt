@@ -1,6 +1,6 @@
 -- The code of every statement and master that this version runs does what it means: what the layout says and what the meaning says are folds
 -- over the same tree, and each of their steps keeps that they agree.
-use Rattle.std.proofs.Common.{◌≡◌, ℕ, ◌+◌, List, [], ◌∷◌, ◌++◌, length, map, Option, Some, None, option_map, Bool, true, false, refl, sym, ap, ◌∙◌, subst, arith, length-append}
+use Rattle.std.proofs.Common.{◌≡◌, ℕ, ◌+◌, List, [], ◌∷◌, ◌++◌, length, map, Option, Some, None, option_map, true, false, refl, ap, ◌∙◌, subst, arith, length-append}
 use Rattle.std.specs.Prelude.{◌&&◌, replicate, IsTrue}
 use Rattle.std.proofs.lemmas.Bool.{and_parts}
 use Rattle.ctl_program.specs.declared.types.Var.{Var}
@@ -8,18 +8,18 @@ use Rattle.ctl_program.specs.declared.operators.Direction.{Direction}
 use Rattle.ctl_program.specs.declared.expression.Expr.{Expr}
 use Rattle.ctl_program.specs.declared.statement.Piece.{Piece}
 use Rattle.ctl_program.specs.declared.statement.Item.{Item}
-use Rattle.ctl_program.specs.declared.statement.Stmt.{Stmt, roll-Stmt, map-Stmt, fold-roll-Stmt, ind-Stmt}
+use Rattle.ctl_program.specs.declared.statement.Stmt.{Stmt, roll-Stmt, map-Stmt, fold-roll-Stmt}
 use Rattle.ctl_program.specs.declared.statement.Stmt.TheOpen.{Stmt-F}
 use Rattle.ctl_program.specs.declared.statement.Arm.{Arm, Arm-F, roll-Arm, map-Arm, fold-roll-Arm}
-use Rattle.ctl_program.specs.declared.statement.Handler.{Handler, roll-Handler}
+use Rattle.ctl_program.specs.declared.statement.Handler.{Handler}
 use Rattle.ctl_program.specs.declared.statement.Master.{Master, Master-F, roll-Master, map-Master, fold-roll-Master, ind-Master}
 use Rattle.ctl_program.specs.declared.program.Subprogram.{Subprogram}
 use Rattle.ctl_tree.specs.declared.event.Event.TheVariants.{Newline}
-use Rattle.ctl_meaning_plain.specs.World.{Slot, Unset, Log, World}
+use Rattle.ctl_meaning_plain.specs.World.{Unset}
 use Rattle.ctl_meaning_plain.specs.Lists.{last_of}
 use Rattle.ctl_meaning_plain.specs.Changes.{open_master}
 use Rattle.ctl_meaning_plain.specs.Choice.{Ask}
-use Rattle.ctl_meaning_plain.specs.Outcome.{Goes, Gives, Act, Done, on_goes, given, tell, opened_outcome}
+use Rattle.ctl_meaning_plain.specs.Outcome.{Goes, on_goes, given, tell, opened_outcome}
 use Rattle.ctl_meaning_plain.specs.Types.{Tables}
 use Rattle.ctl_meaning_plain.specs.Names.{Tools}
 use Rattle.ctl_meaning_plain.specs.Expressions.{Valued, Naming, eval, eval_name}
@@ -27,12 +27,10 @@ use Rattle.ctl_meaning_plain.specs.Masters.{Elaborating, Left, elaborate_item, e
 use Rattle.ctl_meaning_plain.specs.Statements as Meaning
 use Rattle.ctl_meaning_plain.specs.Statements.{Doing, Guarding, Body, eval_piece, leaving, do_each, unset_slots, exec_step, arm_step, handler_step, master_step, exec, arm_of, handler_of, body_of}
 use Rattle.ctl_meaning_plain.proofs.Trees.{exec_roll, arm_roll, master_roll}
-use Rattle.ctl_code_plain.specs.declared.code.Instr.{Instr}
 use Rattle.ctl_code_plain.specs.declared.code.Instr.TheVariants as InstrOf
 use Rattle.ctl_code_plain.specs.declared.code.Code.{Code}
-use Rattle.ctl_code_plain.specs.States.{AfterBlock, Frame, InMaster}
+use Rattle.ctl_code_plain.specs.States.{AfterBlock, InMaster}
 use Rattle.ctl_gen_plain.specs.Values.{ValueCode, value_code, variable_of}
-use Rattle.ctl_gen_plain.specs.Texts.{pieces_are_run}
 use Rattle.ctl_gen_plain.specs.Layout as Layout
 use Rattle.ctl_gen_plain.specs.Layout.{ItemCode, item_code, all_items, StatementCode, ArmCode, MasterCode, NoCode, all, arms_run, arms_texts, has_no_handlers, inside, block_code, statement_step, statement_code, arm_code, no_code, master_code}
 use Rattle.ctl_gen_plain.proofs.Place.{HasAt, has_front, has_back}
@@ -47,7 +45,7 @@ use Rattle.ctl_gen_plain.proofs.Loops.{loop_runs, while_runs, for_runs, exit_run
 use Rattle.ctl_gen_plain.proofs.Leave.{leaves}
 use Rattle.ctl_gen_plain.proofs.Items.{still_there, ItemFollows, item_follows, items_follow}
 use Rattle.ctl_gen_plain.proofs.Masters.{Encloses, behind_block, master_runs}
-use Rattle.ctl_gen_plain.proofs.Follow.{Runs, at, arrives, added, last_step, both, arriving, left_behind, in_row}
+use Rattle.ctl_gen_plain.proofs.Follow.{at, arrives, added, last_step, both, arriving, left_behind, in_row}
 
 -- what holds of each item of a list
 each_of_all : {T A B : Type 0} (f : T → A) (g : T → B) (R : A → B → Type 0) → ((x : T) → R (f x) (g x)) → (xs : List T) → Each R (map f xs) (map g xs)

@@ -5,5 +5,4 @@ ghost use Rattle.ctl_gen_plain.specs.Laws.{CodeBehaves};
 /// Code that is laid out as a program says does what the program means.
 pub fn code_behaves()
     ensures { CodeBehaves }
-{
-}
+{}
