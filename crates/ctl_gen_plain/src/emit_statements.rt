@@ -44,13 +44,22 @@ impl Emitter {
         ensures { OnOk result (self.new ≡ followed (spec.items (spec.item_code item.now)) self.old) }
     {
         match item {
-            Item::Object(slot, ty, None) => self.put(declaration(*slot, *ty)),
-            Item::Object(slot, ty, Some(value)) => {
-                self.expression(*ty, value)?;
-                self.take(Instr::DeclareValue(*slot, *ty))
-            }
+            Item::Object(slot, ty, value) => self.object(*slot, *ty, value),
             Item::Silent => Ok(()),
             Item::Collections(_) | Item::Pool(..) => self.put(Instr::Missing),
+        }
+    }
+
+    /// Emits the declaration of an object, with its value if it has one.
+    fn object(&mut self, slot: usize, ty: Ty, value: &Option<Expr>) -> Result<(), AllocError>
+        ensures { OnOk result (self.new ≡ followed (spec.items (spec.object slot ty (option_map values.value_code value.now))) self.old) }
+    {
+        match value {
+            None => self.put(declaration(slot, ty)),
+            Some(value) => {
+                self.expression(ty, value)?;
+                self.take(Instr::DeclareValue(slot, ty))
+            }
         }
     }
 
