@@ -1,4 +1,3 @@
 pub mod Composed
-pub mod Linked
 pub mod Verdicts
 pub mod WellTyped

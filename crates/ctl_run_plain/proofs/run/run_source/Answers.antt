@@ -4,10 +4,10 @@ use Rattle.ctl_tree.specs.declared.request.Order.{Order}
 use Rattle.ctl_code_plain.specs.declared.code.Code.{Code}
 use Rattle.ctl_gen_plain.specs.Correct.{Behaves}
 use Rattle.ctl_gen_plain.specs.Layout.{IsLaidOut}
+use Rattle.ctl_gen_plain.proofs.FormedWhole.{linked_of}
 use Rattle.ctl_machine_plain.specs.Machine.{Running}
 use Rattle.ctl_run_plain.specs.Headline.{Headline}
 use Rattle.ctl_run_plain.proofs.Composed.{composed}
-use Rattle.ctl_run_plain.proofs.Linked.{linked}
 use Rattle.ctl_run_plain.proofs.Verdicts.{answer_of, for_memory, not_accepted, refused_for, refused_with_it, runs_of, verdict_of}
 use Rattle.ctl_run_plain.proofs.WellTyped.{well_typed}
 use Rattle.ctl_run_plain.proofs.run.run_source.Goals as goal
@@ -26,7 +26,7 @@ returns-clause-headline c =
     let within : m.steps ≤ c.args.steps = omega (arith, c.run.ensures.bound, start) in
     let counted : m.has_ended ≡ false → m.steps ≡ c.args.steps = λ running. let h = c.run.ensures.counted running in omega (arith, h, start, c.ranges.steps.fits) in
     let laid_out : IsLaidOut program m.code = subst (λ (x : Code). IsLaidOut program x) (sym code) c.in_ok-code.ensures.layout in
-    let behaves : Behaves program m.code = subst (λ (x : Code). Behaves program x) (sym code) (c.in_ok-code.ensures.behaves runs (linked program typed)) in
+    let behaves : Behaves program m.code = subst (λ (x : Code). Behaves program x) (sym code) (c.in_ok-code.ensures.behaves runs (linked_of program typed)) in
     record {
       program = program;
       accepted = verdict;
