@@ -158,7 +158,7 @@ impl Emitter {
         }
     }
 
-    /// The end of the first arm skips all that follows it.
+    /// Has the end of the first arm skip all that follows it.
     fn skip_from(&mut self, end: Option<usize>)
         requires { ForSome end (λ place. place < length self.old.instructions) }
         ensures { self.new ≡ spec.skipping end self.old }
@@ -274,7 +274,7 @@ impl Emitter {
         Ok(())
     }
 
-    /// The values of images stand there no more.
+    /// Takes the values of images off.
     fn leave_images(&mut self, pieces: &[Piece])
         ensures { self.new ≡ texts.left pieces.now self.old }
     {
@@ -283,7 +283,7 @@ impl Emitter {
         }
     }
 
-    /// The value of a piece stands there no more, if it is an image.
+    /// Takes the value of a piece off, if it is an image.
     #[tactic(auto, unfolding(crate::specs::Emitted::over))]
     fn leave_image(&mut self, piece: &Piece)
         ensures { self.new ≡ over (texts.without_image piece.now) self.old }

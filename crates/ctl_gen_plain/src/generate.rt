@@ -35,7 +35,7 @@ pub fn generate(alloc: Global, program: &Checked) -> Result<ValidCode, Fault>
     }
 }
 
-/// No part of the text is to blame more than another.
+/// Answers the fault of a program that has no valid code, at the beginning: no part of the text is to blame more than another.
 fn left_out() -> Fault
     ensures { result ≡ record { code = LeftOut; line = 1; column = 1 } }
 {

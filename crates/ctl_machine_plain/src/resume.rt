@@ -75,7 +75,7 @@ fn finalization_of(handed: Handed) -> Handed
     }
 }
 
-/// Whether a finalization failed.
+/// Tells whether a finalization failed.
 fn is_failure(handed: Handed) -> bool
     ensures { result ≡ says_failed handed }
 {

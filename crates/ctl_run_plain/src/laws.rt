@@ -2,7 +2,7 @@
 
 ghost use Rattle.ctl_run_plain.specs.Verdict.{HasOneVerdict, HasVerdict};
 
-/// Each text has exactly one verdict: a program that is run and no fault, or one fault and no program.
+/// Says that each text has exactly one verdict: a program that is run and no fault, or one fault and no program.
 pub fn a_text_has_one_verdict()
     ensures some { HasVerdict }
     ensures one { HasOneVerdict }
