@@ -2,8 +2,8 @@
 //! it leaves.
 
 ghost use Rattle.std.specs.Prelude.{◌≡◌, ◌↔◌, ◌+◌, ◌-◌, ◌<◌, ◌≤◌, ◌^◌, ◌∷◌, [], drop, length, reverse, slice_get, IsTrue, MatchOption, Some};
-ghost use Rattle.ctl_tree.specs.declared.checked.Ty.{Ty};
-ghost use Rattle.ctl_tree.specs.declared.checked.Ty.TheVariants.{Integer};
+ghost use Rattle.ctl_program.specs.declared.types.Ty.{Ty};
+ghost use Rattle.ctl_program.specs.declared.types.Ty.TheVariants.{Integer};
 ghost use Rattle.ctl_code.specs.declared.kinds.Kind.TheVariants.{Operand, Counting};
 ghost use Rattle.ctl_code.specs.declared.code.Instr.TheVariants as I;
 ghost use Rattle.ctl_code.specs.Kinds.{changed, stack_at, with_top};
@@ -13,11 +13,12 @@ use crate::code::{Code, Instr};
 use crate::images::count_images;
 use crate::kinds::{Kind, is_same_kind};
 use crate::types::{is_binary_of, is_cell_of, is_scalar, is_unary_of};
-use ctl_tree::checked::{BinaryOp, Ty, UnaryOp};
+use ctl_program::operators::{BinaryOp, UnaryOp};
+use ctl_program::types::Ty;
 
 // Where an instruction leads -------------------------------------------------------------------
 
-/// Whether the change of the stack that an instruction makes leads to the next place.
+/// Tells whether the change of the stack that an instruction makes leads to the next place.
 fn leads_on(code: &Code, place: usize, taken: usize, new: Option<Kind>) -> bool
     requires { place + 1 < 2 ^ 64 }
     ensures { IsTrue result ↔ Leads code.now (place + 1) (changed taken new (stack_at code.now.kinds place)) }
@@ -25,7 +26,7 @@ fn leads_on(code: &Code, place: usize, taken: usize, new: Option<Kind>) -> bool
     code.kinds.leads(place, taken, new, place + 1)
 }
 
-/// Whether the operands that it takes lead so many instructions further than the next place.
+/// Tells whether the operands that it takes lead so many instructions further than the next place.
 fn leads_ahead(code: &Code, place: usize, taken: usize, count: usize) -> bool
     requires { place + 1 < 2 ^ 64 }
     ensures { IsTrue result ↔ Leads code.now (place + 1 + count) (drop taken (stack_at code.now.kinds place)) }
@@ -34,14 +35,14 @@ fn leads_ahead(code: &Code, place: usize, taken: usize, count: usize) -> bool
         && code.kinds.leads(place, taken, None, place + 1 + count)
 }
 
-/// Whether the stack, as it is, leads so many instructions back.
+/// Tells whether the stack, as it is, leads so many instructions back.
 fn leads_back(code: &Code, place: usize, count: usize) -> bool
     ensures { IsTrue result ↔ ((count ≤ place) × Leads code.now (place - count) (stack_at code.now.kinds place)) }
 {
     count <= place && code.kinds.leads(place, 0, None, place - count)
 }
 
-/// Whether a construct is entered, and left so many instructions further.
+/// Tells whether a construct is entered, and left so many instructions further.
 fn enters(code: &Code, place: usize, kind: Kind, count: usize) -> bool
     requires { place + 1 < 2 ^ 64 }
     ensures { let stack = stack_at code.now.kinds place in
@@ -50,14 +51,14 @@ fn enters(code: &Code, place: usize, kind: Kind, count: usize) -> bool
     leads_on(code, place, 0, Some(kind)) && leads_ahead(code, place, 0, count)
 }
 
-/// Whether it is the number of a body.
+/// Tells whether it is the number of a body.
 pub fn is_entry(code: &Code, number: usize) -> bool
     ensures { IsTrue result ↔ IsEntry code.now number }
 {
     number < code.entries.len()
 }
 
-/// Whether it is the number of a record type.
+/// Tells whether it is the number of a record type.
 fn is_record(code: &Code, number: usize) -> bool
     ensures { IsTrue result ↔ IsRecord code.now number }
 {
@@ -66,7 +67,7 @@ fn is_record(code: &Code, number: usize) -> bool
 
 // What an instruction takes --------------------------------------------------------------------
 
-/// Whether this stands on top, under so many newer ones.
+/// Tells whether this stands on top, under so many newer ones.
 fn has(code: &Code, place: usize, depth: usize, kind: Kind) -> bool
     ensures { IsTrue result ↔ (slice_get (stack_at code.now.kinds place) depth ≡ Some kind) }
 {
@@ -76,7 +77,7 @@ fn has(code: &Code, place: usize, depth: usize, kind: Kind) -> bool
     }
 }
 
-/// The type of the topmost operand, if one is on top.
+/// Answers the type of the topmost operand, if one is on top.
 fn top_operand(code: &Code, place: usize) -> Option<Ty>
     ensures { let top = slice_get (stack_at code.now.kinds place) 0 in
         MatchOption result ((ty : Ty) → top ≡ Some (Operand ty) → ⊥) (λ ty. top ≡ Some (Operand ty)) }
@@ -87,7 +88,7 @@ fn top_operand(code: &Code, place: usize) -> Option<Ty>
     }
 }
 
-/// Whether an operand is taken, and this is put in its place, if any.
+/// Tells whether an operand is taken, and this is put in its place, if any.
 fn takes(code: &Code, place: usize, operand: Ty, new: Option<Kind>) -> bool
     requires { place + 1 < 2 ^ 64 }
     ensures { IsTrue result ↔ Under (Operand operand ∷ []) (stack_at code.now.kinds place) (λ below. Leads code.now (place + 1) (with_top new below)) }
@@ -95,7 +96,7 @@ fn takes(code: &Code, place: usize, operand: Ty, new: Option<Kind>) -> bool
     has(code, place, 0, Kind::Operand(operand)) && leads_on(code, place, 1, new)
 }
 
-/// The type of the operand that is new behind an instruction, where it changes nothing else.
+/// Answers the type of the operand that is new after an instruction, where it changes nothing else.
 fn pushed(code: &Code, place: usize) -> Option<Ty>
     requires { place + 1 < 2 ^ 64 }
     ensures { let stack = stack_at code.now.kinds place in
@@ -111,7 +112,7 @@ fn pushed(code: &Code, place: usize) -> Option<Ty>
 
 // Instructions ---------------------------------------------------------------------------------
 
-/// A constant, which is a value of the type that its operand has.
+/// Checks a constant: it is a value of the type that its operand has.
 fn is_push_fine(code: &Code, place: usize, cell: u64) -> bool
     requires { place + 1 < 2 ^ 64 }
     ensures { IsTrue result ↔ IsFine code.now place (I.Push cell) (stack_at code.now.kinds place) }
@@ -122,7 +123,7 @@ fn is_push_fine(code: &Code, place: usize, cell: u64) -> bool
     }
 }
 
-/// The value of a scalar variable.
+/// Checks the value of a scalar variable.
 fn is_read_fine(code: &Code, place: usize) -> bool
     requires { place + 1 < 2 ^ 64 }
     ensures { IsTrue result ↔ ((ty : Ty) × IsScalar ty × Leads code.now (place + 1) (Operand ty ∷ stack_at code.now.kinds place)) }
@@ -133,7 +134,7 @@ fn is_read_fine(code: &Code, place: usize) -> bool
     }
 }
 
-/// An operator with one operand (RM 4.5.4, 4.5.6).
+/// Checks an operator with one operand (RM 4.5.4, 4.5.6).
 fn is_unary_fine(code: &Code, place: usize, op: UnaryOp, ty: Ty) -> bool
     requires { place + 1 < 2 ^ 64 }
     ensures { IsTrue result ↔ IsFine code.now place (I.Unary op ty) (stack_at code.now.kinds place) }
@@ -141,7 +142,7 @@ fn is_unary_fine(code: &Code, place: usize, op: UnaryOp, ty: Ty) -> bool
     is_unary_of(op, ty) && takes(code, place, ty, Some(Kind::Operand(ty)))
 }
 
-/// An operator with two operands of one type (RM 4.5).
+/// Checks an operator with two operands of one type (RM 4.5).
 fn is_binary_fine(code: &Code, place: usize, op: BinaryOp, ty: Ty) -> bool
     requires { place + 1 < 2 ^ 64 }
     ensures { IsTrue result ↔ IsFine code.now place (I.Binary op ty) (stack_at code.now.kinds place) }
@@ -156,7 +157,7 @@ fn is_binary_fine(code: &Code, place: usize, op: BinaryOp, ty: Ty) -> bool
     }
 }
 
-/// An operator whose right operand, the value of a variable, is part of the instruction (RM 4.5).
+/// Checks an operator whose right operand, the value of a variable, is part of the instruction (RM 4.5).
 fn is_binary_variable_fine(code: &Code, place: usize, op: BinaryOp, ty: Ty) -> bool
     requires { place + 1 < 2 ^ 64 }
     ensures { IsTrue result ↔ TakesLeft code.now place op ty (stack_at code.now.kinds place) IsScalar }
@@ -169,7 +170,7 @@ fn is_binary_variable_fine(code: &Code, place: usize, op: BinaryOp, ty: Ty) -> b
     }
 }
 
-/// An operator whose right operand is a constant, a value of the left one's type (RM 4.5).
+/// Checks an operator whose right operand is a constant, a value of the left one's type (RM 4.5).
 fn is_binary_constant_fine(code: &Code, place: usize, op: BinaryOp, ty: Ty, cell: u64) -> bool
     requires { place + 1 < 2 ^ 64 }
     ensures { IsTrue result ↔ IsFine code.now place (I.BinaryConstant op ty cell) (stack_at code.now.kinds place) }
@@ -182,7 +183,7 @@ fn is_binary_constant_fine(code: &Code, place: usize, op: BinaryOp, ty: Ty, cell
     }
 }
 
-/// The assignment of a scalar (RM 5.2).
+/// Checks the assignment of a scalar (RM 5.2).
 fn is_assign_fine(code: &Code, place: usize) -> bool
     requires { place + 1 < 2 ^ 64 }
     ensures { IsTrue result ↔ UnderScalar (stack_at code.now.kinds place) (λ ty below. Leads code.now (place + 1) below) }
@@ -193,7 +194,7 @@ fn is_assign_fine(code: &Code, place: usize) -> bool
     }
 }
 
-/// A condition, and where the execution goes on unless it holds (RM 5.3).
+/// Checks a condition, and where the execution goes on unless it holds (RM 5.3).
 fn is_unless_fine(code: &Code, place: usize, count: usize) -> bool
     requires { place + 1 < 2 ^ 64 }
     ensures { IsTrue result ↔ IsFine code.now place (I.Unless count) (stack_at code.now.kinds place) }
@@ -201,7 +202,7 @@ fn is_unless_fine(code: &Code, place: usize, count: usize) -> bool
     takes(code, place, Ty::Boolean, None) && leads_ahead(code, place, 1, count)
 }
 
-/// A loop with a parameter (RM 5.5).
+/// Checks a loop with a parameter (RM 5.5).
 fn is_for_fine(code: &Code, place: usize, count: usize) -> bool
     requires { place + 1 < 2 ^ 64 }
     ensures { IsTrue result ↔ Under (Operand Integer ∷ Operand Integer ∷ []) (stack_at code.now.kinds place)
@@ -213,14 +214,14 @@ fn is_for_fine(code: &Code, place: usize, count: usize) -> bool
         && leads_ahead(code, place, 2, count)
 }
 
-/// The next turn of such a loop (RM 5.5).
+/// Checks the next turn of such a loop (RM 5.5).
 fn is_next_fine(code: &Code, place: usize, count: usize) -> bool
     ensures { IsTrue result ↔ IsFine code.now place (I.Next count) (stack_at code.now.kinds place) }
 {
     has(code, place, 0, Kind::Counting) && leads_back(code, place, count)
 }
 
-/// The text of a number (RM 4.5.3).
+/// Checks the text of a number (RM 4.5.3).
 fn is_text_fine(code: &Code, place: usize, number: usize) -> bool
     requires { place + 1 < 2 ^ 64 }
     ensures { IsTrue result ↔ IsText code.now number (stack_at code.now.kinds place) (Leads code.now (place + 1)) }
@@ -234,14 +235,14 @@ fn is_text_fine(code: &Code, place: usize, number: usize) -> bool
     }
 }
 
-/// The end of the statements of a body or a block.
+/// Checks the end of the statements of a body or a block.
 fn is_at_end(code: &Code, place: usize) -> bool
     ensures { IsTrue result ↔ IsAtEnd (stack_at code.now.kinds place) }
 {
     matches!(code.kinds.kind_at(place, 0), None | Some(Kind::Block))
 }
 
-/// Whether the instruction is well formed where it stands.
+/// Tells whether the instruction is well formed where it stands.
 pub fn is_fine(code: &Code, place: usize, instr: &Instr) -> bool
     requires { place + 1 < 2 ^ 64 }
     ensures { IsTrue result ↔ IsFine code.now place instr.now (stack_at code.now.kinds place) }

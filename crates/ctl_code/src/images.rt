@@ -8,9 +8,9 @@ ghost use Rattle.ctl_code.specs.Valid.{images_of};
 use crate::kinds::{Kind, is_same_kind};
 use crate::stacks::Stacks;
 use crate::template::TextPart;
-use ctl_tree::checked::Ty;
+use ctl_program::types::Ty;
 
-/// The operand that a part of a text takes, if any.
+/// Answers the operand that a part of a text takes, if any.
 fn image_of(part: &TextPart) -> Option<Kind>
     ensures { MatchOption result (images_of (part.now ∷ []) ≡ []) (λ kind. images_of (part.now ∷ []) ≡ kind ∷ []) }
 {
@@ -21,7 +21,7 @@ fn image_of(part: &TextPart) -> Option<Kind>
     }
 }
 
-/// How many operands the images of a text take.
+/// Counts the operands that the images of a text take.
 pub fn count_images(parts: &[TextPart]) -> usize
     ensures { result ≡ length (images_of parts.now) }
 {
@@ -34,7 +34,7 @@ pub fn count_images(parts: &[TextPart]) -> usize
     images
 }
 
-/// Whether these operands stand on top of a stack, that of the last image the newest.
+/// Tells whether these operands stand on top of a stack, that of the last image the newest.
 pub fn has_images_on(stacks: &Stacks, stack: usize, parts: &[TextPart]) -> bool
     ensures { IsTrue result ↔ ((below : List Kind) × (stack_in stacks.now stack ≡ reverse (images_of parts.now) ++ below)) }
 {

@@ -9,7 +9,7 @@ use crate::images::has_images_on;
 use crate::stacks::Stacks;
 use crate::template::TextPart;
 use crate::types::is_same_type;
-use ctl_tree::checked::Ty;
+use ctl_program::types::Ty;
 use std::alloc::{AllocError, Global};
 use std::marker::Model;
 
@@ -26,7 +26,7 @@ pub enum Kind {
     Counting,
 }
 
-/// Whether both are one kind.
+/// Tells whether both are one kind.
 pub fn is_same_kind(left: Kind, right: Kind) -> bool
     ensures { IsTrue result ↔ (left ≡ right) }
 {
@@ -38,7 +38,7 @@ pub fn is_same_kind(left: Kind, right: Kind) -> bool
     }
 }
 
-/// The number of the stack before the instruction at a place; the empty one behind the last.
+/// Answers the number of the stack before the instruction at a place; the empty one after the last.
 fn number_at(before: &[usize], place: usize) -> usize
     ensures { (stacks : List (List Kind)) → stack_in stacks result ≡ stack_at (stacks_in stacks before.now) place }
 {
@@ -68,14 +68,14 @@ impl Model for Kinds {
 }
 
 impl Kinds {
-    /// How many instructions it has stacks of.
+    /// Counts the instructions that it has stacks of.
     pub fn len(&self) -> usize
         ensures { result ≡ length self.now }
     {
         self.before.len()
     }
 
-    /// What stands before the instruction at a place, under so many newer ones.
+    /// Answers what stands before the instruction at a place, under so many newer ones.
     pub fn kind_at(&self, place: usize, depth: usize) -> Option<Kind>
         ensures { result ≡ slice_get (stack_at self.now place) depth }
     {
@@ -86,7 +86,7 @@ impl Kinds {
         }
     }
 
-    /// Whether what an instruction makes of the stack before one place stands before another: it takes so many of the newest, and
+    /// Tells whether what an instruction makes of the stack before one place stands before another: it takes so many of the newest, and
     /// puts this on top, if any.
     pub fn leads(&self, from: usize, taken: usize, new: Option<Kind>, to: usize) -> bool
         ensures { IsTrue result ↔ (slice_get self.now to ≡ Some (changed taken new (stack_at self.now from))) }
@@ -100,7 +100,7 @@ impl Kinds {
         }
     }
 
-    /// Whether nothing stands before the instruction at a place of the table.
+    /// Tells whether nothing stands before the instruction at a place of the table.
     pub fn is_bare_at(&self, place: usize) -> bool
         ensures { IsTrue result ↔ (slice_get self.now place ≡ Some []) }
     {
@@ -110,7 +110,7 @@ impl Kinds {
         }
     }
 
-    /// Whether the operands that the images of a text take stand on top before the instruction at a place.
+    /// Tells whether the operands that the images of a text take stand on top before the instruction at a place.
     pub fn has_images(&self, place: usize, parts: &[TextPart]) -> bool
         ensures { IsTrue result ↔ ((below : List Kind) × (stack_at self.now place ≡ reverse (images_of parts.now) ++ below)) }
     {
@@ -145,7 +145,7 @@ impl Model for KindNotes {
 }
 
 impl KindNotes {
-    /// Nothing stands there, and nothing was noted.
+    /// Makes notes where nothing stands and nothing was noted.
     pub fn new(alloc: Global) -> KindNotes
         ensures { result ≡ record { before = []; standing = [] } }
     {
@@ -156,7 +156,7 @@ impl KindNotes {
         }
     }
 
-    /// From now on this stands on top.
+    /// Enters what stands on top from now on.
     pub fn enter(&mut self, kind: Kind) -> Result<(), AllocError>
         ensures { OnOk result (self.new ≡ record { before = self.old.before; standing = kind ∷ self.old.standing }) }
     {
@@ -165,14 +165,14 @@ impl KindNotes {
         Ok(())
     }
 
-    /// The newest stands there no more.
+    /// Takes the newest off.
     pub fn leave(&mut self)
         ensures { self.new ≡ record { before = self.old.before; standing = below_newest self.old.standing } }
     {
         self.standing = self.stacks.without(self.standing, 1);
     }
 
-    /// What stands there now stands there before the next instruction.
+    /// Notes what stands there now before the next instruction.
     pub fn note(&mut self) -> Result<(), AllocError>
         ensures { OnOk result (self.new ≡ record { before = self.old.before ++ self.old.standing ∷ []; standing = self.old.standing }) }
     {
@@ -180,7 +180,7 @@ impl KindNotes {
         Ok(())
     }
 
-    /// The table.
+    /// Answers the table.
     pub fn finish(self) -> Kinds
         ensures { result ≡ self.before }
     {

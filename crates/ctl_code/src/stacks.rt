@@ -36,7 +36,7 @@ impl Model for Stacks {
 }
 
 impl Stacks {
-    /// No stack but the empty one.
+    /// Makes stacks with none but the empty one.
     pub fn new(alloc: Global) -> Stacks
         ensures { result ≡ [] }
     {
@@ -45,14 +45,14 @@ impl Stacks {
         }
     }
 
-    /// The number of the newest stack.
+    /// Answers the number of the newest stack.
     pub fn newest(&self) -> usize
         ensures { result ≡ length self.now }
     {
         self.links.len()
     }
 
-    /// One more stack: this kind on one that was made; unchanged where memory is refused. The numbers of the others stay.
+    /// Adds a stack: this kind on one that was made; unchanged where memory is refused. The numbers of the others stay.
     pub fn push(&mut self, kind: Kind, below: usize) -> Result<(), AllocError>
         requires { below ≤ length self.old }
         ensures ok { OnOk result (self.new ≡ self.old ++ (kind ∷ stack_in self.old below) ∷ []) }
@@ -62,7 +62,7 @@ impl Stacks {
         Ok(())
     }
 
-    /// What is newest on a stack, and the stack below it; None where nothing stands on it.
+    /// Answers what is newest on a stack, and the stack below it; None where nothing stands on it.
     pub fn top(&self, stack: usize) -> Option<(Kind, usize)>
         ensures top { MatchOption result (stack_in self.now stack ≡ []) (λ top. stack_in self.now stack ≡ top.0 ∷ stack_in self.now top.1) }
         ensures below { IfSome result (λ top. top.1 < stack) }
@@ -71,7 +71,7 @@ impl Stacks {
         Some((link.kind, link.below))
     }
 
-    /// The stack without so many of its newest.
+    /// Answers the stack without so many of its newest.
     pub fn without(&self, stack: usize, taken: usize) -> usize
         ensures left { stack_in self.now result ≡ drop taken (stack_in self.now stack) }
         ensures older { result ≤ stack }
@@ -86,7 +86,7 @@ impl Stacks {
         left
     }
 
-    /// Whether the same stands on both.
+    /// Tells whether the same stands on both.
     pub fn is_same(&self, left: usize, right: usize) -> bool
         ensures { IsTrue result ↔ (stack_in self.now left ≡ stack_in self.now right) }
     {
@@ -104,7 +104,7 @@ impl Stacks {
         true
     }
 
-    /// Whether a stack is another one with this on top, if any.
+    /// Tells whether a stack is another one with this on top, if any.
     pub fn is_with_top(&self, stack: usize, kind: Option<Kind>, below: usize) -> bool
         ensures { IsTrue result ↔ (stack_in self.now stack ≡ with_top kind (stack_in self.now below)) }
     {

@@ -34,7 +34,7 @@ impl Model for Template {
 }
 
 impl Template {
-    /// No part.
+    /// Makes a text with no part.
     pub fn new(alloc: Global) -> Template
         ensures { result ≡ [] }
     {
@@ -43,7 +43,7 @@ impl Template {
         }
     }
 
-    /// One more part at the end; unchanged where memory is refused.
+    /// Adds a part at the end; unchanged where memory is refused.
     pub fn push(&mut self, part: TextPart) -> Result<(), AllocError>
         ensures ok { OnOk result (self.new ≡ self.old ++ part ∷ []) }
         ensures err { OnErr result (self.new ≡ self.old) }
@@ -52,7 +52,7 @@ impl Template {
         Ok(())
     }
 
-    /// The parts.
+    /// Answers the parts.
     pub fn parts(&self) -> &[TextPart]
         ensures { result.now ≡ self.now }
     {

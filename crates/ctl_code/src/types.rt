@@ -3,9 +3,10 @@
 ghost use Rattle.std.specs.Prelude.{◌≡◌, ◌↔◌, IsTrue};
 ghost use Rattle.ctl_code.specs.Valid.{BinaryOf, IsCellOf, IsNumber, IsScalar, UnaryOf};
 
-use ctl_tree::checked::{BinaryOp, Ty, UnaryOp};
+use ctl_program::operators::{BinaryOp, UnaryOp};
+use ctl_program::types::Ty;
 
-/// Whether both are one type.
+/// Tells whether both are one type.
 pub fn is_same_type(left: Ty, right: Ty) -> bool
     ensures { IsTrue result ↔ (left ≡ right) }
 {
@@ -20,7 +21,7 @@ pub fn is_same_type(left: Ty, right: Ty) -> bool
     }
 }
 
-/// Whether a value of this type is one cell, and the type is in no table.
+/// Tells whether a value of this type is one cell, and the type is in no table.
 pub fn is_scalar(ty: Ty) -> bool
     ensures { IsTrue result ↔ IsScalar ty }
 {
@@ -30,7 +31,7 @@ pub fn is_scalar(ty: Ty) -> bool
     }
 }
 
-/// Whether its values are numbers (RM 4.5.3).
+/// Tells whether its values are numbers (RM 4.5.3).
 pub fn is_number(ty: Ty) -> bool
     ensures { IsTrue result ↔ IsNumber ty }
 {
@@ -40,7 +41,7 @@ pub fn is_number(ty: Ty) -> bool
     }
 }
 
-/// Whether a cell is a value of this type.
+/// Tells whether a cell is a value of this type.
 pub fn is_cell_of(ty: Ty, cell: u64) -> bool
     ensures { IsTrue result ↔ IsCellOf ty cell }
 {
@@ -51,7 +52,7 @@ pub fn is_cell_of(ty: Ty, cell: u64) -> bool
     }
 }
 
-/// Whether it is an operator of this type (RM 4.5.4, 4.5.6).
+/// Tells whether it is an operator of this type (RM 4.5.4, 4.5.6).
 pub fn is_unary_of(op: UnaryOp, ty: Ty) -> bool
     ensures { IsTrue result ↔ UnaryOf op ty }
 {
@@ -61,7 +62,7 @@ pub fn is_unary_of(op: UnaryOp, ty: Ty) -> bool
     }
 }
 
-/// Whether it is an operator of two operands of the one type that gives the other (RM 4.5.1 to 4.5.5).
+/// Tells whether it is an operator of two operands of the one type that gives the other (RM 4.5.1 to 4.5.5).
 pub fn is_binary_of(op: BinaryOp, operand: Ty, ty: Ty) -> bool
     ensures { IsTrue result ↔ BinaryOf op operand ty }
 {

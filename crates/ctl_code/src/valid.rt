@@ -26,7 +26,7 @@ impl Model for ValidCode {
 }
 
 impl ValidCode {
-    /// The instructions, and the tables that they name.
+    /// Answers the instructions, and the tables that they name.
     pub fn code(&self) -> &Code
         ensures code { result.now ≡ self.now }
         ensures valid { IsValid self.now }
@@ -36,7 +36,7 @@ impl ValidCode {
 }
 
 impl Code {
-    /// The same code, where it is well formed; None where it is not.
+    /// Answers the same code, where it is well formed; None where it is not.
     pub fn validate(self) -> Option<ValidCode>
         ensures same { IfSome result (λ valid. valid ≡ self) }
         ensures refused { IsNone result → IsValid self → ⊥ }

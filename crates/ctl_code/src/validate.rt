@@ -10,7 +10,7 @@ ghost use Rattle.ctl_code.specs.Valid.{IsFine, IsValid, Leads, MayBeEntry};
 use crate::code::Code;
 use crate::fine::{is_entry, is_fine};
 
-/// Whether each instruction is well formed where it stands.
+/// Tells whether each instruction is well formed where it stands.
 fn are_instructions_fine(code: &Code) -> bool
     ensures { IsTrue result ↔ ((place : ℕ) (i : Instr) → slice_get code.now.instructions.items place ≡ Some i → IsFine code.now place i (stack_at code.now.kinds place)) }
 {
@@ -22,7 +22,7 @@ fn are_instructions_fine(code: &Code) -> bool
     true
 }
 
-/// Whether each body begins at a place of the code, with nothing on its stack.
+/// Tells whether each body begins at a place of the code, with nothing on its stack.
 fn are_entries_fine(code: &Code) -> bool
     ensures { IsTrue result ↔ ((f : ℕ) (e : Entry) → slice_get code.now.entries.items f ≡ Some e → Leads code.now e.place []) }
 {
@@ -34,7 +34,7 @@ fn are_entries_fine(code: &Code) -> bool
     true
 }
 
-/// Whether there is no operation, or one that has a body.
+/// Tells whether there is no operation, or one that has a body.
 fn may_be_entry(code: &Code, number: Option<usize>) -> bool
     ensures { IsTrue result ↔ MayBeEntry code.now number }
 {
@@ -44,7 +44,7 @@ fn may_be_entry(code: &Code, number: Option<usize>) -> bool
     }
 }
 
-/// Whether each operation of a record type has a body (RM 7.6).
+/// Tells whether each operation of a record type has a body (RM 7.6).
 fn are_records_fine(code: &Code) -> bool
     ensures { IsTrue result ↔ ((t : ℕ) (o : Operations) → slice_get code.now.records.items t ≡ Some o → MayBeEntry code.now o.initialize × MayBeEntry code.now o.finalize) }
 {
@@ -56,14 +56,14 @@ fn are_records_fine(code: &Code) -> bool
     true
 }
 
-/// Whether each instruction has its stack, and the first one an empty one.
+/// Tells whether each instruction has its stack, and the first one an empty one.
 fn are_stacks_fine(code: &Code) -> bool
     ensures { IsTrue result ↔ ((length code.now.kinds ≡ length code.now.instructions.items) × Leads code.now 0 []) }
 {
     code.kinds.len() == code.instructions.len() && code.kinds.is_bare_at(0)
 }
 
-/// Whether the code is well formed.
+/// Tells whether the code is well formed.
 pub fn is_valid(code: &Code) -> bool
     ensures { IsTrue result ↔ IsValid code.now }
 {

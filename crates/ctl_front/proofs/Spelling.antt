@@ -11,10 +11,10 @@ use Rattle.ctl_grammar.specs.Text.{IsProgram}
 use Rattle.ctl_grammar.specs.Fault.{HasGrammarFault}
 use Rattle.ctl_grammar.proofs.Programs as programs
 use Rattle.ctl_grammar.proofs.Faults as faults
-use Rattle.ctl_parse_plain.specs.Kept.{kept_program}
-use Rattle.ctl_parse_plain.specs.Parts.{tree_node}
-use Rattle.ctl_parse_plain.specs.Read.{read_tree}
-use Rattle.ctl_parse_plain.proofs.ReadTrees.{tree_back}
+use Rattle.ctl_parse.specs.Kept.{kept_program}
+use Rattle.ctl_parse.specs.Parts.{tree_node}
+use Rattle.ctl_parse.specs.Read.{read_tree}
+use Rattle.ctl_parse.proofs.ReadTrees.{tree_back}
 use Rattle.ctl_front.specs.Text.{Written, room, Spells, BreaksForm, of_lexis, of_grammar}
 
 -- ---- of a text that is refused

@@ -12,8 +12,8 @@ use Rattle.ctl_syntax.specs.declared.denoted.Use.{Use}
 use Rattle.ctl_syntax.specs.declared.name.Identifier.{Identifier}
 use Rattle.ctl_syntax.specs.declared.item.Tree.{Tree}
 use Rattle.ctl_program.specs.declared.program.Checked.{Checked}
-use Rattle.ctl_parse_plain.specs.Kept.{kept_program}
-use Rattle.ctl_parse_plain.specs.Read.{read_tree}
+use Rattle.ctl_parse.specs.Kept.{kept_program}
+use Rattle.ctl_parse.specs.Read.{read_tree}
 use Rattle.ctl_resolve.specs.declared.context.Broken.{Broken}
 use Rattle.ctl_resolve.specs.Whole.{named}
 use Rattle.ctl_types.specs.Elaboration.{elaborate}

@@ -6,7 +6,7 @@ ghost use Rattle.ctl_lex.specs.Memory.{IsMemory};
 ghost use Rattle.ctl_front.specs.Text.{BreaksForm, Spells};
 
 use ctl_lex::tokens;
-use ctl_parse_plain::parse;
+use ctl_parse::parse;
 use ctl_syntax::denoted::Written;
 use ctl_tree::fault::Fault;
 use std::alloc::Global;

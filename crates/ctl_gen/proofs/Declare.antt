@@ -1,8 +1,8 @@
 -- The declaration of an object of a plain type.
 use Rattle.std.proofs.Common.{◌≡◌, ℕ, ◌+◌, ◌≤◌, List, [], ◌∷◌, length, Option, Some, None, false, refl, sym, ap, ◌∙◌, subst, arith}
 use Rattle.std.specs.Prelude.{slice_get, ◌&&◌, is_some}
-use Rattle.ctl_tree.specs.declared.checked.Ty.TheVariants.{Record}
-use Rattle.ctl_tree.specs.declared.checked.RecordType.{RecordType}
+use Rattle.ctl_program.specs.declared.types.Ty.TheVariants.{Record}
+use Rattle.ctl_program.specs.declared.types.RecordType.{RecordType}
 use Rattle.ctl_tree.specs.declared.ending.Stop.TheVariants.{UseAfterFree}
 use Rattle.ctl_tree.specs.declared.event.Event.{Event}
 use Rattle.ctl_tree.specs.declared.event.Event.TheVariants as EventOf
@@ -13,7 +13,7 @@ use Rattle.ctl_meaning.specs.Changes.{object_at, create, set_slot, add_layer, be
 use Rattle.ctl_meaning.specs.Choice.{Ask, picked}
 use Rattle.ctl_meaning.specs.Outcome.{ByExit, ByReturn, ByRaise, Goes, Leaves, Out, Gives, Stops, Cut, Act, Done, add, bind, on_goes, ◌>>=◌, ◌>>◌, done, nothing, tell, show, look, change, told, attempt, when, either, on_some, opened_outcome}
 use Rattle.ctl_meaning.specs.Types.{Tables, operation, depth, of_record}
-use Rattle.ctl_meaning.specs.Names.{OfSubprogram, Call, Tools, gone, must_exist, opened_names}
+use Rattle.ctl_meaning.specs.Names.{OfSubprogram, Call, Default, Tools, gone, must_exist, opened_names}
 use Rattle.ctl_meaning.specs.Finalization.{whole, These, component_at, call_operation, after_finalize, own_finalize, in_any_order, finalize_part, finalize, opened_finalization}
 use Rattle.ctl_meaning.specs.Adjustment.{birth_of, lives}
 use Rattle.ctl_meaning.specs.Initialization.{begun_with, begin_next, begin_each, begin_component, own_initialize, unless_failed, failed_with, clean_up, begun, initialize_part, initialize, fill, opened_initialization}
@@ -24,10 +24,10 @@ use Rattle.ctl_code.specs.States.{At, Stopped, Frame, Creating, Initializing, St
 use Rattle.ctl_code.specs.Table as Table
 use Rattle.ctl_code.specs.Table.{whole_part, showing, birth, come_to_life, operation_of}
 use Rattle.ctl_code.specs.Steps.{moved, step}
-use Rattle.ctl_gen.specs.Slice.{IsPlain}
+use Rattle.ctl_gen.proofs.Known.{IsPlain}
 use Rattle.ctl_gen.proofs.Worlds.{Fits, fits_create, fits_slot, fits_layer, fits_begin, fits_end}
 use Rattle.ctl_gen.proofs.Plain.{is_controlled_plain, begin_cells_plain, parts_to_begin_plain, parts_to_finalize_plain}
-use Rattle.ctl_gen.proofs.Setting.{Setting, tools_with, returns, Calls, written_initialize, enter_shows, by_code, done_with}
+use Rattle.ctl_gen.proofs.Setting.{Setting, tools_with, returns, Calls, enter_shows, by_code, done_with}
 use Rattle.ctl_gen.proofs.Follow.{Runs, at, gives, arrives, last_step, stop_step, one_step, then_step, then_stops, more_quits, more_halts}
 
 -- the move of an object that was initialized, with what the tables say
@@ -39,9 +39,9 @@ as_life : (code : Code) (n t : ℕ) (y : Option Object) (v : List ℕ) (place : 
 as_life code n t None v place ks ops w l = refl
 as_life code n t (Some o) v place ks ops w l = refl
 
-module _ (ask : Ask) (k : Tables) (code : Code) (setting : Setting k code) (call : Call) (t : ℕ) (r : RecordType) (here : slice_get k.records t ≡ Some r) (plain : IsPlain k.subprograms r) where
+module _ (ask : Ask) (k : Tables) (code : Code) (setting : Setting k code) (call : Call) (default : Default) (t : ℕ) (r : RecordType) (here : slice_get k.records t ≡ Some r) (plain : IsPlain k r) where
   abbrev K : Tools
-  K = tools_with ask k call
+  K = tools_with ask k call default
 
   abbrev starts : ℕ → Event
   starts n = EventOf.Initialize (whole_part n)
@@ -71,7 +71,7 @@ module _ (ask : Ask) (k : Tables) (code : Code) (setting : Setting k code) (call
   initialize_is : (g1 g2 : Option ℕ) → operation (λ x. x.initialize) k t ≡ g1 → operation (λ x. x.finalize) k t ≡ g2 → (n m c : ℕ) (l : Log) (w0 w : World) → initialize K (birth_of (Declared m) w0) (whole n) (Record t) c l w ≡ started g2 n m (call_operation K (whole n) g1 (starts n) c l w)
   unfolding opened_initialization opened_finalization opened_outcome depth of_record birth_of lives
   initialize_is g1 g2 e1 e2 n m c l w0 w =
-      ap (λ ps. bind (bind (begin_each K (whole n) (begin_component K (birth_of (Declared m) w0) (initialize_part K (birth_of (Declared m) w0) (length k.records)) (whole n)) (length ps) ps [] c l w) (on_goes (unless_failed (own_initialize K (whole n) t)))) (on_goes (begun K (birth_of (Declared m) w0) (whole n) t))) (parts_to_begin_plain k t r here plain K refl)
+      ap (λ ps. bind (bind (begin_each K (whole n) (begin_component K (birth_of (Declared m) w0) (initialize_part K (birth_of (Declared m) w0) (length k.records)) (whole n) t) (length ps) ps [] c l w) (on_goes (unless_failed (own_initialize K (whole n) t)))) (on_goes (begun K (birth_of (Declared m) w0) (whole n) t))) (parts_to_begin_plain k t r here plain K refl)
       ∙ ap (λ b. bind (add 0 (either b (λ c1 l1 w1. bind (bind (call_operation K (whole n) (operation (λ x. x.initialize) k t) (starts n) c1 l1 w1) told) (on_goes (begin_next [] begun_with []))) (begun_with []) c l w)) (on_goes (λ x. on_some x.failure (when b (alive (operation (λ y. y.finalize) k t) n m)) (clean_up K (whole n) t x.paths)))) (is_controlled_plain k t r here plain)
       ∙ ap (λ x. started (operation (λ y. y.finalize) k t) n m (call_operation K (whole n) x (starts n) c l w)) e1
       ∙ ap (λ x. started x n m (call_operation K (whole n) g1 (starts n) c l w)) e2
@@ -122,7 +122,7 @@ module _ (ask : Ask) (k : Tables) (code : Code) (setting : Setting k code) (call
   begun_runs g eg n v place ks ops s0 c (Stops why τ l) z = more_quits ask code (Fits k) 2 4 s0 τ _ l why (omega arith) z
   begun_runs g eg n v place ks ops s0 c (Cut τ c1 l) z = more_halts ask code (Fits k) 2 4 s0 c τ _ l (omega arith) z
 
-  module _ (bound : ℕ) (calls : Calls ask k code bound call) where
+  module _ (bound : ℕ) (calls : Calls ask k code setting bound call) where
     -- an Initialize, from the step that begins it
     initialize_runs : (g : Option ℕ) → operation (λ x. x.initialize) k t ≡ g → (n : ℕ) (ks : List Frame) (ops : List ℕ) (c : ℕ) (l : Log) (w : World) (s0 : State) → c ≤ bound → Fits k w → step ask code s0 ≡ moved l (Table.call_operation code g (starts n) n (object_at n w) ks ops w) → Runs ask code (Fits k) 2 2 s0 c (returns ks ops) (call_operation K (whole n) g (starts n) c l w)
     unfolding opened_outcome opened_finalization opened_names
@@ -133,7 +133,7 @@ module _ (ask : Ask) (k : Tables) (code : Code) (setting : Setting k code) (call
         found None (Some o) eh ey e = subst (λ o. Runs ask code (Fits k) 2 2 s0 c (returns ks ops) o) (sym (ap (λ y. add 1 (on_some y gone (λ _. nothing) c l w)) ey)) (last_step ask code (Fits k) 2 2 s0 c 1 (returns {A = Done} ks ops) (Goes tt) l w (omega arith) fits (e ∙ ap (λ y. moved l (Table.call_operation code None (starts n) n y ks ops w)) ey))
         found (Some f) None eh ey e = subst (λ o. Runs ask code (Fits k) 2 2 s0 c (returns ks ops) o) (sym (ap (λ y. on_some y gone (λ o1. look (λ w1. show (starts n) >> call (OfSubprogram f (Binds n 0 [] ∷ [])) (home_of o1.origin w1) >> nothing)) c l w) ey)) (stop_step ask code (Fits k) 2 2 s0 _ c 0 (returns {A = Done} ks ops) UseAfterFree l (omega arith) (e ∙ ap (λ y. moved l (Table.call_operation code (Some f) (starts n) n y ks ops w)) ey) refl refl)
         found (Some f) (Some o) eh ey e =
-            let body = written_initialize k t r here plain f eh in
+            let body = setting.initialize_body t f eh in
             subst (λ o1. Runs ask code (Fits k) 2 2 s0 c (returns ks ops) o1) (sym (call_is f n c (starts n) l w o ey))
             (done_with ask k code 2 2 ks ops s0 c _ (calls.runs f body.0 body.1 (home_of o.origin w) (Binds n 0 [] ∷ []) ks ops c (tell (starts n) l) w s0 le fits (e ∙ ap (λ y. moved l (Table.call_operation code (Some f) (starts n) n y ks ops w)) ey ∙ enter_shows (slice_get code.entries.items f) (starts n) (home_of o.origin w) (Binds n 0 [] ∷ []) ks ops l w)))
 

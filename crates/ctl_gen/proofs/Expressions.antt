@@ -1,12 +1,9 @@
 -- The code of an expression leaves the expression's value as a new operand, or drops the operands of its statement.
 use Rattle.std.proofs.Common.{◌≡◌, ℕ, ◌+◌, List, [], ◌∷◌, ◌++◌, length, Option, Some, None, Bool, true, false, refl, sym, ap, ◌∙◌, subst, arith, length-append}
-use Rattle.ctl_tree.specs.declared.checked.Ty.{Ty}
-use Rattle.ctl_tree.specs.declared.checked.Var.{Var}
-use Rattle.ctl_tree.specs.declared.checked.BinaryOp.{BinaryOp}
-use Rattle.ctl_tree.specs.declared.checked.Step.{Step}
-use Rattle.ctl_tree.specs.declared.checked.Shortcut.{Shortcut}
-use Rattle.ctl_tree.specs.declared.checked.Expr.{Expr, Constant, Read', Call', Unary', Chain', Short', Convert', Access, New', Subpool', Discriminant', Row_of-Expr, end_of-Expr, more_of-Expr, Row_of-Operand, end_of-Operand, more_of-Operand}
-use Rattle.ctl_tree.specs.declared.checked.Head.{Head, Variable, Given'}
+use Rattle.ctl_program.specs.declared.types.Ty.{Ty}
+use Rattle.ctl_program.specs.declared.types.Var.{Var}
+use Rattle.ctl_program.specs.declared.operators.BinaryOp.{BinaryOp}
+use Rattle.ctl_program.specs.declared.operators.Shortcut.{Shortcut}
 use Rattle.ctl_tree.specs.declared.ending.Stop.TheVariants.{UseAfterFree}
 use Rattle.ctl_meaning.specs.World.{Object, Log, World}
 use Rattle.ctl_meaning.specs.Lists.{opened_lists}
@@ -16,8 +13,7 @@ use Rattle.ctl_meaning.specs.Choice.{Ask}
 use Rattle.ctl_meaning.specs.Outcome.{constraint_error, ByRaise, Result, Goes, Leaves, Out, Gives, Act, add, bind, on_goes, ◌>>=◌, done, ticked, either, on_some, opened_outcome}
 use Rattle.ctl_meaning.specs.Numbers.{unary, binary}
 use Rattle.ctl_meaning.specs.Types.{Tables, cells_of}
-use Rattle.ctl_meaning.specs.Names.{Call, Tools, Found, InObject, InCopy, Alone, gone, scalar_of, read_found, walk, or_constraint_error, opened_names}
-use Rattle.ctl_meaning.specs.Expressions.{decides, var_part, eval, eval_head, eval_operands, eval_others}
+use Rattle.ctl_meaning.specs.Names.{Call, Default, Tools, Found, InObject, InCopy, Alone, gone, scalar_of, read_found, or_constraint_error, opened_names}
 use Rattle.ctl_code.specs.declared.code.Instr.{Instr}
 use Rattle.ctl_code.specs.declared.code.Instr.TheVariants as InstrOf
 use Rattle.ctl_code.specs.declared.code.Code.{Code}
@@ -26,16 +22,17 @@ use Rattle.ctl_code.specs.Table.{by_result, then_binary, by_read, by_held, by_de
 use Rattle.ctl_code.specs.Steps.{moved, step}
 use Rattle.ctl_gen.specs.declared.right.Right.{Right}
 use Rattle.ctl_gen.specs.declared.right.Right.TheVariants as RightOf
-use Rattle.ctl_gen.specs.Layout.{read_code, expr_code, operands_code, operator_code, other_code, others_code, right_name, right_of}
-use Rattle.ctl_gen.specs.Typing.{IsScalar, IsVariable}
-use Rattle.ctl_gen.proofs.Simple.{ExprInSlice, OperandsInSlice, OthersInSlice}
-use Rattle.ctl_gen.proofs.RightOperands.{constant_right}
+use Rattle.ctl_meaning.specs.Expressions.{Applied, Valued, apply_each, decides, join_each}
+use Rattle.ctl_code.specs.declared.kinds.Kind.{Kind}
+use Rattle.ctl_gen.specs.Values.{ValueCode, OperatorCode, code_by_right, constant, operator_code, operators_code, other_code, others_code, read}
+use Rattle.ctl_gen.specs.Values.{unary as unary_code}
+use Rattle.ctl_gen.proofs.Known.{IsScalar}
+use Rattle.ctl_gen.proofs.Values.{scalar_cells, plain_later, plain_then, plain_result, plain_either, plain_read}
 use Rattle.ctl_gen.proofs.Place.{HasAt, has_front, has_back}
 use Rattle.ctl_gen.proofs.Worlds.{Fits}
 use Rattle.ctl_gen.proofs.Setting.{tools_with, by_code}
 use Rattle.ctl_gen.proofs.Operands.{Stands}
 use Rattle.ctl_gen.proofs.Worth.{Is, IsPlain, both_plain}
-use Rattle.ctl_gen.proofs.Values.{scalar_cells, plain_later, plain_then, plain_result, plain_either, plain_read, eval_plain, operands_plain, others_plain}
 use Rattle.ctl_gen.proofs.Follow.{Runs, at, gives, added, one_step, last_step, stop_step, no_step, arriving, bind_add}
 
 -- where an evaluation leads: its value over the operands, or the operands of the statement alone
@@ -43,9 +40,9 @@ abbrev pub values : List ℕ → ℕ → List Frame → List ℕ → List ℕ �
 values v place ks ops over (Goes u) l w = at v place ks (scalar_of u ∷ over) l w
 values v place ks ops over (Leaves y) l w = gives ks ops (Leaves y) l w
 
-module _ (ask : Ask) (k : Tables) (code : Code) (call : Call) where
+module _ (ask : Ask) (k : Tables) (code : Code) (call : Call) (default : Default) where
   abbrev K : Tools
-  K = tools_with ask k call
+  K = tools_with ask k call default
 
   -- these instructions evaluate this, wherever they stand
   abbrev pub Evals : List Instr → (List ℕ → Act (List ℕ)) → Type 0
@@ -88,18 +85,54 @@ module _ (ask : Ask) (k : Tables) (code : Code) (call : Call) where
       let x = f v place ks ops xs c l w stands fits has in
       subst (λ o. Runs ask code (Fits k) 0 0 (at v place ks (xs ++ ops) l w) c (values v (place + length is) ks ops (xs ++ ops)) o) (sym x.is) (added ask code (Fits k) 1 2 2 0 0 _ c _ _ (omega arith) (omega arith) x.runs)
 
-  -- a variable alone
-  use_begins : (head : Head) (steps : List Step) (ty : Ty) → IsVariable head steps → IsScalar ty → Begins (read_code head steps) (λ v. ticked (eval_head K v head >>= walk K steps >>= read_found (cells_of k ty)))
-  unfolding eval_head var_part opened_outcome opened_names
-  use_begins (Variable x) [] ty known scalar v place ks ops xs c l w stands fits has =
-      record {
-        out = add 1 (read_found 1 (found_by v x w) c l w);
-        is = ap (λ n. add 1 (add 1 (read_found n (found_by v x w) c l w))) (scalar_cells k ty scalar);
-        plain = plain_later 1 c l w _ (plain_read (found_by v x w) c l w);
-        runs = added ask code (Fits k) 1 2 2 2 2 _ c _ _ (omega arith) (omega arith) (read_runs (found_by v x w) v place ks ops (xs ++ ops) c l w _ fits (by_code ask code v place ks (xs ++ ops) l w (InstrOf.Read x) has.0));
-      }
-  use_begins (Variable x) (s ∷ steps) ty known scalar v place ks ops xs c l w stands fits has = absurd known
-  use_begins (Given' p e) steps ty known scalar v place ks ops xs c l w stands fits has = absurd known
+  -- the code of an expression does what it means, and so does an operator that takes it as its right operand
+  pub record Value (x : ValueCode) (act : List ℕ → Act (List ℕ)) : Type 0 where
+    pub plain : (v : List ℕ) (c : ℕ) (l : Log) (w : World) → IsPlain c l w (act v c l w)
+    pub begins : Begins x.code act
+    pub constant : (n : ℕ) → x.right ≡ RightOf.Constant n → (v : List ℕ) (c : ℕ) (l : Log) (w : World) → act v c l w ≡ Gives (Goes (n ∷ [])) 1 c l w
+    pub variable : (y : Var) → x.right ≡ RightOf.Variable y → (v : List ℕ) (c : ℕ) (l : Log) (w : World) → act v c l w ≡ add 1 (add 1 (read_found 1 (found_by v y w) c l w))
+
+  pub value_runs : (x : ValueCode) (act : List ℕ → Act (List ℕ)) → Value x act → Evals x.code act
+  value_runs x act value = by_first x.code act value.begins
+
+  -- Constants and variables -----------------------------------------------------------------------
+
+  pub constant_value : (n : ℕ) → Value (constant n) (λ v. ticked (done (n ∷ [])))
+  unfolding opened_outcome scalar_of opened_lists
+  constant_value n = record {
+    plain = λ v c l w. (Is n 1, refl);
+    begins = λ v place ks ops xs c l w stands fits has. record {
+      out = Gives (Goes (n ∷ [])) 0 c l w;
+      is = refl;
+      plain = (Is n 0, refl);
+      runs = last_step ask code (Fits k) 2 2 _ c 0 (values v (place + 1) ks ops (xs ++ ops)) (Goes (n ∷ [])) l w (omega arith) fits (by_code ask code v place ks (xs ++ ops) l w (InstrOf.Push n) has.0);
+    };
+    constant = λ m is v c l w. let same : n ≡ m = cc in ap (λ a. Gives (Goes (a ∷ [])) 1 c l w) same;
+    variable = λ y is v c l w. absurd (cc);
+  }
+
+  -- what finds a variable, in one tick
+  abbrev pub Uses : Var → (List ℕ → Act Found) → Type 0
+  Uses x find = (v : List ℕ) (c : ℕ) (l : Log) (w : World) → find v c l w ≡ Gives (Goes (found_by v x w)) 1 c l w
+
+  reads_it : (x : Var) (find : List ℕ → Act Found) → Uses x find → (ty : Ty) → IsScalar ty → (v : List ℕ) (c : ℕ) (l : Log) (w : World) → ticked (find v >>= read_found (cells_of k ty)) c l w ≡ add 1 (add 1 (read_found 1 (found_by v x w) c l w))
+  unfolding opened_outcome
+  reads_it x find uses ty scalar v c l w =
+      ap (λ o. add 1 (bind o (on_goes (read_found (cells_of k ty))))) (uses v c l w)
+      ∙ ap (λ n. add 1 (add 1 (read_found n (found_by v x w) c l w))) (scalar_cells k ty scalar)
+
+  pub read_value : (x : Var) (find : List ℕ → Act Found) → Uses x find → (ty : Ty) → IsScalar ty → Value (read (Some x) ty) (λ v. ticked (find v >>= read_found (cells_of k ty)))
+  read_value x find uses ty scalar = record {
+    plain = λ v c l w. let z = plain_later 1 c l w _ (plain_later 1 c l w _ (plain_read (found_by v x w) c l w)) in (z.0, reads_it x find uses ty scalar v c l w ∙ z.1);
+    begins = λ v place ks ops xs c l w stands fits has. record {
+      out = add 1 (read_found 1 (found_by v x w) c l w);
+      is = reads_it x find uses ty scalar v c l w;
+      plain = plain_later 1 c l w _ (plain_read (found_by v x w) c l w);
+      runs = added ask code (Fits k) 1 2 2 2 2 _ c _ _ (omega arith) (omega arith) (read_runs (found_by v x w) v place ks ops (xs ++ ops) c l w _ fits (by_code ask code v place ks (xs ++ ops) l w (InstrOf.Read x) has.0));
+    };
+    constant = λ n is v c l w. absurd (cc);
+    variable = λ y is v c l w. let same : x ≡ y = cc in reads_it x find uses ty scalar v c l w ∙ ap (λ (z : Var). add 1 (add 1 (read_found 1 (found_by v z w) c l w))) same;
+  }
 
   -- an operator with one operand
   unary_begins : (op : _) (ty : Ty) (is : List Instr) (act : List ℕ → Act (List ℕ)) → Evals is act → ((v : List ℕ) (c : ℕ) (l : Log) (w : World) → IsPlain c l w (act v c l w)) → Begins (is ++ InstrOf.Unary op ty ∷ []) (λ v. ticked (act v >>= (λ u. or_constraint_error (unary op ty (scalar_of u)))))
@@ -130,32 +163,14 @@ module _ (ask : Ask) (k : Tables) (code : Code) (call : Call) where
       (λ m fits1. result_runs (binary op ty n m) v (place + length is) ks ops xs c l w _ stands fits1 (by_code ask code v (place + length is) ks (m ∷ n ∷ xs ++ ops) l w (InstrOf.Binary op ty) (has_back code.instructions.items place is (InstrOf.Binary op ty ∷ []) has).0))
       (λ fits1. fails 1 1 v (place + length is) (place + length is + 1) ks ops (n ∷ xs ++ ops) (xs ++ ops) c l w fits1)))
 
-  -- the value of a right operand that is a constant, or a variable
-  constant_is : (e : Expr) (n : ℕ) → right_of e ≡ RightOf.Constant n → (v : List ℕ) (c : ℕ) (l : Log) (w : World) → eval K v e c l w ≡ Gives (Goes (n ∷ [])) 1 c l w
-  unfolding eval opened_outcome opened_lists
-  constant_is e n is v c l w = ap (λ (x : Expr). eval K v x c l w) (constant_right e n is)
-
-  use_is : (head : Head) (steps : List Step) (ty : Ty) (x : Var) → IsScalar ty → right_name head steps ≡ RightOf.Variable x → (v : List ℕ) (c : ℕ) (l : Log) (w : World) → ticked (eval_head K v head >>= walk K steps >>= read_found (cells_of k ty)) c l w ≡ add 1 (add 1 (read_found 1 (found_by v x w) c l w))
-  unfolding eval_head var_part opened_outcome opened_names
-  use_is (Variable y) [] ty x scalar is v c l w =
-      let same : y ≡ x = cc in
-      ap (λ n. add 1 (add 1 (read_found n (found_by v y w) c l w))) (scalar_cells k ty scalar) ∙ ap (λ (z : Var). add 1 (add 1 (read_found 1 (found_by v z w) c l w))) same
-  use_is (Variable y) (s ∷ steps) ty x scalar is v c l w = absurd (cc)
-  use_is (Given' p e) steps ty x scalar is v c l w = absurd (cc)
-
-  variable_is : (e : Expr) (x : Var) → ExprInSlice e → right_of e ≡ RightOf.Variable x → (v : List ℕ) (c : ℕ) (l : Log) (w : World) → eval K v e c l w ≡ add 1 (add 1 (read_found 1 (found_by v x w) c l w))
-  unfolding eval opened_outcome opened_lists
-  variable_is (Constant n) x known is v c l w = absurd (cc)
-  variable_is (Read' head steps ty) x known is v c l w = use_is head steps.items ty x known.1 is v c l w
-  variable_is (Unary' op ty p e) x known is v c l w = absurd (cc)
-  variable_is (Chain' p e s row) x known is v c l w = absurd (cc)
-  variable_is (Short' form p e s row) x known is v c l w = absurd (cc)
-  variable_is (Call' f s row) x known is v c l w = absurd known
-  variable_is (Convert' ty p e) x known is v c l w = absurd known
-  variable_is (Access y) x known is v c l w = absurd known
-  variable_is (New' access ty handle value) x known is v c l w = absurd known
-  variable_is (Subpool' which p head steps) x known is v c l w = absurd known
-  variable_is (Discriminant' p head steps n) x known is v c l w = absurd known
+  pub unary_value : (op : _) (ty : Ty) (x : ValueCode) (act : List ℕ → Act (List ℕ)) → Value x act → Value (unary_code op ty x) (λ v. ticked (act v >>= (λ u. or_constraint_error (unary op ty (scalar_of u)))))
+  unfolding opened_outcome scalar_of opened_lists
+  unary_value op ty x act value = record {
+    plain = λ v c l w. plain_later 1 c l w _ (plain_then c l w (act v c l w) _ (value.plain v c l w) (λ n. plain_result (unary op ty n) c l w));
+    begins = unary_begins op ty x.code act (value_runs x act value) value.plain;
+    constant = λ n is v c l w. absurd (cc);
+    variable = λ y is v c l w. absurd (cc);
+  }
 
   -- an operator over the value of a variable
   read_right_runs : (op : BinaryOp) (ty : Ty) (n : ℕ) (f : Found) (v : List ℕ) (place : ℕ) (ks : List Frame) (ops xs : List ℕ) (c : ℕ) (l : Log) (w : World) (s0 : State) → Stands ks ops → Fits k w → step ask code s0 ≡ moved l (then_binary op ty place (by_read f v place ks (n ∷ xs ++ ops) w)) → Runs ask code (Fits k) 2 2 s0 c (values v (place + 1) ks ops (xs ++ ops)) (bind (read_found 1 f c l w) (on_goes (λ u. or_constraint_error (binary op ty n (scalar_of u)))))
@@ -178,29 +193,44 @@ module _ (ask : Ask) (k : Tables) (code : Code) (call : Call) where
       by (Alone u) e = over _ e
 
   -- an operator, and its right operand
-  operator_runs : (r : Right) (op : BinaryOp) (ty : Ty) (n : ℕ) (right : Expr) → right_of right ≡ r → ExprInSlice right → Evals (expr_code right) (λ v. eval K v right) → (v : List ℕ) (place : ℕ) (ks : List Frame) (ops xs : List ℕ) (c : ℕ) (l : Log) (w : World) → Stands ks ops → Fits k w → HasAt code.instructions.items place (operator_code r op ty (expr_code right)) → Runs ask code (Fits k) 0 0 (at v place ks (n ∷ xs ++ ops) l w) c (values v (place + length (operator_code r op ty (expr_code right))) ks ops (xs ++ ops)) (ticked (eval K v right >>= (λ u. or_constraint_error (binary op ty n (scalar_of u)))) c l w)
+  operator_runs : (r : Right) (op : BinaryOp) (ty : Ty) (n : ℕ) (x : ValueCode) (act : List ℕ → Act (List ℕ)) → x.right ≡ r → Value x act → (v : List ℕ) (place : ℕ) (ks : List Frame) (ops xs : List ℕ) (c : ℕ) (l : Log) (w : World) → Stands ks ops → Fits k w → HasAt code.instructions.items place (code_by_right r op ty x.code) → Runs ask code (Fits k) 0 0 (at v place ks (n ∷ xs ++ ops) l w) c (values v (place + length (code_by_right r op ty x.code)) ks ops (xs ++ ops)) (ticked (act v >>= (λ u. or_constraint_error (binary op ty n (scalar_of u)))) c l w)
   unfolding opened_outcome scalar_of opened_lists
-  operator_runs (RightOf.Constant m) op ty n right is known does v place ks ops xs c l w stands fits has =
-      subst (λ o. Runs ask code (Fits k) 0 0 (at v place ks (n ∷ xs ++ ops) l w) c (values v (place + 1) ks ops (xs ++ ops)) (add 1 (bind o (on_goes (λ u. or_constraint_error (binary op ty n (scalar_of u))))))) (sym (constant_is right m is v c l w))
+  operator_runs (RightOf.Constant m) op ty n x act is value v place ks ops xs c l w stands fits has =
+      subst (λ o. Runs ask code (Fits k) 0 0 (at v place ks (n ∷ xs ++ ops) l w) c (values v (place + 1) ks ops (xs ++ ops)) (add 1 (bind o (on_goes (λ u. or_constraint_error (binary op ty n (scalar_of u))))))) (sym (value.constant m is v c l w))
       (added ask code (Fits k) 1 0 0 0 0 _ c _ _ (omega arith) (omega arith)
       (added ask code (Fits k) 1 1 1 0 0 _ c _ _ (omega arith) (omega arith)
       (result_runs (binary op ty n m) v place ks ops xs c l w _ stands fits (by_code ask code v place ks (n ∷ xs ++ ops) l w (InstrOf.BinaryConstant op ty m) has.0))))
-  operator_runs (RightOf.Variable x) op ty n right is known does v place ks ops xs c l w stands fits has =
-      let found = found_by v x w in
+  operator_runs (RightOf.Variable y) op ty n x act is value v place ks ops xs c l w stands fits has =
+      let found = found_by v y w in
       let goes = on_goes (λ u. or_constraint_error (binary op ty n (scalar_of u))) in
-      let e : bind (eval K v right c l w) goes ≡ add 1 (add 1 (bind (read_found 1 found c l w) goes)) = ap (λ o. bind o goes) (variable_is right x known is v c l w) ∙ (bind_add 1 (add 1 (read_found 1 found c l w)) goes ∙ ap (λ o. add 1 o) (bind_add 1 (read_found 1 found c l w) goes)) in
+      let e : bind (act v c l w) goes ≡ add 1 (add 1 (bind (read_found 1 found c l w) goes)) = ap (λ o. bind o goes) (value.variable y is v c l w) ∙ (bind_add 1 (add 1 (read_found 1 found c l w)) goes ∙ ap (λ o. add 1 o) (bind_add 1 (read_found 1 found c l w) goes)) in
       subst (λ o. Runs ask code (Fits k) 0 0 (at v place ks (n ∷ xs ++ ops) l w) c (values v (place + 1) ks ops (xs ++ ops)) (add 1 o)) (sym e)
       (added ask code (Fits k) 1 0 0 0 0 _ c _ _ (omega arith) (omega arith)
       (added ask code (Fits k) 1 0 0 0 0 _ c _ _ (omega arith) (omega arith)
       (added ask code (Fits k) 1 2 2 0 0 _ c _ _ (omega arith) (omega arith)
-      (read_right_runs op ty n found v place ks ops xs c l w _ stands fits (by_code ask code v place ks (n ∷ xs ++ ops) l w (InstrOf.BinaryVariable op ty x) has.0)))))
-  operator_runs RightOf.Evaluated op ty n right is known does v place ks ops xs c l w stands fits has = operand_runs op ty n (expr_code right) (λ v1. eval K v1 right) does (eval_plain ask k call right known) v place ks ops xs c l w stands fits has
+      (read_right_runs op ty n found v place ks ops xs c l w _ stands fits (by_code ask code v place ks (n ∷ xs ++ ops) l w (InstrOf.BinaryVariable op ty y) has.0)))))
+  operator_runs RightOf.Evaluated op ty n x act is value v place ks ops xs c l w stands fits has = operand_runs op ty n x.code act (value_runs x act value) value.plain v place ks ops xs c l w stands fits has
+
+  -- over a left operand, these instructions do this
+  abbrev pub Goes_on : List Instr → (List ℕ → List ℕ → Act (List ℕ)) → Type 0
+  Goes_on is more = (n : ℕ) (v : List ℕ) (place : ℕ) (ks : List Frame) (ops xs : List ℕ) (c : ℕ) (l : Log) (w : World) → Stands ks ops → Fits k w → HasAt code.instructions.items place is → Runs ask code (Fits k) 0 0 (at v place ks (n ∷ xs ++ ops) l w) c (values v (place + length is) ks ops (xs ++ ops)) (more v (n ∷ []) c l w)
+
+  pub record Further (is : List Instr) (more : List ℕ → List ℕ → Act (List ℕ)) : Type 0 where
+    pub plain : (n : ℕ) (v : List ℕ) (c : ℕ) (l : Log) (w : World) → IsPlain c l w (more v (n ∷ []) c l w)
+    pub runs : Goes_on is more
+
+  pub operator_further : (op : BinaryOp) (ty : Ty) (x : ValueCode) (act : List ℕ → Act (List ℕ)) → Value x act → Further (code_by_right x.right op ty x.code) (λ v u. ticked (act v >>= (λ z. or_constraint_error (binary op ty (scalar_of u) (scalar_of z)))))
+  unfolding opened_outcome scalar_of opened_lists
+  operator_further op ty x act value = record {
+    plain = λ n v c l w. plain_later 1 c l w _ (plain_then c l w (act v c l w) _ (value.plain v c l w) (λ m. plain_result (binary op ty n m) c l w));
+    runs = λ n v place ks ops xs c l w stands fits has. operator_runs x.right op ty n x act refl value v place ks ops xs c l w stands fits has;
+  }
 
   -- a further operand of a short-circuit form
-  other_runs : (form : Shortcut) (n : ℕ) (is : List Instr) (act : List ℕ → Act (List ℕ)) → Evals is act → (v : List ℕ) (place : ℕ) (ks : List Frame) (ops xs : List ℕ) (c : ℕ) (l : Log) (w : World) → Stands ks ops → Fits k w → HasAt code.instructions.items place (other_code form is) → Runs ask code (Fits k) 0 0 (at v place ks (n ∷ xs ++ ops) l w) c (values v (place + length (other_code form is)) ks ops (xs ++ ops)) (ticked (either (decides form (n ∷ [])) (done (n ∷ [])) (act v)) c l w)
+  other_runs : (form : Shortcut) (n : ℕ) (is : List Instr) (act : List ℕ → Act (List ℕ)) → Evals is act → (v : List ℕ) (place : ℕ) (ks : List Frame) (ops xs : List ℕ) (c : ℕ) (l : Log) (w : World) → Stands ks ops → Fits k w → HasAt code.instructions.items place (InstrOf.Decide form (length is) ∷ is) → Runs ask code (Fits k) 0 0 (at v place ks (n ∷ xs ++ ops) l w) c (values v (place + length (InstrOf.Decide form (length is) ∷ is)) ks ops (xs ++ ops)) (ticked (either (decides form (n ∷ [])) (done (n ∷ [])) (act v)) c l w)
   unfolding opened_outcome scalar_of opened_lists
   other_runs form n is act does v place ks ops xs c l w stands fits has =
-      let e : place + 1 + length is ≡ place + length (other_code form is) = omega arith in
+      let e : place + 1 + length is ≡ place + length (InstrOf.Decide form (length is) ∷ is) = omega arith in
       arriving ask code (Fits k) 0 0 _ c _ _ _ (λ r l1 w1. ap (λ p. values v p ks ops (xs ++ ops) r l1 w1) e)
       (added ask code (Fits k) 1 1 1 0 0 _ c _ _ (omega arith) (omega arith)
       (by (decides form (n ∷ [])) refl))
@@ -232,50 +262,67 @@ module _ (ask : Ask) (k : Tables) (code : Code) (call : Call) where
             (λ fits1. fails 0 0 v (place + length is) (place + length is + length js) ks ops (xs ++ ops) (xs ++ ops) c l w fits1));
       }
 
-  mutual
-    unfolding eval eval_operands eval_others opened_outcome scalar_of opened_lists
+  pub chain_value : (x : ValueCode) (own : Option Ty) (kinds : Ty → List Kind → List (List Kind)) (runs : Bool) (js : List Instr) (act : List ℕ → Act (List ℕ)) (more : List ℕ → List ℕ → Act (List ℕ)) → Value x act → Further js more → Value (record { runs = runs; own = own; right = RightOf.Evaluated; code = x.code ++ js; kinds = kinds }) (λ v. act v >>= more v)
+  unfolding opened_outcome scalar_of opened_lists
+  chain_value x own kinds runs js act more value further = record {
+    plain = λ v c l w. plain_then c l w (act v c l w) _ (value.plain v c l w) (λ n. further.plain n v c l w);
+    begins = chained x.code js act more value.begins further.plain further.runs;
+    constant = λ n is v c l w. absurd (cc);
+    variable = λ y is v c l w. absurd (cc);
+  }
 
-    pub eval_begins : (e : Expr) → ExprInSlice e → Begins (expr_code e) (λ v. eval K v e)
-    eval_begins (Constant n) known v place ks ops xs c l w stands fits has = record {
-      out = Gives (Goes (n ∷ [])) 0 c l w;
-      is = refl;
-      plain = (Is n 0, refl);
-      runs = last_step ask code (Fits k) 2 2 _ c 0 (values v (place + 1) ks ops (xs ++ ops)) (Goes (n ∷ [])) l w (omega arith) fits (by_code ask code v place ks (xs ++ ops) l w (InstrOf.Push n) has.0);
-    }
-    eval_begins (Read' head steps ty) known v place ks ops xs c l w stands fits has = use_begins head steps.items ty known.0 known.1 v place ks ops xs c l w stands fits has
-    eval_begins (Unary' op ty p e) known v place ks ops xs c l w stands fits has = unary_begins op ty (expr_code e) (λ v1. eval K v1 e) (by_first (expr_code e) (λ v1. eval K v1 e) (eval_begins e known)) (eval_plain ask k call e known) v place ks ops xs c l w stands fits has
-    eval_begins (Chain' p e s row) known v place ks ops xs c l w stands fits has = chained (expr_code e) (operands_code row) (λ v1. eval K v1 e) (λ v1. eval_operands K v1 row) (eval_begins e known.0) (λ n v1. operands_plain ask k call row known.1 v1 n) (operands_run row known.1) v place ks ops xs c l w stands fits has
-    eval_begins (Short' form p e s row) known v place ks ops xs c l w stands fits has = chained (expr_code e) (others_code form row) (λ v1. eval K v1 e) (λ v1. eval_others K v1 form row) (eval_begins e known.0) (λ n v1. others_plain ask k call form row known.1 v1 n) (others_run form row known.1) v place ks ops xs c l w stands fits has
-    eval_begins (Call' f s row) known v place ks ops xs c l w stands fits has = absurd known
-    eval_begins (Convert' ty p e) known v place ks ops xs c l w stands fits has = absurd known
-    eval_begins (Access x) known v place ks ops xs c l w stands fits has = absurd known
-    eval_begins (New' access ty handle value) known v place ks ops xs c l w stands fits has = absurd known
-    eval_begins (Subpool' which p head steps) known v place ks ops xs c l w stands fits has = absurd known
-    eval_begins (Discriminant' p head steps n) known v place ks ops xs c l w stands fits has = absurd known
+  -- Further operands ------------------------------------------------------------------------------
 
-    operands_run : {m : _} (row : Row_of-Operand m) → OperandsInSlice row → (n : ℕ) (v : List ℕ) (place : ℕ) (ks : List Frame) (ops xs : List ℕ) (c : ℕ) (l : Log) (w : World) → Stands ks ops → Fits k w → HasAt code.instructions.items place (operands_code row) → Runs ask code (Fits k) 0 0 (at v place ks (n ∷ xs ++ ops) l w) c (values v (place + length (operands_code row)) ks ops (xs ++ ops)) (eval_operands K v row (n ∷ []) c l w)
-    operands_run end_of-Operand known n v place ks ops xs c l w stands fits has = let e : place ≡ place + 0 = omega arith in no_step ask code (Fits k) 0 0 _ c 0 (values v (place + 0) ks ops (xs ++ ops)) (Goes (n ∷ [])) l w fits (ap (λ p. at v p ks (n ∷ xs ++ ops) l w) e)
-    operands_run (more_of-Operand op ty right rest) known n v place ks ops xs c l w stands fits has =
-        let is = operator_code (right_of right) op ty (expr_code right) in
-        let e : place + length is + length (operands_code rest) ≡ place + length (is ++ operands_code rest) = omega (arith, length-append is (operands_code rest)) in
+  none_further : Further [] (λ v u. done u)
+  unfolding opened_outcome scalar_of opened_lists
+  none_further = record {
+    plain = λ n v c l w. (Is n 0, refl);
+    runs = λ n v place ks ops xs c l w stands fits has. let e : place ≡ place + 0 = omega arith in no_step ask code (Fits k) 0 0 _ c 0 (values v (place + 0) ks ops (xs ++ ops)) (Goes (n ∷ [])) l w fits (ap (λ p. at v p ks (n ∷ xs ++ ops) l w) e);
+  }
+
+  both_further : (is js : List Instr) (first second : List ℕ → List ℕ → Act (List ℕ)) → Further is first → Further js second → Further (is ++ js) (λ v u. first v u >>= second v)
+  unfolding opened_outcome scalar_of opened_lists
+  both_further is js first second a b = record {
+    plain = λ n v c l w. plain_then c l w _ _ (a.plain n v c l w) (λ m. b.plain m v c l w);
+    runs = λ n v place ks ops xs c l w stands fits has.
+        let e : place + length is + length js ≡ place + length (is ++ js) = omega (arith, length-append is js) in
         arriving ask code (Fits k) 0 0 _ c _ _ _ (λ r l1 w1. ap (λ p. values v p ks ops (xs ++ ops) r l1 w1) e)
-        (both_plain ask code (Fits k) 0 0 0 0 0 0 _ c l w (values v (place + length is) ks ops (xs ++ ops)) (values v (place + length is + length (operands_code rest)) ks ops (xs ++ ops)) _ _ (omega arith) (omega arith) (omega arith)
-        (plain_later 1 c l w _ (plain_then c l w (eval K v right c l w) _ (eval_plain ask k call right known.0 v c l w) (λ m. plain_result (binary op ty n m) c l w)))
-        (operator_runs (right_of right) op ty n right refl known.0 (by_first (expr_code right) (λ v1. eval K v1 right) (eval_begins right known.0)) v place ks ops xs c l w stands fits (has_front code.instructions.items place is (operands_code rest) has))
-        (λ m fits1. operands_run rest known.1 m v (place + length is) ks ops xs c l w stands fits1 (has_back code.instructions.items place is (operands_code rest) has))
-        (λ fits1. fails 0 0 v (place + length is) (place + length is + length (operands_code rest)) ks ops (xs ++ ops) (xs ++ ops) c l w fits1))
+        (both_plain ask code (Fits k) 0 0 0 0 0 0 _ c l w (values v (place + length is) ks ops (xs ++ ops)) (values v (place + length is + length js) ks ops (xs ++ ops)) _ _ (omega arith) (omega arith) (omega arith)
+        (a.plain n v c l w)
+        (a.runs n v place ks ops xs c l w stands fits (has_front code.instructions.items place is js has))
+        (λ m fits1. b.runs m v (place + length is) ks ops xs c l w stands fits1 (has_back code.instructions.items place is js has))
+        (λ fits1. fails 0 0 v (place + length is) (place + length is + length js) ks ops (xs ++ ops) (xs ++ ops) c l w fits1));
+  }
 
-    others_run : {m : _} (form : Shortcut) (row : Row_of-Expr m) → OthersInSlice row → (n : ℕ) (v : List ℕ) (place : ℕ) (ks : List Frame) (ops xs : List ℕ) (c : ℕ) (l : Log) (w : World) → Stands ks ops → Fits k w → HasAt code.instructions.items place (others_code form row) → Runs ask code (Fits k) 0 0 (at v place ks (n ∷ xs ++ ops) l w) c (values v (place + length (others_code form row)) ks ops (xs ++ ops)) (eval_others K v form row (n ∷ []) c l w)
-    others_run form end_of-Expr known n v place ks ops xs c l w stands fits has = let e : place ≡ place + 0 = omega arith in no_step ask code (Fits k) 0 0 _ c 0 (values v (place + 0) ks ops (xs ++ ops)) (Goes (n ∷ [])) l w fits (ap (λ p. at v p ks (n ∷ xs ++ ops) l w) e)
-    others_run form (more_of-Expr e1 rest) known n v place ks ops xs c l w stands fits has =
-        let is = other_code form (expr_code e1) in
-        let e : place + length is + length (others_code form rest) ≡ place + length (is ++ others_code form rest) = omega (arith, length-append is (others_code form rest)) in
-        arriving ask code (Fits k) 0 0 _ c _ _ _ (λ r l1 w1. ap (λ p. values v p ks ops (xs ++ ops) r l1 w1) e)
-        (both_plain ask code (Fits k) 0 0 0 0 0 0 _ c l w (values v (place + length is) ks ops (xs ++ ops)) (values v (place + length is + length (others_code form rest)) ks ops (xs ++ ops)) _ _ (omega arith) (omega arith) (omega arith)
-        (plain_later 1 c l w _ (plain_either (decides form (n ∷ [])) n (eval K v e1) c l w (eval_plain ask k call e1 known.0 v c l w)))
-        (other_runs form n (expr_code e1) (λ v1. eval K v1 e1) (by_first (expr_code e1) (λ v1. eval K v1 e1) (eval_begins e1 known.0)) v place ks ops xs c l w stands fits (has_front code.instructions.items place is (others_code form rest) has))
-        (λ m fits1. others_run form rest known.1 m v (place + length is) ks ops xs c l w stands fits1 (has_back code.instructions.items place is (others_code form rest) has))
-        (λ fits1. fails 0 0 v (place + length is) (place + length is + length (others_code form rest)) ks ops (xs ++ ops) (xs ++ ops) c l w fits1))
+  -- operators, each with what it does
+  abbrev pub Operators : List OperatorCode → List Applied → Type 0
+  Operators [] [] = Unit {0}
+  Operators (o ∷ os) (m ∷ ms) = Further (operator_code o) (m K) × Operators os ms
+  Operators _ _ = ⊥
 
-  pub eval_runs : (e : Expr) → ExprInSlice e → Evals (expr_code e) (λ v. eval K v e)
-  eval_runs e known = by_first (expr_code e) (λ v. eval K v e) (eval_begins e known)
+  pub operators_further : (os : List OperatorCode) (ms : List Applied) → Operators os ms → Further (operators_code os) (λ v. apply_each K v ms)
+  unfolding apply_each
+  operators_further [] [] h = none_further
+  operators_further [] (m ∷ ms) h = absurd h
+  operators_further (o ∷ os) [] h = absurd h
+  operators_further (o ∷ os) (m ∷ ms) h = both_further (operator_code o) (operators_code os) (m K) (λ v. apply_each K v ms) h.0 (operators_further os ms h.1)
+
+  other_further : (form : Shortcut) (x : ValueCode) (act : List ℕ → Act (List ℕ)) → Value x act → Further (other_code form x) (λ v u. ticked (either (decides form u) (done u) (act v)))
+  unfolding opened_outcome scalar_of opened_lists
+  other_further form x act value = record {
+    plain = λ n v c l w. plain_later 1 c l w _ (plain_either (decides form (n ∷ [])) n (act v) c l w (value.plain v c l w));
+    runs = λ n v place ks ops xs c l w stands fits has. other_runs form n x.code act (value_runs x act value) v place ks ops xs c l w stands fits has;
+  }
+
+  -- values, each with what it means
+  abbrev pub EachValue : List ValueCode → List Valued → Type 0
+  EachValue [] [] = Unit {0}
+  EachValue (x ∷ xs) (m ∷ ms) = Value x (m K) × EachValue xs ms
+  EachValue _ _ = ⊥
+
+  pub others_further : (form : Shortcut) (xs : List ValueCode) (ms : List Valued) → EachValue xs ms → Further (others_code form xs) (λ v. join_each K v form ms)
+  unfolding join_each
+  others_further form [] [] h = none_further
+  others_further form [] (m ∷ ms) h = absurd h
+  others_further form (x ∷ xs) [] h = absurd h
+  others_further form (x ∷ xs) (m ∷ ms) h = both_further (other_code form x) (others_code form xs) (λ v u. ticked (either (decides form u) (done u) (m K v))) (λ v. join_each K v form ms) (other_further form x (m K) h.0) (others_further form xs ms h.1)

@@ -1,9 +1,9 @@
 -- The finalization of a declared object of a plain type.
 use Rattle.std.proofs.Common.{◌≡◌, ℕ, ◌≤◌, List, [], ◌∷◌, length, Option, Some, None, Bool, true, false, refl, sym, ap, ◌∙◌, subst, arith}
 use Rattle.std.specs.Prelude.{slice_get, ◌&&◌, ◌||◌, nat_eq}
-use Rattle.ctl_tree.specs.declared.checked.Ty.{Ty}
-use Rattle.ctl_tree.specs.declared.checked.Ty.TheVariants.{Record}
-use Rattle.ctl_tree.specs.declared.checked.RecordType.{RecordType}
+use Rattle.ctl_program.specs.declared.types.Ty.{Ty}
+use Rattle.ctl_program.specs.declared.types.Ty.TheVariants.{Record}
+use Rattle.ctl_program.specs.declared.types.RecordType.{RecordType}
 use Rattle.ctl_tree.specs.declared.ending.Stop.TheVariants.{UseAfterFree}
 use Rattle.ctl_tree.specs.declared.event.Event.{Event}
 use Rattle.ctl_tree.specs.declared.event.Event.TheVariants as EventOf
@@ -15,7 +15,7 @@ use Rattle.ctl_meaning.specs.Changes.{object_at, begin_finalization, end_finaliz
 use Rattle.ctl_meaning.specs.Choice.{Ask, picked}
 use Rattle.ctl_meaning.specs.Outcome.{ByExit, ByReturn, ByRaise, Result, Goes, Leaves, Out, Gives, Stops, Cut, Act, Done, add, bind, on_goes, ◌>>=◌, ◌>>◌, done, nothing, tell, show, look, change, told, either, on_some, opened_outcome}
 use Rattle.ctl_meaning.specs.Types.{Tables, operation, depth, of_record}
-use Rattle.ctl_meaning.specs.Names.{OfSubprogram, Returned, Call, Tools, gone, opened_names}
+use Rattle.ctl_meaning.specs.Names.{OfSubprogram, Returned, Call, Default, Tools, gone, opened_names}
 use Rattle.ctl_meaning.specs.Finalization.{whole, Every, component_at, call_operation, after_finalize, own_finalize, in_any_order, finalize_part, finalize, finalize_object, finalize_if_controlled, opened_finalization}
 use Rattle.ctl_meaning.specs.Storage.{close_pool, shut_pool, release_each, opened_storage}
 use Rattle.ctl_code.specs.declared.code.Code.{Code}
@@ -23,10 +23,10 @@ use Rattle.ctl_code.specs.States.{Frame, Finalizing, State}
 use Rattle.ctl_code.specs.Table as Table
 use Rattle.ctl_code.specs.Table.{whole_part, operation_of}
 use Rattle.ctl_code.specs.Steps.{moved, step}
-use Rattle.ctl_gen.specs.Slice.{IsPlain}
+use Rattle.ctl_gen.proofs.Known.{IsPlain}
 use Rattle.ctl_gen.proofs.Worlds.{Fits, fits_begin, fits_end}
 use Rattle.ctl_gen.proofs.Plain.{is_controlled_plain, has_controlled_plain, parts_to_finalize_plain}
-use Rattle.ctl_gen.proofs.Setting.{Setting, tools_with, returns, Calls, written_finalize, enter_shows}
+use Rattle.ctl_gen.proofs.Setting.{Setting, tools_with, returns, Calls, enter_shows}
 use Rattle.ctl_gen.proofs.Follow.{Runs, gives, both, no_step, last_step, stop_step, one_step, within, then_step, more_quits, more_halts}
 
 -- an object that exists is finalized by its own type, and closes then if it is a pool
@@ -48,9 +48,9 @@ pool_closed k K n c l w fits =
     ap (λ ps. on_some (first_with (λ p. nat_eq p.object n) ps) (on_some (first_with (λ p. nat_eq p.object n) w.pools.block_pools) (done false) (λ p. shut_pool n >> done false)) (λ p. release_each K p.marks false >>= (λ b. shut_pool n >> done b)) c l w) fits.mark_pools
     ∙ ap (λ ps. on_some (first_with (λ p. nat_eq p.object n) ps) (done false) (λ p. shut_pool n >> done false) c l w) fits.block_pools
 
-module _ (ask : Ask) (k : Tables) (code : Code) (setting : Setting k code) (call : Call) (t : ℕ) (r : RecordType) (here : slice_get k.records t ≡ Some r) (plain : IsPlain k.subprograms r) where
+module _ (ask : Ask) (k : Tables) (code : Code) (setting : Setting k code) (call : Call) (default : Default) (t : ℕ) (r : RecordType) (here : slice_get k.records t ≡ Some r) (plain : IsPlain k r) where
   abbrev K : Tools
-  K = tools_with ask k call
+  K = tools_with ask k call default
 
   abbrev ends : ℕ → Event
   ends n = EventOf.Finalize (whole_part n) Scope
@@ -83,7 +83,7 @@ module _ (ask : Ask) (k : Tables) (code : Code) (setting : Setting k code) (call
   over n ks ops s0 c (Stops why u l) z = more_quits ask code (Fits k) 2 2 s0 u _ l why (omega arith) z
   over n ks ops s0 c (Cut u c1 l) z = more_halts ask code (Fits k) 2 2 s0 c u _ l (omega arith) z
 
-  module _ (bound : ℕ) (calls : Calls ask k code bound call) where
+  module _ (bound : ℕ) (calls : Calls ask k code setting bound call) where
     -- an object that exists, from the step that begins it
     object_runs : (n : ℕ) (ks : List Frame) (ops : List ℕ) (c : ℕ) (l : Log) (w : World) (s0 : State) (o : Object) → c ≤ bound → Fits k w → object_at n w ≡ Some o → step ask code s0 ≡ moved l (Table.call_operation code (operation_of (λ x. x.finalize) code t) (ends n) n (object_at n (begin_finalization n w)) (Finalizing n ∷ ks) ops (begin_finalization n w)) → Runs ask code (Fits k) 3 3 s0 c (gives ks ops) (finalize_object K Scope (record { number = n; ty = Record t }) c l w)
     unfolding picked opened_outcome opened_finalization opened_names of_record
@@ -105,7 +105,7 @@ module _ (ask : Ask) (k : Tables) (code : Code) (setting : Setting k code) (call
         still None None op at1 e = subst goal (sym (ap (λ x. unwritten n (add 1 (on_some x gone (λ _. nothing) c l w1))) at1)) (stop_step ask code (Fits k) 3 3 s0 _ c 2 (gives ks ops) UseAfterFree l (omega arith) e refl refl)
         still None (Some o) op at1 e = subst goal (sym (ap (λ x. unwritten n (add 1 (on_some x gone (λ _. nothing) c l w1))) at1)) (one_step ask code (Fits k) 1 0 3 3 s0 _ c c (gives ks ops) (Gives (Goes false) 2 c l (end_finalization n w1)) (omega arith) (omega arith) (omega arith) (omega arith) e (last_step ask code (Fits k) 1 0 _ c 2 (gives ks ops) (Goes false) l (end_finalization n w1) (omega arith) (fits_end k n w1 fits1) refl))
         still (Some f) None op at1 e = subst goal (sym (ap (λ x. unwritten n (on_some x gone (λ o1. look (λ v. show (ends n) >> call (OfSubprogram f (Binds n 0 [] ∷ [])) (home_of o1.origin v) >> nothing)) c l w1)) at1)) (stop_step ask code (Fits k) 3 3 s0 _ c 1 (gives ks ops) UseAfterFree l (omega arith) e refl refl)
-        still (Some f) (Some o) op at1 e = subst goal (sym (ap (unwritten n) (call_is f n c l w1 o at1))) (within ask code (Fits k) 3 2 3 3 s0 c (gives ks ops) _ (omega arith) (omega arith) (over n ks ops s0 c _ (calls.runs f (written_finalize k t r here plain f op).0 (written_finalize k t r here plain f op).1 (home_of o.origin w1) (Binds n 0 [] ∷ []) (Finalizing n ∷ ks) ops c (tell (ends n) l) w1 s0 le fits1 (e ∙ enter_shows (slice_get code.entries.items f) (ends n) (home_of o.origin w1) (Binds n 0 [] ∷ []) (Finalizing n ∷ ks) ops l w1))))
+        still (Some f) (Some o) op at1 e = subst goal (sym (ap (unwritten n) (call_is f n c l w1 o at1))) (within ask code (Fits k) 3 2 3 3 s0 c (gives ks ops) _ (omega arith) (omega arith) (over n ks ops s0 c _ (calls.runs f (setting.finalize_body t f op).0 (setting.finalize_body t f op).1 (home_of o.origin w1) (Binds n 0 [] ∷ []) (Finalizing n ∷ ks) ops c (tell (ends n) l) w1 s0 le fits1 (e ∙ enter_shows (slice_get code.entries.items f) (ends n) (home_of o.origin w1) (Binds n 0 [] ∷ []) (Finalizing n ∷ ks) ops l w1))))
 
     -- such an object, which is no pool
     pub declared_runs : (n : ℕ) (ks : List Frame) (ops : List ℕ) (c : ℕ) (l : Log) (w : World) (s0 : State) (o : Object) → c ≤ bound → Fits k w → object_at n w ≡ Some o → step ask code s0 ≡ moved l (Table.call_operation code (operation_of (λ x. x.finalize) code t) (ends n) n (object_at n (begin_finalization n w)) (Finalizing n ∷ ks) ops (begin_finalization n w)) → Runs ask code (Fits k) 3 3 s0 c (gives ks ops) (finalize_as K n (Record t) c l w)

@@ -1,8 +1,8 @@
 -- A master is left: its layers are finalized, from the newest on, and what it declared is gone.
 use Rattle.std.proofs.Common.{◌≡◌, ℕ, ◌-◌, ◌≤◌, List, [], ◌∷◌, length, Option, Some, None, Bool, true, false, refl, sym, ap, subst, arith, drop}
 use Rattle.std.specs.Prelude.{◌||◌}
-use Rattle.ctl_tree.specs.declared.checked.Ty.{Ty}
-use Rattle.ctl_tree.specs.declared.checked.Ty.TheVariants.{Integer, Count, Boolean, Address, Handle, Access, Record}
+use Rattle.ctl_program.specs.declared.types.Ty.{Ty}
+use Rattle.ctl_program.specs.declared.types.Ty.TheVariants.{Integer, Count, Boolean, Address, Handle, Access, Record}
 use Rattle.ctl_tree.specs.declared.ending.Stop.TheVariants.{UseAfterFree}
 use Rattle.ctl_meaning.specs.World.{Object, Layer, Single, Sets, Log, World}
 use Rattle.ctl_meaning.specs.Ledger.{layers_of}
@@ -11,7 +11,7 @@ use Rattle.ctl_meaning.specs.Changes.{object_at, take_layer, close_master}
 use Rattle.ctl_meaning.specs.Choice.{Ask, picked}
 use Rattle.ctl_meaning.specs.Outcome.{program_error, ByRaise, Result, Goes, Leaves, Out, Act, Done, bind, on_goes, ◌>>◌, ticked, change, on_some, opened_outcome}
 use Rattle.ctl_meaning.specs.Types.{Tables}
-use Rattle.ctl_meaning.specs.Names.{Call, Tools, gone, existing}
+use Rattle.ctl_meaning.specs.Names.{Call, Default, Tools, gone, existing}
 use Rattle.ctl_meaning.specs.Storage.{program_error_if}
 use Rattle.ctl_meaning.specs.Masters as Masters
 use Rattle.ctl_meaning.specs.Masters.{Left, finalize_layer, leave_layers, left}
@@ -19,8 +19,8 @@ use Rattle.ctl_code.specs.declared.code.Code.{Code}
 use Rattle.ctl_code.specs.States.{After, Frame, InMaster, Leaving, State}
 use Rattle.ctl_code.specs.Table.{behind, finalize_declared, next_layer, cut_back}
 use Rattle.ctl_code.specs.Steps.{moved, step}
-use Rattle.ctl_gen.specs.Typing.{IsScalar}
-use Rattle.ctl_gen.specs.Slice.{IsKnownType}
+use Rattle.ctl_gen.proofs.Known.{IsScalar}
+use Rattle.ctl_gen.proofs.Known.{IsKnownType}
 use Rattle.ctl_gen.proofs.Worlds.{Fits, FoundFits, object_fits, LayersFit, layers_fit, fits_take, fits_close}
 use Rattle.ctl_gen.proofs.Setting.{Setting, tools_with, flagged, Calls}
 use Rattle.ctl_gen.proofs.Finalize.{finalize_as, declared_runs}
@@ -35,9 +35,9 @@ leaves after ks ops (Leaves y) l w = gives ks ops (Leaves y) l w
 cut_same : (ops : List ℕ) → cut_back (length ops) ops ≡ ops
 cut_same ops = let e : length ops - length ops ≡ 0 = omega arith in ap (λ n. drop n ops) e
 
-module _ (ask : Ask) (k : Tables) (code : Code) (setting : Setting k code) (call : Call) (bound : ℕ) (calls : Calls ask k code bound call) where
+module _ (ask : Ask) (k : Tables) (code : Code) (setting : Setting k code) (call : Call) (default : Default) (bound : ℕ) (calls : Calls ask k code setting bound call) where
   abbrev K : Tools
-  K = tools_with ask k call
+  K = tools_with ask k call default
 
   abbrev rest : ℕ → List Layer → Result Done → Bool → Result Bool → Act Left
   rest m xs r failed s c l w = bind (on_goes (λ b. leave_layers K m xs (failed || b)) s c l w) (on_goes (left m r))
@@ -55,10 +55,10 @@ module _ (ask : Ask) (k : Tables) (code : Code) (setting : Setting k code) (call
       goal x = Runs ask code (Fits k) 3 3 s0 c (gives ks ops) x
 
       scalar : (ty : Ty) → IsScalar ty → step ask code s0 ≡ gives ks ops (Goes false) l w → goal (finalize_as K n ty c l w)
-      scalar ty known1 e = subst goal (sym (scalar_end ask k code call bound n ty known1 c l w fits)) (last_step ask code (Fits k) 3 3 s0 c 0 (gives ks ops) (Goes false) l w (omega arith) fits e)
+      scalar ty known1 e = subst goal (sym (scalar_end ask k code call default bound n ty known1 c l w fits)) (last_step ask code (Fits k) 3 3 s0 c 0 (gives ks ops) (Goes false) l w (omega arith) fits e)
 
       by : (ty : Ty) → IsKnownType k ty → step ask code s0 ≡ begins ty → goal (finalize_as K n ty c l w)
-      by (Record t) known1 e = declared_runs ask k code setting call t known1.0 known1.1 known1.2 bound calls n ks ops c l w s0 o le fits at e
+      by (Record t) known1 e = declared_runs ask k code setting call default t known1.0 known1.1 known1.2 bound calls n ks ops c l w s0 o le fits at e
       by Integer known1 e = scalar Integer tt e
       by Boolean known1 e = scalar Boolean tt e
       by Count known1 e = absurd known1

@@ -2,8 +2,9 @@
 use Rattle.std.proofs.Common.{◌≡◌, ℕ, ◌-◌, List, [], ◌∷◌, ◌++◌, length, refl, ap, ◌∙◌, arith, length-append, drop}
 use Rattle.ctl_code.specs.States.{After, Frame, InMaster, Looping, Counting}
 use Rattle.ctl_code.specs.Table.{base_of, cut_back}
-use Rattle.ctl_tree.specs.declared.checked.Var.{Var}
-use Rattle.std.specs.Prelude.{Bool, ℤ}
+use Rattle.ctl_program.specs.declared.types.Var.{Var}
+use Rattle.std.specs.Prelude.{ℤ}
+use Rattle.ctl_program.specs.declared.operators.Direction.{Direction}
 
 -- whatever stands over these operands is dropped
 abbrev pub Stands : List Frame → List ℕ → Type 0
@@ -24,5 +25,5 @@ in_master_stands m after ks ops = λ xs. cut_over xs ops
 pub looping_stands : (d : List ℕ) (place : ℕ) (ks : List Frame) (ops : List ℕ) → Stands (Looping (length ops) d place ∷ ks) ops
 looping_stands d place ks ops = λ xs. cut_over xs ops
 
-pub counting_stands : (d : List ℕ) (place : ℕ) (v : Var) (reverse : Bool) (left : ℕ) (z : ℤ) (ks : List Frame) (ops : List ℕ) → Stands (Counting (length ops) d place v reverse left z ∷ ks) ops
-counting_stands d place v reverse left z ks ops = λ xs. cut_over xs ops
+pub counting_stands : (d : List ℕ) (place : ℕ) (v : Var) (way : Direction) (left : ℕ) (z : ℤ) (ks : List Frame) (ops : List ℕ) → Stands (Counting (length ops) d place v way left z ∷ ks) ops
+counting_stands d place v way left z ks ops = λ xs. cut_over xs ops

@@ -1,22 +1,22 @@
 -- What the meaning comes to for controlled record types without components.
 use Rattle.std.proofs.Common.{◌≡◌, ℕ, suc, [], ◌++◌, length, Some, true, false, ap, ◌∙◌}
 use Rattle.std.specs.Prelude.{slice_get, ◌&&◌, ◌||◌}
-use Rattle.ctl_tree.specs.declared.checked.Ty.TheVariants.{Record}
-use Rattle.ctl_tree.specs.declared.checked.RecordType.{RecordType}
+use Rattle.ctl_program.specs.declared.types.Ty.TheVariants.{Record}
+use Rattle.ctl_program.specs.declared.types.RecordType.{RecordType}
 use Rattle.ctl_meaning.specs.Lists.{opened_lists, keep, any_of}
 use Rattle.ctl_meaning.specs.Types.{Tables, opened_types, with_own, of_parent, components, placed, placed_from, is_controlled, has_controlled, controlled_within, is_tagged_root, root_in, begin_cells, cells_within, total, of_record, is_initialized}
 use Rattle.ctl_meaning.specs.Names.{Tools}
 use Rattle.ctl_meaning.specs.Finalization.{Chosen, Spot, component_at, has_chosen, parts_to_finalize}
 use Rattle.ctl_meaning.specs.Initialization.{parts_to_begin}
-use Rattle.ctl_gen.specs.Slice.{IsPlain}
+use Rattle.ctl_gen.proofs.Known.{IsPlain}
 use Rattle.std.specs.Prelude.{replicate}
 
-module _ (k : Tables) (t : ℕ) (r : RecordType) (at : slice_get k.records t ≡ Some r) (plain : IsPlain k.subprograms r) where
+module _ (k : Tables) (t : ℕ) (r : RecordType) (at : slice_get k.records t ≡ Some r) (plain : IsPlain k r) where
   none_within : (n : ℕ) → components (suc n) k.records t ≡ []
   unfolding components with_own of_parent
   none_within n =
       ap (with_own (components n k.records)) at
-      ∙ ap (λ p. of_parent [] (components n k.records) p ++ r.own.items) plain.no_parent
+      ∙ ap (λ cs. cs ++ r.own) (plain.inherits_none n)
       ∙ plain.no_components
 
   pub is_controlled_plain : is_controlled k t ≡ true

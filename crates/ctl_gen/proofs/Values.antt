@@ -1,27 +1,16 @@
--- Expressions of this version give one cell, or raise Constraint_Error, or find that an object is gone; they change nothing.
+-- What gives one cell, or raises Constraint_Error, or finds that an object is gone, and changes nothing.
 use Rattle.std.proofs.Common.{◌≡◌, ℕ, ◌+◌, List, [], ◌∷◌, Option, Some, None, Bool, true, false, refl, ap, ◌∙◌}
 use Rattle.std.specs.Prelude.{drop}
-use Rattle.ctl_tree.specs.declared.checked.Ty.{Ty}
-use Rattle.ctl_tree.specs.declared.checked.Ty.TheVariants as TyOf
-use Rattle.ctl_tree.specs.declared.checked.Var.{Var}
-use Rattle.ctl_tree.specs.declared.checked.Step.{Step}
-use Rattle.ctl_tree.specs.declared.checked.Shortcut.{Shortcut}
-use Rattle.ctl_tree.specs.declared.checked.Expr.{Expr, Constant, Read', Call', Unary', Chain', Short', Convert', Access, New', Subpool', Discriminant', Row_of-Expr, end_of-Expr, more_of-Expr, Row_of-Operand, end_of-Operand, more_of-Operand}
-use Rattle.ctl_tree.specs.declared.checked.Head.{Head, Variable, Given'}
+use Rattle.ctl_program.specs.declared.types.Ty.{Ty}
+use Rattle.ctl_program.specs.declared.types.Ty.TheVariants as TyOf
 use Rattle.ctl_meaning.specs.World.{Object, Log, World}
 use Rattle.ctl_meaning.specs.Lists.{opened_lists}
 use Rattle.ctl_meaning.specs.Objects.{first_cells, cells_at, opened_objects}
 use Rattle.ctl_meaning.specs.Changes.{object_at}
-use Rattle.ctl_meaning.specs.Choice.{Ask}
-use Rattle.ctl_meaning.specs.Outcome.{constraint_error, ByRaise, Goes, Leaves, Out, Gives, Act, add, bind, on_goes, ◌>>=◌, done, ticked, either, on_some, opened_outcome}
-use Rattle.ctl_meaning.specs.Numbers.{unary, binary}
+use Rattle.ctl_meaning.specs.Outcome.{constraint_error, ByRaise, Goes, Leaves, Out, Gives, Act, add, bind, on_goes, done, either, on_some, opened_outcome}
 use Rattle.ctl_meaning.specs.Types.{Tables, cells_of, opened_types}
-use Rattle.ctl_meaning.specs.Names.{Call, Tools, Found, InObject, InCopy, Alone, gone, copy_in, slot_at, scalar_of, read_found, walk, or_constraint_error, opened_names}
-use Rattle.ctl_meaning.specs.Expressions.{decides, var_part, eval, eval_head, eval_operands, eval_others}
-use Rattle.ctl_code.specs.Table.{found_by}
-use Rattle.ctl_gen.specs.Typing.{IsScalar, IsVariable}
-use Rattle.ctl_gen.proofs.Simple.{ExprInSlice, OperandsInSlice, OthersInSlice}
-use Rattle.ctl_gen.proofs.Setting.{tools_with}
+use Rattle.ctl_meaning.specs.Names.{Found, InObject, InCopy, Alone, gone, copy_in, slot_at, scalar_of, read_found, or_constraint_error, opened_names}
+use Rattle.ctl_gen.proofs.Known.{IsScalar}
 use Rattle.ctl_gen.proofs.Worth.{Is, Fails, Lost, IsPlain}
 
 pub plain_later : (t c : ℕ) (l : Log) (w : World) (o : Out (List ℕ)) → IsPlain c l w o → IsPlain c l w (add t o)
@@ -72,46 +61,3 @@ scalar_cells k TyOf.Address h = absurd h
 scalar_cells k TyOf.Handle h = absurd h
 scalar_cells k (TyOf.Access a) h = absurd h
 scalar_cells k (TyOf.Record t) h = absurd h
-
-module _ (ask : Ask) (k : Tables) (call : Call) where
-  abbrev K : Tools
-  K = tools_with ask k call
-
-  -- the variable that a use names
-  pub variable_is : (v : List ℕ) (x : Var) (c : ℕ) (l : Log) (w : World) → (var_part v x >>= walk K []) c l w ≡ Gives (Goes (found_by v x w)) 1 c l w
-  unfolding var_part opened_names opened_outcome
-  variable_is v x c l w = refl
-
-  plain_use : (v : List ℕ) (head : Head) (steps : List Step) (ty : Ty) → IsVariable head steps → IsScalar ty → (c : ℕ) (l : Log) (w : World) → IsPlain c l w (ticked (eval_head K v head >>= walk K steps >>= read_found (cells_of k ty)) c l w)
-  unfolding eval_head var_part opened_outcome opened_names
-  plain_use v (Variable x) [] ty known scalar c l w =
-      let z = plain_later 1 c l w _ (plain_later 1 c l w _ (plain_read (found_by v x w) c l w)) in
-      (z.0, ap (λ n. add 1 (add 1 (read_found n (found_by v x w) c l w))) (scalar_cells k ty scalar) ∙ z.1)
-  plain_use v (Variable x) (s ∷ steps) ty known scalar c l w = absurd known
-  plain_use v (Given' p e) steps ty known scalar c l w = absurd known
-
-  mutual
-    unfolding eval eval_operands eval_others opened_outcome scalar_of opened_lists
-
-    pub eval_plain : (e : Expr) → ExprInSlice e → (v : List ℕ) (c : ℕ) (l : Log) (w : World) → IsPlain c l w (eval K v e c l w)
-    eval_plain (Constant n) known v c l w = (Is n 1, refl)
-    eval_plain (Read' head steps ty) known v c l w = plain_use v head steps.items ty known.0 known.1 c l w
-    eval_plain (Unary' op ty p e) known v c l w = plain_later 1 c l w _ (plain_then c l w (eval K v e c l w) _ (eval_plain e known v c l w) (λ n. plain_result (unary op ty n) c l w))
-    eval_plain (Chain' p e s row) known v c l w = plain_then c l w (eval K v e c l w) _ (eval_plain e known.0 v c l w) (λ n. operands_plain row known.1 v n c l w)
-    eval_plain (Short' form p e s row) known v c l w = plain_then c l w (eval K v e c l w) _ (eval_plain e known.0 v c l w) (λ n. others_plain form row known.1 v n c l w)
-    eval_plain (Call' f s row) known v c l w = absurd known
-    eval_plain (Convert' ty p e) known v c l w = absurd known
-    eval_plain (Access x) known v c l w = absurd known
-    eval_plain (New' access ty handle value) known v c l w = absurd known
-    eval_plain (Subpool' which p head steps) known v c l w = absurd known
-    eval_plain (Discriminant' p head steps n) known v c l w = absurd known
-
-    pub operands_plain : {m : _} (row : Row_of-Operand m) → OperandsInSlice row → (v : List ℕ) (n : ℕ) (c : ℕ) (l : Log) (w : World) → IsPlain c l w (eval_operands K v row (n ∷ []) c l w)
-    operands_plain end_of-Operand known v n c l w = (Is n 0, refl)
-    operands_plain (more_of-Operand op ty right rest) known v n c l w =
-        plain_then c l w _ _ (plain_later 1 c l w _ (plain_then c l w (eval K v right c l w) _ (eval_plain right known.0 v c l w) (λ m. plain_result (binary op ty n m) c l w))) (λ m. operands_plain rest known.1 v m c l w)
-
-    pub others_plain : {m : _} (form : Shortcut) (row : Row_of-Expr m) → OthersInSlice row → (v : List ℕ) (n : ℕ) (c : ℕ) (l : Log) (w : World) → IsPlain c l w (eval_others K v form row (n ∷ []) c l w)
-    others_plain form end_of-Expr known v n c l w = (Is n 0, refl)
-    others_plain form (more_of-Expr e rest) known v n c l w =
-        plain_then c l w _ _ (plain_later 1 c l w _ (plain_either (decides form (n ∷ [])) n (eval K v e) c l w (eval_plain e known.0 v c l w))) (λ m. others_plain form rest known.1 v m c l w)

@@ -1,17 +1,19 @@
 -- The whole program: what is shown is the beginning of what it means, and everything comes in time.
-use Rattle.std.proofs.Common.{◌≡◌, ◌≢◌, ℕ, zero, suc, ◌+◌, ◌*◌, ◌≤◌, List, [], ◌∷◌, ◌++◌, length, Some, None, refl, sym, ap, ◌∙◌, subst, arith, ◌⊎◌, inl, inr, length-append, append-nil}
+use Rattle.std.proofs.Common.{◌≡◌, ◌≢◌, ℕ, zero, suc, ◌+◌, ◌*◌, ◌≤◌, List, [], ◌∷◌, ◌++◌, length, map, Option, Some, None, true, refl, sym, ap, ◌∙◌, subst, arith, ◌⊎◌, inl, inr, length-append, append-nil}
 use Rattle.std.specs.Prelude.{slice_get}
-use Rattle.ctl_tree.specs.declared.checked.RecordType.{RecordType}
-use Rattle.ctl_tree.specs.declared.checked.Subprogram.{Subprogram}
-use Rattle.ctl_tree.specs.declared.checked.Checked.{Checked}
+use Rattle.ctl_program.specs.declared.types.RecordType.{RecordType}
+use Rattle.ctl_program.specs.declared.operators.SubprogramKind.{SubprogramKind}
+use Rattle.ctl_program.specs.declared.operators.SubprogramKind.TheVariants.{Function, Procedure}
+use Rattle.ctl_program.specs.declared.program.Subprogram.{Subprogram}
+use Rattle.ctl_program.specs.declared.program.Checked.{Checked}
 use Rattle.ctl_tree.specs.declared.ending.End.{End}
 use Rattle.ctl_tree.specs.declared.ending.End as EndOf
 use Rattle.ctl_meaning.specs.World.{Pick, Log, World, empty_log}
 use Rattle.ctl_meaning.specs.Choice.{Ask, Obeys, replayed}
 use Rattle.ctl_meaning.specs.Outcome.{Result, Goes, Leaves, Out, Gives, Stops, Cut}
-use Rattle.ctl_meaning.specs.Types.{Tables, tables_of, operation, operation_in}
+use Rattle.ctl_meaning.specs.Types.{tables_of, operation, operation_in}
 use Rattle.ctl_meaning.specs.Names.{Returned}
-use Rattle.ctl_meaning.specs.Run.{Outcome, run, end_by, outcome_of, outcome}
+use Rattle.ctl_meaning.specs.Run.{Outcome, end_by, meaning_of, outcome, outcome_of, routine_of, run}
 use Rattle.ctl_code.specs.declared.code.Instr.{Instr}
 use Rattle.ctl_code.specs.declared.code.Instr.TheVariants as InstrOf
 use Rattle.ctl_code.specs.declared.template.TextPart.{TextPart}
@@ -22,8 +24,9 @@ use Rattle.ctl_code.specs.Table as Table
 use Rattle.ctl_code.specs.Steps.{step, steps, start, machine, end_at, end_of}
 use Rattle.ctl_code.specs.Laws.{IsPrefix, Grows}
 use Rattle.ctl_code.proofs.Logs.{obeys_none, obeys_itself, no_more_than, Stays, steps_obey, grow, stay, meet, ended_stays, agree}
-use Rattle.ctl_gen.specs.Layout.{entry_at, operations_of, master_texts, master_code, bodies_texts, bodies_code, entries_from, IsLaidOut}
-use Rattle.ctl_gen.specs.Slice.{InSlice}
+use Rattle.ctl_gen.specs.Layout.{IsLaidOut, bodies, body_code, entries_from, entry_at, operations_of}
+use Rattle.ctl_gen.specs.Run.{AreLinked, IsBody, IsRun, IsWritten, are_procedures, is_procedure}
+use Rattle.ctl_gen.proofs.Known.{both_true}
 use Rattle.ctl_gen.specs.Correct.{HasReached, RunsAs, Behaves}
 use Rattle.ctl_gen.proofs.Place.{HasAt, has_front, has_back, has_all}
 use Rattle.ctl_gen.proofs.Worlds.{Fits}
@@ -38,18 +41,50 @@ record Found (instrs : List Instr) (texts : List (List TextPart)) (entries : Lis
   place : ℕ
   before : ℕ
   entry : slice_get entries f ≡ Some (entry_at place s)
-  instructions : HasAt instrs place (master_code before s.body)
-  printed : HasAt texts before (master_texts s.body)
+  instructions : HasAt instrs place ((body_code s).code before)
+  printed : HasAt texts before (body_code s).texts
 
-find : (instrs : List Instr) (texts : List (List TextPart)) (ss : List Subprogram) (place n : ℕ) → HasAt instrs place (bodies_code n ss) → HasAt texts n (bodies_texts ss) → (f : ℕ) (s : Subprogram) → slice_get ss f ≡ Some s → Found instrs texts (entries_from place n ss) f s
+find : (instrs : List Instr) (texts : List (List TextPart)) (ss : List Subprogram) (place n : ℕ) → HasAt instrs place ((bodies ss).code n) → HasAt texts n (bodies ss).texts → (f : ℕ) (s : Subprogram) → slice_get ss f ≡ Some s → Found instrs texts (entries_from place n ss) f s
 find instrs texts [] place n has prints f s e = absurd (cc)
 find instrs texts (x ∷ ss) place n has prints zero s e =
     let same : x ≡ s = cc e in
-    subst (λ y. Found instrs texts (entries_from place n (x ∷ ss)) 0 y) same
-    (record { place = place; before = n; entry = refl; instructions = has_front instrs place (master_code n x.body) (bodies_code (n + length (master_texts x.body)) ss) has; printed = has_front texts n (master_texts x.body) (bodies_texts ss) prints })
+    subst (λ (y : Subprogram). Found instrs texts (entries_from place n (x ∷ ss)) 0 y) same
+    (record { place = place; before = n; entry = refl; instructions = has_front instrs place ((body_code x).code n) ((bodies ss).code (n + length (body_code x).texts)) has; printed = has_front texts n (body_code x).texts (bodies ss).texts prints })
 find instrs texts (x ∷ ss) place n has prints (suc f) s e =
-    let y = find instrs texts ss (place + length (master_code n x.body)) (n + length (master_texts x.body)) (has_back instrs place (master_code n x.body) (bodies_code (n + length (master_texts x.body)) ss) has) (has_back texts n (master_texts x.body) (bodies_texts ss) prints) f s e in
+    let y = find instrs texts ss (place + length ((body_code x).code n)) (n + length (body_code x).texts) (has_back instrs place ((body_code x).code n) ((bodies ss).code (n + length (body_code x).texts)) has) (has_back texts n (body_code x).texts (bodies ss).texts prints) f s e in
     record { place = y.place; before = y.before; entry = y.entry; instructions = y.instructions; printed = y.printed }
+
+-- what each of them is
+kind_if : (j : SubprogramKind) → is_procedure j ≡ true → j ≡ Procedure
+kind_if Procedure e = refl
+kind_if Function e = absurd (cc)
+
+is_a_procedure : (ss : List Subprogram) → are_procedures ss ≡ true → (f : ℕ) (s : Subprogram) → slice_get ss f ≡ Some s → s.kind ≡ Procedure
+is_a_procedure [] all f s e = absurd (cc)
+is_a_procedure (x ∷ ss) all zero s e = let same : x ≡ s = cc e in subst (λ (y : Subprogram). y.kind ≡ Procedure) same (kind_if x.kind (both_true _ _ all).0)
+is_a_procedure (x ∷ ss) all (suc f) s e = is_a_procedure ss (both_true _ _ all).1 f s e
+
+pub body_is_run : (records : List RecordType) (ss : List Subprogram) → (bodies ss).runs records ≡ true → (f : ℕ) (s : Subprogram) → slice_get ss f ≡ Some s → (body_code s).runs records ≡ true
+body_is_run records [] runs f s e = absurd (cc)
+body_is_run records (x ∷ ss) runs zero s e = let same : x ≡ s = cc e in subst (λ (y : Subprogram). (body_code y).runs records ≡ true) same (both_true _ _ runs).0
+body_is_run records (x ∷ ss) runs (suc f) s e = body_is_run records ss (both_true _ _ runs).1 f s e
+
+-- what each of them means
+routine_at : (ss : List Subprogram) (f : ℕ) (s : Subprogram) → slice_get ss f ≡ Some s → slice_get (map routine_of ss) f ≡ Some (routine_of s)
+routine_at [] f s e = absurd (cc)
+routine_at (x ∷ ss) zero s e = let same : x ≡ s = cc e in ap (λ (y : Subprogram). Some (routine_of y)) same
+routine_at (x ∷ ss) (suc f) s e = routine_at ss f s e
+
+-- an operation that the user wrote is among them
+initialize_written : (subprograms : List Subprogram) (o : Option RecordType) → ((r : RecordType) → o ≡ Some r → IsWritten subprograms r.operations.initialize) → (f : ℕ) → operation_in (λ x. x.initialize) o ≡ Some f → IsBody subprograms f
+unfolding operation_in
+initialize_written subprograms None h f e = absurd (cc)
+initialize_written subprograms (Some r) h f e = subst (IsWritten subprograms) e (h r refl)
+
+finalize_written : (subprograms : List Subprogram) (o : Option RecordType) → ((r : RecordType) → o ≡ Some r → IsWritten subprograms r.operations.finalize) → (f : ℕ) → operation_in (λ x. x.finalize) o ≡ Some f → IsBody subprograms f
+unfolding operation_in
+finalize_written subprograms None h f e = absurd (cc)
+finalize_written subprograms (Some r) h f e = subst (IsWritten subprograms) e (h r refl)
 
 initialize_in : (rs : List RecordType) (t : ℕ) → Table.operation_in (λ x. x.initialize) (slice_get (operations_of rs) t) ≡ operation_in (λ x. x.initialize) (slice_get rs t)
 unfolding operation_in
@@ -101,42 +136,42 @@ record Moment (code : Code) (ask : Ask) (clock ticks : ℕ) (o : Outcome) : Type
   fine : (steps ask code n start).mode ≢ Stuck
   why : (clock ≤ n) ⊎ (step ask code (steps ask code n start) ≡ steps ask code n start)
 
-module _ (program : Checked) (code : Code) (laid : IsLaidOut program code) (slice : InSlice program) where
-  k : Tables
-  k = record { records = program.records.items; accesses = program.accesses.items; subprograms = program.subprograms.items }
+module _ (program : Checked) (code : Code) (laid : IsLaidOut program code) (run_it : IsRun program) (linked : AreLinked program) where
+  parts : (are_procedures program.subprograms ≡ true) × ((bodies program.subprograms).runs program.records ≡ true)
+  parts = both_true _ _ run_it
 
-  all : List Instr
-  all = InstrOf.Start program.main ∷ bodies_code 0 program.subprograms.items
+  has_whole : HasAt code.instructions.items 0 (InstrOf.Start program.main ∷ (bodies program.subprograms).code 0)
+  has_whole = subst (λ is. HasAt is 0 (InstrOf.Start program.main ∷ (bodies program.subprograms).code 0)) (sym laid.instructions) (has_all (InstrOf.Start program.main ∷ (bodies program.subprograms).code 0) [])
 
-  has_whole : HasAt code.instructions.items 0 (InstrOf.Start program.main ∷ bodies_code 0 program.subprograms.items)
-  has_whole = subst (λ is. HasAt is 0 (InstrOf.Start program.main ∷ bodies_code 0 program.subprograms.items)) (sym laid.instructions) (has_all (InstrOf.Start program.main ∷ bodies_code 0 program.subprograms.items) [])
-
-  has_texts : HasAt code.texts.items 0 (bodies_texts program.subprograms.items)
-  has_texts = subst (λ ts. HasAt ts 0 (bodies_texts program.subprograms.items)) (sym laid.texts) (has_all (bodies_texts program.subprograms.items) [])
+  has_texts : HasAt code.texts.items 0 (bodies program.subprograms).texts
+  has_texts = subst (λ ts. HasAt ts 0 (bodies program.subprograms).texts) (sym laid.texts) (has_all (bodies program.subprograms).texts [])
 
   setting : Setting (tables_of program) code
   unfolding tables_of operation
   setting = record {
-    initialize = λ t. ap (λ xs. Table.operation_in (λ x. x.initialize) (slice_get xs t)) laid.records ∙ initialize_in program.records.items t;
-    finalize = λ t. ap (λ xs. Table.operation_in (λ x. x.finalize) (slice_get xs t)) laid.records ∙ finalize_in program.records.items t;
+    subprograms = program.subprograms;
+    initialize = λ t. ap (λ xs. Table.operation_in (λ x. x.initialize) (slice_get xs t)) laid.records ∙ initialize_in program.records t;
+    finalize = λ t. ap (λ xs. Table.operation_in (λ x. x.finalize) (slice_get xs t)) laid.records ∙ finalize_in program.records t;
+    initialize_body = λ t f e. initialize_written program.subprograms (slice_get program.records t) (linked.initialize t) f e;
+    finalize_body = λ t f e. finalize_written program.subprograms (slice_get program.records t) (linked.finalize t) f e;
   }
 
-  stands : (f : ℕ) (s : Subprogram) → slice_get (tables_of program).subprograms f ≡ Some s → Stands (tables_of program) code f s
+  stands : (f : ℕ) (s : Subprogram) → slice_get program.subprograms f ≡ Some s → Stands (tables_of program) code f s
   unfolding tables_of
   stands f s here =
-      let x = find code.instructions.items code.texts.items program.subprograms.items 1 0 has_whole.1 has_texts f s here in
-      record { place = x.place; before = x.before; entry = ap (λ es. slice_get es f) laid.entries ∙ x.entry; instructions = x.instructions; texts = x.printed; slice = slice.bodies f s here; procedure = slice.procedures f s here }
+      let x = find code.instructions.items code.texts.items program.subprograms 1 0 has_whole.1 has_texts f s here in
+      record { place = x.place; before = x.before; entry = ap (λ es. slice_get es f) laid.entries ∙ x.entry; instructions = x.instructions; texts = x.printed; runs = body_is_run program.records program.subprograms parts.1 f s here; procedure = is_a_procedure program.subprograms parts.0 f s here }
 
   whole_runs : (ask : Ask) (clock : ℕ) → Runs ask code (Fits (tables_of program)) 0 1 start clock (returns [] []) (run program ask clock)
-  unfolding run tables_of
-  whole_runs ask clock = main_runs ask (tables_of program) code setting stands program.main slice.main.0 slice.main.1 has_whole.0 clock
+  unfolding run meaning_of setting
+  whole_runs ask clock = main_runs ask (meaning_of program) code setting stands (routine_at program.subprograms) program.main linked.main.0 linked.main.1 has_whole.0 clock
 
-  ends_alike : (r : Result Returned) (t c : ℕ) (l l1 : Log) (w w1 : World) → end_of code (gives [] [] (flagged r) l w) ≡ (outcome_of program.exceptions.items (Gives r t c l1 w1)).end
+  ends_alike : (r : Result Returned) (t c : ℕ) (l l1 : Log) (w w1 : World) → end_of code (gives [] [] (flagged r) l w) ≡ (outcome_of program.exceptions (Gives r t c l1 w1)).end
   unfolding outcome_of
   ends_alike (Goes a) t c l l1 w w1 = refl
   ends_alike (Leaves y) t c l l1 w w1 = ap (λ names. Some (end_by names y)) laid.exceptions
 
-  moment_of : (ask : Ask) (clock : ℕ) (o : Out Returned) → Runs ask code (Fits (tables_of program)) 0 1 start clock (returns [] []) o → Moment code ask clock (outcome_of program.exceptions.items o).ticks (outcome_of program.exceptions.items o)
+  moment_of : (ask : Ask) (clock : ℕ) (o : Out Returned) → Runs ask code (Fits (tables_of program)) 0 1 start clock (returns [] []) o → Moment code ask clock (outcome_of program.exceptions o).ticks (outcome_of program.exceptions o)
   unfolding outcome_of
   moment_of ask clock (Gives (Goes a) t c l w) z = record {
     n = z.n;

@@ -1,7 +1,7 @@
 -- The worlds of the programs of this version: each object is of a known type, each layer is one object, and there is no pool.
 use Rattle.std.proofs.Common.{◌≡◌, ℕ, List, [], ◌∷◌, ◌++◌, Option, Some, None, Bool, true, false, refl, sym, ap, subst}
 use Rattle.std.specs.Prelude.{if◌then◌else◌, nat_eq, not, drop}
-use Rattle.ctl_tree.specs.declared.checked.Ty.{Ty}
+use Rattle.ctl_program.specs.declared.types.Ty.{Ty}
 use Rattle.ctl_meaning.specs.Types.{Tables}
 use Rattle.ctl_meaning.specs.World.{Finalized, Origin, Object, Layer, Single, Sets, Master, Slot, World, opened_world, empty_world}
 use Rattle.ctl_meaning.specs.Lists.{first_with, change_each, keep, opened_lists}
@@ -9,7 +9,7 @@ use Rattle.ctl_meaning.specs.Ledger.{with_layer, without_newest, layers_in, laye
 use Rattle.ctl_meaning.specs.Objects.{object_in, with_cells, with_begun, with_finalized, is_untouched, opened_objects}
 use Rattle.ctl_meaning.specs.Pools.{keep_pools}
 use Rattle.ctl_meaning.specs.Changes.{object_at, create, write_cells, open_master, add_layer, take_layer, set_slot, close_master, begin_finalization, end_finalization, opened_changes}
-use Rattle.ctl_gen.specs.Slice.{IsKnownType}
+use Rattle.ctl_gen.proofs.Known.{IsKnownType}
 
 abbrev pub ObjectsFit : Tables → List Object → Type 0
 ObjectsFit k [] = Unit {0}

@@ -1,6 +1,6 @@
 -- What the code of a program does, step by step, against what the program means.
 use Rattle.std.specs.Prelude.{◌≡◌, ◌≢◌, ℕ, ◌*◌, ◌≤◌, Some}
-use Rattle.ctl_tree.specs.declared.checked.Checked.{Checked}
+use Rattle.ctl_program.specs.declared.program.Checked.{Checked}
 use Rattle.ctl_tree.specs.declared.ending.End.{End}
 use Rattle.ctl_meaning.specs.Choice.{Ask, Obeys, replayed}
 use Rattle.ctl_meaning.specs.Run.{Outcome, outcome}

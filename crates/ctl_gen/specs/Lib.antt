@@ -1,5 +1,6 @@
-pub mod Typing
+pub mod Emitted
+pub mod Values
+pub mod Texts
 pub mod Layout
-pub mod KindLayout
-pub mod Slice
+pub mod Run
 pub mod Correct

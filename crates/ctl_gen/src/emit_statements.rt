@@ -1,40 +1,37 @@
 //! The instructions of masters, items and statements.
 
-ghost use Rattle.std.specs.Prelude.{◌≡◌, ◌<◌, ◌≤◌, ◌∷◌, [], ◌++◌, OnOk, IfOk, length, unwrap_or};
+ghost use Rattle.std.specs.Prelude.{◌≡◌, ◌<◌, ◌-◌, IfOk, length, map, option_map, OnOk};
 ghost use Rattle.std.specs.Option.{ForSome};
-ghost use Rattle.ctl_code.specs.Kinds.{below_newest};
-ghost use Rattle.ctl_code.specs.declared.kinds.Kind.TheVariants.{Block, Operand};
-ghost use Rattle.ctl_code.specs.declared.kinds.Kind.TheVariants as KindOf;
-ghost use Rattle.ctl_tree.specs.declared.checked.Ty.TheVariants.{Boolean, Integer};
-ghost use Rattle.ctl_gen.specs.KindLayout.{arm_list_kinds, assign_kinds, exit_kinds, expr_kinds, item_kinds, items_kinds, loop_kinds, master_kinds, noted, print_kinds, rows_kinds, stmt_kinds, tested_kinds, turns_kinds, with_pieces, without_images};
-ghost use Rattle.ctl_gen.specs.Typing.{value_type};
-ghost use Rattle.ctl_gen.specs.Layout as Layout;
-ghost use Rattle.ctl_gen.specs.Layout.{arm_list_texts, assign_code, block_code, exit_code, expr_code, first_end, guarded_turn, item_code, items_code, loop_code, master_code, master_texts, open_arms_code, parts_of, print_code, repeated_from, rows_code, rows_texts, skipping_from, slots_of, stmt_code, stmt_texts, turns_code, while_code};
+ghost use Rattle.ctl_gen.specs.Emitted.{appended, followed, over};
+ghost use Rattle.ctl_gen.specs.Values as values;
+ghost use Rattle.ctl_gen.specs.Texts as texts;
+ghost use Rattle.ctl_gen.specs.Layout as spec;
 
-use crate::emit::{Emitter, template_of};
-use crate::typing;
+use crate::emit::Emitter;
+use crate::right::variable_of;
+use crate::typing::value_type;
 use ctl_code::code::Instr;
 use ctl_code::kinds::Kind;
-use ctl_tree::checked::{Arm, Expr, Head, Item, Master, Name, Piece, Stmt, Ty, Var};
+use ctl_program::expression::{Expr, Name};
+use ctl_program::operators::Direction;
+use ctl_program::statement::{Arm, Item, Master, Piece, Stmt};
+use ctl_program::types::{Ty, Var};
 use std::alloc::AllocError;
 
 impl Emitter {
-    /// A master's items, its statements, and their end.
+    /// Emits a master's items, its statements, and their end.
     #[cycle(emit)]
     pub fn master(&mut self, master: &Master) -> Result<(), AllocError>
-        ensures instructions { OnOk result (self.new.instructions.items ≡ self.old.instructions.items ++ master_code (length self.old.texts.items) master.now) }
-        ensures texts { OnOk result (self.new.texts.items ≡ self.old.texts.items ++ master_texts master.now) }
-        ensures kinds { OnOk result (self.new.notes ≡ noted self.old.notes (master_kinds self.old.notes.standing master.now) (self.old.notes.standing)) }
+        ensures { OnOk result (self.new ≡ appended (spec.statement (spec.master_code master.now).inside) self.old) }
     {
-        self.items(&master.items)?;
-        self.statements(&master.body)?;
+        self.items(master.items.as_slice())?;
+        self.statements(master.body.as_slice())?;
         self.put(Instr::Leave)
     }
 
+    /// Emits the items of a declarative part.
     fn items(&mut self, items: &[Item]) -> Result<(), AllocError>
-        ensures instructions { OnOk result (self.new.instructions.items ≡ self.old.instructions.items ++ items_code items.now) }
-        ensures texts { OnOk result (self.new.texts.items ≡ self.old.texts.items) }
-        ensures kinds { OnOk result (self.new.notes ≡ noted self.old.notes (items_kinds self.old.notes.standing items.now) (self.old.notes.standing)) }
+        ensures { OnOk result (self.new ≡ followed (spec.items (spec.all_items (map spec.item_code items.now))) self.old) }
     {
         for item in items {
             self.item(item)?;
@@ -42,30 +39,34 @@ impl Emitter {
         Ok(())
     }
 
+    /// Emits an item of a declarative part.
     fn item(&mut self, item: &Item) -> Result<(), AllocError>
-        ensures instructions { OnOk result (self.new.instructions.items ≡ self.old.instructions.items ++ item_code item.now) }
-        ensures texts { OnOk result (self.new.texts.items ≡ self.old.texts.items) }
-        ensures kinds { OnOk result (self.new.notes ≡ noted self.old.notes (item_kinds self.old.notes.standing item.now) (self.old.notes.standing)) }
+        ensures { OnOk result (self.new ≡ followed (spec.items (spec.item_code item.now)) self.old) }
     {
         match item {
-            Item::Object(slot, Ty::Record(record), None) => {
-                self.put(Instr::Declare(*slot, *record))
-            }
-            Item::Object(slot, ty, None) => self.put(Instr::DeclareScalar(*slot, *ty)),
-            Item::Object(slot, ty, Some(value)) => {
-                self.expression(*ty, value)?;
-                self.take(Instr::DeclareValue(*slot, *ty))
-            }
+            Item::Object(slot, ty, value) => self.object(*slot, *ty, value),
             Item::Silent => Ok(()),
-            _ => self.put(Instr::Missing),
+            Item::Collections(_) | Item::Pool(..) => self.put(Instr::Missing),
         }
     }
 
+    /// Emits the declaration of an object, with its value if it has one.
+    fn object(&mut self, slot: usize, ty: Ty, value: &Option<Expr>) -> Result<(), AllocError>
+        ensures { OnOk result (self.new ≡ followed (spec.items (spec.object slot ty (option_map values.value_code value.now))) self.old) }
+    {
+        match value {
+            None => self.put(declaration(slot, ty)),
+            Some(value) => {
+                self.expression(ty, value)?;
+                self.take(Instr::DeclareValue(slot, ty))
+            }
+        }
+    }
+
+    /// Emits statements, each in turn.
     #[cycle(emit)]
     fn statements(&mut self, statements: &[Stmt]) -> Result<(), AllocError>
-        ensures instructions { OnOk result (self.new.instructions.items ≡ self.old.instructions.items ++ rows_code (length self.old.texts.items) statements.now) }
-        ensures texts { OnOk result (self.new.texts.items ≡ self.old.texts.items ++ rows_texts statements.now) }
-        ensures kinds { OnOk result (self.new.notes ≡ noted self.old.notes (rows_kinds self.old.notes.standing statements.now) (self.old.notes.standing)) }
+        ensures { OnOk result (self.new ≡ appended (spec.statement (spec.all (map spec.statement_code statements.now))) self.old) }
     {
         for statement in statements {
             self.statement(statement)?;
@@ -73,33 +74,32 @@ impl Emitter {
         Ok(())
     }
 
+    /// Emits a statement.
     #[cycle(emit)]
     fn statement(&mut self, statement: &Stmt) -> Result<(), AllocError>
-        ensures instructions { OnOk result (self.new.instructions.items ≡ self.old.instructions.items ++ stmt_code (length self.old.texts.items) statement.now) }
-        ensures texts { OnOk result (self.new.texts.items ≡ self.old.texts.items ++ stmt_texts statement.now) }
-        ensures kinds { OnOk result (self.new.notes ≡ noted self.old.notes (stmt_kinds self.old.notes.standing statement.now) (self.old.notes.standing)) }
+        ensures { OnOk result (self.new ≡ appended (spec.statement (spec.statement_code statement.now)) self.old) }
     {
         match statement {
             Stmt::Null => Ok(()),
             Stmt::Assign(name, value) => self.assign(name, value),
-            Stmt::Put(pieces) => self.print(false, pieces),
-            Stmt::PutLine(pieces) => self.print(true, pieces),
+            Stmt::Put(pieces) => self.print(false, pieces.as_slice()),
+            Stmt::PutLine(pieces) => self.print(true, pieces.as_slice()),
             Stmt::NewLine => self.put(Instr::NewLine),
             Stmt::Exit(condition) => self.exit(condition),
             Stmt::If(arms, others) => {
-                let end = self.arms(arms)?;
-                self.statements(others)?;
+                let end = self.arms(arms.as_slice())?;
+                self.statements(others.as_slice())?;
                 self.skip_from(end);
                 Ok(())
             }
-            Stmt::Loop(body) => self.endless(body),
-            Stmt::While(test, body) => self.while_loop(body, test),
-            Stmt::For(parameter, is_reverse, low, high, body) => {
+            Stmt::Loop(body) => self.endless(body.as_slice()),
+            Stmt::While(test, body) => self.while_loop(body.as_slice(), test),
+            Stmt::For(parameter, way, low, high, body) => {
                 self.expression(Ty::Integer, low)?;
                 self.expression(Ty::Integer, high)?;
-                self.for_loop(*parameter, *is_reverse, body)
+                self.for_loop(*parameter, *way, body.as_slice())
             }
-            Stmt::Block(master) => self.block(master),
+            Stmt::Block(master) => self.block(master.get()),
             Stmt::AssignRecord(..)
             | Stmt::Call(..)
             | Stmt::Nothing(_)
@@ -108,30 +108,28 @@ impl Emitter {
             | Stmt::LibraryDeallocate(..)
             | Stmt::Return(_)
             | Stmt::Raise(_)
+            | Stmt::RaiseAgain
             | Stmt::Free(..)
             | Stmt::Release(_) => self.put(Instr::Missing),
         }
     }
 
-    /// A variable takes a value.
+    /// Emits the assignment of a value to a variable.
     fn assign(&mut self, name: &Name, value: &Expr) -> Result<(), AllocError>
-        ensures instructions { OnOk result (self.new.instructions.items ≡ self.old.instructions.items ++ assign_code name.now.head name.now.steps.items (expr_code value.now)) }
-        ensures texts { OnOk result (self.new.texts.items ≡ self.old.texts.items) }
-        ensures kinds { OnOk result (self.new.notes ≡ noted self.old.notes (assign_kinds self.old.notes.standing (value_type value.now) name.now.head name.now.steps.items (expr_kinds (value_type value.now) self.old.notes.standing value.now)) (self.old.notes.standing)) }
+        ensures { OnOk result (self.new ≡ appended (spec.statement (spec.assign (values.variable_of name.now) (values.value_code value.now))) self.old) }
     {
-        match &name.head {
-            Head::Variable(variable) if name.steps.is_empty() => {
-                self.expression(typing::value_type(value), value)?;
-                self.take(Instr::Assign(*variable))
+        match variable_of(name) {
+            Some(variable) => {
+                self.expression(value_type(value), value)?;
+                self.take(Instr::Assign(variable))
             }
-            _ => self.put(Instr::Missing),
+            None => self.put(Instr::Missing),
         }
     }
 
+    /// Emits an exit statement.
     fn exit(&mut self, condition: &Option<Expr>) -> Result<(), AllocError>
-        ensures instructions { OnOk result (self.new.instructions.items ≡ self.old.instructions.items ++ exit_code condition.now) }
-        ensures texts { OnOk result (self.new.texts.items ≡ self.old.texts.items) }
-        ensures kinds { OnOk result (self.new.notes ≡ noted self.old.notes (exit_kinds self.old.notes.standing condition.now) (self.old.notes.standing)) }
+        ensures { OnOk result (self.new ≡ appended (spec.statement (spec.exit (option_map values.value_code condition.now))) self.old) }
     {
         match condition {
             None => self.put(Instr::Exit),
@@ -142,77 +140,67 @@ impl Emitter {
         }
     }
 
-    /// The arms of an `if`. Answers where the end of the first one stands, which does not skip the others yet.
+    /// Emits the arms of an `if`. Gives where the end of the first one stands, which does not skip the rest yet.
     #[cycle(emit)]
     fn arms(&mut self, arms: &[Arm]) -> Result<Option<usize>, AllocError>
-        ensures instructions { OnOk result (self.new.instructions.items ≡ self.old.instructions.items ++ open_arms_code (length self.old.texts.items) arms.now) }
-        ensures texts { OnOk result (self.new.texts.items ≡ self.old.texts.items ++ arm_list_texts arms.now) }
-        ensures kinds { OnOk result (self.new.notes ≡ noted self.old.notes (arm_list_kinds self.old.notes.standing arms.now) (self.old.notes.standing)) }
-        ensures end { IfOk result (λ end. end ≡ first_end (length self.old.instructions.items) (length self.old.texts.items) arms.now) }
+        ensures emitted { OnOk result (self.new ≡ appended (spec.open_arms (map spec.arm_code arms.now)) self.old) }
+        ensures end { IfOk result (λ end. end ≡ spec.first_end (length self.old.instructions) (length self.old.texts) (map spec.arm_code arms.now)) }
     {
-        let mut end = None;
-        for arm in arms {
-            self.guarded(arm)?;
-            end = Some(self.arm_end(end)?);
-        }
-        Ok(end)
-    }
-
-    /// The end of an arm: the first one is to skip the others, and a further one leads back to it. Answers where the first one stands.
-    fn arm_end(&mut self, first: Option<usize>) -> Result<usize, AllocError>
-        requires { ForSome first (λ place. place ≤ length self.old.instructions.items) }
-        ensures instructions { OnOk result (self.new.instructions.items ≡ self.old.instructions.items ++ Layout.arm_end first (length self.old.instructions.items) ∷ []) }
-        ensures texts { OnOk result (self.new.texts.items ≡ self.old.texts.items) }
-        ensures kinds { OnOk result (self.new.notes ≡ noted self.old.notes (self.old.notes.standing ∷ []) (self.old.notes.standing)) }
-        ensures first { IfOk result (λ place. place ≡ unwrap_or first (length self.old.instructions.items)) }
-    {
-        let place = self.place();
-        match first {
-            None => {
+        match arms {
+            [] => Ok(None),
+            [first, more @ ..] => {
+                self.guarded(first)?;
+                let end = self.place();
                 self.put(Instr::Skip(0))?;
-                Ok(place)
-            }
-            Some(first) => {
-                self.put(Instr::Repeat(place - first))?;
-                Ok(first)
+                self.further(end, more)?;
+                Ok(Some(end))
             }
         }
     }
 
-    /// The end of the first arm skips all that follows it.
+    /// Has the end of the first arm skip all that follows it.
     fn skip_from(&mut self, end: Option<usize>)
-        requires { ForSome end (λ place. place < length self.old.instructions.items) }
-        ensures instructions { self.new.instructions.items ≡ skipping_from end self.old.instructions.items }
-        ensures texts { self.new.texts.items ≡ self.old.texts.items }
-        ensures kinds { self.new.notes ≡ self.old.notes }
+        requires { ForSome end (λ place. place < length self.old.instructions) }
+        ensures { self.new ≡ spec.skipping end self.old }
     {
         if let Some(end) = end {
             let length = self.place() - end - 1;
-            self.instructions[end] = Instr::Skip(length);
+            self.set(end, Instr::Skip(length));
         }
     }
 
-    /// Statements under a condition; one instruction is to follow at their end.
+    /// Emits further arms, whose ends lead back to the end of the first one.
+    #[cycle(emit)]
+    fn further(&mut self, end: usize, arms: &[Arm]) -> Result<(), AllocError>
+        requires { end < length self.old.instructions }
+        ensures { OnOk result (self.new ≡ appended (spec.further_arms (length self.old.instructions - end) (map spec.arm_code arms.now)) self.old) }
+    {
+        for arm in arms {
+            self.guarded(arm)?;
+            let back = self.place() - end;
+            self.put(Instr::Repeat(back))?;
+        }
+        Ok(())
+    }
+
+    /// Emits statements under a condition; one instruction is to follow at their end.
     #[cycle(emit)]
     fn guarded(&mut self, arm: &Arm) -> Result<(), AllocError>
-        ensures instructions { OnOk result (self.new.instructions.items ≡ self.old.instructions.items ++ guarded_turn (expr_code arm.now.test) (rows_code (length self.old.texts.items) arm.now.body.items)) }
-        ensures texts { OnOk result (self.new.texts.items ≡ self.old.texts.items ++ rows_texts arm.now.body.items) }
-        ensures kinds { OnOk result (self.new.notes ≡ noted self.old.notes (tested_kinds self.old.notes.standing (expr_kinds Boolean self.old.notes.standing arm.now.test) (rows_kinds self.old.notes.standing arm.now.body.items)) (self.old.notes.standing)) }
+        ensures { OnOk result (self.new ≡ appended (spec.guarded_arm (spec.arm_code arm.now)) self.old) }
     {
         self.expression(Ty::Boolean, &arm.test)?;
         let head = self.place();
         self.take(Instr::Unless(0))?;
-        self.statements(&arm.body)?;
+        self.statements(arm.body.as_slice())?;
         let length = self.place() - head;
-        self.instructions[head] = Instr::Unless(length);
+        self.set(head, Instr::Unless(length));
         Ok(())
     }
 
+    /// Emits a loop without an iteration scheme.
     #[cycle(emit)]
     fn endless(&mut self, body: &[Stmt]) -> Result<(), AllocError>
-        ensures instructions { OnOk result (self.new.instructions.items ≡ self.old.instructions.items ++ loop_code (rows_code (length self.old.texts.items) body.now)) }
-        ensures texts { OnOk result (self.new.texts.items ≡ self.old.texts.items ++ rows_texts body.now) }
-        ensures kinds { OnOk result (self.new.notes ≡ noted self.old.notes (loop_kinds self.old.notes.standing (rows_kinds (KindOf.Loop ∷ self.old.notes.standing) body.now)) (self.old.notes.standing)) }
+        ensures { OnOk result (self.new ≡ appended (spec.statement (spec.loop (spec.all (map spec.statement_code body.now)))) self.old) }
     {
         let head = self.place();
         self.put(Instr::Loop(0))?;
@@ -221,12 +209,10 @@ impl Emitter {
         self.repeat(head)
     }
 
-    /// Turns under a condition.
+    /// Emits a loop whose turns stand under a condition.
     #[cycle(emit)]
     fn while_loop(&mut self, body: &[Stmt], test: &Expr) -> Result<(), AllocError>
-        ensures instructions { OnOk result (self.new.instructions.items ≡ self.old.instructions.items ++ while_code (expr_code test.now) (rows_code (length self.old.texts.items) body.now)) }
-        ensures texts { OnOk result (self.new.texts.items ≡ self.old.texts.items ++ rows_texts body.now) }
-        ensures kinds { OnOk result (self.new.notes ≡ noted self.old.notes (loop_kinds self.old.notes.standing (tested_kinds (KindOf.Loop ∷ self.old.notes.standing) (expr_kinds Boolean (KindOf.Loop ∷ self.old.notes.standing) test.now) (rows_kinds (KindOf.Loop ∷ self.old.notes.standing) body.now))) (self.old.notes.standing)) }
+        ensures { OnOk result (self.new ≡ appended (spec.statement (spec.while (values.value_code test.now) (spec.all (map spec.statement_code body.now)))) self.old) }
     {
         let head = self.place();
         self.put(Instr::Loop(0))?;
@@ -237,47 +223,35 @@ impl Emitter {
         self.repeat(head)
     }
 
-    /// The end of a loop whose first instruction stands at this place.
+    /// Emits the end of a loop whose first instruction stands at this place.
     fn repeat(&mut self, head: usize) -> Result<(), AllocError>
-        requires { head < length self.old.instructions.items }
-        ensures instructions { OnOk result (self.new.instructions.items ≡ repeated_from head self.old.instructions.items) }
-        ensures texts { OnOk result (self.new.texts.items ≡ self.old.texts.items) }
-        ensures kinds { OnOk result (self.new.notes ≡ noted self.old.notes (self.old.notes.standing ∷ []) (below_newest self.old.notes.standing)) }
+        requires { head < length self.old.instructions }
+        ensures { OnOk result (self.new ≡ spec.repeated head self.old) }
     {
         let length = self.place() - head;
-        self.instructions[head] = Instr::Loop(length);
+        self.set(head, Instr::Loop(length));
         self.take(Instr::Repeat(length - 1))
     }
 
-    /// The turns of a loop whose bounds are operands.
+    /// Emits the turns of a loop whose bounds are operands.
     #[cycle(emit)]
-    fn for_loop(
-        &mut self,
-        parameter: Var,
-        is_reverse: bool,
-        body: &[Stmt],
-    ) -> Result<(), AllocError>
-        requires { self.old.notes.standing ≡ Operand Integer ∷ Operand Integer ∷ below_newest (below_newest self.old.notes.standing) }
-        ensures instructions { OnOk result (self.new.instructions.items ≡ self.old.instructions.items ++ turns_code parameter is_reverse (rows_code (length self.old.texts.items) body.now)) }
-        ensures texts { OnOk result (self.new.texts.items ≡ self.old.texts.items ++ rows_texts body.now) }
-        ensures kinds { OnOk result (self.new.notes ≡ noted self.old.notes (turns_kinds (below_newest (below_newest self.old.notes.standing)) (rows_kinds (KindOf.Counting ∷ below_newest (below_newest self.old.notes.standing)) body.now)) (below_newest (below_newest self.old.notes.standing))) }
+    fn for_loop(&mut self, parameter: Var, way: Direction, body: &[Stmt]) -> Result<(), AllocError>
+        ensures { OnOk result (self.new ≡ appended (spec.turns parameter way (spec.all (map spec.statement_code body.now))) self.old) }
     {
         let head = self.place();
-        self.take(Instr::For(parameter, is_reverse, 0))?;
+        self.take(Instr::For(parameter, way, 0))?;
         self.leave();
         self.enter(Kind::Counting)?;
         self.statements(body)?;
         let length = self.place() - head;
-        self.instructions[head] = Instr::For(parameter, is_reverse, length);
+        self.set(head, Instr::For(parameter, way, length));
         self.take(Instr::Next(length - 1))
     }
 
-    /// A block: its entry says how long it is, which is known at its end.
+    /// Emits a block: its entry says how long it is, which is known at its end.
     #[cycle(emit)]
     fn block(&mut self, master: &Master) -> Result<(), AllocError>
-        ensures instructions { OnOk result (self.new.instructions.items ≡ self.old.instructions.items ++ block_code (slots_of master.now) (master_code (length self.old.texts.items) master.now)) }
-        ensures texts { OnOk result (self.new.texts.items ≡ self.old.texts.items ++ master_texts master.now) }
-        ensures kinds { OnOk result (self.new.notes ≡ noted self.old.notes (self.old.notes.standing ∷ master_kinds (Block ∷ self.old.notes.standing) master.now) (self.old.notes.standing)) }
+        ensures { OnOk result (self.new ≡ appended (spec.statement (spec.block (spec.master_code master.now))) self.old) }
     {
         let head = self.place();
         self.put(Instr::Enter(master.slots, 0))?;
@@ -285,39 +259,60 @@ impl Emitter {
         self.master(master)?;
         self.leave();
         let length = self.place() - head - 1;
-        self.instructions[head] = Instr::Enter(master.slots, length);
+        self.set(head, Instr::Enter(master.slots, length));
         Ok(())
     }
 
     /// Prints a text, and ends the line where that is asked.
     fn print(&mut self, ends_line: bool, pieces: &[Piece]) -> Result<(), AllocError>
-        ensures instructions { OnOk result (self.new.instructions.items ≡ self.old.instructions.items ++ print_code ends_line (length self.old.texts.items) pieces.now) }
-        ensures texts { OnOk result (self.new.texts.items ≡ self.old.texts.items ++ parts_of pieces.now ∷ []) }
-        ensures kinds { OnOk result (self.new.notes ≡ noted self.old.notes (print_kinds self.old.notes.standing pieces.now) (self.old.notes.standing)) }
+        ensures { OnOk result (self.new ≡ appended (spec.statement (spec.print ends_line pieces.now)) self.old) }
     {
         self.pieces(pieces)?;
-        let number = self.texts.len();
-        self.texts.push(template_of(self.alloc, pieces)?)?;
-        self.put(if ends_line {
-            Instr::PutLine(number)
-        } else {
-            Instr::Put(number)
-        })?;
+        let number = self.text(pieces)?;
+        self.put(print_of(ends_line, number))?;
         self.leave_images(pieces);
         Ok(())
     }
 
-    /// The values of images stand there no more.
+    /// Takes the values of images off.
     fn leave_images(&mut self, pieces: &[Piece])
-        ensures instructions { self.new.instructions.items ≡ self.old.instructions.items }
-        ensures texts { self.new.texts.items ≡ self.old.texts.items }
-        ensures kinds { self.new.notes ≡ noted self.old.notes [] (without_images pieces.now self.old.notes.standing) }
+        ensures { self.new ≡ texts.left pieces.now self.old }
     {
         for piece in pieces {
-            match piece {
-                Piece::Text(_) => {}
-                Piece::IntegerImage(_) | Piece::BooleanImage(_) => self.leave(),
-            }
+            self.leave_image(piece);
         }
+    }
+
+    /// Takes the value of a piece off, if it is an image.
+    #[tactic(auto, unfolding(crate::specs::Emitted::over))]
+    fn leave_image(&mut self, piece: &Piece)
+        ensures { self.new ≡ over (texts.without_image piece.now) self.old }
+    {
+        match piece {
+            Piece::Text(_) => {}
+            Piece::IntegerImage(_) | Piece::BooleanImage(_) => self.leave(),
+        }
+    }
+}
+
+/// Gives the instruction that declares an object without a value: of a record type, or a scalar one.
+fn declaration(slot: usize, ty: Ty) -> Instr
+    ensures { result ≡ spec.declaration slot ty }
+{
+    match ty {
+        Ty::Record(record) => Instr::Declare(slot, record),
+        Ty::Integer | Ty::Count | Ty::Boolean | Ty::Address | Ty::Handle | Ty::Access(_) =>
+            Instr::DeclareScalar(slot, ty),
+    }
+}
+
+/// Gives the instruction that prints the text of this number, and ends the line where that is asked.
+fn print_of(ends_line: bool, number: usize) -> Instr
+    ensures { result ≡ texts.print_of ends_line number }
+{
+    if ends_line {
+        Instr::PutLine(number)
+    } else {
+        Instr::Put(number)
     }
 }

@@ -6,4 +6,5 @@ mod emit_expressions;
 mod emit_statements;
 pub mod generate;
 mod right;
+pub mod runs;
 mod typing;

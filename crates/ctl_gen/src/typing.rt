@@ -1,68 +1,83 @@
 //! The types of expressions (RM 4.4, 4.5).
 
-ghost use Rattle.std.specs.Prelude.{◌≡◌, None};
-ghost use Rattle.ctl_gen.specs.Typing as Typing;
+ghost use Rattle.std.specs.Prelude.{◌≡◌, map};
+ghost use Rattle.ctl_gen.specs.Values as spec;
 
-use ctl_tree::checked::{BinaryOp, Expr, Operand, Ty};
+use ctl_program::expression::{Expr, Operand};
+use ctl_program::operators::BinaryOp;
+use ctl_program::types::Ty;
 
-/// The type of a value; a constant has none of its own.
+/// Gives the type of a value; a constant has none of its own.
+#[tactic(auto, using(crate::proofs::Layers::value_constant, crate::proofs::Layers::read_own, crate::proofs::Layers::value_call, crate::proofs::Layers::value_unary, crate::proofs::Layers::value_chain, crate::proofs::Layers::operator_is, crate::proofs::Layers::value_short, crate::proofs::Layers::value_convert, crate::proofs::Layers::value_access, crate::proofs::Layers::value_new, crate::proofs::Layers::value_subpool, crate::proofs::Layers::value_discriminant))]
 pub fn type_of(expression: &Expr) -> Option<Ty>
-    ensures { result ≡ Typing.type_of expression.now }
+    ensures { result ≡ (spec.value_code expression.now).own }
 {
     match expression {
         Expr::Read(_, ty) | Expr::Unary(_, ty, _) => Some(*ty),
-        Expr::Chain(_, operands) => last_type(operands),
+        Expr::Chain(_, first, more) => Some(last_type(first.get().ty, more.as_slice())),
         Expr::Short(..) => Some(Ty::Boolean),
-        _ => None,
+        Expr::Constant(_)
+        | Expr::Call(..)
+        | Expr::Convert(..)
+        | Expr::Access(_)
+        | Expr::New(..)
+        | Expr::Subpool(..)
+        | Expr::Discriminant(..) => None,
     }
 }
 
-/// The type of what the last of these operators gives.
-fn last_type(operands: &[Operand]) -> Option<Ty>
-    ensures { result ≡ Typing.last_type None operands.now }
+/// Gives the type of what the last of these operators gives, or this one where there is none.
+fn last_type(first: Ty, more: &[Operand]) -> Ty
+    ensures { result ≡ spec.last_type first (map spec.operator_of more.now) }
 {
-    let mut last = None;
-    for operand in operands {
-        last = Some(operand.ty);
+    let mut last = first;
+    for operand in more {
+        last = operand.ty;
     }
     last
 }
 
-/// The type of a value where each scalar type will do: a constant is one of Integer.
+/// Gives the type of a value where each scalar type will do: a constant is one of Integer.
 pub fn value_type(expression: &Expr) -> Ty
-    ensures { result ≡ Typing.value_type expression.now }
+    ensures { result ≡ spec.value_type (spec.value_code expression.now) }
 {
     type_of(expression).unwrap_or(Ty::Integer)
 }
 
-/// The type that the first operand of a chain has, which gives this type where it is alone.
-pub fn first_type(ty: Ty, first: &Expr, operands: &[Operand]) -> Ty
-    ensures { result ≡ Typing.first_type ty first.now operands.now }
+/// Gives the type of the first operand of a chain.
+#[tactic(auto, using(crate::proofs::Layers::operator_is))]
+pub fn first_type(first: &Expr, second: &Operand) -> Ty
+    ensures { result ≡ spec.first_type (spec.value_code first.now) (spec.operator_of second.now) }
 {
-    match operands {
-        [] => ty,
-        [operand, ..] => operand_type(operand, type_of(first)),
-    }
+    operand_type(second.op, second.ty, type_of(first), type_of(&second.right))
 }
 
-/// The type of an operator's operands, where the left one has this type of its own.
-fn operand_type(operand: &Operand, left: Option<Ty>) -> Ty
-    ensures { result ≡ Typing.operand_type operand.now.op operand.now.ty left (Typing.type_of operand.now.right) }
+/// Gives the type of an operator's operands, where they have these types of their own.
+fn operand_type(op: BinaryOp, ty: Ty, left: Option<Ty>, right: Option<Ty>) -> Ty
+    ensures { result ≡ spec.operand_type op ty left right }
 {
-    match operand.op {
+    match op {
         BinaryOp::Equal
         | BinaryOp::Unequal
         | BinaryOp::Less
         | BinaryOp::LessEqual
         | BinaryOp::Greater
-        | BinaryOp::GreaterEqual => common_type(left, type_of(&operand.right)),
-        _ => operand.ty,
+        | BinaryOp::GreaterEqual => common_type(left, right),
+        BinaryOp::Add
+        | BinaryOp::Subtract
+        | BinaryOp::Multiply
+        | BinaryOp::Divide
+        | BinaryOp::Modulo
+        | BinaryOp::Remainder
+        | BinaryOp::And
+        | BinaryOp::Or
+        | BinaryOp::Xor => ty,
     }
 }
 
-/// The one type of the operands of a relation (RM 4.5.2).
+/// Gives the one type of the operands of a relation (RM 4.5.2).
 fn common_type(left: Option<Ty>, right: Option<Ty>) -> Ty
-    ensures { result ≡ Typing.common_type left right }
+    ensures { result ≡ spec.common_type left right }
 {
     match left {
         Some(ty) => ty,

@@ -23,7 +23,7 @@ frames_stay (Creating o t next ∷ k) (l ∷ ls) y h = never_running h.0
 frames_stay (Initializing o t next ∷ k) (l ∷ ls) y h = absurd (h.0 refl)
 frames_stay (Finalizing o ∷ k) (l ∷ ls) y h = absurd (h.0 refl)
 frames_stay (Looping height behind ∷ k) (l ∷ ls) y h = ap (λ r. Table.Looping height l.display behind ∷ r) (frames_stay k (l ∷ ls) y h)
-frames_stay (Counting height behind x turns ∷ k) (l ∷ ls) y h = ap (λ r. Table.Counting height l.display behind x turns.in_reverse (left_of turns) turns.value ∷ r) (frames_stay k (l ∷ ls) y h)
+frames_stay (Counting height behind x turns ∷ k) (l ∷ ls) y h = ap (λ r. Table.Counting height l.display behind x turns.direction (left_of turns) turns.value ∷ r) (frames_stay k (l ∷ ls) y h)
 
 pub fits_stay : (k : List Frame) (ls : List Level) (y : Layer) → Fits Running k ls → Fits Running k (first_with_layer y ls)
 fits_stay k [] y h = h

@@ -4,8 +4,8 @@ use Rattle.std.specs.Prelude.{◌||◌, option_map}
 use Rattle.ctl_tree.specs.declared.ending.Stop.TheVariants.{UseAfterFree}
 use Rattle.ctl_tree.specs.declared.event.Event.TheVariants.{Finalize}
 use Rattle.ctl_tree.specs.declared.event.Cause.TheVariants.{Scope}
-use Rattle.ctl_tree.specs.declared.checked.Ty.{Ty}
-use Rattle.ctl_tree.specs.declared.checked.Ty.TheVariants.{Integer, Count, Boolean, Address, Handle, Access, Record}
+use Rattle.ctl_program.specs.declared.types.Ty.{Ty}
+use Rattle.ctl_program.specs.declared.types.Ty.TheVariants.{Integer, Count, Boolean, Address, Handle, Access, Record}
 use Rattle.ctl_meaning.specs.World.{World, Object, Layer}
 use Rattle.ctl_meaning.specs.Changes.{object_at, begin_finalization, close_master, take_layer}
 use Rattle.ctl_meaning.specs.Outcome.{Result, Goes}

@@ -3,7 +3,7 @@ use Rattle.std.proofs.Common.{◌≡◌, ℕ, zero, suc, ◌+◌, ◌≤◌, ◌
 use Rattle.std.specs.Prelude.{All, if◌then◌else◌}
 use Rattle.std.proofs.lemmas.List.{length-map, get_or-map, map-set}
 use Rattle.std.proofs.lemmas.List.Elements.{All-head, All-tail}
-use Rattle.ctl_tree.specs.declared.checked.Ty.{Ty}
+use Rattle.ctl_program.specs.declared.types.Ty.{Ty}
 use Rattle.ctl_meaning.specs.World as W
 use Rattle.ctl_meaning.specs.Lists.{opened_lists}
 use Rattle.ctl_meaning.specs.Objects.{object_in, change_in, is_untouched, with_begun, with_finalized, opened_objects}

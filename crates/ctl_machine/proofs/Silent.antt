@@ -1,10 +1,11 @@
 -- A step that hands on a result shows nothing.
 use Rattle.std.proofs.Common.{◌≡◌, ℕ, zero, suc, ℤ, pos, negsuc, List, [], ◌∷◌, Option, Some, None, Bool, true, false, refl, slice_get}
 use Rattle.std.specs.Prelude.{◌||◌, not, ◌-ℤ◌}
-use Rattle.ctl_tree.specs.declared.checked.Ty.{Ty}
-use Rattle.ctl_tree.specs.declared.checked.Ty.TheVariants.{Integer, Count, Boolean, Address, Handle, Access, Record}
-use Rattle.ctl_tree.specs.declared.checked.BinaryOp.{BinaryOp}
-use Rattle.ctl_tree.specs.declared.checked.Var.{Var}
+use Rattle.ctl_program.specs.declared.types.Ty.{Ty}
+use Rattle.ctl_program.specs.declared.types.Ty.TheVariants.{Integer, Count, Boolean, Address, Handle, Access, Record}
+use Rattle.ctl_program.specs.declared.operators.BinaryOp.{BinaryOp}
+use Rattle.ctl_program.specs.declared.operators.Direction.{Direction}
+use Rattle.ctl_program.specs.declared.types.Var.{Var}
 use Rattle.ctl_tree.specs.declared.event.Event.{Event}
 use Rattle.ctl_meaning.specs.World.{Object, Layer, Single, Sets, Slot, World}
 use Rattle.ctl_meaning.specs.Changes.{object_at, write_cells, take_layer, begin_finalization}
@@ -98,9 +99,9 @@ silent_test : (f : Bool → Bool) (d : List ℕ) (place : ℕ) (k : List Frame) 
 silent_test f d place k [] w = tt
 silent_test f d place k (x ∷ ops) w = silent_exit (f (is_true x)) d place k ops w
 
-silent_range : (z : ℤ) (v : Var) (reverse : Bool) (low high : ℤ) (count : ℕ) (d : List ℕ) (place : ℕ) (k : List Frame) (ops : List ℕ) (w : World) → IsSilent (by_range z v reverse low high count d place k ops w)
-silent_range (pos n) v reverse low high count d place k ops w = tt
-silent_range (negsuc n) v reverse low high count d place k ops w = tt
+silent_range : (z : ℤ) (v : Var) (way : Direction) (low high : ℤ) (count : ℕ) (d : List ℕ) (place : ℕ) (k : List Frame) (ops : List ℕ) (w : World) → IsSilent (by_range z v way low high count d place k ops w)
+silent_range (pos n) v way low high count d place k ops w = tt
+silent_range (negsuc n) v way low high count d place k ops w = tt
 
 silent_next : (count : ℕ) (d : List ℕ) (place : ℕ) (k : List Frame) (ops : List ℕ) (w : World) → IsSilent (by_next count d place k ops w)
 silent_next count d place [] ops w = tt
@@ -110,8 +111,8 @@ silent_next count d place (Creating n t seen behind ∷ k) ops w = tt
 silent_next count d place (Initializing n t seen behind ∷ k) ops w = tt
 silent_next count d place (Finalizing n ∷ k) ops w = tt
 silent_next count d place (Looping h seen behind ∷ k) ops w = tt
-silent_next count d place (Counting h seen behind v reverse zero z ∷ k) ops w = tt
-silent_next count d place (Counting h seen behind v reverse (suc n) z ∷ k) ops w = tt
+silent_next count d place (Counting h seen behind v way zero z ∷ k) ops w = tt
+silent_next count d place (Counting h seen behind v way (suc n) z ∷ k) ops w = tt
 
 silent_instr : (code : Code) (i : Option Instr) (d : List ℕ) (place : ℕ) (k : List Frame) (ops : List ℕ) (w : World) → IsSilent (by_instr code i d place k ops w)
 silent_instr code None d place k ops w = tt
@@ -137,9 +138,9 @@ silent_instr code (Some (Unless count)) d place k [] w = tt
 silent_instr code (Some (Unless count)) d place k (x ∷ ops) w = tt
 silent_instr code (Some (Loop count)) d place k ops w = tt
 silent_instr code (Some (Repeat count)) d place k ops w = tt
-silent_instr code (Some (For v reverse count)) d place k [] w = tt
-silent_instr code (Some (For v reverse count)) d place k (b ∷ []) w = tt
-silent_instr code (Some (For v reverse count)) d place k (b ∷ a ∷ ops) w = silent_range (signed b -ℤ signed a) v reverse (signed a) (signed b) count d place k ops w
+silent_instr code (Some (For v way count)) d place k [] w = tt
+silent_instr code (Some (For v way count)) d place k (b ∷ []) w = tt
+silent_instr code (Some (For v way count)) d place k (b ∷ a ∷ ops) w = silent_range (signed b -ℤ signed a) v way (signed a) (signed b) count d place k ops w
 silent_instr code (Some (Next count)) d place k ops w = silent_next count d place k ops w
 silent_instr code (Some Exit) d place k ops w = refl
 silent_instr code (Some ExitWhen) d place k ops w = silent_test (λ b. b) d place k ops w
@@ -187,7 +188,7 @@ silent_frame code (Leaves ByExit) (Finalizing n) k ops w = refl
 silent_frame code (Leaves (ByReturn v)) (Finalizing n) k ops w = refl
 silent_frame code (Leaves (ByRaise e)) (Finalizing n) k ops w = refl
 silent_frame code r (Looping height d place) k ops w = silent_mode (behind_loop d place r)
-silent_frame code r (Counting height d place v reverse left z) k ops w = silent_mode (behind_loop d place r)
+silent_frame code r (Counting height d place v way left z) k ops w = silent_mode (behind_loop d place r)
 
 pub silent : (code : Code) (m : Mode) (k : List Frame) (ops : List ℕ) (w : World) (pick : ℕ) → IsSilent (act code m k ops w pick)
 silent code (At d place) k ops w pick = silent_instr code (slice_get code.instructions.items place) d place k ops w

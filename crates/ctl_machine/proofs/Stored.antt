@@ -12,7 +12,7 @@ use Rattle.std.proofs.lemmas.Bool.Decides.{nat_tests}
 use Rattle.number_map.proofs.Changes.{get_here, get_there, get_dropped}
 use Rattle.pool_store.specs.Entries.{Stored}
 use Rattle.pool_store.specs.Store.{Store, IsWithin, no_store, read_word, with_object, with_word, without_object}
-use Rattle.ctl_tree.specs.declared.checked.Ty.{Ty}
+use Rattle.ctl_program.specs.declared.types.Ty.{Ty}
 use Rattle.ctl_meaning.specs.World as W
 use Rattle.ctl_meaning.specs.Lists.{opened_lists}
 use Rattle.ctl_meaning.specs.Objects.{object_in, change_in, cells_at, with_cells, opened_objects}

@@ -14,7 +14,7 @@ use Rattle.ctl_meaning.specs.Changes as C
 use Rattle.ctl_meaning.specs.Changes.{opened_changes}
 use Rattle.ctl_machine.specs.declared.masters.Slot.{Slot}
 use Rattle.ctl_machine.specs.declared.masters.Master.{Master}
-use Rattle.ctl_tree.specs.declared.checked.Ty.{Ty}
+use Rattle.ctl_program.specs.declared.types.Ty.{Ty}
 use Rattle.ctl_machine.specs.Objects.{Existing, new_object, object_of, objects_of, kept_without, IsBehind}
 use Rattle.ctl_machine.specs.Masters.{slot_of}
 use Rattle.ctl_machine.specs.World.{Level, first_number, levels_from, levels_of, newest_master, newest_display, newest_layers, display_at, created_in, scalar_in, all_but_first, first_with_layer, first_without_layer, activation_of, master_of, all_but_outermost, world_from, world_of, AreNested, AreLast, AreListed, IsNewestLayer}
@@ -137,7 +137,7 @@ unfolding opened_changes opened_objects
 written g l slot ty x m ms xs behind = rw (newest_changes g (with_cells 0 (x ∷ [])) xs (record { number = g + 1; ty = ty; cells = 0 ∷ []; state = W.Untouched; origin = W.Declared (newest_master (world_from g l m ms xs)); joined = false }) behind refl) refl
 
 pub begun : (g : ℕ) (l : Lists) (n : ℕ) (m : Master) (ms : List Master) (xs ys : List Existing) → objects_of ys ≡ change_in n with_begun (objects_of xs) → world_from g l m ms ys ≡ C.begin_finalization n (world_from g l m ms xs)
-unfolding opened_changes opened_ledger opened_lists
+unfolding opened_changes
 begun g l n m ms xs ys changed = rw changed refl
 
 pub ended : (g : ℕ) (l : Lists) (n : ℕ) (m : Master) (ms : List Master) (xs ys : List Existing) → objects_of ys ≡ change_in n with_finalized (objects_of xs) → world_from g l m ms ys ≡ C.end_finalization n (world_from g l m ms xs)

@@ -3,7 +3,7 @@ use Rattle.std.specs.Prelude.{◌≡◌, ◌≢◌, ℕ, ◌≤◌, List, [], �
 use Rattle.std.specs.FinMap.{get}
 use Rattle.std.specs.List.Sorted.{IsNonDecreasing}
 use Rattle.pool_store.specs.Store.{Store, words_of}
-use Rattle.ctl_tree.specs.declared.checked.Ty.{Ty}
+use Rattle.ctl_program.specs.declared.types.Ty.{Ty}
 use Rattle.ctl_meaning.specs.World as W
 use Rattle.ctl_meaning.specs.Lists.{keep}
 use Rattle.ctl_machine.specs.Numbers.{Rises}

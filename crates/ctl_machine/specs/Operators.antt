@@ -1,6 +1,6 @@
 -- The operators with a divisor.
-use Rattle.ctl_tree.specs.declared.checked.BinaryOp.{BinaryOp}
-use Rattle.ctl_tree.specs.declared.checked.BinaryOp.TheVariants.{Divide, Modulo, Remainder}
+use Rattle.ctl_program.specs.declared.operators.BinaryOp.{BinaryOp}
+use Rattle.ctl_program.specs.declared.operators.BinaryOp.TheVariants.{Divide, Modulo, Remainder}
 
 -- the multiplying operators whose right operand is a divisor (4.5.5)
 abbrev pub IsDivision : BinaryOp → Type 0

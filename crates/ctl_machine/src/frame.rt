@@ -1,7 +1,7 @@
 //! Where the machine is, and what waits on the control stack for the completion of a construct.
 
 use crate::turns::Turns;
-use ctl_tree::checked::Var;
+use ctl_program::types::Var;
 use ctl_tree::ending::Stop;
 
 /// How the statements of a master are completed (RM 7.6.1): normally, or by a transfer of control.

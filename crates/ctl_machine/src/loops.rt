@@ -4,7 +4,7 @@ ghost use Rattle.std.specs.Prelude.{◌≡◌, ℕ, List, [], ◌∷◌, ◌++�
 ghost use Rattle.ctl_code.specs.Table as Table;
 ghost use Rattle.ctl_code.specs.declared.code.Code.{Code};
 ghost use Rattle.ctl_code.specs.declared.code.Instr.TheVariants as InstrOf;
-ghost use Rattle.ctl_tree.specs.declared.checked.Var.{Var};
+ghost use Rattle.ctl_program.specs.declared.types.Var.{Var};
 ghost use Rattle.ctl_machine.specs.declared.frame.Frame as FrameOf;
 ghost use Rattle.ctl_machine.specs.declared.frame.Frame.TheVariants.{Counting};
 ghost use Rattle.ctl_machine.specs.declared.turns.Turns.{Turns};
@@ -17,7 +17,8 @@ use crate::frame::{Frame, Handed, Mode};
 use crate::operators::is_true;
 use crate::turns::{next_turn, turns_between};
 use crate::variables::set_parameter;
-use ctl_tree::checked::Var;
+use ctl_program::operators::Direction;
+use ctl_program::types::Var;
 use std::alloc::AllocError;
 
 /// The parameter of the topmost frame's loop has this value in its turn; nothing else of the frame is written.
@@ -71,20 +72,20 @@ impl Engine {
     pub(crate) fn enter_for(
         &mut self,
         parameter: Var,
-        in_reverse: bool,
+        direction: Direction,
         count: usize,
         place: usize,
     ) -> Result<(), AllocError>
         requires operands { 2 ≤ length self.old.operands }
         requires rests { Rests Running self.old }
         requires behind { place + 1 + count < 2 ^ 64 }
-        ensures ok { OnOk result (Makes self.old self.new (made_by (Table.by_for parameter in_reverse count) place self.old)) }
+        ensures ok { OnOk result (Makes self.old self.new (made_by (Table.by_for parameter direction count) place self.old)) }
         ensures err { OnErr result (Stays self.old self.new) }
     {
         let (high, low) = self.operands.top_two();
         self.control.reserve(1)?;
         self.operands.drop_newest(2);
-        let Some(turns) = turns_between(low, high, in_reverse) else {
+        let Some(turns) = turns_between(low, high, direction) else {
             self.mode = Mode::At(place + 1 + count);
             return Ok(());
         };

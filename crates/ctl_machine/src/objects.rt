@@ -9,7 +9,7 @@ ghost use Rattle.ctl_machine.specs.Numbers.{StandsAt};
 ghost use Rattle.ctl_machine.specs.Objects.{EntriesRise, IsFrontOf, IsRising, InOrder, StayInPlace, UpTo, kept_without, new_object, objects_of, state_of};
 ghost use Rattle.ctl_machine.specs.World.{IsHome};
 
-use ctl_tree::checked::Ty;
+use ctl_program::types::Ty;
 use pool_store::PoolStore;
 use std::alloc::{AllocError, Global};
 use std::marker::Model;

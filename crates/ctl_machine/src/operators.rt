@@ -5,7 +5,8 @@ ghost use Rattle.std.specs.Prelude.{◌≡◌, ◌≢◌, pos, ◌+ℤ◌, ◌-�
 ghost use Rattle.ctl_meaning.specs.Numbers as Numbers;
 ghost use Rattle.ctl_machine.specs.Operators.{IsDivision};
 
-use ctl_tree::checked::{BinaryOp, Ty, UnaryOp};
+use ctl_program::operators::{BinaryOp, UnaryOp};
+use ctl_program::types::Ty;
 
 /// The number in a cell: a negative one counts down from 2 ** 64.
 pub fn signed(cell: u64) -> i64
@@ -28,14 +29,14 @@ fn truth(value: bool) -> u64
     u64::from(value)
 }
 
-/// Whether a cell is True.
+/// Tells whether a cell is True.
 pub fn is_true(cell: u64) -> bool
     ensures { result ≡ Numbers.is_true cell }
 {
     cell != 0
 }
 
-/// Whether a number is in the range of this type (RM 3.5.4, 13.7.1).
+/// Tells whether a number is in the range of this type (RM 3.5.4, 13.7.1).
 fn is_in_range(ty: Ty, number: i64) -> bool
     ensures { result ≡ Numbers.in_range ty number }
 {

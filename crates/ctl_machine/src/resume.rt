@@ -1,7 +1,7 @@
 //! What the topmost frame makes of what is handed to it.
 
 ghost use Rattle.std.specs.Prelude.{◌≡◌, ◌^◌, ◌<◌, ℕ, List, ◌∷◌, ◌++◌, [], Some, IfOk, OnOk, OnErr, is_some, length, option_map, vec_len, vec_capacity, true, false};
-ghost use Rattle.ctl_tree.specs.declared.checked.Ty.TheVariants.{Record};
+ghost use Rattle.ctl_program.specs.declared.types.Ty.TheVariants.{Record};
 ghost use Rattle.ctl_code.specs.States.{without_flag};
 ghost use Rattle.ctl_code.specs.Fits.{FitsWorld, MayTake, SpeakOfKnown};
 ghost use Rattle.ctl_code.specs.Table as Table;
@@ -22,7 +22,7 @@ use crate::engine::Engine;
 use crate::frame::{Afterwards, Completion, Departure, Frame, Handed, Mode};
 use crate::world::World;
 use ctl_code::code::Code;
-use ctl_tree::checked::Ty;
+use ctl_program::types::Ty;
 use ctl_tree::ending::Stop;
 use ctl_tree::event::{Cause, Event, Owner, Part};
 use ctl_tree::text::Path;
@@ -75,7 +75,7 @@ fn finalization_of(handed: Handed) -> Handed
     }
 }
 
-/// Whether a finalization failed.
+/// Tells whether a finalization failed.
 fn is_failure(handed: Handed) -> bool
     ensures { result ≡ says_failed handed }
 {

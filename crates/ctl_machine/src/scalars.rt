@@ -9,7 +9,7 @@ ghost use Rattle.ctl_machine.specs.Engine.{Rests, Makes, Stays, made_by};
 
 use crate::engine::Engine;
 use crate::frame::Mode;
-use ctl_tree::checked::Ty;
+use ctl_program::types::Ty;
 use std::alloc::AllocError;
 
 impl Engine {

@@ -11,7 +11,7 @@ use crate::masters::Slot;
 use crate::operators::cell_of;
 use crate::turns::Turns;
 use crate::world::World;
-use ctl_tree::checked::Var;
+use ctl_program::types::Var;
 
 /// The value of a scalar variable; none where its object does not exist.
 #[inline(always)]

@@ -18,7 +18,7 @@ use crate::masters::{
     Master, Slot, first_of, place_of_master, place_of_master_near, put_slot, slot_in, slots_of,
 };
 use crate::objects::Objects;
-use ctl_tree::checked::{Ty, Var};
+use ctl_program::types::{Ty, Var};
 use fin_lists::{FinLists, Layer, MasterNo};
 use std::alloc::{AllocError, Global};
 use std::marker::Model;

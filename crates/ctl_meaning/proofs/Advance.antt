@@ -2,21 +2,26 @@
 use Rattle.std.specs.Prelude.{◌≡◌, ℕ, zero, suc, ◌+◌, ◌≤◌, List, [], ◌∷◌, ◌++◌, length, Option, Some, None, Bool, true, false, ◌||◌, nat_lt, if◌then◌else◌}
 use Rattle.std.proofs.Common.{refl, sym, ap, ◌∙◌, subst, arith, append_assoc, append-nil, length-append}
 use Rattle.std.proofs.lemmas.Bool.{ltb-true}
+use Rattle.ctl_program.specs.declared.types.Ty.{Ty}
+use Rattle.ctl_program.specs.declared.statement.Stmt.{Stmt}
+use Rattle.ctl_program.specs.declared.program.Checked.{Checked}
 use Rattle.ctl_tree.specs.declared.event.Event.{Event}
 use Rattle.ctl_tree.specs.declared.ending.Stop.{Stop}
 use Rattle.ctl_tree.specs.declared.event.Cause.{Cause}
-use Rattle.ctl_meaning.specs.World.{Pick, Log, World, empty_log, empty_world, Object, Collection, Member}
-use Rattle.ctl_meaning.specs.Changes.{object_at, Group, candidates_of}
+use Rattle.ctl_meaning.specs.World.{Pick, Log, World, empty_log, empty_world, Object, Collection, Member, Slot}
+use Rattle.ctl_meaning.specs.Changes.{object_at}
+use Rattle.ctl_meaning.specs.Members.{Group, candidates_of}
 use Rattle.ctl_meaning.specs.Choice.{Ask, AreAnswers, accepted, noted, picked}
 use Rattle.ctl_meaning.specs.Outcome.{Result, Goes, Leaves, ByExit, ByReturn, ByRaise, Out, Gives, Stops, Cut, Act, Done, add, bind, given, then_always, stop, counted, spend, look, change, tell, show, after_pick, answered, choose, leave_by, nothing, done, ticked, on_goes, either, on_some, ◌>>=◌, ◌>>◌}
-use Rattle.ctl_meaning.specs.Types.{Tables}
-use Rattle.ctl_meaning.specs.Names.{Execution, OfSubprogram, OfAllocator, Call, Tools, existing, must_exist, gone}
+use Rattle.ctl_meaning.specs.Types.{Tables, tables_of}
+use Rattle.ctl_meaning.specs.Names.{Execution, OfSubprogram, OfAllocator, Call, Default, Tools, existing, must_exist, gone}
 use Rattle.ctl_meaning.specs.Finalization.{finalize_begun, finalize_object, finalize_one, finalize_members, finalize_group}
 use Rattle.ctl_meaning.specs.Allocation.{is_new, set_of, join_collection}
-use Rattle.ctl_meaning.specs.Statements.{turned, turns, loop, one_turn, while}
-use Rattle.ctl_meaning.specs.Run.{completed, execute, execution, tools, run_tables}
+use Rattle.ctl_meaning.specs.Statements.{turned, turns, loop, one_turn, while, exec}
+use Rattle.ctl_meaning.specs.Run.{meaning_of, completed, execute, execution, tools_with, tools, run_meaning, run}
 use Rattle.ctl_meaning.specs.Advance.{Grows, Advances, Advancing}
-use Rattle.ctl_meaning.proofs.Induction.{Closed, k_run_number, k_allocate}
+use Rattle.ctl_meaning.proofs.Relation.{Closed}
+use Rattle.ctl_meaning.proofs.Bodies.{good_run_number, good_allocate, good_exec}
 
 -- Logs -----------------------------------------------------------------------------
 
@@ -140,9 +145,9 @@ module _ (ask : Ask) where
   found_set None h x = h
   found_set (Some o) h x = x o
 
-  pub enlists : (t : Tables) (n : ℕ) → Advancing ask (join_collection t n)
+  pub enlists : (n : ℕ) → Advancing ask (join_collection n)
   unfolding join_collection existing gone
-  enlists t n = looks (λ w. found (object_at n w) (stopped _) (λ o. looks (λ w1. found_set (set_of o.origin w1) (stopped _) (λ c. choice (is_new o) (changes _) (stopped _)))))
+  enlists n = looks (λ w. found (object_at n w) (stopped _) (λ o. looks (λ w1. found_set (set_of o.origin w1) (stopped _) (λ c. choice (is_new o) (changes _) (stopped _)))))
 
   turns_on : (m : Act Done) → Advancing ask m → (r : Result Bool) → Advancing ask (turned m r)
   unfolding turned leave_by nothing
@@ -184,19 +189,19 @@ module _ (ask : Ask) where
   unfolding finalize_object must_exist existing gone nothing
   object_finishes k cause m h = then_goes (then_goes (looks (λ w. found (object_at m.number w) (stopped _) (λ o. gives _))) (changes _)) h
 
-  one_finishes : (t : Tables) (call : Call) (cause : Cause) → ((m : Member) → Advancing ask (finalize_begun (record { ask = ask; tables = t; call = call }) cause m)) → (f : Bool → Act Bool) → ((b : Bool) → Advancing ask (f b)) → (b : Bool) (ms : List Member) → Advancing ask (finalize_one (record { ask = ask; tables = t; call = call }) cause f b ms)
+  one_finishes : (t : Tables) (call : Call) (default : Default) (cause : Cause) → ((m : Member) → Advancing ask (finalize_begun (record { ask = ask; tables = t; call = call; default = default }) cause m)) → (f : Bool → Act Bool) → ((b : Bool) → Advancing ask (f b)) → (b : Bool) (ms : List Member) → Advancing ask (finalize_one (record { ask = ask; tables = t; call = call; default = default }) cause f b ms)
   unfolding finalize_one choose done ◌>>=◌
-  one_finishes t call cause h f x b [] = gives _
-  one_finishes t call cause h f x b (m ∷ ms) = sequence (counts _ (answers _)) (goes_on (λ i. sequence (object_finishes _ cause _ (h _)) (goes_on (λ d. x (b || d)))))
+  one_finishes t call default cause h f x b [] = gives _
+  one_finishes t call default cause h f x b (m ∷ ms) = sequence (counts _ (answers _)) (goes_on (λ i. sequence (object_finishes _ cause _ (h _)) (goes_on (λ d. x (b || d)))))
 
-  pub members_at : (t : Tables) (call : Call) (cause : Cause) (g : Group) → ((m : Member) → Advancing ask (finalize_begun (record { ask = ask; tables = t; call = call }) cause m)) → (n : ℕ) (b : Bool) (c : ℕ) (l : Log) (w : World) → Advances ask c l (finalize_members (record { ask = ask; tables = t; call = call }) cause g n b c l w)
+  pub members_at : (t : Tables) (call : Call) (default : Default) (cause : Cause) (g : Group) → ((m : Member) → Advancing ask (finalize_begun (record { ask = ask; tables = t; call = call; default = default }) cause m)) → (n : ℕ) (b : Bool) (c : ℕ) (l : Log) (w : World) → Advances ask c l (finalize_members (record { ask = ask; tables = t; call = call; default = default }) cause g n b c l w)
   unfolding finalize_members
-  members_at t call cause g h zero b c l w = record { falls = omega arith; grows = grows_same ask l }
-  members_at t call cause g h (suc n) b c l w = (one_finishes t call cause h _ (λ d. record { from = members_at t call cause g h n d }) b (candidates_of g w)).from c l w
+  members_at t call default cause g h zero b c l w = record { falls = omega arith; grows = grows_same ask l }
+  members_at t call default cause g h (suc n) b c l w = (one_finishes t call default cause h _ (λ d. record { from = members_at t call default cause g h n d }) b (candidates_of t g w)).from c l w
 
-  pub finishes : (t : Tables) (call : Call) (cause : Cause) (g : Group) → ((m : Member) → Advancing ask (finalize_begun (record { ask = ask; tables = t; call = call }) cause m)) → Advancing ask (finalize_group (record { ask = ask; tables = t; call = call }) cause g)
+  pub finishes : (t : Tables) (call : Call) (default : Default) (cause : Cause) (g : Group) → ((m : Member) → Advancing ask (finalize_begun (record { ask = ask; tables = t; call = call; default = default }) cause m)) → Advancing ask (finalize_group (record { ask = ask; tables = t; call = call; default = default }) cause g)
   unfolding finalize_group
-  finishes t call cause g h = record { from = λ c l w. members_at t call cause g h _ false c l w }
+  finishes t call default cause g h = record { from = λ c l w. members_at t call default cause g h _ false c l w }
 
   pub closed : (t : Tables) → Closed t ask ask (λ A m n. Advancing {A = A} ask m)
   closed t = record {
@@ -209,25 +214,46 @@ module _ (ask : Ask) where
     changes = λ {f} e. changes f;
     shows = shows;
     answers = answers;
-    finishes = λ call spare cause g h. finishes t call cause g h;
+    finishes = λ call spare default fallback cause g h. finishes t call default cause g h;
     repeats = λ {m} {n} h. repeats (one_turns h);
     repeats_while = λ {test} {check} {m} {n} h x. repeats (while_turns h x);
   }
 
   -- Executions at any depth -------------------------------------------------------------
 
-  pub completes : (t : Tables) (i : ℕ) → Advancing ask (completed t i)
+  pub completes : (i : ℕ) → Advancing ask (completed i)
   unfolding completed done
-  completes t i = then_goes (enlists t i) (gives _)
+  completes i = then_goes (enlists i) (gives _)
 
-  pub executes : (t : Tables) (n : ℕ) (x : Execution) (env : List ℕ) → Advancing ask (execution ask t n x env)
-  unfolding execution execute ticked done ◌>>=◌
-  executes t zero x env = record { from = λ c l w. record { falls = omega arith; grows = grows_same ask l } }
-  executes t (suc n) (OfSubprogram f ss) env = record { from = λ c l w. (spends (counts 1 (k_run_number t ask ask (execution ask t n) (execution ask t n) (λ A m o. Advancing {A = A} ask m) (closed t) (executes t n) env ss f))).from c l w }
-  executes t (suc n) (OfAllocator a ty h v) env =
-      record { from = λ c l w. (spends (sequence (k_allocate t ask ask (execution ask t n) (execution ask t n) (λ A m o. Advancing {A = A} ask m) (closed t) (executes t n) env a ty h v) (goes_on (completes t)))).from c l w }
+  takes_one : (call : Call) (env : List ℕ) (access : ℕ) (ty : Ty) {m : Act (Option (List ℕ) × Option (List ℕ))} → ((h v : Option (List ℕ)) → Advancing ask (call (OfAllocator access ty h v) env)) → Advancing ask m → Advancing ask (spend (m >>= (λ p. call (OfAllocator access ty p.0 p.1) env)))
+  unfolding ◌>>=◌
+  takes_one call env access ty h x = spends (sequence x (goes_on (λ p. h p.0 p.1)))
 
-  -- a whole run
-  pub runs : (t : Tables) (main clock : ℕ) → Advances ask clock empty_log (run_tables t main ask clock)
-  unfolding run_tables tools
-  runs t main clock = (k_run_number t ask ask (execution ask t (suc clock)) (execution ask t (suc clock)) (λ A m o. Advancing {A = A} ask m) (closed t) (executes t (suc clock)) [] [] main).from clock empty_log empty_world
+  module _ (program : Checked) where
+    abbrev Rel : (A : Type 0) → Act A → Act A → Type 0
+    Rel = λ A m n. Advancing {A = A} ask m
+
+    pub executes : (n : ℕ) (x : Execution) (env : List ℕ) → Advancing ask (execution ask (meaning_of program) n x env)
+    unfolding execution execute ticked ◌>>=◌
+    executes zero x env = record { from = λ c l w. record { falls = omega arith; grows = grows_same ask l } }
+    executes (suc n) (OfSubprogram f ss) env =
+        let call = execution ask (meaning_of program) n in
+        record { from = λ c l w. (spends (counts 1 (good_run_number program ask ask call call Rel (closed (tables_of program)) (λ g xs e. executes n (OfSubprogram g xs) e) (λ e a ty m m1 h. takes_one call e a ty (λ x y. executes n (OfAllocator a ty x y) e) h) env ss f))).from c l w }
+    executes (suc n) (OfAllocator a ty h v) env =
+        let call = execution ask (meaning_of program) n in
+        record { from = λ c l w. (sequence (good_allocate program ask ask call call Rel (closed (tables_of program)) (λ g xs e. executes n (OfSubprogram g xs) e) (λ e b uy m m1 i. takes_one call e b uy (λ x y. executes n (OfAllocator b uy x y) e) i) env a ty h v) (goes_on completes)).from c l w }
+
+    pub calls : (n : ℕ) (f : ℕ) (ss : List Slot) (env : List ℕ) → Advancing ask (execution ask (meaning_of program) n (OfSubprogram f ss) env)
+    calls n f ss env = executes n (OfSubprogram f ss) env
+
+    pub allocates : (n : ℕ) (env : List ℕ) (access : ℕ) (ty : Ty) (m m1 : Act (Option (List ℕ) × Option (List ℕ))) → Advancing ask m → Advancing ask (spend (m >>= (λ p. execution ask (meaning_of program) n (OfAllocator access ty p.0 p.1) env)))
+    allocates n env access ty m m1 h = takes_one (execution ask (meaning_of program) n) env access ty (λ x y. executes n (OfAllocator access ty x y) env) h
+
+    -- a statement, and a whole run
+    pub does : (n : ℕ) (s : Stmt) (env : List ℕ) (caught : ℕ) → Advancing ask (exec s (tools_with ask (meaning_of program) (execution ask (meaning_of program) n)) env caught)
+    does n s env caught = good_exec program ask ask (execution ask (meaning_of program) n) (execution ask (meaning_of program) n) Rel (closed (tables_of program)) (calls n) (allocates n) s env caught
+
+    pub runs : (clock : ℕ) → Advances ask clock empty_log (run program ask clock)
+    unfolding run run_meaning tools
+    runs clock =
+        (good_run_number program ask ask (execution ask (meaning_of program) (suc clock)) (execution ask (meaning_of program) (suc clock)) Rel (closed (tables_of program)) (calls (suc clock)) (allocates (suc clock)) [] [] program.main).from clock empty_log empty_world

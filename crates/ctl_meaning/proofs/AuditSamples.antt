@@ -4,35 +4,35 @@ use Rattle.std.proofs.Common.{refl}
 use Rattle.ctl_tree.specs.declared.event.Event.{Event}
 use Rattle.ctl_meaning.specs.Audit.{NotLive, OutOfOrder, LeftOpen, flaw_of, opened_audit}
 use Rattle.ctl_meaning.specs.Lists.{opened_lists}
-use Rattle.ctl_meaning.proofs.Build.{pt, live, finalized, print, newline, of_master, scope, assigned}
+use Rattle.ctl_meaning.proofs.worked.Build.{part, live, finalized, print, newline, of_master, scope, assigned}
 
 abbrev first : Event
-first = live (pt 1 []) (of_master 2)
+first = live (part 1 []) (of_master 2)
 
 abbrev second : Event
-second = live (pt 2 []) (of_master 2)
+second = live (part 2 []) (of_master 2)
 
 -- in reverse order, with what they print
-orderly : flaw_of (first ∷ second ∷ finalized (pt 2 []) scope ∷ print (codes "F") ∷ newline ∷ finalized (pt 1 []) scope ∷ []) true ≡ None
+orderly : flaw_of (first ∷ second ∷ finalized (part 2 []) scope ∷ print (codes "F") ∷ newline ∷ finalized (part 1 []) scope ∷ []) true ≡ None
 unfolding opened_audit opened_lists
 orderly = refl
 
 -- the second one is never closed
-left_open : flaw_of (first ∷ second ∷ print (codes "F") ∷ newline ∷ finalized (pt 1 []) scope ∷ []) true ≡ Some (record { kind = LeftOpen; index = 1 })
+left_open : flaw_of (first ∷ second ∷ print (codes "F") ∷ newline ∷ finalized (part 1 []) scope ∷ []) true ≡ Some (record { kind = LeftOpen; index = 1 })
 unfolding opened_audit opened_lists
 left_open = refl
 
 -- the first one is closed before the second
-out_of_order : flaw_of (first ∷ second ∷ finalized (pt 1 []) scope ∷ finalized (pt 2 []) scope ∷ []) true ≡ Some (record { kind = OutOfOrder; index = 3 })
+out_of_order : flaw_of (first ∷ second ∷ finalized (part 1 []) scope ∷ finalized (part 2 []) scope ∷ []) true ≡ Some (record { kind = OutOfOrder; index = 3 })
 unfolding opened_audit opened_lists
 out_of_order = refl
 
 -- one is closed twice
-closed_twice : flaw_of (first ∷ second ∷ finalized (pt 2 []) scope ∷ finalized (pt 2 []) scope ∷ []) true ≡ Some (record { kind = NotLive; index = 3 })
+closed_twice : flaw_of (first ∷ second ∷ finalized (part 2 []) scope ∷ finalized (part 2 []) scope ∷ []) true ≡ Some (record { kind = NotLive; index = 3 })
 unfolding opened_audit opened_lists
 closed_twice = refl
 
 -- the finalization of an assignment's target closes nothing
-assigned_first : flaw_of (first ∷ finalized (pt 1 []) assigned ∷ finalized (pt 1 []) scope ∷ []) true ≡ None
+assigned_first : flaw_of (first ∷ finalized (part 1 []) assigned ∷ finalized (part 1 []) scope ∷ []) true ≡ None
 unfolding opened_audit opened_lists
 assigned_first = refl

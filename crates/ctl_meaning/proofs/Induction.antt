@@ -1,94 +1,60 @@
 -- One induction over the whole meaning: what each elementary act keeps, two runs of the same program keep.
-use Rattle.std.specs.Prelude.{ℕ, zero, suc, List, [], ◌∷◌, ◌++◌, Option, Some, None, Bool, true, false, ◌||◌, ℤ}
-use Rattle.ctl_tree.specs.declared.checked.Ty.{Ty}
-use Rattle.ctl_tree.specs.declared.checked.Ty.TheVariants.{Integer, Count, Boolean, Address, Handle, Access, Record}
-use Rattle.ctl_tree.specs.declared.checked.Expr.{Expr, Constant, Read', Call', Unary', Chain', Short', Convert', New', Subpool', Discriminant', Row_of-Expr, end_of-Expr, more_of-Expr, Row_of-Operand, end_of-Operand, more_of-Operand, Row_of-Actual, end_of-Actual, more_of-Actual, Held-Expr-New-2, None', Some'}
-use Rattle.ctl_tree.specs.declared.checked.Expr as E
-use Rattle.ctl_tree.specs.declared.checked.Head.{Head, Variable, Given'}
-use Rattle.ctl_tree.specs.declared.checked.Name.{Name}
-use Rattle.ctl_tree.specs.declared.checked.Var.{Var}
-use Rattle.ctl_tree.specs.declared.checked.Actual.{Actual, ByValue, Part', Copied'}
-use Rattle.ctl_tree.specs.declared.checked.Shortcut.{Shortcut}
-use Rattle.ctl_tree.specs.declared.checked.SubpoolFunction.{SubpoolFunction}
-use Rattle.ctl_tree.specs.declared.checked.SubpoolFunction.TheVariants.{Mark, Default}
-use Rattle.ctl_tree.specs.declared.checked.Step.{Step}
-use Rattle.ctl_tree.specs.declared.checked.Step.TheVariants.{Component, Dereference, Narrow}
-use Rattle.ctl_tree.specs.declared.checked.Piece.{Piece}
-use Rattle.ctl_tree.specs.declared.checked.Piece.TheVariants.{Text, IntegerImage, BooleanImage}
-use Rattle.ctl_tree.specs.declared.checked.Operation.{Operation}
-use Rattle.ctl_tree.specs.declared.checked.Association.{Association}
-use Rattle.ctl_tree.specs.declared.checked.AccessType.{AccessType}
-use Rattle.ctl_tree.specs.declared.checked.Root.{Root}
-use Rattle.ctl_tree.specs.declared.checked.Root.TheVariants.{Untagged, Controlled, BlockPool, MarkPool}
-use Rattle.ctl_tree.specs.declared.checked.Item.{Item}
-use Rattle.ctl_tree.specs.declared.checked.Item.TheVariants.{Collections, Object as ObjectItem, Pool as PoolItem, Silent}
-use Rattle.ctl_tree.specs.declared.checked.Stmt.{Stmt, Null, Assign, AssignRecord, Call, Nothing, Dispatch, LibraryAllocate, LibraryDeallocate, Put, PutLine, NewLine, Exit, Return, Raise, If', Loop', While', For', Block', Free, Release, Row_of-Stmt, end_of-Stmt, more_of-Stmt, Row_of-Arm, end_of-Arm, more_of-Arm}
-use Rattle.ctl_tree.specs.declared.checked.Master.{Master, Master', Row_of-Handler, end_of-Handler, more_of-Handler}
-use Rattle.ctl_tree.specs.declared.ending.Stop.{Stop}
+use Rattle.std.proofs.Common.{ℕ, zero, suc, List, [], ◌∷◌, ◌++◌, Option, Some, None, Bool, true, false, ◌||◌, ℤ}
+use Rattle.ctl_program.specs.declared.types.Ty.{Ty}
+use Rattle.ctl_program.specs.declared.types.Ty.TheVariants.{Integer, Count, Boolean, Address, Handle, Access, Record}
+use Rattle.ctl_program.specs.declared.types.Var.{Var}
+use Rattle.ctl_program.specs.declared.types.AccessType.{AccessType}
+use Rattle.ctl_program.specs.declared.types.Root.{Root}
+use Rattle.ctl_program.specs.declared.types.Root.TheVariants.{Untagged, Controlled, BlockPool, MarkPool}
+use Rattle.ctl_program.specs.declared.operators.CopyStart as CopyStartOf
+use Rattle.ctl_program.specs.declared.operators.CopyStart.{CopyStart}
+use Rattle.ctl_program.specs.declared.operators.Shortcut.{Shortcut}
+use Rattle.ctl_program.specs.declared.operators.SubpoolFunction.{SubpoolFunction}
+use Rattle.ctl_program.specs.declared.operators.SubpoolFunction.TheVariants.{Mark, Default as DefaultOf}
+use Rattle.ctl_program.specs.declared.operators.Operation.{Operation}
+use Rattle.ctl_program.specs.declared.operators.Direction.{Direction}
+use Rattle.ctl_program.specs.declared.operators.Direction.TheVariants.{Upward, Downward}
+use Rattle.ctl_program.specs.declared.operators.SubprogramKind.{SubprogramKind}
+use Rattle.ctl_program.specs.declared.operators.SubprogramKind.TheVariants.{Procedure, Function}
+use Rattle.ctl_program.specs.declared.operators.UnaryOp.{UnaryOp}
+use Rattle.ctl_program.specs.declared.operators.BinaryOp.{BinaryOp}
+use Rattle.ctl_program.specs.declared.expression.Actual.TheOpen.{Actual-F, Expr-F, Name-F}
+use Rattle.ctl_program.specs.declared.expression.Step.{Step}
+use Rattle.ctl_program.specs.declared.expression.Step.TheVariants.{Component, Dereference, Narrow}
+use Rattle.ctl_program.specs.declared.statement.Choices.{Choices}
 use Rattle.ctl_tree.specs.declared.event.Event.{Event}
 use Rattle.ctl_tree.specs.declared.event.Cause.{Cause}
 use Rattle.ctl_tree.specs.declared.event.Cause as CauseOf
-use Rattle.ctl_meaning.specs.World.{Member, Layer, Single, Sets, Origin, Declared, Allocated, Place, Standard, InBlock, InSubpool, Object, Slot, Pools, World, BlockPool as BlockPoolRecord, MarkPool as MarkPoolRecord}
+use Rattle.ctl_meaning.specs.World.{Member, Layer, Single, Sets, Origin, Declared, Allocated, Place, Standard, InBlock, InSubpool, Object, Slot, BlockPool as BlockPoolRecord, MarkPool as MarkPoolRecord}
 use Rattle.ctl_meaning.specs.Lists.{pull_item, pull_rest}
-use Rattle.ctl_meaning.specs.Changes.{object_at, create, create_at, write_cells, forget, open_master, close_master, add_layer, take_layer, set_slot, add_collection, start_collections, begin_finalization, end_finalization, Group, in_pools, close_pool_at, empty_subpool}
+use Rattle.ctl_meaning.specs.Changes.{object_at}
+use Rattle.ctl_meaning.specs.Members.{Group}
 use Rattle.ctl_meaning.specs.Choice.{Ask}
-use Rattle.ctl_meaning.specs.Outcome.{Way, ByExit, ByReturn, ByRaise, Result, Goes, Leaves, Act, Done, given, then_always, on_goes, ◌>>=◌, ◌>>◌, done, nothing, leave_by, raise, stop, counted, ticked, spend, look, change, show, answered, choose, told, attempt, Tried, Fine, Raised, when, either, on_some}
+use Rattle.ctl_meaning.specs.Outcome.{Way, ByExit, ByReturn, ByRaise, Result, Goes, Leaves, Act, Done, on_goes, ◌>>=◌, ◌>>◌, done, nothing, leave_by, raise, ticked, spend, choose, told, attempt, Tried, Fine, Raised, when, either, on_some}
 use Rattle.ctl_meaning.specs.Types.{Tables, Placed, depth, of_record}
-use Rattle.ctl_meaning.specs.Names.{Execution, OfSubprogram, OfAllocator, Call as Caller, Tools, Found, InObject, InCopy, Alone, gone, existing, must_exist, read_part, write_part, read_found, write_found, find_var, dereferenced, narrowed, one_step, walk, or_constraint_error}
+use Rattle.ctl_meaning.specs.Names.{OfSubprogram, OfAllocator, Call as Caller, Default, Tools, Found, InObject, InCopy, Alone, gone, existing, must_exist, read_part, write_part, read_found, write_found, find_var, dereferenced, narrowed, one_step, walk, or_constraint_error}
 use Rattle.ctl_meaning.specs.Marks.{with_mark_pool, mark, default_subpool, subpool_function, discriminant}
-use Rattle.ctl_meaning.specs.Expressions.{Passed, no_actuals, copied, copy_back, call_with, var_part, eval, eval_head, eval_operands, eval_others, eval_actuals, eval_actual, eval_name, eval_held, eval_option}
+use Rattle.ctl_meaning.specs.Expressions.{Passed, no_actuals, with_formal, bound, by_reference, copied, by_copy, copy_back, call_with, Valued, Naming, Applied, Supplied, pass_each, apply_each, join_each, var_part, if_given, operands, allocator, eval_step, operand_step, name_step, actual_step}
 use Rattle.ctl_meaning.specs.Finalization.{Spot, whole, component_at, no_component, with_home, call_operation, Chosen, Every, These, after_finalize, own_finalize, in_any_order, parts_to_finalize, finalize_part, finalize, finalize_begun, finalize_object, finalize_if_controlled, finalize_failed, finalize_group}
 use Rattle.ctl_meaning.specs.Adjustment.{Birth, lives, lives_if, Adjusted, unadjusted, adjust_each, after_adjust, own_adjust, controlled_parts, adjust_part, clean_up_copy, adjusted, adjust_record, adjust}
 use Rattle.ctl_meaning.specs.Initialization.{paths_within, paths_of, Begun, begun_with, begin_next, begin_each, own_initialize, unless_failed, failed_with, clean_up, begun, begin_component, parts_to_begin, initialize_part, initialize, fill}
 use Rattle.ctl_meaning.specs.Storage.{with_block_pool, library_allocate, library_deallocate, tested, user_allocate, block_storage, give_back, room_in, subpool_storage, dropped, release_from, release, program_error_if, unchecked_deallocate_subpool, release_each, shut_pool, close_pool, mark_storage, storage_in, storage}
 use Rattle.ctl_meaning.specs.Allocation.{with_set, created_or_gone, created, allocate_for, allocate, returns_storage, freed, finalize_unfinalized, free_object, free_value, free}
-use Rattle.ctl_meaning.specs.Masters.{finalize_declared, finalize_sets, finalize_layer, leave_layers, left, leave, in_master, declare, gather, gather_each, discriminants, open_pool, pool_or_closed, declare_pool, elaborate_item, elaborate}
-use Rattle.ctl_meaning.specs.Statements.{pass_each, call_statement, dispatch, eval_piece, join_pieces, eval_text, source_of, spot_of, overwrite, assign_record, leaving, turned, loop, one_turn, while, for_turns, for, set_loop, handled, scalar, exec, exec_all, exec_arms, exec_master, handle}
-use Rattle.ctl_meaning.specs.Run.{returned, run_subprogram, run_number}
+use Rattle.ctl_meaning.specs.Masters.{finalize_declared, finalize_sets, finalize_layer, leave_layers, left, leave, in_master, declare, gather, gather_each, discriminants, open_pool, pool_or_closed, declare_pool, Elaborating, collections, object, pool, silent, elaborate}
+use Rattle.ctl_meaning.specs.Statements as S
+use Rattle.ctl_meaning.specs.Statements.{dispatch, join_pieces, eval_text, spot_of, overwrite, assign_record, leaving, turned, loop, one_turn, while, for_turns, for, set_loop, handled, Doing, Guarding, Body, do_each, do_first, handle, scalar}
+use Rattle.ctl_meaning.specs.Run.{Routine, returned, run_routine}
+use Rattle.ctl_meaning.proofs.Relation.{creates, creates_at, writes, forgets, opens, closes, layers, takes, sets, gathers, starts, begins, ends, stores, shuts, empties, Closed, Each, IfSome}
 
--- all changes of the world but a member's joining
-pub data Edit : (World → World) → Type 0 where
-  creates : (ty : Ty) (cells : List ℕ) (origin : Origin) → Edit (create ty cells origin)
-  creates_at : (ty : Ty) (cells : List ℕ) (set : ℕ) (place : Place) → Edit (create_at ty cells set place)
-  writes : (n offset : ℕ) (v : List ℕ) → Edit (write_cells n offset v)
-  forgets : (n : ℕ) → Edit (forget n)
-  opens : (display : List ℕ) (slots : List Slot) → Edit (open_master display slots)
-  closes : (n : ℕ) → Edit (close_master n)
-  layers : (n : ℕ) (x : Layer) → Edit (add_layer n x)
-  takes : (n : ℕ) → Edit (take_layer n)
-  sets : (n i : ℕ) (x : Slot) → Edit (set_slot n i x)
-  gathers : (n i : ℕ) (x : Slot) → Edit (add_collection n i x)
-  starts : (collections : List ℕ) → Edit (start_collections collections)
-  begins : (n : ℕ) → Edit (begin_finalization n)
-  ends : (n : ℕ) → Edit (end_finalization n)
-  stores : (f : Pools → Pools) → Edit (in_pools f)
-  shuts : (n : ℕ) → Edit (close_pool_at n)
-  empties : (n : ℕ) → Edit (empty_subpool n)
-
--- a relation of acts that is kept by everything that acts are made of
-pub record Closed (t : Tables) (ask other : Ask) (Rel : (A : Type 0) → Act A → Act A → Type 0) : Type 1 where
-  pub gives : {A : Type 0} (r : Result A) → Rel A (given r) (given r)
-  pub stops : {A : Type 0} (s : Stop) → Rel A (stop s) (stop s)
-  pub joins : {A B : Type 0} {m n : Act A} {f g : Result A → Act B} → Rel A m n → ((r : Result A) → Rel B (f r) (g r)) → Rel B (then_always m f) (then_always n g)
-  pub counts : {A : Type 0} (i : ℕ) {m n : Act A} → Rel A m n → Rel A (counted i m) (counted i n)
-  pub spends : {A : Type 0} {m n : Act A} → Rel A m n → Rel A (spend m) (spend n)
-  pub looks : {A : Type 0} {f g : World → Act A} → ((w : World) → Rel A (f w) (g w)) → Rel A (look f) (look g)
-  pub changes : {f : World → World} → Edit f → Rel Done (change f) (change f)
-  pub shows : (e : Event) → Rel Done (show e) (show e)
-  pub answers : (m : ℕ) → Rel ℕ (answered ask m) (answered other m)
-  pub repeats : {m n : Act Done} → Rel Done m n → Rel Done (loop (one_turn m)) (loop (one_turn n))
-  pub finishes : (call spare : Caller) (cause : Cause) (g : Group) → ((m : Member) → Rel Bool (finalize_begun (record { ask = ask; tables = t; call = call }) cause m) (finalize_begun (record { ask = other; tables = t; call = spare }) cause m)) → Rel Bool (finalize_group (record { ask = ask; tables = t; call = call }) cause g) (finalize_group (record { ask = other; tables = t; call = spare }) cause g)
-  pub repeats_while : {test check : Act (List ℕ)} {m n : Act Done} → Rel (List ℕ) test check → Rel Done m n → Rel Done (loop (while test m)) (loop (while check n))
-
-module _ (t : Tables) (ask other : Ask) (call spare : Caller) (Rel : (A : Type 0) → Act A → Act A → Type 0) (closed : Closed t ask other Rel) where
+module _ (t : Tables) (ask other : Ask) (call spare : Caller) (default fallback : Default) (Rel : (A : Type 0) → Act A → Act A → Type 0) (closed : Closed t ask other Rel) where
   abbrev Same : {A : Type 0} → Act A → Act A → Type 0
   Same {A = A} m n = Rel A m n
 
   abbrev k : Tools
-  k = record { ask = ask; tables = t; call = call }
+  k = record { ask = ask; tables = t; call = call; default = default }
 
   abbrev j : Tools
-  j = record { ask = other; tables = t; call = spare }
+  j = record { ask = other; tables = t; call = spare; default = fallback }
 
   -- Combinators ---------------------------------------------------------------
 
@@ -223,16 +189,30 @@ module _ (t : Tables) (ask other : Ask) (call spare : Caller) (Rel : (A : Type 0
   k_subpool_function : (x : SubpoolFunction) (n : ℕ) → Same (subpool_function x n) (subpool_function x n)
   unfolding subpool_function mark
   k_subpool_function Mark n = k_seq (k_with_mark_pool n (λ p. k_either _ (closed.looks (λ w. k_then (closed.changes (stores _)) (k_done _))) (k_raise _))) (λ s. k_done _)
-  k_subpool_function Default n = k_seq (k_default_subpool n) (λ s. k_done _)
+  k_subpool_function DefaultOf n = k_seq (k_default_subpool n) (λ s. k_done _)
 
   k_discriminant : (n i : ℕ) → Same (discriminant n i) (discriminant n i)
   unfolding discriminant
   k_discriminant n i = closed.looks (λ w. k_on_some _ (k_on_some _ k_gone (λ p. k_done _)) (λ p. k_done _))
 
-  k_copied : (n : ℕ) (b : Bool) (f : Found) → Same (copied n b f) (copied n b f)
+  k_copied : (n : ℕ) (b : CopyStart) (f : Found) → Same (copied n b f) (copied n b f)
   unfolding copied
-  k_copied n true f = k_read_found n f
-  k_copied n false f = k_done _
+  k_copied n CopyStartOf.TheVariants.Actual f = k_read_found n f
+  k_copied n CopyStartOf.TheVariants.Beginning f = k_done _
+
+  k_bound : (f : Found) → Same (bound f) (bound f)
+  unfolding bound
+  k_bound (InObject o x path) = k_done _
+  k_bound (InCopy m i x) = closed.looks (λ w. k_done _)
+  k_bound (Alone v) = k_done _
+
+  pub k_by_reference : (f : Found) → Same (by_reference f) (by_reference f)
+  unfolding by_reference
+  k_by_reference f = k_seq (k_bound f) (λ x. k_done _)
+
+  pub k_by_copy : (n : ℕ) (b : CopyStart) (f : Found) → Same (by_copy n b f) (by_copy n b f)
+  unfolding by_copy
+  k_by_copy n b f = k_seq (k_copied n b f) (λ v. k_done _)
 
   k_copy_back : (ss : List Slot) (bs : List (ℕ × Found)) → Same (copy_back ss bs) (copy_back ss bs)
   unfolding copy_back
@@ -254,544 +234,703 @@ module _ (t : Tables) (ask other : Ask) (call spare : Caller) (Rel : (A : Type 0
   k_walk [] f = k_done f
   k_walk (s ∷ ss) f = k_seq (k_ticked (k_one_step s f)) (λ g. k_walk ss g)
 
-  module _ (calls : (x : Execution) (env : List ℕ) → Same (call x env) (spare x env)) where
+  -- What holds of the parts of a program ----------------------------------------------
+
+  abbrev pub GoodValue : Valued → Type 0
+  GoodValue e = (env : List ℕ) → Same (e k env) (e j env)
+
+  abbrev pub GoodName : Naming → Type 0
+  GoodName n = (env : List ℕ) → Same (n k env) (n j env)
+
+  abbrev pub GoodOperand : Applied → Type 0
+  GoodOperand o = (env v : List ℕ) → Same (o k env v) (o j env v)
+
+  abbrev pub GoodActual : Supplied → Type 0
+  GoodActual a = ((env : List ℕ) → Same (a.source k env) (a.source j env)) × ((f : Found) → Same (a.taken k f) (a.taken j f))
+
+  -- a subprogram's body, and an allocator with what it takes from the clock
+  abbrev pub Calls : Type 0
+  Calls = (f : ℕ) (ss : List Slot) (env : List ℕ) → Same (call (OfSubprogram f ss) env) (spare (OfSubprogram f ss) env)
+
+  abbrev pub Allocates : Type 0
+  Allocates = (env : List ℕ) (access : ℕ) (ty : Ty) (m n : Act (Option (List ℕ) × Option (List ℕ))) → Same m n → Same (spend (m >>= (λ p. call (OfAllocator access ty p.0 p.1) env))) (spend (n >>= (λ p. spare (OfAllocator access ty p.0 p.1) env)))
+
+  abbrev pub Starts : Type 0
+  Starts = (u position : ℕ) (env : List ℕ) → Same (default u position env) (fallback u position env)
+
+  module _ (calls : Calls) (allocates : Allocates) where
     -- Expressions ---------------------------------------------------------------
 
     k_call_with : (env : List ℕ) (f : ℕ) (p : Passed) → Same (call_with k env f p) (call_with j env f p)
     unfolding call_with
-    k_call_with env f p = k_seq (calls (OfSubprogram f p.slots) env) (λ r. k_then (k_copy_back r.slots p.back) (k_done r))
+    k_call_with env f p = k_seq (calls f p.slots env) (λ r. k_then (k_copy_back r.slots p.back) (k_done r))
 
     k_var_part : (env : List ℕ) (v : Var) → Same (var_part env v) (var_part env v)
     unfolding var_part
     k_var_part env v = k_ticked (k_find_var env v)
 
-    mutual
-      unfolding eval
-
-      k_eval : (env : List ℕ) (e : Expr) → Same (eval k env e) (eval j env e)
-      k_eval env (Constant n) = k_ticked (k_done _)
-      k_eval env (Read' head steps ty) = k_ticked (k_seq (k_seq (k_head env head) (k_walk steps.items)) (λ f. k_read_found _ f))
-      k_eval env (Call' f s row) = k_ticked (k_seq (k_seq (k_actuals env row no_actuals) (λ p. k_call_with env f p)) (λ r. k_done _))
-      k_eval env (Unary' op ty p e) = k_ticked (k_seq (k_eval env e) (λ v. k_or_constraint_error _))
-      k_eval env (Chain' p e s row) = k_seq (k_eval env e) (λ v. k_operands env row v)
-      k_eval env (Short' op p e s row) = k_seq (k_eval env e) (λ v. k_others env op row v)
-      k_eval env (Convert' ty p e) = k_ticked (k_seq (k_eval env e) (λ v. k_or_constraint_error _))
-      k_eval env (E.Access v) = k_ticked (k_seq (k_var_part env v) (λ f. k_done _))
-      k_eval env (New' access ty handle value) = k_ticked (k_seq (calls (OfAllocator access ty handle value) env) (λ r. k_done _))
-      k_eval env (Subpool' which p head steps) = k_ticked (k_seq (k_seq (k_head env head) (k_walk steps.items)) (λ f. k_subpool_function which _))
-      k_eval env (Discriminant' p head steps n) = k_ticked (k_seq (k_seq (k_head env head) (k_walk steps.items)) (λ f. k_discriminant _ n))
-
-      k_head : (env : List ℕ) (h : Head) → Same (eval_head k env h) (eval_head j env h)
-      k_head env (Variable v) = k_var_part env v
-      k_head env (Given' p e) = k_seq (k_eval env e) (λ v. k_done _)
-
-      k_operands : (env : List ℕ) {m : _} (row : Row_of-Operand m) (v : List ℕ) → Same (eval_operands k env row v) (eval_operands j env row v)
-      k_operands env end_of-Operand v = k_done v
-      k_operands env (more_of-Operand op ty right rest) v = k_seq (k_ticked (k_seq (k_eval env right) (λ u. k_or_constraint_error _))) (λ u. k_operands env rest u)
-
-      k_others : (env : List ℕ) (op : Shortcut) {m : _} (row : Row_of-Expr m) (v : List ℕ) → Same (eval_others k env op row v) (eval_others j env op row v)
-      k_others env op end_of-Expr v = k_done v
-      k_others env op (more_of-Expr e rest) v = k_seq (k_ticked (k_either _ (k_done v) (k_eval env e))) (λ u. k_others env op rest u)
-
-      k_actuals : (env : List ℕ) {m : _} (row : Row_of-Actual m) (p : Passed) → Same (eval_actuals k env row p) (eval_actuals j env row p)
-      k_actuals env end_of-Actual p = k_done p
-      k_actuals env (more_of-Actual a rest) p = k_seq (k_ticked (k_actual env a p)) (λ q. k_actuals env rest q)
-
-      k_actual : (env : List ℕ) (a : Actual) (p : Passed) → Same (eval_actual k env a p) (eval_actual j env a p)
-      k_actual env (ByValue e) p = k_seq (k_eval env e) (λ v. k_done _)
-      k_actual env (Part' head steps) p = k_ticked (k_seq (k_seq (k_head env head) (k_walk steps.items)) (λ f. k_done _))
-      k_actual env (Copied' head steps ty filled) p = k_ticked (k_seq (k_seq (k_head env head) (k_walk steps.items)) (λ f. k_seq (k_copied _ filled f) (λ v. k_done _)))
-
-    k_name : (env : List ℕ) (n : Name) → Same (eval_name k env n) (eval_name j env n)
-    unfolding eval_name
-    k_name env n = k_seq (k_head env n.head) (λ f. k_walk n.steps.items f)
-
-    k_held : (env : List ℕ) (h : Held-Expr-New-2) → Same (eval_held k env h) (eval_held j env h)
-    unfolding eval_held
-    k_held env None' = k_done _
-    k_held env (Some' p e) = k_seq (k_eval env e) (λ v. k_done _)
-
-    k_option : (env : List ℕ) (o : Option Expr) → Same (eval_option k env o) (eval_option j env o)
-    unfolding eval_option
-    k_option env None = k_done _
-    k_option env (Some e) = k_seq (k_eval env e) (λ v. k_done _)
-
-    -- Finalize, Adjust, Initialize ------------------------------------------------
-
-    k_with_home : {A : Type 0} (n : ℕ) {f g : List ℕ → Act A} → ((d : List ℕ) → Same (f d) (g d)) → Same (with_home n f) (with_home n g)
-    unfolding with_home
-    k_with_home n h = k_existing n (λ o. closed.looks (λ w. h _))
-
-    k_call_operation : (s : Spot) (o : Option ℕ) (e : Event) → Same (call_operation k s o e) (call_operation j s o e)
-    unfolding call_operation
-    k_call_operation s None e = k_ticked (k_must_exist _)
-    k_call_operation s (Some f) e = k_with_home _ (λ d. k_then (k_then (closed.shows e) (calls _ d)) k_nothing)
-
-    k_after_finalize : (cause : Cause) (r : Tried Done) → Same (after_finalize cause r) (after_finalize cause r)
-    unfolding after_finalize
-    k_after_finalize CauseOf.TheVariants.Scope (Fine a) = k_done _
-    k_after_finalize CauseOf.TheVariants.Scope (Raised e) = k_done _
-    k_after_finalize CauseOf.TheVariants.Collection (Fine a) = k_done _
-    k_after_finalize CauseOf.TheVariants.Collection (Raised e) = k_done _
-    k_after_finalize CauseOf.TheVariants.Free (Fine a) = k_done _
-    k_after_finalize CauseOf.TheVariants.Free (Raised e) = k_done _
-    k_after_finalize CauseOf.TheVariants.Subpool (Fine a) = k_done _
-    k_after_finalize CauseOf.TheVariants.Subpool (Raised e) = k_done _
-    k_after_finalize CauseOf.TheVariants.Assign (Fine a) = k_done _
-    k_after_finalize CauseOf.TheVariants.Assign (Raised e) = k_raise _
-    k_after_finalize CauseOf.TheVariants.Failed (Fine a) = k_done _
-    k_after_finalize CauseOf.TheVariants.Failed (Raised e) = k_done _
-
-    k_own_finalize : (cause : Cause) (want : Chosen) (s : Spot) (u : ℕ) → Same (own_finalize k cause want s u) (own_finalize j cause want s u)
-    unfolding own_finalize
-    k_own_finalize cause want s u = k_either _ (k_seq (k_attempt (k_call_operation s _ _)) (λ r. k_after_finalize cause r)) (k_done _)
-
-    k_in_any_order : (f g : Placed → Act Bool) → ((p : Placed) → Same (f p) (g p)) → (n : ℕ) (left : List Placed) (b : Bool) → Same (in_any_order k f n left b) (in_any_order j g n left b)
-    unfolding in_any_order
-    k_in_any_order f g h zero left b = k_done b
-    k_in_any_order f g h (suc n) left b = k_seq (k_choose (suc n)) (λ i. k_seq (h (pull_item no_component i left)) (λ c. k_in_any_order f g h n (pull_rest i left) (b || c)))
-
-    k_finalize_part : (cause : Cause) (want : Chosen) (n : ℕ) (s : Spot) (u : ℕ) → Same (finalize_part k cause want n s u) (finalize_part j cause want n s u)
-    unfolding finalize_part own_finalize parts_to_finalize
-    k_finalize_part cause want zero s u = k_done _
-    k_finalize_part cause want (suc n) s u =
-        k_ticked (k_seq (k_own_finalize cause want s u) (λ b. k_in_any_order _ _ (λ p. k_of_record p.ty (k_done _) (λ x. k_finalize_part cause want n (component_at s p) x)) _ _ b))
-
-    k_finalize : (cause : Cause) (want : Chosen) (s : Spot) (u : ℕ) → Same (finalize k cause want s u) (finalize j cause want s u)
-    unfolding finalize
-    k_finalize cause want s u = k_finalize_part cause want (depth t) s u
-
-    k_finalize_begun : (cause : Cause) (m : Member) → Same (finalize_begun k cause m) (finalize_begun j cause m)
-    unfolding finalize_begun
-    k_finalize_begun cause m = k_seq (k_of_record m.ty (k_done _) (λ u. k_finalize cause Every (whole m.number) u)) (λ b. k_then (closed.changes (ends _)) (k_done b))
-
-    k_finalize_object : (cause : Cause) (m : Member) → Same (finalize_object k cause m) (finalize_object j cause m)
-    unfolding finalize_object
-    k_finalize_object cause m = k_then (k_then (k_must_exist _) (closed.changes (begins _))) (k_finalize_begun cause m)
-
-    k_finalize_failed : (paths : List (List ℕ)) (s : Spot) (u : ℕ) → Same (finalize_failed k paths s u) (finalize_failed j paths s u)
-    unfolding finalize_failed
-    k_finalize_failed paths s u = k_seq (k_finalize _ (These paths) s u) (λ b. k_then (k_when _ (closed.changes (ends _))) (k_done b))
-
-    k_finalize_group : (cause : Cause) (g : Group) → Same (finalize_group k cause g) (finalize_group j cause g)
-    k_finalize_group cause g = closed.finishes call spare cause g (k_finalize_begun cause)
-
-    k_lives : (b : Birth) (s : Spot) (u : ℕ) → Same (lives k b s u) (lives j b s u)
-    unfolding lives
-    k_lives b s u = k_either _ (closed.shows _) k_nothing
-
-    k_lives_if : (b : Option Birth) (s : Spot) (u : ℕ) → Same (lives_if k b s u) (lives_if j b s u)
-    unfolding lives_if
-    k_lives_if None s u = k_nothing
-    k_lives_if (Some b) s u = k_lives b s u
-
-    k_adjust_each : (f g : Placed → Adjusted → Act Adjusted) → ((p : Placed) (a : Adjusted) → Same (f p a) (g p a)) → (n : ℕ) (left : List Placed) (a : Adjusted) → Same (adjust_each k f n left a) (adjust_each j g n left a)
-    unfolding adjust_each
-    k_adjust_each f g h zero left a = k_done a
-    k_adjust_each f g h (suc n) left a = k_seq (k_choose (suc n)) (λ i. k_seq (k_ticked (h _ a)) (λ b. k_adjust_each f g h n (pull_rest i left) b))
-
-    k_after_adjust : (x : Option Birth) (s : Spot) (u : ℕ) (a : Adjusted) (r : Tried Done) → Same (after_adjust k x s u a r) (after_adjust j x s u a r)
-    unfolding after_adjust
-    k_after_adjust x s u a (Fine y) = k_then (k_lives_if x s u) (k_done _)
-    k_after_adjust x s u a (Raised e) = k_done _
-
-    k_own_adjust : (x : Option Birth) (s : Spot) (u : ℕ) (a : Adjusted) → Same (own_adjust k x s u a) (own_adjust j x s u a)
-    unfolding own_adjust
-    k_own_adjust x s u a = k_either _ (k_seq (k_attempt (k_call_operation s _ _)) (λ r. k_after_adjust x s u a r)) (k_done a)
-
-    k_adjust_part : (x : Option Birth) (n : ℕ) (s : Spot) (u : ℕ) (a : Adjusted) → Same (adjust_part k x n s u a) (adjust_part j x n s u a)
-    unfolding adjust_part own_adjust controlled_parts
-    k_adjust_part x zero s u a = k_done a
-    k_adjust_part x (suc n) s u a =
-        k_seq (k_adjust_each _ _ (λ p b. k_of_record p.ty (k_done b) (λ v. k_adjust_part x n (component_at s p) v b)) _ _ a) (λ b. k_own_adjust x s u b)
-
-    k_adjust : (x : Option Birth) (s : Spot) (ty : Ty) → Same (adjust k x s ty) (adjust j x s ty)
-    unfolding adjust adjust_record adjusted clean_up_copy
-    k_adjust x s ty =
-        k_of_record ty k_nothing (λ u. k_seq (k_adjust_part x (depth t) s u unadjusted)
-        (λ a. k_either a.failed (k_then (k_when _ (k_then (k_then (k_when _ (closed.changes (begins _))) (k_finalize_failed a.paths s u)) k_nothing)) (k_raise _)) k_nothing))
-
-    k_begin_next : (ps more : List (List ℕ)) (f g : List (List ℕ) → Act Begun) → ((qs : List (List ℕ)) → Same (f qs) (g qs)) → (r : Tried Done) → Same (begin_next ps f more r) (begin_next ps g more r)
-    unfolding begin_next
-    k_begin_next ps more f g h (Fine a) = h (ps ++ more)
-    k_begin_next ps more f g h (Raised e) = k_done _
-
-    k_begin_each : (s : Spot) (f g : Placed → Act Done) → ((p : Placed) → Same (f p) (g p)) → (n : ℕ) (left : List Placed) (ps : List (List ℕ)) → Same (begin_each k s f n left ps) (begin_each j s g n left ps)
-    unfolding begin_each begun_with begin_next paths_of paths_within
-    k_begin_each s f g h zero left ps = k_done _
-    k_begin_each s f g h (suc n) left ps =
-        k_seq (k_choose (suc n)) (λ i. k_seq (k_attempt (k_ticked (h _))) (λ r. k_begin_next ps _ _ _ (λ qs. k_begin_each s f g h n (pull_rest i left) qs) r))
-
-    k_own_initialize : (s : Spot) (u : ℕ) (ps : List (List ℕ)) → Same (own_initialize k s u ps) (own_initialize j s u ps)
-    unfolding own_initialize begun_with
-    k_own_initialize s u ps = k_either _ (k_seq (k_attempt (k_call_operation s _ _)) (λ r. k_begin_next ps [] _ _ (λ qs. k_done _) r)) (k_done _)
-
-    k_unless_failed : (f g : List (List ℕ) → Act Begun) → ((ps : List (List ℕ)) → Same (f ps) (g ps)) → (b : Begun) → Same (unless_failed f b) (unless_failed g b)
-    unfolding unless_failed
-    k_unless_failed f g h b = k_on_some b.failure (h b.paths) (λ e. k_done b)
-
-    k_failed_with : (e : ℕ) (b : Bool) → Same (failed_with e b) (failed_with e b)
-    unfolding failed_with
-    k_failed_with e true = k_raise _
-    k_failed_with e false = k_raise _
-
-    k_begun : (b : Birth) (s : Spot) (u : ℕ) (x : Begun) → Same (begun k b s u x) (begun j b s u x)
-    unfolding begun clean_up
-    k_begun b s u x =
-        k_on_some x.failure (k_when _ (k_lives b s u))
-        (λ e. k_seq (k_then (closed.changes (begins _)) (k_finalize_failed x.paths s u)) (λ c. k_failed_with e c))
-
-    k_begin_component : (b : Birth) (f g : Spot → ℕ → Act Done) → ((s : Spot) (u : ℕ) → Same (f s u) (g s u)) → (s : Spot) (p : Placed) → Same (begin_component k b f s p) (begin_component j b g s p)
-    unfolding begin_component
-    k_begin_component b f g h s p =
-        k_on_some p.default (k_of_record p.ty k_nothing (λ u. h _ u))
-        (λ e. k_then (k_seq (k_eval b.home e) (λ v. k_write_part _ _ v)) (k_adjust (Some b) (component_at s p) p.ty))
-
-    k_initialize_part : (b : Birth) (n : ℕ) (s : Spot) (u : ℕ) → Same (initialize_part k b n s u) (initialize_part j b n s u)
-    unfolding initialize_part begin_component unless_failed begun parts_to_begin
-    k_initialize_part b zero s u = k_nothing
-    k_initialize_part b (suc n) s u =
-        k_seq (k_seq (k_begin_each s _ _ (λ p. k_begin_component b _ _ (λ s1 u1. k_initialize_part b n s1 u1) s p) _ _ []) (λ x. k_unless_failed _ _ (λ ps. k_own_initialize s u ps) x))
-        (λ x. k_begun b s u x)
-
-    k_fill : (b : Birth) (n : ℕ) (ty : Ty) (v : Option (List ℕ)) → Same (fill k b n ty v) (fill j b n ty v)
-    unfolding fill initialize
-    k_fill b n ty v =
-        k_then (k_on_some v (k_of_record ty k_nothing (λ u. k_initialize_part b (depth t) (whole n) u)) (λ x. k_then (k_write_part n 0 x) (k_adjust (Some b) (whole n) ty))) (k_must_exist n)
-
-    -- Storage -----------------------------------------------------------------------
-
-    k_with_block_pool : {A : Type 0} (n : ℕ) {f g : BlockPoolRecord → Act A} → ((p : BlockPoolRecord) → Same (f p) (g p)) → Same (with_block_pool n f) (with_block_pool n g)
-    unfolding with_block_pool
-    k_with_block_pool n h = closed.looks (λ w. k_on_some _ k_gone (λ p. k_either _ (h p) k_gone))
-
-    k_library_allocate : (n size : ℕ) → Same (library_allocate n size) (library_allocate n size)
-    unfolding library_allocate
-    k_library_allocate n size = k_with_block_pool n (λ p. k_either _ (k_raise _) (closed.looks (λ w. k_then (closed.changes (stores _)) (k_done _))))
-
-    k_library_deallocate : (n a : ℕ) → Same (library_deallocate n a) (library_deallocate n a)
-    unfolding library_deallocate
-    k_library_deallocate n a = k_with_block_pool n (λ p. closed.looks (λ w. k_either _ (closed.changes (stores _)) (closed.stops _)))
-
-    k_tested : (n size a : ℕ) → Same (tested n size a) (tested n size a)
-    unfolding tested
-    k_tested n size a = k_with_block_pool n (λ p. closed.looks (λ w. k_either _ (k_done _) (closed.stops _)))
-
-    k_user_allocate : (n size f : ℕ) → Same (user_allocate k n size f) (user_allocate j n size f)
-    unfolding user_allocate
-    k_user_allocate n size f = k_either _ (k_raise _) (k_seq (k_then (closed.shows _) (k_with_home n (λ d. calls _ d))) (λ r. k_tested n size _))
-
-    k_block_storage : (n size : ℕ) → Same (block_storage k n size) (block_storage j n size)
-    unfolding block_storage
-    k_block_storage n size = k_seq (k_existing n (λ o. k_on_some _ (k_library_allocate n size) (λ f. k_user_allocate n size f))) (λ a. k_done _)
-
-    k_give_back : (n a size : ℕ) → Same (give_back k n a size) (give_back j n a size)
-    unfolding give_back
-    k_give_back n a size = k_existing n (λ o. k_on_some _ (k_library_deallocate n a) (λ f. k_then (k_then (closed.shows _) (k_with_home n (λ d. calls _ d))) k_nothing))
-
-    k_subpool_storage : (n s size : ℕ) → Same (subpool_storage n s size) (subpool_storage n s size)
-    unfolding subpool_storage room_in
-    k_subpool_storage n s size =
-        closed.looks (λ w. k_on_some _ (closed.stops _) (λ x. k_on_some _ k_gone (λ p. k_either _ (k_either _ (k_raise _) (k_then (closed.changes (stores _)) (k_done _))) (k_raise _))))
-
-    k_dropped : (n s : ℕ) (b : Bool) (p : MarkPoolRecord) → Same (dropped n s b p) (dropped n s b p)
-    unfolding dropped
-    k_dropped n s b p = k_either _ (k_then (closed.looks (λ w. closed.counts _ (closed.changes (stores _)))) (k_done b)) (k_then (closed.changes (stores _)) (k_done true))
-
-    k_release : (m : Act Done) → Same m m → (s : ℕ) → Same (release k m s) (release j m s)
-    unfolding release release_from
-    k_release m h s =
-        closed.looks (λ w. k_on_some _ (closed.stops _) (λ x. k_either _ (closed.stops _) (k_either _ (closed.stops _)
-        (k_seq (k_then (closed.changes (stores _)) (k_finalize_group _ _))
-        (λ b. k_then (k_then (closed.looks (λ w1. closed.counts _ (closed.changes (empties _)))) h) (closed.looks (λ w2. k_on_some _ k_gone (λ p. k_dropped _ s b p))))))))
-
-    k_program_error_if : (b : Bool) → Same (program_error_if b) (program_error_if b)
-    unfolding program_error_if
-    k_program_error_if b = k_either b (k_raise _) k_nothing
-
-    k_unchecked : (f : Found) → Same (unchecked_deallocate_subpool k f) (unchecked_deallocate_subpool j f)
-    unfolding unchecked_deallocate_subpool
-    k_unchecked f = k_seq (k_read_found 1 f) (λ v. k_either _ k_nothing (k_seq (k_release _ (k_write_found f _) _) (λ b. k_program_error_if b)))
-
-    k_release_each : (ss : List ℕ) (b : Bool) → Same (release_each k ss b) (release_each j ss b)
-    unfolding release_each
-    k_release_each [] b = k_done b
-    k_release_each (s ∷ ss) b = k_seq (closed.looks (λ w. k_either _ (k_release _ k_nothing s) (k_done _))) (λ c. k_release_each ss (b || c))
-
-    k_shut_pool : (n : ℕ) → Same (shut_pool n) (shut_pool n)
-    unfolding shut_pool
-    k_shut_pool n = closed.looks (λ w. closed.counts _ (closed.changes (shuts n)))
-
-    k_close_pool : (n : ℕ) → Same (close_pool k n) (close_pool j n)
-    unfolding close_pool
-    k_close_pool n =
-        closed.looks (λ w. k_on_some _ (k_on_some _ (k_done _) (λ p. k_then (k_shut_pool n) (k_done _))) (λ p. k_seq (k_release_each _ false) (λ b. k_then (k_shut_pool n) (k_done b))))
-
-    k_mark_storage : (n : ℕ) (h : Option (List ℕ)) (size : ℕ) → Same (mark_storage n h size) (mark_storage n h size)
-    unfolding mark_storage
-    k_mark_storage n None size = k_seq (k_default_subpool n) (λ s. k_subpool_storage n s size)
-    k_mark_storage n (Some h) size = k_subpool_storage n _ size
-
-    k_storage_in : (n : ℕ) (h : Option (List ℕ)) (size : ℕ) (r : Root) → Same (storage_in k n h size r) (storage_in j n h size r)
-    unfolding storage_in
-    k_storage_in n h size Untagged = k_block_storage n size
-    k_storage_in n h size Controlled = k_block_storage n size
-    k_storage_in n h size BlockPool = k_block_storage n size
-    k_storage_in n h size MarkPool = k_mark_storage n h size
-
-    k_storage : (env : List ℕ) (p : Option Var) (h : Option (List ℕ)) (size : ℕ) → Same (storage k env p h size) (storage j env p h size)
-    unfolding storage
-    k_storage env None h size = k_done _
-    k_storage env (Some v) h size = k_seq (k_find_var env v) (λ f. k_existing _ (λ o. k_storage_in _ h size _))
-
-    -- Allocators and Free --------------------------------------------------------------
-
-    k_created_or_gone : (n : ℕ) (r : Tried Done) → Same (created_or_gone n r) (created_or_gone n r)
-    unfolding created_or_gone
-    k_created_or_gone n (Fine a) = k_done n
-    k_created_or_gone n (Raised e) = k_then (closed.counts _ (closed.changes (forgets n))) (k_raise e)
-
-    k_created : (set : ℕ) (ty : Ty) (v : Option (List ℕ)) (p : Place) → Same (created k set ty v p) (created j set ty v p)
-    unfolding created
-    k_created set ty v p = closed.looks (λ w. k_seq (k_then (closed.changes (creates_at ty _ set p)) (k_attempt (k_fill _ _ ty v))) (λ r. k_created_or_gone _ r))
-
-    k_with_set : {A : Type 0} (env : List ℕ) (a : AccessType) {f g : ℕ → Act A} → ((n : ℕ) → Same (f n) (g n)) → Same (with_set env a f) (with_set env a g)
-    unfolding with_set
-    k_with_set env a h = closed.looks (λ w. h _)
-
-    k_allocate_for : (env : List ℕ) (ty : Ty) (h v : Option (List ℕ)) (a : AccessType) → Same (allocate_for k env ty h v a) (allocate_for j env ty h v a)
-    unfolding allocate_for
-    k_allocate_for env ty h v a =
-        k_with_set env a (λ set. closed.looks (λ w. k_on_some _ k_gone (λ c. k_either _ (k_raise _) (k_seq (k_storage env a.pool h _) (λ p. k_created set ty v p)))))
-
-    pub k_allocate : (env : List ℕ) (a : ℕ) (ty : Ty) (x y : Held-Expr-New-2) → Same (allocate k env a ty x y) (allocate j env a ty x y)
-    unfolding allocate
-    k_allocate env a ty x y =
-        k_seq (k_held env x) (λ h. k_seq (k_held env y) (λ v. k_either _ (k_raise _) (k_on_some _ k_gone (λ b. k_allocate_for env ty h v b))))
-
-    k_returns_storage : (ty : Ty) (x : Origin) → Same (returns_storage k ty x) (returns_storage j ty x)
-    unfolding returns_storage
-    k_returns_storage ty (Declared m) = k_nothing
-    k_returns_storage ty (Allocated s Standard) = k_nothing
-    k_returns_storage ty (Allocated s (InBlock p a)) = k_give_back p a _
-    k_returns_storage ty (Allocated s (InSubpool x)) = k_nothing
-
-    k_free_object : (f : Found) (set : ℕ) (o : Object) → Same (free_object k f set o) (free_object j f set o)
-    unfolding free_object finalize_unfinalized freed
-    k_free_object f set o =
-        k_either _ (closed.stops _) (k_either _ (closed.stops _) (k_seq (closed.looks (λ w. k_on_some _ (k_done _) (λ m. k_finalize_object _ m)))
-        (λ b. k_then (k_then (k_then (k_write_found f _) (closed.counts _ (closed.changes (forgets _)))) (k_returns_storage _ _)) (k_program_error_if b))))
-
-    k_free : (env : List ℕ) (a : ℕ) (f : Found) → Same (free k env a f) (free j env a f)
-    unfolding free free_value
-    k_free env a f = k_seq (k_read_found 1 f) (λ v. k_either _ k_nothing (k_existing _ (λ o. k_on_some _ k_gone (λ b. k_with_set env b (λ set. k_free_object f set o)))))
-
-    -- Masters --------------------------------------------------------------------------
-
-    k_finalize_layer : (x : Layer) → Same (finalize_layer k x) (finalize_layer j x)
-    unfolding finalize_layer finalize_declared finalize_sets finalize_if_controlled
-    k_finalize_layer (Single n) = k_existing n (λ o. k_seq (k_either _ (k_finalize_object _ _) (k_done _)) (λ a. k_seq (k_close_pool _) (λ b. k_done _)))
-    k_finalize_layer (Sets xs) = k_then (closed.counts _ (closed.changes (starts xs))) (k_finalize_group _ _)
-
-    k_leave_layers : (m : ℕ) (xs : List Layer) (b : Bool) → Same (leave_layers k m xs b) (leave_layers j m xs b)
-    unfolding leave_layers
-    k_leave_layers m [] b = k_done b
-    k_leave_layers m (x ∷ xs) b = k_seq (k_ticked (k_then (closed.changes (takes m)) (k_finalize_layer x))) (λ c. k_leave_layers m xs (b || c))
-
-    k_leave_master : (m : ℕ) (r : Result Done) → Same (leave k m r) (leave j m r)
-    unfolding leave left
-    k_leave_master m r =
-        k_ticked (k_seq (closed.looks (λ w. k_leave_layers m _ false)) (λ b. closed.looks (λ w. k_then (k_then (closed.counts _ (closed.changes (closes m))) (k_program_error_if b)) (k_done _))))
-
-    k_in_master : (env : List ℕ) (ss : List Slot) (f g : List ℕ → Act Done) → ((d : List ℕ) → Same (f d) (g d)) → Same (in_master k env ss f) (in_master j env ss g)
-    unfolding in_master
-    k_in_master env ss f g h = closed.looks (λ w. k_then (closed.changes (opens env ss)) (closed.joins (h _) (λ r. k_leave_master _ r)))
-
-    k_declare : (m slot : ℕ) (ty : Ty) (v : Option (List ℕ)) → Same (declare k m slot ty v) (declare j m slot ty v)
-    unfolding declare
-    k_declare m slot ty v =
-        closed.looks (λ w. k_then (k_then (k_then (closed.changes (creates ty _ _)) (closed.changes (sets m slot _))) (k_fill _ _ ty v)) (closed.changes (layers m _)))
-
-    k_gather_each : (m : ℕ) (accesses found : List ℕ) → Same (gather_each k m accesses found) (gather_each j m accesses found)
-    unfolding gather_each gather
-    k_gather_each m [] found = closed.changes (layers m _)
-    k_gather_each m (a ∷ more) found =
-        k_seq (k_ticked (k_on_some _ k_gone (λ x. closed.looks (λ w. k_then (closed.changes (gathers m _ _)) (k_done _))))) (λ n. k_gather_each m more (found ++ n ∷ []))
-
-    k_discriminants : (env : List ℕ) (xs : List Association) (d : ℕ × ℕ) → Same (discriminants k env xs d) (discriminants j env xs d)
-    unfolding discriminants
-    k_discriminants env [] d = k_done d
-    k_discriminants env (x ∷ xs) d = k_seq (k_eval env x.value) (λ v. k_discriminants env xs _)
-
-    k_open_pool : (r : Root) (n : ℕ) (d : ℕ × ℕ) → Same (open_pool r n d) (open_pool r n d)
-    unfolding open_pool
-    k_open_pool Untagged n d = closed.changes (stores _)
-    k_open_pool Controlled n d = closed.changes (stores _)
-    k_open_pool BlockPool n d = closed.changes (stores _)
-    k_open_pool MarkPool n d = closed.changes (stores _)
-
-    k_pool_or_closed : (m n : ℕ) (r : Tried Done) → Same (pool_or_closed m n r) (pool_or_closed m n r)
-    unfolding pool_or_closed
-    k_pool_or_closed m n (Fine a) = closed.changes (layers m _)
-    k_pool_or_closed m n (Raised e) = k_then (closed.changes (shuts _)) (k_raise e)
-
-    k_declare_pool : (m slot u : ℕ) (d : ℕ × ℕ) → Same (declare_pool k m slot u d) (declare_pool j m slot u d)
-    unfolding declare_pool
-    k_declare_pool m slot u d =
-        k_either _ (closed.looks (λ w. k_seq (k_then (k_then (k_then (closed.changes (creates _ _ _)) (closed.changes (sets m slot _))) (k_open_pool _ _ d)) (k_attempt (k_fill _ _ (Record u) None))) (λ r. k_pool_or_closed m _ r))) (k_raise _)
-
-    k_item : (env : List ℕ) (m : ℕ) (x : Item) → Same (elaborate_item k env m x) (elaborate_item j env m x)
-    unfolding elaborate_item
-    k_item env m (Collections xs) = k_gather_each m xs.items []
-    k_item env m (ObjectItem slot ty v) = k_ticked (k_seq (k_option env v) (λ x. k_declare m slot ty x))
-    k_item env m (PoolItem slot u ds) = k_ticked (k_seq (k_discriminants env ds.items (0, 0)) (λ d. k_declare_pool m slot u d))
-    k_item env m Silent = k_ticked k_nothing
-
-    k_elaborate : (env : List ℕ) (m : ℕ) (xs : List Item) → Same (elaborate k env m xs) (elaborate j env m xs)
-    unfolding elaborate
-    k_elaborate env m [] = k_nothing
-    k_elaborate env m (x ∷ xs) = k_then (k_item env m x) (k_elaborate env m xs)
-
-    -- Statements -------------------------------------------------------------------------
-
-    k_pass_each : (env : List ℕ) (xs : List Actual) (p : Passed) → Same (pass_each k env xs p) (pass_each j env xs p)
+    k_pass_each : (env : List ℕ) (xs : List Supplied) → Each GoodActual xs → (p : Passed) → Same (pass_each k env xs p) (pass_each j env xs p)
     unfolding pass_each
-    k_pass_each env [] p = k_done p
-    k_pass_each env (a ∷ rest) p = k_seq (k_ticked (k_actual env a p)) (λ q. k_pass_each env rest q)
+    k_pass_each env [] h p = k_done p
+    k_pass_each env (a ∷ rest) h p = k_seq (k_ticked (k_seq (h.0.0 env) (λ f. h.0.1 f))) (λ x. k_pass_each env rest h.1 (with_formal x p))
 
-    k_call_statement : (env : List ℕ) (f : ℕ) (xs : List Actual) → Same (call_statement k env f xs) (call_statement j env f xs)
-    unfolding call_statement
-    k_call_statement env f xs = k_then (k_seq (k_pass_each env xs no_actuals) (λ p. k_call_with env f p)) k_nothing
+    k_apply_each : (env : List ℕ) (os : List Applied) → Each GoodOperand os → (v : List ℕ) → Same (apply_each k env os v) (apply_each j env os v)
+    unfolding apply_each
+    k_apply_each env [] h v = k_done v
+    k_apply_each env (o ∷ rest) h v = k_seq (h.0 env v) (λ u. k_apply_each env rest h.1 u)
 
-    k_dispatch : (env : List ℕ) (op : Operation) (f : Found) → Same (dispatch k env op f) (dispatch j env op f)
-    unfolding dispatch
-    k_dispatch env op f = k_existing _ (λ o. k_on_some _ k_nothing (λ s. k_then (k_call_with env s _) k_nothing))
+    k_join_each : (env : List ℕ) (op : Shortcut) (es : List Valued) → Each GoodValue es → (v : List ℕ) → Same (join_each k env op es v) (join_each j env op es v)
+    unfolding join_each
+    k_join_each env op [] h v = k_done v
+    k_join_each env op (e ∷ rest) h v = k_seq (k_ticked (k_either _ (k_done v) (h.0 env))) (λ u. k_join_each env op rest h.1 u)
 
-    k_piece : (env : List ℕ) (p : Piece) → Same (eval_piece k env p) (eval_piece j env p)
-    unfolding eval_piece
-    k_piece env (Text v) = k_ticked (k_done _)
-    k_piece env (IntegerImage e) = k_ticked (k_seq (k_eval env e) (λ v. k_done _))
-    k_piece env (BooleanImage e) = k_ticked (k_seq (k_eval env e) (λ v. k_done _))
+    k_if_given : (env : List ℕ) (o : Option Valued) → IfSome GoodValue o → Same (if_given (λ e. e k env) o) (if_given (λ e. e j env) o)
+    unfolding if_given
+    k_if_given env None h = k_done _
+    k_if_given env (Some e) h = k_seq (h env) (λ v. k_done _)
 
-    k_join_pieces : (env : List ℕ) (ps : List Piece) (v : List ℕ) → Same (join_pieces k env ps v) (join_pieces j env ps v)
-    unfolding join_pieces
-    k_join_pieces env [] v = k_done v
-    k_join_pieces env (p ∷ ps) v = k_seq (k_ticked (k_piece env p)) (λ u. k_join_pieces env ps (v ++ u))
+    k_operands : (env : List ℕ) (x y : Option Valued) → IfSome GoodValue x → IfSome GoodValue y → Same (operands k env x y) (operands j env x y)
+    unfolding operands
+    k_operands env x y h i = k_seq (k_if_given env x h) (λ a. k_seq (k_if_given env y i) (λ b. k_done _))
 
-    k_text : (env : List ℕ) (ps : List Piece) → Same (eval_text k env ps) (eval_text j env ps)
-    unfolding eval_text
-    k_text env [] = k_done _
-    k_text env (p ∷ ps) = k_seq (k_piece env p) (λ v. k_join_pieces env ps v)
+    pub good_constant : (n : ℕ) → GoodValue (eval_step (Expr-F.Constant n))
+    unfolding eval_step
+    good_constant n env = k_ticked (k_done _)
 
-    k_source : (env : List ℕ) (a : Actual) → Same (source_of k env a) (source_of j env a)
-    unfolding source_of
-    k_source env (ByValue e) = k_seq (k_eval env e) (λ v. k_done _)
-    k_source env (Part' head steps) = k_ticked (k_seq (k_head env head) (k_walk steps.items))
-    k_source env (Copied' head steps ty filled) = k_ticked (k_seq (k_head env head) (k_walk steps.items))
+    pub good_read : (n : Naming) (ty : Ty) → GoodName n → GoodValue (eval_step (Expr-F.Read n ty))
+    unfolding eval_step
+    good_read n ty h env = k_ticked (k_seq (h env) (λ f. k_read_found _ f))
 
-    k_assign_record : (u : ℕ) (f g : Found) → Same (assign_record k u f g) (assign_record j u f g)
-    unfolding assign_record overwrite
-    k_assign_record u f g =
-        k_seq (k_read_found _ g) (λ v. k_either _ k_nothing (k_then (k_then (k_when _ (k_then (k_finalize _ Every (spot_of f) u) k_nothing)) (k_write_found f v)) (k_adjust None (spot_of f) (Record u))))
+    pub good_call : (f : ℕ) (xs : List Supplied) → Each GoodActual xs → GoodValue (eval_step (Expr-F.Call f xs))
+    unfolding eval_step
+    good_call f xs h env = k_ticked (k_seq (k_seq (k_pass_each env xs h no_actuals) (λ p. k_call_with env f p)) (λ r. k_done _))
 
-    k_leaving : {m n : Act Done} → Same m n → Same (leaving m) (leaving n)
-    unfolding leaving
-    k_leaving h = closed.joins h (λ r. k_ticked (closed.gives r))
+    pub good_unary : (op : UnaryOp) (ty : Ty) (e : Valued) → GoodValue e → GoodValue (eval_step (Expr-F.Unary op ty e))
+    unfolding eval_step
+    good_unary op ty e h env = k_ticked (k_seq (h env) (λ v. k_or_constraint_error _))
 
-    k_turned : {m n : Act Done} → Same m n → (r : Result Bool) → Same (turned m r) (turned n r)
-    unfolding turned
-    k_turned h (Goes true) = h
-    k_turned h (Goes false) = k_nothing
-    k_turned h (Leaves ByExit) = k_nothing
-    k_turned h (Leaves (ByReturn v)) = k_leave _
-    k_turned h (Leaves (ByRaise e)) = k_leave _
+    pub good_chain : (e : Valued) (o : Applied) (os : List Applied) → GoodValue e → GoodOperand o → Each GoodOperand os → GoodValue (eval_step (Expr-F.Chain e o os))
+    unfolding eval_step
+    good_chain e o os h i l env = k_seq (h env) (λ v. k_apply_each env (o ∷ os) (i, l) v)
 
-    k_one_turn : {m n : Act Done} → Same m n → Same (one_turn m) (one_turn n)
-    unfolding one_turn
-    k_one_turn h = closed.spends (k_ticked (k_then h (k_done _)))
+    pub good_short : (op : Shortcut) (e f : Valued) (es : List Valued) → GoodValue e → GoodValue f → Each GoodValue es → GoodValue (eval_step (Expr-F.Short op e f es))
+    unfolding eval_step
+    good_short op e f es h i l env = k_seq (h env) (λ v. k_join_each env op (f ∷ es) (i, l) v)
 
-    k_for_turns : (n : ℕ) (next : ℤ → ℤ) (f g : ℤ → Act Done) → ((z : ℤ) → Same (f z) (g z)) → (z : ℤ) → Same (for_turns n next f z) (for_turns n next g z)
-    unfolding for_turns
-    k_for_turns zero next f g h z = k_nothing
-    k_for_turns (suc n) next f g h z = closed.joins (k_one_turn (h z)) (λ r. k_turned (k_for_turns n next f g h (next z)) r)
+    pub good_convert : (ty : Ty) (e : Valued) → GoodValue e → GoodValue (eval_step (Expr-F.Convert ty e))
+    unfolding eval_step
+    good_convert ty e h env = k_ticked (k_seq (h env) (λ v. k_or_constraint_error _))
 
-    k_for : (b : Bool) (f g : ℤ → Act Done) → ((z : ℤ) → Same (f z) (g z)) → (x y : ℤ) → Same (for b f x y) (for b g x y)
-    unfolding for
-    k_for false f g h x y = k_for_turns _ _ f g h x
-    k_for true f g h x y = k_for_turns _ _ f g h y
+    pub good_access : (v : Var) → GoodValue (eval_step (Expr-F.Access v))
+    unfolding eval_step
+    good_access v env = k_ticked (k_seq (k_var_part env v) (λ f. k_done _))
 
-    k_handled : (f g : ℕ → Act Done) → ((e : ℕ) → Same (f e) (g e)) → (r : Result Done) → Same (handled f r) (handled g r)
-    unfolding handled
-    k_handled f g h (Goes a) = k_nothing
-    k_handled f g h (Leaves ByExit) = k_leave _
-    k_handled f g h (Leaves (ByReturn v)) = k_leave _
-    k_handled f g h (Leaves (ByRaise e)) = h e
+    pub good_new : (access : ℕ) (ty : Ty) (x y : Option Valued) → IfSome GoodValue x → IfSome GoodValue y → GoodValue (eval_step (Expr-F.New access ty x y))
+    unfolding eval_step allocator
+    good_new access ty x y h i env = k_ticked (k_seq (allocates env access ty _ _ (k_operands env x y h i)) (λ r. k_done _))
 
-    k_scalar : {m n : Act (List ℕ)} {f g : ℕ → Act Done} → Same m n → ((i : ℕ) → Same (f i) (g i)) → Same (scalar m f) (scalar n g)
-    unfolding scalar
-    k_scalar h i = k_seq h (λ v. i _)
+    pub good_subpool : (which : SubpoolFunction) (n : Naming) → GoodName n → GoodValue (eval_step (Expr-F.Subpool which n))
+    unfolding eval_step
+    good_subpool which n h env = k_ticked (k_seq (h env) (λ f. k_subpool_function which _))
 
-    k_set_loop : (env : List ℕ) (v : Var) (z : ℤ) → Same (set_loop env v z) (set_loop env v z)
-    unfolding set_loop
-    k_set_loop env v z = closed.changes (sets _ _ _)
+    pub good_discriminant : (n : Naming) (i : ℕ) → GoodName n → GoodValue (eval_step (Expr-F.Discriminant n i))
+    unfolding eval_step
+    good_discriminant n i h env = k_ticked (k_seq (h env) (λ f. k_discriminant _ i))
 
-    mutual
-      unfolding exec
+    pub good_operand : (op : BinaryOp) (ty : Ty) (e : Valued) → GoodValue e → GoodOperand (operand_step (record { op = op; ty = ty; right = e }))
+    unfolding operand_step
+    good_operand op ty e h env v = k_ticked (k_seq (h env) (λ u. k_or_constraint_error _))
 
-      pub k_exec : (env : List ℕ) (e : ℕ) (s : Stmt) → Same (exec k env e s) (exec j env e s)
-      k_exec env x Null = k_ticked k_nothing
-      k_exec env x (Assign n e) = k_ticked (k_seq (k_name env n) (λ f. k_seq (k_eval env e) (λ v. k_write_found f v)))
-      k_exec env x (AssignRecord n u a) = k_ticked (k_seq (k_name env n) (λ f. k_seq (k_source env a) (λ g. k_assign_record u f g)))
-      k_exec env x (Call f xs) = k_ticked (k_call_statement env f xs.items)
-      k_exec env x (Nothing n) = k_ticked (k_then (k_name env n) k_nothing)
-      k_exec env x (Dispatch op n) = k_ticked (k_seq (k_name env n) (λ f. k_dispatch env op f))
-      k_exec env x (LibraryAllocate p a size al) = k_ticked (k_seq (k_name env p) (λ f. k_seq (k_name env a) (λ g. k_scalar (k_eval env size) (λ s. k_seq (k_then (k_eval env al) (k_library_allocate _ s)) (λ y. k_write_found g _)))))
-      k_exec env x (LibraryDeallocate p a size al) = k_ticked (k_seq (k_name env p) (λ f. k_scalar (k_eval env a) (λ y. k_then (k_then (k_eval env size) (k_eval env al)) (k_library_deallocate _ y))))
-      k_exec env x (Put ps) = k_ticked (k_seq (k_text env ps.items) (λ v. closed.shows _))
-      k_exec env x (PutLine ps) = k_ticked (k_seq (k_text env ps.items) (λ v. k_then (closed.shows _) (closed.shows _)))
-      k_exec env x NewLine = k_ticked (closed.shows _)
-      k_exec env x (Exit None) = k_ticked (k_leave _)
-      k_exec env x (Exit (Some e)) = k_ticked (k_scalar (k_eval env e) (λ b. k_either _ (k_leave _) k_nothing))
-      k_exec env x (Return None) = k_ticked (k_leave _)
-      k_exec env x (Return (Some e)) = k_ticked (k_seq (k_eval env e) (λ v. k_leave _))
-      k_exec env x (Raise None) = k_ticked (k_raise _)
-      k_exec env x (Raise (Some e)) = k_ticked (k_raise _)
-      k_exec env x (If' s arms u others) = k_ticked (k_leaving (k_exec_arms env x arms (k_exec_all env x others)))
-      k_exec env x (Loop' s row) = k_ticked (k_leaving (closed.repeats (k_exec_all env x row)))
-      k_exec env x (While' e s row) = k_ticked (k_leaving (closed.repeats_while (k_eval env e) (k_exec_all env x row)))
-      k_exec env x (For' v down low high s row) = k_ticked (k_leaving (k_scalar (k_eval env low) (λ a. k_scalar (k_eval env high) (λ b. k_for down _ _ (λ z. k_then (k_set_loop env v z) (k_exec_all env x row)) _ _))))
-      k_exec env x (Block' p m) = k_ticked (k_seq (k_in_master env _ _ _ (λ inner. k_exec_master inner x m)) (λ y. closed.gives y.result))
-      k_exec env x (Free a n) = k_ticked (k_seq (k_name env n) (λ f. k_free env a f))
-      k_exec env x (Release n) = k_ticked (k_seq (k_name env n) (λ f. k_unchecked f))
+    pub good_variable : (v : Var) (ss : List Step) → GoodName (name_step (Name-F.Variable v ss))
+    unfolding name_step
+    good_variable v ss env = k_seq (k_var_part env v) (k_walk ss)
 
-      k_exec_all : (env : List ℕ) (e : ℕ) {m : _} (row : Row_of-Stmt m) → Same (exec_all k env e row) (exec_all j env e row)
-      k_exec_all env x end_of-Stmt = k_nothing
-      k_exec_all env x (more_of-Stmt s rest) = k_then (k_exec env x s) (k_exec_all env x rest)
+    pub good_given : (e : Valued) (ss : List Step) → GoodValue e → GoodName (name_step (Name-F.Given e ss))
+    unfolding name_step
+    good_given e ss h env = k_seq (k_seq (h env) (λ v. k_done _)) (k_walk ss)
 
-      k_exec_arms : (env : List ℕ) (e : ℕ) {m : _} (row : Row_of-Arm m) {p q : Act Done} → Same p q → Same (exec_arms k env e row p) (exec_arms j env e row q)
-      k_exec_arms env x end_of-Arm h = h
-      k_exec_arms env x (more_of-Arm test s row rest) h = k_scalar (k_eval env test) (λ b. k_either _ (k_exec_all env x row) (k_exec_arms env x rest h))
+    pub good_by_value : (e : Valued) → GoodValue e → GoodActual (actual_step (Actual-F.ByValue e))
+    unfolding actual_step
+    good_by_value e h = (λ env. k_seq (h env) (λ v. k_done _), k_by_reference)
 
-      k_exec_master : (env : List ℕ) (e : ℕ) (m : Master) → Same (exec_master k env e m) (exec_master j env e m)
-      k_exec_master env x (Master' slots items s row u handlers) = k_then (k_elaborate env _ items.items) (closed.joins (k_exec_all env x row) (λ r. k_handled _ _ (λ e. k_handle env handlers e) r))
+    pub good_part : (n : Naming) → GoodName n → GoodActual (actual_step (Actual-F.Part n))
+    unfolding actual_step
+    good_part n h = (λ env. k_ticked (h env), k_by_reference)
 
-      k_handle : (env : List ℕ) {m : _} (row : Row_of-Handler m) (e : ℕ) → Same (handle k env row e) (handle j env row e)
-      k_handle env end_of-Handler e = k_raise e
-      k_handle env (more_of-Handler choices s row rest) e = closed.counts _ (k_either _ (k_exec_all env e row) (k_handle env rest e))
+    pub good_copied : (n : Naming) (ty : Ty) (b : CopyStart) → GoodName n → GoodActual (actual_step (Actual-F.Copied n ty b))
+    unfolding actual_step
+    good_copied n ty b h = (λ env. k_ticked (h env), λ f. k_by_copy _ b f)
 
-    -- Bodies -----------------------------------------------------------------------------
+    module _ (values : Starts) where
+      -- Finalize, Adjust, Initialize ------------------------------------------------
 
-    k_returned : (b : Bool) (ss : List Slot) (r : Result Done) → Same (returned b ss r) (returned b ss r)
-    unfolding returned
-    k_returned true ss (Goes a) = k_raise _
-    k_returned false ss (Goes a) = k_done _
-    k_returned true ss (Leaves ByExit) = k_raise _
-    k_returned false ss (Leaves ByExit) = k_done _
-    k_returned true ss (Leaves (ByReturn v)) = k_done _
-    k_returned false ss (Leaves (ByReturn v)) = k_done _
-    k_returned true ss (Leaves (ByRaise e)) = k_raise _
-    k_returned false ss (Leaves (ByRaise e)) = k_raise _
+      k_with_home : {A : Type 0} (n : ℕ) {f g : List ℕ → Act A} → ((d : List ℕ) → Same (f d) (g d)) → Same (with_home n f) (with_home n g)
+      unfolding with_home
+      k_with_home n h = k_existing n (λ o. closed.looks (λ w. h _))
 
-    pub k_run_number : (env : List ℕ) (ss : List Slot) (f : ℕ) → Same (run_number k env ss f) (run_number j env ss f)
-    unfolding run_number run_subprogram
-    k_run_number env ss f = k_on_some _ k_gone (λ s. k_seq (k_in_master _ _ _ _ (λ inner. k_exec_master inner 0 s.body)) (λ x. k_returned s.is_function x.slots x.result))
+      k_call_operation : (s : Spot) (o : Option ℕ) (e : Event) → Same (call_operation k s o e) (call_operation j s o e)
+      unfolding call_operation
+      k_call_operation s None e = k_ticked (k_must_exist _)
+      k_call_operation s (Some f) e = k_with_home _ (λ d. k_then (k_then (closed.shows e) (calls _ _ d)) k_nothing)
+
+      k_after_finalize : (cause : Cause) (r : Tried Done) → Same (after_finalize cause r) (after_finalize cause r)
+      unfolding after_finalize
+      k_after_finalize CauseOf.TheVariants.Scope (Fine a) = k_done _
+      k_after_finalize CauseOf.TheVariants.Scope (Raised e) = k_done _
+      k_after_finalize CauseOf.TheVariants.Collection (Fine a) = k_done _
+      k_after_finalize CauseOf.TheVariants.Collection (Raised e) = k_done _
+      k_after_finalize CauseOf.TheVariants.Free (Fine a) = k_done _
+      k_after_finalize CauseOf.TheVariants.Free (Raised e) = k_done _
+      k_after_finalize CauseOf.TheVariants.Subpool (Fine a) = k_done _
+      k_after_finalize CauseOf.TheVariants.Subpool (Raised e) = k_done _
+      k_after_finalize CauseOf.TheVariants.Assign (Fine a) = k_done _
+      k_after_finalize CauseOf.TheVariants.Assign (Raised e) = k_raise _
+      k_after_finalize CauseOf.TheVariants.Failed (Fine a) = k_done _
+      k_after_finalize CauseOf.TheVariants.Failed (Raised e) = k_done _
+
+      k_own_finalize : (cause : Cause) (want : Chosen) (s : Spot) (u : ℕ) → Same (own_finalize k cause want s u) (own_finalize j cause want s u)
+      unfolding own_finalize
+      k_own_finalize cause want s u = k_either _ (k_seq (k_attempt (k_call_operation s _ _)) (λ r. k_after_finalize cause r)) (k_done _)
+
+      k_in_any_order : (f g : Placed → Act Bool) → ((p : Placed) → Same (f p) (g p)) → (n : ℕ) (left : List Placed) (b : Bool) → Same (in_any_order k f n left b) (in_any_order j g n left b)
+      unfolding in_any_order
+      k_in_any_order f g h zero left b = k_done b
+      k_in_any_order f g h (suc n) left b = k_seq (k_choose (suc n)) (λ i. k_seq (h (pull_item no_component i left)) (λ c. k_in_any_order f g h n (pull_rest i left) (b || c)))
+
+      k_finalize_part : (cause : Cause) (want : Chosen) (n : ℕ) (s : Spot) (u : ℕ) → Same (finalize_part k cause want n s u) (finalize_part j cause want n s u)
+      unfolding finalize_part own_finalize parts_to_finalize
+      k_finalize_part cause want zero s u = k_done _
+      k_finalize_part cause want (suc n) s u =
+          k_ticked (k_seq (k_own_finalize cause want s u) (λ b. k_in_any_order _ _ (λ p. k_of_record p.ty (k_done _) (λ x. k_finalize_part cause want n (component_at s p) x)) _ _ b))
+
+      k_finalize : (cause : Cause) (want : Chosen) (s : Spot) (u : ℕ) → Same (finalize k cause want s u) (finalize j cause want s u)
+      unfolding finalize
+      k_finalize cause want s u = k_finalize_part cause want (depth t) s u
+
+      k_finalize_begun : (cause : Cause) (m : Member) → Same (finalize_begun k cause m) (finalize_begun j cause m)
+      unfolding finalize_begun
+      k_finalize_begun cause m = k_seq (k_of_record m.ty (k_done _) (λ u. k_finalize cause Every (whole m.number) u)) (λ b. k_then (closed.changes (ends _)) (k_done b))
+
+      k_finalize_object : (cause : Cause) (m : Member) → Same (finalize_object k cause m) (finalize_object j cause m)
+      unfolding finalize_object
+      k_finalize_object cause m = k_then (k_then (k_must_exist _) (closed.changes (begins _))) (k_finalize_begun cause m)
+
+      k_finalize_failed : (paths : List (List ℕ)) (s : Spot) (u : ℕ) → Same (finalize_failed k paths s u) (finalize_failed j paths s u)
+      unfolding finalize_failed
+      k_finalize_failed paths s u = k_seq (k_finalize _ (These paths) s u) (λ b. k_then (k_when _ (closed.changes (ends _))) (k_done b))
+
+      k_finalize_group : (cause : Cause) (g : Group) → Same (finalize_group k cause g) (finalize_group j cause g)
+      k_finalize_group cause g = closed.finishes call spare default fallback cause g (k_finalize_begun cause)
+
+      k_lives : (b : Birth) (s : Spot) (u : ℕ) → Same (lives k b s u) (lives j b s u)
+      unfolding lives
+      k_lives b s u = k_either _ (closed.shows _) k_nothing
+
+      k_lives_if : (b : Option Birth) (s : Spot) (u : ℕ) → Same (lives_if k b s u) (lives_if j b s u)
+      unfolding lives_if
+      k_lives_if None s u = k_nothing
+      k_lives_if (Some b) s u = k_lives b s u
+
+      k_adjust_each : (f g : Placed → Adjusted → Act Adjusted) → ((p : Placed) (a : Adjusted) → Same (f p a) (g p a)) → (n : ℕ) (left : List Placed) (a : Adjusted) → Same (adjust_each k f n left a) (adjust_each j g n left a)
+      unfolding adjust_each
+      k_adjust_each f g h zero left a = k_done a
+      k_adjust_each f g h (suc n) left a = k_seq (k_choose (suc n)) (λ i. k_seq (k_ticked (h _ a)) (λ b. k_adjust_each f g h n (pull_rest i left) b))
+
+      k_after_adjust : (x : Option Birth) (s : Spot) (u : ℕ) (a : Adjusted) (r : Tried Done) → Same (after_adjust k x s u a r) (after_adjust j x s u a r)
+      unfolding after_adjust
+      k_after_adjust x s u a (Fine y) = k_then (k_lives_if x s u) (k_done _)
+      k_after_adjust x s u a (Raised e) = k_done _
+
+      k_own_adjust : (x : Option Birth) (s : Spot) (u : ℕ) (a : Adjusted) → Same (own_adjust k x s u a) (own_adjust j x s u a)
+      unfolding own_adjust
+      k_own_adjust x s u a = k_either _ (k_seq (k_attempt (k_call_operation s _ _)) (λ r. k_after_adjust x s u a r)) (k_done a)
+
+      k_adjust_part : (x : Option Birth) (n : ℕ) (s : Spot) (u : ℕ) (a : Adjusted) → Same (adjust_part k x n s u a) (adjust_part j x n s u a)
+      unfolding adjust_part own_adjust controlled_parts
+      k_adjust_part x zero s u a = k_done a
+      k_adjust_part x (suc n) s u a =
+          k_seq (k_adjust_each _ _ (λ p b. k_of_record p.ty (k_done b) (λ v. k_adjust_part x n (component_at s p) v b)) _ _ a) (λ b. k_own_adjust x s u b)
+
+      k_adjust : (x : Option Birth) (s : Spot) (ty : Ty) → Same (adjust k x s ty) (adjust j x s ty)
+      unfolding adjust adjust_record adjusted clean_up_copy
+      k_adjust x s ty =
+          k_of_record ty k_nothing (λ u. k_seq (k_adjust_part x (depth t) s u unadjusted)
+          (λ a. k_either a.failed (k_then (k_when _ (k_then (k_then (k_when _ (closed.changes (begins _))) (k_finalize_failed a.paths s u)) k_nothing)) (k_raise _)) k_nothing))
+
+      k_begin_next : (ps more : List (List ℕ)) (f g : List (List ℕ) → Act Begun) → ((qs : List (List ℕ)) → Same (f qs) (g qs)) → (r : Tried Done) → Same (begin_next ps f more r) (begin_next ps g more r)
+      unfolding begin_next
+      k_begin_next ps more f g h (Fine a) = h (ps ++ more)
+      k_begin_next ps more f g h (Raised e) = k_done _
+
+      k_begin_each : (s : Spot) (f g : Placed → Act Done) → ((p : Placed) → Same (f p) (g p)) → (n : ℕ) (left : List Placed) (ps : List (List ℕ)) → Same (begin_each k s f n left ps) (begin_each j s g n left ps)
+      unfolding begin_each begun_with begin_next paths_of paths_within
+      k_begin_each s f g h zero left ps = k_done _
+      k_begin_each s f g h (suc n) left ps =
+          k_seq (k_choose (suc n)) (λ i. k_seq (k_attempt (k_ticked (h _))) (λ r. k_begin_next ps _ _ _ (λ qs. k_begin_each s f g h n (pull_rest i left) qs) r))
+
+      k_own_initialize : (s : Spot) (u : ℕ) (ps : List (List ℕ)) → Same (own_initialize k s u ps) (own_initialize j s u ps)
+      unfolding own_initialize begun_with
+      k_own_initialize s u ps = k_either _ (k_seq (k_attempt (k_call_operation s _ _)) (λ r. k_begin_next ps [] _ _ (λ qs. k_done _) r)) (k_done _)
+
+      k_unless_failed : (f g : List (List ℕ) → Act Begun) → ((ps : List (List ℕ)) → Same (f ps) (g ps)) → (b : Begun) → Same (unless_failed f b) (unless_failed g b)
+      unfolding unless_failed
+      k_unless_failed f g h b = k_on_some b.failure (h b.paths) (λ e. k_done b)
+
+      k_failed_with : (e : ℕ) (b : Bool) → Same (failed_with e b) (failed_with e b)
+      unfolding failed_with
+      k_failed_with e true = k_raise _
+      k_failed_with e false = k_raise _
+
+      k_begun : (b : Birth) (s : Spot) (u : ℕ) (x : Begun) → Same (begun k b s u x) (begun j b s u x)
+      unfolding begun clean_up
+      k_begun b s u x =
+          k_on_some x.failure (k_when _ (k_lives b s u))
+          (λ e. k_seq (k_then (closed.changes (begins _)) (k_finalize_failed x.paths s u)) (λ c. k_failed_with e c))
+
+      k_begin_component : (b : Birth) (f g : Spot → ℕ → Act Done) → ((s : Spot) (u : ℕ) → Same (f s u) (g s u)) → (s : Spot) (u : ℕ) (p : Placed) → Same (begin_component k b f s u p) (begin_component j b g s u p)
+      unfolding begin_component
+      k_begin_component b f g h s u p =
+          k_either _ (k_then (k_seq (values u _ b.home) (λ v. k_write_part _ _ v)) (k_adjust (Some b) (component_at s p) p.ty))
+          (k_of_record p.ty k_nothing (λ x. h _ x))
+
+      k_initialize_part : (b : Birth) (n : ℕ) (s : Spot) (u : ℕ) → Same (initialize_part k b n s u) (initialize_part j b n s u)
+      unfolding initialize_part begin_component unless_failed begun parts_to_begin
+      k_initialize_part b zero s u = k_nothing
+      k_initialize_part b (suc n) s u =
+          k_seq (k_seq (k_begin_each s _ _ (λ p. k_begin_component b _ _ (λ s1 u1. k_initialize_part b n s1 u1) s u p) _ _ []) (λ x. k_unless_failed _ _ (λ ps. k_own_initialize s u ps) x))
+          (λ x. k_begun b s u x)
+
+      k_fill : (b : Birth) (n : ℕ) (ty : Ty) (v : Option (List ℕ)) → Same (fill k b n ty v) (fill j b n ty v)
+      unfolding fill initialize
+      k_fill b n ty v =
+          k_then (k_on_some v (k_of_record ty k_nothing (λ u. k_initialize_part b (depth t) (whole n) u)) (λ x. k_then (k_write_part n 0 x) (k_adjust (Some b) (whole n) ty))) (k_must_exist n)
+
+      -- Storage -----------------------------------------------------------------------
+
+      k_with_block_pool : {A : Type 0} (n : ℕ) {f g : BlockPoolRecord → Act A} → ((p : BlockPoolRecord) → Same (f p) (g p)) → Same (with_block_pool n f) (with_block_pool n g)
+      unfolding with_block_pool
+      k_with_block_pool n h = closed.looks (λ w. k_on_some _ k_gone (λ p. k_either _ (h p) k_gone))
+
+      k_library_allocate : (n size : ℕ) → Same (library_allocate n size) (library_allocate n size)
+      unfolding library_allocate
+      k_library_allocate n size = k_with_block_pool n (λ p. k_either _ (k_raise _) (closed.looks (λ w. k_then (closed.changes (stores _)) (k_done _))))
+
+      k_library_deallocate : (n a : ℕ) → Same (library_deallocate n a) (library_deallocate n a)
+      unfolding library_deallocate
+      k_library_deallocate n a = k_with_block_pool n (λ p. closed.looks (λ w. k_either _ (closed.changes (stores _)) (closed.stops _)))
+
+      k_tested : (n size a : ℕ) → Same (tested n size a) (tested n size a)
+      unfolding tested
+      k_tested n size a = k_with_block_pool n (λ p. closed.looks (λ w. k_either _ (k_done _) (closed.stops _)))
+
+      k_user_allocate : (n size f : ℕ) → Same (user_allocate k n size f) (user_allocate j n size f)
+      unfolding user_allocate
+      k_user_allocate n size f = k_either _ (k_raise _) (k_seq (k_then (closed.shows _) (k_with_home n (λ d. calls _ _ d))) (λ r. k_tested n size _))
+
+      k_block_storage : (n size : ℕ) → Same (block_storage k n size) (block_storage j n size)
+      unfolding block_storage
+      k_block_storage n size = k_seq (k_existing n (λ o. k_on_some _ (k_library_allocate n size) (λ f. k_user_allocate n size f))) (λ a. k_done _)
+
+      k_give_back : (n a size : ℕ) → Same (give_back k n a size) (give_back j n a size)
+      unfolding give_back
+      k_give_back n a size = k_existing n (λ o. k_on_some _ (k_library_deallocate n a) (λ f. k_then (k_then (closed.shows _) (k_with_home n (λ d. calls _ _ d))) k_nothing))
+
+      k_subpool_storage : (n s size : ℕ) → Same (subpool_storage n s size) (subpool_storage n s size)
+      unfolding subpool_storage room_in
+      k_subpool_storage n s size =
+          closed.looks (λ w. k_on_some _ (closed.stops _) (λ x. k_on_some _ k_gone (λ p. k_either _ (k_either _ (k_raise _) (k_then (closed.changes (stores _)) (k_done _))) (k_raise _))))
+
+      k_dropped : (n s : ℕ) (b : Bool) (p : MarkPoolRecord) → Same (dropped n s b p) (dropped n s b p)
+      unfolding dropped
+      k_dropped n s b p = k_either _ (k_then (closed.looks (λ w. closed.counts _ (closed.changes (stores _)))) (k_done b)) (k_then (closed.changes (stores _)) (k_done true))
+
+      k_release : (m : Act Done) → Same m m → (s : ℕ) → Same (release k m s) (release j m s)
+      unfolding release release_from
+      k_release m h s =
+          closed.looks (λ w. k_on_some _ (closed.stops _) (λ x. k_either _ (closed.stops _) (k_either _ (closed.stops _)
+          (k_seq (k_then (closed.changes (stores _)) (k_finalize_group _ _))
+          (λ b. k_then (k_then (closed.looks (λ w1. closed.counts _ (closed.changes (empties _)))) h) (closed.looks (λ w2. k_on_some _ k_gone (λ p. k_dropped _ s b p))))))))
+
+      k_program_error_if : (b : Bool) → Same (program_error_if b) (program_error_if b)
+      unfolding program_error_if
+      k_program_error_if b = k_either b (k_raise _) k_nothing
+
+      k_unchecked : (f : Found) → Same (unchecked_deallocate_subpool k f) (unchecked_deallocate_subpool j f)
+      unfolding unchecked_deallocate_subpool
+      k_unchecked f = k_seq (k_read_found 1 f) (λ v. k_either _ k_nothing (k_seq (k_release _ (k_write_found f _) _) (λ b. k_program_error_if b)))
+
+      k_release_each : (ss : List ℕ) (b : Bool) → Same (release_each k ss b) (release_each j ss b)
+      unfolding release_each
+      k_release_each [] b = k_done b
+      k_release_each (s ∷ ss) b = k_seq (closed.looks (λ w. k_either _ (k_release _ k_nothing s) (k_done _))) (λ c. k_release_each ss (b || c))
+
+      k_shut_pool : (n : ℕ) → Same (shut_pool n) (shut_pool n)
+      unfolding shut_pool
+      k_shut_pool n = closed.looks (λ w. closed.counts _ (closed.changes (shuts n)))
+
+      k_close_pool : (n : ℕ) → Same (close_pool k n) (close_pool j n)
+      unfolding close_pool
+      k_close_pool n =
+          closed.looks (λ w. k_on_some _ (k_on_some _ (k_done _) (λ p. k_then (k_shut_pool n) (k_done _))) (λ p. k_seq (k_release_each _ false) (λ b. k_then (k_shut_pool n) (k_done b))))
+
+      k_mark_storage : (n : ℕ) (h : Option (List ℕ)) (size : ℕ) → Same (mark_storage n h size) (mark_storage n h size)
+      unfolding mark_storage
+      k_mark_storage n None size = k_seq (k_default_subpool n) (λ s. k_subpool_storage n s size)
+      k_mark_storage n (Some h) size = k_subpool_storage n _ size
+
+      k_storage_in : (n : ℕ) (h : Option (List ℕ)) (size : ℕ) (r : Root) → Same (storage_in k n h size r) (storage_in j n h size r)
+      unfolding storage_in
+      k_storage_in n h size Untagged = k_block_storage n size
+      k_storage_in n h size Controlled = k_block_storage n size
+      k_storage_in n h size BlockPool = k_block_storage n size
+      k_storage_in n h size MarkPool = k_mark_storage n h size
+
+      k_storage : (env : List ℕ) (p : Option Var) (h : Option (List ℕ)) (size : ℕ) → Same (storage k env p h size) (storage j env p h size)
+      unfolding storage
+      k_storage env None h size = k_done _
+      k_storage env (Some v) h size = k_seq (k_find_var env v) (λ f. k_existing _ (λ o. k_storage_in _ h size _))
+
+      -- Allocators and Free --------------------------------------------------------------
+
+      k_created_or_gone : (n : ℕ) (r : Tried Done) → Same (created_or_gone n r) (created_or_gone n r)
+      unfolding created_or_gone
+      k_created_or_gone n (Fine a) = k_done n
+      k_created_or_gone n (Raised e) = k_then (closed.counts _ (closed.changes (forgets n))) (k_raise e)
+
+      k_created : (set : ℕ) (ty : Ty) (v : Option (List ℕ)) (p : Place) → Same (created k set ty v p) (created j set ty v p)
+      unfolding created
+      k_created set ty v p = closed.looks (λ w. k_seq (k_then (closed.changes (creates_at ty _ set p)) (k_attempt (k_fill _ _ ty v))) (λ r. k_created_or_gone _ r))
+
+      k_with_set : {A : Type 0} (env : List ℕ) (a : AccessType) {f g : ℕ → Act A} → ((n : ℕ) → Same (f n) (g n)) → Same (with_set env a f) (with_set env a g)
+      unfolding with_set
+      k_with_set env a h = closed.looks (λ w. h _)
+
+      k_allocate_for : (env : List ℕ) (ty : Ty) (h v : Option (List ℕ)) (a : AccessType) → Same (allocate_for k env ty h v a) (allocate_for j env ty h v a)
+      unfolding allocate_for
+      k_allocate_for env ty h v a =
+          k_with_set env a (λ set. closed.looks (λ w. k_on_some _ k_gone (λ c. k_either _ (k_raise _) (k_seq (k_storage env a.pool h _) (λ p. k_created set ty v p)))))
+
+      pub k_allocate : (env : List ℕ) (a : ℕ) (ty : Ty) (h v : Option (List ℕ)) → Same (allocate k env a ty h v) (allocate j env a ty h v)
+      unfolding allocate
+      k_allocate env a ty h v = k_either _ (k_raise _) (k_on_some _ k_gone (λ b. k_allocate_for env ty h v b))
+
+      k_returns_storage : (ty : Ty) (x : Origin) → Same (returns_storage k ty x) (returns_storage j ty x)
+      unfolding returns_storage
+      k_returns_storage ty (Declared m) = k_nothing
+      k_returns_storage ty (Allocated s Standard) = k_nothing
+      k_returns_storage ty (Allocated s (InBlock p a)) = k_give_back p a _
+      k_returns_storage ty (Allocated s (InSubpool x)) = k_nothing
+
+      k_free_object : (f : Found) (set : ℕ) (o : Object) → Same (free_object k f set o) (free_object j f set o)
+      unfolding free_object finalize_unfinalized freed
+      k_free_object f set o =
+          k_either _ (closed.stops _) (k_either _ (closed.stops _) (k_seq (k_either _ (k_finalize_object _ _) (k_done _))
+          (λ b. k_then (k_then (k_then (k_write_found f _) (closed.counts _ (closed.changes (forgets _)))) (k_returns_storage _ _)) (k_program_error_if b))))
+
+      k_free : (env : List ℕ) (a : ℕ) (f : Found) → Same (free k env a f) (free j env a f)
+      unfolding free free_value
+      k_free env a f = k_seq (k_read_found 1 f) (λ v. k_either _ k_nothing (k_existing _ (λ o. k_on_some _ k_gone (λ b. k_with_set env b (λ set. k_free_object f set o)))))
+
+      -- Masters --------------------------------------------------------------------------
+
+      k_finalize_layer : (x : Layer) → Same (finalize_layer k x) (finalize_layer j x)
+      unfolding finalize_layer finalize_declared finalize_sets finalize_if_controlled
+      k_finalize_layer (Single n) = k_existing n (λ o. k_seq (k_either _ (k_finalize_object _ _) (k_done _)) (λ a. k_seq (k_close_pool _) (λ b. k_done _)))
+      k_finalize_layer (Sets xs) = k_then (closed.counts _ (closed.changes (starts xs))) (k_finalize_group _ _)
+
+      k_leave_layers : (m : ℕ) (xs : List Layer) (b : Bool) → Same (leave_layers k m xs b) (leave_layers j m xs b)
+      unfolding leave_layers
+      k_leave_layers m [] b = k_done b
+      k_leave_layers m (x ∷ xs) b = k_seq (k_ticked (k_then (closed.changes (takes m)) (k_finalize_layer x))) (λ c. k_leave_layers m xs (b || c))
+
+      k_leave_master : (m : ℕ) (r : Result Done) → Same (leave k m r) (leave j m r)
+      unfolding leave left
+      k_leave_master m r =
+          k_ticked (k_seq (closed.looks (λ w. k_leave_layers m _ false)) (λ b. closed.looks (λ w. k_then (k_then (closed.counts _ (closed.changes (closes m))) (k_program_error_if b)) (k_done _))))
+
+      k_in_master : (env : List ℕ) (ss : List Slot) (f g : List ℕ → Act Done) → ((d : List ℕ) → Same (f d) (g d)) → Same (in_master k env ss f) (in_master j env ss g)
+      unfolding in_master
+      k_in_master env ss f g h = closed.looks (λ w. k_then (closed.changes (opens env ss)) (closed.joins (h _) (λ r. k_leave_master _ r)))
+
+      k_declare : (m slot : ℕ) (ty : Ty) (v : Option (List ℕ)) → Same (declare k m slot ty v) (declare j m slot ty v)
+      unfolding declare
+      k_declare m slot ty v =
+          closed.looks (λ w. k_then (k_then (k_then (closed.changes (creates ty _ _)) (closed.changes (sets m slot _))) (k_fill _ _ ty v)) (closed.changes (layers m _)))
+
+      k_gather_each : (m : ℕ) (accesses found : List ℕ) → Same (gather_each k m accesses found) (gather_each j m accesses found)
+      unfolding gather_each gather
+      k_gather_each m [] found = closed.changes (layers m _)
+      k_gather_each m (a ∷ more) found =
+          k_seq (k_ticked (k_on_some _ k_gone (λ x. closed.looks (λ w. k_then (closed.changes (gathers m _ _)) (k_done _))))) (λ n. k_gather_each m more (found ++ n ∷ []))
+
+      -- Items ------------------------------------------------------------------------------
+
+      abbrev pub GoodItem : Elaborating → Type 0
+      GoodItem x = (env : List ℕ) (m : ℕ) → Same (x k env m) (x j env m)
+
+      abbrev pub GoodAssociation : ℕ × Valued → Type 0
+      GoodAssociation x = GoodValue x.1
+
+      k_discriminants : (env : List ℕ) (xs : List (ℕ × Valued)) → Each GoodAssociation xs → (d : ℕ × ℕ) → Same (discriminants k env xs d) (discriminants j env xs d)
+      unfolding discriminants
+      k_discriminants env [] h d = k_done d
+      k_discriminants env (x ∷ xs) h d = k_seq (h.0 env) (λ v. k_discriminants env xs h.1 _)
+
+      k_open_pool : (r : Root) (n : ℕ) (d : ℕ × ℕ) → Same (open_pool r n d) (open_pool r n d)
+      unfolding open_pool
+      k_open_pool Untagged n d = closed.changes (stores _)
+      k_open_pool Controlled n d = closed.changes (stores _)
+      k_open_pool BlockPool n d = closed.changes (stores _)
+      k_open_pool MarkPool n d = closed.changes (stores _)
+
+      k_pool_or_closed : (m n : ℕ) (r : Tried Done) → Same (pool_or_closed m n r) (pool_or_closed m n r)
+      unfolding pool_or_closed
+      k_pool_or_closed m n (Fine a) = closed.changes (layers m _)
+      k_pool_or_closed m n (Raised e) = k_then (closed.changes (shuts _)) (k_raise e)
+
+      k_declare_pool : (m slot u : ℕ) (d : ℕ × ℕ) → Same (declare_pool k m slot u d) (declare_pool j m slot u d)
+      unfolding declare_pool
+      k_declare_pool m slot u d =
+          k_either _ (closed.looks (λ w. k_seq (k_then (k_then (k_then (closed.changes (creates _ _ _)) (closed.changes (sets m slot _))) (k_open_pool _ _ d)) (k_attempt (k_fill _ _ (Record u) None))) (λ r. k_pool_or_closed m _ r))) (k_raise _)
+
+      pub good_collections : (accesses : List ℕ) → GoodItem (collections accesses)
+      unfolding collections
+      good_collections accesses env m = k_gather_each m accesses []
+
+      pub good_object : (slot : ℕ) (ty : Ty) (v : Option Valued) → IfSome GoodValue v → GoodItem (object slot ty v)
+      unfolding object
+      good_object slot ty v h env m = k_ticked (k_seq (k_if_given env v h) (λ x. k_declare m slot ty x))
+
+      pub good_pool : (slot u : ℕ) (ds : List (ℕ × Valued)) → Each GoodAssociation ds → GoodItem (pool slot u ds)
+      unfolding pool
+      good_pool slot u ds h env m = k_ticked (k_seq (k_discriminants env ds h (0, 0)) (λ d. k_declare_pool m slot u d))
+
+      pub good_silent : GoodItem silent
+      unfolding silent
+      good_silent env m = k_ticked k_nothing
+
+      k_elaborate : (env : List ℕ) (m : ℕ) (xs : List Elaborating) → Each GoodItem xs → Same (elaborate k env m xs) (elaborate j env m xs)
+      unfolding elaborate
+      k_elaborate env m [] h = k_nothing
+      k_elaborate env m (x ∷ xs) h = k_then (h.0 env m) (k_elaborate env m xs h.1)
+
+      -- Statements -------------------------------------------------------------------------
+
+      k_dispatch : (env : List ℕ) (op : Operation) (f : Found) → Same (dispatch k env op f) (dispatch j env op f)
+      unfolding dispatch
+      k_dispatch env op f = k_existing _ (λ o. k_on_some _ k_nothing (λ s. k_then (k_seq (k_by_reference f) (λ x. k_call_with env s _)) k_nothing))
+
+      pub good_literal : (v : List ℕ) → GoodValue (S.literal v)
+      unfolding S.literal
+      good_literal v env = k_ticked (k_done _)
+
+      pub good_integer_text : (e : Valued) → GoodValue e → GoodValue (S.integer_text e)
+      unfolding S.integer_text
+      good_integer_text e h env = k_ticked (k_seq (h env) (λ v. k_done _))
+
+      pub good_boolean_text : (e : Valued) → GoodValue e → GoodValue (S.boolean_text e)
+      unfolding S.boolean_text
+      good_boolean_text e h env = k_ticked (k_seq (h env) (λ v. k_done _))
+
+      k_join_pieces : (env : List ℕ) (ps : List Valued) → Each GoodValue ps → (v : List ℕ) → Same (join_pieces k env ps v) (join_pieces j env ps v)
+      unfolding join_pieces
+      k_join_pieces env [] h v = k_done v
+      k_join_pieces env (p ∷ ps) h v = k_seq (k_ticked (h.0 env)) (λ u. k_join_pieces env ps h.1 (v ++ u))
+
+      k_text : (env : List ℕ) (ps : List Valued) → Each GoodValue ps → Same (eval_text k env ps) (eval_text j env ps)
+      unfolding eval_text
+      k_text env [] h = k_done _
+      k_text env (p ∷ ps) h = k_seq (h.0 env) (λ v. k_join_pieces env ps h.1 v)
+
+      k_assign_record : (u : ℕ) (f g : Found) → Same (assign_record k u f g) (assign_record j u f g)
+      unfolding assign_record overwrite
+      k_assign_record u f g =
+          k_seq (k_read_found _ g) (λ v. k_either _ k_nothing (k_then (k_then (k_when _ (k_then (k_finalize _ Every (spot_of f) u) k_nothing)) (k_write_found f v)) (k_adjust None (spot_of f) (Record u))))
+
+      k_leaving : {m n : Act Done} → Same m n → Same (leaving m) (leaving n)
+      unfolding leaving
+      k_leaving h = closed.joins h (λ r. k_ticked (closed.gives r))
+
+      k_turned : {m n : Act Done} → Same m n → (r : Result Bool) → Same (turned m r) (turned n r)
+      unfolding turned
+      k_turned h (Goes true) = h
+      k_turned h (Goes false) = k_nothing
+      k_turned h (Leaves ByExit) = k_nothing
+      k_turned h (Leaves (ByReturn v)) = k_leave _
+      k_turned h (Leaves (ByRaise e)) = k_leave _
+
+      k_one_turn : {m n : Act Done} → Same m n → Same (one_turn m) (one_turn n)
+      unfolding one_turn
+      k_one_turn h = closed.spends (k_ticked (k_then h (k_done _)))
+
+      k_for_turns : (n : ℕ) (next : ℤ → ℤ) (f g : ℤ → Act Done) → ((z : ℤ) → Same (f z) (g z)) → (z : ℤ) → Same (for_turns n next f z) (for_turns n next g z)
+      unfolding for_turns
+      k_for_turns zero next f g h z = k_nothing
+      k_for_turns (suc n) next f g h z = closed.joins (k_one_turn (h z)) (λ r. k_turned (k_for_turns n next f g h (next z)) r)
+
+      k_for : (b : Direction) (f g : ℤ → Act Done) → ((z : ℤ) → Same (f z) (g z)) → (x y : ℤ) → Same (for b f x y) (for b g x y)
+      unfolding for
+      k_for Upward f g h x y = k_for_turns _ _ f g h x
+      k_for Downward f g h x y = k_for_turns _ _ f g h y
+
+      k_handled : (f g : ℕ → Act Done) → ((e : ℕ) → Same (f e) (g e)) → (r : Result Done) → Same (handled f r) (handled g r)
+      unfolding handled
+      k_handled f g h (Goes a) = k_nothing
+      k_handled f g h (Leaves ByExit) = k_leave _
+      k_handled f g h (Leaves (ByReturn v)) = k_leave _
+      k_handled f g h (Leaves (ByRaise e)) = h e
+
+      k_scalar : {m n : Act (List ℕ)} {f g : ℕ → Act Done} → Same m n → ((i : ℕ) → Same (f i) (g i)) → Same (scalar m f) (scalar n g)
+      unfolding scalar
+      k_scalar h i = k_seq h (λ v. i _)
+
+      k_set_loop : (env : List ℕ) (v : Var) (z : ℤ) → Same (set_loop env v z) (set_loop env v z)
+      unfolding set_loop
+      k_set_loop env v z = closed.changes (sets _ _ _)
+
+      -- What holds of statements ---------------------------------------------------------------
+
+      abbrev pub GoodDoing : Doing → Type 0
+      GoodDoing s = (env : List ℕ) (e : ℕ) → Same (s k env e) (s j env e)
+
+      abbrev pub GoodGuard : Guarding → Type 0
+      GoodGuard x = (env : List ℕ) (e : ℕ) (m n : Act Done) → Same m n → Same (x k env e m) (x j env e n)
+
+      abbrev pub GoodBody : Body → Type 0
+      GoodBody b = GoodDoing b.inside
+
+      k_each : (env : List ℕ) (e : ℕ) (ss : List Doing) → Each GoodDoing ss → Same (do_each k env e ss) (do_each j env e ss)
+      unfolding do_each
+      k_each env e [] h = k_nothing
+      k_each env e (s ∷ ss) h = k_then (h.0 env e) (k_each env e ss h.1)
+
+      k_first : (env : List ℕ) (e : ℕ) (xs : List Guarding) → Each GoodGuard xs → {m n : Act Done} → Same m n → Same (do_first k env e xs m) (do_first j env e xs n)
+      unfolding do_first
+      k_first env e [] h i = i
+      k_first env e (x ∷ xs) h i = h.0 env e _ _ (k_first env e xs h.1 i)
+
+      k_handle : (env : List ℕ) (xs : List Guarding) → Each GoodGuard xs → (e : ℕ) → Same (handle k env xs e) (handle j env xs e)
+      unfolding handle
+      k_handle env xs h e = k_first env e xs h (k_raise e)
+
+      pub good_null : GoodDoing S.null
+      unfolding S.null
+      good_null env e = k_ticked k_nothing
+
+      pub good_assign : (n : Naming) (v : Valued) → GoodName n → GoodValue v → GoodDoing (S.assign n v)
+      unfolding S.assign
+      good_assign n v h i env e = k_ticked (k_seq (h env) (λ f. k_seq (i env) (λ x. k_write_found f x)))
+
+      pub good_assign_part : (n : Naming) (u : ℕ) (a : Supplied) → GoodName n → GoodActual a → GoodDoing (S.assign_part n u a)
+      unfolding S.assign_part
+      good_assign_part n u a h i env e = k_ticked (k_seq (h env) (λ f. k_seq (i.0 env) (λ g. k_assign_record u f g)))
+
+      pub good_call_statement : (f : ℕ) (xs : List Supplied) → Each GoodActual xs → GoodDoing (S.call f xs)
+      unfolding S.call
+      good_call_statement f xs h env e = k_ticked (k_then (k_seq (k_pass_each env xs h no_actuals) (λ p. k_call_with env f p)) k_nothing)
+
+      pub good_call_nothing : (n : Naming) → GoodName n → GoodDoing (S.call_nothing n)
+      unfolding S.call_nothing
+      good_call_nothing n h env e = k_ticked (k_then (h env) k_nothing)
+
+      pub good_dispatching : (op : Operation) (n : Naming) → GoodName n → GoodDoing (S.call_dispatching op n)
+      unfolding S.call_dispatching
+      good_dispatching op n h env e = k_ticked (k_seq (h env) (λ f. k_dispatch env op f))
+
+      pub good_call_allocate : (p a : Naming) (size al : Valued) → GoodName p → GoodName a → GoodValue size → GoodValue al → GoodDoing (S.call_allocate p a size al)
+      unfolding S.call_allocate
+      good_call_allocate p a size al h i l m env e = k_ticked (k_seq (h env) (λ f. k_seq (i env) (λ g. k_scalar (l env) (λ s. k_seq (k_then (m env) (k_library_allocate _ s)) (λ y. k_write_found g _)))))
+
+      pub good_call_deallocate : (p : Naming) (a size al : Valued) → GoodName p → GoodValue a → GoodValue size → GoodValue al → GoodDoing (S.call_deallocate p a size al)
+      unfolding S.call_deallocate
+      good_call_deallocate p a size al h i l m env e = k_ticked (k_seq (h env) (λ f. k_scalar (i env) (λ y. k_then (k_then (l env) (m env)) (k_library_deallocate _ y))))
+
+      pub good_put : (ps : List Valued) → Each GoodValue ps → GoodDoing (S.put ps)
+      unfolding S.put
+      good_put ps h env e = k_ticked (k_seq (k_text env ps h) (λ v. closed.shows _))
+
+      pub good_put_line : (ps : List Valued) → Each GoodValue ps → GoodDoing (S.put_line ps)
+      unfolding S.put_line
+      good_put_line ps h env e = k_ticked (k_seq (k_text env ps h) (λ v. k_then (closed.shows _) (closed.shows _)))
+
+      pub good_new_line : GoodDoing S.new_line
+      unfolding S.new_line
+      good_new_line env e = k_ticked (closed.shows _)
+
+      pub good_exit : (o : Option Valued) → IfSome GoodValue o → GoodDoing (S.exit o)
+      unfolding S.exit
+      good_exit None h env e = k_ticked (k_leave _)
+      good_exit (Some x) h env e = k_ticked (k_scalar (h env) (λ b. k_either _ (k_leave _) k_nothing))
+
+      pub good_return : (o : Option Valued) → IfSome GoodValue o → GoodDoing (S.return o)
+      unfolding S.return
+      good_return None h env e = k_ticked (k_leave _)
+      good_return (Some x) h env e = k_ticked (k_seq (h env) (λ v. k_leave _))
+
+      pub good_raise : (x : ℕ) → GoodDoing (S.raise_new x)
+      unfolding S.raise_new
+      good_raise x env e = k_ticked (k_raise _)
+
+      pub good_raise_again : GoodDoing S.raise_again
+      unfolding S.raise_again
+      good_raise_again env e = k_ticked (k_raise _)
+
+      pub good_choose_arm : (xs : List Guarding) (ss : List Doing) → Each GoodGuard xs → Each GoodDoing ss → GoodDoing (S.choose_arm xs ss)
+      unfolding S.choose_arm
+      good_choose_arm xs ss h i env e = k_ticked (k_leaving (k_first env e xs h (k_each env e ss i)))
+
+      pub good_loop : (ss : List Doing) → Each GoodDoing ss → GoodDoing (S.loop_plainly ss)
+      unfolding S.loop_plainly
+      good_loop ss h env e = k_ticked (k_leaving (closed.repeats (k_each env e ss h)))
+
+      pub good_while : (v : Valued) (ss : List Doing) → GoodValue v → Each GoodDoing ss → GoodDoing (S.loop_while v ss)
+      unfolding S.loop_while
+      good_while v ss h i env e = k_ticked (k_leaving (closed.repeats_while (h env) (k_each env e ss i)))
+
+      pub good_for : (x : Var) (way : Direction) (low high : Valued) (ss : List Doing) → GoodValue low → GoodValue high → Each GoodDoing ss → GoodDoing (S.loop_for x way low high ss)
+      unfolding S.loop_for
+      good_for x way low high ss h i l env e = k_ticked (k_leaving (k_scalar (h env) (λ a. k_scalar (i env) (λ b. k_for way _ _ (λ z. k_then (k_set_loop env x z) (k_each env e ss l)) _ _))))
+
+      pub good_block : (b : Body) → GoodBody b → GoodDoing (S.do_block b)
+      unfolding S.do_block
+      good_block b h env e = k_ticked (k_seq (k_in_master env _ _ _ (λ inner. h inner e)) (λ y. closed.gives y.result))
+
+      pub good_free : (a : ℕ) (n : Naming) → GoodName n → GoodDoing (S.free_object_of a n)
+      unfolding S.free_object_of
+      good_free a n h env e = k_ticked (k_seq (h env) (λ f. k_free env a f))
+
+      pub good_release : (n : Naming) → GoodName n → GoodDoing (S.release_subpool n)
+      unfolding S.release_subpool
+      good_release n h env e = k_ticked (k_seq (h env) (λ f. k_unchecked f))
+
+      pub good_guard : (v : Valued) (ss : List Doing) → GoodValue v → Each GoodDoing ss → GoodGuard (S.guard v ss)
+      unfolding S.guard
+      good_guard v ss h i env e m n x = k_scalar (h env) (λ b. k_either _ (k_each env e ss i) x)
+
+      pub good_handler : (choices : Choices) (ss : List Doing) → Each GoodDoing ss → GoodGuard (S.handler choices ss)
+      unfolding S.handler
+      good_handler choices ss h env e m n x = closed.counts _ (k_either _ (k_each env e ss h) x)
+
+      pub good_within : (xs : List Elaborating) (ss : List Doing) (hs : List Guarding) → Each GoodItem xs → Each GoodDoing ss → Each GoodGuard hs → GoodDoing (S.within xs ss hs)
+      unfolding S.within
+      good_within xs ss hs h i l env e = k_then (k_elaborate env _ xs h) (closed.joins (k_each env e ss i) (λ r. k_handled _ _ (λ x. k_handle env hs l x) r))
+
+      -- Bodies -----------------------------------------------------------------------------
+
+      k_returned : (b : SubprogramKind) (ss : List Slot) (r : Result Done) → Same (returned b ss r) (returned b ss r)
+      unfolding returned
+      k_returned Function ss (Goes a) = k_raise _
+      k_returned Procedure ss (Goes a) = k_done _
+      k_returned Function ss (Leaves ByExit) = k_raise _
+      k_returned Procedure ss (Leaves ByExit) = k_done _
+      k_returned Function ss (Leaves (ByReturn v)) = k_done _
+      k_returned Procedure ss (Leaves (ByReturn v)) = k_done _
+      k_returned Function ss (Leaves (ByRaise e)) = k_raise _
+      k_returned Procedure ss (Leaves (ByRaise e)) = k_raise _
+
+      pub k_run_routine : (env : List ℕ) (ss : List Slot) (s : Routine) → GoodBody s.body → Same (run_routine k env ss s) (run_routine j env ss s)
+      unfolding run_routine
+      k_run_routine env ss s h = k_seq (k_in_master _ _ _ _ (λ inner. h inner 0)) (λ x. k_returned s.kind x.slots x.result)
+
+      pub k_gone_too : {A : Type 0} → Same {A = A} gone gone
+      k_gone_too = k_gone

@@ -1,16 +1,16 @@
+pub mod Trees
+pub mod Relation
 pub mod Induction
-pub mod Candidates
+pub mod Glue
+pub mod Bodies
+pub mod Due
 pub mod Advance
 pub mod Cuts
-pub mod MoreClock
 pub mod SameAnswers
+pub mod MoreClock
 pub mod Emptied
-pub mod Agreement
-pub mod Agreeing
+pub mod Candidates
+pub mod Order
 pub mod Proved
-pub mod Build
-mod RunsOfMasters
-mod RunsOfAssignment
-mod RunsOfCollections
-mod RunsOfPools
+pub mod worked
 mod AuditSamples

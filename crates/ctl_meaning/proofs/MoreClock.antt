@@ -1,23 +1,26 @@
 -- More clock changes no run that ended, and continues one that was cut.
 use Rattle.std.specs.Prelude.{◌≡◌, ℕ, zero, suc, ◌+◌, ◌≤◌, List, [], ◌∷◌, Option, Some, None, Bool, true, false, ◌||◌}
 use Rattle.std.proofs.Common.{refl, sym, ap, subst, arith}
+use Rattle.ctl_program.specs.declared.types.Ty.{Ty}
+use Rattle.ctl_program.specs.declared.program.Checked.{Checked}
 use Rattle.ctl_tree.specs.declared.event.Event.{Event}
 use Rattle.ctl_tree.specs.declared.ending.Stop.{Stop}
 use Rattle.ctl_tree.specs.declared.event.Cause.{Cause}
 use Rattle.ctl_meaning.specs.World.{Log, World, empty_log, empty_world, Object, Collection, Member}
-use Rattle.ctl_meaning.specs.Changes.{object_at, Group, candidates_of}
+use Rattle.ctl_meaning.specs.Changes.{object_at}
+use Rattle.ctl_meaning.specs.Members.{Group, candidates_of, count_due}
 use Rattle.ctl_meaning.specs.Choice.{Ask, picked}
 use Rattle.ctl_meaning.specs.Outcome.{Result, Goes, Leaves, ByExit, ByReturn, ByRaise, Out, Gives, Stops, Cut, Act, Done, add, bind, given, then_always, stop, counted, spend, look, change, show, after_pick, answered, choose, leave_by, nothing, done, ticked, on_goes, either, on_some, ◌>>=◌, ◌>>◌}
-use Rattle.ctl_meaning.specs.Types.{Tables}
-use Rattle.ctl_meaning.specs.Names.{Execution, OfSubprogram, OfAllocator, Call, Tools, existing, must_exist, gone}
-use Rattle.ctl_meaning.specs.Ledger.{count_candidates}
+use Rattle.ctl_meaning.specs.Types.{Tables, tables_of}
+use Rattle.ctl_meaning.specs.Names.{Execution, OfSubprogram, OfAllocator, Call, Default, Tools, existing, must_exist, gone}
 use Rattle.ctl_meaning.specs.Finalization.{finalize_begun, finalize_object, finalize_one, finalize_members, finalize_group}
 use Rattle.ctl_meaning.specs.Allocation.{is_new, set_of, join_collection}
 use Rattle.ctl_meaning.specs.Statements.{turned, turns, loop, one_turn, while}
-use Rattle.ctl_meaning.specs.Run.{completed, execute, execution, tools, run_tables}
+use Rattle.ctl_meaning.specs.Run.{meaning_of, completed, execute, execution, tools, run_meaning, run}
 use Rattle.ctl_meaning.specs.Advance.{Grows, log_of, Advancing}
 use Rattle.ctl_meaning.specs.Continues.{Continues}
-use Rattle.ctl_meaning.proofs.Induction.{Closed, k_run_number, k_allocate}
+use Rattle.ctl_meaning.proofs.Relation.{Closed}
+use Rattle.ctl_meaning.proofs.Bodies.{good_run_number, good_allocate}
 use Rattle.ctl_meaning.proofs.Advance as A
 use Rattle.ctl_meaning.proofs.Advance.{grows_same, grows_more}
 
@@ -117,9 +120,9 @@ module _ (ask : Ask) (more : ℕ) where
   found_set None h x = h
   found_set (Some o) h x = x o
 
-  enlists : (t : Tables) (n : ℕ) → Longer (join_collection t n) (join_collection t n)
+  enlists : (n : ℕ) → Longer (join_collection n) (join_collection n)
   unfolding join_collection existing gone
-  enlists t n = looks (λ w. found (object_at n w) (stopped _) (λ o. looks (λ w1. found_set (set_of o.origin w1) (stopped _) (λ c. choice (is_new o) (changes _) (stopped _)))))
+  enlists n = looks (λ w. found (object_at n w) (stopped _) (λ o. looks (λ w1. found_set (set_of o.origin w1) (stopped _) (λ c. choice (is_new o) (changes _) (stopped _)))))
 
   goes_on : {A B : Type 0} {f g : A → Act B} → ((a : A) → Longer (f a) (g a)) → (r : Result A) → Longer (on_goes f r) (on_goes g r)
   unfolding on_goes
@@ -165,28 +168,28 @@ module _ (ask : Ask) (more : ℕ) where
   unfolding finalize_object must_exist existing gone nothing
   object_finishes k j cause m h = then_goes (then_goes (looks (λ w. found (object_at m.number w) (stopped _) (λ o. gives _))) (changes _)) h
 
-  one_finishes : (t : Tables) (call spare : Call) (cause : Cause) → ((m : Member) → Longer (finalize_begun (record { ask = ask; tables = t; call = call }) cause m) (finalize_begun (record { ask = ask; tables = t; call = spare }) cause m)) → (f g : Bool → Act Bool) → ((b : Bool) → Longer (f b) (g b)) → (b : Bool) (ms : List Member) → Longer (finalize_one (record { ask = ask; tables = t; call = call }) cause f b ms) (finalize_one (record { ask = ask; tables = t; call = spare }) cause g b ms)
+  one_finishes : (t : Tables) (call spare : Call) (default fallback : Default) (cause : Cause) → ((m : Member) → Longer (finalize_begun (record { ask = ask; tables = t; call = call; default = default }) cause m) (finalize_begun (record { ask = ask; tables = t; call = spare; default = fallback }) cause m)) → (f g : Bool → Act Bool) → ((b : Bool) → Longer (f b) (g b)) → (b : Bool) (ms : List Member) → Longer (finalize_one (record { ask = ask; tables = t; call = call; default = default }) cause f b ms) (finalize_one (record { ask = ask; tables = t; call = spare; default = fallback }) cause g b ms)
   unfolding finalize_one choose done ◌>>=◌
-  one_finishes t call spare cause h f g x b [] = gives _
-  one_finishes t call spare cause h f g x b (m ∷ ms) = sequence (counts _ (answers _)) (goes_on (λ i. sequence (object_finishes _ _ cause _ (h _)) (goes_on (λ d. x (b || d)))))
+  one_finishes t call spare default fallback cause h f g x b [] = gives _
+  one_finishes t call spare default fallback cause h f g x b (m ∷ ms) = sequence (counts _ (answers _)) (goes_on (λ i. sequence (object_finishes _ _ cause _ (h _)) (goes_on (λ d. x (b || d)))))
 
-  members_at : (t : Tables) (call spare : Call) (cause : Cause) (g : Group) → ((m : Member) → Longer (finalize_begun (record { ask = ask; tables = t; call = call }) cause m) (finalize_begun (record { ask = ask; tables = t; call = spare }) cause m)) → (i k : ℕ) → i ≤ k → (b : Bool) (c : ℕ) (l : Log) (w : World) → Continues ask more (finalize_members (record { ask = ask; tables = t; call = call }) cause g i b c l w) (finalize_members (record { ask = ask; tables = t; call = spare }) cause g k b (c + more) l w)
+  members_at : (t : Tables) (call spare : Call) (default fallback : Default) (cause : Cause) (g : Group) → ((m : Member) → Longer (finalize_begun (record { ask = ask; tables = t; call = call; default = default }) cause m) (finalize_begun (record { ask = ask; tables = t; call = spare; default = fallback }) cause m)) → (i k : ℕ) → i ≤ k → (b : Bool) (c : ℕ) (l : Log) (w : World) → Continues ask more (finalize_members (record { ask = ask; tables = t; call = call; default = default }) cause g i b c l w) (finalize_members (record { ask = ask; tables = t; call = spare; default = fallback }) cause g k b (c + more) l w)
   unfolding finalize_members
-  members_at t call spare cause g h zero k e b c l w = (A.members_at ask t spare cause g (λ m. (h m).advances) k b (c + more) l w).grows
-  members_at t call spare cause g h (suc i) zero e b c l w = absurd (omega arith)
-  members_at t call spare cause g h (suc i) (suc k) e b c l w =
-      (one_finishes t call spare cause h _ _ (λ d. record { from = members_at t call spare cause g h i k (omega arith) d; advances = record { from = A.members_at ask t spare cause g (λ m. (h m).advances) k d } }) b (candidates_of g w)).from c l w
+  members_at t call spare default fallback cause g h zero k e b c l w = (A.members_at ask t spare fallback cause g (λ m. (h m).advances) k b (c + more) l w).grows
+  members_at t call spare default fallback cause g h (suc i) zero e b c l w = absurd (omega arith)
+  members_at t call spare default fallback cause g h (suc i) (suc k) e b c l w =
+      (one_finishes t call spare default fallback cause h _ _ (λ d. record { from = members_at t call spare default fallback cause g h i k (omega arith) d; advances = record { from = A.members_at ask t spare fallback cause g (λ m. (h m).advances) k d } }) b (candidates_of t g w)).from c l w
 
-  finishes : (t : Tables) (call spare : Call) (cause : Cause) (g : Group) → ((m : Member) → Longer (finalize_begun (record { ask = ask; tables = t; call = call }) cause m) (finalize_begun (record { ask = ask; tables = t; call = spare }) cause m)) → Longer (finalize_group (record { ask = ask; tables = t; call = call }) cause g) (finalize_group (record { ask = ask; tables = t; call = spare }) cause g)
+  finishes : (t : Tables) (call spare : Call) (default fallback : Default) (cause : Cause) (g : Group) → ((m : Member) → Longer (finalize_begun (record { ask = ask; tables = t; call = call; default = default }) cause m) (finalize_begun (record { ask = ask; tables = t; call = spare; default = fallback }) cause m)) → Longer (finalize_group (record { ask = ask; tables = t; call = call; default = default }) cause g) (finalize_group (record { ask = ask; tables = t; call = spare; default = fallback }) cause g)
   unfolding finalize_group
-  finishes t call spare cause g h = record {
-    from = λ c l w. members_at t call spare cause g h (suc (c + count_candidates w.ledger.collections)) (suc (c + more + count_candidates w.ledger.collections)) (omega arith) false c l w;
-    advances = record { from = λ c l w. A.members_at ask t spare cause g (λ m. (h m).advances) _ false c l w };
+  finishes t call spare default fallback cause g h = record {
+    from = λ c l w. members_at t call spare default fallback cause g h (suc (c + count_due t w)) (suc (c + more + count_due t w)) (omega arith) false c l w;
+    advances = record { from = λ c l w. A.members_at ask t spare fallback cause g (λ m. (h m).advances) _ false c l w };
   }
 
-  completes : (t : Tables) (i : ℕ) → Longer (completed t i) (completed t i)
+  completes : (i : ℕ) → Longer (completed i) (completed i)
   unfolding completed done
-  completes t i = then_goes (enlists t i) (gives _)
+  completes i = then_goes (enlists i) (gives _)
 
   closed : (t : Tables) → Closed t ask ask (λ A m n. Longer {A = A} m n)
   closed t = record {
@@ -199,26 +202,37 @@ module _ (ask : Ask) (more : ℕ) where
     changes = λ {f} e. changes f;
     shows = shows;
     answers = answers;
-    finishes = λ call spare cause g h. finishes t call spare cause g h;
+    finishes = λ call spare default fallback cause g h. finishes t call spare default fallback cause g h;
     repeats = λ {m} {n} h. repeats (one_turns h);
     repeats_while = λ {test} {check} {m} {n} h x. repeats (while_turns h x);
   }
 
   -- Executions: as deep, or deeper --------------------------------------------------------
 
-  executes : (t : Tables) (i k : ℕ) → i ≤ k → (x : Execution) (env : List ℕ) → Longer (execution ask t i x env) (execution ask t k x env)
-  unfolding execution execute ticked done ◌>>=◌
-  executes t zero k e x env = record { from = λ c l w. ((A.executes ask t k x env).from (c + more) l w).grows; advances = A.executes ask t k x env }
-  executes t (suc i) zero e x env = absurd (omega arith)
-  executes t (suc i) (suc k) e (OfSubprogram f ss) env =
-      let h = spends (counts 1 (k_run_number t ask ask (execution ask t i) (execution ask t k) (λ A m o. Longer {A = A} m o) (closed t) (executes t i k (omega arith)) env ss f)) in
-      record { from = λ c l w. h.from c l w; advances = record { from = λ c l w. h.advances.from c l w } }
-  executes t (suc i) (suc k) e (OfAllocator a ty x v) env =
-      let h = spends (sequence (k_allocate t ask ask (execution ask t i) (execution ask t k) (λ A m o. Longer {A = A} m o) (closed t) (executes t i k (omega arith)) env a ty x v) (goes_on (completes t))) in
-      record { from = λ c l w. h.from c l w; advances = record { from = λ c l w. h.advances.from c l w } }
+  takes_one : (call spare : Call) (env : List ℕ) (access : ℕ) (ty : Ty) {m n : Act (Option (List ℕ) × Option (List ℕ))} → ((h v : Option (List ℕ)) → Longer (call (OfAllocator access ty h v) env) (spare (OfAllocator access ty h v) env)) → Longer m n → Longer (spend (m >>= (λ p. call (OfAllocator access ty p.0 p.1) env))) (spend (n >>= (λ p. spare (OfAllocator access ty p.0 p.1) env)))
+  unfolding ◌>>=◌
+  takes_one call spare env access ty h x = spends (sequence x (goes_on (λ p. h p.0 p.1)))
 
-  -- a whole run
-  pub runs : (t : Tables) (main clock : ℕ) → Continues ask more (run_tables t main ask clock) (run_tables t main ask (clock + more))
-  unfolding run_tables tools
-  runs t main clock =
-      (k_run_number t ask ask (execution ask t (suc clock)) (execution ask t (suc (clock + more))) (λ A m o. Longer {A = A} m o) (closed t) (executes t (suc clock) (suc (clock + more)) (omega arith)) [] [] main).from clock empty_log empty_world
+  module _ (program : Checked) where
+    abbrev Rel : (A : Type 0) → Act A → Act A → Type 0
+    Rel = λ A m n. Longer {A = A} m n
+
+    abbrev deep : ℕ → Call
+    deep n = execution ask (meaning_of program) n
+
+    executes : (i k : ℕ) → i ≤ k → (x : Execution) (env : List ℕ) → Longer (deep i x env) (deep k x env)
+    unfolding execution execute ticked ◌>>=◌
+    executes zero k e x env = record { from = λ c l w. ((A.executes ask program k x env).from (c + more) l w).grows; advances = A.executes ask program k x env }
+    executes (suc i) zero e x env = absurd (omega arith)
+    executes (suc i) (suc k) e (OfSubprogram f ss) env =
+        let h = spends (counts 1 (good_run_number program ask ask (deep i) (deep k) Rel (closed (tables_of program)) (λ g xs d. executes i k (omega arith) (OfSubprogram g xs) d) (λ d a ty m m1 j. takes_one (deep i) (deep k) d a ty (λ x y. executes i k (omega arith) (OfAllocator a ty x y) d) j) env ss f)) in
+        record { from = λ c l w. h.from c l w; advances = record { from = λ c l w. h.advances.from c l w } }
+    executes (suc i) (suc k) e (OfAllocator a ty x v) env =
+        let h = sequence (good_allocate program ask ask (deep i) (deep k) Rel (closed (tables_of program)) (λ g xs d. executes i k (omega arith) (OfSubprogram g xs) d) (λ d b uy m m1 j. takes_one (deep i) (deep k) d b uy (λ x y. executes i k (omega arith) (OfAllocator b uy x y) d) j) env a ty x v) (goes_on completes) in
+        record { from = λ c l w. h.from c l w; advances = record { from = λ c l w. h.advances.from c l w } }
+
+    -- a whole run
+    pub runs : (clock : ℕ) → Continues ask more (run program ask clock) (run program ask (clock + more))
+    unfolding run run_meaning tools
+    runs clock =
+        (good_run_number program ask ask (deep (suc clock)) (deep (suc (clock + more))) Rel (closed (tables_of program)) (λ g xs d. executes (suc clock) (suc (clock + more)) (omega arith) (OfSubprogram g xs) d) (λ d a ty m m1 j. takes_one (deep (suc clock)) (deep (suc (clock + more))) d a ty (λ x y. executes (suc clock) (suc (clock + more)) (omega arith) (OfAllocator a ty x y) d) j) [] [] program.main).from clock empty_log empty_world

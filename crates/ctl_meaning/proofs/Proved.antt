@@ -3,36 +3,32 @@ use Rattle.std.specs.Prelude.{◌≡◌, ℕ, suc, ◌+◌, List, [], ◌∷◌,
 use Rattle.std.specs.List.{flat_map}
 use Rattle.std.proofs.Common.{refl, sym, ap, ◌∙◌, subst, arith, append-nil}
 use Rattle.std.proofs.lemmas.Grind.{flat_map-append}
-use Rattle.ctl_tree.specs.declared.checked.Checked.{Checked}
+use Rattle.ctl_program.specs.declared.program.Checked.{Checked}
 use Rattle.ctl_tree.specs.declared.event.Event.{Event}
 use Rattle.ctl_meaning.specs.World.{Pick, Log, empty_log}
 use Rattle.ctl_meaning.specs.Choice.{Ask, AreAnswers, Obeys, accepted, chosen_in, replayed}
 use Rattle.ctl_meaning.specs.Outcome.{Out, Gives, Stops, Cut}
 use Rattle.ctl_meaning.specs.Types.{tables_of}
+use Rattle.ctl_meaning.specs.Members.{OfSets}
 use Rattle.ctl_meaning.specs.Names.{Returned}
-use Rattle.ctl_meaning.specs.Run.{execution, run}
-use Rattle.ctl_meaning.specs.Advance.{Grows, log_of, Advancing}
-use Rattle.ctl_meaning.specs.SameAnswers.{LeavesOpen, Fits}
+use Rattle.ctl_meaning.specs.Run.{meaning_of, tools_with, run}
+use Rattle.ctl_meaning.specs.Advance.{Grows, log_of}
+use Rattle.ctl_meaning.specs.SameAnswers.{LeavesOpen, AnswersAlike}
 use Rattle.ctl_meaning.specs.Continues.{Continues}
-use Rattle.ctl_meaning.specs.Law.{ClockNeverRises, LogOnlyGrows, ChoicesObey, CutsHaveCauses, GroupsAreEmptied, SameAnswersSameRun, ChoicesReplay, MoreClockContinues, GoesOn, TextsContinue, CandidatesAgree}
-use Rattle.ctl_meaning.proofs.Induction.{k_exec}
+use Rattle.ctl_meaning.specs.Law.{tools_at, ClockNeverRises, LogOnlyGrows, ChoicesObey, CutsHaveCauses, GroupsAreEmptied, SameAnswersSameRun, ChoicesReplay, MoreClockContinues, GoesOn, TextsContinue, CandidatesAgree}
 use Rattle.ctl_meaning.proofs.Advance as A
-use Rattle.ctl_meaning.proofs.Agreeing as G
-use Rattle.ctl_meaning.proofs.Agreeing.{Keeping}
+use Rattle.ctl_meaning.proofs.Candidates.{exactly}
+use Rattle.ctl_meaning.proofs.Order as O
 use Rattle.ctl_meaning.proofs.Cuts as C
-use Rattle.ctl_meaning.proofs.Emptied.{emptied}
+use Rattle.ctl_meaning.proofs.Emptied.{emptied, sets_emptied}
 use Rattle.ctl_meaning.proofs.SameAnswers as S
 use Rattle.ctl_meaning.proofs.MoreClock as M
 
 pub clock_never_rises : (p : Checked) → ClockNeverRises p
-unfolding run
-clock_never_rises p = record { at_end = λ ask clock. (A.runs ask (tables_of p) p.main clock).falls }
+clock_never_rises p = record { at_end = λ ask clock. (A.runs ask p clock).falls }
 
 pub log_only_grows : (p : Checked) → LogOnlyGrows p
-log_only_grows p = record {
-  after = λ ask depth env caught s clock l w.
-      ((k_exec (tables_of p) ask ask (execution ask (tables_of p) depth) (execution ask (tables_of p) depth) (λ B m o. Advancing {A = B} ask m) (A.closed ask (tables_of p)) (A.executes ask (tables_of p) depth) env caught s).from clock l w).grows;
-}
+log_only_grows p = record { after = λ ask depth env caught s clock l w. ((A.does ask p depth s env caught).from clock l w).grows }
 
 -- Choices ----------------------------------------------------------------------------
 
@@ -41,26 +37,27 @@ unfolding empty_log
 obeying ask l g = subst (λ ps. Obeys ask ps) (sym g.taken) g.answers
 
 pub choices_obey : (p : Checked) → ChoicesObey p
-unfolding run
-choices_obey p = record { in_run = λ ask clock. obeying ask _ (A.runs ask (tables_of p) p.main clock).grows }
+choices_obey p = record { in_run = λ ask clock. obeying ask _ (A.runs ask p clock).grows }
 
 pub cuts_have_causes : (p : Checked) → CutsHaveCauses p
-unfolding run
-cuts_have_causes p = record { in_run = λ ask clock. (C.runs ask (tables_of p) p.main clock).cause }
+cuts_have_causes p = record { in_run = λ ask clock. (C.runs p ask clock).cause }
 
 pub groups_are_emptied : (p : Checked) → GroupsAreEmptied p
-groups_are_emptied p = record { after = λ ask depth cause g clock l w. emptied g _ cause clock l w }
+unfolding tools_with meaning_of
+groups_are_emptied p = record {
+  of_members = λ ask depth cause g clock l w. emptied (tools_at p ask depth) g cause clock l w;
+  of_collections = λ ask depth sets clock l w. sets_emptied (tools_at p ask depth) (OfSets sets) sets clock l w refl;
+}
 
 pub candidates_agree : (p : Checked) → CandidatesAgree p
 candidates_agree p = record {
-  at_start = G.starts_agreed (tables_of p);
-  after = λ ask depth env caught s clock l w a.
-      (k_exec (tables_of p) ask ask (execution ask (tables_of p) depth) (execution ask (tables_of p) depth) (λ B m o. Keeping (tables_of p) {A = B} m) (G.closed (tables_of p) ask) (G.executes (tables_of p) ask depth) env caught s).from clock l w a;
+  exactly = λ g w. exactly (tables_of p) g w;
+  at_start = O.starts_in_order;
+  after = λ ask depth env caught s clock l w h. (O.does p ask depth s env caught).from clock l w h;
 }
 
 pub same_answers_same_run : (p : Checked) → SameAnswersSameRun p
-unfolding run
-same_answers_same_run p = record { in_run = λ ask other clock h. S.runs ask other (tables_of p) p.main clock h }
+same_answers_same_run p = record { in_run = λ ask other clock h. S.runs ask other p clock h }
 
 -- Replaying ----------------------------------------------------------------------------
 
@@ -81,7 +78,7 @@ open_at_end : (ask : Ask) (l : Log) → LeavesOpen ask (replayed l.taken) l
 unfolding replayed accepted chosen_in
 open_at_end ask l = record { at_end = λ m e. ap (λ o. accepted m (chosen_in o)) (nothing_at_end l.taken) }
 
-fitting : (ask : Ask) (o : Out Returned) → Obeys ask (log_of o).taken → Fits ask (replayed (log_of o).taken) o
+fitting : (ask : Ask) (o : Out Returned) → Obeys ask (log_of o).taken → AnswersAlike ask (replayed (log_of o).taken) o
 fitting ask (Gives r t c l w) h = replays ask l.taken h
 fitting ask (Stops s t l) h = replays ask l.taken h
 fitting ask (Cut t c l) h = (replays ask l.taken h, open_at_end ask l)
@@ -92,8 +89,7 @@ choices_replay p = record { in_run = λ ask clock. (same_answers_same_run p).in_
 -- More clock ------------------------------------------------------------------------------
 
 pub more_clock_continues : (p : Checked) → MoreClockContinues p
-unfolding run
-more_clock_continues p = record { in_run = λ ask clock more. M.runs ask more (tables_of p) p.main clock }
+more_clock_continues p = record { in_run = λ ask clock more. M.runs ask more p clock }
 
 -- the trace of a run goes on with more clock
 trace_goes_on : (ask : Ask) (more : ℕ) (o later : Out Returned) → Continues ask more o later → (rest : List Event) × ((log_of later).trace ≡ (log_of o).trace ++ rest)

@@ -2,22 +2,25 @@
 use Rattle.std.specs.Prelude.{◌≡◌, ℕ, zero, suc, ◌+◌, ◌<◌, List, [], ◌∷◌, ◌++◌, length, Option, Some, None, Bool, true, false, ◌||◌, if◌then◌else◌}
 use Rattle.std.proofs.Common.{refl, ap, ◌∙◌, subst, arith}
 use Rattle.std.proofs.lemmas.Bool.{lt-ltb}
+use Rattle.ctl_program.specs.declared.types.Ty.{Ty}
+use Rattle.ctl_program.specs.declared.program.Checked.{Checked}
 use Rattle.ctl_tree.specs.declared.event.Event.{Event}
 use Rattle.ctl_tree.specs.declared.ending.Stop.{Stop}
 use Rattle.ctl_tree.specs.declared.event.Cause.{Cause}
 use Rattle.ctl_meaning.specs.World.{Pick, Log, World, empty_log, empty_world, Object, Member}
-use Rattle.ctl_meaning.specs.Changes.{object_at, Group, candidates_of}
+use Rattle.ctl_meaning.specs.Changes.{object_at}
+use Rattle.ctl_meaning.specs.Members.{Group, candidates_of, count_due}
 use Rattle.ctl_meaning.specs.Choice.{Ask, AreAnswers, accepted, noted, picked}
 use Rattle.ctl_meaning.specs.Outcome.{Result, Goes, Leaves, ByExit, ByReturn, ByRaise, Out, Gives, Stops, Cut, Act, Done, add, bind, given, then_always, stop, counted, spend, look, change, show, after_pick, answered, choose, leave_by, nothing, done, ticked, on_goes, either, on_some, ◌>>=◌, ◌>>◌}
-use Rattle.ctl_meaning.specs.Types.{Tables}
-use Rattle.ctl_meaning.specs.Names.{Execution, OfSubprogram, OfAllocator, Call, Tools, existing, must_exist, gone}
-use Rattle.ctl_meaning.specs.Ledger.{count_candidates}
+use Rattle.ctl_meaning.specs.Types.{Tables, tables_of}
+use Rattle.ctl_meaning.specs.Names.{Execution, OfSubprogram, OfAllocator, Call, Default, Tools, existing, must_exist, gone}
 use Rattle.ctl_meaning.specs.Finalization.{finalize_begun, finalize_object, finalize_one, finalize_members, finalize_group}
 use Rattle.ctl_meaning.specs.Statements.{turned, turns, loop, one_turn, while}
-use Rattle.ctl_meaning.specs.Run.{completed, execute, execution, tools, run_tables}
+use Rattle.ctl_meaning.specs.Run.{meaning_of, completed, execute, execution, tools, run_meaning, run}
 use Rattle.ctl_meaning.specs.Advance.{Grows, log_of, Advancing}
-use Rattle.ctl_meaning.specs.SameAnswers.{Fits}
-use Rattle.ctl_meaning.proofs.Induction.{Closed, k_run_number, k_allocate}
+use Rattle.ctl_meaning.specs.SameAnswers.{AnswersAlike}
+use Rattle.ctl_meaning.proofs.Relation.{Closed}
+use Rattle.ctl_meaning.proofs.Bodies.{good_run_number, good_allocate}
 use Rattle.ctl_meaning.proofs.Advance as A
 
 -- Picks ------------------------------------------------------------------------------
@@ -33,25 +36,25 @@ last_answer other i (p ∷ ps) q h = let x = last_answer other (suc i) ps q h.2 
 module _ (ask other : Ask) where
   -- an act, and the same with other answers
   pub record Alike {A : Type 0} (m n : Act A) : Type 0 where
-    pub from : (c : ℕ) (l : Log) (w : World) → Fits ask other (m c l w) → n c l w ≡ m c l w
+    pub from : (c : ℕ) (l : Log) (w : World) → AnswersAlike ask other (m c l w) → n c l w ≡ m c l w
     pub advances : Advancing ask m
 
-  fits_taken : {A : Type 0} (o : Out A) → Fits ask other o → AreAnswers other 0 (log_of o).taken
+  fits_taken : {A : Type 0} (o : Out A) → AnswersAlike ask other o → AreAnswers other 0 (log_of o).taken
   fits_taken (Gives r t c l w) h = h
   fits_taken (Stops s t l) h = h
   fits_taken (Cut t c l) h = h.0
 
-  fits_added : {A : Type 0} (i : ℕ) (o : Out A) → Fits ask other (add i o) → Fits ask other o
+  fits_added : {A : Type 0} (i : ℕ) (o : Out A) → AnswersAlike ask other (add i o) → AnswersAlike ask other o
   unfolding add
   fits_added i (Gives r t c l w) h = h
   fits_added i (Stops s t l) h = h
   fits_added i (Cut t c l) h = h
 
   -- the choices of a log that goes on are answers, so those of the log are
-  fits_before : {A : Type 0} (l : Log) (o : Out A) → Grows ask l (log_of o) → Fits ask other o → AreAnswers other 0 l.taken
+  fits_before : {A : Type 0} (l : Log) (o : Out A) → Grows ask l (log_of o) → AnswersAlike ask other o → AreAnswers other 0 l.taken
   fits_before l o g h = first_answers other 0 l.taken g.picks (subst (λ ps. AreAnswers other 0 ps) g.taken (fits_taken o h))
 
-  bound : {A B : Type 0} (o p : Out A) (f g : Result A → Act B) → (Fits ask other o → p ≡ o) → ((r : Result A) → Alike (f r) (g r)) → Fits ask other (bind o f) → bind p g ≡ bind o f
+  bound : {A B : Type 0} (o p : Out A) (f g : Result A → Act B) → (AnswersAlike ask other o → p ≡ o) → ((r : Result A) → Alike (f r) (g r)) → AnswersAlike ask other (bind o f) → bind p g ≡ bind o f
   unfolding bind
   bound (Gives r t c l w) p f g h x y =
       let z = fits_added t (f r c l w) y in
@@ -74,7 +77,7 @@ module _ (ask other : Ask) where
   unfolding counted
   counts i {m = m} {n = n} h = record { from = λ c l w x. ap (add i) (h.from c l w (fits_added i (m c l w) x)); advances = A.counts ask i h.advances }
 
-  spends_at : {A : Type 0} (m n : Act A) → Alike m n → (c : ℕ) (l : Log) (w : World) → Fits ask other (spend m c l w) → spend n c l w ≡ spend m c l w
+  spends_at : {A : Type 0} (m n : Act A) → Alike m n → (c : ℕ) (l : Log) (w : World) → AnswersAlike ask other (spend m c l w) → spend n c l w ≡ spend m c l w
   unfolding spend
   spends_at m n h zero l w x = refl
   spends_at m n h (suc c) l w x = h.from c l w x
@@ -98,12 +101,12 @@ module _ (ask other : Ask) where
   unfolding accepted
   accepts m p o h e = ap (accepted m) e ∙ ap (λ b. if b then Some p else None) (lt-ltb p m h)
 
-  noted_at : (m c : ℕ) (l : Log) (w : World) (o : Option ℕ) → accepted m (ask (length l.taken) m) ≡ o → Fits ask other (after_pick (noted m o l) c l w) → accepted m (other (length l.taken) m) ≡ o
+  noted_at : (m c : ℕ) (l : Log) (w : World) (o : Option ℕ) → accepted m (ask (length l.taken) m) ≡ o → AnswersAlike ask other (after_pick (noted m o l) c l w) → accepted m (other (length l.taken) m) ≡ o
   unfolding noted after_pick
   noted_at m c l w None e x = x.1.at_end m e
   noted_at m c l w (Some p) e x = let y = last_answer other 0 l.taken (record { width = m; chosen = p }) x in accepts m p (other (length l.taken) m) y.1 (subst (λ n. other n m ≡ Some p) (omega arith) y.0)
 
-  picked_at : (m c : ℕ) (l : Log) (w : World) → Fits ask other (after_pick (picked ask m l) c l w) → after_pick (picked other m l) c l w ≡ after_pick (picked ask m l) c l w
+  picked_at : (m c : ℕ) (l : Log) (w : World) → AnswersAlike ask other (after_pick (picked ask m l) c l w) → after_pick (picked other m l) c l w ≡ after_pick (picked ask m l) c l w
   unfolding picked
   picked_at zero c l w x = refl
   picked_at (suc zero) c l w x = refl
@@ -133,7 +136,7 @@ module _ (ask other : Ask) where
   turns_on h (Leaves (ByReturn v)) = gives _
   turns_on h (Leaves (ByRaise e)) = gives _
 
-  turns_at : (i : ℕ) (m n : Act Bool) → Alike m n → (c : ℕ) (l : Log) (w : World) → Fits ask other (turns i m c l w) → turns i n c l w ≡ turns i m c l w
+  turns_at : (i : ℕ) (m n : Act Bool) → Alike m n → (c : ℕ) (l : Log) (w : World) → AnswersAlike ask other (turns i m c l w) → turns i n c l w ≡ turns i m c l w
   unfolding turns
   turns_at zero m n h c l w x = refl
   turns_at (suc i) m n h c l w x =
@@ -166,26 +169,26 @@ module _ (ask other : Ask) where
   unfolding finalize_object must_exist existing gone nothing
   object_finishes k j cause m h = then_goes (then_goes (looks (λ w. found (object_at m.number w) (stopped _) (λ o. gives _))) (changes _)) h
 
-  one_finishes : (t : Tables) (call spare : Call) (cause : Cause) → ((m : Member) → Alike (finalize_begun (record { ask = ask; tables = t; call = call }) cause m) (finalize_begun (record { ask = other; tables = t; call = spare }) cause m)) → (f g : Bool → Act Bool) → ((b : Bool) → Alike (f b) (g b)) → (b : Bool) (ms : List Member) → Alike (finalize_one (record { ask = ask; tables = t; call = call }) cause f b ms) (finalize_one (record { ask = other; tables = t; call = spare }) cause g b ms)
+  one_finishes : (t : Tables) (call spare : Call) (default fallback : Default) (cause : Cause) → ((m : Member) → Alike (finalize_begun (record { ask = ask; tables = t; call = call; default = default }) cause m) (finalize_begun (record { ask = other; tables = t; call = spare; default = fallback }) cause m)) → (f g : Bool → Act Bool) → ((b : Bool) → Alike (f b) (g b)) → (b : Bool) (ms : List Member) → Alike (finalize_one (record { ask = ask; tables = t; call = call; default = default }) cause f b ms) (finalize_one (record { ask = other; tables = t; call = spare; default = fallback }) cause g b ms)
   unfolding finalize_one choose done ◌>>=◌
-  one_finishes t call spare cause h f g x b [] = gives _
-  one_finishes t call spare cause h f g x b (m ∷ ms) = sequence (counts _ (answers _)) (goes_on (λ i. sequence (object_finishes _ _ cause _ (h _)) (goes_on (λ d. x (b || d)))))
+  one_finishes t call spare default fallback cause h f g x b [] = gives _
+  one_finishes t call spare default fallback cause h f g x b (m ∷ ms) = sequence (counts _ (answers _)) (goes_on (λ i. sequence (object_finishes _ _ cause _ (h _)) (goes_on (λ d. x (b || d)))))
 
-  members_at : (t : Tables) (call spare : Call) (cause : Cause) (g : Group) → ((m : Member) → Alike (finalize_begun (record { ask = ask; tables = t; call = call }) cause m) (finalize_begun (record { ask = other; tables = t; call = spare }) cause m)) → (i : ℕ) (b : Bool) (c : ℕ) (l : Log) (w : World) → Fits ask other (finalize_members (record { ask = ask; tables = t; call = call }) cause g i b c l w) → finalize_members (record { ask = other; tables = t; call = spare }) cause g i b c l w ≡ finalize_members (record { ask = ask; tables = t; call = call }) cause g i b c l w
+  members_at : (t : Tables) (call spare : Call) (default fallback : Default) (cause : Cause) (g : Group) → ((m : Member) → Alike (finalize_begun (record { ask = ask; tables = t; call = call; default = default }) cause m) (finalize_begun (record { ask = other; tables = t; call = spare; default = fallback }) cause m)) → (i : ℕ) (b : Bool) (c : ℕ) (l : Log) (w : World) → AnswersAlike ask other (finalize_members (record { ask = ask; tables = t; call = call; default = default }) cause g i b c l w) → finalize_members (record { ask = other; tables = t; call = spare; default = fallback }) cause g i b c l w ≡ finalize_members (record { ask = ask; tables = t; call = call; default = default }) cause g i b c l w
   unfolding finalize_members
-  members_at t call spare cause g h zero b c l w x = refl
-  members_at t call spare cause g h (suc i) b c l w x =
-      (one_finishes t call spare cause h _ _ (λ d. record { from = members_at t call spare cause g h i d; advances = record { from = A.members_at ask t call cause g (λ m. (h m).advances) i d } }) b (candidates_of g w)).from c l w x
+  members_at t call spare default fallback cause g h zero b c l w x = refl
+  members_at t call spare default fallback cause g h (suc i) b c l w x =
+      (one_finishes t call spare default fallback cause h _ _ (λ d. record { from = members_at t call spare default fallback cause g h i d; advances = record { from = A.members_at ask t call default cause g (λ m. (h m).advances) i d } }) b (candidates_of t g w)).from c l w x
 
-  finishes : (t : Tables) (call spare : Call) (cause : Cause) (g : Group) → ((m : Member) → Alike (finalize_begun (record { ask = ask; tables = t; call = call }) cause m) (finalize_begun (record { ask = other; tables = t; call = spare }) cause m)) → Alike (finalize_group (record { ask = ask; tables = t; call = call }) cause g) (finalize_group (record { ask = other; tables = t; call = spare }) cause g)
+  finishes : (t : Tables) (call spare : Call) (default fallback : Default) (cause : Cause) (g : Group) → ((m : Member) → Alike (finalize_begun (record { ask = ask; tables = t; call = call; default = default }) cause m) (finalize_begun (record { ask = other; tables = t; call = spare; default = fallback }) cause m)) → Alike (finalize_group (record { ask = ask; tables = t; call = call; default = default }) cause g) (finalize_group (record { ask = other; tables = t; call = spare; default = fallback }) cause g)
   unfolding finalize_group
-  finishes t call spare cause g h = record {
-    from = λ c l w. members_at t call spare cause g h (suc (c + count_candidates w.ledger.collections)) false c l w;
-    advances = record { from = λ c l w. A.members_at ask t call cause g (λ m. (h m).advances) _ false c l w };
+  finishes t call spare default fallback cause g h = record {
+    from = λ c l w. members_at t call spare default fallback cause g h (suc (c + count_due t w)) false c l w;
+    advances = record { from = λ c l w. A.members_at ask t call default cause g (λ m. (h m).advances) _ false c l w };
   }
 
-  completes : (t : Tables) (i : ℕ) → Alike (completed t i) (completed t i)
-  completes t i = record { from = λ c l w h. refl; advances = A.completes ask t i }
+  completes : (i : ℕ) → Alike (completed i) (completed i)
+  completes i = record { from = λ c l w h. refl; advances = A.completes ask i }
 
   closed : (t : Tables) → Closed t ask other (λ A m n. Alike {A = A} m n)
   closed t = record {
@@ -198,23 +201,37 @@ module _ (ask other : Ask) where
     changes = λ {f} e. changes f;
     shows = shows;
     answers = answers;
-    finishes = λ call spare cause g h. finishes t call spare cause g h;
+    finishes = λ call spare default fallback cause g h. finishes t call spare default fallback cause g h;
     repeats = λ {m} {n} h. repeats (one_turns h);
     repeats_while = λ {test} {check} {m} {n} h x. repeats (while_turns h x);
   }
 
-  executes : (t : Tables) (i : ℕ) (x : Execution) (env : List ℕ) → Alike (execution ask t i x env) (execution other t i x env)
-  unfolding execution execute ticked done ◌>>=◌
-  executes t zero x env = record { from = λ c l w h. refl; advances = A.executes ask t zero x env }
-  executes t (suc i) (OfSubprogram f ss) env =
-      let h = spends (counts 1 (k_run_number t ask other (execution ask t i) (execution other t i) (λ A m o. Alike {A = A} m o) (closed t) (executes t i) env ss f)) in
-      record { from = λ c l w. h.from c l w; advances = A.executes ask t (suc i) (OfSubprogram f ss) env }
-  executes t (suc i) (OfAllocator a ty x v) env =
-      let h = spends (sequence (k_allocate t ask other (execution ask t i) (execution other t i) (λ A m o. Alike {A = A} m o) (closed t) (executes t i) env a ty x v) (goes_on (completes t))) in
-      record { from = λ c l w. h.from c l w; advances = A.executes ask t (suc i) (OfAllocator a ty x v) env }
+  takes_one : (call spare : Call) (env : List ℕ) (access : ℕ) (ty : Ty) {m n : Act (Option (List ℕ) × Option (List ℕ))} → ((h v : Option (List ℕ)) → Alike (call (OfAllocator access ty h v) env) (spare (OfAllocator access ty h v) env)) → Alike m n → Alike (spend (m >>= (λ p. call (OfAllocator access ty p.0 p.1) env))) (spend (n >>= (λ p. spare (OfAllocator access ty p.0 p.1) env)))
+  unfolding ◌>>=◌
+  takes_one call spare env access ty h x = spends (sequence x (goes_on (λ p. h p.0 p.1)))
 
-  -- a whole run
-  pub runs : (t : Tables) (main clock : ℕ) → Fits ask other (run_tables t main ask clock) → run_tables t main other clock ≡ run_tables t main ask clock
-  unfolding run_tables tools
-  runs t main clock h =
-      (k_run_number t ask other (execution ask t (suc clock)) (execution other t (suc clock)) (λ A m o. Alike {A = A} m o) (closed t) (executes t (suc clock)) [] [] main).from clock empty_log empty_world h
+  module _ (program : Checked) where
+    abbrev Rel : (A : Type 0) → Act A → Act A → Type 0
+    Rel = λ A m n. Alike {A = A} m n
+
+    abbrev deep : ℕ → Call
+    deep n = execution ask (meaning_of program) n
+
+    abbrev deep_too : ℕ → Call
+    deep_too n = execution other (meaning_of program) n
+
+    executes : (n : ℕ) (x : Execution) (env : List ℕ) → Alike (deep n x env) (deep_too n x env)
+    unfolding execution execute ticked ◌>>=◌
+    executes zero x env = record { from = λ c l w h. refl; advances = A.executes ask program zero x env }
+    executes (suc n) (OfSubprogram f ss) env =
+        let h = spends (counts 1 (good_run_number program ask other (deep n) (deep_too n) Rel (closed (tables_of program)) (λ g xs e. executes n (OfSubprogram g xs) e) (λ e a ty m m1 i. takes_one (deep n) (deep_too n) e a ty (λ x y. executes n (OfAllocator a ty x y) e) i) env ss f)) in
+        record { from = λ c l w. h.from c l w; advances = A.executes ask program (suc n) (OfSubprogram f ss) env }
+    executes (suc n) (OfAllocator a ty x v) env =
+        let h = sequence (good_allocate program ask other (deep n) (deep_too n) Rel (closed (tables_of program)) (λ g xs e. executes n (OfSubprogram g xs) e) (λ e b uy m m1 i. takes_one (deep n) (deep_too n) e b uy (λ x y. executes n (OfAllocator b uy x y) e) i) env a ty x v) (goes_on completes) in
+        record { from = λ c l w. h.from c l w; advances = A.executes ask program (suc n) (OfAllocator a ty x v) env }
+
+    -- a whole run
+    pub runs : (clock : ℕ) → AnswersAlike ask other (run program ask clock) → run program other clock ≡ run program ask clock
+    unfolding run run_meaning tools
+    runs clock h =
+        (good_run_number program ask other (deep (suc clock)) (deep_too (suc clock)) Rel (closed (tables_of program)) (λ g xs e. executes (suc clock) (OfSubprogram g xs) e) (λ e a ty m m1 i. takes_one (deep (suc clock)) (deep_too (suc clock)) e a ty (λ x y. executes (suc clock) (OfAllocator a ty x y) e) i) [] [] program.main).from clock empty_log empty_world h

@@ -1,6 +1,6 @@
 -- What the names of a part stand for while its master is active (3.10.2: a use names a level, and a slot there).
 use Rattle.std.specs.Prelude.{ℕ, ◌-◌, List, [], ◌∷◌, ◌++◌, Option, Some, None, not, nat_eq, slice_get, slice_set}
-use Rattle.ctl_tree.specs.declared.checked.Var.{Var}
+use Rattle.ctl_program.specs.declared.types.Var.{Var}
 use Rattle.ctl_meaning.specs.World.{Slot, Unset, Activation}
 use Rattle.ctl_meaning.specs.Lists.{first_with, change_each, keep, item_or}
 

@@ -1,6 +1,6 @@
 -- Adjust (7.6), and when a part comes to life.
 use Rattle.std.specs.Prelude.{ℕ, zero, suc, List, [], ◌∷◌, ◌++◌, length, Option, Some, None, Bool, true, false, is_some}
-use Rattle.ctl_tree.specs.declared.checked.Ty.{Ty}
+use Rattle.ctl_program.specs.declared.types.Ty.{Ty}
 use Rattle.ctl_tree.specs.declared.event.Owner.{Owner}
 use Rattle.ctl_tree.specs.declared.event.Event.TheVariants.{Adjust, Live}
 use Rattle.ctl_meaning.specs.World.{Origin, World}

@@ -1,19 +1,18 @@
 -- Allocators, and Unchecked_Deallocation (4.8, 13.11, 13.11.2).
 use Rattle.std.specs.Prelude.{ℕ, List, [], ◌∷◌, Option, Some, None, Bool, false, not, ◌&&◌, nat_eq, slice_get}
-use Rattle.ctl_tree.specs.declared.checked.Ty.{Ty}
-use Rattle.ctl_tree.specs.declared.checked.Expr.{Held-Expr-New-2}
-use Rattle.ctl_tree.specs.declared.checked.AccessType.{AccessType}
+use Rattle.ctl_program.specs.declared.types.Ty.{Ty}
+use Rattle.ctl_program.specs.declared.types.AccessType.{AccessType}
 use Rattle.ctl_tree.specs.declared.ending.Stop.TheVariants.{FreeWhileFinalizing, ForeignFree}
 use Rattle.ctl_tree.specs.declared.event.Cause.TheVariants.{Free}
-use Rattle.ctl_meaning.specs.World.{Place, Standard, InBlock, InSubpool, Origin, Declared, Allocated, Object, Member, Collection, Slot, Gathers, World}
+use Rattle.ctl_meaning.specs.World.{Place, Standard, InBlock, InSubpool, Origin, Declared, Allocated, Object, Collection, Slot, Gathers, World}
 use Rattle.ctl_meaning.specs.Activations.{master_of}
 use Rattle.ctl_meaning.specs.Objects.{is_untouched, is_finalizing, is_of_set}
-use Rattle.ctl_meaning.specs.Ledger.{collection_at, candidate_in}
+use Rattle.ctl_meaning.specs.Ledger.{collection_at}
 use Rattle.ctl_meaning.specs.Changes.{create_at, forget, join}
+use Rattle.ctl_meaning.specs.Members.{member_of, is_due}
 use Rattle.ctl_meaning.specs.Outcome.{constraint_error, program_error, Act, Done, ◌>>=◌, ◌>>◌, done, nothing, raise, stop, counted, look, change, Tried, Fine, Raised, attempt, either, on_some}
 use Rattle.ctl_meaning.specs.Types.{Tables, size_of, begin_cells, has_controlled}
 use Rattle.ctl_meaning.specs.Names.{Tools, Found, gone, existing, slot_at, scalar_of, read_found, write_found}
-use Rattle.ctl_meaning.specs.Expressions.{eval_held}
 use Rattle.ctl_meaning.specs.Finalization.{finalize_object}
 use Rattle.ctl_meaning.specs.Adjustment.{birth_of}
 use Rattle.ctl_meaning.specs.Initialization.{fill}
@@ -38,17 +37,14 @@ refuses t ty c = has_controlled t ty && c.started
 unfoldable pub is_new : Object → Bool
 is_new o = is_untouched o.state && not o.joined
 
-unfoldable pub member_of : Object → Member
-member_of o = record { number = o.number; ty = o.ty }
-
 unfoldable pub set_of : Origin → World → Option Collection
 set_of (Declared m) w = None
 set_of (Allocated set place) w = collection_at set w.ledger
 
 -- a new object joins its collection, which still stands
-unfoldable pub join_collection : Tables → ℕ → Act Done
-join_collection t n =
-    existing n (λ o. look (λ w. on_some (set_of o.origin w) gone (λ c. either (is_new o) (change (join (has_controlled t o.ty) c.number (member_of o))) gone)))
+unfoldable pub join_collection : ℕ → Act Done
+join_collection n =
+    existing n (λ o. look (λ w. on_some (set_of o.origin w) gone (λ c. either (is_new o) (change (join n)) gone)))
 
 -- Allocators ------------------------------------------------------------------------------
 
@@ -74,10 +70,9 @@ allocate_for k env ty handle value a =
     either (refuses k.tables ty c) (raise program_error) (storage k env a.pool handle (size_of k.tables ty) >>= created k set ty value))))
 
 -- the number of the new object. A null handle, which denotes no subpool, is Constraint_Error (4.8)
-unfoldable pub allocate : Tools → List ℕ → ℕ → Ty → Held-Expr-New-2 → Held-Expr-New-2 → Act ℕ
+unfoldable pub allocate : Tools → List ℕ → ℕ → Ty → Option (List ℕ) → Option (List ℕ) → Act ℕ
 allocate k env access ty handle value =
-    eval_held k env handle >>= (λ h. eval_held k env value >>= (λ v.
-    either (is_null h) (raise constraint_error) (on_some (slice_get k.tables.accesses access) gone (allocate_for k env ty h v))))
+    either (is_null handle) (raise constraint_error) (on_some (slice_get k.tables.accesses access) gone (allocate_for k env ty handle value))
 
 -- Unchecked_Deallocation --------------------------------------------------------------------
 
@@ -93,14 +88,14 @@ freed k place o failed =
     write_found place (0 ∷ []) >> counted 1 (change (forget o.number)) >> returns_storage k o.ty o.origin >> program_error_if failed
 
 -- what is not finalized yet is finalized (13.11.2)
-unfoldable pub finalize_unfinalized : Tools → ℕ → ℕ → Act Bool
-finalize_unfinalized k set n = look (λ w. on_some (candidate_in n (collection_at set w.ledger)) (done false) (finalize_object k Free))
+unfoldable pub finalize_unfinalized : Tools → Object → Act Bool
+finalize_unfinalized k o = either (is_due k.tables o) (finalize_object k Free (member_of o)) (done false)
 
 -- erroneous for an object of another collection, and for one that is being finalized (13.11.2, profile)
 unfoldable pub free_object : Tools → Found → ℕ → Object → Act Done
 free_object k place set o =
     either (not (is_of_set set o.origin)) (stop ForeignFree)
-    (either (is_finalizing o.state) (stop FreeWhileFinalizing) (finalize_unfinalized k set o.number >>= freed k place o))
+    (either (is_finalizing o.state) (stop FreeWhileFinalizing) (finalize_unfinalized k o >>= freed k place o))
 
 unfoldable pub free_value : Tools → List ℕ → ℕ → Found → ℕ → Act Done
 free_value k env access place n =
@@ -112,5 +107,5 @@ free k env access place = read_found 1 place >>= (λ v. free_value k env access 
 
 -- everything here, opened at once
 unfoldable pub opened_allocation : Unit {0}
-unfolding set_in with_set refuses is_new member_of set_of join_collection created_or_gone created is_null allocate_for allocate returns_storage freed finalize_unfinalized free_object free_value free
+unfolding set_in with_set refuses is_new set_of join_collection created_or_gone created is_null allocate_for allocate returns_storage freed finalize_unfinalized free_object free_value free
 opened_allocation = tt

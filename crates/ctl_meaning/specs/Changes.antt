@@ -1,13 +1,13 @@
 -- All the ways in which the world changes, and what is looked up in it.
-use Rattle.std.specs.Prelude.{ℕ, List, [], ◌∷◌, ◌++◌, length, Option, Some, None, Bool, true, false, not, ◌&&◌, nat_eq, is_some}
-use Rattle.ctl_tree.specs.declared.checked.Ty.{Ty}
+use Rattle.std.specs.Prelude.{ℕ, List, [], ◌∷◌, ◌++◌, length, Option, Some, None, Bool, false, not, ◌&&◌, nat_eq, is_some, map}
+use Rattle.ctl_program.specs.declared.types.Ty.{Ty}
 use Rattle.ctl_tree.specs.declared.event.Owner as EventOwner
 use Rattle.ctl_tree.specs.declared.event.Owner.{Owner}
-use Rattle.ctl_meaning.specs.World.{Place, Standard, InBlock, InSubpool, Origin, Declared, Allocated, Untouched, Object, Member, Layer, Collection, Slot, Block, Pools, World}
-use Rattle.ctl_meaning.specs.Lists.{keep, any_of, each_of, contains}
-use Rattle.ctl_meaning.specs.Ledger.{take_number, enter_master, push_layer, drop_layer, drop_master, collection_at, push_collection, start_sets, master_in, add_candidate, take_out, candidates_in}
+use Rattle.ctl_meaning.specs.World.{Place, Standard, InBlock, InSubpool, Origin, Declared, Allocated, Untouched, Object, Layer, Slot, Block, Pools, World}
+use Rattle.ctl_meaning.specs.Lists.{change_first, keep, any_of}
+use Rattle.ctl_meaning.specs.Ledger.{take_number, enter_master, push_layer, drop_layer, drop_master, collection_at, push_collection, start_sets, master_in}
 use Rattle.ctl_meaning.specs.Activations.{activation_at, push_activation, drop_activation, change_slot, display_in}
-use Rattle.ctl_meaning.specs.Objects.{object_in, change_in, with_cells, with_begun, with_joined, with_finalized, is_finalizing, lies_in_subpool, lies_in_pool, ends_with_master, lies_there}
+use Rattle.ctl_meaning.specs.Objects.{object_in, change_in, with_cells, with_begun, with_joined, with_finalized, is_finalizing, lies_in_subpool, lies_in_pool, ends_with_master}
 use Rattle.ctl_meaning.specs.Pools.{hold_block, shut, keep_pools}
 
 -- Objects ------------------------------------------------------------------
@@ -57,7 +57,7 @@ set_slot n i x w = record w { activations = change_slot n i x w.activations }
 
 -- the numbers of a master's collections
 unfoldable pub sets_of : ℕ → World → List ℕ
-sets_of n w = each_of (λ c. c.number) (keep (λ c. nat_eq c.master n) w.ledger.collections)
+sets_of n w = map (λ c. c.number) (keep (λ c. nat_eq c.master n) w.ledger.collections)
 
 unfoldable pub ends_with : ℕ → World → Origin → Bool
 ends_with n w = ends_with_master n (sets_of n w)
@@ -81,35 +81,17 @@ add_collection n i x w = set_slot n i x (record w { ledger = push_collection n w
 unfoldable pub start_collections : List ℕ → World → World
 start_collections sets w = record w { ledger = start_sets sets w.ledger }
 
--- an object joins its collection, and is a candidate there if it has a controlled part
-unfoldable pub join : Bool → ℕ → Member → World → World
-join true set m w = record w { ledger = add_candidate set m w.ledger; objects = change_in m.number with_joined w.objects }
-join false set m w = record w { objects = change_in m.number with_joined w.objects }
+-- an object joins its collection: it is a member from then on
+unfoldable pub join : ℕ → World → World
+join n w = record w { objects = change_first (λ o. nat_eq o.number n) with_joined w.objects }
 
--- the finalization of an object begins: it is a candidate no longer
+-- the finalization of an object begins
 unfoldable pub begin_finalization : ℕ → World → World
-begin_finalization n w = record w { ledger = take_out n w.ledger; objects = change_in n with_begun w.objects }
+begin_finalization n w = record w { objects = change_in n with_begun w.objects }
 
 -- it is complete
 unfoldable pub end_finalization : ℕ → World → World
 end_finalization n w = record w { objects = change_in n with_finalized w.objects }
-
--- of which members a choice is made: of collections, or of those that lie in a subpool
-pub data Group : Type 0 where
-  OfSets : (collections : List ℕ) → Group
-  OfSubpool : (subpool : ℕ) → Group
-
-unfoldable pub is_in_group : World → Group → Member → Bool
-is_in_group w (OfSets sets) m = true
-is_in_group w (OfSubpool s) m = lies_there (lies_in_subpool s) (object_at m.number w)
-
-unfoldable pub has_set : Group → Collection → Bool
-has_set (OfSets sets) c = contains c.number sets
-has_set (OfSubpool s) c = true
-
--- the members whose finalization has not begun and that have a controlled part, by number (7.6.1, 13.11.5)
-unfoldable pub candidates_of : Group → World → List Member
-candidates_of g w = keep (is_in_group w g) (candidates_in (has_set g) w.ledger.collections)
 
 -- Owners -------------------------------------------------------------------
 
@@ -161,5 +143,5 @@ is_vacant w (Some b) = not (is_held w b.holder)
 
 -- everything here, opened at once
 unfoldable pub opened_changes : Unit {0}
-unfolding object_at new_object create write_cells forget forget_all count_of open_master add_layer take_layer set_slot sets_of ends_with close_master gone_with add_collection start_collections join begin_finalization end_finalization is_in_group has_set candidates_of home_master home_of owner_of in_pools put_into create_at close_pool_at empty_subpool is_busy is_held is_vacant
+unfolding object_at new_object create write_cells forget forget_all count_of open_master add_layer take_layer set_slot sets_of ends_with close_master gone_with add_collection start_collections join begin_finalization end_finalization home_master home_of owner_of in_pools put_into create_at close_pool_at empty_subpool is_busy is_held is_vacant
 opened_changes = tt

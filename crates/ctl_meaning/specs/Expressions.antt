@@ -1,21 +1,34 @@
--- Expressions, names and calls, from left to right (4.1, 4.4, 4.5, 6.4.1). Each expression node, each part of a name and each parameter is a tick.
-use Rattle.std.specs.Prelude.{ℕ, List, [], ◌∷◌, ◌++◌, length, Option, Some, None, Bool, true, false, not, slice_get, replicate}
-use Rattle.ctl_tree.specs.declared.checked.Shortcut.{Shortcut}
-use Rattle.ctl_tree.specs.declared.checked.Shortcut.TheVariants.{AndThen, OrElse}
-use Rattle.ctl_tree.specs.declared.checked.Var.{Var}
-use Rattle.ctl_tree.specs.declared.checked.Expr.{Expr, Constant, Read', Call', Unary', Chain', Short', Convert', Access, New', Subpool', Discriminant', Row_of-Expr, end_of-Expr, more_of-Expr, Row_of-Operand, end_of-Operand, more_of-Operand, Row_of-Actual, end_of-Actual, more_of-Actual, Held-Expr-New-2, None', Some'}
-use Rattle.ctl_tree.specs.declared.checked.Head.{Head, Variable, Given'}
-use Rattle.ctl_tree.specs.declared.checked.Name.{Name}
-use Rattle.ctl_tree.specs.declared.checked.Actual.{Actual, ByValue, Part', Copied'}
+-- Expressions, names and actual parameters, from left to right (4.1, 4.4, 4.5, 6.2, 6.4.1). Each expression node, each part of a name and
+-- each parameter is a tick.
+--
+-- What each of them means is one function of what its parts mean: `eval_step` and the like have a line for each construct, in which the
+-- parts stand as acts already; `eval` and the like, below them, take a whole tree by these steps.
+use Rattle.std.specs.Prelude.{ℕ, List, [], ◌∷◌, ◌++◌, length, drop, Option, Some, None, Bool, not, slice_get, replicate}
+use Rattle.ctl_program.specs.declared.operators.Shortcut.{Shortcut}
+use Rattle.ctl_program.specs.declared.operators.Shortcut.TheVariants.{AndThen, OrElse}
+use Rattle.ctl_program.specs.declared.operators.CopyStart as CopyStartOf
+use Rattle.ctl_program.specs.declared.operators.CopyStart.{CopyStart}
+use Rattle.ctl_program.specs.declared.types.Ty.{Ty}
+use Rattle.ctl_program.specs.declared.types.Var.{Var}
+use Rattle.ctl_program.specs.declared.expression.Expr.{Expr, fold-Expr}
+use Rattle.ctl_program.specs.declared.expression.Name.{Name, fold-Name}
+use Rattle.ctl_program.specs.declared.expression.Actual.{Actual, fold-Actual}
+use Rattle.ctl_program.specs.declared.expression.Actual.TheOpen.{Actual-F, Expr-F, Name-F}
+use Rattle.ctl_program.specs.declared.expression.Operand.{Operand, Operand-F, fold-Operand}
 use Rattle.ctl_meaning.specs.World.{Slot, Unset, Binds, Copies}
 use Rattle.ctl_meaning.specs.Lists.{item_or}
-use Rattle.ctl_meaning.specs.Outcome.{Act, Done, ◌>>=◌, ◌>>◌, done, nothing, ticked, either}
+use Rattle.ctl_meaning.specs.Outcome.{Act, Done, ◌>>=◌, ◌>>◌, done, nothing, ticked, spend, look, either}
 use Rattle.ctl_meaning.specs.Numbers.{unary, binary, converted, is_true}
 use Rattle.ctl_meaning.specs.Types.{cells_of}
-use Rattle.ctl_meaning.specs.Names.{OfSubprogram, OfAllocator, Returned, Tools, Found, InObject, InCopy, Alone, copy_in, scalar_of, read_found, write_found, find_var, object_of, walk, or_constraint_error}
+use Rattle.ctl_meaning.specs.Names.{OfSubprogram, OfAllocator, Returned, Tools, Found, InObject, InCopy, Alone, copy_in, scalar_of, slot_at, read_found, write_found, find_var, object_of, walk, or_constraint_error}
 use Rattle.ctl_meaning.specs.Marks.{subpool_function, discriminant}
 
 -- Parameters (6.2, 6.4.1) --------------------------------------------------------
+
+-- what a formal's slot holds, and where its copy goes back to
+pub record Formal : Type 0 where
+  pub slot : Slot
+  pub back : Option Found
 
 -- the slots of the formals, and where copies go back to
 pub record Passed : Type 0 where
@@ -25,21 +38,30 @@ pub record Passed : Type 0 where
 unfoldable pub no_actuals : Passed
 no_actuals = record { slots = []; back = [] }
 
--- a further parameter, whose copy may go back
-unfoldable pub with_actual : Slot → Option Found → Passed → Passed
-with_actual x None p = record { slots = p.slots ++ x ∷ []; back = p.back }
-with_actual x (Some f) p = record { slots = p.slots ++ x ∷ []; back = p.back ++ (length p.slots, f) ∷ [] }
+unfoldable pub going_back : ℕ → Option Found → List (ℕ × Found)
+going_back n None = []
+going_back n (Some f) = (n, f) ∷ []
 
--- a record is passed by reference; one that no object holds is a copy
-unfoldable pub bound : Found → Slot
-bound (InObject o offset path) = Binds o offset path
-bound (InCopy m i offset) = Unset
-bound (Alone v) = Copies v
+-- a further parameter
+unfoldable pub with_formal : Formal → Passed → Passed
+with_formal x p = record { slots = p.slots ++ x.slot ∷ []; back = p.back ++ going_back (length p.slots) x.back }
+
+-- a record that an object holds is passed by reference, and any other one as a copy: a part of a copy as the cells from there on
+unfoldable pub bound : Found → Act Slot
+bound (InObject o offset path) = done (Binds o offset path)
+bound (InCopy m i offset) = look (λ w. done (Copies (drop offset (copy_in (slot_at m i w)))))
+bound (Alone v) = done (Copies v)
+
+unfoldable pub by_reference : Found → Act Formal
+by_reference f = bound f >>= (λ x. done (record { slot = x; back = None }))
 
 -- an `out` copy of an access type or handle, and each `in out` copy, begins with the actual's value (6.4.1)
-unfoldable pub copied : ℕ → Bool → Found → Act (List ℕ)
-copied n true f = read_found n f
-copied n false f = done (replicate n 0)
+unfoldable pub copied : ℕ → CopyStart → Found → Act (List ℕ)
+copied n CopyStartOf.TheVariants.Actual f = read_found n f
+copied n CopyStartOf.TheVariants.Beginning f = done (replicate n 0)
+
+unfoldable pub by_copy : ℕ → CopyStart → Found → Act Formal
+by_copy n begins f = copied n begins f >>= (λ v. done (record { slot = Copies v; back = Some f }))
 
 -- on a normal return the copies go back, from left to right (6.4.1)
 unfoldable pub copy_back : List Slot → List (ℕ × Found) → Act Done
@@ -49,68 +71,104 @@ copy_back slots (b ∷ bs) = write_found b.1 (copy_in (item_or Unset (slice_get 
 unfoldable pub call_with : Tools → List ℕ → ℕ → Passed → Act Returned
 call_with k env f p = k.call (OfSubprogram f p.slots) env >>= (λ r. copy_back r.slots p.back >> done r)
 
--- Expressions --------------------------------------------------------------------
+-- What the parts of an expression mean ----------------------------------------------
+
+-- an expression gives the cells of its value, where a display is seen
+abbrev pub Valued : Type 0
+Valued = Tools → List ℕ → Act (List ℕ)
+
+-- a name finds what it denotes
+abbrev pub Naming : Type 0
+Naming = Tools → List ℕ → Act Found
+
+-- an operator with its right operand, behind the value of the left one
+abbrev pub Applied : Type 0
+Applied = Tools → List ℕ → List ℕ → Act (List ℕ)
+
+-- an actual: what it denotes, which is the source of a record assignment too, and how the formal takes it
+pub record Supplied : Type 0 where
+  pub source : Tools → List ℕ → Act Found
+  pub taken : Tools → Found → Act Formal
+
+unfoldable pub pass_each : Tools → List ℕ → List Supplied → Passed → Act Passed
+pass_each k env [] p = done p
+pass_each k env (a ∷ rest) p = ticked (a.source k env >>= a.taken k) >>= (λ x. pass_each k env rest (with_formal x p))
+
+-- operators of one precedence, each applied to what stands before it
+unfoldable pub apply_each : Tools → List ℕ → List Applied → List ℕ → Act (List ℕ)
+apply_each k env [] v = done v
+apply_each k env (o ∷ rest) v = o k env v >>= apply_each k env rest
 
 -- whether the value so far decides `and then` or `or else` (4.5.1)
 unfoldable pub decides : Shortcut → List ℕ → Bool
 decides AndThen v = not (is_true (scalar_of v))
 decides OrElse v = is_true (scalar_of v)
 
+-- an operand that is not needed is not evaluated
+unfoldable pub join_each : Tools → List ℕ → Shortcut → List Valued → List ℕ → Act (List ℕ)
+join_each k env op [] v = done v
+join_each k env op (e ∷ rest) v = ticked (either (decides op v) (done v) (e k env)) >>= join_each k env op rest
+
 unfoldable pub var_part : List ℕ → Var → Act Found
 var_part env v = ticked (find_var env v)
 
-unfoldable mutual
-  pub eval : Tools → List ℕ → Expr → Act (List ℕ)
-  eval k env (Constant n) = ticked (done (n ∷ []))
-  eval k env (Read' head steps ty) = ticked (eval_head k env head >>= walk k steps.items >>= read_found (cells_of k.tables ty))
-  eval k env (Call' f s row) = ticked (eval_actuals k env row no_actuals >>= call_with k env f >>= (λ r. done r.cells))
-  eval k env (Unary' op ty p e) = ticked (eval k env e >>= (λ v. or_constraint_error (unary op ty (scalar_of v))))
-  eval k env (Chain' p e s row) = eval k env e >>= eval_operands k env row
-  eval k env (Short' op p e s row) = eval k env e >>= eval_others k env op row
-  eval k env (Convert' ty p e) = ticked (eval k env e >>= (λ v. or_constraint_error (converted ty (scalar_of v))))
-  eval k env (Access v) = ticked (var_part env v >>= (λ f. done (object_of f ∷ [])))
-  eval k env (New' access ty handle value) = ticked (k.call (OfAllocator access ty handle value) env >>= (λ r. done r.cells))
-  eval k env (Subpool' which p head steps) = ticked (eval_head k env head >>= walk k steps.items >>= (λ f. subpool_function which (object_of f)))
-  eval k env (Discriminant' p head steps n) = ticked (eval_head k env head >>= walk k steps.items >>= (λ f. discriminant (object_of f) n))
+-- the cells of a value that may be left out
+unfoldable pub if_given : {A : Type 0} → (A → Act (List ℕ)) → Option A → Act (Option (List ℕ))
+if_given f None = done None
+if_given f (Some e) = f e >>= (λ v. done (Some v))
 
-  -- an object, or the value of a function call or of a converted access value
-  pub eval_head : Tools → List ℕ → Head → Act Found
-  eval_head k env (Variable v) = var_part env v
-  eval_head k env (Given' p e) = eval k env e >>= (λ v. done (Alone v))
+-- the handle and the value of an allocator
+unfoldable pub operands : Tools → List ℕ → Option Valued → Option Valued → Act (Option (List ℕ) × Option (List ℕ))
+operands k env handle value = if_given (λ e. e k env) handle >>= (λ h. if_given (λ e. e k env) value >>= (λ v. done (h, v)))
 
-  -- operators of one precedence, each applied to what stands before it
-  pub eval_operands : Tools → List ℕ → {m : _} → Row_of-Operand m → List ℕ → Act (List ℕ)
-  eval_operands k env end_of-Operand v = done v
-  eval_operands k env (more_of-Operand op ty right rest) v = ticked (eval k env right >>= (λ u. or_constraint_error (binary op ty (scalar_of v) (scalar_of u)))) >>= eval_operands k env rest
+-- an allocator takes one from the clock, first of all
+unfoldable pub allocator : Tools → List ℕ → ℕ → Ty → Act (Option (List ℕ) × Option (List ℕ)) → Act Returned
+allocator k env access ty m = spend (m >>= (λ p. k.call (OfAllocator access ty p.0 p.1) env))
 
-  -- an operand that is not needed is not evaluated
-  pub eval_others : Tools → List ℕ → Shortcut → {m : _} → Row_of-Expr m → List ℕ → Act (List ℕ)
-  eval_others k env op end_of-Expr v = done v
-  eval_others k env op (more_of-Expr e rest) v = ticked (either (decides op v) (done v) (eval k env e)) >>= eval_others k env op rest
+-- Each construct ---------------------------------------------------------------------
 
-  pub eval_actuals : Tools → List ℕ → {m : _} → Row_of-Actual m → Passed → Act Passed
-  eval_actuals k env end_of-Actual p = done p
-  eval_actuals k env (more_of-Actual a rest) p = ticked (eval_actual k env a p) >>= eval_actuals k env rest
+unfoldable pub eval_step : Expr-F Supplied Valued Naming Applied → Valued
+eval_step (Expr-F.Constant n) k env = ticked (done (n ∷ []))
+eval_step (Expr-F.Read name ty) k env = ticked (name k env >>= read_found (cells_of k.tables ty))
+eval_step (Expr-F.Call f actuals) k env = ticked (pass_each k env actuals no_actuals >>= call_with k env f >>= (λ r. done r.cells))
+eval_step (Expr-F.Unary op ty e) k env = ticked (e k env >>= (λ v. or_constraint_error (unary op ty (scalar_of v))))
+eval_step (Expr-F.Chain e first rest) k env = e k env >>= apply_each k env (first ∷ rest)
+eval_step (Expr-F.Short op e first rest) k env = e k env >>= join_each k env op (first ∷ rest)
+eval_step (Expr-F.Convert ty e) k env = ticked (e k env >>= (λ v. or_constraint_error (converted ty (scalar_of v))))
+eval_step (Expr-F.Access v) k env = ticked (var_part env v >>= (λ f. done (object_of f ∷ [])))
+eval_step (Expr-F.New access ty handle value) k env = ticked (allocator k env access ty (operands k env handle value) >>= (λ r. done r.cells))
+eval_step (Expr-F.Subpool which name) k env = ticked (name k env >>= (λ f. subpool_function which (object_of f)))
+eval_step (Expr-F.Discriminant name n) k env = ticked (name k env >>= (λ f. discriminant (object_of f) n))
 
-  -- an actual that is a name is an expression node too
-  pub eval_actual : Tools → List ℕ → Actual → Passed → Act Passed
-  eval_actual k env (ByValue e) p = eval k env e >>= (λ v. done (with_actual (Copies v) None p))
-  eval_actual k env (Part' head steps) p = ticked (eval_head k env head >>= walk k steps.items >>= (λ f. done (with_actual (bound f) None p)))
-  eval_actual k env (Copied' head steps ty begins) p = ticked (eval_head k env head >>= walk k steps.items >>= (λ f. copied (cells_of k.tables ty) begins f >>= (λ v. done (with_actual (Copies v) (Some f) p))))
+unfoldable pub operand_step : Operand-F Supplied Valued Naming Applied → Applied
+operand_step o k env v = ticked (o.right k env >>= (λ u. or_constraint_error (binary o.op o.ty (scalar_of v) (scalar_of u))))
 
-unfoldable pub eval_name : Tools → List ℕ → Name → Act Found
-eval_name k env n = eval_head k env n.head >>= walk k n.steps.items
+-- an object, or the value of a function call or of a converted access value; and then the steps
+unfoldable pub name_step : Name-F Supplied Valued Naming Applied → Naming
+name_step (Name-F.Variable v steps) k env = var_part env v >>= walk k steps
+name_step (Name-F.Given e steps) k env = e k env >>= (λ v. done (Alone v)) >>= walk k steps
 
--- an expression that may be absent
-unfoldable pub eval_held : Tools → List ℕ → Held-Expr-New-2 → Act (Option (List ℕ))
-eval_held k env None' = done None
-eval_held k env (Some' p e) = eval k env e >>= (λ v. done (Some v))
+-- an actual that is a name is an expression node too
+unfoldable pub actual_step : Actual-F Supplied Valued Naming Applied → Supplied
+actual_step (Actual-F.ByValue e) = record { source = λ k env. e k env >>= (λ v. done (Alone v)); taken = λ k. by_reference }
+actual_step (Actual-F.Part name) = record { source = λ k env. ticked (name k env); taken = λ k. by_reference }
+actual_step (Actual-F.Copied name ty begins) = record { source = λ k env. ticked (name k env); taken = λ k. by_copy (cells_of k.tables ty) begins }
 
-unfoldable pub eval_option : Tools → List ℕ → Option Expr → Act (Option (List ℕ))
-eval_option k env None = done None
-eval_option k env (Some e) = eval k env e >>= (λ v. done (Some v))
+-- Whole trees -----------------------------------------------------------------------
+
+unfoldable pub eval : Expr → Valued
+eval = fold-Expr Supplied Valued Naming Applied actual_step eval_step name_step operand_step
+
+unfoldable pub eval_name : Name → Naming
+eval_name = fold-Name Supplied Valued Naming Applied actual_step eval_step name_step operand_step
+
+unfoldable pub supply : Actual → Supplied
+supply = fold-Actual Supplied Valued Naming Applied actual_step eval_step name_step operand_step
+
+unfoldable pub apply : Operand → Applied
+apply = fold-Operand Supplied Valued Naming Applied actual_step eval_step name_step operand_step
 
 -- everything here, opened at once
 unfoldable pub opened_expressions : Unit {0}
-unfolding no_actuals with_actual bound copied copy_back call_with decides var_part eval eval_head eval_operands eval_others eval_actuals eval_actual eval_name eval_held eval_option
+unfolding no_actuals going_back with_formal bound by_reference copied by_copy copy_back call_with pass_each apply_each decides join_each var_part if_given operands allocator eval_step operand_step name_step actual_step eval eval_name supply apply
 opened_expressions = tt

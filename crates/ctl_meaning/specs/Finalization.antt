@@ -1,6 +1,6 @@
 -- Parts of objects, the calls that the rules make of their operations, and Finalize (7.6, 7.6.1).
 use Rattle.std.specs.Prelude.{ℕ, zero, suc, ◌+◌, List, [], ◌∷◌, ◌++◌, length, Option, Some, None, Bool, true, false, ◌&&◌, ◌||◌}
-use Rattle.ctl_tree.specs.declared.checked.Ty.TheVariants.{Integer}
+use Rattle.ctl_program.specs.declared.types.Ty.TheVariants.{Integer}
 use Rattle.ctl_tree.specs.declared.event.Part.{Part}
 use Rattle.ctl_tree.specs.declared.event.Cause.{Cause}
 use Rattle.ctl_tree.specs.declared.event.Cause.TheVariants.{Assign, Failed}
@@ -8,8 +8,8 @@ use Rattle.ctl_tree.specs.declared.event.Event.{Event}
 use Rattle.ctl_tree.specs.declared.event.Event.TheVariants.{Finalize}
 use Rattle.ctl_meaning.specs.World.{Member, Binds}
 use Rattle.ctl_meaning.specs.Lists.{keep, any_of, same_list, begins, pull_item, pull_rest}
-use Rattle.ctl_meaning.specs.Ledger.{count_candidates}
-use Rattle.ctl_meaning.specs.Changes.{home_of, begin_finalization, end_finalization, Group, candidates_of}
+use Rattle.ctl_meaning.specs.Changes.{home_of, begin_finalization, end_finalization}
+use Rattle.ctl_meaning.specs.Members.{Group, candidates_of, count_due}
 use Rattle.ctl_meaning.specs.Outcome.{program_error, Cut, Act, Done, ◌>>=◌, ◌>>◌, done, nothing, raise, ticked, look, change, show, choose, Tried, Fine, Raised, attempt, when, either}
 use Rattle.ctl_meaning.specs.Types.{Placed, placed, has_controlled, is_controlled, operation, depth, of_record}
 use Rattle.ctl_meaning.specs.Names.{OfSubprogram, Tools, existing, must_exist}
@@ -35,7 +35,7 @@ unfoldable pub is_whole : Spot → Bool
 is_whole s = same_list s.path []
 
 unfoldable pub no_component : Placed
-no_component = record { position = 0; offset = 0; ty = Integer; default = None }
+no_component = record { position = 0; offset = 0; ty = Integer; defaulted = false }
 
 -- Calls of operations -------------------------------------------------------------
 
@@ -123,12 +123,12 @@ finalize_one k cause others failed (m ∷ ms) =
 -- one after another, as long as there are candidates; at most so many
 unfoldable pub finalize_members : Tools → Cause → Group → ℕ → Bool → Act Bool
 finalize_members k cause g zero failed c l w = Cut 0 c l
-finalize_members k cause g (suc n) failed c l w = finalize_one k cause (finalize_members k cause g n) failed (candidates_of g w) c l w
+finalize_members k cause g (suc n) failed c l w = finalize_one k cause (finalize_members k cause g n) failed (candidates_of k.tables g w) c l w
 
--- until no candidate of a group is left (7.6.1, 13.11.5). Each turn takes one of the candidates out, and a further one takes one
+-- until no candidate of a group is left (7.6.1, 13.11.5). With each turn one is no candidate any more, and a further one takes one
 -- from the clock, so there are no more turns than this
 unfoldable pub finalize_group : Tools → Cause → Group → Act Bool
-finalize_group k cause g c l w = finalize_members k cause g (suc (c + count_candidates w.ledger.collections)) false c l w
+finalize_group k cause g c l w = finalize_members k cause g (suc (c + count_due k.tables w)) false c l w
 
 -- everything here, opened at once
 unfoldable pub opened_finalization : Unit {0}

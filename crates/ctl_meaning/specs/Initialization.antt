@@ -1,13 +1,12 @@
 -- Initialize, and the creation of objects (7.6, 3.3.1).
 use Rattle.std.specs.Prelude.{ℕ, zero, suc, ◌+◌, List, [], ◌∷◌, ◌++◌, length, Option, Some, None, Bool, true, false, if◌then◌else◌}
-use Rattle.ctl_tree.specs.declared.checked.Ty.{Ty}
+use Rattle.ctl_program.specs.declared.types.Ty.{Ty}
 use Rattle.ctl_tree.specs.declared.event.Event.TheVariants.{Initialize}
 use Rattle.ctl_meaning.specs.Lists.{keep, pull_item, pull_rest}
 use Rattle.ctl_meaning.specs.Changes.{begin_finalization}
 use Rattle.ctl_meaning.specs.Outcome.{program_error, Act, Done, ◌>>=◌, ◌>>◌, done, nothing, raise, ticked, change, choose, Tried, Fine, Raised, attempt, when, either, on_some}
 use Rattle.ctl_meaning.specs.Types.{Placed, placed, is_initialized, is_controlled, operation, depth, of_record}
 use Rattle.ctl_meaning.specs.Names.{Tools, must_exist, write_part}
-use Rattle.ctl_meaning.specs.Expressions.{eval}
 use Rattle.ctl_meaning.specs.Finalization.{Spot, whole, component_at, part_of, no_component, call_operation, finalize_failed}
 use Rattle.ctl_meaning.specs.Adjustment.{Birth, lives, adjust}
 
@@ -64,10 +63,11 @@ unfoldable pub begun : Tools → Birth → Spot → ℕ → Begun → Act Done
 begun k birth s t b = on_some b.failure (when (is_controlled k.tables t) (lives k birth s t)) (clean_up k s t b.paths)
 
 -- a component by its default expression, or else by default itself (3.8, 7.6)
-unfoldable pub begin_component : Tools → Birth → (Spot → ℕ → Act Done) → Spot → Placed → Act Done
-begin_component k birth f s p =
-    on_some p.default (of_record nothing (f (component_at s p)) p.ty)
-    (λ e. eval k birth.home e >>= write_part s.object (s.offset + p.offset) >> adjust k (Some birth) (component_at s p) p.ty)
+unfoldable pub begin_component : Tools → Birth → (Spot → ℕ → Act Done) → Spot → ℕ → Placed → Act Done
+begin_component k birth f s t p =
+    either p.defaulted
+    (k.default t p.position birth.home >>= write_part s.object (s.offset + p.offset) >> adjust k (Some birth) (component_at s p) p.ty)
+    (of_record nothing (f (component_at s p)) p.ty)
 
 unfoldable pub parts_to_begin : Tools → ℕ → List Placed
 parts_to_begin k t = keep (is_initialized k.tables) (placed k.tables t)
@@ -76,7 +76,7 @@ parts_to_begin k t = keep (is_initialized k.tables) (placed k.tables t)
 unfoldable pub initialize_part : Tools → Birth → ℕ → Spot → ℕ → Act Done
 initialize_part k birth zero s t = nothing
 initialize_part k birth (suc n) s t =
-    begin_each k s (begin_component k birth (initialize_part k birth n) s) (length (parts_to_begin k t)) (parts_to_begin k t) []
+    begin_each k s (begin_component k birth (initialize_part k birth n) s t) (length (parts_to_begin k t)) (parts_to_begin k t) []
     >>= unless_failed (own_initialize k s t)
     >>= begun k birth s t
 

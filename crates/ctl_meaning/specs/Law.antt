@@ -1,23 +1,23 @@
 -- What holds of every program and every run.
 use Rattle.std.specs.Prelude.{◌≡◌, ℕ, ◌+◌, List, ◌++◌}
 use Rattle.std.specs.List.{flat_map}
-use Rattle.ctl_tree.specs.declared.checked.Checked.{Checked}
-use Rattle.ctl_tree.specs.declared.checked.Stmt.{Stmt}
+use Rattle.ctl_program.specs.declared.program.Checked.{Checked}
+use Rattle.ctl_program.specs.declared.statement.Stmt.{Stmt}
 use Rattle.ctl_tree.specs.declared.event.Cause.{Cause}
 use Rattle.ctl_tree.specs.declared.event.Event.{Event}
 use Rattle.ctl_meaning.specs.World.{Log, World, empty_world}
 use Rattle.ctl_meaning.specs.Choice.{Ask, Obeys, replayed}
 use Rattle.ctl_meaning.specs.Types.{tables_of}
 use Rattle.ctl_meaning.specs.Names.{Tools}
-use Rattle.ctl_meaning.specs.Statements.{exec}
-use Rattle.ctl_meaning.specs.Run.{execution, run}
-use Rattle.ctl_meaning.specs.Advance.{Grows, log_of, IsAtMost}
-use Rattle.ctl_meaning.specs.Changes.{Group}
+use Rattle.ctl_meaning.specs.Members.{Group, OfSets}
 use Rattle.ctl_meaning.specs.Finalization.{finalize_group}
+use Rattle.ctl_meaning.specs.Masters.{finalize_sets}
+use Rattle.ctl_meaning.specs.Statements.{exec}
+use Rattle.ctl_meaning.specs.Run.{meaning_of, execution, tools_with, run}
+use Rattle.ctl_meaning.specs.Advance.{Grows, log_of, IsAtMost}
 use Rattle.ctl_meaning.specs.Cuts.{CutForCause}
-use Rattle.ctl_meaning.specs.Emptied.{LeavesNone}
-use Rattle.ctl_meaning.specs.Agreement.{Agrees, InAgreement}
-use Rattle.ctl_meaning.specs.SameAnswers.{Fits}
+use Rattle.ctl_meaning.specs.Emptied.{LeavesNone, InOrder, StaysInOrder, AreTheCandidates}
+use Rattle.ctl_meaning.specs.SameAnswers.{AnswersAlike}
 use Rattle.ctl_meaning.specs.Continues.{Continues}
 
 -- the clock that a run leaves is not above the clock that it had
@@ -26,11 +26,11 @@ pub record ClockNeverRises (program : Checked) : Type 0 where
 
 -- what statements are executed with, where executions are at most so deep
 abbrev pub tools_at : Checked → Ask → ℕ → Tools
-tools_at program ask depth = record { ask = ask; tables = tables_of program; call = execution ask (tables_of program) depth }
+tools_at program ask depth = tools_with ask (meaning_of program) (execution ask (meaning_of program) depth)
 
 -- each statement, from each log and world, shows what was shown before and then more; so do its choices
 pub record LogOnlyGrows (program : Checked) : Type 0 where
-  pub after : (ask : Ask) (depth : ℕ) (env : List ℕ) (caught : ℕ) (s : Stmt) (clock : ℕ) (l : Log) (w : World) → Grows ask l (log_of (exec (tools_at program ask depth) env caught s clock l w))
+  pub after : (ask : Ask) (depth : ℕ) (env : List ℕ) (caught : ℕ) (s : Stmt) (clock : ℕ) (l : Log) (w : World) → Grows ask l (log_of (exec s (tools_at program ask depth) env caught clock l w))
 
 -- the choices of a run are the answers that were given, each below its width
 pub record ChoicesObey (program : Checked) : Type 0 where
@@ -40,18 +40,22 @@ pub record ChoicesObey (program : Checked) : Type 0 where
 pub record CutsHaveCauses (program : Checked) : Type 0 where
   pub in_run : (ask : Ask) (clock : ℕ) → CutForCause ask (run program ask clock)
 
--- where the finalization of collections or of a subpool goes on, none of their candidates is left
-pub record GroupsAreEmptied (program : Checked) : Type 0 where
-  pub after : (ask : Ask) (depth : ℕ) (cause : Cause) (g : Group) (clock : ℕ) (l : Log) (w : World) → LeavesNone g (finalize_group (tools_at program ask depth) cause g clock l w)
-
--- the candidates that are kept are those that the objects themselves give: in the empty world, and after each statement if before it
+-- in each world the candidates of a group are exactly the members that are due. They are in the order of their numbers where the objects are,
+-- as in the empty world, and after each statement if before it
 pub record CandidatesAgree (program : Checked) : Type 0 where
-  pub at_start : Agrees (tables_of program) empty_world
-  pub after : (ask : Ask) (depth : ℕ) (env : List ℕ) (caught : ℕ) (s : Stmt) (clock : ℕ) (l : Log) (w : World) → Agrees (tables_of program) w → InAgreement (tables_of program) (exec (tools_at program ask depth) env caught s clock l w)
+  pub exactly : (g : Group) (w : World) → AreTheCandidates (tables_of program) g w
+  pub at_start : InOrder empty_world
+  pub after : (ask : Ask) (depth : ℕ) (env : List ℕ) (caught : ℕ) (s : Stmt) (clock : ℕ) (l : Log) (w : World) → InOrder w → StaysInOrder (exec s (tools_at program ask depth) env caught clock l w)
+
+-- where the finalization of members goes on, none that is due is left: of a subpool or of collections, and where collections are left with
+-- their master
+pub record GroupsAreEmptied (program : Checked) : Type 0 where
+  pub of_members : (ask : Ask) (depth : ℕ) (cause : Cause) (g : Group) (clock : ℕ) (l : Log) (w : World) → LeavesNone (tables_of program) g (finalize_group (tools_at program ask depth) cause g clock l w)
+  pub of_collections : (ask : Ask) (depth : ℕ) (sets : List ℕ) (clock : ℕ) (l : Log) (w : World) → LeavesNone (tables_of program) (OfSets sets) (finalize_sets (tools_at program ask depth) sets clock l w)
 
 -- whoever answers the choices of a run alike gets the same run
 pub record SameAnswersSameRun (program : Checked) : Type 0 where
-  pub in_run : (ask other : Ask) (clock : ℕ) → Fits ask other (run program ask clock) → run program other clock ≡ run program ask clock
+  pub in_run : (ask other : Ask) (clock : ℕ) → AnswersAlike ask other (run program ask clock) → run program other clock ≡ run program ask clock
 
 -- the choices of a run, and no more, give the same run
 pub record ChoicesReplay (program : Checked) : Type 0 where

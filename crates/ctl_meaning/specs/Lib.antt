@@ -1,3 +1,4 @@
+pub mod Limits
 pub mod Lists
 pub mod World
 pub mod Ledger
@@ -9,6 +10,7 @@ pub mod Choice
 pub mod Outcome
 pub mod Numbers
 pub mod Types
+pub mod Members
 pub mod Names
 pub mod Marks
 pub mod Expressions
@@ -20,11 +22,10 @@ pub mod Allocation
 pub mod Masters
 pub mod Statements
 pub mod Run
+pub mod Audit
 pub mod Advance
 pub mod Cuts
 pub mod Continues
 pub mod SameAnswers
 pub mod Emptied
-pub mod Agreement
 pub mod Law
-pub mod Audit

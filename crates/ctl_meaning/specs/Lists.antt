@@ -26,11 +26,6 @@ unfoldable pub any_of : {A : Type 0} → (A → Bool) → List A → Bool
 any_of p [] = false
 any_of p (x ∷ xs) = p x || any_of p xs
 
--- the items, each replaced
-unfoldable pub each_of : {A B : Type 0} → (A → B) → List A → List B
-each_of f [] = []
-each_of f (x ∷ xs) = f x ∷ each_of f xs
-
 -- whether a number is among these
 unfoldable pub contains : ℕ → List ℕ → Bool
 contains n [] = false
@@ -74,5 +69,5 @@ begins (x ∷ xs) (y ∷ ys) = nat_eq x y && begins xs ys
 
 -- everything here, opened at once
 unfoldable pub opened_lists : Unit {0}
-unfolding first_with change_each change_first keep any_of each_of contains last_of item_or pull_item pull_rest same_list begins
+unfolding first_with change_each change_first keep any_of contains last_of item_or pull_item pull_rest same_list begins
 opened_lists = tt

@@ -1,23 +1,24 @@
 -- Masters: their parts are elaborated, and their layers finalized (3.11, 7.6.1).
-use Rattle.std.specs.Prelude.{ℕ, List, [], ◌∷◌, ◌++◌, length, Option, None, Bool, false, ◌&&◌, ◌||◌, nat_eq, nat_le, if◌then◌else◌, slice_get}
-use Rattle.ctl_tree.specs.declared.checked.Ty.{Ty}
-use Rattle.ctl_tree.specs.declared.checked.Ty.TheVariants.{Record}
-use Rattle.ctl_tree.specs.declared.checked.Association.{Association}
-use Rattle.ctl_tree.specs.declared.checked.AccessType.{AccessType}
-use Rattle.ctl_tree.specs.declared.checked.Root.{Root}
-use Rattle.ctl_tree.specs.declared.checked.Root.TheVariants.{MarkPool}
-use Rattle.ctl_tree.specs.declared.checked.Item.{Item}
-use Rattle.ctl_tree.specs.declared.checked.Item.TheVariants.{Collections, Object, Pool, Silent}
+use Rattle.std.specs.Prelude.{ℕ, List, [], ◌∷◌, ◌++◌, length, Option, None, Bool, false, ◌&&◌, ◌||◌, nat_eq, nat_le, if◌then◌else◌, slice_get, map, option_map}
+use Rattle.ctl_program.specs.declared.types.Ty.{Ty}
+use Rattle.ctl_program.specs.declared.types.Ty.TheVariants.{Record}
+use Rattle.ctl_program.specs.declared.statement.Association.{Association}
+use Rattle.ctl_program.specs.declared.types.AccessType.{AccessType}
+use Rattle.ctl_program.specs.declared.types.Root.{Root}
+use Rattle.ctl_program.specs.declared.types.Root.TheVariants.{MarkPool}
+use Rattle.ctl_program.specs.declared.statement.Item.{Item}
 use Rattle.ctl_tree.specs.declared.event.Cause.TheVariants.{Scope, Collection}
 use Rattle.ctl_meaning.specs.World.{Declared, Layer, Single, Sets, Slot, Holds, Gathers}
 use Rattle.ctl_meaning.specs.Activations.{slots_in, activation_at}
 use Rattle.ctl_meaning.specs.Ledger.{layers_of}
 use Rattle.ctl_meaning.specs.Pools.{push_block_pool, push_mark_pool}
-use Rattle.ctl_meaning.specs.Changes.{create, open_master, close_master, gone_with, add_layer, take_layer, set_slot, add_collection, start_collections, in_pools, close_pool_at, OfSets}
+use Rattle.ctl_meaning.specs.Changes.{create, open_master, close_master, gone_with, add_layer, take_layer, set_slot, add_collection, start_collections, in_pools, close_pool_at}
+use Rattle.ctl_meaning.specs.Members.{OfSets}
+use Rattle.ctl_meaning.specs.Limits.{least_block_size, greatest_block_size, least_block_count, greatest_block_count, least_mark_pool_size, greatest_mark_pool_size}
 use Rattle.ctl_meaning.specs.Outcome.{constraint_error, Result, Act, Done, ◌>>=◌, ◌>>◌, done, nothing, raise, counted, ticked, then_always, look, change, Tried, Fine, Raised, attempt, either, on_some}
 use Rattle.ctl_meaning.specs.Types.{root_of, begin_cells}
 use Rattle.ctl_meaning.specs.Names.{Tools, gone, existing, scalar_of}
-use Rattle.ctl_meaning.specs.Expressions.{eval, eval_option}
+use Rattle.ctl_meaning.specs.Expressions.{Valued, if_given, eval}
 use Rattle.ctl_meaning.specs.Finalization.{finalize_if_controlled, finalize_group}
 use Rattle.ctl_meaning.specs.Adjustment.{birth_of}
 use Rattle.ctl_meaning.specs.Initialization.{fill}
@@ -82,13 +83,16 @@ gather_each k m [] sets = change (add_layer m (Sets sets))
 gather_each k m (a ∷ more) sets = ticked (on_some (slice_get k.tables.accesses a) gone (gather m)) >>= (λ n. gather_each k m more (sets ++ n ∷ []))
 
 -- the discriminants of a pool, by their positions
-unfoldable pub discriminants : Tools → List ℕ → List Association → ℕ × ℕ → Act (ℕ × ℕ)
+unfoldable pub discriminants : Tools → List ℕ → List (ℕ × Valued) → ℕ × ℕ → Act (ℕ × ℕ)
 discriminants k env [] d = done d
-discriminants k env (x ∷ xs) d = eval k env x.value >>= (λ v. discriminants k env xs (if nat_eq x.position 0 then (scalar_of v, d.1) else (d.0, scalar_of v)))
+discriminants k env (x ∷ xs) d = x.1 k env >>= (λ v. discriminants k env xs (if nat_eq x.0 0 then (scalar_of v, d.1) else (d.0, scalar_of v)))
+
+unfoldable pub lies_between : ℕ → ℕ → ℕ → Bool
+lies_between low high n = nat_le low n && nat_le n high
 
 unfoldable pub good_discriminants : Root → ℕ × ℕ → Bool
-good_discriminants MarkPool d = nat_le 8 d.0 && nat_le d.0 16777216
-good_discriminants _ d = nat_le 8 d.0 && (nat_le d.0 4096 && (nat_le 1 d.1 && nat_le d.1 65536))
+good_discriminants MarkPool d = lies_between least_mark_pool_size greatest_mark_pool_size d.0
+good_discriminants _ d = lies_between least_block_size greatest_block_size d.0 && lies_between least_block_count greatest_block_count d.1
 
 -- a pool is open from its number on
 unfoldable pub open_pool : Root → ℕ → ℕ × ℕ → Act Done
@@ -111,18 +115,38 @@ declare_pool k m slot t d =
     >>= pool_or_closed m w.ledger.next_object))
     (raise constraint_error)
 
--- each declaration is a tick
-unfoldable pub elaborate_item : Tools → List ℕ → ℕ → Item → Act Done
-elaborate_item k env m (Collections accesses) = gather_each k m accesses.items []
-elaborate_item k env m (Object slot ty value) = ticked (eval_option k env value >>= declare k m slot ty)
-elaborate_item k env m (Pool slot t ds) = ticked (discriminants k env ds.items (0, 0) >>= declare_pool k m slot t)
-elaborate_item k env m Silent = ticked nothing
+-- what an item does in a master, where a display is seen
+abbrev pub Elaborating : Type 0
+Elaborating = Tools → List ℕ → ℕ → Act Done
 
-unfoldable pub elaborate : Tools → List ℕ → ℕ → List Item → Act Done
+unfoldable pub collections : List ℕ → Elaborating
+collections accesses k env m = gather_each k m accesses []
+
+-- each other declaration is a tick
+unfoldable pub object : ℕ → Ty → Option Valued → Elaborating
+object slot ty value k env m = ticked (if_given (λ e. e k env) value >>= declare k m slot ty)
+
+unfoldable pub pool : ℕ → ℕ → List (ℕ × Valued) → Elaborating
+pool slot t ds k env m = ticked (discriminants k env ds (0, 0) >>= declare_pool k m slot t)
+
+-- a declaration that does nothing when it is elaborated
+unfoldable pub silent : Elaborating
+silent k env m = ticked nothing
+
+abbrev pub association : Association → ℕ × Valued
+association x = (x.position, eval x.value)
+
+abbrev pub elaborate_item : Item → Elaborating
+elaborate_item (Item.Collections accesses) = collections accesses
+elaborate_item (Item.Object slot ty value) = object slot ty (option_map eval value)
+elaborate_item (Item.Pool slot t ds) = pool slot t (map association ds)
+elaborate_item Item.Silent = silent
+
+unfoldable pub elaborate : Tools → List ℕ → ℕ → List Elaborating → Act Done
 elaborate k env m [] = nothing
-elaborate k env m (x ∷ xs) = elaborate_item k env m x >> elaborate k env m xs
+elaborate k env m (x ∷ xs) = x k env m >> elaborate k env m xs
 
 -- everything here, opened at once
 unfoldable pub opened_masters : Unit {0}
-unfolding finalize_declared finalize_sets finalize_layer leave_layers left leave in_master declare gather gather_each discriminants good_discriminants open_pool pool_or_closed declare_pool elaborate_item elaborate
+unfolding finalize_declared finalize_sets finalize_layer leave_layers left leave in_master declare gather gather_each discriminants lies_between good_discriminants open_pool pool_or_closed declare_pool collections object pool silent elaborate
 opened_masters = tt

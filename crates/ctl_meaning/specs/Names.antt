@@ -1,10 +1,9 @@
 -- What a name denotes, and how its value is read and written.
 use Rattle.std.specs.Prelude.{ℕ, zero, suc, ◌+◌, List, [], ◌∷◌, ◌++◌, drop, Option, Some, None, Bool, false, ◌&&◌, nat_eq, slice_get}
-use Rattle.ctl_tree.specs.declared.checked.Ty.{Ty}
-use Rattle.ctl_tree.specs.declared.checked.Var.{Var}
-use Rattle.ctl_tree.specs.declared.checked.Expr.{Held-Expr-New-2}
-use Rattle.ctl_tree.specs.declared.checked.Step.{Step}
-use Rattle.ctl_tree.specs.declared.checked.Step.TheVariants.{Component, Dereference, Narrow}
+use Rattle.ctl_program.specs.declared.types.Ty.{Ty}
+use Rattle.ctl_program.specs.declared.types.Var.{Var}
+use Rattle.ctl_program.specs.declared.expression.Step.{Step}
+use Rattle.ctl_program.specs.declared.expression.Step.TheVariants.{Component, Dereference, Narrow}
 use Rattle.ctl_tree.specs.declared.ending.Stop.TheVariants.{UseAfterFree}
 use Rattle.ctl_meaning.specs.World.{Object, Slot, Holds, Binds, Copies, World}
 use Rattle.ctl_meaning.specs.Lists.{item_or, same_list}
@@ -15,10 +14,11 @@ use Rattle.ctl_meaning.specs.Choice.{Ask}
 use Rattle.ctl_meaning.specs.Outcome.{constraint_error, Act, Done, ◌>>=◌, ◌>>◌, done, nothing, raise, stop, ticked, look, change, either, on_some}
 use Rattle.ctl_meaning.specs.Types.{Tables, placed, offset_in, record_of, descends}
 
--- what takes one from the clock and is run where a display is seen: a user's body with the slots of its formals, or an allocator
+-- what is run where a display is seen: a user's body with the slots of its formals, which takes one from the clock, or an allocator with
+-- its handle and its value, which has taken one
 pub data Execution : Type 0 where
   OfSubprogram : (number : ℕ) (actuals : List Slot) → Execution
-  OfAllocator : (access : ℕ) (ty : Ty) (handle value : Held-Expr-New-2) → Execution
+  OfAllocator : (access : ℕ) (ty : Ty) (handle value : Option (List ℕ)) → Execution
 
 -- the value that an execution gives, and what its slots held when it was left
 pub record Returned : Type 0 where
@@ -28,11 +28,16 @@ pub record Returned : Type 0 where
 abbrev pub Call : Type 0
 Call = Execution → List ℕ → Act Returned
 
--- what everything is evaluated with: the answers to choices, the tables, and the executions
+-- the value of the default expression of a component: by its record type and its position, where a display is seen
+abbrev pub Default : Type 0
+Default = ℕ → ℕ → List ℕ → Act (List ℕ)
+
+-- what everything is done with: the answers to choices, the tables, the executions, and the default expressions
 pub record Tools : Type 0 where
   pub ask : Ask
   pub tables : Tables
   pub call : Call
+  pub default : Default
 
 -- Objects that must exist ------------------------------------------------------
 

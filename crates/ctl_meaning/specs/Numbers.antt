@@ -1,11 +1,12 @@
 -- Numbers in cells, their operators, and their images (3.5.4, 4.5, 3.5).
 use Rattle.std.specs.Prelude.{ℕ, ◌+◌, ◌-◌, ◌^◌, List, ◌++◌, Option, Some, None, Bool, true, false, not, ◌&&◌, ◌||◌, nat_eq, nat_lt, if◌then◌else◌, ℤ, pos, negsuc, ◌+ℤ◌, ◌-ℤ◌, ◌*ℤ◌, int_le, int_lt, int_div, int_rem, nat_abs, codes, decimal}
-use Rattle.ctl_tree.specs.declared.checked.Ty.{Ty}
-use Rattle.ctl_tree.specs.declared.checked.Ty.TheVariants.{Integer, Count}
-use Rattle.ctl_tree.specs.declared.checked.UnaryOp.{UnaryOp}
-use Rattle.ctl_tree.specs.declared.checked.UnaryOp.TheVariants.{Plus, Minus, Abs, Not}
-use Rattle.ctl_tree.specs.declared.checked.BinaryOp.{BinaryOp}
-use Rattle.ctl_tree.specs.declared.checked.BinaryOp.TheVariants.{Add, Subtract, Multiply, Divide, Modulo, Remainder, And, Or, Xor, Equal, Unequal, Less, LessEqual, Greater, GreaterEqual}
+use Rattle.ctl_program.specs.declared.types.Ty.{Ty}
+use Rattle.ctl_program.specs.declared.types.Ty.TheVariants.{Integer, Count}
+use Rattle.ctl_program.specs.declared.operators.UnaryOp.{UnaryOp}
+use Rattle.ctl_program.specs.declared.operators.UnaryOp.TheVariants.{Plus, Minus, Abs, Not}
+use Rattle.ctl_program.specs.declared.operators.BinaryOp.{BinaryOp}
+use Rattle.ctl_program.specs.declared.operators.BinaryOp.TheVariants.{Add, Subtract, Multiply, Divide, Modulo, Remainder, And, Or, Xor, Equal, Unequal, Less, LessEqual, Greater, GreaterEqual}
+use Rattle.ctl_meaning.specs.Limits.{integer_first, integer_last}
 
 -- Cells ----------------------------------------------------------------------
 
@@ -25,13 +26,13 @@ truth false = 0
 unfoldable pub is_true : ℕ → Bool
 is_true n = not (nat_eq n 0)
 
--- Integer begins at -2 ** 31, Storage_Count at 0; both end at 2 ** 31 - 1
+-- Storage_Count begins at 0; it ends where Integer ends
 unfoldable pub lowest : Ty → ℤ
 lowest Count = pos 0
-lowest _ = negsuc 2147483647
+lowest _ = integer_first
 
 unfoldable pub in_range : Ty → ℤ → Bool
-in_range ty z = int_le (lowest ty) z && int_le z (pos 2147483647)
+in_range ty z = int_le (lowest ty) z && int_le z (pos integer_last)
 
 -- the cell of a number of this type; none where it is out of range, which raises Constraint_Error (3.5.4)
 unfoldable pub held : Ty → ℤ → Option ℕ

@@ -1,5 +1,5 @@
 -- Objects by number, their values and states, and where they lie.
-use Rattle.std.specs.Prelude.{ℕ, zero, suc, ◌+◌, List, [], ◌∷◌, ◌++◌, length, Option, Some, None, Bool, true, false, nat_eq, if◌then◌else◌, take, drop}
+use Rattle.std.specs.Prelude.{ℕ, zero, suc, ◌+◌, List, [], ◌∷◌, ◌++◌, length, Option, Bool, true, false, nat_eq, if◌then◌else◌, take, drop}
 use Rattle.ctl_meaning.specs.World.{Place, Standard, InBlock, InSubpool, Origin, Declared, Allocated, State, Untouched, Finalizing, Finalized, Object}
 use Rattle.ctl_meaning.specs.Lists.{first_with, change_each, contains}
 
@@ -73,11 +73,7 @@ unfoldable pub ends_with_master : ℕ → List ℕ → Origin → Bool
 ends_with_master m sets (Declared n) = nat_eq n m
 ends_with_master m sets (Allocated s p) = contains s sets
 
-unfoldable pub lies_there : (Origin → Bool) → Option Object → Bool
-lies_there p None = false
-lies_there p (Some o) = p o.origin
-
 -- everything here, opened at once
 unfoldable pub opened_objects : Unit {0}
-unfolding object_in change_in first_cells cells_at overwritten with_cells with_begun with_joined is_untouched with_finalized is_finalizing is_of_set place_in_subpool lies_in_subpool place_in_pool lies_in_pool ends_with_master lies_there
+unfolding object_in change_in first_cells cells_at overwritten with_cells with_begun with_joined is_untouched with_finalized is_finalizing is_of_set place_in_subpool lies_in_subpool place_in_pool lies_in_pool ends_with_master
 opened_objects = tt

@@ -1,7 +1,10 @@
--- Executions of bodies, and the run of a whole program.
-use Rattle.std.specs.Prelude.{ℕ, zero, suc, List, [], ◌∷◌, ◌++◌, length, Option, Some, None, Bool, true, false, slice_get, take, drop}
-use Rattle.ctl_tree.specs.declared.checked.Checked.{Checked}
-use Rattle.ctl_tree.specs.declared.checked.Subprogram.{Subprogram}
+-- What the text of a program means, executions of its bodies, and its run.
+use Rattle.std.specs.Prelude.{ℕ, zero, suc, ◌-◌, List, [], ◌∷◌, ◌++◌, length, Option, Some, None, slice_get, take, drop, option_map, map}
+use Rattle.ctl_program.specs.declared.program.Checked.{Checked}
+use Rattle.ctl_program.specs.declared.operators.SubprogramKind.{SubprogramKind}
+use Rattle.ctl_program.specs.declared.operators.SubprogramKind.TheVariants.{Procedure, Function}
+use Rattle.ctl_program.specs.declared.program.Subprogram.{Subprogram}
+use Rattle.ctl_program.specs.declared.types.RecordType.{RecordType}
 use Rattle.ctl_tree.specs.declared.ending.End.{End}
 use Rattle.ctl_tree.specs.declared.ending.End as EndOf
 use Rattle.ctl_tree.specs.declared.event.Event.{Event}
@@ -12,71 +15,117 @@ use Rattle.ctl_meaning.specs.Activations.{opened_activations}
 use Rattle.ctl_meaning.specs.Objects.{opened_objects}
 use Rattle.ctl_meaning.specs.Pools.{opened_pools}
 use Rattle.ctl_meaning.specs.Changes.{opened_changes}
+use Rattle.ctl_meaning.specs.Members.{opened_members}
 use Rattle.ctl_meaning.specs.Choice.{Ask, opened_choice}
 use Rattle.ctl_meaning.specs.Outcome.{program_error, Way, ByExit, ByReturn, ByRaise, Result, Goes, Leaves, Out, Gives, Stops, Cut, Act, Done, ◌>>=◌, ◌>>◌, done, raise, ticked, spend, on_some, opened_outcome}
 use Rattle.ctl_meaning.specs.Numbers.{opened_numbers}
-use Rattle.ctl_meaning.specs.Types.{Tables, tables_of, opened_types}
-use Rattle.ctl_meaning.specs.Names.{Execution, OfSubprogram, OfAllocator, Returned, Call, Tools, gone, opened_names}
+use Rattle.ctl_meaning.specs.Types.{Tables, tables_of, of_parent, opened_types}
+use Rattle.ctl_meaning.specs.Names.{Execution, OfSubprogram, OfAllocator, Returned, Call, Default, Tools, gone, opened_names}
 use Rattle.ctl_meaning.specs.Marks.{opened_marks}
-use Rattle.ctl_meaning.specs.Expressions.{opened_expressions}
+use Rattle.ctl_meaning.specs.Expressions.{Valued, eval, opened_expressions}
 use Rattle.ctl_meaning.specs.Finalization.{opened_finalization}
 use Rattle.ctl_meaning.specs.Adjustment.{opened_adjustment}
 use Rattle.ctl_meaning.specs.Initialization.{opened_initialization}
 use Rattle.ctl_meaning.specs.Storage.{opened_storage}
 use Rattle.ctl_meaning.specs.Allocation.{allocate, join_collection, opened_allocation}
 use Rattle.ctl_meaning.specs.Masters.{in_master, opened_masters}
-use Rattle.ctl_meaning.specs.Statements.{unset_slots, exec_master, opened_statements}
+use Rattle.ctl_meaning.specs.Statements.{Body, unset_slots, body_of, opened_statements}
+
+-- What a program's text means ----------------------------------------------------------------
+
+-- a subprogram
+pub record Routine : Type 0 where
+  pub level : ℕ
+  pub kind : SubprogramKind
+  pub body : Body
+
+-- a program before it runs: its tables of types, for each record type the default expressions of its components, inherited ones first,
+-- and its subprograms
+pub record Meaning : Type 0 where
+  pub tables : Tables
+  pub defaults : List (List (Option Valued))
+  pub routines : List Routine
+
+abbrev pub routine_of : Subprogram → Routine
+routine_of s = record { level = s.level; kind = s.kind; body = body_of s.body }
+
+abbrev pub own_defaults : RecordType → List (Option Valued)
+own_defaults r = map (λ c. option_map eval c.default) r.own
+
+unfoldable pub row_of : List (List (Option Valued)) → ℕ → List (Option Valued)
+row_of rows t = item_or [] (slice_get rows t)
+
+-- a parent stands before its descendants
+unfoldable pub defaults_from : List (List (Option Valued)) → List RecordType → List (List (Option Valued))
+defaults_from rows [] = rows
+defaults_from rows (r ∷ rs) = defaults_from (rows ++ (of_parent [] (row_of rows) r.parent ++ own_defaults r) ∷ []) rs
+
+unfoldable pub default_at : List (List (Option Valued)) → ℕ → ℕ → Option Valued
+default_at rows t position = item_or None (slice_get (row_of rows t) (position - 1))
+
+unfoldable pub meaning_of : Checked → Meaning
+meaning_of p = record { tables = tables_of p; defaults = defaults_from [] p.records; routines = map routine_of p.subprograms }
 
 -- Executions ------------------------------------------------------------------------------
 
 -- a function that reaches its end raises Program_Error, outside its own handlers (6.5). An exit statement stands in a loop (5.7); one
 -- that stands in none would end the body
-unfoldable pub returned : Bool → List Slot → Result Done → Act Returned
-returned true slots (Goes a) = raise program_error
-returned false slots (Goes a) = done (record { cells = []; slots = slots })
-returned true slots (Leaves ByExit) = raise program_error
-returned false slots (Leaves ByExit) = done (record { cells = []; slots = slots })
-returned f slots (Leaves (ByReturn v)) = done (record { cells = v; slots = slots })
-returned f slots (Leaves (ByRaise e)) = raise e
+unfoldable pub returned : SubprogramKind → List Slot → Result Done → Act Returned
+returned Function slots (Goes a) = raise program_error
+returned Procedure slots (Goes a) = done (record { cells = []; slots = slots })
+returned Function slots (Leaves ByExit) = raise program_error
+returned Procedure slots (Leaves ByExit) = done (record { cells = []; slots = slots })
+returned kind slots (Leaves (ByReturn v)) = done (record { cells = v; slots = slots })
+returned kind slots (Leaves (ByRaise e)) = raise e
 
 -- the formals have the first slots
-unfoldable pub slots_for : Subprogram → List Slot → List Slot
-slots_for s actuals = actuals ++ drop (length actuals) (unset_slots s.body)
+unfoldable pub slots_for : Body → List Slot → List Slot
+slots_for b actuals = actuals ++ drop (length actuals) (unset_slots b)
 
 -- the body inside the masters around its declaration; its value is there before the master is finalized
-unfoldable pub run_subprogram : Tools → List ℕ → List Slot → Subprogram → Act Returned
-run_subprogram k env actuals s =
-    in_master k (take s.level env) (slots_for s actuals) (λ inner. exec_master k inner 0 s.body) >>= (λ x. returned s.is_function x.slots x.result)
+unfoldable pub run_routine : Tools → List ℕ → List Slot → Routine → Act Returned
+run_routine k env actuals s =
+    in_master k (take s.level env) (slots_for s.body actuals) (λ inner. s.body.inside k inner 0) >>= (λ x. returned s.kind x.slots x.result)
 
-unfoldable pub run_number : Tools → List ℕ → List Slot → ℕ → Act Returned
-run_number k env actuals f = on_some (slice_get k.tables.subprograms f) gone (run_subprogram k env actuals)
+unfoldable pub run_number : Meaning → Tools → List ℕ → List Slot → ℕ → Act Returned
+run_number p k env actuals f = on_some (slice_get p.routines f) gone (run_routine k env actuals)
 
 -- the new object of an allocator joins its collection, and the access value is its number
-unfoldable pub completed : Tables → ℕ → Act Returned
-completed t n = join_collection t n >> done (record { cells = n ∷ []; slots = [] })
+unfoldable pub completed : ℕ → Act Returned
+completed n = join_collection n >> done (record { cells = n ∷ []; slots = [] })
 
--- each execution takes one from the clock; a call is a tick
-unfoldable pub execute : Tools → Execution → List ℕ → Act Returned
-execute k (OfSubprogram f actuals) env = spend (ticked (run_number k env actuals f))
-execute k (OfAllocator access ty handle value) env = spend (allocate k env access ty handle value >>= completed k.tables)
+-- a call takes one from the clock, and is a tick; an allocator has taken one before its operands
+unfoldable pub execute : Meaning → Tools → Execution → List ℕ → Act Returned
+execute p k (OfSubprogram f actuals) env = spend (ticked (run_number p k env actuals f))
+execute p k (OfAllocator access ty handle value) env = allocate k env access ty handle value >>= completed
+
+-- expressions begin no component by default
+unfoldable pub expression_tools : Ask → Meaning → Call → Tools
+expression_tools ask p call = record { ask = ask; tables = p.tables; call = call; default = λ t position env. gone }
+
+unfoldable pub default_in : List (List (Option Valued)) → Tools → Default
+default_in rows k t position env = on_some (default_at rows t position) gone (λ e. e k env)
+
+unfoldable pub tools_with : Ask → Meaning → Call → Tools
+tools_with ask p call = record { ask = ask; tables = p.tables; call = call; default = default_in p.defaults (expression_tools ask p call) }
 
 -- executions at most n deep
-unfoldable pub execution : Ask → Tables → ℕ → Call
-execution ask k zero x env c l w = Cut 0 c l
-execution ask k (suc n) x env c l w = execute (record { ask = ask; tables = k; call = execution ask k n }) x env c l w
+unfoldable pub execution : Ask → Meaning → ℕ → Call
+execution ask p zero x env c l w = Cut 0 c l
+execution ask p (suc n) x env c l w = execute p (tools_with ask p (execution ask p n)) x env c l w
 
 -- with a clock, no execution is deeper than the clock allows
-unfoldable pub tools : Ask → Tables → ℕ → Tools
-tools ask k clock = record { ask = ask; tables = k; call = execution ask k (suc clock) }
+unfoldable pub tools : Ask → Meaning → ℕ → Tools
+tools ask p clock = tools_with ask p (execution ask p (suc clock))
 
 -- The run ----------------------------------------------------------------------------------
 
 -- the main procedure in the empty world; it takes none from the clock
-unfoldable pub run_tables : Tables → ℕ → Ask → ℕ → Out Returned
-run_tables k main ask clock = run_number (tools ask k clock) [] [] main clock empty_log empty_world
+unfoldable pub run_meaning : Meaning → ℕ → Ask → ℕ → Out Returned
+run_meaning p main ask clock = run_number p (tools ask p clock) [] [] main clock empty_log empty_world
 
 unfoldable pub run : Checked → Ask → ℕ → Out Returned
-run p ask clock = run_tables (tables_of p) p.main ask clock
+run p ask clock = run_meaning (meaning_of p) p.main ask clock
 
 -- what a run comes to: what it showed, its choices, how it ended (not at all where it was cut), and its ticks
 pub record Outcome : Type 0 where
@@ -102,14 +151,14 @@ outcome_of names (Cut t c l) = record { trace = l.trace; picks = l.taken; end = 
 
 -- the outcome of a program with a clock, where choices are answered so
 unfoldable pub outcome : Checked → Ask → ℕ → Outcome
-outcome p ask clock = outcome_of p.exceptions.items (run p ask clock)
+outcome p ask clock = outcome_of p.exceptions (run p ask clock)
 
 -- everything here, opened at once
 unfoldable pub opened_run : Unit {0}
-unfolding returned slots_for run_subprogram run_number completed execute execution tools run_tables run name_of end_by outcome_of outcome
+unfolding row_of defaults_from default_at meaning_of returned slots_for run_routine run_number completed execute expression_tools default_in tools_with execution tools run_meaning run name_of end_by outcome_of outcome
 opened_run = tt
 
 -- all definitions, opened at once
 unfoldable pub opened_meaning : Unit {0}
-unfolding opened_lists opened_world opened_ledger opened_activations opened_objects opened_pools opened_changes opened_choice opened_outcome opened_numbers opened_types opened_names opened_marks opened_expressions opened_finalization opened_adjustment opened_initialization opened_storage opened_allocation opened_masters opened_statements opened_run
+unfolding opened_lists opened_world opened_ledger opened_activations opened_objects opened_pools opened_changes opened_choice opened_outcome opened_numbers opened_types opened_members opened_names opened_marks opened_expressions opened_finalization opened_adjustment opened_initialization opened_storage opened_allocation opened_masters opened_statements opened_run
 opened_meaning = tt

@@ -1,14 +1,21 @@
--- Statements, blocks and handlers (5, 11). Each statement is a tick, and each construct that is left.
-use Rattle.std.specs.Prelude.{ℕ, zero, suc, ◌+◌, List, [], ◌∷◌, ◌++◌, Option, Some, None, Bool, true, false, nat_eq, if◌then◌else◌, ℤ, pos, negsuc, ◌+ℤ◌, ◌-ℤ◌, replicate}
-use Rattle.ctl_tree.specs.declared.checked.Ty.TheVariants.{Record}
-use Rattle.ctl_tree.specs.declared.checked.Var.{Var}
-use Rattle.ctl_tree.specs.declared.checked.Operation.{Operation}
-use Rattle.ctl_tree.specs.declared.checked.Operation.TheVariants.{Initialize, Adjust, Finalize}
-use Rattle.ctl_tree.specs.declared.checked.Actual.{Actual, ByValue, Part', Copied'}
-use Rattle.ctl_tree.specs.declared.checked.Piece.{Piece}
-use Rattle.ctl_tree.specs.declared.checked.Piece.TheVariants.{Text, IntegerImage, BooleanImage}
-use Rattle.ctl_tree.specs.declared.checked.Stmt.{Stmt, Null, Assign, AssignRecord, Call, Nothing, Dispatch, LibraryAllocate, LibraryDeallocate, Put, PutLine, NewLine, Exit, Return, Raise, If', Loop', While', For', Block', Free, Release, Row_of-Stmt, end_of-Stmt, more_of-Stmt, Row_of-Arm, end_of-Arm, more_of-Arm}
-use Rattle.ctl_tree.specs.declared.checked.Master.{Master, Master', Row_of-Handler, end_of-Handler, more_of-Handler}
+-- Statements, masters and handlers (5, 11). Each statement is a tick, and each construct that is left.
+--
+-- As with expressions: what a construct does is one function of what its parts do; `exec_step` and the like name it for each layer of a tree.
+use Rattle.std.specs.Prelude.{ℕ, zero, suc, ◌+◌, List, [], ◌∷◌, ◌++◌, Option, Some, None, Bool, true, false, nat_eq, if◌then◌else◌, map, option_map, ℤ, pos, negsuc, ◌+ℤ◌, ◌-ℤ◌, replicate}
+use Rattle.ctl_program.specs.declared.types.Ty.TheVariants.{Record}
+use Rattle.ctl_program.specs.declared.types.Var.{Var}
+use Rattle.ctl_program.specs.declared.operators.Operation.{Operation}
+use Rattle.ctl_program.specs.declared.operators.Operation.TheVariants.{Initialize, Adjust, Finalize}
+use Rattle.ctl_program.specs.declared.operators.Direction.{Direction}
+use Rattle.ctl_program.specs.declared.operators.Direction.TheVariants.{Upward, Downward}
+use Rattle.ctl_program.specs.declared.statement.Piece.{Piece}
+use Rattle.ctl_program.specs.declared.statement.Choices.{Choices}
+use Rattle.ctl_program.specs.declared.statement.Choices.TheVariants.{Others, Exceptions}
+use Rattle.ctl_program.specs.declared.statement.Stmt.{Stmt, fold-Stmt}
+use Rattle.ctl_program.specs.declared.statement.Stmt.TheOpen.{Stmt-F}
+use Rattle.ctl_program.specs.declared.statement.Arm.{Arm, Arm-F, fold-Arm}
+use Rattle.ctl_program.specs.declared.statement.Handler.{Handler, Handler-F, fold-Handler}
+use Rattle.ctl_program.specs.declared.statement.Master.{Master, Master-F, fold-Master}
 use Rattle.ctl_tree.specs.declared.event.Cause as CauseOf
 use Rattle.ctl_tree.specs.declared.event.Event.TheVariants.{Print, Newline}
 use Rattle.ctl_meaning.specs.World.{Slot, Unset, Copies}
@@ -18,22 +25,15 @@ use Rattle.ctl_meaning.specs.Changes.{set_slot}
 use Rattle.ctl_meaning.specs.Outcome.{ByExit, ByReturn, ByRaise, Result, Goes, Leaves, Cut, Act, Done, given, ◌>>=◌, ◌>>◌, done, nothing, leave_by, raise, counted, ticked, then_always, spend, change, show, when, either, on_some}
 use Rattle.ctl_meaning.specs.Numbers.{signed, cell_of, is_true, integer_image, boolean_image}
 use Rattle.ctl_meaning.specs.Types.{Tables, cells_of, has_controlled, operation, record_of}
-use Rattle.ctl_meaning.specs.Names.{Tools, Found, InObject, Alone, existing, scalar_of, read_found, write_found, object_of, same_found, walk}
-use Rattle.ctl_meaning.specs.Expressions.{Passed, no_actuals, with_actual, bound, call_with, eval, eval_head, eval_actual, eval_name}
+use Rattle.ctl_meaning.specs.Names.{Tools, Found, InObject, existing, scalar_of, read_found, write_found, object_of, same_found}
+use Rattle.ctl_meaning.specs.Expressions.{no_actuals, with_formal, by_reference, call_with, Valued, Naming, Supplied, pass_each, eval, eval_name, supply}
 use Rattle.ctl_meaning.specs.Finalization.{Spot, Every, finalize}
 use Rattle.ctl_meaning.specs.Adjustment.{adjust}
 use Rattle.ctl_meaning.specs.Storage.{library_allocate, library_deallocate, unchecked_deallocate_subpool}
 use Rattle.ctl_meaning.specs.Allocation.{free}
-use Rattle.ctl_meaning.specs.Masters.{in_master, elaborate}
+use Rattle.ctl_meaning.specs.Masters.{in_master, Elaborating, elaborate_item, elaborate}
 
 -- Calls (6.4) ----------------------------------------------------------------------------
-
-unfoldable pub pass_each : Tools → List ℕ → List Actual → Passed → Act Passed
-pass_each k env [] p = done p
-pass_each k env (a ∷ rest) p = ticked (eval_actual k env a p) >>= pass_each k env rest
-
-unfoldable pub call_statement : Tools → List ℕ → ℕ → List Actual → Act Done
-call_statement k env f actuals = pass_each k env actuals no_actuals >>= call_with k env f >> nothing
 
 unfoldable pub operation_named : Operation → Tables → ℕ → Option ℕ
 operation_named Initialize k t = operation (λ x. x.initialize) k t
@@ -43,30 +43,34 @@ operation_named Finalize k t = operation (λ x. x.finalize) k t
 -- an explicit call of an operation of a class-wide object: by the object's own type (3.9.2)
 unfoldable pub dispatch : Tools → List ℕ → Operation → Found → Act Done
 dispatch k env op f =
-    existing (object_of f) (λ o. on_some (operation_named op k.tables (record_of o.ty)) nothing (λ s. call_with k env s (with_actual (bound f) None no_actuals) >> nothing))
+    existing (object_of f) (λ o. on_some (operation_named op k.tables (record_of o.ty)) nothing (λ s. by_reference f >>= (λ x. call_with k env s (with_formal x no_actuals)) >> nothing))
 
 -- Texts (A.10.7) ----------------------------------------------------------------------------
 
-unfoldable pub eval_piece : Tools → List ℕ → Piece → Act (List ℕ)
-eval_piece k env (Text v) = ticked (done v)
-eval_piece k env (IntegerImage e) = ticked (eval k env e >>= (λ v. done (integer_image (scalar_of v))))
-eval_piece k env (BooleanImage e) = ticked (eval k env e >>= (λ v. done (boolean_image (scalar_of v))))
+unfoldable pub literal : List ℕ → Valued
+literal v k env = ticked (done v)
+
+unfoldable pub integer_text : Valued → Valued
+integer_text e k env = ticked (e k env >>= (λ v. done (integer_image (scalar_of v))))
+
+unfoldable pub boolean_text : Valued → Valued
+boolean_text e k env = ticked (e k env >>= (λ v. done (boolean_image (scalar_of v))))
+
+abbrev pub eval_piece : Piece → Valued
+eval_piece (Piece.Text v) = literal v
+eval_piece (Piece.IntegerImage e) = integer_text (eval e)
+eval_piece (Piece.BooleanImage e) = boolean_text (eval e)
 
 -- each `&` is an expression node
-unfoldable pub join_pieces : Tools → List ℕ → List Piece → List ℕ → Act (List ℕ)
+unfoldable pub join_pieces : Tools → List ℕ → List Valued → List ℕ → Act (List ℕ)
 join_pieces k env [] v = done v
-join_pieces k env (p ∷ ps) v = ticked (eval_piece k env p) >>= (λ u. join_pieces k env ps (v ++ u))
+join_pieces k env (p ∷ ps) v = ticked (p k env) >>= (λ u. join_pieces k env ps (v ++ u))
 
-unfoldable pub eval_text : Tools → List ℕ → List Piece → Act (List ℕ)
+unfoldable pub eval_text : Tools → List ℕ → List Valued → Act (List ℕ)
 eval_text k env [] = done []
-eval_text k env (p ∷ ps) = eval_piece k env p >>= join_pieces k env ps
+eval_text k env (p ∷ ps) = p k env >>= join_pieces k env ps
 
 -- Assignment (5.2, 7.6) -----------------------------------------------------------
-
-unfoldable pub source_of : Tools → List ℕ → Actual → Act Found
-source_of k env (ByValue e) = eval k env e >>= (λ v. done (Alone v))
-source_of k env (Part' head steps) = ticked (eval_head k env head >>= walk k steps.items)
-source_of k env (Copied' head steps ty begins) = ticked (eval_head k env head >>= walk k steps.items)
 
 unfoldable pub spot_of : Found → Spot
 spot_of (InObject o offset path) = record { object = o; offset = offset; path = path }
@@ -121,9 +125,9 @@ count_up (pos n) = n + 1
 count_up (negsuc n) = 0
 
 -- from the low bound up, or in reverse from the high one down
-unfoldable pub for : Bool → (ℤ → Act Done) → ℤ → ℤ → Act Done
-for false body low high = for_turns (count_up (high -ℤ low)) (λ z. z +ℤ pos 1) body low
-for true body low high = for_turns (count_up (high -ℤ low)) (λ z. z -ℤ pos 1) body high
+unfoldable pub for : Direction → (ℤ → Act Done) → ℤ → ℤ → Act Done
+for Upward body low high = for_turns (count_up (high -ℤ low)) (λ z. z +ℤ pos 1) body low
+for Downward body low high = for_turns (count_up (high -ℤ low)) (λ z. z -ℤ pos 1) body high
 
 unfoldable pub set_loop : List ℕ → Var → ℤ → Act Done
 set_loop env v z = change (set_slot (master_of env v) v.slot (Copies (cell_of z ∷ [])))
@@ -136,77 +140,190 @@ handled f (Leaves ByExit) = leave_by ByExit
 handled f (Leaves (ByReturn v)) = leave_by (ByReturn v)
 handled f (Leaves (ByRaise e)) = f e
 
--- without choices it is `others`
-unfoldable pub fits : ℕ → List ℕ → Bool
-fits e [] = true
-fits e (x ∷ xs) = contains e (x ∷ xs)
+-- whether a handler with these choices handles an exception (11.4)
+unfoldable pub does_handle : Choices → ℕ → Bool
+does_handle Others e = true
+does_handle (Exceptions es) e = contains e es
 
--- how many choices are looked at: as far as the one that fits, or all of them
+-- how many are looked at: as far as the one that is meant, or all of them
 unfoldable pub looked_at : ℕ → List ℕ → ℕ
 looked_at e [] = 0
 looked_at e (x ∷ xs) = if nat_eq e x then 1 else 1 + looked_at e xs
 
 -- `others` is looked at as one choice
-unfoldable pub choices_looked_at : ℕ → List ℕ → ℕ
-choices_looked_at e [] = 1
-choices_looked_at e (x ∷ xs) = looked_at e (x ∷ xs)
+unfoldable pub choices_looked_at : Choices → ℕ → ℕ
+choices_looked_at Others e = 1
+choices_looked_at (Exceptions es) e = looked_at e es
 
--- Statements ----------------------------------------------------------------------------------------
+-- What the parts of a statement mean ---------------------------------------------------------------
+
+-- statements are done where a display is seen, inside a handler of this exception
+abbrev pub Doing : Type 0
+Doing = Tools → List ℕ → ℕ → Act Done
+
+-- an arm or a handler, before what is done where it does not apply: an arm inside a handler of this exception, a handler for it
+abbrev pub Guarding : Type 0
+Guarding = Tools → List ℕ → ℕ → Act Done → Act Done
+
+-- a master: how many slots it has, and what is done in it
+pub record Body : Type 0 where
+  pub slots : ℕ
+  pub inside : Doing
+
+unfoldable pub do_each : Tools → List ℕ → ℕ → List Doing → Act Done
+do_each k env caught [] = nothing
+do_each k env caught (s ∷ rest) = s k env caught >> do_each k env caught rest
+
+-- the first that applies, and else this
+unfoldable pub do_first : Tools → List ℕ → ℕ → List Guarding → Act Done → Act Done
+do_first k env e [] others = others
+do_first k env e (x ∷ rest) others = x k env e (do_first k env e rest others)
+
+-- the first handler with a choice that is meant; else the exception goes on
+unfoldable pub handle : Tools → List ℕ → List Guarding → ℕ → Act Done
+handle k env handlers e = do_first k env e handlers (raise e)
 
 unfoldable pub scalar : Act (List ℕ) → (ℕ → Act Done) → Act Done
 scalar m f = m >>= (λ v. f (scalar_of v))
 
-unfoldable mutual
-  -- a statement where a display is seen, inside a handler of this exception
-  pub exec : Tools → List ℕ → ℕ → Stmt → Act Done
-  exec k env caught Null = ticked nothing
-  exec k env caught (Assign n e) = ticked (eval_name k env n >>= (λ f. eval k env e >>= write_found f))
-  exec k env caught (AssignRecord n t a) = ticked (eval_name k env n >>= (λ f. source_of k env a >>= assign_record k t f))
-  exec k env caught (Call f actuals) = ticked (call_statement k env f actuals.items)
-  exec k env caught (Nothing n) = ticked (eval_name k env n >> nothing)
-  exec k env caught (Dispatch op n) = ticked (eval_name k env n >>= dispatch k env op)
-  exec k env caught (LibraryAllocate p a size alignment) = ticked (eval_name k env p >>= (λ f. eval_name k env a >>= (λ g. scalar (eval k env size) (λ s. eval k env alignment >> library_allocate (object_of f) s >>= (λ x. write_found g (x ∷ []))))))
-  exec k env caught (LibraryDeallocate p a size alignment) = ticked (eval_name k env p >>= (λ f. scalar (eval k env a) (λ x. eval k env size >> eval k env alignment >> library_deallocate (object_of f) x)))
-  exec k env caught (Put pieces) = ticked (eval_text k env pieces.items >>= (λ v. show (Print v)))
-  exec k env caught (PutLine pieces) = ticked (eval_text k env pieces.items >>= (λ v. show (Print v) >> show Newline))
-  exec k env caught NewLine = ticked (show Newline)
-  exec k env caught (Exit None) = ticked (leave_by ByExit)
-  exec k env caught (Exit (Some e)) = ticked (scalar (eval k env e) (λ b. either (is_true b) (leave_by ByExit) nothing))
-  exec k env caught (Return None) = ticked (leave_by (ByReturn []))
-  exec k env caught (Return (Some e)) = ticked (eval k env e >>= (λ v. leave_by (ByReturn v)))
-  exec k env caught (Raise None) = ticked (raise caught)
-  exec k env caught (Raise (Some e)) = ticked (raise e)
-  exec k env caught (If' s arms t others) = ticked (leaving (exec_arms k env caught arms (exec_all k env caught others)))
-  exec k env caught (Loop' s row) = ticked (leaving (loop (one_turn (exec_all k env caught row))))
-  exec k env caught (While' e s row) = ticked (leaving (loop (while (eval k env e) (exec_all k env caught row))))
-  exec k env caught (For' v down low high s row) = ticked (leaving (scalar (eval k env low) (λ a. scalar (eval k env high) (λ b. for down (λ z. set_loop env v z >> exec_all k env caught row) (signed a) (signed b)))))
-  exec k env caught (Block' p m) = ticked (in_master k env (unset_slots m) (λ inner. exec_master k inner caught m) >>= (λ x. given x.result))
-  exec k env caught (Free access n) = ticked (eval_name k env n >>= free k env access)
-  exec k env caught (Release n) = ticked (eval_name k env n >>= unchecked_deallocate_subpool k)
+unfoldable pub unset_slots : Body → List Slot
+unset_slots b = replicate b.slots Unset
 
-  pub exec_all : Tools → List ℕ → ℕ → {m : _} → Row_of-Stmt m → Act Done
-  exec_all k env caught end_of-Stmt = nothing
-  exec_all k env caught (more_of-Stmt s rest) = exec k env caught s >> exec_all k env caught rest
+-- Each construct ---------------------------------------------------------------------------------
 
-  -- the first arm whose condition holds
-  pub exec_arms : Tools → List ℕ → ℕ → {m : _} → Row_of-Arm m → Act Done → Act Done
-  exec_arms k env caught end_of-Arm others = others
-  exec_arms k env caught (more_of-Arm test s body rest) others = scalar (eval k env test) (λ b. either (is_true b) (exec_all k env caught body) (exec_arms k env caught rest others))
+unfoldable pub null : Doing
+null k env caught = ticked nothing
 
-  pub unset_slots : Master → List Slot
-  unset_slots (Master' slots items s body t handlers) = replicate slots Unset
+unfoldable pub assign : Naming → Valued → Doing
+assign n e k env caught = ticked (n k env >>= (λ f. e k env >>= write_found f))
 
-  -- a part, its statements, and its handlers; an exception of the part is not handled here (11.4)
-  pub exec_master : Tools → List ℕ → ℕ → Master → Act Done
-  exec_master k env caught (Master' slots items s body t handlers) =
-      elaborate k env (last_of env) items.items >> then_always (exec_all k env caught body) (handled (handle k env handlers))
+unfoldable pub assign_part : Naming → ℕ → Supplied → Doing
+assign_part n t a k env caught = ticked (n k env >>= (λ f. a.source k env >>= assign_record k t f))
 
-  -- the first handler with a choice that fits; else the exception goes on
-  pub handle : Tools → List ℕ → {m : _} → Row_of-Handler m → ℕ → Act Done
-  handle k env end_of-Handler e = raise e
-  handle k env (more_of-Handler choices s body rest) e = counted (choices_looked_at e choices.items) (either (fits e choices.items) (exec_all k env e body) (handle k env rest e))
+unfoldable pub call : ℕ → List Supplied → Doing
+call f actuals k env caught = ticked (pass_each k env actuals no_actuals >>= call_with k env f >> nothing)
+
+unfoldable pub call_nothing : Naming → Doing
+call_nothing n k env caught = ticked (n k env >> nothing)
+
+unfoldable pub call_dispatching : Operation → Naming → Doing
+call_dispatching op n k env caught = ticked (n k env >>= dispatch k env op)
+
+unfoldable pub call_allocate : Naming → Naming → Valued → Valued → Doing
+call_allocate p a size alignment k env caught =
+    ticked (p k env >>= (λ f. a k env >>= (λ g. scalar (size k env) (λ s. alignment k env >> library_allocate (object_of f) s >>= (λ x. write_found g (x ∷ []))))))
+
+unfoldable pub call_deallocate : Naming → Valued → Valued → Valued → Doing
+call_deallocate p a size alignment k env caught =
+    ticked (p k env >>= (λ f. scalar (a k env) (λ x. size k env >> alignment k env >> library_deallocate (object_of f) x)))
+
+unfoldable pub put : List Valued → Doing
+put pieces k env caught = ticked (eval_text k env pieces >>= (λ v. show (Print v)))
+
+unfoldable pub put_line : List Valued → Doing
+put_line pieces k env caught = ticked (eval_text k env pieces >>= (λ v. show (Print v) >> show Newline))
+
+unfoldable pub new_line : Doing
+new_line k env caught = ticked (show Newline)
+
+unfoldable pub exit : Option Valued → Doing
+exit None k env caught = ticked (leave_by ByExit)
+exit (Some e) k env caught = ticked (scalar (e k env) (λ b. either (is_true b) (leave_by ByExit) nothing))
+
+unfoldable pub return : Option Valued → Doing
+return None k env caught = ticked (leave_by (ByReturn []))
+return (Some e) k env caught = ticked (e k env >>= (λ v. leave_by (ByReturn v)))
+
+unfoldable pub raise_new : ℕ → Doing
+raise_new e k env caught = ticked (raise e)
+
+unfoldable pub raise_again : Doing
+raise_again k env caught = ticked (raise caught)
+
+unfoldable pub choose_arm : List Guarding → List Doing → Doing
+choose_arm arms others k env caught = ticked (leaving (do_first k env caught arms (do_each k env caught others)))
+
+unfoldable pub loop_plainly : List Doing → Doing
+loop_plainly body k env caught = ticked (leaving (loop (one_turn (do_each k env caught body))))
+
+unfoldable pub loop_while : Valued → List Doing → Doing
+loop_while e body k env caught = ticked (leaving (loop (while (e k env) (do_each k env caught body))))
+
+unfoldable pub loop_for : Var → Direction → Valued → Valued → List Doing → Doing
+loop_for v way low high body k env caught =
+    ticked (leaving (scalar (low k env) (λ a. scalar (high k env) (λ b. for way (λ z. set_loop env v z >> do_each k env caught body) (signed a) (signed b)))))
+
+unfoldable pub do_block : Body → Doing
+do_block b k env caught = ticked (in_master k env (unset_slots b) (λ inner. b.inside k inner caught) >>= (λ x. given x.result))
+
+unfoldable pub free_object_of : ℕ → Naming → Doing
+free_object_of access n k env caught = ticked (n k env >>= free k env access)
+
+unfoldable pub release_subpool : Naming → Doing
+release_subpool n k env caught = ticked (n k env >>= unchecked_deallocate_subpool k)
+
+-- the statements of an arm, if its condition holds
+unfoldable pub guard : Valued → List Doing → Guarding
+guard test body k env caught others = scalar (test k env) (λ b. either (is_true b) (do_each k env caught body) others)
+
+-- the statements of a handler, if it handles the exception
+unfoldable pub handler : Choices → List Doing → Guarding
+handler choices body k env e others = counted (choices_looked_at choices e) (either (does_handle choices e) (do_each k env e body) others)
+
+-- a part, its statements, and its handlers; an exception of the part is not handled here (11.4)
+unfoldable pub within : List Elaborating → List Doing → List Guarding → Doing
+within items body handlers k env caught = elaborate k env (last_of env) items >> then_always (do_each k env caught body) (handled (handle k env handlers))
+
+-- Layers of a tree ---------------------------------------------------------------------------------
+
+abbrev pub exec_step : Stmt-F Doing Guarding Guarding Body → Doing
+exec_step Stmt-F.Null = null
+exec_step (Stmt-F.Assign n e) = assign (eval_name n) (eval e)
+exec_step (Stmt-F.AssignRecord n t a) = assign_part (eval_name n) t (supply a)
+exec_step (Stmt-F.Call f actuals) = call f (map supply actuals)
+exec_step (Stmt-F.Nothing n) = call_nothing (eval_name n)
+exec_step (Stmt-F.Dispatch op n) = call_dispatching op (eval_name n)
+exec_step (Stmt-F.LibraryAllocate p a size alignment) = call_allocate (eval_name p) (eval_name a) (eval size) (eval alignment)
+exec_step (Stmt-F.LibraryDeallocate p a size alignment) = call_deallocate (eval_name p) (eval a) (eval size) (eval alignment)
+exec_step (Stmt-F.Put pieces) = put (map eval_piece pieces)
+exec_step (Stmt-F.PutLine pieces) = put_line (map eval_piece pieces)
+exec_step Stmt-F.NewLine = new_line
+exec_step (Stmt-F.Exit test) = exit (option_map eval test)
+exec_step (Stmt-F.Return value) = return (option_map eval value)
+exec_step (Stmt-F.Raise e) = raise_new e
+exec_step Stmt-F.RaiseAgain = raise_again
+exec_step (Stmt-F.If arms others) = choose_arm arms others
+exec_step (Stmt-F.Loop body) = loop_plainly body
+exec_step (Stmt-F.While test body) = loop_while (eval test) body
+exec_step (Stmt-F.For v way low high body) = loop_for v way (eval low) (eval high) body
+exec_step (Stmt-F.Block b) = do_block b
+exec_step (Stmt-F.Free access n) = free_object_of access (eval_name n)
+exec_step (Stmt-F.Release n) = release_subpool (eval_name n)
+
+abbrev pub arm_step : Arm-F Doing Guarding Guarding Body → Guarding
+arm_step a = guard (eval a.test) a.body
+
+abbrev pub handler_step : Handler-F Doing Guarding Guarding Body → Guarding
+handler_step h = handler h.choices h.body
+
+abbrev pub master_step : Master-F Doing Guarding Guarding Body → Body
+master_step m = record { slots = m.slots; inside = within (map elaborate_item m.items) m.body m.handlers }
+
+-- Whole trees --------------------------------------------------------------------------------------
+
+unfoldable pub exec : Stmt → Doing
+exec = fold-Stmt Doing Guarding Guarding Body exec_step arm_step handler_step master_step
+
+unfoldable pub arm_of : Arm → Guarding
+arm_of = fold-Arm Doing Guarding Guarding Body exec_step arm_step handler_step master_step
+
+unfoldable pub handler_of : Handler → Guarding
+handler_of = fold-Handler Doing Guarding Guarding Body exec_step arm_step handler_step master_step
+
+unfoldable pub body_of : Master → Body
+body_of = fold-Master Doing Guarding Guarding Body exec_step arm_step handler_step master_step
 
 -- everything here, opened at once
 unfoldable pub opened_statements : Unit {0}
-unfolding pass_each call_statement operation_named dispatch eval_piece join_pieces eval_text source_of spot_of overwrite assign_record leaving turned turns loop one_turn while for_turns count_up for set_loop handled fits looked_at choices_looked_at scalar exec exec_all exec_arms unset_slots exec_master handle
+unfolding operation_named dispatch literal integer_text boolean_text join_pieces eval_text spot_of overwrite assign_record leaving turned turns loop one_turn while for_turns count_up for set_loop handled does_handle looked_at choices_looked_at do_each do_first handle scalar unset_slots null assign assign_part call call_nothing call_dispatching call_allocate call_deallocate put put_line new_line exit return raise_new raise_again choose_arm loop_plainly loop_while loop_for do_block free_object_of release_subpool guard handler within exec arm_of handler_of body_of
 opened_statements = tt

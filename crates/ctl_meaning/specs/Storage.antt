@@ -1,17 +1,19 @@
 -- Storage of block pools and mark pools, and the release of subpools (13.11, 13.11.4 to 13.11.6).
 use Rattle.std.specs.Prelude.{ℕ, ◌+◌, List, [], ◌∷◌, Option, Some, None, Bool, true, false, not, ◌&&◌, ◌||◌, nat_eq, nat_lt, slice_get}
-use Rattle.ctl_tree.specs.declared.checked.Root.{Root}
-use Rattle.ctl_tree.specs.declared.checked.Root.TheVariants.{MarkPool}
-use Rattle.ctl_tree.specs.declared.checked.Var.{Var}
+use Rattle.ctl_program.specs.declared.types.Root.{Root}
+use Rattle.ctl_program.specs.declared.types.Root.TheVariants.{MarkPool}
+use Rattle.ctl_program.specs.declared.types.Var.{Var}
 use Rattle.ctl_tree.specs.declared.ending.Stop.TheVariants.{FreeWhileFinalizing, BadAddress, ReleasedSubpool}
 use Rattle.ctl_tree.specs.declared.event.Cause.TheVariants.{Subpool}
 use Rattle.ctl_tree.specs.declared.event.Event.TheVariants.{Allocate, Deallocate}
 use Rattle.ctl_meaning.specs.World.{Place, Standard, InBlock, InSubpool, Slot, Unset, Binds, Copies, BlockPool, Pools, World}
 use Rattle.ctl_meaning.specs.World as W
+use Rattle.ctl_meaning.specs.Limits.{integer_last, alignment}
 use Rattle.ctl_meaning.specs.Lists.{item_or}
 use Rattle.ctl_meaning.specs.Pools.{block_pool_at, take_block, give_block, block_at, mark_pool_at, subpool_at, last_mark, set_used, detach, belongs_now, keep_dead, drop_released, dropped_among}
 use Rattle.ctl_meaning.specs.Objects.{lies_in_subpool, lies_in_pool}
-use Rattle.ctl_meaning.specs.Changes.{in_pools, is_vacant, is_busy, empty_subpool, close_pool_at, count_of, OfSubpool}
+use Rattle.ctl_meaning.specs.Changes.{in_pools, is_vacant, is_busy, empty_subpool, close_pool_at, count_of}
+use Rattle.ctl_meaning.specs.Members.{OfSubpool}
 use Rattle.ctl_meaning.specs.Outcome.{constraint_error, program_error, storage_error, Act, Done, ◌>>=◌, ◌>>◌, done, nothing, raise, stop, counted, look, change, show, either, on_some}
 use Rattle.ctl_meaning.specs.Types.{operation, root_of, record_of}
 use Rattle.ctl_meaning.specs.Names.{OfSubprogram, Returned, Tools, Found, gone, existing, copy_in, scalar_of, read_found, write_found, find_var, object_of}
@@ -39,7 +41,7 @@ tested n size a = with_block_pool n (λ p. look (λ w. either (is_vacant w (bloc
 
 -- the slots of Allocate and Deallocate: the pool, the address, the size and the alignment (13.11)
 unfoldable pub storage_actuals : ℕ → ℕ → ℕ → List Slot
-storage_actuals n a size = Binds n 0 [] ∷ Copies (a ∷ []) ∷ Copies (size ∷ []) ∷ Copies (8 ∷ []) ∷ []
+storage_actuals n a size = Binds n 0 [] ∷ Copies (a ∷ []) ∷ Copies (size ∷ []) ∷ Copies (alignment ∷ []) ∷ []
 
 unfoldable pub address_in : Returned → ℕ
 address_in r = scalar_of (copy_in (item_or Unset (slice_get r.slots 1)))
@@ -47,7 +49,7 @@ address_in r = scalar_of (copy_in (item_or Unset (slice_get r.slots 1)))
 -- a size above Storage_Count'Last raises Constraint_Error in place of the call (profile)
 unfoldable pub user_allocate : Tools → ℕ → ℕ → ℕ → Act ℕ
 user_allocate k n size f =
-    either (nat_lt 2147483647 size) (raise constraint_error)
+    either (nat_lt integer_last size) (raise constraint_error)
     (show (Allocate n size) >> with_home n (λ d. k.call (OfSubprogram f (storage_actuals n 0 size)) d) >>= (λ r. tested n size (address_in r)))
 
 unfoldable pub block_storage : Tools → ℕ → ℕ → Act Place

@@ -1,26 +1,24 @@
 -- What the tables say of a type. A record's components and parent stand before it, so a depth as great as the table suffices.
 use Rattle.std.specs.Prelude.{ℕ, zero, suc, ◌+◌, List, [], ◌∷◌, ◌++◌, length, Option, Some, None, Bool, true, false, ◌||◌, nat_lt, nat_eq, if◌then◌else◌, slice_get, replicate, is_some}
-use Rattle.ctl_tree.specs.declared.checked.Checked.{Checked}
-use Rattle.ctl_tree.specs.declared.checked.Ty.{Ty}
-use Rattle.ctl_tree.specs.declared.checked.Ty.TheVariants.{Record}
-use Rattle.ctl_tree.specs.declared.checked.Expr.{Expr}
-use Rattle.ctl_tree.specs.declared.checked.Root.{Root}
-use Rattle.ctl_tree.specs.declared.checked.Root.TheVariants.{Untagged}
-use Rattle.ctl_tree.specs.declared.checked.Component.{Component}
-use Rattle.ctl_tree.specs.declared.checked.Operations.{Operations}
-use Rattle.ctl_tree.specs.declared.checked.RecordType.{RecordType}
-use Rattle.ctl_tree.specs.declared.checked.AccessType.{AccessType}
-use Rattle.ctl_tree.specs.declared.checked.Subprogram.{Subprogram}
+use Rattle.ctl_program.specs.declared.program.Checked.{Checked}
+use Rattle.ctl_program.specs.declared.types.Ty.{Ty}
+use Rattle.ctl_program.specs.declared.types.Ty.TheVariants.{Record}
+use Rattle.ctl_program.specs.declared.types.Root.{Root}
+use Rattle.ctl_program.specs.declared.types.Root.TheVariants.{Untagged}
+use Rattle.ctl_program.specs.declared.types.Component.{Component}
+use Rattle.ctl_program.specs.declared.types.Operations.{Operations}
+use Rattle.ctl_program.specs.declared.types.RecordType.{RecordType}
+use Rattle.ctl_program.specs.declared.types.AccessType.{AccessType}
+use Rattle.ctl_meaning.specs.Limits.{scalar_size, tag_size, least_record_size}
 use Rattle.ctl_meaning.specs.Lists.{any_of}
 
--- the tables of a checked program
+-- the tables of types of a checked program
 pub record Tables : Type 0 where
   pub records : List RecordType
   pub accesses : List AccessType
-  pub subprograms : List Subprogram
 
 unfoldable pub tables_of : Checked → Tables
-tables_of p = record { records = p.records.items; accesses = p.accesses.items; subprograms = p.subprograms.items }
+tables_of p = record { records = p.records; accesses = p.accesses }
 
 -- Components -----------------------------------------------------------------
 
@@ -30,7 +28,7 @@ of_parent d f (Some p) = f p
 
 unfoldable pub with_own : (ℕ → List Component) → Option RecordType → List Component
 with_own inherited None = []
-with_own inherited (Some r) = of_parent [] inherited r.parent ++ r.own.items
+with_own inherited (Some r) = of_parent [] inherited r.parent ++ r.own
 
 -- inherited components first (3.4, 3.9.1)
 unfoldable pub components : ℕ → List RecordType → ℕ → List Component
@@ -67,16 +65,16 @@ cells_of k ty = of_record 1 (cells_within (depth k) k.records) ty
 unfoldable pub begin_cells : Tables → Ty → List ℕ
 begin_cells k ty = replicate (cells_of k ty) 0
 
--- a component with its position, from 1, and the place of its cells
+-- a component with its position, from 1, the place of its cells, and whether it has a default expression
 pub record Placed : Type 0 where
   pub position : ℕ
   pub offset : ℕ
   pub ty : Ty
-  pub default : Option Expr
+  pub defaulted : Bool
 
 unfoldable pub placed_from : Tables → ℕ → ℕ → List Component → List Placed
 placed_from k position offset [] = []
-placed_from k position offset (x ∷ xs) = (record { position = position; offset = offset; ty = x.ty; default = x.default }) ∷ placed_from k (position + 1) (offset + cells_of k x.ty) xs
+placed_from k position offset (x ∷ xs) = (record { position = position; offset = offset; ty = x.ty; defaulted = is_some x.default }) ∷ placed_from k (position + 1) (offset + cells_of k x.ty) xs
 
 unfoldable pub placed : Tables → ℕ → List Placed
 placed k t = placed_from k 1 0 (components_of k t)
@@ -121,7 +119,7 @@ has_default k ty = of_record false (default_within (depth k) k.records) ty
 
 -- what default initialization chooses among: components with a default expression, or with a controlled part or such a component inside (7.6)
 unfoldable pub is_initialized : Tables → Placed → Bool
-is_initialized k x = is_some x.default || has_controlled k x.ty || has_default k x.ty
+is_initialized k x = x.defaulted || has_controlled k x.ty || has_default k x.ty
 
 -- t is u, or descends from it
 unfoldable pub parent_in : Option RecordType → Option ℕ
@@ -137,16 +135,16 @@ descends k u t = descends_within (depth k) k.records u t
 
 -- Sizes ------------------------------------------------------------------------
 
-unfoldable pub at_least_8 : ℕ → ℕ
-at_least_8 n = if nat_lt n 8 then 8 else n
+unfoldable pub as_record_size : ℕ → ℕ
+as_record_size n = if nat_lt n least_record_size then least_record_size else n
 
 unfoldable pub size_within : ℕ → List RecordType → ℕ → ℕ
-size_within zero rs t = 8
-size_within (suc n) rs t = at_least_8 (total (of_record 8 (size_within n rs)) (components (suc n) rs t) + (if is_tagged_root (root_in (slice_get rs t)) then 8 else 0))
+size_within zero rs t = least_record_size
+size_within (suc n) rs t = as_record_size (total (of_record scalar_size (size_within n rs)) (components (suc n) rs t) + (if is_tagged_root (root_in (slice_get rs t)) then tag_size else 0))
 
--- in storage units (13.3; profile): 8 for what is no record; a record's components, a tag's 8, and 8 at least
+-- in storage units (13.3; profile): for a record its components and its tag, and no less than the least
 unfoldable pub size_of : Tables → Ty → ℕ
-size_of k ty = of_record 8 (size_within (depth k) k.records) ty
+size_of k ty = of_record scalar_size (size_within (depth k) k.records) ty
 
 -- Operations -------------------------------------------------------------------
 
@@ -160,5 +158,5 @@ operation f k t = operation_in f (slice_get k.records t)
 
 -- everything here, opened at once
 unfoldable pub opened_types : Unit {0}
-unfolding tables_of of_parent with_own components of_record record_of total cells_within depth components_of cells_of begin_cells placed_from placed offset_in root_in is_tagged_root root_of is_controlled controlled_within has_controlled default_within has_default is_initialized parent_in descends_within descends at_least_8 size_within size_of operation_in operation
+unfolding tables_of of_parent with_own components of_record record_of total cells_within depth components_of cells_of begin_cells placed_from placed offset_in root_in is_tagged_root root_of is_controlled controlled_within has_controlled default_within has_default is_initialized parent_in descends_within descends as_record_size size_within size_of operation_in operation
 opened_types = tt

@@ -1,6 +1,6 @@
 -- What there is while a program runs. Numbers of objects, masters, collections, subpools and addresses count from 1; 0 is none.
 use Rattle.std.specs.Prelude.{ℕ, List, [], Option, Bool}
-use Rattle.ctl_tree.specs.declared.checked.Ty.{Ty}
+use Rattle.ctl_program.specs.declared.types.Ty.{Ty}
 use Rattle.ctl_tree.specs.declared.event.Event.{Event}
 
 -- a choice that was made: among how many candidates, and which of them, from 0
@@ -52,13 +52,11 @@ pub record Master : Type 0 where
   pub number : ℕ
   pub layers : List Layer
 
--- the collection of an access type: the master that it belongs to, whether its finalization has started, and its candidates:
--- the members with a controlled part whose finalization has not begun, by number (13.11.2, 7.6.1)
+-- the collection of an access type: the master that it belongs to, and whether its finalization has started (13.11.2, 7.6.1)
 pub record Collection : Type 0 where
   pub number : ℕ
   pub master : ℕ
   pub started : Bool
-  pub candidates : List Member
 
 -- who is to be finalized when: the next numbers, the active masters and the collections, each from the newest
 pub record Ledger : Type 0 where

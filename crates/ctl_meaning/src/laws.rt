@@ -2,7 +2,7 @@
 
 ghost use Rattle.ctl_meaning.specs.Law.{CandidatesAgree, ClockNeverRises, LogOnlyGrows, ChoicesObey, CutsHaveCauses, GroupsAreEmptied, SameAnswersSameRun, ChoicesReplay, MoreClockContinues, TextsContinue};
 
-use ctl_tree::checked::Checked;
+use ctl_program::program::Checked;
 
 /// The clock never rises.
 pub fn clock_never_rises(program: &Checked)
@@ -32,14 +32,16 @@ pub fn cuts_have_causes(program: &Checked)
     let _ = program;
 }
 
-/// When collections or a subpool are finalized, none of their members with a controlled part is left.
+/// Where the finalization of collections or of a subpool goes on, none of their members is left that has a controlled part and whose
+/// finalization has not begun.
 pub fn groups_are_emptied(program: &Checked)
     ensures { GroupsAreEmptied program.now }
 {
     let _ = program;
 }
 
-/// The candidates that are kept for collections are those that the objects' own states and origins give.
+/// The candidates of a choice in the finalization of collections or a subpool are exactly the members that have a controlled part, exist
+/// and whose finalization has not begun, in the order of their numbers.
 pub fn candidates_agree(program: &Checked)
     ensures { CandidatesAgree program.now }
 {

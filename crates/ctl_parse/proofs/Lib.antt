@@ -1,1 +1,13 @@
 pub mod Answered
+pub mod Associations
+pub mod Forms
+pub mod Keeping
+pub mod PartViews
+pub mod Parts
+pub mod ReadExpressions
+pub mod ReadItems
+pub mod ReadTrees
+pub mod Rows
+pub mod Steps
+pub mod Terms
+pub mod Views

@@ -1,4 +1,7 @@
 pub mod Heading
-pub mod Known
+pub mod Kept
 pub mod Memory
+pub mod Parts
+pub mod Read
+pub mod Reads
 pub mod View

@@ -1,59 +1,30 @@
--- What trees stand for.
-use Rattle.std.specs.Prelude.{ℕ, Bool, true, false, List, map, Option, Some, None}
-use Rattle.std.specs.Global.{Vec}
+-- What plain trees stand for.
+use Rattle.std.specs.Prelude.{ℕ, ◌==◌, Bool, true, false, ◌&&◌, not, cond, List, map, Option, Some, None}
 use Rattle.ctl_tree.specs.declared.span.Span.{Span}
-use Rattle.ctl_tree.specs.declared.tree.Identifier.{Identifier}
-use Rattle.ctl_tree.specs.declared.tree.Dotted.{Dotted}
-use Rattle.ctl_tree.specs.declared.tree.LogicalOperator.{LogicalOperator}
-use Rattle.ctl_tree.specs.declared.tree.LogicalOperator.TheVariants as logical
-use Rattle.ctl_tree.specs.declared.tree.RelationalOperator.{RelationalOperator}
-use Rattle.ctl_tree.specs.declared.tree.RelationalOperator.TheVariants as relational
-use Rattle.ctl_tree.specs.declared.tree.AddingOperator.{AddingOperator}
-use Rattle.ctl_tree.specs.declared.tree.AddingOperator.TheVariants as adding
-use Rattle.ctl_tree.specs.declared.tree.MultiplyingOperator.{MultiplyingOperator}
-use Rattle.ctl_tree.specs.declared.tree.MultiplyingOperator.TheVariants as multiplying
-use Rattle.ctl_tree.specs.declared.tree.Sign.{Sign}
-use Rattle.ctl_tree.specs.declared.tree.Sign.TheVariants as signs
-use Rattle.ctl_tree.specs.declared.tree.UnaryWord.{UnaryWord}
-use Rattle.ctl_tree.specs.declared.tree.UnaryWord.TheVariants as unary
-use Rattle.ctl_tree.specs.declared.tree.Expression.{Expression}
-use Rattle.ctl_tree.specs.declared.tree.Name.{Name}
-use Rattle.ctl_tree.specs.declared.tree.Suffix.{Suffix}
-use Rattle.ctl_tree.specs.declared.tree.Addend.{Addend}
-use Rattle.ctl_tree.specs.declared.tree.Multiplicand.{Multiplicand}
-use Rattle.ctl_tree.specs.declared.tree.ExpressionKind.TheOpen.{ExpressionKind-F, Suffix-F, Addend-F, Allocator-F, Expression-F, Multiplicand-F, Name-F}
-use Rattle.ctl_tree.specs.declared.tree.ExpressionKind.TheOpen as opened
-use Rattle.ctl_tree.specs.declared.tree.ExpressionKind.TheFolds.{fold-Expression, fold-Suffix, fold-Addend, fold-Multiplicand, fold-Name}
-use Rattle.ctl_grammar.specs.Form.{Node, none, num, written, at, pair, tag}
-use Rattle.ctl_grammar.specs.Nodes.{row_of}
-use Rattle.ctl_tree.specs.declared.tree.Mode.{Mode}
-use Rattle.ctl_tree.specs.declared.tree.Mode.TheVariants as modes
-use Rattle.ctl_tree.specs.declared.tree.Formal.{Formal}
-use Rattle.ctl_tree.specs.declared.tree.Specification.{Specification}
-use Rattle.ctl_tree.specs.declared.tree.Association.{Association}
-use Rattle.ctl_tree.specs.declared.tree.ComponentDeclaration.{ComponentDeclaration}
-use Rattle.ctl_tree.specs.declared.tree.Aspect.{Aspect}
-use Rattle.ctl_tree.specs.declared.tree.Definition.{Definition}
-use Rattle.ctl_tree.specs.declared.tree.Definition.TheVariants as definitions
-use Rattle.ctl_tree.specs.declared.tree.Scheme.{Scheme}
-use Rattle.ctl_tree.specs.declared.tree.Scheme.TheVariants as schemes
-use Rattle.ctl_tree.specs.declared.tree.Choices.{Choices}
-use Rattle.ctl_tree.specs.declared.tree.Choices.TheVariants as choices
-use Rattle.ctl_tree.specs.declared.tree.ContextKind.{ContextKind}
-use Rattle.ctl_tree.specs.declared.tree.ContextKind.TheVariants as contexts
-use Rattle.ctl_tree.specs.declared.tree.Context.{Context}
-use Rattle.ctl_tree.specs.declared.tree.Item.{Item}
-use Rattle.ctl_tree.specs.declared.tree.ItemKind.{ItemKind}
-use Rattle.ctl_tree.specs.declared.tree.Statement.{Statement}
-use Rattle.ctl_tree.specs.declared.tree.Branch.{Branch}
-use Rattle.ctl_tree.specs.declared.tree.Handled.{Handled}
-use Rattle.ctl_tree.specs.declared.tree.Handler.{Handler}
-use Rattle.ctl_tree.specs.declared.tree.BodyPart.{BodyPart}
-use Rattle.ctl_tree.specs.declared.tree.Objects.{Objects}
-use Rattle.ctl_tree.specs.declared.tree.Tree.{Tree}
-use Rattle.ctl_tree.specs.declared.tree.ItemKind.TheOpen.{ItemKind-F, StatementKind-F, BodyPart-F, Branch-F, Handled-F, Handler-F, Item-F, Statement-F}
-use Rattle.ctl_tree.specs.declared.tree.ItemKind.TheOpen as layers
-use Rattle.ctl_tree.specs.declared.tree.ItemKind.TheFolds.{fold-ItemKind, fold-BodyPart, fold-Branch, fold-Handled, fold-Handler, fold-Item, fold-Statement}
+use Rattle.ctl_grammar.specs.Form.{Node, none, leaf, num, written, at, pair, tag}
+use Rattle.ctl_grammar.specs.Nodes.{first, second, part_2, behind_2, is_none, tagged_part, row_of}
+use Rattle.ctl_syntax.specs.declared.name.Identifier.{Identifier}
+use Rattle.ctl_syntax.specs.declared.name.Mark.{Mark}
+use Rattle.ctl_syntax.specs.declared.name.Name.{Name}
+use Rattle.ctl_syntax.specs.declared.name.Suffix.{Suffix}
+use Rattle.ctl_syntax.specs.declared.name.Suffix.TheVariants as suffix
+use Rattle.ctl_syntax.specs.declared.name.Attribute.{Attribute}
+use Rattle.ctl_syntax.specs.declared.name.Attribute.TheVariants as attribute
+use Rattle.ctl_syntax.specs.declared.operators.Operand.{Operand}
+use Rattle.ctl_syntax.specs.declared.operators.ArithmeticOperator.{ArithmeticOperator}
+use Rattle.ctl_syntax.specs.declared.operators.ArithmeticOperator.TheVariants as arithmetic
+use Rattle.ctl_syntax.specs.declared.operators.RelationalOperator.{RelationalOperator}
+use Rattle.ctl_syntax.specs.declared.operators.RelationalOperator.TheVariants as relational
+use Rattle.ctl_syntax.specs.declared.operators.LogicalOperator.{LogicalOperator}
+use Rattle.ctl_syntax.specs.declared.operators.LogicalOperator.TheVariants as logical
+use Rattle.ctl_tree.specs.declared.tree.LogicalOperator.{LogicalOperator as Tree_operator}
+use Rattle.ctl_tree.specs.declared.tree.LogicalOperator.TheVariants as tree_logical
+use Rattle.ctl_syntax.specs.declared.operators.UnaryOperator.{UnaryOperator}
+use Rattle.ctl_syntax.specs.declared.operators.UnaryOperator.TheVariants as unary
+use Rattle.ctl_syntax.specs.declared.expression.Expression.{Expression, fold-Expression}
+use Rattle.ctl_syntax.specs.declared.expression.Expression.TheOpen.{Expression-F}
+
+-- ---- names
 
 -- a node that may be absent
 abbrev pub optional : {X : Type 0} → (X → Node) → Option X → Node
@@ -61,16 +32,36 @@ optional view None = none
 optional view (Some x) = pair none (view x)
 
 abbrev pub identifier_node : Identifier → Node
-identifier_node i = pair (written i.name) (at i.span)
+identifier_node i = pair (written i.text) (at i.span)
 
-abbrev pub dotted_node : Dotted → Node
-dotted_node d = pair (identifier_node d.first) (row_of (map identifier_node d.rest.items))
+abbrev pub mark_node : Mark Identifier → Node
+mark_node m = pair (identifier_node m.first) (row_of (map identifier_node m.rest))
 
-abbrev pub dotted_row : List Dotted → Node
-dotted_row ds = row_of (map dotted_node ds)
+-- an attribute but Access has the number that is kept of its spelling
+abbrev pub attribute_node : Span → Attribute → Node
+attribute_node p attribute.Access = tag 23 (at p)
+attribute_node p attribute.Image = tag 24 (pair (num 0) (at p))
+attribute_node p attribute.First = tag 24 (pair (num 1) (at p))
+attribute_node p attribute.Last = tag 24 (pair (num 2) (at p))
 
-abbrev pub placed_row : Span → List Identifier → Node
-placed_row p ids = pair (at p) (row_of (map identifier_node ids))
+-- the number of an attribute's name, where it has one
+abbrev pub attribute_code : Attribute → Option ℕ
+attribute_code attribute.Access = None
+attribute_code attribute.Image = Some 0
+attribute_code attribute.First = Some 1
+attribute_code attribute.Last = Some 2
+
+-- what stands behind the beginning of a name, by what its expressions stand for
+abbrev pub suffix_node : {E : Type 0} → (E → Node) → Suffix E → Node
+suffix_node view (suffix.Selector i) = tag 20 (identifier_node i)
+suffix_node view (suffix.All p) = tag 21 (at p)
+suffix_node view (suffix.Arguments p e more) = tag 22 (pair (at p) (pair (view e) (row_of (map view more))))
+suffix_node view (suffix.Attribute p a) = attribute_node p a
+
+abbrev pub name_node : {E : Type 0} → (E → Node) → Name Identifier E → Node
+name_node view n = pair (identifier_node n.first) (row_of (map (suffix_node view) n.suffixes))
+
+-- ---- operators
 
 abbrev pub logical_code : LogicalOperator → ℕ
 logical_code logical.And = 0
@@ -78,6 +69,14 @@ logical_code logical.Or = 1
 logical_code logical.Xor = 2
 logical_code logical.AndThen = 3
 logical_code logical.OrElse = 4
+
+-- the operator of the grammar
+abbrev pub tree_operator : LogicalOperator → Tree_operator
+tree_operator logical.And = tree_logical.And
+tree_operator logical.Or = tree_logical.Or
+tree_operator logical.Xor = tree_logical.Xor
+tree_operator logical.AndThen = tree_logical.AndThen
+tree_operator logical.OrElse = tree_logical.OrElse
 
 abbrev pub relational_code : RelationalOperator → ℕ
 relational_code relational.Equal = 0
@@ -87,240 +86,169 @@ relational_code relational.LessEqual = 3
 relational_code relational.Greater = 4
 relational_code relational.GreaterEqual = 5
 
-abbrev pub adding_code : AddingOperator → ℕ
-adding_code adding.Plus = 0
-adding_code adding.Minus = 1
-adding_code adding.Concatenate = 2
+-- The number among those that join terms, or among those that join factors. In a tree that no text has, the others may stand there
+-- too, and have numbers of their own.
+abbrev pub arithmetic_code : Bool → ArithmeticOperator → ℕ
+arithmetic_code true arithmetic.Plus = 0
+arithmetic_code true arithmetic.Minus = 1
+arithmetic_code true arithmetic.Concatenate = 2
+arithmetic_code true arithmetic.Times = 3
+arithmetic_code true arithmetic.Divide = 4
+arithmetic_code true arithmetic.Mod = 5
+arithmetic_code true arithmetic.Rem = 6
+arithmetic_code false arithmetic.Times = 0
+arithmetic_code false arithmetic.Divide = 1
+arithmetic_code false arithmetic.Mod = 2
+arithmetic_code false arithmetic.Rem = 3
+arithmetic_code false arithmetic.Plus = 4
+arithmetic_code false arithmetic.Minus = 5
+arithmetic_code false arithmetic.Concatenate = 6
 
-abbrev pub multiplying_code : MultiplyingOperator → ℕ
-multiplying_code multiplying.Times = 0
-multiplying_code multiplying.Divide = 1
-multiplying_code multiplying.Mod = 2
-multiplying_code multiplying.Rem = 3
+-- whether it joins terms
+abbrev pub is_adding : ArithmeticOperator → Bool
+is_adding arithmetic.Plus = true
+is_adding arithmetic.Minus = true
+is_adding arithmetic.Concatenate = true
+is_adding arithmetic.Times = false
+is_adding arithmetic.Divide = false
+is_adding arithmetic.Mod = false
+is_adding arithmetic.Rem = false
 
-abbrev pub sign_code : Sign → ℕ
-sign_code signs.Plus = 0
-sign_code signs.Minus = 1
+-- a sign makes a sum of one term, a word is an operator of its own
+abbrev pub unary_node : UnaryOperator → Node → Node
+unary_node unary.Plus v = tag 8 (pair (num 0) (pair v none))
+unary_node unary.Minus v = tag 8 (pair (num 1) (pair v none))
+unary_node unary.Abs v = tag 6 (pair (num 0) v)
+unary_node unary.Not v = tag 6 (pair (num 1) v)
 
-abbrev pub unary_code : UnaryWord → ℕ
-unary_code unary.Abs = 0
-unary_code unary.Not = 1
+-- an operand of terms that are joined, or of factors, with its operator
+abbrev pub operand_node : {E : Type 0} → Bool → (E → Node) → Operand E → Node
+operand_node adding view o = pair (num (arithmetic_code adding o.operator)) (view o.operand)
 
-abbrev pub sign_node : Option Sign → Node
-sign_node None = none
-sign_node (Some s) = num (sign_code s)
+-- ---- expressions
 
--- ---- one layer of an expression, from the nodes of its parts
+-- whether what stands behind a place is a sign with one term
+abbrev pub is_signed_sum : Node → Bool
+is_signed_sum (tag n v) = (n == 8) && (not (is_none (first v)) && is_none (behind_2 v))
+is_signed_sum none = false
+is_signed_sum (leaf t) = false
+is_signed_sum (num n) = false
+is_signed_sum (written s) = false
+is_signed_sum (at p) = false
+is_signed_sum (pair a b) = false
 
-abbrev pub kind_step : ExpressionKind-F Node Node Node Node Node Node Node → Node
-kind_step (opened.Number n) = tag 1 (num n)
-kind_step (opened.String s) = tag 2 (written s)
-kind_step opened.Null = tag 3 none
-kind_step (opened.Name n) = tag 4 n
-kind_step (opened.Parentheses e) = tag 5 e.value
-kind_step (opened.Unary w e) = tag 6 (pair (num (unary_code w)) e.value)
-kind_step (opened.Product e more) = tag 7 (pair e.value (row_of more.items))
-kind_step (opened.Sum s e more) = tag 8 (pair (sign_node s) (pair e.value (row_of more.items)))
-kind_step (opened.Relation o e f) = tag 9 (pair (num (relational_code o)) (pair e.value f.value))
-kind_step (opened.Logical o e more) = tag 10 (pair (num (logical_code o)) (pair e.value (row_of more.items)))
-kind_step (opened.New a) = a.value
+abbrev pub is_signed : Node → Bool
+is_signed v = is_signed_sum (second v)
 
-abbrev pub suffix_step : Suffix-F Node Node Node Node Node Node Node → Node
-suffix_step (opened.Selector i) = tag 20 (identifier_node i)
-suffix_step (opened.All p) = tag 21 (at p)
-suffix_step (opened.Arguments p more) = tag 22 (pair (at p) (row_of more.items))
-suffix_step (opened.Access p) = tag 23 (at p)
-suffix_step (opened.Attribute i) = tag 24 (identifier_node i)
+abbrev pub is_same_span : Span → Span → Bool
+is_same_span p q = (p.line == q.line) && (p.column == q.column)
 
-abbrev pub addend_step : Addend-F Node Node Node Node Node Node Node → Node
-addend_step a = pair (num (adding_code a.operator)) a.term
+-- whether a node is this place
+abbrev pub is_at : Span → Node → Bool
+is_at p (at q) = is_same_span p q
+is_at p none = false
+is_at p (leaf t) = false
+is_at p (num n) = false
+is_at p (written s) = false
+is_at p (pair a b) = false
+is_at p (tag n v) = false
 
-abbrev pub allocator_step : Allocator-F Node Node Node Node Node Node Node → Node
-allocator_step a = tag 11 (pair (optional (λ v. v) a.handle) (pair (dotted_node a.mark) (optional (λ v. v) a.value)))
+-- whether two nodes are one place
+abbrev pub is_same_place : Node → Node → Bool
+is_same_place (at p) v = is_at p v
+is_same_place none v = false
+is_same_place (leaf t) v = false
+is_same_place (num n) v = false
+is_same_place (written s) v = false
+is_same_place (pair a b) v = false
+is_same_place (tag n w) v = false
 
-abbrev pub expression_step : Expression-F Node Node Node Node Node Node Node → Node
-expression_step e = pair (at e.span) e.kind
+-- A sum from its place, its first term and those behind it. A sign before the first term is the sum's own, where it stands at the
+-- sum's place, as in every text.
+abbrev pub sum_node : Node → Node → Node → Node
+sum_node place v more = cond (is_signed v && is_same_place place (first v)) (tag 8 (pair (first (tagged_part (second v))) (pair (part_2 (tagged_part (second v))) more))) (tag 8 (pair none (pair v more)))
 
-abbrev pub multiplicand_step : Multiplicand-F Node Node Node Node Node Node Node → Node
-multiplicand_step m = pair (num (multiplying_code m.operator)) m.factor
+-- terms or factors from their place, the first one and those behind it
+abbrev pub chain_node : Bool → Node → Node → Node → Node
+chain_node true place v more = sum_node place v more
+chain_node false place v more = tag 7 (pair v more)
 
-abbrev pub name_step : Name-F Node Node Node Node Node Node Node → Node
-name_step n = pair (identifier_node n.first) (row_of n.suffixes.items)
+-- one layer of an expression, from the nodes of its parts
+abbrev pub expression_step : Expression-F Identifier Node → Node
+expression_step (Expression-F.Logical p o a b more) = pair (at p) (tag 10 (pair (num (logical_code o)) (pair a (pair b (row_of more)))))
+expression_step (Expression-F.Relation p o a b) = pair (at p) (tag 9 (pair (num (relational_code o)) (pair a b)))
+expression_step (Expression-F.Chain p a o more) = pair (at p) (chain_node (is_adding o.operator) (at p) a (pair (operand_node (is_adding o.operator) (λ v. v) o) (row_of (map (operand_node (is_adding o.operator) (λ v. v)) more))))
+expression_step (Expression-F.Unary p o a) = pair (at p) (unary_node o a)
+expression_step (Expression-F.Number p n) = pair (at p) (tag 1 (num n))
+expression_step (Expression-F.String p s) = pair (at p) (tag 2 (written s))
+expression_step (Expression-F.Null p) = pair (at p) (tag 3 none)
+expression_step (Expression-F.Name p n) = pair (at p) (tag 4 (name_node (λ v. v) n))
+expression_step (Expression-F.Parentheses p a) = pair (at p) (tag 5 a)
+expression_step (Expression-F.New p handle mark value) = pair (at p) (tag 11 (pair (optional (name_node (λ v. v)) handle) (pair (mark_node mark) (optional (λ v. v) value))))
 
--- ---- the whole
+abbrev pub view : Expression Identifier → Node
+view = fold-Expression Identifier Node expression_step
 
-abbrev pub view : Expression → Node
-view = fold-Expression Node Node Node Node Node Node Node kind_step suffix_step addend_step allocator_step expression_step multiplicand_step name_step
-
-abbrev pub view_suffix : Suffix → Node
-view_suffix = fold-Suffix Node Node Node Node Node Node Node kind_step suffix_step addend_step allocator_step expression_step multiplicand_step name_step
-
-abbrev pub view_addend : Addend → Node
-view_addend = fold-Addend Node Node Node Node Node Node Node kind_step suffix_step addend_step allocator_step expression_step multiplicand_step name_step
-
-abbrev pub view_multiplicand : Multiplicand → Node
-view_multiplicand = fold-Multiplicand Node Node Node Node Node Node Node kind_step suffix_step addend_step allocator_step expression_step multiplicand_step name_step
-
-abbrev pub view_name : Name → Node
-view_name = fold-Name Node Node Node Node Node Node Node kind_step suffix_step addend_step allocator_step expression_step multiplicand_step name_step
-
-abbrev pub view_all : List Expression → Node
-view_all es = row_of (map view es)
+-- ---- parts of expressions
 
 -- a relation behind its operator, if there is one
-abbrev pub compared_node : Option (RelationalOperator × Expression) → Node
+abbrev pub compared_node : Option (RelationalOperator × Expression Identifier) → Node
 compared_node None = none
 compared_node (Some p) = pair (num (relational_code p.0)) (view p.1)
 
-abbrev pub sign_place : Option (Sign × Span) → Node
-sign_place None = none
-sign_place (Some p) = pair (num (sign_code p.0)) (at p.1)
+-- relations behind the first one, with their operator
+abbrev pub joined_node : LogicalOperator → Expression Identifier → List (Expression Identifier) → Node
+joined_node o a more = pair (num (logical_code o)) (pair (view a) (row_of (map view more)))
 
--- the relations behind the first one, with their operator, if there is one
-abbrev pub joined_node : Option (LogicalOperator × Vec Expression) → Node
-joined_node None = none
-joined_node (Some p) = pair (num (logical_code p.0)) (view_all p.1.items)
+abbrev pub joint_node : Option (LogicalOperator × Expression Identifier × List (Expression Identifier)) → Node
+joint_node None = none
+joint_node (Some j) = joined_node j.0 j.1 j.2
 
-abbrev pub flag_node : Bool → Node
-flag_node true = num 1
-flag_node false = num 0
+-- the second operand and those behind it
+abbrev pub operands_node : Bool → Operand (Expression Identifier) × List (Operand (Expression Identifier)) → Node
+operands_node adding p = pair (operand_node adding view p.0) (row_of (map (operand_node adding view) p.1))
 
--- the name at an end, if there is one
-abbrev pub named : Option Identifier → Node
-named None = none
-named (Some i) = identifier_node i
+abbrev pub further_node : Bool → Option (Operand (Expression Identifier) × List (Operand (Expression Identifier))) → Node
+further_node adding None = none
+further_node adding (Some p) = operands_node adding p
 
--- ---- headings and lists in parentheses
+-- a first operand with those behind it, or alone
+abbrev pub chain_of : Node → Option (Operand (Expression Identifier) × List (Operand (Expression Identifier))) → Node
+chain_of v None = v
+chain_of v (Some p) = pair (first v) (chain_node (is_adding p.0.operator) (first v) v (operands_node (is_adding p.0.operator) p))
 
-abbrev pub mode_code : Mode → ℕ
-mode_code modes.In = 0
-mode_code modes.Out = 1
-mode_code modes.InOut = 2
+-- whether what is behind the first operand joins terms, or factors, where there is something
+abbrev pub joins : Bool → Option (Operand (Expression Identifier) × List (Operand (Expression Identifier))) → Bool
+joins adding None = true
+joins true (Some p) = is_adding p.0.operator
+joins false (Some p) = not (is_adding p.0.operator)
 
-abbrev pub formal_node : Formal → Node
-formal_node f = pair (row_of (map identifier_node f.names.items)) (pair (num (mode_code f.mode)) (dotted_node f.mark))
+-- a sign with its place, if there is one
+abbrev pub unary_code : UnaryOperator → ℕ
+unary_code unary.Plus = 0
+unary_code unary.Minus = 1
+unary_code unary.Abs = 0
+unary_code unary.Not = 1
 
-abbrev pub formal_row : List Formal → Node
-formal_row fs = row_of (map formal_node fs)
+abbrev pub sign_node : Option (UnaryOperator × Span) → Node
+sign_node None = none
+sign_node (Some s) = pair (num (unary_code s.0)) (at s.1)
 
-abbrev pub result_node : Option Dotted → Node
-result_node None = none
-result_node (Some d) = dotted_node d
+-- a first term behind its sign, if there is one
+abbrev pub signed_node : Option (UnaryOperator × Span) → Node → Node
+signed_node None v = v
+signed_node (Some s) v = pair (at s.1) (tag 8 (pair (num (unary_code s.0)) (pair v none)))
 
-abbrev pub specification_node : Specification → Node
-specification_node s = pair (at s.span) (pair (identifier_node s.name) (pair (formal_row s.formals.items) (result_node s.result)))
+abbrev pub is_sign : UnaryOperator → Bool
+is_sign unary.Plus = true
+is_sign unary.Minus = true
+is_sign unary.Abs = false
+is_sign unary.Not = false
 
-abbrev pub association_node : Association → Node
-association_node a = pair (named a.name) (view a.value)
+abbrev pub signs : Option (UnaryOperator × Span) → Bool
+signs None = true
+signs (Some s) = is_sign s.0
 
-abbrev pub association_row : List Association → Node
-association_row as_list = row_of (map association_node as_list)
-
--- ---- types
-
-abbrev pub component_node : ComponentDeclaration → Node
-component_node c = pair (row_of (map identifier_node c.names.items)) (pair (dotted_node c.mark) (optional view c.default))
-
-abbrev pub component_row : List ComponentDeclaration → Node
-component_row cs = row_of (map component_node cs)
-
-abbrev pub aspect_node : Option Aspect → Node
-aspect_node None = none
-aspect_node (Some a) = pair (identifier_node a.name) (dotted_node a.pool)
-
-abbrev pub definition_node : Definition → Node
-definition_node (definitions.Record limited cs) = tag 40 (pair (flag_node limited) (component_row cs.items))
-definition_node (definitions.Extension parent cs) = tag 41 (pair (dotted_node parent) (component_row cs.items))
-definition_node (definitions.Access a) = tag 42 (pair (flag_node a.is_general) (pair (dotted_node a.designated) (pair (named a.attribute) (aspect_node a.aspect))))
-
--- ---- statements that hold no other, and parts of the others
-
-abbrev pub span_node : Option Span → Node
-span_node None = none
-span_node (Some p) = at p
-
-abbrev pub scheme_node : Scheme → Node
-scheme_node schemes.Endless = tag 72 none
-scheme_node (schemes.While e) = tag 70 (view e)
-scheme_node (schemes.For i reverse low high) = tag 71 (pair (identifier_node i) (pair (flag_node reverse) (pair (view low) (view high))))
-
-abbrev pub choices_node : Choices → Node
-choices_node choices.Others = none
-choices_node (choices.Exceptions ds) = dotted_row ds.items
-
-abbrev pub context_code : ContextKind → ℕ
-context_code contexts.With = 0
-context_code contexts.Use = 1
-
-abbrev pub context_node : Context → Node
-context_node c = pair (pair (at c.span) (num (context_code c.kind))) (dotted_row c.units.items)
-
--- ---- one layer of an item or a statement, from the nodes of its parts
-
-abbrev pub objects_node : Objects → Node
-objects_node o = pair (flag_node o.is_aliased) (pair (flag_node o.is_constant) (pair (dotted_node o.mark) (pair (association_row o.discriminants.items) (optional view o.value))))
-
-abbrev pub item_kind_step : ItemKind-F Node Node Node Node Node Node Node Node → Node
-item_kind_step (layers.Declaration o s) = tag 53 (pair (flag_node o) (pair (specification_node s) none))
-item_kind_step (layers.Body o s b) = tag 53 (pair (flag_node o) (pair (specification_node s) (pair none b)))
-item_kind_step (layers.Instance i g more) = tag 54 (pair (identifier_node i) (pair (dotted_node g) (association_row more.items)))
-item_kind_step (layers.Incomplete i tagged) = tag 50 (pair (identifier_node i) (flag_node tagged))
-item_kind_step (layers.Type i d) = tag 50 (pair (identifier_node i) (pair none (definition_node d)))
-item_kind_step (layers.Clause i a d) = tag 51 (pair (identifier_node i) (pair (identifier_node a) (dotted_node d)))
-item_kind_step (layers.Exceptions ids) = tag 52 (pair (row_of (map identifier_node ids.items)) none)
-item_kind_step (layers.Objects o) = tag 52 (pair (row_of (map identifier_node o.names.items)) (objects_node o))
-
-abbrev pub statement_kind_step : StatementKind-F Node Node Node Node Node Node Node Node → Node
-statement_kind_step layers.Null = tag 60 none
-statement_kind_step (layers.Assignment n e) = tag 30 (pair (view_name n) (view e))
-statement_kind_step (layers.Call n) = tag 31 (view_name n)
-statement_kind_step (layers.Exit e) = tag 61 (optional view e)
-statement_kind_step (layers.Return e) = tag 62 (optional view e)
-statement_kind_step (layers.Raise d) = tag 63 (optional dotted_node d)
-statement_kind_step (layers.If bs ss) = tag 64 (pair (row_of bs.items) (row_of ss.items))
-statement_kind_step (layers.Loop s ss) = tag 65 (pair (scheme_node s) (row_of ss.items))
-statement_kind_step (layers.Block is h) = tag 66 (pair (row_of is.items) h)
-
-abbrev pub body_part_step : BodyPart-F Node Node Node Node Node Node Node Node → Node
-body_part_step b = pair (row_of b.items.items) (pair b.handled (named b.end_name))
-
-abbrev pub branch_step : Branch-F Node Node Node Node Node Node Node Node → Node
-branch_step b = pair (view b.condition) (row_of b.statements.items)
-
-abbrev pub handled_step : Handled-F Node Node Node Node Node Node Node Node → Node
-handled_step h = pair (row_of h.statements.items) (row_of h.handlers.items)
-
-abbrev pub handler_step : Handler-F Node Node Node Node Node Node Node Node → Node
-handler_step h = pair (at h.span) (pair (choices_node h.choices) (row_of h.statements.items))
-
-abbrev pub item_step : Item-F Node Node Node Node Node Node Node Node → Node
-item_step i = pair (at i.span) i.kind
-
-abbrev pub statement_step : Statement-F Node Node Node Node Node Node Node Node → Node
-statement_step s = pair (at s.span) s.kind
-
-abbrev pub view_item_kind : ItemKind → Node
-view_item_kind = fold-ItemKind Node Node Node Node Node Node Node Node item_kind_step statement_kind_step body_part_step branch_step handled_step handler_step item_step statement_step
-
-abbrev pub view_body_part : BodyPart → Node
-view_body_part = fold-BodyPart Node Node Node Node Node Node Node Node item_kind_step statement_kind_step body_part_step branch_step handled_step handler_step item_step statement_step
-
-abbrev pub view_branch : Branch → Node
-view_branch = fold-Branch Node Node Node Node Node Node Node Node item_kind_step statement_kind_step body_part_step branch_step handled_step handler_step item_step statement_step
-
-abbrev pub view_handled : Handled → Node
-view_handled = fold-Handled Node Node Node Node Node Node Node Node item_kind_step statement_kind_step body_part_step branch_step handled_step handler_step item_step statement_step
-
-abbrev pub view_handler : Handler → Node
-view_handler = fold-Handler Node Node Node Node Node Node Node Node item_kind_step statement_kind_step body_part_step branch_step handled_step handler_step item_step statement_step
-
-abbrev pub view_item : Item → Node
-view_item = fold-Item Node Node Node Node Node Node Node Node item_kind_step statement_kind_step body_part_step branch_step handled_step handler_step item_step statement_step
-
-abbrev pub view_statement : Statement → Node
-view_statement = fold-Statement Node Node Node Node Node Node Node Node item_kind_step statement_kind_step body_part_step branch_step handled_step handler_step item_step statement_step
-
--- ---- the whole text
-
-abbrev pub tree_node : Tree → Node
-tree_node t = pair (row_of (map context_node t.contexts.items)) (pair (at t.span) (pair (identifier_node t.name) (view_body_part t.body)))
+-- expressions with a comma between them
+abbrev pub expressions_node : Expression Identifier × List (Expression Identifier) → Node
+expressions_node p = pair (view p.0) (row_of (map view p.1))

@@ -3,11 +3,12 @@
 //! A body counts from the first token with which the tokens so far can be nothing but a body, but its own first token is
 //! `procedure` or `function`. So where no more construct may be opened, the parser looks ahead before it reads a heading.
 
-ghost use Rattle.std.specs.Prelude.{◌≡◌, ◌<◌, ◌≤◌, ◌⊎◌, length, IfOk, IfErr, OnOk, true, false};
-ghost use Rattle.ctl_grammar.specs.Form.{none};
+ghost use Rattle.std.specs.Prelude.{◌≡◌};
+ghost use Rattle.ctl_grammar.specs.Form.{none, alt};
 ghost use Rattle.ctl_grammar.specs.Grammar.{plain_formals, start_of_function, start_of_procedure, start_of_function_body, start_of_body, start_of_bare_body, behind_start, start_of_procedure_body};
-ghost use Rattle.ctl_grammar.specs.Reading.{Gives, read, is_ahead, starts_too_deep};
+ghost use Rattle.ctl_grammar.specs.Reading.{is_ahead};
 ghost use Rattle.ctl_parse.specs.Heading.{head_of};
+ghost use Rattle.ctl_parse.specs.Reads.{Bounds, Foreseen, Reads};
 
 use crate::cursor::Parser;
 use ctl_grammar::refused::{Reason, Refused};
@@ -25,117 +26,103 @@ pub(crate) enum Heading {
 }
 
 impl<'a> Parser<'a> {
-    /// Refuses a body where no more construct may be opened.
-    #[tactic(auto, using(ctl_grammar::proofs::Late::not_zero))]
-    pub(crate) fn refuse_deep_body(&self, heading: Heading) -> Result<(), Refused>
-        ensures past { OnOk result (starts_too_deep self.now.left (head_of heading) self.now.rest.now ≡ false) }
-        ensures here { IfErr result (λ e. (e ≡ Refused.Memory) ⊎ ((e ≡ Refused.Token Reason.TooDeep) × (starts_too_deep self.now.left (head_of heading) self.now.rest.now ≡ true))) }
+    /// Notes that a body is too deep, where one is next and no more construct may be opened.
+    pub(crate) fn refuse_deep_body(&mut self, heading: Heading)
+        ensures { Bounds (head_of heading) self.old self.new }
     {
-        if self.left == 0 && self.body_follows(heading)? {
-            Err(Refused::Token(Reason::TooDeep))
-        } else {
-            Ok(())
+        if self.fault.is_none() && self.left == 0 {
+            match self.foreseen(heading) {
+                None => self.fault = Some(Refused::Token(Reason::TooDeep)),
+                Some(Refused::Memory) => self.fault = Some(Refused::Memory),
+                Some(Refused::Token(_)) => {}
+            }
         }
     }
 
-    /// Whether the tokens that follow begin a body, and nothing else.
-    #[tactic(auto, using(ctl_grammar::proofs::Late::start_alike, ctl_grammar::proofs::Late::start_of_function_alike, ctl_grammar::proofs::Late::start_of_procedure_alike))]
-    fn body_follows(&self, heading: Heading) -> Result<bool, Refused>
-        ensures ok { IfOk result (λ b. b ≡ is_ahead (head_of heading) self.now.rest.now) }
-        ensures err { IfErr result (λ e. e ≡ Refused.Memory) }
+    /// Answers what stops the reading of what begins a body, if something does. The parser stays where it is.
+    fn foreseen(&self, heading: Heading) -> Option<Refused>
+        ensures { Foreseen (is_ahead (head_of heading) self.now.rest.now) result }
     {
         let mut ahead = Parser {
             rest: self.rest,
-            left: 1,
+            left: self.left,
+            fault: None,
             alloc: self.alloc,
         };
-        let read = match heading {
-            Heading::Procedure => ahead.start_of_procedure_body(),
-            Heading::Function => ahead.start_of_function_body(),
-            Heading::Any => ahead.start_of_body(),
-        };
-        match read {
-            Ok(()) => Ok(true),
-            Err(Refused::Memory) => Err(Refused::Memory),
-            Err(Refused::Token(_)) => Ok(false),
+        ahead.start(heading);
+        ahead.fault
+    }
+
+    /// Reads what begins a body.
+    fn start(&mut self, heading: Heading)
+        ensures { Reads (head_of heading) none self.old none self.new }
+    {
+        match heading {
+            Heading::Procedure => self.start_of_procedure_body(),
+            Heading::Function => self.start_of_function_body(),
+            Heading::Any => self.start_of_body(),
         }
     }
 
-    /// `["(" formal {";" formal} ")"]`
-    #[tactic(auto, unfolding(ctl_grammar::specs::Grammar::plain_formals, ctl_grammar::specs::Grammar::in_formals))]
-    fn plain_formals(&mut self) -> Result<(), Refused>
-        ensures given { Gives (λ u. none) result self.new.rest.now (read self.old.left plain_formals none self.old.rest.now) }
-        ensures left { OnOk result (self.new.left ≡ self.old.left) }
-        ensures shorter { OnOk result (length self.new.rest.now ≤ length self.old.rest.now) }
+    /// Reads `["(" formal {";" formal} ")"]`.
+    fn plain_formals(&mut self)
+        ensures { Reads plain_formals none self.old none self.new }
     {
         if self.next_is(Kind::LeftParenthesis) {
-            let _ = self.in_formals()?;
-            Ok(())
-        } else {
-            Ok(())
+            let _ = self.in_formals();
         }
     }
 
-    /// `"function" id [formals] "return" dotted`
-    #[tactic(auto, unfolding(ctl_grammar::specs::Grammar::start_of_function))]
-    fn start_of_function(&mut self) -> Result<(), Refused>
-        ensures given { Gives (λ u. none) result self.new.rest.now (read self.old.left start_of_function none self.old.rest.now) }
-        ensures left { OnOk result (self.new.left ≡ self.old.left) }
-        ensures shorter { OnOk result (length self.new.rest.now < length self.old.rest.now) }
+    /// Reads `"function" id [formals] "return" dotted`.
+    fn start_of_function(&mut self)
+        ensures { Reads start_of_function none self.old none self.new }
     {
-        self.skip(Kind::Function)?;
-        let _ = self.identifier()?;
-        self.plain_formals()?;
-        self.skip(Kind::Return)?;
-        let _ = self.dotted()?;
-        Ok(())
+        self.skip(Kind::Function);
+        let _ = self.identifier();
+        self.plain_formals();
+        self.skip(Kind::Return);
+        let _ = self.dotted();
     }
 
-    /// `"procedure" id [formals]`
-    #[tactic(auto, unfolding(ctl_grammar::specs::Grammar::start_of_procedure))]
-    fn start_of_procedure(&mut self) -> Result<(), Refused>
-        ensures given { Gives (λ u. none) result self.new.rest.now (read self.old.left start_of_procedure none self.old.rest.now) }
-        ensures left { OnOk result (self.new.left ≡ self.old.left) }
-        ensures shorter { OnOk result (length self.new.rest.now < length self.old.rest.now) }
+    /// Reads `"procedure" id [formals]`.
+    fn start_of_procedure(&mut self)
+        ensures { Reads start_of_procedure none self.old none self.new }
     {
-        self.skip(Kind::Procedure)?;
-        let _ = self.identifier()?;
-        self.plain_formals()?;
-        Ok(())
+        self.skip(Kind::Procedure);
+        let _ = self.identifier();
+        self.plain_formals();
     }
 
-    /// `"function" id [formals] "return" dotted "is"`
-    #[tactic(auto, unfolding(ctl_grammar::specs::Grammar::start_of_function_body))]
-    fn start_of_function_body(&mut self) -> Result<(), Refused>
-        ensures given { Gives (λ u. none) result self.new.rest.now (read self.old.left start_of_function_body none self.old.rest.now) }
-        ensures left { OnOk result (self.new.left ≡ self.old.left) }
-        ensures shorter { OnOk result (length self.new.rest.now < length self.old.rest.now) }
+    /// Reads `"function" id [formals] "return" dotted "is"`.
+    fn start_of_function_body(&mut self)
+        ensures { Reads start_of_function_body none self.old none self.new }
     {
-        self.start_of_function()?;
-        self.skip(Kind::Is)
+        self.start_of_function();
+        self.skip(Kind::Is);
     }
 
-    /// `spec "is"`
-    #[tactic(auto, unfolding(ctl_grammar::specs::Grammar::start_of_body, ctl_grammar::specs::Grammar::start_of_function))]
-    fn start_of_body(&mut self) -> Result<(), Refused>
-        ensures given { Gives (λ u. none) result self.new.rest.now (read self.old.left start_of_body none self.old.rest.now) }
-        ensures left { OnOk result (self.new.left ≡ self.old.left) }
-        ensures shorter { OnOk result (length self.new.rest.now < length self.old.rest.now) }
+    /// Reads the heading of a body.
+    fn start_of_any(&mut self)
+        ensures { Reads (alt start_of_function start_of_procedure) none self.old none self.new }
     {
         if self.next_is(Kind::Function) {
-            self.start_of_function()?;
+            self.start_of_function()
         } else {
-            self.start_of_procedure()?;
+            self.start_of_procedure()
         }
-        self.skip(Kind::Is)
     }
 
-    /// A token that can stand behind the `is` of a body.
-    #[tactic(auto, unfolding(ctl_grammar::specs::Grammar::start_of_bare_body))]
-    fn start_of_bare_body(&mut self) -> Result<(), Refused>
-        ensures given { Gives (λ u. none) result self.new.rest.now (read self.old.left start_of_bare_body none self.old.rest.now) }
-        ensures left { OnOk result (self.new.left ≡ self.old.left) }
-        ensures shorter { OnOk result (length self.new.rest.now < length self.old.rest.now) }
+    /// Reads the heading of a body, and `"is"`.
+    fn start_of_body(&mut self)
+        ensures { Reads start_of_body none self.old none self.new }
+    {
+        self.start_of_any();
+        self.skip(Kind::Is);
+    }
+
+    /// Reads a token that can stand behind the `is` of a body.
+    fn start_of_bare_body(&mut self)
+        ensures { Reads start_of_bare_body none self.old none self.new }
     {
         if self.next_is(Kind::Overriding) {
             self.skip(Kind::Overriding)
@@ -154,33 +141,25 @@ impl<'a> Parser<'a> {
         }
     }
 
-    /// `formals "is"`, or `"is"` and a token that can stand behind it in a body
-    #[tactic(auto, unfolding(ctl_grammar::specs::Grammar::behind_start, ctl_grammar::specs::Grammar::in_formals))]
-    fn behind_start(&mut self) -> Result<(), Refused>
-        ensures given { Gives (λ u. none) result self.new.rest.now (read self.old.left behind_start none self.old.rest.now) }
-        ensures left { OnOk result (self.new.left ≡ self.old.left) }
-        ensures shorter { OnOk result (length self.new.rest.now < length self.old.rest.now) }
+    /// Reads `formals "is"`, or `"is"` and a token that can stand behind it in a body.
+    fn behind_start(&mut self)
+        ensures { Reads behind_start none self.old none self.new }
     {
         if self.next_is(Kind::LeftParenthesis) {
-            let _ = self.in_formals()?;
+            let _ = self.in_formals();
             self.skip(Kind::Is)
         } else {
-            self.skip(Kind::Is)?;
-            self.start_of_bare_body()?;
-            Ok(())
+            self.skip(Kind::Is);
+            self.start_of_bare_body()
         }
     }
 
-    /// `"procedure" id`, and what shows that a body follows
-    #[tactic(auto, unfolding(ctl_grammar::specs::Grammar::start_of_procedure_body))]
-    fn start_of_procedure_body(&mut self) -> Result<(), Refused>
-        ensures given { Gives (λ u. none) result self.new.rest.now (read self.old.left start_of_procedure_body none self.old.rest.now) }
-        ensures left { OnOk result (self.new.left ≡ self.old.left) }
-        ensures shorter { OnOk result (length self.new.rest.now < length self.old.rest.now) }
+    /// Reads `"procedure" id`, and what shows that a body follows.
+    fn start_of_procedure_body(&mut self)
+        ensures { Reads start_of_procedure_body none self.old none self.new }
     {
-        self.skip(Kind::Procedure)?;
-        let _ = self.identifier()?;
-        self.behind_start()?;
-        Ok(())
+        self.skip(Kind::Procedure);
+        let _ = self.identifier();
+        self.behind_start();
     }
 }

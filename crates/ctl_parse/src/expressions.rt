@@ -1,267 +1,300 @@
 //! Expressions and names (RM 4).
 
-ghost use Rattle.std.specs.Prelude.{◌≡◌, ◌<◌, ◌≤◌, length, map, OnOk, true};
-ghost use Rattle.ctl_grammar.specs.Form.{none, at, pair, Enclosed, Arguments, Handle};
+ghost use Rattle.std.specs.Prelude.{◌≡◌, map, Some, not, true, false};
+ghost use Rattle.ctl_grammar.specs.Form.{none, at, pair, many, nest, Enclosed, Arguments, Handle};
 ghost use Rattle.ctl_grammar.specs.Grammar.{suffix, suffixes, name, handle, qualified, allocator, primary, factor, multiplicand, multiplicands, term, addend, addends, simple, compared, relation, next_relation, relations, behind_and, behind_or, joined, expression, next_expression, expressions, body};
 ghost use Rattle.ctl_grammar.specs.Nodes.{row_of};
-ghost use Rattle.ctl_grammar.specs.Reading.{Gives, read, construct};
-ghost use Rattle.ctl_parse.specs.View.{optional, view, view_suffix, view_addend, view_multiplicand, view_name, compared_node, joined_node};
+ghost use Rattle.ctl_parse.specs.Reads.{Reads};
+ghost use Rattle.ctl_parse.specs.View.{optional, view, suffix_node, name_node, operand_node, further_node, compared_node, joint_node, expressions_node, is_adding, joins, tree_operator};
 
-use crate::cursor::Parser;
-use crate::operators::name_expression;
-use ctl_grammar::refused::Refused;
+use crate::building::name_expression;
+use crate::cursor::{NOWHERE, Parser};
+use ctl_syntax::expression::Expression;
+use ctl_syntax::name::{Attribute, Identifier, Name, Suffix};
+use ctl_syntax::operators::{LogicalOperator, Operand, RelationalOperator, UnaryOperator};
 use ctl_tree::span::Span;
+use ctl_tree::text::Text;
 use ctl_tree::token::Kind;
-use ctl_tree::tree::{
-    Addend, Expression, LogicalOperator, Multiplicand, Name, RelationalOperator, Suffix, UnaryWord,
-};
+use sqlite_items::Items;
 
 impl<'a> Parser<'a> {
-    /// `expr`: relations that one logical operator joins; a lone relation stands for itself
+    /// Reads `expr`: relations that one logical operator joins; a lone relation stands for itself.
     #[cycle(expressions)]
-    #[tactic(auto, unfolding(ctl_grammar::specs::Grammar::expression))]
-    pub(crate) fn expression(&mut self) -> Result<Expression, Refused>
-        ensures given { Gives view result self.new.rest.now (read self.old.left expression none self.old.rest.now) }
-        ensures left { OnOk result (self.new.left ≡ self.old.left) }
-        ensures shorter { OnOk result (length self.new.rest.now < length self.old.rest.now) }
+    pub(crate) fn expression(&mut self) -> Expression<Identifier>
+        ensures { Reads expression none self.old (view result) self.new }
     {
-        let first = self.relation()?;
-        let rest = self.joined()?;
+        let first = self.relation();
+        let rest = self.joined();
         self.logical(first, rest)
     }
 
-    /// A logical operator, and the relations behind the first one, if there is one.
+    /// Reads a logical operator, and the relations behind the first one, if there is one.
     #[cycle(expressions)]
-    #[tactic(auto, unfolding(ctl_grammar::specs::Grammar::joined))]
-    fn joined(&mut self) -> Result<Option<(LogicalOperator, Vec<Expression>)>, Refused>
-        ensures given { Gives joined_node result self.new.rest.now (read self.old.left joined none self.old.rest.now) }
-        ensures left { OnOk result (self.new.left ≡ self.old.left) }
-        ensures shorter { OnOk result (length self.new.rest.now ≤ length self.old.rest.now) }
+    fn joined(
+        &mut self,
+    ) -> Option<
+        (
+            LogicalOperator,
+            Expression<Identifier>,
+            Items<Expression<Identifier>>,
+        ),
+    >
+        ensures { Reads joined none self.old (joint_node result) self.new }
     {
         if self.next_is(Kind::And) {
-            self.skip(Kind::And)?;
-            self.conjunction()
+            self.skip(Kind::And);
+            let rest = self.conjunction();
+            Some(rest)
         } else if self.next_is(Kind::Or) {
-            self.skip(Kind::Or)?;
-            self.disjunction()
+            self.skip(Kind::Or);
+            let rest = self.disjunction();
+            Some(rest)
         } else if self.next_is(Kind::Xor) {
-            self.skip(Kind::Xor)?;
-            let relations = self.relations(LogicalOperator::Xor)?;
-            Ok(Some((LogicalOperator::Xor, relations)))
+            self.skip(Kind::Xor);
+            let (second, others) = self.relations(LogicalOperator::Xor);
+            Some((LogicalOperator::Xor, second, others))
         } else {
-            Ok(None)
+            None
         }
     }
 
-    /// What stands behind the first `and`.
+    /// Reads what stands behind the first `and`.
     #[cycle(expressions)]
-    #[tactic(auto, unfolding(ctl_grammar::specs::Grammar::behind_and))]
-    fn conjunction(&mut self) -> Result<Option<(LogicalOperator, Vec<Expression>)>, Refused>
-        ensures given { Gives joined_node result self.new.rest.now (read self.old.left behind_and none self.old.rest.now) }
-        ensures left { OnOk result (self.new.left ≡ self.old.left) }
-        ensures shorter { OnOk result (length self.new.rest.now < length self.old.rest.now) }
+    fn conjunction(
+        &mut self,
+    ) -> (
+        LogicalOperator,
+        Expression<Identifier>,
+        Items<Expression<Identifier>>,
+    )
+        ensures { Reads behind_and none self.old (joint_node (Some result)) self.new }
     {
         if self.next_is(Kind::Then) {
-            self.skip(Kind::Then)?;
-            let relations = self.relations(LogicalOperator::AndThen)?;
-            Ok(Some((LogicalOperator::AndThen, relations)))
+            self.skip(Kind::Then);
+            let (second, others) = self.relations(LogicalOperator::AndThen);
+            (LogicalOperator::AndThen, second, others)
         } else {
-            let relations = self.relations(LogicalOperator::And)?;
-            Ok(Some((LogicalOperator::And, relations)))
+            let (second, others) = self.relations(LogicalOperator::And);
+            (LogicalOperator::And, second, others)
         }
     }
 
-    /// What stands behind the first `or`.
+    /// Reads what stands behind the first `or`.
     #[cycle(expressions)]
-    #[tactic(auto, unfolding(ctl_grammar::specs::Grammar::behind_or))]
-    fn disjunction(&mut self) -> Result<Option<(LogicalOperator, Vec<Expression>)>, Refused>
-        ensures given { Gives joined_node result self.new.rest.now (read self.old.left behind_or none self.old.rest.now) }
-        ensures left { OnOk result (self.new.left ≡ self.old.left) }
-        ensures shorter { OnOk result (length self.new.rest.now < length self.old.rest.now) }
+    fn disjunction(
+        &mut self,
+    ) -> (
+        LogicalOperator,
+        Expression<Identifier>,
+        Items<Expression<Identifier>>,
+    )
+        ensures { Reads behind_or none self.old (joint_node (Some result)) self.new }
     {
         if self.next_is(Kind::Else) {
-            self.skip(Kind::Else)?;
-            let relations = self.relations(LogicalOperator::OrElse)?;
-            Ok(Some((LogicalOperator::OrElse, relations)))
+            self.skip(Kind::Else);
+            let (second, others) = self.relations(LogicalOperator::OrElse);
+            (LogicalOperator::OrElse, second, others)
         } else {
-            let relations = self.relations(LogicalOperator::Or)?;
-            Ok(Some((LogicalOperator::Or, relations)))
+            let (second, others) = self.relations(LogicalOperator::Or);
+            (LogicalOperator::Or, second, others)
         }
     }
 
-    /// A relation behind a logical operator.
+    /// Reads relations that this operator joins.
     #[cycle(expressions)]
-    #[tactic(auto, unfolding(ctl_grammar::specs::Grammar::next_relation))]
-    fn next_relation(&mut self, operator: LogicalOperator) -> Result<Expression, Refused>
-        ensures given { Gives view result self.new.rest.now (read self.old.left (next_relation operator) none self.old.rest.now) }
-        ensures left { OnOk result (self.new.left ≡ self.old.left) }
-        ensures shorter { OnOk result (length self.new.rest.now < length self.old.rest.now) }
+    fn relations(
+        &mut self,
+        operator: LogicalOperator,
+    ) -> (Expression<Identifier>, Items<Expression<Identifier>>)
+        ensures { Reads (relations (tree_operator operator)) none self.old (expressions_node result) self.new }
     {
-        self.joiner(operator)?;
+        let second = self.relation();
+        let others = self.next_relations(operator);
+        (second, others)
+    }
+
+    /// Reads a relation behind a logical operator.
+    #[cycle(expressions)]
+    fn next_relation(&mut self, operator: LogicalOperator) -> Expression<Identifier>
+        ensures { Reads (next_relation (tree_operator operator)) none self.old (view result) self.new }
+    {
+        self.joiner(operator);
         self.relation()
     }
 
-    /// Relations that this operator joins.
+    /// Reads the relations that this operator joins to the one before.
     #[cycle(expressions)]
-    #[tactic(auto, unfolding(ctl_grammar::specs::Grammar::relations))]
-    fn relations(&mut self, operator: LogicalOperator) -> Result<Vec<Expression>, Refused>
-        ensures given { Gives (λ v. row_of (map view v.items)) result self.new.rest.now (read self.old.left (relations operator) none self.old.rest.now) }
-        ensures left { OnOk result (self.new.left ≡ self.old.left) }
-        ensures shorter { OnOk result (length self.new.rest.now < length self.old.rest.now) }
+    fn next_relations(&mut self, operator: LogicalOperator) -> Items<Expression<Identifier>>
+        ensures { Reads (many (next_relation (tree_operator operator))) none self.old (row_of (map view result)) self.new }
     {
-        let mut all = Vec::new(self.alloc);
-        let first = self.relation()?;
-        all.push(first)?;
+        let mut all = Items::new(self.alloc);
         'more: while self.at_joiner(operator) {
-            let next = self.next_relation(operator)?;
-            all.push(next)?;
+            let next = self.next_relation(operator);
+            self.push(&mut all, next);
         }
-        Ok(all)
+        all
     }
 
-    /// `simple [RELATIONAL simple]`
+    /// Reads `simple [RELATIONAL simple]`.
     #[cycle(expressions)]
-    #[tactic(auto, unfolding(ctl_grammar::specs::Grammar::relation))]
-    fn relation(&mut self) -> Result<Expression, Refused>
-        ensures given { Gives view result self.new.rest.now (read self.old.left relation none self.old.rest.now) }
-        ensures left { OnOk result (self.new.left ≡ self.old.left) }
-        ensures shorter { OnOk result (length self.new.rest.now < length self.old.rest.now) }
+    fn relation(&mut self) -> Expression<Identifier>
+        ensures { Reads relation none self.old (view result) self.new }
     {
-        let left = self.simple()?;
-        let right = self.compared()?;
+        let left = self.simple();
+        let right = self.compared();
         self.comparison(left, right)
     }
 
-    /// `[RELATIONAL simple]`
+    /// Reads `[RELATIONAL simple]`.
     #[cycle(expressions)]
-    #[tactic(auto, unfolding(ctl_grammar::specs::Grammar::compared, ctl_grammar::specs::Grammar::relational))]
-    fn compared(&mut self) -> Result<Option<(RelationalOperator, Expression)>, Refused>
-        ensures given { Gives compared_node result self.new.rest.now (read self.old.left compared none self.old.rest.now) }
-        ensures left { OnOk result (self.new.left ≡ self.old.left) }
-        ensures shorter { OnOk result (length self.new.rest.now ≤ length self.old.rest.now) }
+    fn compared(&mut self) -> Option<(RelationalOperator, Expression<Identifier>)>
+        ensures { Reads compared none self.old (compared_node result) self.new }
     {
         if self.at_relational() {
-            let operator = self.relational()?;
-            let right = self.simple()?;
-            Ok(Some((operator, right)))
+            let operator = self.relational();
+            let right = self.simple();
+            Some((operator, right))
         } else {
-            Ok(None)
+            None
         }
     }
 
-    /// `[SIGN] term {ADDING term}`
+    /// Reads `[SIGN] term {ADDING term}`.
     #[cycle(expressions)]
-    #[tactic(auto, unfolding(ctl_grammar::specs::Grammar::simple))]
-    pub(crate) fn simple(&mut self) -> Result<Expression, Refused>
-        ensures given { Gives view result self.new.rest.now (read self.old.left simple none self.old.rest.now) }
-        ensures left { OnOk result (self.new.left ≡ self.old.left) }
-        ensures shorter { OnOk result (length self.new.rest.now < length self.old.rest.now) }
+    pub(crate) fn simple(&mut self) -> Expression<Identifier>
+        ensures { Reads simple none self.old (view result) self.new }
     {
-        let sign = self.sign()?;
-        let first = self.term()?;
-        let rest = self.addends()?;
-        self.sum(sign, first, rest)
+        let sign = self.sign();
+        let first = self.term();
+        let rest = self.addends();
+        let signed = self.signed(sign, first);
+        self.chain(signed, rest)
     }
 
-    /// `ADDING term`
+    /// Reads `{ADDING term}`.
     #[cycle(expressions)]
-    #[tactic(auto, unfolding(ctl_grammar::specs::Grammar::addend))]
-    fn addend(&mut self) -> Result<Addend, Refused>
-        ensures given { Gives view_addend result self.new.rest.now (read self.old.left addend none self.old.rest.now) }
-        ensures left { OnOk result (self.new.left ≡ self.old.left) }
-        ensures shorter { OnOk result (length self.new.rest.now < length self.old.rest.now) }
+    fn addends(
+        &mut self,
+    ) -> Option<
+        (
+            Operand<Expression<Identifier>>,
+            Items<Operand<Expression<Identifier>>>,
+        ),
+    >
+        ensures given { Reads addends none self.old (further_node true result) self.new }
+        ensures level { joins true result ≡ true }
     {
-        let operator = self.adding()?;
-        let term = self.term()?;
-        Ok(Addend { operator, term })
+        if self.at_adding() {
+            let second = self.addend();
+            let others = self.next_addends();
+            Some((second, others))
+        } else {
+            None
+        }
     }
 
-    /// `{ADDING term}`
+    /// Reads `ADDING term`.
     #[cycle(expressions)]
-    #[tactic(auto, unfolding(ctl_grammar::specs::Grammar::addends))]
-    fn addends(&mut self) -> Result<Vec<Addend>, Refused>
-        ensures given { Gives (λ v. row_of (map view_addend v.items)) result self.new.rest.now (read self.old.left addends none self.old.rest.now) }
-        ensures left { OnOk result (self.new.left ≡ self.old.left) }
-        ensures shorter { OnOk result (length self.new.rest.now ≤ length self.old.rest.now) }
+    fn addend(&mut self) -> Operand<Expression<Identifier>>
+        ensures given { Reads addend none self.old (operand_node true view result) self.new }
+        ensures level { is_adding result.operator ≡ true }
     {
-        let mut all = Vec::new(self.alloc);
+        let operator = self.adding();
+        let operand = self.term();
+        Operand { operator, operand }
+    }
+
+    /// Reads `{ADDING term}` behind the second term.
+    #[cycle(expressions)]
+    fn next_addends(&mut self) -> Items<Operand<Expression<Identifier>>>
+        ensures { Reads addends none self.old (row_of (map (operand_node true view) result)) self.new }
+    {
+        let mut all = Items::new(self.alloc);
         'more: while self.at_adding() {
-            let next = self.addend()?;
-            all.push(next)?;
+            let next = self.addend();
+            self.push(&mut all, next);
         }
-        Ok(all)
+        all
     }
 
-    /// `factor {MULTIPLYING factor}`
+    /// Reads `factor {MULTIPLYING factor}`.
     #[cycle(expressions)]
-    #[tactic(auto, unfolding(ctl_grammar::specs::Grammar::term))]
-    fn term(&mut self) -> Result<Expression, Refused>
-        ensures given { Gives view result self.new.rest.now (read self.old.left term none self.old.rest.now) }
-        ensures left { OnOk result (self.new.left ≡ self.old.left) }
-        ensures shorter { OnOk result (length self.new.rest.now < length self.old.rest.now) }
+    fn term(&mut self) -> Expression<Identifier>
+        ensures { Reads term none self.old (view result) self.new }
     {
-        let first = self.factor()?;
-        let rest = self.multiplicands()?;
-        self.product(first, rest)
+        let first = self.factor();
+        let rest = self.multiplicands();
+        self.chain(first, rest)
     }
 
-    /// `MULTIPLYING factor`
+    /// Reads `{MULTIPLYING factor}`.
     #[cycle(expressions)]
-    #[tactic(auto, unfolding(ctl_grammar::specs::Grammar::multiplicand))]
-    fn multiplicand(&mut self) -> Result<Multiplicand, Refused>
-        ensures given { Gives view_multiplicand result self.new.rest.now (read self.old.left multiplicand none self.old.rest.now) }
-        ensures left { OnOk result (self.new.left ≡ self.old.left) }
-        ensures shorter { OnOk result (length self.new.rest.now < length self.old.rest.now) }
+    fn multiplicands(
+        &mut self,
+    ) -> Option<
+        (
+            Operand<Expression<Identifier>>,
+            Items<Operand<Expression<Identifier>>>,
+        ),
+    >
+        ensures given { Reads multiplicands none self.old (further_node false result) self.new }
+        ensures level { joins false result ≡ true }
     {
-        let operator = self.multiplying()?;
-        let factor = self.factor()?;
-        Ok(Multiplicand { operator, factor })
+        if self.at_multiplying() {
+            let second = self.multiplicand();
+            let others = self.next_multiplicands();
+            Some((second, others))
+        } else {
+            None
+        }
     }
 
-    /// `{MULTIPLYING factor}`
+    /// Reads `MULTIPLYING factor`.
     #[cycle(expressions)]
-    #[tactic(auto, unfolding(ctl_grammar::specs::Grammar::multiplicands))]
-    fn multiplicands(&mut self) -> Result<Vec<Multiplicand>, Refused>
-        ensures given { Gives (λ v. row_of (map view_multiplicand v.items)) result self.new.rest.now (read self.old.left multiplicands none self.old.rest.now) }
-        ensures left { OnOk result (self.new.left ≡ self.old.left) }
-        ensures shorter { OnOk result (length self.new.rest.now ≤ length self.old.rest.now) }
+    fn multiplicand(&mut self) -> Operand<Expression<Identifier>>
+        ensures given { Reads multiplicand none self.old (operand_node false view result) self.new }
+        ensures level { not (is_adding result.operator) ≡ true }
     {
-        let mut all = Vec::new(self.alloc);
+        let operator = self.multiplying();
+        let operand = self.factor();
+        Operand { operator, operand }
+    }
+
+    /// Reads `{MULTIPLYING factor}` behind the second factor.
+    #[cycle(expressions)]
+    fn next_multiplicands(&mut self) -> Items<Operand<Expression<Identifier>>>
+        ensures { Reads multiplicands none self.old (row_of (map (operand_node false view) result)) self.new }
+    {
+        let mut all = Items::new(self.alloc);
         'more: while self.at_multiplying() {
-            let next = self.multiplicand()?;
-            all.push(next)?;
+            let next = self.multiplicand();
+            self.push(&mut all, next);
         }
-        Ok(all)
+        all
     }
 
-    /// `["abs" | "not"] primary`
+    /// Reads `["abs" | "not"] primary`.
     #[cycle(expressions)]
-    #[tactic(auto, unfolding(ctl_grammar::specs::Grammar::factor))]
-    fn factor(&mut self) -> Result<Expression, Refused>
-        ensures given { Gives view result self.new.rest.now (read self.old.left factor none self.old.rest.now) }
-        ensures left { OnOk result (self.new.left ≡ self.old.left) }
-        ensures shorter { OnOk result (length self.new.rest.now < length self.old.rest.now) }
+    fn factor(&mut self) -> Expression<Identifier>
+        ensures { Reads factor none self.old (view result) self.new }
     {
         if self.next_is(Kind::Abs) {
-            let span = self.mark(Kind::Abs)?;
-            let operand = self.primary()?;
-            self.unary(span, UnaryWord::Abs, operand)
+            let span = self.mark(Kind::Abs);
+            let operand = self.primary();
+            self.unary(span, UnaryOperator::Abs, operand)
         } else if self.next_is(Kind::Not) {
-            let span = self.mark(Kind::Not)?;
-            let operand = self.primary()?;
-            self.unary(span, UnaryWord::Not, operand)
+            let span = self.mark(Kind::Not);
+            let operand = self.primary();
+            self.unary(span, UnaryOperator::Not, operand)
         } else {
             self.primary()
         }
     }
 
-    /// `number | string | "null" | name | "(" expr ")" | allocator`
+    /// Reads `number | string | "null" | name | "(" expr ")" | allocator`.
     #[cycle(expressions)]
-    #[tactic(auto, unfolding(ctl_grammar::specs::Grammar::primary, ctl_grammar::specs::Grammar::number, ctl_grammar::specs::Grammar::string, ctl_grammar::specs::Grammar::null, ctl_grammar::specs::Grammar::name, ctl_grammar::specs::Grammar::identifier, ctl_grammar::specs::Grammar::allocator))]
-    fn primary(&mut self) -> Result<Expression, Refused>
-        ensures given { Gives view result self.new.rest.now (read self.old.left primary none self.old.rest.now) }
-        ensures left { OnOk result (self.new.left ≡ self.old.left) }
-        ensures shorter { OnOk result (length self.new.rest.now < length self.old.rest.now) }
+    fn primary(&mut self) -> Expression<Identifier>
+        ensures { Reads primary none self.old (view result) self.new }
     {
         if self.next_is(Kind::Number) {
             self.number()
@@ -270,222 +303,211 @@ impl<'a> Parser<'a> {
         } else if self.next_is(Kind::Null) {
             self.null()
         } else if self.next_is(Kind::Identifier) {
-            let name = self.name()?;
-            Ok(name_expression(name))
+            let name = self.name();
+            name_expression(name)
         } else if self.next_is(Kind::New) {
             self.allocator()
         } else {
-            let (span, inside) = self.enclosed()?;
+            let (span, inside) = self.enclosed();
             self.parentheses(span, inside)
         }
     }
 
-    /// `"new" ["(" name ")"] dotted ["'" "(" expr ")"]`
+    /// Reads `"new" ["(" name ")"] dotted ["'" "(" expr ")"]`.
     #[cycle(expressions)]
-    #[tactic(auto, unfolding(ctl_grammar::specs::Grammar::allocator))]
-    fn allocator(&mut self) -> Result<Expression, Refused>
-        ensures given { Gives view result self.new.rest.now (read self.old.left allocator none self.old.rest.now) }
-        ensures left { OnOk result (self.new.left ≡ self.old.left) }
-        ensures shorter { OnOk result (length self.new.rest.now < length self.old.rest.now) }
+    fn allocator(&mut self) -> Expression<Identifier>
+        ensures { Reads allocator none self.old (view result) self.new }
     {
-        let span = self.mark(Kind::New)?;
-        let handle = self.handle()?;
-        let mark = self.dotted()?;
-        let value = self.qualified()?;
+        let span = self.mark(Kind::New);
+        let handle = self.handle();
+        let mark = self.dotted();
+        let value = self.qualified();
         self.allocated(span, handle, mark, value)
     }
 
-    /// `["(" name ")"]`
+    /// Reads `["(" name ")"]`.
     #[cycle(expressions)]
-    #[tactic(auto, unfolding(ctl_grammar::specs::Grammar::handle))]
-    fn handle(&mut self) -> Result<Option<Name>, Refused>
-        ensures given { Gives (optional view_name) result self.new.rest.now (read self.old.left handle none self.old.rest.now) }
-        ensures left { OnOk result (self.new.left ≡ self.old.left) }
-        ensures shorter { OnOk result (length self.new.rest.now ≤ length self.old.rest.now) }
+    fn handle(&mut self) -> Option<Name<Identifier, Expression<Identifier>>>
+        ensures { Reads handle none self.old (optional (name_node view) result) self.new }
     {
         if self.next_is(Kind::LeftParenthesis) {
-            let name = self.enclosed_name()?;
-            Ok(Some(name))
+            let name = self.enclosed_name();
+            Some(name)
         } else {
-            Ok(None)
+            None
         }
     }
 
-    /// `"(" name ")"`, a construct
+    /// Reads `"(" name ")"`, a construct.
     #[cycle(expressions)]
-    #[tactic(auto, using(ctl_grammar::proofs::Constructs::construct_opened, ctl_grammar::proofs::Constructs::construct_full, ctl_grammar::proofs::Constructs::construct_other))]
-    fn enclosed_name(&mut self) -> Result<Name, Refused>
-        ensures given { Gives view_name result self.new.rest.now (construct true true self.old.left Handle none self.old.rest.now) }
-        ensures left { OnOk result (self.new.left ≡ self.old.left) }
-        ensures shorter { OnOk result (length self.new.rest.now < length self.old.rest.now) }
+    fn enclosed_name(&mut self) -> Name<Identifier, Expression<Identifier>>
+        ensures { Reads (nest Handle) none self.old (name_node view result) self.new }
     {
         let is_next = self.next_is(Kind::LeftParenthesis);
-        self.open(is_next)?;
-        let inside = self.in_enclosed_name()?;
-        self.close();
-        Ok(inside)
+        if self.open(is_next) {
+            let inside = self.in_enclosed_name();
+            self.close();
+            inside
+        } else {
+            self.no_name()
+        }
     }
 
-    /// `"(" name ")"`
+    /// Reads `"(" name ")"`.
     #[cycle(expressions)]
-    #[tactic(auto, unfolding(ctl_grammar::specs::Grammar::body))]
-    fn in_enclosed_name(&mut self) -> Result<Name, Refused>
-        ensures given { Gives view_name result self.new.rest.now (read self.old.left (body Handle) none self.old.rest.now) }
-        ensures left { OnOk result (self.new.left ≡ self.old.left) }
-        ensures shorter { OnOk result (length self.new.rest.now < length self.old.rest.now) }
+    fn in_enclosed_name(&mut self) -> Name<Identifier, Expression<Identifier>>
+        ensures { Reads (body Handle) none self.old (name_node view result) self.new }
     {
-        self.skip(Kind::LeftParenthesis)?;
-        let name = self.name()?;
-        self.skip_giving(Kind::RightParenthesis, name)
+        self.skip(Kind::LeftParenthesis);
+        let name = self.name();
+        self.skip(Kind::RightParenthesis);
+        name
     }
 
-    /// `["'" "(" expr ")"]`
+    /// Reads `["'" "(" expr ")"]`.
     #[cycle(expressions)]
-    #[tactic(auto, unfolding(ctl_grammar::specs::Grammar::qualified))]
-    fn qualified(&mut self) -> Result<Option<Expression>, Refused>
-        ensures given { Gives (optional view) result self.new.rest.now (read self.old.left qualified none self.old.rest.now) }
-        ensures left { OnOk result (self.new.left ≡ self.old.left) }
-        ensures shorter { OnOk result (length self.new.rest.now ≤ length self.old.rest.now) }
+    fn qualified(&mut self) -> Option<Expression<Identifier>>
+        ensures { Reads qualified none self.old (optional view result) self.new }
     {
         if self.next_is(Kind::Apostrophe) {
-            self.skip(Kind::Apostrophe)?;
-            let (_, value) = self.enclosed()?;
-            Ok(Some(value))
+            self.skip(Kind::Apostrophe);
+            let (_, value) = self.enclosed();
+            Some(value)
         } else {
-            Ok(None)
+            None
         }
     }
 
-    /// `"(" expr ")"`, a construct, with its place
+    /// Reads `"(" expr ")"`, a construct, with its place.
     #[cycle(expressions)]
-    #[tactic(auto, using(ctl_grammar::proofs::Constructs::construct_opened, ctl_grammar::proofs::Constructs::construct_full, ctl_grammar::proofs::Constructs::construct_other))]
-    fn enclosed(&mut self) -> Result<(Span, Expression), Refused>
-        ensures given { Gives (λ p. pair (at p.0) (view p.1)) result self.new.rest.now (construct true true self.old.left Enclosed none self.old.rest.now) }
-        ensures left { OnOk result (self.new.left ≡ self.old.left) }
-        ensures shorter { OnOk result (length self.new.rest.now < length self.old.rest.now) }
+    fn enclosed(&mut self) -> (Span, Expression<Identifier>)
+        ensures { Reads (nest Enclosed) none self.old (pair (at result.0) (view result.1)) self.new }
     {
         let is_next = self.next_is(Kind::LeftParenthesis);
-        self.open(is_next)?;
-        let inside = self.in_enclosed()?;
-        self.close();
-        Ok(inside)
-    }
-
-    /// `"(" expr ")"`, with its place
-    #[cycle(expressions)]
-    #[tactic(auto, unfolding(ctl_grammar::specs::Grammar::body))]
-    fn in_enclosed(&mut self) -> Result<(Span, Expression), Refused>
-        ensures given { Gives (λ p. pair (at p.0) (view p.1)) result self.new.rest.now (read self.old.left (body Enclosed) none self.old.rest.now) }
-        ensures left { OnOk result (self.new.left ≡ self.old.left) }
-        ensures shorter { OnOk result (length self.new.rest.now < length self.old.rest.now) }
-    {
-        let span = self.mark(Kind::LeftParenthesis)?;
-        let inside = self.expression()?;
-        self.skip_giving(Kind::RightParenthesis, (span, inside))
-    }
-
-    /// `name`
-    #[cycle(expressions)]
-    #[tactic(auto, unfolding(ctl_grammar::specs::Grammar::name))]
-    pub(crate) fn name(&mut self) -> Result<Name, Refused>
-        ensures given { Gives view_name result self.new.rest.now (read self.old.left name none self.old.rest.now) }
-        ensures left { OnOk result (self.new.left ≡ self.old.left) }
-        ensures shorter { OnOk result (length self.new.rest.now < length self.old.rest.now) }
-    {
-        let first = self.identifier()?;
-        let suffixes = self.suffixes()?;
-        Ok(Name { first, suffixes })
-    }
-
-    /// What stands behind the first identifier of a name.
-    #[cycle(expressions)]
-    #[tactic(auto, unfolding(ctl_grammar::specs::Grammar::suffixes))]
-    fn suffixes(&mut self) -> Result<Vec<Suffix>, Refused>
-        ensures given { Gives (λ v. row_of (map view_suffix v.items)) result self.new.rest.now (read self.old.left suffixes none self.old.rest.now) }
-        ensures left { OnOk result (self.new.left ≡ self.old.left) }
-        ensures shorter { OnOk result (length self.new.rest.now ≤ length self.old.rest.now) }
-    {
-        let mut all = Vec::new(self.alloc);
-        'more: while self.at_suffix() {
-            let next = self.suffix()?;
-            all.push(next)?;
+        if self.open(is_next) {
+            let inside = self.in_enclosed();
+            self.close();
+            inside
+        } else {
+            (NOWHERE, Expression::Null(NOWHERE))
         }
-        Ok(all)
     }
 
-    /// `"." id | "." "all" | "(" expr {"," expr} ")" | "'" attr`
+    /// Reads `"(" expr ")"`, with its place.
     #[cycle(expressions)]
-    #[tactic(auto, unfolding(ctl_grammar::specs::Grammar::suffix, ctl_grammar::specs::Grammar::selection))]
-    fn suffix(&mut self) -> Result<Suffix, Refused>
-        ensures given { Gives view_suffix result self.new.rest.now (read self.old.left suffix none self.old.rest.now) }
-        ensures left { OnOk result (self.new.left ≡ self.old.left) }
-        ensures shorter { OnOk result (length self.new.rest.now < length self.old.rest.now) }
+    fn in_enclosed(&mut self) -> (Span, Expression<Identifier>)
+        ensures { Reads (body Enclosed) none self.old (pair (at result.0) (view result.1)) self.new }
+    {
+        let span = self.mark(Kind::LeftParenthesis);
+        let inside = self.expression();
+        self.skip(Kind::RightParenthesis);
+        (span, inside)
+    }
+
+    /// Reads `name`.
+    #[cycle(expressions)]
+    pub(crate) fn name(&mut self) -> Name<Identifier, Expression<Identifier>>
+        ensures { Reads name none self.old (name_node view result) self.new }
+    {
+        let first = self.identifier();
+        let suffixes = self.suffixes();
+        Name { first, suffixes }
+    }
+
+    /// Reads what stands behind the first identifier of a name.
+    #[cycle(expressions)]
+    fn suffixes(&mut self) -> Items<Suffix<Expression<Identifier>>>
+        ensures { Reads suffixes none self.old (row_of (map (suffix_node view) result)) self.new }
+    {
+        let mut all = Items::new(self.alloc);
+        'more: while self.at_suffix() {
+            let next = self.suffix();
+            self.push(&mut all, next);
+        }
+        all
+    }
+
+    /// Reads `"." id | "." "all" | "'" attr | "(" expr {"," expr} ")"`.
+    #[cycle(expressions)]
+    fn suffix(&mut self) -> Suffix<Expression<Identifier>>
+        ensures { Reads suffix none self.old (suffix_node view result) self.new }
     {
         if self.next_is(Kind::Dot) {
             self.selection()
         } else if self.next_is(Kind::Apostrophe) {
-            self.skip(Kind::Apostrophe)?;
+            self.skip(Kind::Apostrophe);
             self.attribute()
         } else {
             self.arguments()
         }
     }
 
-    /// `"(" expr {"," expr} ")"`, a construct
+    /// Reads `"(" expr {"," expr} ")"`, a construct.
     #[cycle(expressions)]
-    #[tactic(auto, using(ctl_grammar::proofs::Constructs::construct_opened, ctl_grammar::proofs::Constructs::construct_full, ctl_grammar::proofs::Constructs::construct_other))]
-    fn arguments(&mut self) -> Result<Suffix, Refused>
-        ensures given { Gives view_suffix result self.new.rest.now (construct true true self.old.left Arguments none self.old.rest.now) }
-        ensures left { OnOk result (self.new.left ≡ self.old.left) }
-        ensures shorter { OnOk result (length self.new.rest.now < length self.old.rest.now) }
+    fn arguments(&mut self) -> Suffix<Expression<Identifier>>
+        ensures { Reads (nest Arguments) none self.old (suffix_node view result) self.new }
     {
         let is_next = self.next_is(Kind::LeftParenthesis);
-        self.open(is_next)?;
-        let inside = self.in_arguments()?;
-        self.close();
-        Ok(inside)
+        if self.open(is_next) {
+            let inside = self.in_arguments();
+            self.close();
+            inside
+        } else {
+            Suffix::Attribute(NOWHERE, Attribute::Access)
+        }
     }
 
-    /// `"(" expr {"," expr} ")"`
+    /// Reads `"(" expr {"," expr} ")"`.
     #[cycle(expressions)]
-    #[tactic(auto, unfolding(ctl_grammar::specs::Grammar::body))]
-    fn in_arguments(&mut self) -> Result<Suffix, Refused>
-        ensures given { Gives view_suffix result self.new.rest.now (read self.old.left (body Arguments) none self.old.rest.now) }
-        ensures left { OnOk result (self.new.left ≡ self.old.left) }
-        ensures shorter { OnOk result (length self.new.rest.now < length self.old.rest.now) }
+    fn in_arguments(&mut self) -> Suffix<Expression<Identifier>>
+        ensures { Reads (body Arguments) none self.old (suffix_node view result) self.new }
     {
-        let span = self.mark(Kind::LeftParenthesis)?;
-        let arguments = self.expressions()?;
-        self.skip_giving(Kind::RightParenthesis, Suffix::Arguments(span, arguments))
+        let span = self.mark(Kind::LeftParenthesis);
+        let (first, others) = self.expressions();
+        self.skip(Kind::RightParenthesis);
+        Suffix::Arguments(span, first, others)
     }
 
-    /// `"," expr`
+    /// Reads `expr {"," expr}`.
     #[cycle(expressions)]
-    #[tactic(auto, unfolding(ctl_grammar::specs::Grammar::next_expression))]
-    fn next_expression(&mut self) -> Result<Expression, Refused>
-        ensures given { Gives view result self.new.rest.now (read self.old.left next_expression none self.old.rest.now) }
-        ensures left { OnOk result (self.new.left ≡ self.old.left) }
-        ensures shorter { OnOk result (length self.new.rest.now < length self.old.rest.now) }
+    fn expressions(&mut self) -> (Expression<Identifier>, Items<Expression<Identifier>>)
+        ensures { Reads expressions none self.old (expressions_node result) self.new }
     {
-        self.skip(Kind::Comma)?;
+        let first = self.expression();
+        let others = self.next_expressions();
+        (first, others)
+    }
+
+    /// Reads `"," expr`.
+    #[cycle(expressions)]
+    fn next_expression(&mut self) -> Expression<Identifier>
+        ensures { Reads next_expression none self.old (view result) self.new }
+    {
+        self.skip(Kind::Comma);
         self.expression()
     }
 
-    /// `expr {"," expr}`
+    /// Reads `{"," expr}`.
     #[cycle(expressions)]
-    #[tactic(auto, unfolding(ctl_grammar::specs::Grammar::expressions))]
-    fn expressions(&mut self) -> Result<Vec<Expression>, Refused>
-        ensures given { Gives (λ v. row_of (map view v.items)) result self.new.rest.now (read self.old.left expressions none self.old.rest.now) }
-        ensures left { OnOk result (self.new.left ≡ self.old.left) }
-        ensures shorter { OnOk result (length self.new.rest.now < length self.old.rest.now) }
+    fn next_expressions(&mut self) -> Items<Expression<Identifier>>
+        ensures { Reads (many next_expression) none self.old (row_of (map view result)) self.new }
     {
-        let mut all = Vec::new(self.alloc);
-        let first = self.expression()?;
-        all.push(first)?;
+        let mut all = Items::new(self.alloc);
         'more: while self.next_is(Kind::Comma) {
-            let next = self.next_expression()?;
-            all.push(next)?;
+            let next = self.next_expression();
+            self.push(&mut all, next);
         }
-        Ok(all)
+        all
+    }
+
+    /// Gives a name that means nothing.
+    fn no_name(&self) -> Name<Identifier, Expression<Identifier>> {
+        Name {
+            first: Identifier {
+                text: Text::new(self.alloc),
+                span: NOWHERE,
+            },
+            suffixes: Items::new(self.alloc),
+        }
     }
 }

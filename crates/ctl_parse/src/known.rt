@@ -1,79 +1,79 @@
 //! The identifiers that the grammar knows at some places, and the name at an end.
 
-ghost use Rattle.std.specs.Prelude.{◌≡◌, ◌<◌, ◌≤◌, length, OnOk};
-ghost use Rattle.ctl_grammar.specs.Form.{none, written};
-ghost use Rattle.ctl_grammar.specs.Grammar.{end_name, is_among, known};
-ghost use Rattle.ctl_grammar.specs.Reading.{Gives, read};
-ghost use Rattle.ctl_parse.specs.Known.{names_at};
-ghost use Rattle.ctl_parse.specs.View.{identifier_node, named};
+ghost use Rattle.std.specs.Prelude.{[], MatchOption};
+ghost use Rattle.ctl_grammar.specs.Form.{none, leaf, written};
+ghost use Rattle.ctl_grammar.specs.Grammar.{end_name, known, storage_pool};
+ghost use Rattle.ctl_grammar.specs.Nodes.{identifier_of};
+ghost use Rattle.ctl_parse.specs.Reads.{Reads};
 
 use crate::cursor::Parser;
 use ctl_grammar::kind::is_same_kind;
 use ctl_grammar::refused::{Reason, Refused};
 use ctl_grammar::spelling::is_same_name;
-use ctl_tree::token::Kind;
-use ctl_tree::tree::Identifier;
-
-/// A place where the subset knows some identifiers alone.
-#[derive(Clone, Copy, Debug, PartialEq, Eq)]
-pub(crate) enum Known {
-    /// Behind an apostrophe in a name: Image, First and Last (RM 3.5).
-    Attribute,
-    /// Where an aspect or a representation item names what it sets: Storage_Pool (RM 13.11).
-    StoragePool,
-    /// Behind the apostrophe of a designated type: none.
-    Nothing,
-}
-
-impl Known {
-    /// Whether the subset knows this identifier there. Case does not count.
-    fn has(self, name: &[u8]) -> bool
-        ensures { result ≡ is_among (names_at self) name.now }
-    {
-        match self {
-            Known::Attribute => {
-                is_same_name(b"image", name)
-                    || is_same_name(b"first", name)
-                    || is_same_name(b"last", name)
-            }
-            Known::StoragePool => is_same_name(b"storage_pool", name),
-            Known::Nothing => false,
-        }
-    }
-}
+use ctl_syntax::name::Identifier;
+use ctl_tree::token::{Kind, Token};
 
 impl<'a> Parser<'a> {
-    /// An identifier that the subset knows at this place.
-    #[tactic(auto, unfolding(ctl_grammar::specs::Grammar::known, ctl_grammar::specs::Grammar::identifier))]
-    pub(crate) fn known(&mut self, place: Known) -> Result<Identifier, Refused>
-        ensures given { Gives identifier_node result self.new.rest.now (read self.old.left (known (names_at place)) none self.old.rest.now) }
-        ensures left { OnOk result (self.new.left ≡ self.old.left) }
-        ensures shorter { OnOk result (length self.new.rest.now < length self.old.rest.now) }
+    /// Reads the word Storage_Pool, which an aspect or a clause sets (RM 13.11). The subset leaves others out.
+    #[tactic(auto, unfolding(ctl_grammar::specs::Grammar::known))]
+    pub(crate) fn storage_pool(&mut self) -> Option<&'a Token>
+        ensures { MatchOption result (Reads (known storage_pool) none self.old none self.new) (λ t. Reads (known storage_pool) none self.old (identifier_of (leaf t.now)) self.new) }
     {
-        match self.rest.first() {
-            Some(token)
-                if is_same_kind(Kind::Identifier, token.kind)
-                    && !place.has(token.text.as_bytes()) => { Err(Refused::Token(Reason::LeftOut)) }
-            _ => self.identifier(),
+        if self.fault.is_some() {
+            return None;
+        }
+        match self.rest.split_first() {
+            Some((token, rest)) if is_same_kind(Kind::Identifier, token.kind) => {
+                if is_same_name(b"storage_pool", token.text.as_bytes()) {
+                    self.rest = rest;
+                    Some(token)
+                } else {
+                    self.fault = Some(Refused::Token(Reason::LeftOut));
+                    None
+                }
+            }
+            _ => {
+                self.fault = Some(Refused::Token(Reason::Unexpected));
+                None
+            }
         }
     }
 
-    /// `[id]` behind the `end` of the body of this name (RM 6.3).
-    #[tactic(auto, unfolding(ctl_grammar::specs::Grammar::end_name, ctl_grammar::specs::Grammar::identifier))]
-    pub(crate) fn end_name(&mut self, name: &Identifier) -> Result<Option<Identifier>, Refused>
-        ensures given { Gives named result self.new.rest.now (read self.old.left end_name (written name.now.name) self.old.rest.now) }
-        ensures left { OnOk result (self.new.left ≡ self.old.left) }
-        ensures shorter { OnOk result (length self.new.rest.now ≤ length self.old.rest.now) }
+    /// Refuses the attribute of a designated type: the subset has none there.
+    #[tactic(auto, unfolding(ctl_grammar::specs::Grammar::known))]
+    pub(crate) fn unknown(&mut self)
+        ensures { Reads (known []) none self.old none self.new }
     {
+        if self.fault.is_some() {
+            return;
+        }
         match self.rest.first() {
             Some(token) if is_same_kind(Kind::Identifier, token.kind) => {
-                if !is_same_name(name.name.as_bytes(), token.text.as_bytes()) {
-                    return Err(Refused::Token(Reason::EndName));
-                }
-                let name = self.identifier()?;
-                Ok(Some(name))
+                self.fault = Some(Refused::Token(Reason::LeftOut));
             }
-            _ => Ok(None),
+            _ => self.fault = Some(Refused::Token(Reason::Unexpected)),
+        }
+    }
+
+    /// Reads `[id]` behind the `end` of the body of this name (RM 6.3).
+    #[tactic(auto, unfolding(ctl_grammar::specs::Grammar::end_name))]
+    pub(crate) fn end_name(&mut self, name: &Identifier) -> Option<&'a Token>
+        ensures { MatchOption result (Reads end_name (written name.now.text) self.old none self.new) (λ t. Reads end_name (written name.now.text) self.old (identifier_of (leaf t.now)) self.new) }
+    {
+        if self.fault.is_some() {
+            return None;
+        }
+        match self.rest.split_first() {
+            Some((token, rest)) if is_same_kind(Kind::Identifier, token.kind) => {
+                if is_same_name(name.text.as_bytes(), token.text.as_bytes()) {
+                    self.rest = rest;
+                    Some(token)
+                } else {
+                    self.fault = Some(Refused::Token(Reason::EndName));
+                    None
+                }
+            }
+            _ => None,
         }
     }
 }

@@ -1,242 +1,216 @@
 //! Statements that hold no other statement, and the parts of the others (RM 5).
 
-ghost use Rattle.std.specs.Prelude.{◌≡◌, ◌<◌, ◌≤◌, ◌++◌, length, OnOk};
-ghost use Rattle.ctl_grammar.specs.Form.{none, pair, starts, nest_starts, word, ◌▸◌, Conditional, Repetition, Block};
-ghost use Rattle.ctl_grammar.specs.Grammar.{simple, factor, primary, expression, null_statement, named_statement, exit_condition, exit_statement, returned, return_statement, raised, raise_statement, while_scheme, for_scheme, scheme, choices, end_if, end_loop, statement};
+ghost use Rattle.std.specs.Prelude.{◌≡◌, ◌∷◌, [], ◌++◌};
+ghost use Rattle.ctl_grammar.specs.Form.{none, pair, starts, nest_starts, Conditional, Repetition, Block};
+ghost use Rattle.ctl_grammar.specs.Grammar.{flag, expression, factor, primary, null_statement, named_statement, exit_condition, exit_statement, returned, return_statement, raised, raise_statement, while_scheme, for_scheme, scheme, choices, end_if, end_loop, statement};
 ghost use Rattle.ctl_grammar.specs.Nodes.{assignment_of};
-ghost use Rattle.ctl_grammar.specs.Reading.{Gives, begins, read};
-ghost use Rattle.ctl_parse.specs.View.{optional, dotted_node, view, view_name, span_node, scheme_node, choices_node, view_statement};
+ghost use Rattle.ctl_parse.specs.Parts.{choices_node, direction_node, place_node, scheme_node, view_statement};
+ghost use Rattle.ctl_parse.specs.Reads.{Reads, sees};
+ghost use Rattle.ctl_parse.specs.View.{mark_node, name_node, optional, view};
 
 use crate::cursor::Parser;
-use ctl_grammar::refused::Refused;
+use ctl_syntax::expression::Expression;
+use ctl_syntax::item::{Choices, Direction, Statement};
+use ctl_syntax::name::{Identifier, Mark, Name};
 use ctl_tree::span::Span;
 use ctl_tree::token::Kind;
-use ctl_tree::tree::{Choices, Dotted, Expression, Name, Scheme, Statement, StatementKind};
+
+/// How a loop goes on (RM 5.5).
+#[derive(Drop)]
+pub(crate) enum Scheme {
+    Endless,
+    While(Expression<Identifier>),
+    /// The parameter, the direction and the bounds.
+    For(Identifier, Direction, Expression<Identifier>, Expression<Identifier>),
+}
+
+/// Makes an assignment of the value, or a call where there is none.
+fn assignment(
+    name: Name<Identifier, Expression<Identifier>>,
+    value: Option<Expression<Identifier>>,
+) -> Statement<Identifier, Identifier>
+    ensures { view_statement result ≡ assignment_of (name_node view name) (optional view value) }
+{
+    let span = name.first.span;
+    match value {
+        Some(value) => Statement::Assignment(span, name, value),
+        None => Statement::Call(span, name),
+    }
+}
 
 impl<'a> Parser<'a> {
-    /// `"null" ";"`
-    #[tactic(auto, unfolding(ctl_grammar::specs::Grammar::null_statement))]
-    pub(crate) fn null_statement(&mut self) -> Result<Statement, Refused>
-        ensures given { Gives view_statement result self.new.rest.now (read self.old.left null_statement none self.old.rest.now) }
-        ensures left { OnOk result (self.new.left ≡ self.old.left) }
-        ensures shorter { OnOk result (length self.new.rest.now < length self.old.rest.now) }
+    /// Reads `"null" ";"`.
+    pub(crate) fn null_statement(&mut self) -> Statement<Identifier, Identifier>
+        ensures { Reads null_statement none self.old (view_statement result) self.new }
     {
-        let span = self.mark(Kind::Null)?;
-        self.skip_giving(
-            Kind::Semicolon,
-            Statement {
-                span,
-                kind: StatementKind::Null,
-            },
-        )
+        let span = self.mark(Kind::Null);
+        self.skip(Kind::Semicolon);
+        Statement::Null(span)
     }
 
-    /// `name ":=" expr ";" | name ";"` (RM 5.2, 6.4)
-    #[tactic(auto, unfolding(ctl_grammar::specs::Grammar::named_statement))]
-    pub(crate) fn named_statement(&mut self) -> Result<Statement, Refused>
-        ensures given { Gives view_statement result self.new.rest.now (read self.old.left named_statement none self.old.rest.now) }
-        ensures left { OnOk result (self.new.left ≡ self.old.left) }
-        ensures shorter { OnOk result (length self.new.rest.now < length self.old.rest.now) }
+    /// Reads `name ":=" expr ";" | name ";"` (RM 5.2, 6.4).
+    pub(crate) fn named_statement(&mut self) -> Statement<Identifier, Identifier>
+        ensures { Reads named_statement none self.old (view_statement result) self.new }
     {
-        let name = self.name()?;
-        let value = self.optional_value()?;
-        self.skip_giving(Kind::Semicolon, named_statement(name, value))
+        let name = self.name();
+        let value = self.optional_value();
+        self.skip(Kind::Semicolon);
+        assignment(name, value)
     }
 
-    /// `["when" expr]`
-    #[tactic(auto, unfolding(ctl_grammar::specs::Grammar::exit_condition))]
-    pub(crate) fn exit_condition(&mut self) -> Result<Option<Expression>, Refused>
-        ensures given { Gives (optional view) result self.new.rest.now (read self.old.left exit_condition none self.old.rest.now) }
-        ensures left { OnOk result (self.new.left ≡ self.old.left) }
-        ensures shorter { OnOk result (length self.new.rest.now ≤ length self.old.rest.now) }
+    /// Reads `["when" expr]`.
+    fn exit_condition(&mut self) -> Option<Expression<Identifier>>
+        ensures { Reads exit_condition none self.old (optional view result) self.new }
     {
         if self.next_is(Kind::When) {
-            self.skip(Kind::When)?;
-            let condition = self.expression()?;
-            Ok(Some(condition))
+            self.skip(Kind::When);
+            let condition = self.expression();
+            Some(condition)
         } else {
-            Ok(None)
+            None
         }
     }
 
-    /// `"exit" ["when" expr] ";"` (RM 5.7)
-    #[tactic(auto, unfolding(ctl_grammar::specs::Grammar::exit_statement))]
-    pub(crate) fn exit_statement(&mut self) -> Result<Statement, Refused>
-        ensures given { Gives view_statement result self.new.rest.now (read self.old.left exit_statement none self.old.rest.now) }
-        ensures left { OnOk result (self.new.left ≡ self.old.left) }
-        ensures shorter { OnOk result (length self.new.rest.now < length self.old.rest.now) }
+    /// Reads `"exit" ["when" expr] ";"` (RM 5.7).
+    pub(crate) fn exit_statement(&mut self) -> Statement<Identifier, Identifier>
+        ensures { Reads exit_statement none self.old (view_statement result) self.new }
     {
-        let span = self.mark(Kind::Exit)?;
-        let condition = self.exit_condition()?;
-        let statement = Statement {
-            span,
-            kind: StatementKind::Exit(condition),
-        };
-        self.skip_giving(Kind::Semicolon, statement)
+        let span = self.mark(Kind::Exit);
+        let condition = self.exit_condition();
+        self.skip(Kind::Semicolon);
+        Statement::Exit(span, condition)
     }
 
-    /// `[expr]` before a semicolon
-    #[tactic(auto, unfolding(ctl_grammar::specs::Grammar::returned))]
-    pub(crate) fn returned(&mut self) -> Result<Option<Expression>, Refused>
-        ensures given { Gives (optional view) result self.new.rest.now (read self.old.left returned none self.old.rest.now) }
-        ensures left { OnOk result (self.new.left ≡ self.old.left) }
-        ensures shorter { OnOk result (length self.new.rest.now ≤ length self.old.rest.now) }
+    /// Reads `[expr]` before a semicolon.
+    fn returned(&mut self) -> Option<Expression<Identifier>>
+        ensures { Reads returned none self.old (optional view result) self.new }
     {
         if self.at_expression() {
-            let value = self.expression()?;
-            Ok(Some(value))
+            let value = self.expression();
+            Some(value)
         } else {
-            Ok(None)
+            None
         }
     }
 
-    /// `"return" [expr] ";"` (RM 6.5)
-    #[tactic(auto, unfolding(ctl_grammar::specs::Grammar::return_statement))]
-    pub(crate) fn return_statement(&mut self) -> Result<Statement, Refused>
-        ensures given { Gives view_statement result self.new.rest.now (read self.old.left return_statement none self.old.rest.now) }
-        ensures left { OnOk result (self.new.left ≡ self.old.left) }
-        ensures shorter { OnOk result (length self.new.rest.now < length self.old.rest.now) }
+    /// Reads `"return" [expr] ";"` (RM 6.5).
+    pub(crate) fn return_statement(&mut self) -> Statement<Identifier, Identifier>
+        ensures { Reads return_statement none self.old (view_statement result) self.new }
     {
-        let span = self.mark(Kind::Return)?;
-        let value = self.returned()?;
-        let statement = Statement {
-            span,
-            kind: StatementKind::Return(value),
-        };
-        self.skip_giving(Kind::Semicolon, statement)
+        let span = self.mark(Kind::Return);
+        let value = self.returned();
+        self.skip(Kind::Semicolon);
+        Statement::Return(span, value)
     }
 
-    /// `[dotted]`
-    #[tactic(auto, unfolding(ctl_grammar::specs::Grammar::raised, ctl_grammar::specs::Grammar::dotted, ctl_grammar::specs::Grammar::identifier))]
-    pub(crate) fn raised(&mut self) -> Result<Option<Dotted>, Refused>
-        ensures given { Gives (optional dotted_node) result self.new.rest.now (read self.old.left raised none self.old.rest.now) }
-        ensures left { OnOk result (self.new.left ≡ self.old.left) }
-        ensures shorter { OnOk result (length self.new.rest.now ≤ length self.old.rest.now) }
+    /// Reads `[dotted]` behind `raise`.
+    fn raised(&mut self) -> Option<Mark<Identifier>>
+        ensures { Reads raised none self.old (optional mark_node result) self.new }
     {
         if self.next_is(Kind::Identifier) {
-            let exception = self.dotted()?;
-            Ok(Some(exception))
+            let mark = self.dotted();
+            Some(mark)
         } else {
-            Ok(None)
+            None
         }
     }
 
-    /// `"raise" [dotted] ";"` (RM 11.3)
-    #[tactic(auto, unfolding(ctl_grammar::specs::Grammar::raise_statement))]
-    pub(crate) fn raise_statement(&mut self) -> Result<Statement, Refused>
-        ensures given { Gives view_statement result self.new.rest.now (read self.old.left raise_statement none self.old.rest.now) }
-        ensures left { OnOk result (self.new.left ≡ self.old.left) }
-        ensures shorter { OnOk result (length self.new.rest.now < length self.old.rest.now) }
+    /// Reads `"raise" [dotted] ";"` (RM 11.3).
+    pub(crate) fn raise_statement(&mut self) -> Statement<Identifier, Identifier>
+        ensures { Reads raise_statement none self.old (view_statement result) self.new }
     {
-        let span = self.mark(Kind::Raise)?;
-        let exception = self.raised()?;
-        self.skip_giving(
-            Kind::Semicolon,
-            Statement {
-                span,
-                kind: StatementKind::Raise(exception),
-            },
-        )
+        let span = self.mark(Kind::Raise);
+        let raised = self.raised();
+        self.skip(Kind::Semicolon);
+        match raised {
+            Some(mark) => Statement::Raise(span, mark),
+            None => Statement::RaiseAgain(span),
+        }
     }
 
-    /// `"while" expr`
-    #[tactic(auto, unfolding(ctl_grammar::specs::Grammar::while_scheme))]
-    pub(crate) fn while_scheme(&mut self) -> Result<(Option<Span>, Scheme), Refused>
-        ensures given { Gives (λ p. pair (span_node p.0) (scheme_node p.1)) result self.new.rest.now (read self.old.left while_scheme none self.old.rest.now) }
-        ensures left { OnOk result (self.new.left ≡ self.old.left) }
-        ensures shorter { OnOk result (length self.new.rest.now < length self.old.rest.now) }
+    /// Reads `["reverse"]`.
+    fn direction(&mut self) -> Direction
+        ensures { Reads (flag Kind.Reverse) none self.old (direction_node result) self.new }
     {
-        let span = self.mark(Kind::While)?;
-        let condition = self.expression()?;
-        Ok((Some(span), Scheme::While(condition)))
+        if self.next_is(Kind::Reverse) {
+            self.skip(Kind::Reverse);
+            Direction::Downward
+        } else {
+            Direction::Upward
+        }
     }
 
-    /// `"for" id "in" ["reverse"] simple ".." simple`
-    #[tactic(auto, unfolding(ctl_grammar::specs::Grammar::for_scheme))]
-    pub(crate) fn for_scheme(&mut self) -> Result<(Option<Span>, Scheme), Refused>
-        ensures given { Gives (λ p. pair (span_node p.0) (scheme_node p.1)) result self.new.rest.now (read self.old.left for_scheme none self.old.rest.now) }
-        ensures left { OnOk result (self.new.left ≡ self.old.left) }
-        ensures shorter { OnOk result (length self.new.rest.now < length self.old.rest.now) }
+    /// Reads `"while" expr`.
+    fn while_scheme(&mut self) -> (Option<Span>, Scheme)
+        ensures { Reads while_scheme none self.old (pair (place_node result.0) (scheme_node result.1)) self.new }
     {
-        let span = self.mark(Kind::For)?;
-        let parameter = self.identifier()?;
-        self.skip(Kind::In)?;
-        let is_reverse = self.took(Kind::Reverse)?;
-        let (low, high) = self.bounds()?;
-        Ok((Some(span), Scheme::For(parameter, is_reverse, low, high)))
+        let span = self.mark(Kind::While);
+        let condition = self.expression();
+        (Some(span), Scheme::While(condition))
     }
 
-    /// `simple ".." simple`
-    fn bounds(&mut self) -> Result<(Expression, Expression), Refused>
-        ensures given { Gives (λ p. pair (view p.0) (pair none (view p.1))) result self.new.rest.now (read self.old.left (simple ▸ word Kind.DoubleDot ▸ simple) none self.old.rest.now) }
-        ensures left { OnOk result (self.new.left ≡ self.old.left) }
-        ensures shorter { OnOk result (length self.new.rest.now < length self.old.rest.now) }
+    /// Reads `"for" id "in" ["reverse"] simple ".." simple`.
+    fn for_scheme(&mut self) -> (Option<Span>, Scheme)
+        ensures { Reads for_scheme none self.old (pair (place_node result.0) (scheme_node result.1)) self.new }
     {
-        let low = self.simple()?;
-        let low = self.skip_giving(Kind::DoubleDot, low)?;
-        let high = self.simple()?;
-        Ok((low, high))
+        let span = self.mark(Kind::For);
+        let parameter = self.identifier();
+        self.skip(Kind::In);
+        let direction = self.direction();
+        let low = self.simple();
+        self.skip(Kind::DoubleDot);
+        let high = self.simple();
+        (Some(span), Scheme::For(parameter, direction, low, high))
     }
 
-    /// `["while" expr | "for" id "in" ["reverse"] simple ".." simple]`, with its place (RM 5.5)
-    #[tactic(auto, unfolding(ctl_grammar::specs::Grammar::scheme, ctl_grammar::specs::Grammar::while_scheme, ctl_grammar::specs::Grammar::for_scheme))]
-    pub(crate) fn scheme(&mut self) -> Result<(Option<Span>, Scheme), Refused>
-        ensures given { Gives (λ p. pair (span_node p.0) (scheme_node p.1)) result self.new.rest.now (read self.old.left scheme none self.old.rest.now) }
-        ensures left { OnOk result (self.new.left ≡ self.old.left) }
-        ensures shorter { OnOk result (length self.new.rest.now ≤ length self.old.rest.now) }
+    /// Reads how a loop goes on, with the place of its first word, if it has one (RM 5.5).
+    pub(crate) fn scheme(&mut self) -> (Option<Span>, Scheme)
+        ensures { Reads scheme none self.old (pair (place_node result.0) (scheme_node result.1)) self.new }
     {
         if self.next_is(Kind::While) {
             self.while_scheme()
         } else if self.next_is(Kind::For) {
             self.for_scheme()
         } else {
-            Ok((None, Scheme::Endless))
+            (None, Scheme::Endless)
         }
     }
 
-    /// `"others" | dotted {"|" dotted}` (RM 11.2)
-    #[tactic(auto, unfolding(ctl_grammar::specs::Grammar::choices))]
-    pub(crate) fn choices(&mut self) -> Result<Choices, Refused>
-        ensures given { Gives choices_node result self.new.rest.now (read self.old.left choices none self.old.rest.now) }
-        ensures left { OnOk result (self.new.left ≡ self.old.left) }
-        ensures shorter { OnOk result (length self.new.rest.now < length self.old.rest.now) }
+    /// Reads `"others" | dotted {"|" dotted}` (RM 11.2).
+    pub(crate) fn choices(&mut self) -> Choices<Identifier>
+        ensures { Reads choices none self.old (choices_node result) self.new }
     {
         if self.next_is(Kind::Others) {
-            self.skip_giving(Kind::Others, Choices::Others)
+            self.skip(Kind::Others);
+            Choices::Others
         } else {
-            let exceptions = self.dotted_list(Kind::Bar)?;
-            Ok(Choices::Exceptions(exceptions))
+            let exceptions = self.dotted_list(Kind::Bar);
+            Choices::Exceptions(exceptions)
         }
     }
 
-    /// `"end" "if" ";"`
-    #[tactic(auto, unfolding(ctl_grammar::specs::Grammar::end_if))]
-    pub(crate) fn end_if(&mut self) -> Result<(), Refused>
-        ensures given { Gives (λ u. none) result self.new.rest.now (read self.old.left end_if none self.old.rest.now) }
-        ensures left { OnOk result (self.new.left ≡ self.old.left) }
-        ensures shorter { OnOk result (length self.new.rest.now < length self.old.rest.now) }
+    /// Reads `"end" "if" ";"`.
+    pub(crate) fn end_if(&mut self)
+        ensures { Reads end_if none self.old none self.new }
     {
-        self.skip(Kind::End)?;
-        self.skip(Kind::If)?;
-        self.skip(Kind::Semicolon)
+        self.skip(Kind::End);
+        self.skip(Kind::If);
+        self.skip(Kind::Semicolon);
     }
 
-    /// `"end" "loop" ";"`
-    #[tactic(auto, unfolding(ctl_grammar::specs::Grammar::end_loop))]
-    pub(crate) fn end_loop(&mut self) -> Result<(), Refused>
-        ensures given { Gives (λ u. none) result self.new.rest.now (read self.old.left end_loop none self.old.rest.now) }
-        ensures left { OnOk result (self.new.left ≡ self.old.left) }
-        ensures shorter { OnOk result (length self.new.rest.now < length self.old.rest.now) }
+    /// Reads `"end" "loop" ";"`.
+    pub(crate) fn end_loop(&mut self)
+        ensures { Reads end_loop none self.old none self.new }
     {
-        self.skip(Kind::End)?;
-        self.skip(Kind::Loop)?;
-        self.skip(Kind::Semicolon)
+        self.skip(Kind::End);
+        self.skip(Kind::Loop);
+        self.skip(Kind::Semicolon);
     }
 
-    /// Whether a statement is next.
+    /// Tells whether a statement is next.
     #[tactic(auto, unfolding(ctl_grammar::specs::Grammar::statement, ctl_grammar::specs::Grammar::null_statement, ctl_grammar::specs::Grammar::named_statement, ctl_grammar::specs::Grammar::exit_statement, ctl_grammar::specs::Grammar::return_statement, ctl_grammar::specs::Grammar::raise_statement, ctl_grammar::specs::Grammar::name, ctl_grammar::specs::Grammar::identifier))]
     pub(crate) fn at_statement(&self) -> bool
-        ensures { result ≡ begins (starts statement) self.now.rest.now }
+        ensures { result ≡ sees (starts statement) self.now }
     {
         self.next_is(Kind::Null)
             || self.next_is(Kind::Identifier)
@@ -246,47 +220,47 @@ impl<'a> Parser<'a> {
             || self.at_compound_statement()
     }
 
-    /// Whether a statement that holds others is next.
+    /// Tells whether a statement that holds others is next.
     fn at_compound_statement(&self) -> bool
-        ensures { result ≡ begins (nest_starts Conditional ++ (nest_starts Repetition ++ nest_starts Block)) self.now.rest.now }
+        ensures { result ≡ sees (nest_starts Conditional ++ (nest_starts Repetition ++ nest_starts Block)) self.now }
     {
         self.next_is(Kind::If) || self.at_repetition() || self.at_block()
     }
 
-    /// Whether a loop is next.
+    /// Tells whether a loop is next.
     pub(crate) fn at_repetition(&self) -> bool
-        ensures { result ≡ begins (nest_starts Repetition) self.now.rest.now }
+        ensures { result ≡ sees (nest_starts Repetition) self.now }
     {
         self.next_is(Kind::While) || self.next_is(Kind::For) || self.next_is(Kind::Loop)
     }
 
-    /// Whether a block is next.
+    /// Tells whether a block is next.
     pub(crate) fn at_block(&self) -> bool
-        ensures { result ≡ begins (nest_starts Block) self.now.rest.now }
+        ensures { result ≡ sees (nest_starts Block) self.now }
     {
         self.next_is(Kind::Declare) || self.next_is(Kind::Begin)
     }
 
-    /// Whether an expression is next.
+    /// Tells whether an expression is next.
     #[tactic(auto, using(ctl_grammar::proofs::First::expression_begins))]
-    pub(crate) fn at_expression(&self) -> bool
-        ensures { result ≡ begins (starts expression) self.now.rest.now }
+    fn at_expression(&self) -> bool
+        ensures { result ≡ sees (starts expression) self.now }
     {
         self.next_is(Kind::Plus) || self.next_is(Kind::Minus) || self.at_factor()
     }
 
-    /// Whether a factor is next.
+    /// Tells whether a factor is next.
     #[tactic(auto, unfolding(ctl_grammar::specs::Grammar::factor))]
     fn at_factor(&self) -> bool
-        ensures { result ≡ begins (starts factor) self.now.rest.now }
+        ensures { result ≡ sees (starts factor) self.now }
     {
         self.next_is(Kind::Abs) || self.next_is(Kind::Not) || self.at_primary()
     }
 
-    /// Whether a primary is next.
+    /// Tells whether a primary is next.
     #[tactic(auto, unfolding(ctl_grammar::specs::Grammar::primary, ctl_grammar::specs::Grammar::number, ctl_grammar::specs::Grammar::string, ctl_grammar::specs::Grammar::null, ctl_grammar::specs::Grammar::name, ctl_grammar::specs::Grammar::identifier, ctl_grammar::specs::Grammar::allocator))]
     fn at_primary(&self) -> bool
-        ensures { result ≡ begins (starts primary) self.now.rest.now }
+        ensures { result ≡ sees (starts primary) self.now }
     {
         self.next_is(Kind::Number)
             || self.next_is(Kind::String)
@@ -295,16 +269,4 @@ impl<'a> Parser<'a> {
             || self.next_is(Kind::New)
             || self.next_is(Kind::LeftParenthesis)
     }
-}
-
-/// An assignment of the value, or a call where there is none.
-fn named_statement(name: Name, value: Option<Expression>) -> Statement
-    ensures { view_statement result ≡ assignment_of (view_name name) (optional view value) }
-{
-    let span = name.first.span;
-    let kind = match value {
-        Some(value) => StatementKind::Assignment(name, value),
-        None => StatementKind::Call(name),
-    };
-    Statement { span, kind }
 }

@@ -1,48 +1,82 @@
-//! Statements that hold others, declarative parts, bodies and handlers (RM 3.11, 5, 6.3, 11.2).
+//! Statements that hold others, and handlers (RM 5, 11.2).
 
-ghost use Rattle.std.specs.Prelude.{◌≡◌, ◌<◌, ◌≤◌, length, map, OnOk, true};
-ghost use Rattle.ctl_grammar.specs.Form.{none, written, at, pair, tag, starts, nest_starts, ◌▸◌, Conditional, Repetition, Block, Body, BareBody};
-ghost use Rattle.ctl_grammar.specs.Grammar.{spot, end_loop, statement, statements, branch, next_branch, branches, otherwise, handler, handler_list, handlers, handled, completed, overriding_item, function_item, behind_is, behind_name, procedure_item, item, part, completion, declared, body};
-ghost use Rattle.ctl_grammar.specs.Nodes.{procedure_of, row_of};
-ghost use Rattle.ctl_grammar.specs.Reading.{Gives, begins, read, construct, made};
-ghost use Rattle.ctl_parse.specs.View.{identifier_node, flag_node, specification_node, formal_row, span_node, view_item_kind, view_body_part, view_branch, view_handled, view_handler, view_item, view_statement};
+ghost use Rattle.std.specs.Prelude.{◌≡◌, map};
+ghost use Rattle.ctl_grammar.specs.Form.{none, at, pair, tag, many, nest, Conditional, Repetition, Block};
+ghost use Rattle.ctl_grammar.specs.Grammar.{statement, statements, branch, next_branch, otherwise, handler, handler_list, handlers, handled, declared, body};
+ghost use Rattle.ctl_grammar.specs.Nodes.{or_else, row_of};
+ghost use Rattle.ctl_parse.specs.Parts.{branch_node, handler_node, place_node, scheme_node, view_body, view_item, view_statement};
+ghost use Rattle.ctl_parse.specs.Reads.{Builds, Reads};
 
-use crate::cursor::Parser;
-use crate::depth::Heading;
-use ctl_grammar::refused::Refused;
+use crate::cursor::{NOWHERE, Parser};
+use crate::simple_statements::Scheme;
+use ctl_syntax::item::{Body, Branch, Handler, Item, Statement};
+use ctl_syntax::name::Identifier;
 use ctl_tree::span::Span;
 use ctl_tree::token::Kind;
-use ctl_tree::tree::{
-    BodyPart, Branch, Formal, Handled, Handler, Identifier, Item, ItemKind, Specification,
-    Statement, StatementKind,
-};
+use sqlite_items::Items;
+
+/// Gives the first place, if there is one, or else the second.
+fn earlier(start: Option<Span>, word: Span) -> Span
+    ensures { at result ≡ or_else (place_node start) (at word) }
+{
+    match start {
+        Some(span) => span,
+        None => word,
+    }
+}
+
+/// Makes a loop of how it goes on and its statements.
+fn looped(
+    span: Span,
+    scheme: Scheme,
+    statements: Items<Statement<Identifier, Identifier>>,
+) -> Statement<Identifier, Identifier>
+    ensures { view_statement result ≡ pair (at span) (tag 65 (pair (scheme_node scheme) (row_of (map view_statement statements)))) }
+{
+    match scheme {
+        Scheme::Endless => Statement::Loop(span, statements),
+        Scheme::While(condition) => Statement::While(span, condition, statements),
+        Scheme::For(parameter, direction, low, high) => {
+            Statement::For(span, parameter, direction, low, high, statements)
+        }
+    }
+}
 
 impl<'a> Parser<'a> {
-    /// `stmt {stmt}` (RM 5.1)
-    #[cycle(statements)]
-    #[tactic(auto, unfolding(ctl_grammar::specs::Grammar::statements))]
-    pub(crate) fn statements(&mut self) -> Result<Vec<Statement>, Refused>
-        ensures given { Gives (λ v. row_of (map view_statement v.items)) result self.new.rest.now (read self.old.left statements none self.old.rest.now) }
-        ensures left { OnOk result (self.new.left ≡ self.old.left) }
-        ensures shorter { OnOk result (length self.new.rest.now < length self.old.rest.now) }
+    /// Makes a block of its body.
+    #[tactic(auto, using(crate::proofs::Parts::built, crate::proofs::Parts::unbuilt))]
+    fn blocked(
+        &mut self,
+        span: Span,
+        body: Body<Identifier, Identifier>,
+    ) -> Statement<Identifier, Identifier>
+        ensures { Builds (pair (at span) (tag 66 (view_body body))) self.old (view_statement result) self.new }
     {
-        let mut all = Vec::new(self.alloc);
-        let first = self.statement()?;
-        all.push(first)?;
-        'more: while self.at_statement() {
-            let next = self.statement()?;
-            all.push(next)?;
+        match self.boxed(body) {
+            Some(body) => Statement::Block(span, body),
+            None => Statement::Null(NOWHERE),
         }
-        Ok(all)
     }
 
-    /// `stmt`
+    /// Reads `stmt {stmt}` (RM 5.1).
     #[cycle(statements)]
-    #[tactic(auto, unfolding(ctl_grammar::specs::Grammar::statement, ctl_grammar::specs::Grammar::null_statement, ctl_grammar::specs::Grammar::named_statement, ctl_grammar::specs::Grammar::exit_statement, ctl_grammar::specs::Grammar::return_statement, ctl_grammar::specs::Grammar::raise_statement, ctl_grammar::specs::Grammar::name, ctl_grammar::specs::Grammar::identifier))]
-    fn statement(&mut self) -> Result<Statement, Refused>
-        ensures given { Gives view_statement result self.new.rest.now (read self.old.left statement none self.old.rest.now) }
-        ensures left { OnOk result (self.new.left ≡ self.old.left) }
-        ensures shorter { OnOk result (length self.new.rest.now < length self.old.rest.now) }
+    fn statements(&mut self) -> Items<Statement<Identifier, Identifier>>
+        ensures { Reads statements none self.old (row_of (map view_statement result)) self.new }
+    {
+        let mut all = Items::new(self.alloc);
+        let first = self.statement();
+        self.push(&mut all, first);
+        'more: while self.at_statement() {
+            let next = self.statement();
+            self.push(&mut all, next);
+        }
+        all
+    }
+
+    /// Reads a statement.
+    #[cycle(statements)]
+    fn statement(&mut self) -> Statement<Identifier, Identifier>
+        ensures { Reads statement none self.old (view_statement result) self.new }
     {
         if self.next_is(Kind::Null) {
             self.null_statement()
@@ -63,509 +97,215 @@ impl<'a> Parser<'a> {
         }
     }
 
-    /// An if statement, a construct (RM 5.3).
+    /// Reads an if statement, a construct (RM 5.3).
     #[cycle(statements)]
-    #[tactic(auto, using(ctl_grammar::proofs::Constructs::construct_opened, ctl_grammar::proofs::Constructs::construct_full, ctl_grammar::proofs::Constructs::construct_other))]
-    fn conditional(&mut self) -> Result<Statement, Refused>
-        ensures given { Gives view_statement result self.new.rest.now (construct true true self.old.left Conditional none self.old.rest.now) }
-        ensures left { OnOk result (self.new.left ≡ self.old.left) }
-        ensures shorter { OnOk result (length self.new.rest.now < length self.old.rest.now) }
+    fn conditional(&mut self) -> Statement<Identifier, Identifier>
+        ensures { Reads (nest Conditional) none self.old (view_statement result) self.new }
     {
         let is_next = self.next_is(Kind::If);
-        self.open(is_next)?;
-        let inside = self.in_conditional()?;
-        self.close();
-        Ok(inside)
+        if self.open(is_next) {
+            let inside = self.in_conditional();
+            self.close();
+            inside
+        } else {
+            Statement::Null(NOWHERE)
+        }
     }
 
-    /// `"if" expr "then" stmts {"elsif" expr "then" stmts} ["else" stmts] "end" "if" ";"`
+    /// Reads `"if" expr "then" stmts {"elsif" expr "then" stmts} ["else" stmts] "end" "if" ";"`.
     #[cycle(statements)]
-    #[tactic(auto, unfolding(ctl_grammar::specs::Grammar::body))]
-    fn in_conditional(&mut self) -> Result<Statement, Refused>
-        ensures given { Gives view_statement result self.new.rest.now (read self.old.left (body Conditional) none self.old.rest.now) }
-        ensures left { OnOk result (self.new.left ≡ self.old.left) }
-        ensures shorter { OnOk result (length self.new.rest.now < length self.old.rest.now) }
+    fn in_conditional(&mut self) -> Statement<Identifier, Identifier>
+        ensures { Reads (body Conditional) none self.old (view_statement result) self.new }
     {
-        let span = self.mark(Kind::If)?;
-        let branches = self.branches()?;
-        let otherwise = self.otherwise()?;
-        self.end_if()?;
-        Ok(Statement {
-            span,
-            kind: StatementKind::If(branches, otherwise),
-        })
+        let span = self.mark(Kind::If);
+        let first = self.branch();
+        let more = self.next_branches();
+        let others = self.otherwise();
+        self.end_if();
+        Statement::If(span, first, more, others)
     }
 
-    /// `expr "then" stmts`
+    /// Reads `expr "then" stmts`.
     #[cycle(statements)]
-    #[tactic(auto, unfolding(ctl_grammar::specs::Grammar::branch))]
-    fn branch(&mut self) -> Result<Branch, Refused>
-        ensures given { Gives view_branch result self.new.rest.now (read self.old.left branch none self.old.rest.now) }
-        ensures left { OnOk result (self.new.left ≡ self.old.left) }
-        ensures shorter { OnOk result (length self.new.rest.now < length self.old.rest.now) }
+    fn branch(&mut self) -> Branch<Statement<Identifier, Identifier>, Identifier>
+        ensures { Reads branch none self.old (branch_node view_statement result) self.new }
     {
-        let condition = self.expression()?;
-        let condition = self.skip_giving(Kind::Then, condition)?;
-        let statements = self.statements()?;
-        Ok(Branch {
+        let condition = self.expression();
+        self.skip(Kind::Then);
+        let statements = self.statements();
+        Branch {
             condition,
             statements,
-        })
+        }
     }
 
-    /// `"elsif" expr "then" stmts`
+    /// Reads `"elsif" expr "then" stmts`.
     #[cycle(statements)]
-    #[tactic(auto, unfolding(ctl_grammar::specs::Grammar::next_branch))]
-    fn next_branch(&mut self) -> Result<Branch, Refused>
-        ensures given { Gives view_branch result self.new.rest.now (read self.old.left next_branch none self.old.rest.now) }
-        ensures left { OnOk result (self.new.left ≡ self.old.left) }
-        ensures shorter { OnOk result (length self.new.rest.now < length self.old.rest.now) }
+    fn next_branch(&mut self) -> Branch<Statement<Identifier, Identifier>, Identifier>
+        ensures { Reads next_branch none self.old (branch_node view_statement result) self.new }
     {
-        self.skip(Kind::Elsif)?;
+        self.skip(Kind::Elsif);
         self.branch()
     }
 
-    /// The branches of an if statement.
+    /// Reads the branches behind the first one.
     #[cycle(statements)]
-    #[tactic(auto, unfolding(ctl_grammar::specs::Grammar::branches))]
-    fn branches(&mut self) -> Result<Vec<Branch>, Refused>
-        ensures given { Gives (λ v. row_of (map view_branch v.items)) result self.new.rest.now (read self.old.left branches none self.old.rest.now) }
-        ensures left { OnOk result (self.new.left ≡ self.old.left) }
-        ensures shorter { OnOk result (length self.new.rest.now < length self.old.rest.now) }
+    fn next_branches(&mut self) -> Items<Branch<Statement<Identifier, Identifier>, Identifier>>
+        ensures { Reads (many next_branch) none self.old (row_of (map (branch_node view_statement) result)) self.new }
     {
-        let mut all = Vec::new(self.alloc);
-        let first = self.branch()?;
-        all.push(first)?;
+        let mut all = Items::new(self.alloc);
         'more: while self.next_is(Kind::Elsif) {
-            let next = self.next_branch()?;
-            all.push(next)?;
+            let next = self.next_branch();
+            self.push(&mut all, next);
         }
-        Ok(all)
+        all
     }
 
-    /// `["else" stmts]`
+    /// Reads `["else" stmts]`.
     #[cycle(statements)]
-    #[tactic(auto, unfolding(ctl_grammar::specs::Grammar::otherwise))]
-    fn otherwise(&mut self) -> Result<Vec<Statement>, Refused>
-        ensures given { Gives (λ v. row_of (map view_statement v.items)) result self.new.rest.now (read self.old.left otherwise none self.old.rest.now) }
-        ensures left { OnOk result (self.new.left ≡ self.old.left) }
-        ensures shorter { OnOk result (length self.new.rest.now ≤ length self.old.rest.now) }
+    fn otherwise(&mut self) -> Items<Statement<Identifier, Identifier>>
+        ensures { Reads otherwise none self.old (row_of (map view_statement result)) self.new }
     {
         if self.next_is(Kind::Else) {
-            self.skip(Kind::Else)?;
+            self.skip(Kind::Else);
             self.statements()
         } else {
-            Ok(Vec::new(self.alloc))
+            Items::new(self.alloc)
         }
     }
 
-    /// A loop, a construct (RM 5.5).
+    /// Reads a loop, a construct (RM 5.5).
     #[cycle(statements)]
-    #[tactic(auto, using(ctl_grammar::proofs::Constructs::construct_opened, ctl_grammar::proofs::Constructs::construct_full, ctl_grammar::proofs::Constructs::construct_other))]
-    fn repetition(&mut self) -> Result<Statement, Refused>
-        ensures given { Gives view_statement result self.new.rest.now (construct true true self.old.left Repetition none self.old.rest.now) }
-        ensures left { OnOk result (self.new.left ≡ self.old.left) }
-        ensures shorter { OnOk result (length self.new.rest.now < length self.old.rest.now) }
+    fn repetition(&mut self) -> Statement<Identifier, Identifier>
+        ensures { Reads (nest Repetition) none self.old (view_statement result) self.new }
     {
         let is_next = self.at_repetition();
-        self.open(is_next)?;
-        let inside = self.in_repetition()?;
-        self.close();
-        Ok(inside)
+        if self.open(is_next) {
+            let inside = self.in_repetition();
+            self.close();
+            inside
+        } else {
+            Statement::Null(NOWHERE)
+        }
     }
 
-    /// A loop.
+    /// Reads how a loop goes on, and `"loop" stmts "end" "loop" ";"`.
     #[cycle(statements)]
-    #[tactic(auto, unfolding(ctl_grammar::specs::Grammar::body))]
-    fn in_repetition(&mut self) -> Result<Statement, Refused>
-        ensures given { Gives view_statement result self.new.rest.now (read self.old.left (body Repetition) none self.old.rest.now) }
-        ensures left { OnOk result (self.new.left ≡ self.old.left) }
-        ensures shorter { OnOk result (length self.new.rest.now < length self.old.rest.now) }
+    fn in_repetition(&mut self) -> Statement<Identifier, Identifier>
+        ensures { Reads (body Repetition) none self.old (view_statement result) self.new }
     {
-        let (start, scheme) = self.scheme()?;
-        let (word, statements) = self.repeated()?;
-        let span = start.unwrap_or(word);
-        Ok(Statement {
-            span,
-            kind: StatementKind::Loop(scheme, statements),
-        })
+        let (start, scheme) = self.scheme();
+        let word = self.mark(Kind::Loop);
+        let statements = self.statements();
+        self.end_loop();
+        let span = earlier(start, word);
+        looped(span, scheme, statements)
     }
 
-    /// `"loop" stmts "end" "loop" ";"`, with its place
-    // Apart from the scheme, so that no scheme is held while statements are read.
+    /// Reads a block, a construct (RM 5.6).
     #[cycle(statements)]
-    fn repeated(&mut self) -> Result<(Span, Vec<Statement>), Refused>
-        ensures given { Gives (λ p. pair (at p.0) (pair (row_of (map view_statement p.1.items)) none)) result self.new.rest.now (read self.old.left (spot Kind.Loop ▸ statements ▸ end_loop) none self.old.rest.now) }
-        ensures left { OnOk result (self.new.left ≡ self.old.left) }
-        ensures shorter { OnOk result (length self.new.rest.now < length self.old.rest.now) }
-    {
-        let word = self.mark(Kind::Loop)?;
-        let statements = self.statements()?;
-        self.end_loop()?;
-        Ok((word, statements))
-    }
-
-    /// A block, a construct (RM 5.6).
-    #[cycle(statements)]
-    #[tactic(auto, using(ctl_grammar::proofs::Constructs::construct_opened, ctl_grammar::proofs::Constructs::construct_full, ctl_grammar::proofs::Constructs::construct_other))]
-    fn block(&mut self) -> Result<Statement, Refused>
-        ensures given { Gives view_statement result self.new.rest.now (construct true true self.old.left Block none self.old.rest.now) }
-        ensures left { OnOk result (self.new.left ≡ self.old.left) }
-        ensures shorter { OnOk result (length self.new.rest.now < length self.old.rest.now) }
+    fn block(&mut self) -> Statement<Identifier, Identifier>
+        ensures { Reads (nest Block) none self.old (view_statement result) self.new }
     {
         let is_next = self.at_block();
-        self.open(is_next)?;
-        let inside = self.in_block()?;
-        self.close();
-        Ok(inside)
-    }
-
-    /// `["declare" part] "begin" handled "end" ";"`
-    #[cycle(statements)]
-    #[tactic(auto, unfolding(ctl_grammar::specs::Grammar::body))]
-    fn in_block(&mut self) -> Result<Statement, Refused>
-        ensures given { Gives view_statement result self.new.rest.now (read self.old.left (body Block) none self.old.rest.now) }
-        ensures left { OnOk result (self.new.left ≡ self.old.left) }
-        ensures shorter { OnOk result (length self.new.rest.now < length self.old.rest.now) }
-    {
-        let (start, items) = self.declared()?;
-        let word = self.mark(Kind::Begin)?;
-        let handled = self.handled()?;
-        self.skip(Kind::End)?;
-        let block = Statement {
-            span: start.unwrap_or(word),
-            kind: StatementKind::Block(items, handled),
-        };
-        self.skip_giving(Kind::Semicolon, block)
-    }
-
-    /// `["declare" part]`, with its place
-    #[cycle(statements)]
-    #[tactic(auto, unfolding(ctl_grammar::specs::Grammar::declared))]
-    fn declared(&mut self) -> Result<(Option<Span>, Vec<Item>), Refused>
-        ensures given { Gives (λ p. pair (span_node p.0) (row_of (map view_item p.1.items))) result self.new.rest.now (read self.old.left declared none self.old.rest.now) }
-        ensures left { OnOk result (self.new.left ≡ self.old.left) }
-        ensures shorter { OnOk result (length self.new.rest.now ≤ length self.old.rest.now) }
-    {
-        if self.next_is(Kind::Declare) {
-            let span = self.mark(Kind::Declare)?;
-            let items = self.part()?;
-            Ok((Some(span), items))
+        if self.open(is_next) {
+            let inside = self.in_block();
+            self.close();
+            inside
         } else {
-            Ok((None, Vec::new(self.alloc)))
+            Statement::Null(NOWHERE)
         }
     }
 
-    /// `stmts ["exception" handler {handler}]` (RM 11.2)
+    /// Reads `["declare" part] "begin" handled "end" ";"`.
     #[cycle(statements)]
-    #[tactic(auto, unfolding(ctl_grammar::specs::Grammar::handled))]
-    pub(crate) fn handled(&mut self) -> Result<Handled, Refused>
-        ensures given { Gives view_handled result self.new.rest.now (read self.old.left handled none self.old.rest.now) }
-        ensures left { OnOk result (self.new.left ≡ self.old.left) }
-        ensures shorter { OnOk result (length self.new.rest.now < length self.old.rest.now) }
+    fn in_block(&mut self) -> Statement<Identifier, Identifier>
+        ensures { Reads (body Block) none self.old (view_statement result) self.new }
     {
-        let statements = self.statements()?;
-        let handlers = self.handlers()?;
-        Ok(Handled {
+        let (start, items) = self.declared();
+        let word = self.mark(Kind::Begin);
+        let (statements, handlers) = self.handled();
+        self.skip(Kind::End);
+        self.skip(Kind::Semicolon);
+        let span = earlier(start, word);
+        let inside = Body {
+            items,
             statements,
             handlers,
-        })
+        };
+        self.blocked(span, inside)
     }
 
-    /// `["exception" handler {handler}]`
+    /// Reads `["declare" part]`, with its place.
     #[cycle(statements)]
-    #[tactic(auto, unfolding(ctl_grammar::specs::Grammar::handlers))]
-    fn handlers(&mut self) -> Result<Vec<Handler>, Refused>
-        ensures given { Gives (λ v. row_of (map view_handler v.items)) result self.new.rest.now (read self.old.left handlers none self.old.rest.now) }
-        ensures left { OnOk result (self.new.left ≡ self.old.left) }
-        ensures shorter { OnOk result (length self.new.rest.now ≤ length self.old.rest.now) }
+    fn declared(&mut self) -> (Option<Span>, Items<Item<Identifier, Identifier>>)
+        ensures { Reads declared none self.old (pair (place_node result.0) (row_of (map view_item result.1))) self.new }
+    {
+        if self.next_is(Kind::Declare) {
+            let span = self.mark(Kind::Declare);
+            let items = self.part();
+            (Some(span), items)
+        } else {
+            (None, Items::new(self.alloc))
+        }
+    }
+
+    /// Reads `stmts ["exception" handler {handler}]` (RM 11.2).
+    #[cycle(statements)]
+    pub(crate) fn handled(
+        &mut self,
+    ) -> (
+        Items<Statement<Identifier, Identifier>>,
+        Items<Handler<Statement<Identifier, Identifier>, Identifier>>,
+    )
+        ensures { Reads handled none self.old (pair (row_of (map view_statement result.0)) (row_of (map (handler_node view_statement) result.1))) self.new }
+    {
+        let statements = self.statements();
+        let handlers = self.handlers();
+        (statements, handlers)
+    }
+
+    /// Reads `["exception" handler {handler}]`.
+    #[cycle(statements)]
+    fn handlers(&mut self) -> Items<Handler<Statement<Identifier, Identifier>, Identifier>>
+        ensures { Reads handlers none self.old (row_of (map (handler_node view_statement) result)) self.new }
     {
         if self.next_is(Kind::Exception) {
-            self.skip(Kind::Exception)?;
+            self.skip(Kind::Exception);
             self.handler_list()
         } else {
-            Ok(Vec::new(self.alloc))
+            Items::new(self.alloc)
         }
     }
 
-    /// `handler {handler}`
+    /// Reads `handler {handler}`.
     #[cycle(statements)]
-    #[tactic(auto, unfolding(ctl_grammar::specs::Grammar::handler_list))]
-    fn handler_list(&mut self) -> Result<Vec<Handler>, Refused>
-        ensures given { Gives (λ v. row_of (map view_handler v.items)) result self.new.rest.now (read self.old.left handler_list none self.old.rest.now) }
-        ensures left { OnOk result (self.new.left ≡ self.old.left) }
-        ensures shorter { OnOk result (length self.new.rest.now < length self.old.rest.now) }
+    fn handler_list(&mut self) -> Items<Handler<Statement<Identifier, Identifier>, Identifier>>
+        ensures { Reads handler_list none self.old (row_of (map (handler_node view_statement) result)) self.new }
     {
-        let mut all = Vec::new(self.alloc);
-        let first = self.handler()?;
-        all.push(first)?;
+        let mut all = Items::new(self.alloc);
+        let first = self.handler();
+        self.push(&mut all, first);
         'more: while self.next_is(Kind::When) {
-            let next = self.handler()?;
-            all.push(next)?;
+            let next = self.handler();
+            self.push(&mut all, next);
         }
-        Ok(all)
+        all
     }
 
-    /// `"when" ("others" | dotted {"|" dotted}) "=>" stmts`
+    /// Reads `"when" ("others" | dotted {"|" dotted}) "=>" stmts`.
     #[cycle(statements)]
-    #[tactic(auto, unfolding(ctl_grammar::specs::Grammar::handler))]
-    fn handler(&mut self) -> Result<Handler, Refused>
-        ensures given { Gives view_handler result self.new.rest.now (read self.old.left handler none self.old.rest.now) }
-        ensures left { OnOk result (self.new.left ≡ self.old.left) }
-        ensures shorter { OnOk result (length self.new.rest.now < length self.old.rest.now) }
+    fn handler(&mut self) -> Handler<Statement<Identifier, Identifier>, Identifier>
+        ensures { Reads handler none self.old (handler_node view_statement result) self.new }
     {
-        let span = self.mark(Kind::When)?;
-        let choices = self.choices()?;
-        self.skip(Kind::Arrow)?;
-        let statements = self.statements()?;
-        Ok(Handler {
+        let span = self.mark(Kind::When);
+        let choices = self.choices();
+        self.skip(Kind::Arrow);
+        let statements = self.statements();
+        Handler {
             span,
             choices,
             statements,
-        })
-    }
-
-    /// `{item}` (RM 3.11)
-    #[cycle(statements)]
-    #[tactic(auto, unfolding(ctl_grammar::specs::Grammar::part))]
-    pub(crate) fn part(&mut self) -> Result<Vec<Item>, Refused>
-        ensures given { Gives (λ v. row_of (map view_item v.items)) result self.new.rest.now (read self.old.left part none self.old.rest.now) }
-        ensures left { OnOk result (self.new.left ≡ self.old.left) }
-        ensures shorter { OnOk result (length self.new.rest.now ≤ length self.old.rest.now) }
-    {
-        let mut all = Vec::new(self.alloc);
-        'more: while self.at_item() {
-            let next = self.item()?;
-            all.push(next)?;
         }
-        Ok(all)
-    }
-
-    /// `item`
-    #[cycle(statements)]
-    #[tactic(auto, unfolding(ctl_grammar::specs::Grammar::item, ctl_grammar::specs::Grammar::overriding_item, ctl_grammar::specs::Grammar::procedure_item, ctl_grammar::specs::Grammar::completed_procedure, ctl_grammar::specs::Grammar::function_item, ctl_grammar::specs::Grammar::completed_function, ctl_grammar::specs::Grammar::function, ctl_grammar::specs::Grammar::type_item, ctl_grammar::specs::Grammar::clause))]
-    fn item(&mut self) -> Result<Item, Refused>
-        ensures given { Gives view_item result self.new.rest.now (read self.old.left item none self.old.rest.now) }
-        ensures left { OnOk result (self.new.left ≡ self.old.left) }
-        ensures shorter { OnOk result (length self.new.rest.now < length self.old.rest.now) }
-    {
-        if self.next_is(Kind::Overriding) {
-            self.overriding_item()
-        } else if self.next_is(Kind::Procedure) {
-            self.procedure_item()
-        } else if self.next_is(Kind::Function) {
-            self.function_item()
-        } else if self.next_is(Kind::Type) {
-            self.type_item()
-        } else if self.next_is(Kind::For) {
-            self.clause()
-        } else {
-            self.named_item()
-        }
-    }
-
-    /// `"overriding" spec ";" | "overriding" body` (RM 8.3.1)
-    #[cycle(statements)]
-    #[tactic(auto, using(ctl_grammar::proofs::Late::specification_here, ctl_grammar::proofs::Late::specification_past), unfolding(ctl_grammar::specs::Grammar::overriding_item))]
-    fn overriding_item(&mut self) -> Result<Item, Refused>
-        ensures given { Gives view_item result self.new.rest.now (read self.old.left overriding_item none self.old.rest.now) }
-        ensures left { OnOk result (self.new.left ≡ self.old.left) }
-        ensures shorter { OnOk result (length self.new.rest.now < length self.old.rest.now) }
-    {
-        let span = self.mark(Kind::Overriding)?;
-        self.refuse_deep_body(Heading::Any)?;
-        let specification = self.specification()?;
-        let kind = self.completed(true, specification)?;
-        Ok(Item { span, kind })
-    }
-
-    /// `spec ";" | body` of a function
-    #[cycle(statements)]
-    #[tactic(auto, using(ctl_grammar::proofs::Late::function_here, ctl_grammar::proofs::Late::function_past), unfolding(ctl_grammar::specs::Grammar::function_item))]
-    fn function_item(&mut self) -> Result<Item, Refused>
-        ensures given { Gives view_item result self.new.rest.now (read self.old.left function_item none self.old.rest.now) }
-        ensures left { OnOk result (self.new.left ≡ self.old.left) }
-        ensures shorter { OnOk result (length self.new.rest.now < length self.old.rest.now) }
-    {
-        self.refuse_deep_body(Heading::Function)?;
-        let specification = self.function()?;
-        let span = specification.span;
-        let kind = self.completed(false, specification)?;
-        Ok(Item { span, kind })
-    }
-
-    /// `spec ";" | body` of a procedure, or an instance
-    #[cycle(statements)]
-    #[tactic(auto, using(ctl_grammar::proofs::Late::procedure_here, ctl_grammar::proofs::Late::procedure_past), unfolding(ctl_grammar::specs::Grammar::procedure_item))]
-    fn procedure_item(&mut self) -> Result<Item, Refused>
-        ensures given { Gives view_item result self.new.rest.now (read self.old.left procedure_item none self.old.rest.now) }
-        ensures left { OnOk result (self.new.left ≡ self.old.left) }
-        ensures shorter { OnOk result (length self.new.rest.now < length self.old.rest.now) }
-    {
-        self.refuse_deep_body(Heading::Procedure)?;
-        let span = self.mark(Kind::Procedure)?;
-        let name = self.identifier()?;
-        let kind = self.procedure_kind(span, name)?;
-        Ok(Item { span, kind })
-    }
-
-    /// What stands behind the name of a procedure that does not say `overriding`.
-    #[cycle(statements)]
-    #[tactic(auto, unfolding(ctl_grammar::specs::Grammar::behind_name))]
-    fn procedure_kind(&mut self, span: Span, name: Identifier) -> Result<ItemKind, Refused>
-        ensures given { Gives view_item_kind result self.new.rest.now (made (λ v. procedure_of (at span) (identifier_node name) v) (read self.old.left behind_name (written name.name) self.old.rest.now)) }
-        ensures left { OnOk result (self.new.left ≡ self.old.left) }
-        ensures shorter { OnOk result (length self.new.rest.now < length self.old.rest.now) }
-    {
-        if self.next_is(Kind::LeftParenthesis) {
-            let formals = self.formals()?;
-            let specification = plain_procedure(span, name, formals);
-            self.completed(false, specification)
-        } else if self.next_is(Kind::Is) {
-            self.skip(Kind::Is)?;
-            self.procedure_behind_is(span, name)
-        } else {
-            self.skip(Kind::Semicolon)?;
-            let specification = plain_procedure(span, name, Vec::new(self.alloc));
-            Ok(ItemKind::Declaration(false, specification))
-        }
-    }
-
-    /// An instance, or a body of a procedure without parameters, behind its `is`.
-    #[cycle(statements)]
-    #[tactic(auto, unfolding(ctl_grammar::specs::Grammar::behind_is, ctl_grammar::specs::Grammar::instance, ctl_grammar::specs::Grammar::behind))]
-    fn procedure_behind_is(&mut self, span: Span, name: Identifier) -> Result<ItemKind, Refused>
-        ensures given { Gives view_item_kind result self.new.rest.now (made (λ v. procedure_of (at span) (identifier_node name) v) (read self.old.left behind_is (written name.name) self.old.rest.now)) }
-        ensures left { OnOk result (self.new.left ≡ self.old.left) }
-        ensures shorter { OnOk result (length self.new.rest.now < length self.old.rest.now) }
-    {
-        if self.next_is(Kind::New) {
-            self.instance(name)
-        } else {
-            let body = self.bare_body(&name)?;
-            let specification = plain_procedure(span, name, Vec::new(self.alloc));
-            Ok(ItemKind::Body(false, specification, body))
-        }
-    }
-
-    /// A semicolon, or a body, behind a heading.
-    #[cycle(statements)]
-    #[tactic(auto, unfolding(ctl_grammar::specs::Grammar::completed))]
-    fn completed(
-        &mut self,
-        is_overriding: bool,
-        specification: Specification,
-    ) -> Result<ItemKind, Refused>
-        ensures given { Gives view_item_kind result self.new.rest.now (made (λ v. tag 53 (pair (flag_node is_overriding) (pair (specification_node specification) v))) (read self.old.left completed (written specification.name.name) self.old.rest.now)) }
-        ensures left { OnOk result (self.new.left ≡ self.old.left) }
-        ensures shorter { OnOk result (length self.new.rest.now < length self.old.rest.now) }
-    {
-        if self.next_is(Kind::Semicolon) {
-            self.skip_giving(
-                Kind::Semicolon,
-                ItemKind::Declaration(is_overriding, specification),
-            )
-        } else {
-            let body = self.body(&specification.name)?;
-            Ok(ItemKind::Body(is_overriding, specification, body))
-        }
-    }
-
-    /// What stands behind the heading of a body, a construct (RM 6.3).
-    #[cycle(statements)]
-    #[tactic(auto, using(ctl_grammar::proofs::Constructs::construct_opened, ctl_grammar::proofs::Constructs::construct_full, ctl_grammar::proofs::Constructs::construct_other))]
-    pub(crate) fn body(&mut self, name: &Identifier) -> Result<BodyPart, Refused>
-        ensures given { Gives view_body_part result self.new.rest.now (construct true true self.old.left Body (written name.now.name) self.old.rest.now) }
-        ensures left { OnOk result (self.new.left ≡ self.old.left) }
-        ensures shorter { OnOk result (length self.new.rest.now < length self.old.rest.now) }
-    {
-        let is_next = self.next_is(Kind::Is);
-        self.open(is_next)?;
-        let inside = self.in_body(name)?;
-        self.close();
-        Ok(inside)
-    }
-
-    /// `"is" part "begin" handled "end" [id] ";"`
-    #[cycle(statements)]
-    #[tactic(auto, unfolding(ctl_grammar::specs::Grammar::body))]
-    fn in_body(&mut self, name: &Identifier) -> Result<BodyPart, Refused>
-        ensures given { Gives view_body_part result self.new.rest.now (read self.old.left (body Body) (written name.now.name) self.old.rest.now) }
-        ensures left { OnOk result (self.new.left ≡ self.old.left) }
-        ensures shorter { OnOk result (length self.new.rest.now < length self.old.rest.now) }
-    {
-        self.skip(Kind::Is)?;
-        self.in_bare_body(name)
-    }
-
-    /// What stands behind the `is` of a body, a construct (RM 6.3).
-    #[cycle(statements)]
-    #[tactic(auto, using(ctl_grammar::proofs::Constructs::construct_opened, ctl_grammar::proofs::Constructs::construct_full, ctl_grammar::proofs::Constructs::construct_other), unfolding(ctl_grammar::specs::Grammar::body))]
-    fn bare_body(&mut self, name: &Identifier) -> Result<BodyPart, Refused>
-        ensures given { Gives view_body_part result self.new.rest.now (construct true true self.old.left BareBody (written name.now.name) self.old.rest.now) }
-        ensures left { OnOk result (self.new.left ≡ self.old.left) }
-        ensures shorter { OnOk result (length self.new.rest.now < length self.old.rest.now) }
-    {
-        let is_next = self.at_bare_body();
-        self.open(is_next)?;
-        let inside = self.in_bare_body(name)?;
-        self.close();
-        Ok(inside)
-    }
-
-    /// `part "begin" handled "end" [id] ";"`
-    #[cycle(statements)]
-    #[tactic(auto, unfolding(ctl_grammar::specs::Grammar::completion))]
-    fn in_bare_body(&mut self, name: &Identifier) -> Result<BodyPart, Refused>
-        ensures given { Gives view_body_part result self.new.rest.now (read self.old.left completion (written name.now.name) self.old.rest.now) }
-        ensures left { OnOk result (self.new.left ≡ self.old.left) }
-        ensures shorter { OnOk result (length self.new.rest.now < length self.old.rest.now) }
-    {
-        let items = self.part()?;
-        self.skip(Kind::Begin)?;
-        let handled = self.handled()?;
-        self.skip(Kind::End)?;
-        let end_name = self.end_name(name)?;
-        self.skip_giving(
-            Kind::Semicolon,
-            BodyPart {
-                items,
-                handled,
-                end_name,
-            },
-        )
-    }
-
-    /// Whether an item is next.
-    #[tactic(auto, unfolding(ctl_grammar::specs::Grammar::item, ctl_grammar::specs::Grammar::overriding_item, ctl_grammar::specs::Grammar::procedure_item, ctl_grammar::specs::Grammar::completed_procedure, ctl_grammar::specs::Grammar::function_item, ctl_grammar::specs::Grammar::completed_function, ctl_grammar::specs::Grammar::function, ctl_grammar::specs::Grammar::type_item, ctl_grammar::specs::Grammar::clause, ctl_grammar::specs::Grammar::named_item, ctl_grammar::specs::Grammar::identifiers, ctl_grammar::specs::Grammar::identifier))]
-    pub(crate) fn at_item(&self) -> bool
-        ensures { result ≡ begins (starts item) self.now.rest.now }
-    {
-        self.next_is(Kind::Overriding)
-            || self.next_is(Kind::Procedure)
-            || self.next_is(Kind::Function)
-            || self.next_is(Kind::Type)
-            || self.next_is(Kind::For)
-            || self.next_is(Kind::Identifier)
-    }
-
-    /// Whether what stands behind the `is` of a body is next.
-    #[tactic(auto, using(ctl_grammar::proofs::First::bare_body_begins))]
-    pub(crate) fn at_bare_body(&self) -> bool
-        ensures { result ≡ begins (nest_starts BareBody) self.now.rest.now }
-    {
-        self.at_item() || self.next_is(Kind::Begin)
-    }
-}
-
-/// The heading of a procedure.
-fn plain_procedure(span: Span, name: Identifier, formals: Vec<Formal>) -> Specification
-    ensures { specification_node result ≡ pair (at span) (pair (identifier_node name) (pair (formal_row formals.items) none)) }
-{
-    Specification {
-        span,
-        name,
-        formals,
-        result: None,
     }
 }

@@ -1,118 +1,124 @@
 //! Definitions of types (RM 3).
 
-ghost use Rattle.std.specs.Prelude.{◌≡◌, ◌<◌, ◌≤◌, length, map, OnOk};
-ghost use Rattle.ctl_grammar.specs.Form.{none};
-ghost use Rattle.ctl_grammar.specs.Grammar.{optional_value, component, component_list, components, null_record, full_record, recorded, limited_record, extension, aspect, designated_attribute, access, definition};
+ghost use Rattle.std.specs.Prelude.{◌≡◌, ◌∷◌, [], map};
+ghost use Rattle.ctl_grammar.specs.Form.{Node, none, pair, tag};
+ghost use Rattle.ctl_grammar.specs.Grammar.{flag, optional_value, component, component_list, components, null_record, full_record, recorded, limited_record, extension, aspect, designated_attribute, access, definition, defined, type_kind, type_item, clause};
 ghost use Rattle.ctl_grammar.specs.Nodes.{row_of};
-ghost use Rattle.ctl_grammar.specs.Reading.{Gives, read};
-ghost use Rattle.ctl_parse.specs.View.{optional, view, named, component_node, aspect_node, definition_node};
+ghost use Rattle.ctl_parse.specs.Parts.{aspect_node, components_node, defined_node, definition_node, generality_node, item_kind_node, view_body, view_item};
+ghost use Rattle.ctl_parse.specs.Reads.{Reads};
+ghost use Rattle.ctl_parse.specs.View.{identifier_node, mark_node, optional, view};
 
 use crate::cursor::Parser;
-use crate::known::Known;
-use ctl_grammar::refused::Refused;
-use ctl_tree::token::Kind;
-use ctl_tree::tree::{
-    AccessDefinition, Aspect, ComponentDeclaration, Definition, Expression, Identifier,
+use ctl_syntax::expression::Expression;
+use ctl_syntax::item::{
+    Body, Components, Coverage, Definition, Generality, Item, ItemKind, Limitation, Taggedness,
 };
+use ctl_syntax::name::{Identifier, Mark};
+use ctl_tree::token::Kind;
+use sqlite_items::{Boxed, Items};
+
+/// What stands behind the name of a type.
+#[derive(Drop)]
+pub(crate) enum Defined {
+    /// An incomplete type (RM 3.10.1).
+    Incomplete(Taggedness),
+    /// A type with its definition (RM 3.2.1).
+    Full(Definition<Identifier>),
+}
+
+/// Makes the declaration of a type of its name and what stands behind it.
+fn type_kind_of(
+    name: Identifier,
+    defined: Defined,
+) -> ItemKind<Identifier, Identifier, Boxed<Body<Identifier, Identifier>>>
+    ensures { item_kind_node view_body result ≡ tag 50 (pair (identifier_node name) (defined_node defined)) }
+{
+    match defined {
+        Defined::Incomplete(taggedness) => ItemKind::Incomplete(name, taggedness),
+        Defined::Full(definition) => ItemKind::Type(name, definition),
+    }
+}
 
 impl<'a> Parser<'a> {
-    /// `[":=" expr]`
-    #[tactic(auto, unfolding(ctl_grammar::specs::Grammar::optional_value))]
-    pub(crate) fn optional_value(&mut self) -> Result<Option<Expression>, Refused>
-        ensures given { Gives (optional view) result self.new.rest.now (read self.old.left optional_value none self.old.rest.now) }
-        ensures left { OnOk result (self.new.left ≡ self.old.left) }
-        ensures shorter { OnOk result (length self.new.rest.now ≤ length self.old.rest.now) }
+    /// Reads `[":=" expr]`.
+    pub(crate) fn optional_value(&mut self) -> Option<Expression<Identifier>>
+        ensures { Reads optional_value none self.old (optional view result) self.new }
     {
         if self.next_is(Kind::Becomes) {
-            self.skip(Kind::Becomes)?;
-            let value = self.expression()?;
-            Ok(Some(value))
+            self.skip(Kind::Becomes);
+            let value = self.expression();
+            Some(value)
         } else {
-            Ok(None)
+            None
         }
     }
 
-    /// `ids ":" dotted [":=" expr] ";"` (RM 3.8)
-    #[tactic(auto, unfolding(ctl_grammar::specs::Grammar::component))]
-    fn component(&mut self) -> Result<ComponentDeclaration, Refused>
-        ensures given { Gives component_node result self.new.rest.now (read self.old.left component none self.old.rest.now) }
-        ensures left { OnOk result (self.new.left ≡ self.old.left) }
-        ensures shorter { OnOk result (length self.new.rest.now < length self.old.rest.now) }
+    /// Reads `ids ":" dotted [":=" expr] ";"` (RM 3.8).
+    fn component(&mut self) -> Components<Identifier>
+        ensures { Reads component none self.old (components_node result) self.new }
     {
-        let (_, names) = self.identifiers()?;
-        self.skip(Kind::Colon)?;
-        let mark = self.dotted()?;
-        let default = self.optional_value()?;
-        let component = ComponentDeclaration {
+        let (_, names) = self.identifiers();
+        self.skip(Kind::Colon);
+        let mark = self.dotted();
+        let default = self.optional_value();
+        self.skip(Kind::Semicolon);
+        Components {
             names,
             mark,
             default,
-        };
-        self.skip_giving(Kind::Semicolon, component)
-    }
-
-    /// `comp {comp}`
-    #[tactic(auto, unfolding(ctl_grammar::specs::Grammar::component_list))]
-    fn component_list(&mut self) -> Result<Vec<ComponentDeclaration>, Refused>
-        ensures given { Gives (λ v. row_of (map component_node v.items)) result self.new.rest.now (read self.old.left component_list none self.old.rest.now) }
-        ensures left { OnOk result (self.new.left ≡ self.old.left) }
-        ensures shorter { OnOk result (length self.new.rest.now < length self.old.rest.now) }
-    {
-        let mut all = Vec::new(self.alloc);
-        let first = self.component()?;
-        all.push(first)?;
-        'more: while self.next_is(Kind::Identifier) {
-            let next = self.component()?;
-            all.push(next)?;
         }
-        Ok(all)
     }
 
-    /// `"null" ";" | comp {comp}`
-    #[tactic(auto, unfolding(ctl_grammar::specs::Grammar::components))]
-    fn components(&mut self) -> Result<Vec<ComponentDeclaration>, Refused>
-        ensures given { Gives (λ v. row_of (map component_node v.items)) result self.new.rest.now (read self.old.left components none self.old.rest.now) }
-        ensures left { OnOk result (self.new.left ≡ self.old.left) }
-        ensures shorter { OnOk result (length self.new.rest.now < length self.old.rest.now) }
+    /// Reads `comp {comp}`.
+    fn component_list(&mut self) -> Items<Components<Identifier>>
+        ensures { Reads component_list none self.old (row_of (map components_node result)) self.new }
+    {
+        let mut all = Items::new(self.alloc);
+        let first = self.component();
+        self.push(&mut all, first);
+        'more: while self.next_is(Kind::Identifier) {
+            let next = self.component();
+            self.push(&mut all, next);
+        }
+        all
+    }
+
+    /// Reads `"null" ";" | comp {comp}`.
+    fn components(&mut self) -> Items<Components<Identifier>>
+        ensures { Reads components none self.old (row_of (map components_node result)) self.new }
     {
         if self.next_is(Kind::Null) {
-            self.skip(Kind::Null)?;
-            self.skip_giving(Kind::Semicolon, Vec::new(self.alloc))
+            self.skip(Kind::Null);
+            self.skip(Kind::Semicolon);
+            Items::new(self.alloc)
         } else {
             self.component_list()
         }
     }
 
-    /// `"null" "record"`
-    #[tactic(auto, unfolding(ctl_grammar::specs::Grammar::null_record))]
-    fn null_record(&mut self) -> Result<Vec<ComponentDeclaration>, Refused>
-        ensures given { Gives (λ v. row_of (map component_node v.items)) result self.new.rest.now (read self.old.left null_record none self.old.rest.now) }
-        ensures left { OnOk result (self.new.left ≡ self.old.left) }
-        ensures shorter { OnOk result (length self.new.rest.now < length self.old.rest.now) }
+    /// Reads `"null" "record"`.
+    fn null_record(&mut self) -> Items<Components<Identifier>>
+        ensures { Reads null_record none self.old (row_of (map components_node result)) self.new }
     {
-        self.skip(Kind::Null)?;
-        self.skip_giving(Kind::Record, Vec::new(self.alloc))
+        self.skip(Kind::Null);
+        self.skip(Kind::Record);
+        Items::new(self.alloc)
     }
 
-    /// `"record" ("null" ";" | comp {comp}) "end" "record"`
-    #[tactic(auto, unfolding(ctl_grammar::specs::Grammar::full_record))]
-    fn full_record(&mut self) -> Result<Vec<ComponentDeclaration>, Refused>
-        ensures given { Gives (λ v. row_of (map component_node v.items)) result self.new.rest.now (read self.old.left full_record none self.old.rest.now) }
-        ensures left { OnOk result (self.new.left ≡ self.old.left) }
-        ensures shorter { OnOk result (length self.new.rest.now < length self.old.rest.now) }
+    /// Reads `"record" ("null" ";" | comp {comp}) "end" "record"`.
+    fn full_record(&mut self) -> Items<Components<Identifier>>
+        ensures { Reads full_record none self.old (row_of (map components_node result)) self.new }
     {
-        self.skip(Kind::Record)?;
-        let components = self.components()?;
-        self.skip(Kind::End)?;
-        self.skip_giving(Kind::Record, components)
+        self.skip(Kind::Record);
+        let components = self.components();
+        self.skip(Kind::End);
+        self.skip(Kind::Record);
+        components
     }
 
-    /// `recdef`
-    #[tactic(auto, unfolding(ctl_grammar::specs::Grammar::recorded, ctl_grammar::specs::Grammar::null_record, ctl_grammar::specs::Grammar::full_record))]
-    fn record(&mut self) -> Result<Vec<ComponentDeclaration>, Refused>
-        ensures given { Gives (λ v. row_of (map component_node v.items)) result self.new.rest.now (read self.old.left recorded none self.old.rest.now) }
-        ensures left { OnOk result (self.new.left ≡ self.old.left) }
-        ensures shorter { OnOk result (length self.new.rest.now < length self.old.rest.now) }
+    /// Reads the definition of a record (RM 3.8).
+    fn recorded(&mut self) -> Items<Components<Identifier>>
+        ensures { Reads recorded none self.old (row_of (map components_node result)) self.new }
     {
         if self.next_is(Kind::Null) {
             self.null_record()
@@ -121,91 +127,77 @@ impl<'a> Parser<'a> {
         }
     }
 
-    /// `"limited" recdef`
-    #[tactic(auto, unfolding(ctl_grammar::specs::Grammar::limited_record))]
-    fn limited_record(&mut self) -> Result<Definition, Refused>
-        ensures given { Gives definition_node result self.new.rest.now (read self.old.left limited_record none self.old.rest.now) }
-        ensures left { OnOk result (self.new.left ≡ self.old.left) }
-        ensures shorter { OnOk result (length self.new.rest.now < length self.old.rest.now) }
+    /// Reads `"limited"` and the definition of a record (RM 7.5).
+    fn limited_record(&mut self) -> Definition<Identifier>
+        ensures { Reads limited_record none self.old (definition_node result) self.new }
     {
-        self.skip(Kind::Limited)?;
-        let components = self.record()?;
-        Ok(Definition::Record(true, components))
+        self.skip(Kind::Limited);
+        let components = self.recorded();
+        Definition::Record(Limitation::Limited, components)
     }
 
-    /// `"new" dotted "with" recdef` (RM 3.9.1)
-    #[tactic(auto, unfolding(ctl_grammar::specs::Grammar::extension))]
-    fn extension(&mut self) -> Result<Definition, Refused>
-        ensures given { Gives definition_node result self.new.rest.now (read self.old.left extension none self.old.rest.now) }
-        ensures left { OnOk result (self.new.left ≡ self.old.left) }
-        ensures shorter { OnOk result (length self.new.rest.now < length self.old.rest.now) }
+    /// Reads `"new" dotted "with"` and the definition of a record (RM 3.9.1).
+    fn extension(&mut self) -> Definition<Identifier>
+        ensures { Reads extension none self.old (definition_node result) self.new }
     {
-        let parent = self.behind(Kind::New)?;
-        self.skip(Kind::With)?;
-        let components = self.record()?;
-        Ok(Definition::Extension(parent, components))
+        let parent = self.behind(Kind::New);
+        self.skip(Kind::With);
+        let components = self.recorded();
+        Definition::Extension(parent, components)
     }
 
-    /// `["'" id]` of an access type, where the subset has no attribute
-    #[tactic(auto, unfolding(ctl_grammar::specs::Grammar::designated_attribute))]
-    fn designated_attribute(&mut self) -> Result<Option<Identifier>, Refused>
-        ensures given { Gives named result self.new.rest.now (read self.old.left designated_attribute none self.old.rest.now) }
-        ensures left { OnOk result (self.new.left ≡ self.old.left) }
-        ensures shorter { OnOk result (length self.new.rest.now ≤ length self.old.rest.now) }
+    /// Reads `["'" id]` of an access type, where the subset has no attribute.
+    fn designated_attribute(&mut self)
+        ensures { Reads designated_attribute none self.old none self.new }
     {
         if self.next_is(Kind::Apostrophe) {
-            self.skip(Kind::Apostrophe)?;
-            let attribute = self.known(Known::Nothing)?;
-            Ok(Some(attribute))
-        } else {
-            Ok(None)
+            self.skip(Kind::Apostrophe);
+            self.unknown();
         }
     }
 
-    /// `["with" id "=>" dotted]` (RM 13.1.1)
-    #[tactic(auto, unfolding(ctl_grammar::specs::Grammar::aspect))]
-    fn aspect(&mut self) -> Result<Option<Aspect>, Refused>
-        ensures given { Gives aspect_node result self.new.rest.now (read self.old.left aspect none self.old.rest.now) }
-        ensures left { OnOk result (self.new.left ≡ self.old.left) }
-        ensures shorter { OnOk result (length self.new.rest.now ≤ length self.old.rest.now) }
+    /// Reads `["with" "Storage_Pool" "=>" dotted]` (RM 13.1.1, 13.11).
+    fn aspect(&mut self) -> Option<Mark<Identifier>>
+        ensures { (word : Node) × Reads aspect none self.old (aspect_node word result) self.new }
     {
         if self.next_is(Kind::With) {
-            self.skip(Kind::With)?;
-            let name = self.known(Known::StoragePool)?;
-            self.skip(Kind::Arrow)?;
-            let pool = self.dotted()?;
-            Ok(Some(Aspect { name, pool }))
+            self.skip(Kind::With);
+            let _ = self.storage_pool();
+            self.skip(Kind::Arrow);
+            let pool = self.dotted();
+            Some(pool)
         } else {
-            Ok(None)
+            None
         }
     }
 
-    /// `"access" ["all"] dotted ["'" id] ["with" id "=>" dotted]` (RM 3.10)
-    #[tactic(auto, unfolding(ctl_grammar::specs::Grammar::access))]
-    fn access(&mut self) -> Result<Definition, Refused>
-        ensures given { Gives definition_node result self.new.rest.now (read self.old.left access none self.old.rest.now) }
-        ensures left { OnOk result (self.new.left ≡ self.old.left) }
-        ensures shorter { OnOk result (length self.new.rest.now < length self.old.rest.now) }
+    /// Reads `["all"]`.
+    fn generality(&mut self) -> Generality
+        ensures { Reads (flag Kind.All) none self.old (generality_node result) self.new }
     {
-        self.skip(Kind::Access)?;
-        let is_general = self.took(Kind::All)?;
-        let designated = self.dotted()?;
-        let attribute = self.designated_attribute()?;
-        let aspect = self.aspect()?;
-        Ok(Definition::Access(AccessDefinition {
-            is_general,
-            designated,
-            attribute,
-            aspect,
-        }))
+        if self.next_is(Kind::All) {
+            self.skip(Kind::All);
+            Generality::General
+        } else {
+            Generality::PoolSpecific
+        }
     }
 
-    /// `typedef`
-    #[tactic(auto, unfolding(ctl_grammar::specs::Grammar::definition, ctl_grammar::specs::Grammar::limited_record, ctl_grammar::specs::Grammar::extension, ctl_grammar::specs::Grammar::access, ctl_grammar::specs::Grammar::behind))]
-    pub(crate) fn definition(&mut self) -> Result<Definition, Refused>
-        ensures given { Gives definition_node result self.new.rest.now (read self.old.left definition none self.old.rest.now) }
-        ensures left { OnOk result (self.new.left ≡ self.old.left) }
-        ensures shorter { OnOk result (length self.new.rest.now < length self.old.rest.now) }
+    /// Reads `"access" ["all"] dotted ["'" id] [aspect]` (RM 3.10).
+    fn access(&mut self) -> Definition<Identifier>
+        ensures { Reads access none self.old (definition_node result) self.new }
+    {
+        self.skip(Kind::Access);
+        let generality = self.generality();
+        let designated = self.dotted();
+        self.designated_attribute();
+        let pool = self.aspect();
+        Definition::Access(generality, designated, Coverage::Specific, pool)
+    }
+
+    /// Reads the definition of a type (RM 3.2.1).
+    fn definition(&mut self) -> Definition<Identifier>
+        ensures { Reads definition none self.old (definition_node result) self.new }
     {
         if self.next_is(Kind::Limited) {
             self.limited_record()
@@ -214,8 +206,61 @@ impl<'a> Parser<'a> {
         } else if self.next_is(Kind::Access) {
             self.access()
         } else {
-            let components = self.record()?;
-            Ok(Definition::Record(false, components))
+            let components = self.recorded();
+            Definition::Record(Limitation::Nonlimited, components)
+        }
+    }
+
+    /// Reads what stands between the `is` of a type and its semicolon.
+    fn defined(&mut self) -> Defined
+        ensures { Reads defined none self.old (defined_node result) self.new }
+    {
+        if self.next_is(Kind::Tagged) {
+            self.skip(Kind::Tagged);
+            Defined::Incomplete(Taggedness::Tagged)
+        } else {
+            let definition = self.definition();
+            Defined::Full(definition)
+        }
+    }
+
+    /// Reads what stands between the name of a type and its semicolon.
+    fn type_kind(&mut self) -> Defined
+        ensures { Reads type_kind none self.old (defined_node result) self.new }
+    {
+        if self.next_is(Kind::Is) {
+            self.skip(Kind::Is);
+            self.defined()
+        } else {
+            Defined::Incomplete(Taggedness::Unsaid)
+        }
+    }
+
+    /// Reads `"type" id ["is" "tagged"] ";" | "type" id "is" typedef ";"` (RM 3.2.1, 3.10.1).
+    pub(crate) fn type_item(&mut self) -> Item<Identifier, Identifier>
+        ensures { Reads type_item none self.old (view_item result) self.new }
+    {
+        let span = self.mark(Kind::Type);
+        let name = self.identifier();
+        let defined = self.type_kind();
+        self.skip(Kind::Semicolon);
+        let kind = type_kind_of(name, defined);
+        Item { span, kind }
+    }
+
+    /// Reads `"for" id "'" "Storage_Pool" "use" dotted ";"` (RM 13.3, 13.11).
+    pub(crate) fn clause(&mut self) -> Item<Identifier, Identifier>
+        ensures { Reads clause none self.old (view_item result) self.new }
+    {
+        let span = self.mark(Kind::For);
+        let name = self.identifier();
+        self.skip(Kind::Apostrophe);
+        let _ = self.storage_pool();
+        let pool = self.behind(Kind::Use);
+        self.skip(Kind::Semicolon);
+        Item {
+            span,
+            kind: ItemKind::StoragePool(name, pool),
         }
     }
 }

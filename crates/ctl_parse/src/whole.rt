@@ -1,64 +1,67 @@
 //! The whole of a source text.
 
-ghost use Rattle.std.specs.Prelude.{◌≡◌, ◌⊎◌, IfOk, IfErr, OnOk, MatchResult};
+ghost use Rattle.std.specs.Prelude.{◌≡◌, ◌⊎◌, IfOk, IfErr, MatchResult};
 ghost use Rattle.ctl_tree.specs.declared.fault.Fault.{Fault};
 ghost use Rattle.ctl_grammar.specs.Form.{Node, none};
 ghost use Rattle.ctl_grammar.specs.Grammar.{program};
-ghost use Rattle.ctl_grammar.specs.Reading.{Gives, read};
 ghost use Rattle.ctl_grammar.specs.Text.{IsProgram, answer};
 ghost use Rattle.ctl_grammar.specs.Fault.{HasGrammarFault, code_of, fault_at};
-ghost use Rattle.ctl_parse.specs.Memory.{IsMemory};
-ghost use Rattle.ctl_parse.specs.View.{tree_node};
+ghost use Rattle.ctl_parse.specs.Kept.{kept_program};
+ghost use Rattle.ctl_parse.specs.Memory.{IsMemory, Tells};
+ghost use Rattle.ctl_parse.specs.Parts.{program_node, tree_node};
+ghost use Rattle.ctl_parse.specs.Reads.{Ends, Goes, Reads};
 
 use crate::cursor::Parser;
 use ctl_grammar::kind::is_left_out;
 use ctl_grammar::refused::{Reason, Refused};
+use ctl_syntax::denoted::Written;
+use ctl_syntax::item::Tree;
 use ctl_tree::fault::{Fault, FaultCode};
 use ctl_tree::span::Span;
 use ctl_tree::token::{Kind, Token};
-use ctl_tree::tree::Tree;
 use std::alloc::Global;
 
 /// How many constructs may be open: bodies of subprograms, blocks, ifs, loops and pairs of parentheses.
 pub const ROOM: u32 = 100;
 
 impl<'a> Parser<'a> {
-    /// `{context} "procedure" id "is" part "begin" handled "end" [id] ";"`, and the end mark
-    #[tactic(auto, unfolding(ctl_grammar::specs::Grammar::program))]
-    fn program(&mut self) -> Result<Tree, Refused>
-        ensures given { Gives tree_node result self.new.rest.now (read self.old.left program none self.old.rest.now) }
-        ensures left { OnOk result (self.new.left ≡ self.old.left) }
+    /// Reads `{context} "procedure" id "is" part "begin" handled "end" [id] ";"`, and the end mark (RM 10.1.1).
+    fn program(&mut self) -> Written
+        ensures { (end : Node) × Reads program none self.old (program_node result end) self.new }
     {
-        let contexts = self.contexts()?;
-        let span = self.mark(Kind::Procedure)?;
-        let name = self.identifier()?;
-        let body = self.body(&name)?;
-        self.skip_giving(
-            Kind::Finish,
-            Tree {
-                contexts,
-                span,
-                name,
-                body,
-            },
-        )
+        let contexts = self.contexts();
+        let span = self.mark(Kind::Procedure);
+        let name = self.identifier();
+        let body = self.body(&name);
+        self.skip(Kind::Finish);
+        Tree {
+            contexts,
+            span,
+            name,
+            body,
+        }
     }
 
-    /// The program, and no token behind it.
-    #[tactic(auto, unfolding(ctl_grammar::specs::Text::answer))]
-    fn whole(&mut self) -> Result<Tree, Refused>
-        ensures given { Gives tree_node result self.new.rest.now (answer self.old.left self.old.rest.now) }
-        ensures left { OnOk result (self.new.left ≡ self.old.left) }
+    /// Refuses a token behind the end.
+    fn end(&mut self)
+        ensures { Ends self.old self.new }
     {
-        let program = self.program()?;
-        match self.rest.first() {
-            None => Ok(program),
-            Some(_) => Err(Refused::Token(Reason::Unexpected)),
+        if self.fault.is_none() && !self.rest.is_empty() {
+            self.fault = Some(Refused::Token(Reason::Unexpected));
         }
+    }
+
+    /// Reads the program, and no token behind it.
+    fn whole(&mut self) -> Written
+        ensures { (end : Node) × Goes self.old.fault self.old.rest.now (answer self.old.left self.old.rest.now) (program_node result end) self.new.fault self.new.rest.now }
+    {
+        let program = self.program();
+        self.end();
+        program
     }
 }
 
-/// The number of the fault of a token that is wrong for this reason.
+/// Gives the number of the fault of a token that is wrong for this reason.
 fn code_of(reason: Reason, kind: Kind) -> FaultCode
     ensures { result ≡ code_of reason kind }
 {
@@ -76,7 +79,7 @@ fn code_of(reason: Reason, kind: Kind) -> FaultCode
     }
 }
 
-/// The fault of the first of these tokens. Where none is left, it stands at the last of all tokens.
+/// Gives the fault of the first of these tokens. Where none is left, it stands at the last of all tokens.
 fn fault_at(reason: Reason, rest: &[Token], tokens: &[Token]) -> Fault
     ensures { result ≡ fault_at reason rest.now tokens.now }
 {
@@ -89,29 +92,41 @@ fn fault_at(reason: Reason, rest: &[Token], tokens: &[Token]) -> Fault
     }
 }
 
-/// The tree that the tokens spell, the last of which is the end mark, or the first fault of the grammar.
+/// Gives the fault where reading failed for this reason before these of the tokens.
+fn fault_of(refused: Refused, rest: &[Token], tokens: &[Token]) -> Fault
+    ensures { Tells refused rest.now tokens.now result }
+{
+    match refused {
+        Refused::Memory => Fault::memory(),
+        Refused::Token(reason) => fault_at(reason, rest, tokens),
+    }
+}
+
+/// Answers the tree that the tokens spell, the last of which is the end mark, or the first fault of the grammar.
+///
+/// The tree keeps all of what the tokens stand for but how an attribute or the word Storage_Pool is spelled, and the names behind `end`.
 ///
 /// `UNEXPECTED` stands at a token that the grammar does not allow there, and `LEFT_OUT` too if that is a reserved word
 /// that the subset leaves out; `LEFT_OUT` also at an attribute or aspect that it leaves out. `TOO_DEEP` stands at the
-/// first token of a construct where `ROOM` are open, and `END_NAME` at a name behind `end` that is not the subprogram's.
+/// first token of a construct where `ROOM` are open, and `END_NAME` at a name behind `end` that is not the subprogram's (RM 6.3).
 /// `MEMORY`: the host refused memory.
-#[tactic(auto, using(crate::proofs::Answered::is_program, crate::proofs::Answered::one_program, crate::proofs::Answered::no_program))]
-pub fn parse(alloc: Global, tokens: &[Token]) -> Result<Tree, Fault>
-    ensures found { IfOk result (λ tree. IsProgram ROOM (tree_node tree) tokens.now) }
+pub fn parse(alloc: Global, tokens: &[Token]) -> Result<Written, Fault>
+    ensures found { IfOk result (λ tree. (v : Node) × IsProgram ROOM v tokens.now × (tree_node tree ≡ kept_program v)) }
     ensures refused { IfErr result (λ fault. HasGrammarFault ROOM tokens.now fault ⊎ IsMemory fault) }
 
     // A text that is a program is not refused for another reason, nor is one with a fault taken.
-    ensures all_programs { (v : Node) → IsProgram ROOM v tokens.now → MatchResult result (λ tree. tree_node tree ≡ v) IsMemory }
+    ensures all_programs { (v : Node) → IsProgram ROOM v tokens.now → MatchResult result (λ tree. tree_node tree ≡ kept_program v) IsMemory }
     ensures all_faults { (fault : Fault) → HasGrammarFault ROOM tokens.now fault → MatchResult result (λ _. ⊥) (λ f. (f ≡ fault) ⊎ IsMemory f) }
 {
     let mut parser = Parser {
         rest: tokens,
         left: ROOM,
+        fault: None,
         alloc,
     };
-    match parser.whole() {
-        Ok(tree) => Ok(tree),
-        Err(Refused::Memory) => Err(Fault::memory()),
-        Err(Refused::Token(reason)) => Err(fault_at(reason, parser.rest, tokens)),
+    let tree = parser.whole();
+    match parser.fault {
+        None => Ok(tree),
+        Some(refused) => Err(fault_of(refused, parser.rest, tokens)),
     }
 }

@@ -1,6 +1,6 @@
 -- What the code of a program does, and what a machine reports of it, make up what its run shows.
 use Rattle.std.proofs.Common.{◌≡◌, ℕ, zero, suc, ◌+◌, ◌-◌, ◌≤◌, List, [], ◌∷◌, Option, Some, false, refl, sym, ap, ◌∙◌, subst, arith}
-use Rattle.ctl_tree.specs.declared.checked.Checked.{Checked}
+use Rattle.ctl_program.specs.declared.program.Checked.{Checked}
 use Rattle.ctl_tree.specs.declared.ending.End.{End}
 use Rattle.ctl_tree.specs.declared.ending.End.TheVariants.{Done, Raised, Stopped, StepLimit, HostMemory}
 use Rattle.ctl_meaning.specs.World.{Log, World}
@@ -13,6 +13,7 @@ use Rattle.ctl_code.specs.States.{State}
 use Rattle.ctl_code.specs.Steps.{step, machine, end_at, end_of}
 use Rattle.ctl_code.specs.Laws.{IsPrefix}
 use Rattle.ctl_gen.specs.Correct.{Behaves, HasReached}
+use Rattle.ctl_gen.specs.Layout.{IsLaidOut}
 use Rattle.ctl_machine.specs.declared.outcome.Outcome.{Outcome}
 use Rattle.ctl_machine.specs.Machine.{Running, Reports, Ends, after_steps, chosen}
 use Rattle.ctl_run.specs.Headline.{ByItself, Reaches, Headline}
@@ -64,7 +65,7 @@ reaches code s o meant events reached same = record {
 only : (x : Option End) (e f : End) → x ≡ Some e → x ≡ Some f → e ≡ f
 only x e f h i = search (h, i)
 
-module _ (program : Checked) (m : Running) (limit : ℕ) (o : Outcome) (behaves : Behaves program m.code) (reports : Reports m o) (within : m.steps ≤ limit) (counted : m.has_ended ≡ false → m.steps ≡ limit) where
+module _ (program : Checked) (m : Running) (limit : ℕ) (o : Outcome) (laid_out : IsLaidOut program m.code) (behaves : Behaves program m.code) (reports : Reports m o) (within : m.steps ≤ limit) (counted : m.has_ended ≡ false → m.steps ≡ limit) where
   abbrev ask : Ask
   ask = answer m.order
 
@@ -109,9 +110,10 @@ module _ (program : Checked) (m : Running) (limit : ℕ) (o : Outcome) (behaves 
         no_pick_left = run.no_pick_left;
         obeys = run.obeys;
         code = m.code;
+        laid_out = laid_out;
         shown = events;
         not_stuck = λ n. (behaves.after ask n).not_stuck;
         within = omega (arith, within, reports.steps);
-        at_limit = λ same. reports.steps ∙ counted (subst (λ x. Ends x m o.steps) same end).0;
+        at_limit = λ same. let limited = subst (λ x. Ends x m o.steps) same end in (reports.steps ∙ counted limited.0, limited.1);
         in_time = λ not other clock obeys le. on_time o.end refl not (outcome program other clock) ((behaves.after ask limit).in_time other clock obeys le);
       }

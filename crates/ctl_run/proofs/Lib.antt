@@ -1,5 +1,3 @@
 pub mod Composed
-pub mod FirstBreach
-pub mod NamedTexts
-pub mod OneTree
-pub mod OneFault
+pub mod Verdicts
+pub mod WellTyped

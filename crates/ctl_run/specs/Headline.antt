@@ -1,45 +1,21 @@
 -- What a run shows: the promise of the whole product.
-use Rattle.std.specs.Prelude.{◌≡◌, ◌≢◌, ℕ, ◌*◌, ◌≤◌, List, [], Some, None, true}
-use Rattle.ctl_tree.specs.declared.checked.Checked.{Checked}
+use Rattle.std.specs.Prelude.{◌≡◌, ◌≢◌, ℕ, ◌*◌, ◌≤◌, List, Some, None, Ok}
+use Rattle.ctl_program.specs.declared.program.Checked.{Checked}
 use Rattle.ctl_tree.specs.declared.ending.End.{End}
 use Rattle.ctl_tree.specs.declared.ending.End.TheVariants.{Done, Raised, Stopped, StepLimit, HostMemory}
-use Rattle.ctl_tree.specs.declared.token.Token.{Token}
-use Rattle.ctl_tree.specs.declared.tree.Tree.{Tree}
 use Rattle.ctl_tree.specs.declared.request.Order.{Order}
-use Rattle.ctl_lexis.specs.Lexis.{HasTokens}
-use Rattle.ctl_grammar.specs.Text.{IsProgram}
-use Rattle.ctl_legality.specs.Sites.{sites}
-use Rattle.ctl_legality.specs.Judged.{IsLegal}
-use Rattle.ctl_parse.specs.View.{tree_node}
-use Rattle.ctl_slice.specs.Places.{left_out_of}
-use Rattle.ctl_check.specs.Program.{is_legal, IsProgram as IsProgramOf}
-use Rattle.ctl_check.specs.Standard.{predefined_names}
 use Rattle.ctl_meaning.specs.World.{Pick}
 use Rattle.ctl_meaning.specs.Choice.{Ask, Obeys, answer, replayed}
 use Rattle.ctl_meaning.specs.Run as Meaning
 use Rattle.ctl_meaning.specs.Run.{outcome}
 use Rattle.ctl_code.specs.declared.code.Code.{Code}
 use Rattle.ctl_code.specs.States.{Stuck}
+use Rattle.ctl_code.specs.Steps.{end_of}
 use Rattle.ctl_code.specs.Laws.{IsPrefix}
-use Rattle.ctl_gen.specs.Slice.{InSlice}
+use Rattle.ctl_gen.specs.Layout.{IsLaidOut}
 use Rattle.ctl_machine.specs.declared.outcome.Outcome.{Outcome}
 use Rattle.ctl_machine.specs.Machine.{after_steps, chosen}
-
--- a source text is accepted, and this is its program: the text spells these tokens, which spell this tree of the grammar, the tree breaks no
--- rule on names, order, completion, library units or freezing, each of its constructs is run, it breaks no rule on types, operations and exits,
--- the program says what the tree says, with the predefined exceptions and no access types, and it is one that this version runs
-pub record Accepts (source : List ℕ) (program : Checked) : Type 0 where
-  pub tokens : List Token
-  pub tree : Tree
-  pub lexical : HasTokens source tokens
-  pub grammatical : IsProgram 100 (tree_node tree) tokens
-  pub legal : IsLegal (sites tree)
-  pub all_run : left_out_of tree ≡ None
-  pub typed : is_legal tree ≡ true
-  pub checked : IsProgramOf tree program
-  pub exceptions : program.exceptions.items ≡ predefined_names
-  pub accesses : program.accesses.items ≡ []
-  pub in_slice : InSlice program
+use Rattle.ctl_run.specs.Verdict.{IsVerdict}
 
 -- the run ended by itself
 abbrev pub ByItself : End → Type 0
@@ -68,18 +44,19 @@ pub record Headline (program : Checked) (order : Order) (limit : ℕ) (o : Outco
   pub no_pick_left : (outcome program (replayed taken) o.steps).picks ≡ taken
   -- the choices obey the order, each below its number of candidates
   pub obeys : Obeys (answer order) taken
-  -- the run took the steps of some code, at each of which that code has an instruction
+  -- the run took the steps of the program's code, at each of which that code has an instruction
   pub code : Code
+  pub laid_out : IsLaidOut program code
   pub shown : o.events.items ≡ (after_steps code order o.steps).log.trace
   pub not_stuck : (n : ℕ) → (after_steps code order n).mode ≢ Stuck
-  -- no more steps than were asked for, and all of them where the limit ended the run
+  -- no more steps than were asked for, and all of them where the limit ended the run, which has not ended by itself then
   pub within : o.steps ≤ limit
-  pub at_limit : o.end ≡ StepLimit → o.steps ≡ limit
+  pub at_limit : o.end ≡ StepLimit → (o.steps ≡ limit) × (end_of code (after_steps code order o.steps) ≡ None)
   -- each outcome of the meaning whose choices obey the order is reached in 64 steps a tick
   pub in_time : o.end ≢ HostMemory → (other : Ask) (clock : ℕ) → Obeys (answer order) (outcome program other clock).picks → 64 * (outcome program other clock).ticks ≤ limit → Reaches o taken (outcome program other clock)
 
 -- the program of an accepted text, and what its run shows
 pub record RunsSource (source : List ℕ) (order : Order) (limit : ℕ) (o : Outcome) : Type 0 where
   pub program : Checked
-  pub accepted : Accepts source program
+  pub accepted : IsVerdict source (Ok program)
   pub headline : Headline program order limit o

@@ -1,7 +1,7 @@
 //! From a source text to what its run shows.
+//!
+//! "RM" is ISO/IEC 8652:2012.
 #![tactic(auto)]
 
 pub mod laws;
-pub mod named;
 pub mod run;
-pub mod tree;

@@ -1,5 +1,5 @@
 -- What was read and written, by the job and the exit status.
-use Rattle.std.specs.Prelude.{◌≡◌, ◌≤◌, ◌<◌, ◌⊎◌, ℕ, Bool, true, List, Option, codes, length}
+use Rattle.std.specs.Prelude.{◌≡◌, ◌≤◌, ◌<◌, ◌⊎◌, ℕ, Bool, true, List, Ok, Option, codes, length}
 use Rattle.std.specs.Io.KnownBytes.{Appends, Consumes, IsAtEnd, Keeps}
 use Rattle.ctl_job.specs.declared.job.Job.{Job}
 use Rattle.ctl_job.specs.declared.job.Job.TheVariants.{Check, Run}
@@ -8,11 +8,11 @@ use Rattle.ctl_serve.specs.Shown.{shown_by}
 use Rattle.ctl_serve.specs.Statuses.{end_status, exit_code, fault_status}
 use Rattle.ctl_serve.specs.declared.status.Status.{Status}
 use Rattle.ctl_serve.specs.declared.status.Status.TheVariants.{Done, Raised, Refused, Stopped, StepLimit, HostMemory, Usage, InputOutput}
-use Rattle.ctl_run.specs.Headline.{Accepts, RunsSource}
-use Rattle.ctl_run.specs.Source.{IsRefused}
+use Rattle.ctl_program.specs.declared.program.Checked.{Checked}
+use Rattle.ctl_run.specs.Headline.{RunsSource}
+use Rattle.ctl_run.specs.Verdict.{IsFaultOf, IsVerdict}
 use Rattle.ctl_sink.specs.Prefix.{AppendsUpTo}
 use Rattle.ctl_tree.specs.declared.fault.Fault.{Fault}
-use Rattle.ctl_tree.specs.declared.checked.Checked.{Checked}
 use Rattle.ctl_tree.specs.declared.request.Order.{Order}
 use Rattle.ctl_tree.specs.declared.request.Show.{Show}
 
@@ -52,7 +52,7 @@ pub record Reads (most : ℕ) (old new : Option (List ℕ)) (source : List ℕ) 
 -- `ok` was written for an accepted text
 pub record WritesOk (source : List ℕ) (old new : Option (List ℕ)) : Type 0 where
   pub program : Checked
-  pub accepted : Accepts source program
+  pub accepted : IsVerdict source (Ok program)
   pub whole : Appends old new (codes "ok\n")
 
 -- the whole text was written that shows a run of this source, under this order and limit of steps, and the status tells how it ended
@@ -81,7 +81,7 @@ pub record Serves (job : Job) (most : ℕ) (before after : Option (List ℕ)) (o
 -- `ok` was to be written for an accepted text: its beginning was, or all of it
 pub record WritesOkUpTo (source : List ℕ) (old new : Option (List ℕ)) : Type 0 where
   pub program : Checked
-  pub accepted : Accepts source program
+  pub accepted : IsVerdict source (Ok program)
   pub part : AppendsUpTo old new (codes "ok\n")
 
 -- the text was to be written that shows a run of this source, under this order and limit of steps: its beginning was, or all of it
@@ -101,10 +101,10 @@ pub record BreaksOff (job : Job) (most : ℕ) (before after : Option (List ℕ))
   pub reads : Reads most before after source
   pub writes : WritesUpTo job source old new
 
--- this text is refused for a reason that it gives: what is wanting is not memory, as the status tells
+-- this text is refused for its fault, and that is not want of memory
 pub record IsRefusedText (source : List ℕ) : Type 0 where
   pub fault : Fault
-  pub because : IsRefused source fault
+  pub because : IsFaultOf source fault
   pub told : fault_status fault.code ≡ Refused
 
 -- such a text was read

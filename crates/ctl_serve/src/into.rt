@@ -4,7 +4,8 @@ ghost use Rattle.std.specs.Prelude.{◌≡◌, ◌↔◌, true, false, IfOk, IfE
 ghost use Rattle.std.specs.Io.KnownBytes.{Appends};
 ghost use Rattle.ctl_sink.specs.Prefix.{AppendsPart};
 ghost use Rattle.ctl_lexis.specs.Lexis.{HasFault};
-ghost use Rattle.ctl_run.specs.Source.{HasFaultOfText, HasFirstFault, IsFaultless};
+ghost use Rattle.ctl_front.specs.Text.{BreaksForm};
+ghost use Rattle.ctl_run.specs.Verdict.{IsFaultOf, IsFaultless};
 ghost use Rattle.ctl_serve.specs.Refusals.{IsRefusal, IsRefusalWith, IsRefusedFor, WantsMemory};
 ghost use Rattle.ctl_serve.specs.Shown.{shown_by, Summarizes, WritesPart, WritesWhole};
 ghost use Rattle.ctl_tree.specs.declared.fault.Fault.{Fault};
@@ -93,17 +94,17 @@ pub fn run_into<S: Sink>(
     ensures write { IsErrOf result Write → WritesPart source.now order steps show (S.taken sink.old) (S.taken sink.new) }
     ensures refused { IfErr result (λ fault. IsRefusal fault → sink.new ≡ sink.old) }
     ensures failed { (S.has_failed sink.new ≡ true) ↔ IsErrOf result Write }
-    // Refused with nothing else than the text's fault, or want of memory.
+    // It is refused with nothing else than its fault, or want of memory.
     ensures because { IfErr result (IsRefusedFor source.now) }
 
     // A text with a lexical fault is refused with it.
     ensures lexical { (fault : Fault) → HasFault source.now fault → MatchResult result (λ _. ⊥) (IsRefusalWith fault) }
 
     // A text that spells no tree is refused with its first fault, of lexis or of grammar.
-    ensures grammatical { (fault : Fault) → HasFirstFault source.now fault → MatchResult result (λ _. ⊥) (IsRefusalWith fault) }
+    ensures grammatical { (fault : Fault) → BreaksForm source.now fault → MatchResult result (λ _. ⊥) (IsRefusalWith fault) }
 
-    // A text with a fault, of lexis, grammar, names, constructs, types or values, is refused with it.
-    ensures faulty { (fault : Fault) → HasFaultOfText source.now fault → MatchResult result (λ _. ⊥) (IsRefusalWith fault) }
+    // A text with a fault, of lexis, grammar, names or types, or a construct that is not run, is refused with it.
+    ensures faulty { (fault : Fault) → IsFaultOf source.now fault → MatchResult result (λ _. ⊥) (IsRefusalWith fault) }
 
     // A text that has none is refused for want of memory alone.
     ensures faultless { IsFaultless source.now → IfErr result WantsMemory }

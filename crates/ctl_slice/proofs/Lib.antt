@@ -1,3 +1,0 @@
-pub mod First
-pub mod ExpressionRows
-pub mod StatementRows

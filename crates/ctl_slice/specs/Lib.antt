@@ -1,3 +1,2 @@
 pub mod Constructs
 pub mod Places
-pub mod Refused

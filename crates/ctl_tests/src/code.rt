@@ -3,7 +3,8 @@
 use ctl_code::code::{Code, Entry, Instr, Operations};
 use ctl_code::kinds::{Kind, KindNotes, Kinds};
 use ctl_code::template::{Template, TextPart};
-use ctl_tree::checked::{BinaryOp, Shortcut, Ty, UnaryOp, Var};
+use ctl_program::operators::{BinaryOp, Direction, Shortcut, UnaryOp};
+use ctl_program::types::{Ty, Var};
 use std::alloc::{AllocError, Global};
 use std::test::Fail;
 
@@ -49,7 +50,7 @@ const EACH_CONSTRUCT: &[Line] = &[
     (Instr::Assign(FIRST), "i"),
     (Instr::Push(1), ""),
     (Instr::Push(3), "i"),
-    (Instr::For(FIRST, true, 11), "ii"),
+    (Instr::For(FIRST, Direction::Downward, 11), "ii"),
     (Instr::Read(FIRST), "#"),
     (Instr::Push(0), "#i"),
     (Instr::Decide(Shortcut::AndThen, 1), "#ib"),

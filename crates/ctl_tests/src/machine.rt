@@ -6,7 +6,8 @@ use ctl_code::template::{Template, TextPart};
 use ctl_code::valid::ValidCode;
 use ctl_machine::machine::Machine;
 use ctl_machine::outcome::{Outcome, Progress};
-use ctl_tree::checked::{BinaryOp, Ty, Var};
+use ctl_program::operators::{BinaryOp, Direction};
+use ctl_program::types::{Ty, Var};
 use ctl_tree::ending::{End, Stop};
 use ctl_tree::event::{Event, Owner};
 use ctl_tree::request::Order;
@@ -94,7 +95,7 @@ const REVERSE_LOOP: &[Instr] = &[
     Instr::Start(0),
     Instr::Push(1),
     Instr::Push(3),
-    Instr::For(FIRST, true, 3),
+    Instr::For(FIRST, Direction::Downward, 3),
     Instr::Read(FIRST),
     Instr::Put(1),
     Instr::Next(2),
@@ -119,7 +120,7 @@ const SQUARES: &[Instr] = &[
     Instr::Start(0),
     Instr::Push(1),
     Instr::Push(3),
-    Instr::For(FIRST, false, 5),
+    Instr::For(FIRST, Direction::Upward, 5),
     Instr::Read(FIRST),
     Instr::BinaryVariable(BinaryOp::Multiply, Ty::Integer, FIRST),
     Instr::BinaryConstant(BinaryOp::Modulo, Ty::Integer, 7),

@@ -2,7 +2,6 @@
 
 use ctl_grammar::spelling::is_same_name;
 use ctl_parse::parse;
-use ctl_parse_plain as plain;
 use ctl_tree::fault::FaultCode;
 use ctl_tree::span::Span;
 use ctl_tree::text::Text;
@@ -164,20 +163,11 @@ fn fault_of(alloc: Global, text: &str) -> Result<Option<(FaultCode, usize)>, All
     Ok(fault_of_tokens(alloc, &tokens))
 }
 
-/// The code and the column of the fault that both parsers tell; where they differ, a fault that no text has.
+/// The code and the column of the fault, or none where the tokens spell a tree.
 fn fault_of_tokens(alloc: Global, tokens: &[Token]) -> Option<(FaultCode, usize)> {
-    let told = match parse(alloc, tokens) {
+    match parse(alloc, tokens) {
         Ok(_) => None,
         Err(fault) => Some((fault.code, fault.column)),
-    };
-    let told_of_plain = match plain::parse(alloc, tokens) {
-        Ok(_) => None,
-        Err(fault) => Some((fault.code, fault.column)),
-    };
-    if told == told_of_plain {
-        told
-    } else {
-        Some((FaultCode::Memory, 0))
     }
 }
 

@@ -1,8 +1,7 @@
-//! The types that the stages of adactl hand to one another: tokens, the tree of a source text, the checked program,
-//! the events of a run and how it ends, and faults with their places.
+//! The types that the stages of adactl hand to one another, trees and programs apart: tokens, texts, the events of a run and how it
+//! ends, what a user asks for, and faults with their places.
 #![tactic(auto)]
 
-pub mod checked;
 pub mod ending;
 pub mod event;
 pub mod fault;
@@ -10,4 +9,3 @@ pub mod request;
 pub mod span;
 pub mod text;
 pub mod token;
-pub mod tree;

@@ -1,4 +1,4 @@
-//! Tests of the crates `ctl_job`, `ctl_sink`, `ctl_run` and `ctl_serve`, one module for each but `ctl_run`, which has two.
+//! Tests of the crates `ctl_job`, `ctl_sink`, `ctl_front`, `ctl_run` and `ctl_serve`, one module for each.
 #![tactic(auto)]
 
 #[cfg(test)]

@@ -1,7 +1,8 @@
 //! Whole texts by the rules on names, order, completion and freezing.
 
-use ctl_legality::view::Denoted;
-use ctl_run::named::named_of;
+use ctl_front::program::{program_of, resolved_of};
+use ctl_syntax::denoted::{Denoted, Named};
+use ctl_syntax::item::Statement;
 use std::alloc::Global;
 use std::test::Fail;
 
@@ -87,13 +88,21 @@ fn own_names_hide_used_ones(rt: HostRuntime) -> Result<(), Fail> {
             false,
         ),
     ] {
-        let found = match named_of(rt.alloc(), source.as_bytes()) {
-            Ok(named) => matches!(named.uses.first(), Some(Denoted::Declared(_, 1))),
-            Err(_) => !is_own,
-        };
-        assert_eq!(rt; found, is_own);
+        let tree = resolved_of(rt.alloc(), source.as_bytes()).map_err(|_| "refused")?;
+        assert_eq!(rt;
+            matches!(called(&tree), Some(Denoted::Declared(_, 1))),
+            is_own
+        );
     }
     Ok(())
+}
+
+/// What the first statement of the main procedure calls.
+fn called(tree: &Named) -> Option<Denoted> {
+    match tree.body.statements.as_slice().first() {
+        Some(Statement::Call(_, name)) => Some(name.first.denoted),
+        _ => None,
+    }
 }
 
 #[test]
@@ -204,7 +213,7 @@ fn storage_pools(rt: HostRuntime) -> Result<(), Fail> {
             "10:1: 23 ORDER",
         ),
         (
-            "type L is record X : A; end record;\ntype M is access L;\ntype K is record Y : M := new L; end record;\nV : K := (null);\nfor A'Storage_Pool use P;\nbegin null; end Main;",
+            "type L is record X : A; end record;\ntype M is access L;\ntype K is record Y : M := new L; end record;\nfor A'Storage_Pool use P;\nbegin null; end Main;",
             "",
         ),
     ] {
@@ -219,7 +228,7 @@ fn storage_pools(rt: HostRuntime) -> Result<(), Fail> {
 #[test]
 fn names_that_freeze(rt: HostRuntime) -> Result<(), Fail> {
     const BEGIN: &str =
-        "with Ada.Finalization; use Ada.Finalization;\nprocedure Main is\ntype Node;\ntype Ref is access Node;\ntype Other is access Node;\ntype Node is new Controlled with record N : Integer; Next : Ref; end record;\nP : Integer;\nA : Other;\n";
+        "with Ada.Finalization; use Ada.Finalization; with Block_Pools; use Block_Pools;\nprocedure Main is\ntype Node;\ntype Ref is access Node;\ntype Other is access Node;\ntype Node is new Controlled with record N : Integer; Next : Ref; end record;\nP : Block_Pool (16, 4);\nA : Other;\n";
     for (source, wanted) in [
         // a component through an access value, with and without the word
         (
@@ -245,9 +254,9 @@ fn names_that_freeze(rt: HostRuntime) -> Result<(), Fail> {
             "type R is record C : Boolean := A.Next = null; end record;\nV : R;\nfor Ref'Storage_Pool use P;\nbegin null; end Main;",
             "11:1: 23 ORDER",
         ),
-        // what an access value designates
+        // the object that an allocator makes, as a copy of what an access value designates
         (
-            "X : Integer := Integer (A.all);\nprocedure Finalize (Y : in out Node);\nprocedure Finalize (Y : in out Node) is begin null; end Finalize;\nbegin null; end Main;",
+            "V : Other := new Node'(A.all);\nprocedure Finalize (Y : in out Node);\nprocedure Finalize (Y : in out Node) is begin null; end Finalize;\nbegin null; end Main;",
             "10:11: 26 LATE_PRIMITIVE",
         ),
         // a part of a name is no expression
@@ -288,9 +297,9 @@ fn objects_that_allocate(rt: HostRuntime) -> Result<(), Fail> {
         ("V : A;\n", ""),
         // an access type to the same, without this pool
         ("V : B := new D;\n", ""),
-        // an operand has the type of the other
-        ("V : A;\nX : Boolean := (new D) = V;\n", "11:1: 24 ELAB"),
-        ("V : B;\nX : Boolean := (new D) = V;\n", ""),
+        // an operand has the type of the one before it
+        ("V : A;\nX : Boolean := V = new D;\n", "11:1: 24 ELAB"),
+        ("V : B;\nX : Boolean := V = new D;\n", ""),
         // the value of another allocator
         (
             "type L is access A;\nV : L := new A'(new D);\n",
@@ -377,27 +386,27 @@ fn operations_by_profile(rt: HostRuntime) -> Result<(), Fail> {
     const BEGIN: &str =
         "with Ada.Finalization; use Ada.Finalization; with Block_Pools; use Block_Pools; with System; with System.Storage_Elements; use System.Storage_Elements;\nprocedure Main is\n";
     for (source, wanted) in [
-        // a second parameter, another mode or a result makes no operation of the type
+        // a second parameter, another mode or a result makes no operation of the type: the name is wrong, and nothing else
         (
             "type T is new Controlled with null record;\nV : T;\nprocedure Finalize (X : in out T; Y : Integer);\nprocedure Finalize (X : in out T; Y : Integer) is begin null; end Finalize;\nbegin null; end Main;",
-            "",
+            "5:11: 33 OVERRIDE",
         ),
         (
             "type T is new Controlled with null record;\nV : T;\nprocedure Finalize (X : T);\nprocedure Finalize (X : T) is begin null; end Finalize;\nbegin null; end Main;",
-            "",
+            "5:11: 33 OVERRIDE",
         ),
         (
             "type T is new Controlled with null record;\nV : T;\nfunction Finalize (X : in out T) return Integer;\nfunction Finalize (X : in out T) return Integer is begin return 1; end Finalize;\nbegin null; end Main;",
-            "",
+            "5:10: 33 OVERRIDE",
         ),
         // a type that is not controlled has none, and a limited one no Adjust
         (
             "type R is record N : Integer; end record;\nV : R;\nprocedure Finalize (X : in out R);\nprocedure Finalize (X : in out R) is begin null; end Finalize;\nbegin null; end Main;",
-            "",
+            "5:11: 33 OVERRIDE",
         ),
         (
             "type T is new Limited_Controlled with null record;\nV : T;\nprocedure Adjust (X : in out T);\nprocedure Adjust (X : in out T) is begin null; end Adjust;\nbegin null; end Main;",
-            "",
+            "5:11: 33 OVERRIDE",
         ),
         // an extension of an extension has what its parent has
         (
@@ -411,7 +420,7 @@ fn operations_by_profile(rt: HostRuntime) -> Result<(), Fail> {
         ),
         (
             "type K is new Block_Pool with null record;\nP : K (16, 4);\nprocedure Allocate (Pool : in out K; A : System.Address; S, L : Storage_Count);\nprocedure Allocate (Pool : in out K; A : System.Address; S, L : Storage_Count) is begin null; end Allocate;\nbegin null; end Main;",
-            "",
+            "5:11: 33 OVERRIDE",
         ),
         (
             "type K is new Block_Pool with null record;\nP : K (16, 4);\nprocedure Deallocate (Pool : in out K; A : System.Address; S : in Storage_Count; L : Storage_Count);\nprocedure Deallocate (Pool : in out K; A : System.Address; S : in Storage_Count; L : Storage_Count) is begin null; end Deallocate;\nbegin null; end Main;",
@@ -427,7 +436,7 @@ fn operations_by_profile(rt: HostRuntime) -> Result<(), Fail> {
 
 /// The first fault of a text, or nothing.
 fn answer(alloc: Global, source: &str) -> Result<String, Fail> {
-    match named_of(alloc, source.as_bytes()) {
+    match program_of(alloc, source.as_bytes()) {
         Ok(_) => Ok(String::new(alloc)),
         Err(fault) => Ok(fault.to_string(alloc)?),
     }

@@ -60,6 +60,10 @@ const EXIT_OF_TWO: &[u8] =
 const EXIT_OF_TWO_TRACE: &str =
     "live 1 m2\ninitialize 2\nprint i\nnewline\nlive 2 m3\nfinalize 2 scope\nprint b\nnewline\nfinalize 1 scope\nprint a\nnewline\nprint out\nnewline\nend done\n";
 
+/// A type of which there is no object.
+const TYPE_ALONE: &[u8] =
+    b"procedure Main is type R is record N : Integer; end record; begin null; end Main;";
+
 /// A loop without an end.
 const TURNS: &[u8] = b"procedure Main is begin loop null; end loop; end Main;";
 
@@ -81,6 +85,7 @@ fn traces_of_runs(rt: HostRuntime) -> Result<(), Fail> {
         (ZERO_DIVISOR, 1000, "end raised Constraint_Error\n"),
         (NUMBERS, 1000, NUMBERS_TRACE),
         (EXIT_OF_TWO, 1000, EXIT_OF_TWO_TRACE),
+        (TYPE_ALONE, 1000, "end done\n"),
         (TURNS, 100, "end limit\n"),
     ] {
         let outcome = run_source(alloc, source, Order::Newest, steps).map_err(|_| "refused")?;
@@ -118,11 +123,12 @@ fn faults_of_texts(rt: HostRuntime) -> Result<(), Fail> {
             b"procedure Main is task T; begin null; end Main;",
             "1:19: 12 LEFT_OUT",
         ),
+        // an object of a type that is not run; its type stands first
         (
-            b"procedure Main is type R is record N : Integer; end record; begin null; end Main;",
+            b"procedure Main is type R is record N : Integer; end record; X : R; begin null; end Main;",
             "1:19: 12 LEFT_OUT",
         ),
-        // a rule on names is judged before a construct is left out, wherever they stand
+        // a rule on names or types is judged before a construct is left out, wherever they stand
         (
             b"procedure Main is begin begin Put_Line (\"x\"); end; end Main;",
             "1:31: 20 UNKNOWN",
@@ -130,6 +136,10 @@ fn faults_of_texts(rt: HostRuntime) -> Result<(), Fail> {
         (
             b"procedure Main is type R is record N : Integer; end record; begin X := 1; end Main;",
             "1:67: 20 UNKNOWN",
+        ),
+        (
+            b"procedure Main is type R is record N : Integer; end record; X : R; begin X := 1; end Main;",
+            "1:79: 30 TYPE",
         ),
         (
             b"procedure Main is X, X : Integer; begin null; end Main;",
@@ -160,7 +170,7 @@ fn refused(rt: &impl Abort, alloc: Global, source: &[u8], wanted: &str) -> Resul
 #[test]
 fn faults_of_types(rt: HostRuntime) -> Result<(), Fail> {
     for (source, wanted) in [
-        // the innermost wrong expression, or the place of another type
+        // the innermost wrong expression, or the place of another type; a literal has the type of the operand behind it
         (
             b"procedure Main is N : Integer; begin N := True; end Main;".as_slice(),
             "1:43: 30 TYPE",
@@ -187,7 +197,7 @@ fn faults_of_types(rt: HostRuntime) -> Result<(), Fail> {
         ),
         (
             b"procedure Main is B : Boolean := 1 < True; begin null; end Main;",
-            "1:38: 30 TYPE",
+            "1:34: 30 TYPE",
         ),
         (
             b"procedure Main is B : Boolean := True and 1 < 2 + True; begin null; end Main;",

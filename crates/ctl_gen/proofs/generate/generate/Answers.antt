@@ -5,9 +5,9 @@ use Rattle.ctl_gen.proofs.Whole.{behaves}
 use Rattle.ctl_gen.proofs.generate.generate.Goals as goal
 
 pub returns-in-Some-clause-behaves : goal.returns-in-Some-clause-behaves
-returns-in-Some-clause-behaves c slice =
-    subst (Behaves c.args.program.now) (sym c.in-Some.ensures.same) (behaves c.args.program.now c.in_ok-assemble.field-0 c.in_ok-assemble.ensures.laid_out slice)
+returns-in-Some-clause-behaves c run_it linked =
+    subst (Behaves c.args.program.now) (sym c.in-Some.ensures.same) (behaves c.args.program.now c.in_ok-assemble.field-0 c.in_ok-assemble.ensures.laid_out run_it linked)
 
 pub returns-in-None-clause-memory : goal.returns-in-None-clause-memory
-returns-in-None-clause-memory c slice =
-    absurd (c.in-None.ensures.refused refl (is_valid c.args.program.now c.in_ok-assemble.field-0 c.in_ok-assemble.ensures.laid_out c.in_ok-assemble.ensures.kinds slice))
+returns-in-None-clause-memory c run_it typed =
+    absurd (c.in-None.ensures.refused refl (is_valid c.args.program.now c.in_ok-assemble.field-0 c.in_ok-assemble.ensures.laid_out c.in_ok-assemble.ensures.kinds run_it typed))

@@ -1,9 +1,8 @@
-use Rattle.std.proofs.Common.{ℕ, List, Option, OnOk, IfOk, Result, Ok, Err}
+use Rattle.std.proofs.Common.{ℕ, List, Option, OnOk, IfOk, Result, Ok, Err, inr}
 use Rattle.std.proofs.lemmas.Result.{IfErr-weaker}
 use Rattle.std.specs.Io.KnownBytes.{Appends}
 use Rattle.ctl_machine.specs.declared.outcome.Outcome.{Outcome}
 use Rattle.ctl_run.specs.Headline.{RunsSource}
-use Rattle.ctl_run.specs.Source.{by_memory}
 use Rattle.ctl_serve.specs.declared.summary.RunFault.{RunFault}
 use Rattle.ctl_serve.specs.declared.summary.RunFault.TheVariants.{Refused, Write}
 use Rattle.ctl_serve.specs.declared.summary.Summary.{Summary}
@@ -11,6 +10,7 @@ use Rattle.ctl_serve.specs.Refusals.{IsRefusedFor, WantsMemory}
 use Rattle.ctl_serve.specs.Shown.{shown_by, Summarizes, WritesWhole}
 use Rattle.ctl_tree.specs.declared.request.Order.{Order}
 use Rattle.ctl_tree.specs.declared.request.Show.{Show}
+use Rattle.ctl_serve.proofs.Refused.{fault_of_form, fault_of_lexis}
 use Rattle.ctl_serve.proofs.into.run_into.Goals as goal
 
 -- the whole text of a run was put, and this is its summary
@@ -35,7 +35,7 @@ returns-in-Ok-clause-write g c = λ is. record {
 
 -- want of memory is a reason
 a_reason : (source : List ℕ) (fault : RunFault) → WantsMemory fault → IsRefusedFor source fault
-a_reason source (Refused fault) h = by_memory h
+a_reason source (Refused fault) h = inr h
 a_reason source Write h = tt
 
 pub returns-in-Ok-clause-because : goal.returns-in-Ok-clause-because
@@ -43,10 +43,10 @@ returns-in-Ok-clause-because g c =
     IfErr-weaker c.show_run.result WantsMemory (IsRefusedFor c.args.source.now) (a_reason c.args.source.now) c.show_run.ensures.memory
 
 pub returns-in-Ok-clause-lexical : goal.returns-in-Ok-clause-lexical
-returns-in-Ok-clause-lexical g c = λ fault has. absurd (c.in-Ok.ensures.lexical fault has)
+returns-in-Ok-clause-lexical g c = λ fault has. absurd (c.in-Ok.ensures.faulty fault (fault_of_lexis c.args.source.now fault has))
 
 pub returns-in-Ok-clause-grammatical : goal.returns-in-Ok-clause-grammatical
-returns-in-Ok-clause-grammatical g c = λ fault has. absurd (c.in-Ok.ensures.grammatical fault has)
+returns-in-Ok-clause-grammatical g c = λ fault has. absurd (c.in-Ok.ensures.faulty fault (fault_of_form c.args.source.now fault has))
 
 pub returns-in-Ok-clause-faulty : goal.returns-in-Ok-clause-faulty
 returns-in-Ok-clause-faulty g c = λ fault has. absurd (c.in-Ok.ensures.faulty fault has)
@@ -55,10 +55,10 @@ pub returns-in-Err-clause-because : goal.returns-in-Err-clause-because
 returns-in-Err-clause-because g c = rw c.from.ensures c.in-Err.ensures.refused
 
 pub returns-in-Err-clause-lexical : goal.returns-in-Err-clause-lexical
-returns-in-Err-clause-lexical g c = λ fault has. rw c.from.ensures (c.in-Err.ensures.lexical fault has)
+returns-in-Err-clause-lexical g c = λ fault has. rw c.from.ensures (c.in-Err.ensures.faulty fault (fault_of_lexis c.args.source.now fault has))
 
 pub returns-in-Err-clause-grammatical : goal.returns-in-Err-clause-grammatical
-returns-in-Err-clause-grammatical g c = λ fault has. rw c.from.ensures (c.in-Err.ensures.grammatical fault has)
+returns-in-Err-clause-grammatical g c = λ fault has. rw c.from.ensures (c.in-Err.ensures.faulty fault (fault_of_form c.args.source.now fault has))
 
 pub returns-in-Err-clause-faulty : goal.returns-in-Err-clause-faulty
 returns-in-Err-clause-faulty g c = λ fault has. rw c.from.ensures (c.in-Err.ensures.faulty fault has)

@@ -1,5 +1,5 @@
 use Rattle.std.proofs.Common.{false, refl, subst, sym, [], ◌∷◌}
-use Rattle.ctl_tree.specs.declared.checked.Ty.TheVariants.{Integer}
+use Rattle.ctl_program.specs.declared.types.Ty.TheVariants.{Integer}
 use Rattle.pool_store.specs.Store.{with_word}
 use Rattle.ctl_machine.specs.declared.objects.State.TheVariants.{Untouched}
 use Rattle.ctl_meaning.specs.Objects.{with_cells}

@@ -1,5 +1,5 @@
 use Rattle.std.proofs.Common.{◌+◌, None, refl, reverse}
-use Rattle.ctl_tree.specs.declared.checked.Ty.TheVariants.{Record}
+use Rattle.ctl_program.specs.declared.types.Ty.TheVariants.{Record}
 use Rattle.ctl_machine.proofs.Worlds.{declared, declared_levels, last_seen}
 use Rattle.ctl_machine.proofs.Soundness.{sound_declared}
 use Rattle.ctl_machine.proofs.ObjectsByNumber.{none_has_next}

@@ -1,34 +1,22 @@
-use Rattle.std.proofs.Common.{◌≡◌, refl, rules, map, ◌++◌, ◌∷◌, []}
-use Rattle.std.proofs.lemmas.Result.{err_from_is_err_and}
-use Rattle.std.proofs.lemmas.List.{map_push}
-use Rattle.std.specs.Global.{Vec}
-use Rattle.ctl_tree.specs.declared.tree.Dotted.{Dotted}
-use Rattle.ctl_grammar.specs.Nodes.{row_of}
-use Rattle.ctl_grammar.proofs.Loops.{gathers, gathering_fails, gathering_ends}
-use Rattle.ctl_grammar.specs.Form.{none}
+use Rattle.std.proofs.Common.{refl, subst, sym, ◌∙◌}
 use Rattle.ctl_grammar.specs.Grammar.{dotted_list, next_dotted}
-use Rattle.ctl_grammar.specs.Reading.{read}
-use Rattle.ctl_parse.specs.View.{dotted_node}
+use Rattle.ctl_parse.specs.Reads.{Appends}
+use Rattle.ctl_parse.specs.View.{mark_node}
+use Rattle.ctl_parse.proofs.Rows.{beginning_pushed, gathering, gathered, smaller}
 use Rattle.ctl_parse.proofs.cursor.Parser.dotted_list.Goals as goal
 
-pub returns-in_err-next-clause-given : goal.returns-in_err-next-clause-given
+pub more-init : goal.more-init
+unfolding dotted_list
+more-init c = beginning_pushed mark_node c.dotted-first.ensures (subst (λ b. Appends b c.dotted-first.result c.push.new.all c.dotted-first.new.self c.push.new.self) c.new-all.ensures c.push.ensures)
+
+pub more-smaller : goal.more-smaller
 unfolding next_dotted
-returns-in_err-next-clause-given c =
-    let p = err_from_is_err_and c.from_residual-in_err-next.result c.from_residual-in_err-next.ensures.1 in
-    rw (p.1, p.2) (gathering_fails dotted_node (λ (v : Vec Dotted). row_of (map dotted_node v.items)) c.args.self.now.left c.more.self.left (next_dotted c.args.separator) none c.more.self.rest.now c.next_dotted.new.self.rest.now c.in_err-next.field-0.0 (map dotted_node c.more.all.items)
-    (read c.args.self.now.left (dotted_list c.args.separator) none c.args.self.now.rest.now) refl c.more.invariant.same (search rules) c.in_err-next.ensures.given c.more.invariant.so_far)
+more-smaller c = smaller refl (sym c.next_is.ensures ∙ c.more-test.true) c.next_dotted-next.ensures c.push-in-more.ensures
 
 pub more-preserved : goal.more-preserved
 unfolding next_dotted
-more-preserved c =
-    let pushed : map dotted_node c.push-in-more.new.self.items ≡ map dotted_node c.more.all.items ++ dotted_node c.in_ok-next.next ∷ [] = rw c.in_ok-push-2.ensures.items (map_push dotted_node c.more.all.items c.in_ok-next.next) in
-    record {
-      so_far = gathers c.args.self.now.left c.more.self.left (next_dotted c.args.separator) none c.more.self.rest.now c.next_dotted.new.self.rest.now (map dotted_node c.more.all.items) _ (dotted_node c.in_ok-next.next)
-          (read c.args.self.now.left (dotted_list c.args.separator) none c.args.self.now.rest.now) refl c.more.invariant.same (search rules) c.in_ok-next.ensures.given pushed c.more.invariant.so_far;
-      same = search rules;
-      shorter = search rules;
-    }
+more-preserved c = gathering mark_node c.more.invariant refl (sym c.next_is.ensures ∙ c.more-test.true) c.next_dotted-next.ensures c.push-in-more.ensures
 
-pub returns-clause-given : goal.returns-clause-given
+pub returns : goal.returns
 unfolding next_dotted
-returns-clause-given c = gathering_ends c.args.self.now.left (next_dotted c.args.separator) none c.more.self.rest.now (map dotted_node c.more.all.items) (read c.args.self.now.left (dotted_list c.args.separator) none c.args.self.now.rest.now) (search rules) c.more.invariant.so_far
+returns c = gathered c.more.invariant (sym c.next_is.ensures ∙ c.more-test.false)

@@ -1,34 +1,22 @@
-use Rattle.std.proofs.Common.{◌≡◌, refl, rules, map, ◌++◌, ◌∷◌, []}
-use Rattle.std.proofs.lemmas.Result.{err_from_is_err_and}
-use Rattle.std.proofs.lemmas.List.{map_push}
-use Rattle.std.specs.Global.{Vec}
-use Rattle.ctl_tree.specs.declared.tree.Formal.{Formal}
-use Rattle.ctl_grammar.specs.Nodes.{row_of}
-use Rattle.ctl_grammar.proofs.Loops.{gathers, gathering_fails, gathering_ends}
-use Rattle.ctl_grammar.specs.Form.{none}
 use Rattle.ctl_grammar.specs.Grammar.{formal_list, next_formal}
-use Rattle.ctl_grammar.specs.Reading.{read}
-use Rattle.ctl_parse.specs.View.{formal_node}
+use Rattle.ctl_parse.proofs.Rows.{beginning_pushed, gathered, gathering, smaller}
+use Rattle.ctl_parse.specs.Parts.{formal_node}
+use Rattle.ctl_parse.specs.Reads.{Appends}
+use Rattle.std.proofs.Common.{refl, subst, sym, ◌∙◌}
 use Rattle.ctl_parse.proofs.cursor.Parser.formal_list.Goals as goal
 
-pub returns-in_err-next-clause-given : goal.returns-in_err-next-clause-given
-unfolding next_formal
-returns-in_err-next-clause-given c =
-    let p = err_from_is_err_and c.from_residual-in_err-next.result c.from_residual-in_err-next.ensures.1 in
-    rw (p.1, p.2) (gathering_fails formal_node (λ (v : Vec Formal). row_of (map formal_node v.items)) c.args.self.now.left c.more.self.left next_formal none c.more.self.rest.now c.next_formal.new.self.rest.now c.in_err-next.field-0.0 (map formal_node c.more.all.items)
-    (read c.args.self.now.left formal_list none c.args.self.now.rest.now) refl c.more.invariant.same (search rules) c.in_err-next.ensures.given c.more.invariant.so_far)
+pub more-init : goal.more-init
+unfolding formal_list next_formal
+more-init c = beginning_pushed formal_node c.formal-first.ensures (subst (λ b. Appends b c.formal-first.result c.push.new.all c.formal-first.new.self c.push.new.self) c.new-all.ensures c.push.ensures)
+
+pub more-smaller : goal.more-smaller
+unfolding formal_list next_formal
+more-smaller c = smaller refl (sym c.next_is.ensures ∙ c.more-test.true) c.next_formal-next.ensures c.push-in-more.ensures
 
 pub more-preserved : goal.more-preserved
-unfolding next_formal
-more-preserved c =
-    let pushed : map formal_node c.push-in-more.new.self.items ≡ map formal_node c.more.all.items ++ formal_node c.in_ok-next.next ∷ [] = rw c.in_ok-push-2.ensures.items (map_push formal_node c.more.all.items c.in_ok-next.next) in
-    record {
-      so_far = gathers c.args.self.now.left c.more.self.left next_formal none c.more.self.rest.now c.next_formal.new.self.rest.now (map formal_node c.more.all.items) _ (formal_node c.in_ok-next.next)
-          (read c.args.self.now.left formal_list none c.args.self.now.rest.now) refl c.more.invariant.same (search rules) c.in_ok-next.ensures.given pushed c.more.invariant.so_far;
-      same = search rules;
-      shorter = search rules;
-    }
+unfolding formal_list next_formal
+more-preserved c = gathering formal_node c.more.invariant refl (sym c.next_is.ensures ∙ c.more-test.true) c.next_formal-next.ensures c.push-in-more.ensures
 
-pub returns-clause-given : goal.returns-clause-given
-unfolding next_formal
-returns-clause-given c = gathering_ends c.args.self.now.left next_formal none c.more.self.rest.now (map formal_node c.more.all.items) (read c.args.self.now.left formal_list none c.args.self.now.rest.now) (search rules) c.more.invariant.so_far
+pub returns : goal.returns
+unfolding formal_list next_formal
+returns c = gathered c.more.invariant (sym c.next_is.ensures ∙ c.more-test.false)

@@ -1,4 +1,0 @@
-//! Two trees of one text are judged alike.
-#![tactic(auto)]
-
-pub mod laws;

@@ -1,5 +1,0 @@
-pub mod Tables
-pub mod Sweep
-pub mod Among
-pub mod First
-mod Rows

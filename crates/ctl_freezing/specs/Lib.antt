@@ -1,4 +1,0 @@
-pub mod Freezing
-pub mod Calling
-pub mod Tables
-pub mod Happens

@@ -1,8 +1,0 @@
-use Rattle.std.proofs.Common.{ap, sym, ◌∙◌}
-use Rattle.ctl_gen_plain.specs.Emitted.{followed}
-use Rattle.ctl_gen_plain.specs.Layout.{item_code, items}
-use Rattle.ctl_gen_plain.proofs.EmittedStatements.{no_item}
-use Rattle.ctl_gen_plain.proofs.emit.Emitter.item.Goals as goal
-
-pub returns-in-Silent : goal.returns-in-Silent
-returns-in-Silent c = no_item c.args.self.now ∙ ap (λ x. followed (items (item_code x)) c.args.self.now) (sym c.in-Silent.is)

@@ -1,6 +1,0 @@
-pub mod Noting
-pub mod Breaches
-pub mod First
-pub mod ExpressionRows
-pub mod Kept
-pub mod StatementRows

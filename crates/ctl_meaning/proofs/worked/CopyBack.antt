@@ -1,0 +1,25 @@
+-- An `in out` copy does not go back where the subprogram raises.
+use Rattle.std.proofs.Common.{Some, [], codes, refl, ◌++◌, ◌∷◌, ◌≡◌}
+use Rattle.ctl_program.specs.declared.operators.CopyStart.TheVariants.{Actual as FromActual}
+use Rattle.ctl_program.specs.declared.types.Ty.TheVariants.{Integer}
+use Rattle.ctl_tree.specs.declared.ending.End.TheVariants.{Done}
+use Rattle.ctl_meaning.proofs.worked.Build.{Program, assign, block, by_copy, call, checked, constant, counted_type, image, integer_image, master, newline, object, played, plays, print, prints_a, prints_f, procedure, program, put_line, raise, shown, silent, text, value, variable, when}
+use Rattle.ctl_meaning.specs.Choice.{newest}
+use Rattle.ctl_meaning.specs.Run.{opened_meaning, outcome}
+
+abbrev the_program : Program
+the_program =
+    program (counted_type ∷ [])
+    []
+    (prints_a ∷
+    prints_f ∷
+    procedure 2 (master 1 [] (assign (variable 3 0) (constant 9) ∷ raise 0 ∷ []) []) ∷
+    procedure 0 (master 0 (silent ∷ silent ∷ silent ∷ silent ∷ silent ∷ []) (block 1 (object 0 Integer (Some (constant 1)) ∷ silent ∷ []) (call 2 (by_copy (variable 2 0) Integer FromActual ∷ []) ∷ []) (when 0 (put_line (text (codes "N") ∷ integer_image (value 2 0 Integer) ∷ []) ∷ []) ∷ []) ∷ []) []) ∷ [])
+    3
+
+computes : played the_program newest 300 ≡ (print (codes "N" ++ image 1) ∷ newline ∷ [], [], Some Done)
+unfolding opened_meaning played
+computes = refl
+
+runs : shown (outcome (checked the_program) newest 300) ≡ (print (codes "N" ++ image 1) ∷ newline ∷ [], [], Some Done)
+runs = plays the_program newest 300 _ computes

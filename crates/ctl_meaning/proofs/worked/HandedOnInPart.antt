@@ -1,0 +1,27 @@
+-- A part of the record that a function gives is handed on as a formal: the cells from that part on.
+use Rattle.std.proofs.Common.{None, Some, [], refl, ◌∷◌, ◌≡◌}
+use Rattle.ctl_program.specs.declared.expression.Step.TheVariants.{Component}
+use Rattle.ctl_program.specs.declared.types.Root.TheVariants.{Untagged}
+use Rattle.ctl_program.specs.declared.types.Ty.TheVariants.{Integer, Record}
+use Rattle.ctl_tree.specs.declared.ending.End.TheVariants.{Done}
+use Rattle.ctl_meaning.proofs.worked.Build.{Program, assign, by_name, by_value, call, call_of, checked, component, constant, function, image, integer_image, master, name, newline, no_operations, object, played, plays, print, procedure, program, put_line, read, record_type, return, shown, silent, value, variable}
+use Rattle.ctl_meaning.specs.Choice.{newest}
+use Rattle.ctl_meaning.specs.Run.{opened_meaning, outcome}
+
+abbrev the_program : Program
+the_program =
+    program (record_type 1 Untagged None (component Integer None ∷ []) no_operations ∷ record_type 1 Untagged None (component Integer None ∷ component (Record 4) None ∷ []) no_operations ∷ [])
+    []
+    (function 1 (master 1 (object 0 (Record 5) None ∷ []) (assign (name 2 0 (Component 5 1 ∷ [])) (constant 3) ∷ assign (name 2 0 (Component 5 2 ∷ Component 4 1 ∷ [])) (constant 7) ∷ return (Some (value 2 0 (Record 5))) ∷ []) []) ∷
+    procedure 1 (master 1 [] (put_line (integer_image (read (name 2 0 (Component 4 1 ∷ [])) Integer) ∷ []) ∷ []) []) ∷
+    procedure 1 (master 1 [] (call 1 (by_name (variable 2 0) ∷ []) ∷ []) []) ∷
+    procedure 1 (master 1 [] (call 2 (by_name (name 2 0 (Component 5 2 ∷ [])) ∷ []) ∷ []) []) ∷
+    procedure 0 (master 0 (silent ∷ silent ∷ silent ∷ silent ∷ silent ∷ []) (call 3 (by_value (call_of 0 []) ∷ []) ∷ []) []) ∷ [])
+    4
+
+computes : played the_program newest 300 ≡ (print (image 7) ∷ newline ∷ [], [], Some Done)
+unfolding opened_meaning played
+computes = refl
+
+runs : shown (outcome (checked the_program) newest 300) ≡ (print (image 7) ∷ newline ∷ [], [], Some Done)
+runs = plays the_program newest 300 _ computes

@@ -1,0 +1,21 @@
+-- A block pool of 1 blocks of 8 storage units.
+use Rattle.std.proofs.Common.{Some, [], refl, ◌∷◌, ◌≡◌}
+use Rattle.ctl_tree.specs.declared.ending.End.TheVariants.{Done}
+use Rattle.ctl_meaning.proofs.worked.Build.{Program, block, checked, constant, discriminant, master, null, played, plays, pool, procedure, program, shown}
+use Rattle.ctl_meaning.specs.Choice.{newest}
+use Rattle.ctl_meaning.specs.Run.{opened_meaning, outcome}
+
+abbrev the_program : Program
+the_program =
+    program []
+    []
+    (procedure 0 (master 0 [] (block 1 (pool 0 2 (discriminant 0 (constant 8) ∷ discriminant 1 (constant 1) ∷ []) ∷ []) (null ∷ []) [] ∷ []) []) ∷
+    [])
+    0
+
+computes : played the_program newest 10 ≡ ([], [], Some Done)
+unfolding opened_meaning played
+computes = refl
+
+runs : shown (outcome (checked the_program) newest 10) ≡ ([], [], Some Done)
+runs = plays the_program newest 10 _ computes

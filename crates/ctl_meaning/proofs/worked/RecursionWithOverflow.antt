@@ -1,0 +1,29 @@
+-- The same with a result beyond the last Integer.
+use Rattle.std.proofs.Common.{None, Some, [], codes, refl, ◌++◌, ◌∷◌, ◌≡◌}
+use Rattle.ctl_program.specs.declared.expression.Step.TheVariants.{Component}
+use Rattle.ctl_program.specs.declared.operators.BinaryOp.TheVariants.{Less, Multiply, Subtract}
+use Rattle.ctl_program.specs.declared.types.Ty.TheVariants.{Boolean, Integer, Record}
+use Rattle.ctl_tree.specs.declared.ending.End.TheVariants.{Raised}
+use Rattle.ctl_meaning.proofs.worked.Build.{Program, arm, assign, block, by_name, by_value, call, call_of, chain, checked, choose, constant, counted_type, finalized, function, image, integer_image, live, master, name, newline, object, of_master, operand, part, played, plays, print, prints_a, prints_f, procedure, program, put_line, read, return, scope, shown, silent, text, value, variable}
+use Rattle.ctl_meaning.specs.Choice.{newest}
+use Rattle.ctl_meaning.specs.Run.{opened_meaning, outcome}
+
+abbrev the_program : Program
+the_program =
+    program (counted_type ∷ [])
+    []
+    (prints_a ∷
+    prints_f ∷
+    function 2 (master 1 [] (choose (arm (chain (value 3 0 Integer) (operand Less Boolean (constant 2)) []) (return (Some (constant 1)) ∷ []) ∷ []) [] ∷ return (Some (chain (value 3 0 Integer) (operand Multiply Integer (call_of 2 (by_value (chain (value 3 0 Integer) (operand Subtract Integer (constant 1)) []) ∷ []))) [])) ∷ []) []) ∷
+    function 2 (master 1 (object 0 (Record 4) None ∷ []) (assign (name 3 0 (Component 4 1 ∷ [])) (constant 7) ∷ return (Some (read (name 3 0 (Component 4 1 ∷ [])) Integer)) ∷ []) []) ∷
+    procedure 2 (master 1 [] (assign (name 3 0 (Component 4 1 ∷ [])) (constant 5) ∷ []) []) ∷
+    procedure 0 (master 0 (silent ∷ silent ∷ silent ∷ silent ∷ silent ∷ []) (block 1 (silent ∷ silent ∷ silent ∷ object 0 (Record 4) None ∷ []) (put_line (text (codes "f") ∷ integer_image (call_of 2 (by_value (constant 13) ∷ [])) ∷ []) ∷ put_line (text (codes "g") ∷ integer_image (call_of 3 []) ∷ []) ∷ call 4 (by_name (variable 2 0) ∷ []) ∷ []) [] ∷ []) []) ∷
+    [])
+    5
+
+computes : played the_program newest 100 ≡ (live (part 1 []) (of_master 2) ∷ finalized (part 1 []) scope ∷ print (codes "F" ++ image 0) ∷ newline ∷ [], [], Some (Raised (codes "Constraint_Error")))
+unfolding opened_meaning played
+computes = refl
+
+runs : shown (outcome (checked the_program) newest 100) ≡ (live (part 1 []) (of_master 2) ∷ finalized (part 1 []) scope ∷ print (codes "F" ++ image 0) ∷ newline ∷ [], [], Some (Raised (codes "Constraint_Error")))
+runs = plays the_program newest 100 _ computes

@@ -1,0 +1,24 @@
+-- Objects are finalized in the reverse order of their creation.
+use Rattle.std.proofs.Common.{None, Some, [], codes, refl, ◌++◌, ◌∷◌, ◌≡◌}
+use Rattle.ctl_program.specs.declared.expression.Step.TheVariants.{Component}
+use Rattle.ctl_program.specs.declared.types.Ty.TheVariants.{Record}
+use Rattle.ctl_tree.specs.declared.ending.End.TheVariants.{Done}
+use Rattle.ctl_meaning.proofs.worked.Build.{Program, assign, block, checked, constant, counted_type, finalized, image, live, master, name, newline, object, of_master, part, played, plays, print, prints_a, prints_f, procedure, program, put_text, scope, shown, silent}
+use Rattle.ctl_meaning.specs.Choice.{newest}
+use Rattle.ctl_meaning.specs.Run.{opened_meaning, outcome}
+
+abbrev the_program : Program
+the_program =
+    program (counted_type ∷ [])
+    []
+    (prints_a ∷
+    prints_f ∷
+    procedure 0 (master 0 (silent ∷ silent ∷ silent ∷ silent ∷ silent ∷ []) (block 2 (object 0 (Record 4) None ∷ object 1 (Record 4) None ∷ []) (assign (name 2 0 (Component 4 1 ∷ [])) (constant 1) ∷ assign (name 2 1 (Component 4 1 ∷ [])) (constant 2) ∷ []) [] ∷ put_text (codes "done") ∷ []) []) ∷ [])
+    2
+
+computes : played the_program newest 300 ≡ (live (part 1 []) (of_master 2) ∷ live (part 2 []) (of_master 2) ∷ finalized (part 2 []) scope ∷ print (codes "F" ++ image 2) ∷ newline ∷ finalized (part 1 []) scope ∷ print (codes "F" ++ image 1) ∷ newline ∷ print (codes "done") ∷ newline ∷ [], [], Some Done)
+unfolding opened_meaning played
+computes = refl
+
+runs : shown (outcome (checked the_program) newest 300) ≡ (live (part 1 []) (of_master 2) ∷ live (part 2 []) (of_master 2) ∷ finalized (part 2 []) scope ∷ print (codes "F" ++ image 2) ∷ newline ∷ finalized (part 1 []) scope ∷ print (codes "F" ++ image 1) ∷ newline ∷ print (codes "done") ∷ newline ∷ [], [], Some Done)
+runs = plays the_program newest 300 _ computes

@@ -1,7 +1,0 @@
-use Rattle.std.proofs.Common.{◌≡◌, drop}
-use Rattle.std.specs.List.{find}
-use Rattle.ctl_legality.specs.Library.{is_unit, children}
-use Rattle.ctl_names.proofs.library.child_of.Given as goal
-
-abbrev pub invariant-loop-unit : goal.invariant-loop-unit
-invariant-loop-unit l = find (is_unit l.name) (drop l.unit-index l.unit-items) ≡ find (is_unit l.name) (children l.fn.parent)

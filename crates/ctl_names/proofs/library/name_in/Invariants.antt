@@ -1,7 +1,0 @@
-use Rattle.std.proofs.Common.{◌≡◌, drop}
-use Rattle.std.specs.List.{find}
-use Rattle.ctl_legality.specs.Library.{is_name, names_of}
-use Rattle.ctl_names.proofs.library.name_in.Given as goal
-
-abbrev pub invariant-loop-candidate : goal.invariant-loop-candidate
-invariant-loop-candidate l = find (is_name l.name) (drop l.candidate-index l.candidate-items) ≡ find (is_name l.name) (names_of l.fn.unit)

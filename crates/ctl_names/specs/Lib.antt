@@ -1,2 +1,0 @@
-pub mod Scope
-pub mod Judging

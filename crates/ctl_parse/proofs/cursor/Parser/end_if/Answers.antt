@@ -1,0 +1,9 @@
+use Rattle.ctl_grammar.specs.Form.{none}
+use Rattle.ctl_grammar.specs.Grammar.{end_if}
+use Rattle.ctl_parse.proofs.Steps.{making, then}
+use Rattle.std.proofs.Common.{refl}
+use Rattle.ctl_parse.proofs.cursor.Parser.end_if.Goals as goal
+
+pub returns : goal.returns
+unfolding end_if
+returns c = making (λ v. none) (λ v. refl) (then c.skip.ensures (then c.skip-2.ensures c.skip-3.ensures))

@@ -1,0 +1,12 @@
+use Rattle.ctl_grammar.specs.Form.{none, ◌▸◌}
+use Rattle.ctl_grammar.specs.Grammar.{identifier, next_identifier, next_identifiers}
+use Rattle.ctl_parse.specs.Reads.{Gathers, pending}
+use Rattle.ctl_parse.specs.View.{identifier_node}
+use Rattle.std.proofs.Common.{map}
+use Rattle.ctl_parse.proofs.cursor.Parser.identifier_list.Given as goal
+
+abbrev pub invariant-more : goal.invariant-more
+invariant-more l = Gathers (identifier ▸ next_identifiers) next_identifier none l.fn.self (map identifier_node l.all) l.self
+
+abbrev pub decreases-more : goal.decreases-more
+decreases-more l = pending l.self

@@ -1,5 +1,0 @@
-use Rattle.ctl_parse_plain.proofs.Views.{view_name}
-use Rattle.ctl_parse_plain.proofs.building.name_expression.Goals as goal
-
-pub returns : goal.returns
-returns c = view_name c.args.name.first.span c.args.name

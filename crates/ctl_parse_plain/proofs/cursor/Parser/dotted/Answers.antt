@@ -1,7 +1,0 @@
-use Rattle.ctl_grammar.specs.Grammar.{dotted}
-use Rattle.ctl_parse_plain.proofs.Steps.{then}
-use Rattle.ctl_parse_plain.proofs.cursor.Parser.dotted.Goals as goal
-
-pub returns : goal.returns
-unfolding dotted
-returns c = then c.identifier-first.ensures c.selectors-rest.ensures

@@ -1,9 +1,0 @@
-use Rattle.ctl_grammar.specs.Form.{none}
-use Rattle.ctl_grammar.specs.Grammar.{end_if}
-use Rattle.ctl_parse_plain.proofs.Steps.{making, then}
-use Rattle.std.proofs.Common.{refl}
-use Rattle.ctl_parse_plain.proofs.cursor.Parser.end_if.Goals as goal
-
-pub returns : goal.returns
-unfolding end_if
-returns c = making (λ v. none) (λ v. refl) (then c.skip.ensures (then c.skip-2.ensures c.skip-3.ensures))

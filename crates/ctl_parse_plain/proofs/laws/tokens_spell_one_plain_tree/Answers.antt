@@ -1,5 +1,0 @@
-use Rattle.ctl_parse_plain.proofs.ReadTrees.{spells_one_tree}
-use Rattle.ctl_parse_plain.proofs.laws.tokens_spell_one_plain_tree.Goals as goal
-
-pub returns : goal.returns
-returns c = spells_one_tree

@@ -1,7 +1,0 @@
-pub mod Heading
-pub mod Kept
-pub mod Memory
-pub mod Parts
-pub mod Read
-pub mod Reads
-pub mod View

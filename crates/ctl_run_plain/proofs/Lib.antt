@@ -1,3 +1,0 @@
-pub mod Composed
-pub mod Verdicts
-pub mod WellTyped

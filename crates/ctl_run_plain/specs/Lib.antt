@@ -1,2 +1,0 @@
-pub mod Headline
-pub mod Verdict

@@ -1,2 +1,0 @@
-pub mod Constructs
-pub mod Places
