@@ -89,7 +89,9 @@ TEXTS = [
     ("procedure Main is task T; begin null; end Main;", 12, 1, 19),
     # a broken rule on names comes before a construct that is left out, wherever they stand
     ("procedure Main is begin Put_Line (\"x\"); end Main;", 20, 1, 25),
-    (ITEM + "type R is record N : Integer; end record; begin null; end Main;", 12, 1, 19),
+    (ITEM + "type R is record N : Integer; end record; X : R; begin null; end Main;", 12, 1, 61),
+    # a type that no object has does nothing when it is elaborated
+    (ITEM + "type R is record N : Integer; end record; begin null; end Main;", ACCEPTED, 1, 1),
     (ITEM + "type R is record N : Integer; end record; begin X := 1; end Main;", 20, 1, 67),
     (ITEM + "X, X : Integer; begin null; end Main;", 21, 1, 22),
     (ITEM + "procedure P; begin null; end Main;", 22, 1, 29),
@@ -97,13 +99,13 @@ TEXTS = [
     (ITEM + "begin Ada.Text_IO.New_Line; end Main;", 25, 1, 25),
     # and before a broken rule on types, wherever that stands
     (ITEM + "N : Integer; begin N := True; M := 1; end Main;", 20, 1, 49),
-    # an assignment of a record is not run, and only types tell it: a broken rule on types comes first. An object with a value is a
-    # construct that is not run, unless its type is called Integer or Boolean: it comes before types are asked
-    (CONTROLLED + "type T is new Controlled with null record; X, Y : T; begin X := Y; end Main;", 12, 1, 123),
+    # an assignment of a record is not run, and only types tell it apart from others: it is told at the main procedure. The declaration of
+    # an object with a value is told at its identifier, unless its type is Integer or Boolean. A broken rule on types comes before both
+    (CONTROLLED + "type T is new Controlled with null record; X, Y : T; begin X := Y; end Main;", 12, 1, 46),
     (CONTROLLED + "type T is new Controlled with null record; X : T; Y : T := X; begin X := Y; end Main;", 12, 1, 114),
     (CONTROLLED + "type T is new Controlled with null record; X, Y : T; begin X := Y; X := 1; end Main;", 30, 1, 136),
-    # the initial value of a record that the text calls Integer: at the value
-    (CONTROLLED + "type Integer is new Controlled with null record; X : Integer; Y : Integer := X; begin null; end Main;", 12, 1, 141),
+    # of a type that only the text calls Integer
+    (CONTROLLED + "type Integer is new Controlled with null record; X : Integer; Y : Integer := X; begin null; end Main;", 12, 1, 126),
     # the null address is a value like others
     (
         "with System; use System; procedure Main is begin if Null_Address = Null_Address then null; end if; end Main;",

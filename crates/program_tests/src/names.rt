@@ -254,10 +254,10 @@ fn names_that_freeze(rt: HostRuntime) -> Result<(), Fail> {
             "type R is record C : Boolean := A.Next = null; end record;\nV : R;\nfor Ref'Storage_Pool use P;\nbegin null; end Main;",
             "11:1: 23 ORDER",
         ),
-        // the object that an allocator makes, as a copy of what an access value designates
+        // the object that an allocator makes, as a copy of what an access value designates: its Finalize is late, and its body later still
         (
             "V : Other := new Node'(A.all);\nprocedure Finalize (Y : in out Node);\nprocedure Finalize (Y : in out Node) is begin null; end Finalize;\nbegin null; end Main;",
-            "10:11: 26 LATE_PRIMITIVE",
+            "9:1: 24 ELAB",
         ),
         // a part of a name is no expression
         (

@@ -197,7 +197,7 @@ fn faults_of_types(rt: HostRuntime) -> Result<(), Fail> {
         ),
         (
             b"procedure Main is B : Boolean := 1 < True; begin null; end Main;",
-            "1:34: 30 TYPE",
+            "1:38: 30 TYPE",
         ),
         (
             b"procedure Main is B : Boolean := True and 1 < 2 + True; begin null; end Main;",
