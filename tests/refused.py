@@ -89,7 +89,7 @@ TEXTS = [
     ("procedure Main is task T; begin null; end Main;", 12, 1, 19),
     # a broken rule on names comes before a construct that is left out, wherever they stand
     ("procedure Main is begin Put_Line (\"x\"); end Main;", 20, 1, 25),
-    (ITEM + "type R is record N : Integer; end record; X : R; begin null; end Main;", 12, 1, 61),
+    (ITEM + "type R is record N : Integer; end record; X : R; begin null; end Main;", 12, 1, 19),
     # a type that no object has does nothing when it is elaborated
     (ITEM + "type R is record N : Integer; end record; begin null; end Main;", ACCEPTED, 1, 1),
     (ITEM + "type R is record N : Integer; end record; begin X := 1; end Main;", 20, 1, 67),
