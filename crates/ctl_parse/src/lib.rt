@@ -1,4 +1,4 @@
-//! The parser of adactl over plain trees: from the tokens of a source text to its tree, or the first fault of its grammar.
+//! Reads the tokens of a source text: answers its tree, or the first fault of its grammar.
 //!
 //! Each production of the grammar is a method of its own. What the grammar repeats is read by a loop, so the depth of recursion
 //! is bounded by how many constructs stand in one another, and not by the length of the text.

@@ -1,4 +1,4 @@
-//! The checked program as plain data: every use resolved, every expression typed, collections where their types are frozen.
+//! Holds the checked program: every use resolved, every expression typed, collections where their types are frozen.
 //!
 //! What is called or looked up by number stands in flat tables (records, access types, subprograms, exceptions); what is nested is a
 //! tree, no deeper than the source text nests. Operators of one precedence, selectors and alternatives are lists. Nothing is optional

@@ -1,4 +1,4 @@
-//! Trees of source texts as plain data: what is written, each node with its place, and the same once each name has what it denotes.
+//! Holds the trees of source texts: what is written, each node with its place, and the same once each name has what it denotes.
 //!
 //! A tree is generic in what a definition (`D`) and a use (`U`) of a name hold: both an identifier in the tree of a text; a number, a level
 //! and what is denoted in the resolved tree. Contracts see lists and values, and no address: equal texts have equal trees.

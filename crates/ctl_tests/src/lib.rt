@@ -1,4 +1,4 @@
-//! Tests of the crates that scan, parse, hold the code, run it and show the run, each through its public calls.
+//! Tests the crates that scan, parse, resolve names, hold the code, run it and show the run, each through its public calls.
 #![tactic(auto)]
 
 #[cfg(test)]
