@@ -1,4 +1,4 @@
--- What a plain tree keeps of a node.
+-- What a tree keeps of a node.
 use Rattle.std.specs.Prelude.{ℕ, ◌==◌, List, codes, cond}
 use Rattle.ctl_grammar.specs.Form.{Node, none, leaf, num, written, at, pair, tag}
 use Rattle.ctl_grammar.specs.Nodes.{first, second, part_2, behind_2, part_3, behind_3, letters}

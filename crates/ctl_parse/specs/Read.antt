@@ -1,4 +1,4 @@
--- The plain tree that stands for a node: `tree_node` the other way round. For a node that no tree stands for it is some tree.
+-- The tree that stands for a node: `tree_node` the other way round. For a node that no tree stands for it is some tree.
 use Rattle.std.specs.Prelude.{◌≡◌, ℕ, zero, suc, ◌+◌, ◌==◌, Bool, true, false, cond, List, [], ◌∷◌, map, Option, Some, None}
 use Rattle.ctl_tree.specs.declared.span.Span.{Span}
 use Rattle.ctl_tree.specs.declared.token.Token.{Token}

@@ -1,4 +1,4 @@
--- What plain trees stand for.
+-- What trees stand for.
 use Rattle.std.specs.Prelude.{ℕ, ◌==◌, Bool, true, false, ◌&&◌, not, cond, List, map, Option, Some, None}
 use Rattle.ctl_tree.specs.declared.span.Span.{Span}
 use Rattle.ctl_grammar.specs.Form.{Node, none, leaf, num, written, at, pair, tag}

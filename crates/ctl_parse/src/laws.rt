@@ -1,4 +1,4 @@
-//! The laws of plain trees. The functions do nothing; their contracts say the laws.
+//! The laws of trees. The functions do nothing; their contracts say the laws.
 
 ghost use Rattle.ctl_parse.specs.Read.{HasOneTree, ReadsBack, SpellsOneTree};
 
@@ -8,7 +8,7 @@ pub fn a_node_has_one_tree()
     ensures one_tree { HasOneTree }
 {}
 
-/// Tokens spell at most one plain tree.
-pub fn tokens_spell_one_plain_tree()
+/// Tokens spell at most one tree.
+pub fn tokens_spell_one_tree()
     ensures { SpellsOneTree }
 {}
