@@ -51,6 +51,10 @@ one_found n [] i d rising at = absurd (omega (arith, at.in_range))
 one_found n (x ∷ xs) zero d rising at = rw (eq_same x.number n (at.has_number d)) refl
 one_found n (x ∷ xs) (suc i) d rising at = rw (eq_differs x.number n (earlier_differs n x xs i rising at)) (one_found n xs i d (tail_rises x xs rising) (tail_stands n x xs i at))
 
+-- and is read there
+pub found : (n : ℕ) (xs : List Object) (i : ℕ) (o : Object) → IsRising xs → StandsAt (λ o. o.number) xs n i → o ≡ get_or xs i o → object_in n (objects_of xs) ≡ Some (object_of o)
+found n xs i o rising at read = one_found n xs i o rising at ∙ ap (λ (x : Object). Some (object_of x)) (sym read)
+
 one_changes : (n : ℕ) (f : W.Object → W.Object) (xs : List Object) (i : ℕ) (d : Object) → IsRising xs → StandsAt number_of xs n i → set (objects_of xs) i (f (object_of (get_or xs i d))) ≡ change_in n f (objects_of xs)
 unfolding opened_lists opened_objects number_of
 one_changes n f [] i d rising at = absurd (omega (arith, at.in_range))

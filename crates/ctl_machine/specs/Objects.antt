@@ -1,5 +1,5 @@
 -- The objects that the machine keeps, as the meaning speaks of them.
-use Rattle.std.specs.Prelude.{◌≡◌, ℕ, ◌≤◌, List, [], map, not, nat_eq, take, All}
+use Rattle.std.specs.Prelude.{◌≡◌, ℕ, ◌≤◌, List, [], false, map, not, nat_eq, take, All}
 use Rattle.std.specs.List.Sorted.{IsNonDecreasing}
 use Rattle.ctl_program.specs.declared.types.Ty.{Ty}
 use Rattle.ctl_meaning.specs.World as W
