@@ -2,8 +2,8 @@
 use Rattle.std.specs.Prelude.{ℕ, Bool, false, ◌||◌, List, [], ◌∷◌, codes}
 use Rattle.ctl_tree.specs.declared.token.Kind.{Kind}
 use Rattle.ctl_tree.specs.declared.token.Kind.TheVariants as kinds
-use Rattle.ctl_tree.specs.declared.tree.LogicalOperator.{LogicalOperator}
-use Rattle.ctl_tree.specs.declared.tree.LogicalOperator.TheVariants as operators
+use Rattle.ctl_syntax.specs.declared.operators.LogicalOperator.{LogicalOperator}
+use Rattle.ctl_syntax.specs.declared.operators.LogicalOperator.TheVariants as operators
 use Rattle.ctl_grammar.specs.Spelling.{same_name}
 use Rattle.ctl_grammar.specs.Form.{none, num, pair, tag, Nest, Enclosed, Arguments, Handle, Formals, Associations, Conditional, Repetition, Block, Body, BareBody, Known, Ends, Form, word, keep, tested, empty, within, alt, when, many, act, late, nest, ◌▸◌}
 use Rattle.ctl_grammar.specs.Nodes.{first, second, part_2, part_3, part_4, part_5, behind_2, behind_3, behind_4, behind_5, place, letters, or_else, identifier_of, yes, no, number_of, string_of, null_of, name_of, parentheses_of, unary_of, product_of, sum_of, relation_of, logical_of, allocator_of, selector_of, all_of_access, arguments_of, access_of, attribute_of, is_bare, association_of, assignment_of, procedure_of, part_2_letters}

@@ -17,8 +17,6 @@ use Rattle.ctl_syntax.specs.declared.operators.RelationalOperator.{RelationalOpe
 use Rattle.ctl_syntax.specs.declared.operators.RelationalOperator.TheVariants as relational
 use Rattle.ctl_syntax.specs.declared.operators.LogicalOperator.{LogicalOperator}
 use Rattle.ctl_syntax.specs.declared.operators.LogicalOperator.TheVariants as logical
-use Rattle.ctl_tree.specs.declared.tree.LogicalOperator.{LogicalOperator as Tree_operator}
-use Rattle.ctl_tree.specs.declared.tree.LogicalOperator.TheVariants as tree_logical
 use Rattle.ctl_syntax.specs.declared.operators.UnaryOperator.{UnaryOperator}
 use Rattle.ctl_syntax.specs.declared.operators.UnaryOperator.TheVariants as unary
 use Rattle.ctl_syntax.specs.declared.expression.Expression.{Expression, fold-Expression}
@@ -69,14 +67,6 @@ logical_code logical.Or = 1
 logical_code logical.Xor = 2
 logical_code logical.AndThen = 3
 logical_code logical.OrElse = 4
-
--- the operator of the grammar
-abbrev pub tree_operator : LogicalOperator → Tree_operator
-tree_operator logical.And = tree_logical.And
-tree_operator logical.Or = tree_logical.Or
-tree_operator logical.Xor = tree_logical.Xor
-tree_operator logical.AndThen = tree_logical.AndThen
-tree_operator logical.OrElse = tree_logical.OrElse
 
 abbrev pub relational_code : RelationalOperator → ℕ
 relational_code relational.Equal = 0

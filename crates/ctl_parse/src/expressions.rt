@@ -5,7 +5,7 @@ ghost use Rattle.ctl_grammar.specs.Form.{none, at, pair, many, nest, Enclosed, A
 ghost use Rattle.ctl_grammar.specs.Grammar.{suffix, suffixes, name, handle, qualified, allocator, primary, factor, multiplicand, multiplicands, term, addend, addends, simple, compared, relation, next_relation, relations, behind_and, behind_or, joined, expression, next_expression, expressions, body};
 ghost use Rattle.ctl_grammar.specs.Nodes.{row_of};
 ghost use Rattle.ctl_parse.specs.Reads.{Reads};
-ghost use Rattle.ctl_parse.specs.View.{optional, view, suffix_node, name_node, operand_node, further_node, compared_node, joint_node, expressions_node, is_adding, joins, tree_operator};
+ghost use Rattle.ctl_parse.specs.View.{optional, view, suffix_node, name_node, operand_node, further_node, compared_node, joint_node, expressions_node, is_adding, joins};
 
 use crate::building::name_expression;
 use crate::cursor::{NOWHERE, Parser};
@@ -106,7 +106,7 @@ impl<'a> Parser<'a> {
         &mut self,
         operator: LogicalOperator,
     ) -> (Expression<Identifier>, Items<Expression<Identifier>>)
-        ensures { Reads (relations (tree_operator operator)) none self.old (expressions_node result) self.new }
+        ensures { Reads (relations operator) none self.old (expressions_node result) self.new }
     {
         let second = self.relation();
         let others = self.next_relations(operator);
@@ -116,7 +116,7 @@ impl<'a> Parser<'a> {
     /// Reads a relation behind a logical operator.
     #[cycle(expressions)]
     fn next_relation(&mut self, operator: LogicalOperator) -> Expression<Identifier>
-        ensures { Reads (next_relation (tree_operator operator)) none self.old (view result) self.new }
+        ensures { Reads (next_relation operator) none self.old (view result) self.new }
     {
         self.joiner(operator);
         self.relation()
@@ -125,7 +125,7 @@ impl<'a> Parser<'a> {
     /// Reads the relations that this operator joins to the one before.
     #[cycle(expressions)]
     fn next_relations(&mut self, operator: LogicalOperator) -> Items<Expression<Identifier>>
-        ensures { Reads (many (next_relation (tree_operator operator))) none self.old (row_of (map view result)) self.new }
+        ensures { Reads (many (next_relation operator)) none self.old (row_of (map view result)) self.new }
     {
         let mut all = Items::new(self.alloc);
         'more: while self.at_joiner(operator) {

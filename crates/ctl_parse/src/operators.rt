@@ -6,7 +6,7 @@ ghost use Rattle.ctl_grammar.specs.Grammar.{first_word, second_word, joiner, rel
 ghost use Rattle.ctl_grammar.specs.Nodes.{all_of_access, attribute_of, selector_of};
 ghost use Rattle.ctl_parse.specs.Kept.{attribute_number};
 ghost use Rattle.ctl_parse.specs.Reads.{Reads, sees};
-ghost use Rattle.ctl_parse.specs.View.{arithmetic_code, attribute_code, is_adding, relational_code, sign_node, signs, suffix_node, tree_operator, view};
+ghost use Rattle.ctl_parse.specs.View.{arithmetic_code, attribute_code, is_adding, relational_code, sign_node, signs, suffix_node, view};
 
 use crate::cursor::{NOWHERE, Parser};
 use ctl_grammar::kind::is_same_kind;
@@ -22,7 +22,7 @@ use ctl_tree::token::Kind;
 
 /// Gives the word by which a logical operator begins.
 fn first_word(operator: LogicalOperator) -> Kind
-    ensures { result ≡ first_word (tree_operator operator) }
+    ensures { result ≡ first_word operator }
 {
     match operator {
         LogicalOperator::And | LogicalOperator::AndThen => Kind::And,
@@ -49,7 +49,7 @@ fn attribute_named(name: &[u8]) -> Option<Attribute>
 impl<'a> Parser<'a> {
     /// Reads the words of a logical operator (RM 4.5.1).
     pub(crate) fn joiner(&mut self, operator: LogicalOperator)
-        ensures { Reads (joiner (tree_operator operator)) none self.old none self.new }
+        ensures { Reads (joiner operator) none self.old none self.new }
     {
         self.skip(first_word(operator));
         self.second_word(operator);
@@ -58,7 +58,7 @@ impl<'a> Parser<'a> {
     /// Reads the second word of a logical operator, if it has one.
     #[tactic(auto, using(crate::proofs::Steps::staying))]
     fn second_word(&mut self, operator: LogicalOperator)
-        ensures { Reads (second_word (tree_operator operator)) none self.old none self.new }
+        ensures { Reads (second_word operator) none self.old none self.new }
     {
         match operator {
             LogicalOperator::And | LogicalOperator::Or | LogicalOperator::Xor => {}
@@ -70,7 +70,7 @@ impl<'a> Parser<'a> {
     /// Says whether the words of a logical operator are next, by the first of them.
     #[tactic(auto, unfolding(ctl_grammar::specs::Grammar::joiner))]
     pub(crate) fn at_joiner(&self, operator: LogicalOperator) -> bool
-        ensures { result ≡ sees (starts (joiner (tree_operator operator))) self.now }
+        ensures { result ≡ sees (starts (joiner operator)) self.now }
     {
         self.next_is(first_word(operator))
     }

@@ -2,11 +2,11 @@ use Rattle.std.proofs.Common.{◌+◌, ◌*◌, true, false, map}
 use Rattle.ctl_grammar.specs.Form.{none, many}
 use Rattle.ctl_grammar.specs.Grammar.{addend, addends, multiplicand, multiplicands, next_expression, next_relation, suffix, suffixes}
 use Rattle.ctl_parse.specs.Reads.{Gathers, pending}
-use Rattle.ctl_parse.specs.View.{operand_node, suffix_node, tree_operator, view}
+use Rattle.ctl_parse.specs.View.{operand_node, suffix_node, view}
 use Rattle.ctl_parse.proofs.cursor.Parser.+expressions.Given as goal
 
 abbrev pub invariant-next_relations-more : goal.invariant-next_relations-more
-invariant-next_relations-more l = Gathers (many (next_relation (tree_operator l.fn.operator))) (next_relation (tree_operator l.fn.operator)) none l.fn.self (map (view) l.all) l.self
+invariant-next_relations-more l = Gathers (many (next_relation l.fn.operator)) (next_relation l.fn.operator) none l.fn.self (map (view) l.all) l.self
 
 abbrev pub decreases-next_relations-more : goal.decreases-next_relations-more
 decreases-next_relations-more l = pending l.self
