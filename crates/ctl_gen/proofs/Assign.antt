@@ -1,6 +1,6 @@
 -- A scalar variable takes the value of an expression (5.2).
-use Rattle.std.proofs.Common.{◌≡◌, ℕ, ◌+◌, List, [], ◌∷◌, ◌++◌, length, Option, Some, None, refl, sym, ap, ◌∙◌, subst, arith, length-append}
-use Rattle.ctl_meaning.specs.World.{Copies, Log, World}
+use Rattle.std.proofs.Common.{◌≡◌, ℕ, ◌+◌, List, [], ◌∷◌, ◌++◌, length, refl, sym, ap, subst, arith, length-append}
+use Rattle.ctl_meaning.specs.World.{Copies}
 use Rattle.ctl_meaning.specs.Lists.{opened_lists}
 use Rattle.ctl_meaning.specs.Objects.{overwritten}
 use Rattle.ctl_meaning.specs.Activations.{master_of}
@@ -10,7 +10,6 @@ use Rattle.ctl_meaning.specs.Types.{Tables}
 use Rattle.ctl_meaning.specs.Names.{Call, Default, Tools, Found, copy_in, slot_at, scalar_of, write_found}
 use Rattle.ctl_code.specs.declared.code.Instr.TheVariants as InstrOf
 use Rattle.ctl_code.specs.declared.code.Code.{Code}
-use Rattle.ctl_code.specs.States.{Frame}
 use Rattle.ctl_code.specs.Table.{with_value}
 use Rattle.ctl_program.specs.declared.types.Var.{Var}
 use Rattle.ctl_gen.specs.Values.{ValueCode}

@@ -6,7 +6,7 @@ use Rattle.ctl_program.specs.declared.types.Ty.TheVariants as TyOf
 use Rattle.ctl_meaning.specs.World.{Log, World}
 use Rattle.ctl_meaning.specs.Lists.{opened_lists}
 use Rattle.ctl_meaning.specs.Objects.{first_cells, opened_objects}
-use Rattle.ctl_meaning.specs.Outcome.{constraint_error, ByRaise, Goes, Leaves, Out, Gives, Act, add, bind, on_goes, done, either, opened_outcome}
+use Rattle.ctl_meaning.specs.Outcome.{constraint_error, ByRaise, Leaves, Out, Gives, Act, add, bind, on_goes, done, either, opened_outcome}
 use Rattle.ctl_meaning.specs.Types.{Tables, cells_of, opened_types}
 use Rattle.ctl_meaning.specs.Names.{scalar_of, or_constraint_error, opened_names}
 use Rattle.ctl_gen.proofs.Known.{IsScalar}

@@ -1,5 +1,5 @@
 -- Each change of the machine's masters and objects is the meaning's change of their world.
-use Rattle.std.proofs.Common.{◌≡◌, ℕ, ◌+◌, ◌≤◌, List, [], ◌∷◌, ◌++◌, map, reverse, Bool, true, false, Vec, Global, refl, sym, ap, ◌∙◌, arith}
+use Rattle.std.proofs.Common.{◌≡◌, ℕ, ◌+◌, ◌≤◌, List, [], ◌∷◌, ◌++◌, map, reverse, Bool, true, false, Vec, Global, refl, sym, ap, arith}
 use Rattle.std.specs.Prelude.{nat_eq, not, slice_set, if◌then◌else◌}
 use Rattle.std.proofs.lemmas.List.{map-append, reverse-append}
 use Rattle.fin_lists.specs.Lists.{Lists, add_object, drop_newest, newest_layer, with_master, without_master}

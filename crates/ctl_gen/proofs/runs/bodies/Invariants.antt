@@ -1,5 +1,5 @@
 -- What is left is run as what there was.
-use Rattle.std.proofs.Common.{◌≡◌, map, drop}
+use Rattle.std.proofs.Common.{◌≡◌, drop}
 use Rattle.ctl_gen.specs.Layout.{bodies}
 use Rattle.ctl_gen.proofs.runs.bodies.Given as goal
 
