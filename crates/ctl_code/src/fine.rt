@@ -123,7 +123,7 @@ fn is_push_fine(code: &Code, place: usize, cell: u64) -> bool
     }
 }
 
-/// Checks the value of a scalar variable.
+/// Checks the value of an elementary variable.
 fn is_read_fine(code: &Code, place: usize) -> bool
     requires { place + 1 < 2 ^ 64 }
     ensures { IsTrue result ↔ ((ty : Ty) × IsScalar ty × Leads code.now (place + 1) (Operand ty ∷ stack_at code.now.kinds place)) }
@@ -183,7 +183,7 @@ fn is_binary_constant_fine(code: &Code, place: usize, op: BinaryOp, ty: Ty, cell
     }
 }
 
-/// Checks the assignment of a scalar (RM 5.2).
+/// Checks the assignment of an elementary variable (RM 5.2).
 fn is_assign_fine(code: &Code, place: usize) -> bool
     requires { place + 1 < 2 ^ 64 }
     ensures { IsTrue result ↔ UnderScalar (stack_at code.now.kinds place) (λ ty below. Leads code.now (place + 1) below) }

@@ -295,7 +295,7 @@ impl Emitter {
     }
 }
 
-/// Gives the instruction that declares an object without a value: of a record type, or a scalar one.
+/// Gives the instruction of a declaration without a value: of an object of a record type, or of an elementary variable.
 fn declaration(slot: usize, ty: Ty) -> Instr
     ensures { result ≡ spec.declaration slot ty }
 {

@@ -59,7 +59,7 @@ write_part n offset v = existing n (λ o. change (write_cells n offset v))
 
 -- What a name denotes ------------------------------------------------------------
 
--- a part of an object, cells of a copy, or a value alone
+-- a part of an object, cells of a slot, or a value alone
 pub data Found : Type 0 where
   InObject : (object offset : ℕ) (path : List ℕ) → Found
   InCopy : (master slot offset : ℕ) → Found

@@ -66,7 +66,8 @@ pub record Ledger : Type 0 where
   pub masters : List Master
   pub collections : List Collection
 
--- what a use of a name finds: nothing yet, an object, a part that a formal stands for, a copy, or a collection
+-- what a use of a name finds: nothing yet, an object, a part that a formal stands for, the cells of an elementary variable or of a copy,
+-- or a collection
 pub data Slot : Type 0 where
   Unset : Slot
   Holds : (object : ℕ) → Slot
