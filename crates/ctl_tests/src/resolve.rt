@@ -1,7 +1,7 @@
 //! Texts whose names are resolved, and texts that break one rule on names each.
 
 use ctl_lex::tokens;
-use ctl_parse::parse;
+use ctl_parse_plain::parse;
 use ctl_resolve::whole::named;
 use ctl_tree::fault::{Fault, FaultCode};
 use std::alloc::Global;
@@ -14,7 +14,7 @@ fn fault_of(alloc: Global, source: &str) -> Option<(FaultCode, usize, usize)> {
         Ok(tokens) => match parse(alloc, &tokens) {
             Err(fault) => Some(fault),
             Ok(tree) => match named(alloc, &tree) {
-                Ok((_, fault)) => fault,
+                Ok((_, broken)) => broken.names,
                 Err(_) => Some(Fault::memory()),
             },
         },
