@@ -1,7 +1,7 @@
 //! Texts whose names are resolved, and texts that break one rule on names each.
 
 use ctl_lex::tokens;
-use ctl_parse_plain::parse;
+use ctl_parse::parse;
 use ctl_resolve::whole::named;
 use ctl_tree::fault::{Fault, FaultCode};
 use std::alloc::Global;
