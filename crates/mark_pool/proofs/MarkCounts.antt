@@ -1,12 +1,14 @@
 -- That each mark knows how many words before it are out, after each call of a pool.
-use Rattle.std.proofs.Common.{◌≡◌, ℕ, ◌+◌, ◌-◌, ◌<◌, ◌≤◌, min, List, [], ◌∷◌, ◌++◌, map, length, refl, sym, ap, ◌∙◌, arith}
+use Rattle.std.proofs.Common.{◌≡◌, ℕ, ◌+◌, ◌-◌, ◌<◌, ◌≤◌, min, List, [], ◌∷◌, ◌++◌, map, length, drop, refl, sym, ap, ◌∙◌, arith}
 use Rattle.std.specs.Prelude.{All, Some}
+use Rattle.std.specs.List.{refill}
+use Rattle.std.proofs.lemmas.List.{take_at, length-map}
 use Rattle.std.proofs.lemmas.List.Elements.{All-nil, All-push, All-pop, All-map, All-weaker}
 use mathlib.Core.Logic.{⊎_elim}
 use Rattle.raw_region.specs.Places.{Places, held, out, with_run, AreHeld, AreOut}
 use Rattle.raw_region.proofs.PlaceLemmas.{order}
 use Rattle.mark_pool.specs.declared.pool.StandingMark.{StandingMark}
-use Rattle.mark_pool.specs.Marks.{out_before, out_within, Counts, AreInOrder, IsCounted, IsWithin, back_at}
+use Rattle.mark_pool.specs.Marks.{out_before, out_within, Counts, AreInOrder, IsCounted, IsWithin, back_at, seen_mark}
 use Rattle.mark_pool.proofs.OutCounts.{out_split, none_within, held_within, none_out, out_taken, out_back}
 use Rattle.mark_pool.proofs.Steps.{first_mark, all_below}
 
@@ -61,11 +63,20 @@ module _ (ps : Places) (size s : ℕ) (ws : List ℕ) (long : length ps ≡ size
         older = All-map (IsCounted (with_run ps s (held ws))) (back_at s (length ws)) older (All-weaker (IsCounted ps) _ fewer older c.older);
       }
 
+-- the marks that are written through a slice are those that the vector then has
+pub refilled : (old new : List StandingMark) (s n : ℕ) → new ≡ map (back_at s n) old → refill (length old) old new ≡ map (back_at s n) old
+refilled old new s n is = take_at new (drop (length new) old) (length old) (ap length is ∙ length-map old (back_at s n)) ∙ is
+
+-- a contract sees the marks as they were
+pub seen_back : (s n : ℕ) (ms : List StandingMark) → map seen_mark (map (back_at s n) ms) ≡ map seen_mark ms
+seen_back s n [] = refl
+seen_back s n (m ∷ ms) = ap (λ rest. seen_mark m ∷ rest) (seen_back s n ms)
+
 -- the newest mark is dropped
-pub counts_dropped : (ps : Places) (size count : ℕ) (top m : StandingMark) (older : List StandingMark) → Counts ps size count top (older ++ m ∷ [])
-    → Counts ps size count m older
-counts_dropped ps size count top m older c =
-    let parts = All-pop (IsCounted ps) (older ++ m ∷ []) older (Some m) refl c.older in
+pub counts_dropped : (ps : Places) (size count : ℕ) (top m : StandingMark) (older front : List StandingMark) → older ≡ front ++ m ∷ []
+    → Counts ps size count top older → Counts ps size count m front
+counts_dropped ps size count top m older front is c =
+    let parts = All-pop (IsCounted ps) older front (Some m) is c.older in
     record { whole = c.whole; top = parts.1; older = parts.0 }
 
 -- what is out from the newest mark on is what that mark does not count
