@@ -63,35 +63,20 @@ stands_marked r size used number count top older s =
       rest = s.rest;
     }
 
--- the newest mark is released: what was used since then is back, and no longer used
-module _ (r : Region) (size used : ℕ) (top : StandingMark) (older : List StandingMark) (there : AreHeld r.places top.start (used - top.start)) where
-  rest_released : Stands r size used top older → AreHeld r.places top.start (size - top.start)
-  rest_released s k lo hi = ⊎_elim (λ (below : k < used). there k lo (omega arith)) (λ (behind : used ≤ k). s.rest k behind (omega (arith, s.used_fits))) (order k used)
-
-  -- as the first one it stays, under a new number
-  pub stands_emptied : (number : ℕ) → Stands r size used top older → Stands r size top.start (record top { number = number }) older
-  stands_emptied number s =
-      record {
-        places = s.places;
-        small = s.small;
-        used_fits = omega (arith, s.top_fits, s.used_fits);
-        top_fits = omega arith;
-        in_order = s.in_order;
-        rest = rest_released s;
-      }
-
-  -- else the one before it is the newest
-  pub stands_dropped : (m : StandingMark) (front : List StandingMark) → older ≡ front ++ m ∷ [] → Stands r size used top older → Stands r size top.start m front
-  stands_dropped m front is s =
-      let parts = order_pop 0 top.start front m (subst (λ ms. AreInOrder 0 ms top.start) is s.in_order) in
-      record {
-        places = s.places;
-        small = s.small;
-        used_fits = omega (arith, s.top_fits, s.used_fits);
-        top_fits = parts.1;
-        in_order = parts.0;
-        rest = rest_released s;
-      }
+-- the newest mark is released, and the one before it is the newest: what was used since then is back, and no longer used
+pub stands_dropped : (r : Region) (size used : ℕ) (top m : StandingMark) (older front : List StandingMark) → AreHeld r.places top.start (used - top.start)
+    → older ≡ front ++ m ∷ [] → Stands r size used top older → Stands r size top.start m front
+stands_dropped r size used top m older front there is s =
+    let parts = order_pop 0 top.start front m (subst (λ ms. AreInOrder 0 ms top.start) is s.in_order) in
+    record {
+      places = s.places;
+      small = s.small;
+      used_fits = omega (arith, s.top_fits, s.used_fits);
+      top_fits = parts.1;
+      in_order = parts.0;
+      rest = λ k lo hi.
+          ⊎_elim (λ (below : k < used). there k lo (omega arith)) (λ (behind : used ≤ k). s.rest k behind (omega (arith, s.used_fits))) (order k used);
+    }
 
 -- the next words go out, and the rest stays
 pub stands_taken : (r r' : Region) (size used n : ℕ) (top : StandingMark) (older : List StandingMark) → Stands r size used top older → used + n ≤ size

@@ -46,6 +46,41 @@ fn marks_and_releases(rt: HostRuntime) -> Result<(), Fail> {
     Ok(())
 }
 
+/// Releases the newest mark where the pool says that all words since then are back, and answers whether it did.
+fn is_released<A: Allocator>(pool: &mut MarkPool<A>) -> bool
+    requires { pool.old.issued < 1000 }
+    ensures { (pool.new.home ≡ pool.old.home) × (pool.new.places ≡ pool.old.places)
+        × (pool.new.issued ≤ pool.old.issued + 1) }
+{
+    if pool.out_since_top() == 0 {
+        pool.release();
+        return true;
+    }
+    false
+}
+
+/// A mark is released while an older Block is out.
+#[test]
+fn older_blocks_stay_out(rt: HostRuntime) -> Result<(), Fail> {
+    let mut pool = MarkPool::new(rt.alloc(), 8)?;
+    let three = pool.take(3).unwrap();
+    let _ = pool.mark().unwrap();
+    let two = pool.take(2).unwrap();
+    let both_out = (pool.out(), pool.out_since_top());
+    let too_early = is_released(&mut pool);
+    pool.back(two);
+    let one_out = (pool.out(), pool.out_since_top());
+    let released = is_released(&mut pool);
+    let first_mark = (pool.used(), pool.out_since_top());
+    pool.back(three);
+    let none_out = (pool.out(), pool.out_since_top());
+    pool.close();
+    assert_eq!(rt; (both_out, one_out), ((5, 2), (3, 0)));
+    assert!(rt; !too_early && released);
+    assert_eq!(rt; (first_mark, none_out), ((3, 3), (0, 0)));
+    Ok(())
+}
+
 fn is_made<A: Allocator>(pool: &mut MarkPool<A>) -> bool
     requires { pool.old.issued < 1000 }
     ensures { (pool.new.places ≡ pool.old.places) × (pool.new.used ≡ pool.old.used)

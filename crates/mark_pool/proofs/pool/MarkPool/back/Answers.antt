@@ -1,6 +1,4 @@
-use Rattle.std.proofs.Common.{◌≡◌, ◌+◌, ◌-◌, ◌≤◌, map, ap, sym, ◌∙◌, arith, rules, length}
-use Rattle.std.specs.List.{refill}
-use Rattle.mark_pool.specs.Marks.{back_at}
+use Rattle.std.proofs.Common.{◌≡◌, ◌+◌, ◌≤◌, ap, arith, rules, length}
 use Rattle.mark_pool.proofs.MarkCounts.{within, all_within, counts_back, refilled, seen_back}
 use Rattle.mark_pool.proofs.OutCounts.{out_back}
 use Rattle.mark_pool.proofs.Steps.{stands_back}
@@ -38,7 +36,7 @@ invariant_of-self g c =
     let s = c.self.invariant.0 in
     let fits : block.start + length block.words ≤ p.size = omega (arith, s.places, c.home.ensures.within) in
     let older = refilled p.older.items c.bring_back_each.new.marks block.start (length block.words)
-        (rw (← c.start-start.ensures, ← c.words-len.ensures, ← c.as_mut_slice.ensures.value) c.bring_back_each.ensures) in
+    (rw (← c.start-start.ensures, ← c.words-len.ensures, ← c.as_mut_slice.ensures.value) c.bring_back_each.ensures) in
     rw (older, c.bring_back.ensures, c.start-start.ensures, c.words-len.ensures) (
       stands_back p.region c.home.new.self p.size p.used block.start block.words p.top p.older.items s c.home.ensures.within c.home.ensures.places,
       rw c.home.ensures.places
@@ -50,5 +48,5 @@ returns g c =
     let p = c.self.inside in
     let block = c.args.block in
     let older = refilled p.older.items c.bring_back_each.new.marks block.start (length block.words)
-        (rw (← c.start-start.ensures, ← c.words-len.ensures, ← c.as_mut_slice.ensures.value) c.bring_back_each.ensures) in
+    (rw (← c.start-start.ensures, ← c.words-len.ensures, ← c.as_mut_slice.ensures.value) c.bring_back_each.ensures) in
     rw (older, c.bring_back.ensures, seen_back block.start (length block.words) p.older.items, ← c.self.view_is, c.home.ensures.home, c.home.ensures.places) (search rules)

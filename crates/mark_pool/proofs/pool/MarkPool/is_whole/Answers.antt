@@ -1,4 +1,4 @@
-use Rattle.std.proofs.Common.{◌+◌, ◌-◌, length, IsTrue, eqb, subst, arith}
+use Rattle.std.proofs.Common.{length, IsTrue, eqb, subst, arith}
 use Rattle.mark_pool.specs.Marks.{Marks, IsTopBack}
 use Rattle.raw_region.specs.Places.{AreHeld}
 use Rattle.mark_pool.proofs.OutCounts.{whole_held, held_whole}

@@ -1,4 +1,4 @@
-use Rattle.std.proofs.Common.{◌≡◌, ◌-◌, ◌≤◌, ap, arith, subst}
+use Rattle.std.proofs.Common.{◌≡◌, ◌-◌, ap, arith, subst}
 use Rattle.mark_pool.specs.Marks.{Marks, IsTopBack, out_since_top, out_within}
 use Rattle.mark_pool.proofs.MarkCounts.{counts_since, back_since, none_since}
 use Rattle.mark_pool.proofs.pool.MarkPool.out_since_top.Goals as goal

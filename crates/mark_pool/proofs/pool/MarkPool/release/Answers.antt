@@ -10,6 +10,6 @@ invariant_of-self g c =
     let mark = c.in-Some.mark in
     let front = c.pop.new.self.items in
     let back = subst (λ (m : Marks). IsTopBack m) (sym c.self.view_is) c.requires.back in (
-      stands_dropped p.region p.size p.used p.top p.older.items back mark front c.in-Some.ensures.items c.self.invariant.0,
+      stands_dropped p.region p.size p.used p.top mark p.older.items front back c.in-Some.ensures.items c.self.invariant.0,
       counts_dropped p.region.places p.size p.out p.top mark p.older.items front c.in-Some.ensures.items c.self.invariant.1,
     )

@@ -1,7 +1,7 @@
-use Rattle.std.proofs.Common.{◌≡◌, ◌+◌, ◌-◌, ◌≤◌, arith, rules}
+use Rattle.std.proofs.Common.{◌+◌, ◌≤◌, arith}
 use Rattle.raw_region.specs.Places.{AreHeld}
 use Rattle.mark_pool.proofs.MarkCounts.{counts_taken}
-use Rattle.mark_pool.proofs.OutCounts.{out_le, out_taken}
+use Rattle.mark_pool.proofs.OutCounts.{out_le}
 use Rattle.mark_pool.proofs.Steps.{stands_taken}
 use Rattle.mark_pool.proofs.pool.MarkPool.take.Goals as goal
 
@@ -20,5 +20,5 @@ invariant_of-self g c =
     let there : AreHeld p.region.places p.used n = λ k lo hi. s.rest k lo (omega arith) in (
       stands_taken p.region c.cut.new.self p.size p.used n p.top p.older.items s fits c.cut.ensures.places,
       counts_taken p.region.places c.cut.new.self.places p.size p.used n p.out p.top p.older.items s.places fits there s.top_fits s.in_order
-      c.cut.ensures.places c.self.invariant.1,
+          c.cut.ensures.places c.self.invariant.1,
     )
