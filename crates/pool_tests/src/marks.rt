@@ -59,24 +59,27 @@ fn is_released<A: Allocator>(pool: &mut MarkPool<A>) -> bool
     false
 }
 
+/// How many words are out, and how many of them from the newest mark on.
+fn words_out<A: Allocator>(pool: &MarkPool<A>) -> (u64, u64) {
+    (pool.out(), pool.out_since_top())
+}
+
 /// A mark is released while an older Block is out.
 #[test]
 fn older_blocks_stay_out(rt: HostRuntime) -> Result<(), Fail> {
-    let mut pool = MarkPool::new(rt.alloc(), 8)?;
+    let mut pool = MarkPool::new(rt.alloc(), 4)?;
     let three = pool.take(3).unwrap();
     let _ = pool.mark().unwrap();
-    let two = pool.take(2).unwrap();
-    let both_out = (pool.out(), pool.out_since_top());
-    let too_early = is_released(&mut pool);
-    pool.back(two);
-    let one_out = (pool.out(), pool.out_since_top());
-    let released = is_released(&mut pool);
-    let first_mark = (pool.used(), pool.out_since_top());
+    let one = pool.take(1).unwrap();
+    let both_out = words_out(&pool);
+    pool.back(one);
+    let older_out = words_out(&pool);
+    pool.release();
+    let first_mark = words_out(&pool);
     pool.back(three);
-    let none_out = (pool.out(), pool.out_since_top());
+    let none_out = words_out(&pool);
     pool.close();
-    assert_eq!(rt; (both_out, one_out), ((5, 2), (3, 0)));
-    assert!(rt; !too_early && released);
+    assert_eq!(rt; (both_out, older_out), ((4, 1), (3, 0)));
     assert_eq!(rt; (first_mark, none_out), ((3, 3), (0, 0)));
     Ok(())
 }
@@ -105,7 +108,7 @@ fn ten_marks_stand(rt: HostRuntime) -> Result<(), Fail> {
         is_made(&mut pool),
     ];
     let full = pool.is_full();
-    pool.release();
+    let released = is_released(&mut pool);
     let room = !pool.is_full() && pool.has_mark_numbers();
     let after_a_release = is_made(&mut pool);
     pool.close();
@@ -113,7 +116,7 @@ fn ten_marks_stand(rt: HostRuntime) -> Result<(), Fail> {
         made,
         [true, true, true, true, true, true, true, true, true, false]
     );
-    assert!(rt; full && room && after_a_release);
+    assert!(rt; full && released && room && after_a_release);
     Ok(())
 }
 
