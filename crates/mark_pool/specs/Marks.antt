@@ -1,12 +1,21 @@
 -- What a contract sees of a pool with marks.
-use Rattle.std.specs.Prelude.{◌≡◌, refl, ℕ, zero, suc, Option, Some, None, ◌+◌, ◌-◌, ◌≤◌, List, [], ◌∷◌, ◌++◌, length, All}
+use Rattle.std.specs.Prelude.{◌≡◌, refl, ℕ, zero, suc, Option, Some, None, ◌+◌, ◌-◌, ◌≤◌, List, [], ◌∷◌, ◌++◌, length, min, All}
 use Rattle.std.specs.Coded.{Coded, code_by, coded×, coded_ℕ, coded_list}
 use Rattle.raw_region.specs.Places.{Home, home_code, Region, Cut, Places, places_code, place, held, out, with_run, AreHeld}
-use Rattle.mark_pool.specs.declared.pool.Mark.{Mark}
+use Rattle.mark_pool.specs.declared.pool.StandingMark.{StandingMark}
 
--- How the logic stores a mark: as a pair.
+-- What a contract sees of a mark: its number, and how many words were used when it was made.
+pub record Mark : Type 0 where
+  pub number : ℕ
+  pub start : ℕ
+
+-- How the logic stores it: as a pair.
 abbrev pub mark_code : Coded Mark
 mark_code = code_by (ℕ × ℕ) (coded× coded_ℕ coded_ℕ) (λ m. (m.number, m.start)) (λ t. record { number = t.0; start = t.1 }) (λ _. refl)
+
+-- A mark that stands, as a contract sees it.
+abbrev pub seen_mark : StandingMark → Mark
+seen_mark m = record { number = m.number; start = m.start }
 
 -- Which region its words lie in, which of them are out, how many are used, the newest mark, the others from the oldest on, and how many numbers were issued.
 pub record Marks : Type 0 where
@@ -67,9 +76,18 @@ abbrev pub out_before : Places → ℕ → ℕ
 out_before ps zero = 0
 out_before ps (suc k) = out_before ps k + out_at (place ps k)
 
+-- How many of the n places from `start` on are out.
+abbrev pub out_within : Places → ℕ → ℕ → ℕ
+out_within ps start zero = 0
+out_within ps start (suc n) = out_within ps start n + out_at (place ps (start + n))
+
 -- How many words are out.
 abbrev pub out_count : Marks → ℕ
 out_count m = out_before m.places (length m.places)
+
+-- How many of the words from the newest mark's start on are out.
+abbrev pub out_since_top : Marks → ℕ
+out_since_top m = out_within m.places m.top.start (length m.places - m.top.start)
 
 -- No Block is out.
 abbrev pub AreAllBack : Marks → Type 0
@@ -86,11 +104,34 @@ pub record IsDropped (old new : Marks) : Type 0 where
   pub older : old.older ≡ new.older ++ new.top ∷ []
   pub issued : new.issued ≡ old.issued
 
--- The region has `size` words. What is not used is in it, and each mark lies in it.
-pub record Stands (r : Region) (size used : ℕ) (top : Mark) (older : List Mark) : Type 0 where
+-- Each mark starts at or behind the one before it, the first at `low` or behind, and `high` is no less than the last.
+abbrev pub AreInOrder : ℕ → List StandingMark → ℕ → Type 0
+AreInOrder low [] high = low ≤ high
+AreInOrder low (m ∷ ms) high = (low ≤ m.start) × AreInOrder m.start ms high
+
+-- The region has `size` words. What is not used is in it, and the marks lie in order, up to what is used.
+pub record Stands (r : Region) (size used : ℕ) (top : StandingMark) (older : List StandingMark) : Type 0 where
   pub places : length r.places ≡ size
   pub small : size ≤ 2097152
   pub used_fits : used ≤ size
-  pub top_fits : top.start ≤ size
-  pub older_fit : All (λ m. m.start ≤ size) older
+  pub top_fits : top.start ≤ used
+  pub in_order : AreInOrder 0 older top.start
   pub rest : AreHeld r.places used (size - used)
+
+-- The mark knows how many of the words before it are out.
+abbrev pub IsCounted : Places → StandingMark → Type 0
+IsCounted ps m = m.out_below ≡ out_before ps m.start
+
+-- How many words are out is known, and for each mark how many of those before it are.
+pub record Counts (ps : Places) (size out : ℕ) (newest : StandingMark) (others : List StandingMark) : Type 0 where
+  pub whole : out ≡ out_before ps size
+  pub top : IsCounted ps newest
+  pub older : All (IsCounted ps) others
+
+-- Of the n words from `start` on, those before the mark are among the ones that it counts.
+abbrev pub IsWithin : ℕ → ℕ → StandingMark → Type 0
+IsWithin start n m = min n (m.start - start) ≤ m.out_below
+
+-- The mark once the n words from `start` on are back.
+abbrev pub back_at : ℕ → ℕ → StandingMark → StandingMark
+back_at start n m = record m { out_below = m.out_below - min n (m.start - start) }

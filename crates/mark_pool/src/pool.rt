@@ -1,6 +1,6 @@
-ghost use Rattle.std.specs.Prelude.{◌≡◌, ℕ, ◌+◌, ◌^◌, ◌<◌, ◌≤◌, [], length, replicate, MatchOption, IfOk, IsTrue, ◌↔◌};
+ghost use Rattle.std.specs.Prelude.{◌≡◌, ℕ, ◌+◌, ◌-◌, ◌^◌, ◌<◌, ◌≤◌, [], length, map, min, replicate, All, MatchOption, IfOk, IsTrue, ◌↔◌};
 ghost use Rattle.raw_region.specs.Places.{held, words_at};
-ghost use Rattle.mark_pool.specs.Marks.{Marks, IsPoolSize, size_of, IsFull, with_mark, with_taken, with_back, IsTopBack, AreAllBack, out_count, IsEmptied, IsDropped};
+ghost use Rattle.mark_pool.specs.Marks.{Marks, IsPoolSize, size_of, IsFull, with_mark, with_taken, with_back, IsTopBack, AreAllBack, out_count, out_since_top, IsEmptied, IsDropped, back_at, IsWithin};
 
 use arrayvec::ArrayVec;
 use raw_region::{Block, PoolFault, RawRegion};
@@ -11,11 +11,35 @@ use std::marker::Model;
 #[derive(Clone, Copy, Debug, PartialEq, Eq)]
 pub struct MarkNo(pub u64);
 
-/// A mark: its number, and how many words were used when it was made.
+/// A mark that stands: its number, and how many words were used when it was made.
 #[derive(Clone, Copy, Default)]
-pub struct Mark {
+pub struct StandingMark {
     number: u64,
     start: usize,
+    // How many of the words before `start` are in Blocks. What is in Blocks from `start` on is all the others; so a
+    // `take`, which lies behind every mark, changes no count.
+    out_below: usize,
+}
+
+impl StandingMark {
+    /// Counts the words of a Block from the place `start` on as back, as far as they lie before the mark.
+    fn bring_back(&mut self, start: usize, words: usize)
+        requires { IsWithin start words self.old }
+        ensures { self.new ≡ back_at start words self.old }
+    {
+        let before = self.start.saturating_sub(start);
+        self.out_below -= words.min(before);
+    }
+}
+
+/// Counts the words of a Block from the place `start` on as back at each of these marks.
+fn bring_back_each(marks: &mut [StandingMark], start: usize, words: usize)
+    requires { All (IsWithin start words) marks.old }
+    ensures { marks.new ≡ map (back_at start words) marks.old }
+{
+    for mark in marks.iter_mut() {
+        mark.bring_back(start, words);
+    }
 }
 
 /// A pool whose words are given out one after the other. It ends by `close`, once all Blocks are back.
@@ -27,15 +51,15 @@ pub struct MarkPool<A: Allocator = Global> {
     used: usize,
     // How many words are in Blocks.
     out: usize,
-    top: Mark,
+    top: StandingMark,
     // From the oldest on.
-    older: ArrayVec<Mark, 9>,
+    older: ArrayVec<StandingMark, 9>,
     issued: u64,
 }
 
 impl<A: Allocator> Model for MarkPool<A> {
-    ghost use Rattle.std.specs.Prelude.{◌≡◌};
-    ghost use Rattle.mark_pool.specs.Marks.{Marks, marks_code, out_before, Stands};
+    ghost use Rattle.std.specs.Prelude.{map};
+    ghost use Rattle.mark_pool.specs.Marks.{Marks, marks_code, seen_mark, Stands, Counts};
 
     ghost Value = { Marks };
 
@@ -45,12 +69,13 @@ impl<A: Allocator> Model for MarkPool<A> {
       home = p.region.home;
       places = p.region.places;
       used = p.used;
-      top = p.top;
-      older = p.older.items;
+      top = seen_mark p.top;
+      older = map seen_mark p.older.items;
       issued = p.issued;
     } };
 
-    ghost invariant = { λ p. Stands p.region p.size p.used p.top p.older.items × (p.out ≡ out_before p.region.places p.size) };
+    ghost invariant = { λ p. Stands p.region p.size p.used p.top p.older.items
+        × Counts p.region.places p.size p.out p.top p.older.items };
 }
 
 impl<A: Allocator> MarkPool<A> {
@@ -72,9 +97,10 @@ impl<A: Allocator> MarkPool<A> {
             size: words,
             used: 0,
             out: 0,
-            top: Mark {
+            top: StandingMark {
                 number: 0,
                 start: 0,
+                out_below: 0,
             },
             older: ArrayVec::new(),
             issued: 1,
@@ -101,6 +127,14 @@ impl<A: Allocator> MarkPool<A> {
         ensures top { IsTrue result → IsTopBack self.now }
     {
         self.out == 0
+    }
+
+    /// How many words are out, in Blocks, from the newest mark on. Where none is, it can be released.
+    pub fn out_since_top(&self) -> u64
+        ensures count { result ≡ out_since_top self.now }
+        ensures none { (result ≡ 0) ↔ IsTopBack self.now }
+    {
+        (self.out - self.top.out_below) as u64
     }
 
     /// The newest mark.
@@ -135,9 +169,10 @@ impl<A: Allocator> MarkPool<A> {
         }
         let number = self.issued;
         self.older.push(self.top);
-        self.top = Mark {
+        self.top = StandingMark {
             number,
             start: self.used,
+            out_below: self.out,
         };
         self.issued += 1;
         Some(MarkNo(number))
@@ -165,9 +200,12 @@ impl<A: Allocator> MarkPool<A> {
         requires { block.home ≡ self.old.home }
         ensures { self.new ≡ with_back self.old block }
     {
+        let start = block.start();
         let len = block.words().len();
         self.region.home(block);
         self.out -= len;
+        self.top.bring_back(start, len);
+        bring_back_each(self.older.as_mut_slice(), start, len);
     }
 
     /// Releases the newest mark: what was used since then is used no more, and the mark is dropped.

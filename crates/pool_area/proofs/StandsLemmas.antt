@@ -5,8 +5,7 @@ use mathlib.Core.Logic.{inr}
 use Rattle.std.specs.Prelude.{slice_get, option_and_then, MatchOption, IfSome}
 use Rattle.raw_region.specs.Places.{Home, out}
 use Rattle.raw_region.proofs.PlaceLemmas.{length-out, length-with_run, with_run-outside}
-use Rattle.mark_pool.specs.declared.pool.Mark.{Mark}
-use Rattle.mark_pool.specs.Marks.{Marks, with_taken, with_mark, IsDropped}
+use Rattle.mark_pool.specs.Marks.{Mark, Marks, with_taken, with_mark, IsDropped}
 use Rattle.pool_area.specs.declared.lot.Lot.{Lot}
 use Rattle.pool_area.specs.declared.subpool.Subpool.{Subpool}
 use Rattle.pool_area.specs.Lots.{Held, IsFilled}

@@ -2,8 +2,7 @@
 use Rattle.std.specs.Prelude.{◌≡◌, refl, ℕ, ◌+◌, ◌-◌, ◌*◌, ◌/◌, ◌≤◌, List, [], ◌∷◌, ◌++◌, length, map, take, replicate, Option, Some, None, Bool, true, false, cond, not, ◌&&◌, nat_eq, nat_lt, slice_get, slice_set, option_and_then}
 use Rattle.std.specs.Coded.{Coded, code_by, coded×, coded_ℕ, coded_list, coded_option}
 use Rattle.std.specs.Option.{option_map, option_map_or}
-use Rattle.mark_pool.specs.declared.pool.Mark.{Mark}
-use Rattle.mark_pool.specs.Marks.{Marks}
+use Rattle.mark_pool.specs.Marks.{Mark, Marks}
 use Rattle.pool_area.specs.declared.subpool.Subpool.{Subpool}
 use Rattle.pool_area.specs.declared.subpool.Standing.{Standing}
 use Rattle.pool_area.specs.declared.subpool.Standing.TheVariants.{Attached, Detached, Dead}

@@ -46,6 +46,44 @@ fn marks_and_releases(rt: HostRuntime) -> Result<(), Fail> {
     Ok(())
 }
 
+/// Releases the newest mark where the pool says that all words since then are back, and answers whether it did.
+fn is_released<A: Allocator>(pool: &mut MarkPool<A>) -> bool
+    requires { pool.old.issued < 1000 }
+    ensures { (pool.new.home ≡ pool.old.home) × (pool.new.places ≡ pool.old.places)
+        × (pool.new.issued ≤ pool.old.issued + 1) }
+{
+    if pool.out_since_top() == 0 {
+        pool.release();
+        return true;
+    }
+    false
+}
+
+/// How many words are out, and how many of them from the newest mark on.
+fn words_out<A: Allocator>(pool: &MarkPool<A>) -> (u64, u64) {
+    (pool.out(), pool.out_since_top())
+}
+
+/// A mark is released while an older Block is out.
+#[test]
+fn older_blocks_stay_out(rt: HostRuntime) -> Result<(), Fail> {
+    let mut pool = MarkPool::new(rt.alloc(), 4)?;
+    let three = pool.take(3).unwrap();
+    let _ = pool.mark().unwrap();
+    let one = pool.take(1).unwrap();
+    let both_out = words_out(&pool);
+    pool.back(one);
+    let older_out = words_out(&pool);
+    pool.release();
+    let first_mark = words_out(&pool);
+    pool.back(three);
+    let none_out = words_out(&pool);
+    pool.close();
+    assert_eq!(rt; (both_out, older_out), ((4, 1), (3, 0)));
+    assert_eq!(rt; (first_mark, none_out), ((3, 3), (0, 0)));
+    Ok(())
+}
+
 fn is_made<A: Allocator>(pool: &mut MarkPool<A>) -> bool
     requires { pool.old.issued < 1000 }
     ensures { (pool.new.places ≡ pool.old.places) × (pool.new.used ≡ pool.old.used)
@@ -70,7 +108,7 @@ fn ten_marks_stand(rt: HostRuntime) -> Result<(), Fail> {
         is_made(&mut pool),
     ];
     let full = pool.is_full();
-    pool.release();
+    let released = is_released(&mut pool);
     let room = !pool.is_full() && pool.has_mark_numbers();
     let after_a_release = is_made(&mut pool);
     pool.close();
@@ -78,7 +116,7 @@ fn ten_marks_stand(rt: HostRuntime) -> Result<(), Fail> {
         made,
         [true, true, true, true, true, true, true, true, true, false]
     );
-    assert!(rt; full && room && after_a_release);
+    assert!(rt; full && released && room && after_a_release);
     Ok(())
 }
 

@@ -1,13 +1,13 @@
 use Rattle.std.proofs.Common.{rules, sym, subst, arith}
-use Rattle.mark_pool.specs.Marks.{Stands, out_before}
-use Rattle.mark_pool.proofs.OutCounts.{none_out}
-use Rattle.mark_pool.proofs.Steps.{stands_new}
+use Rattle.mark_pool.specs.Marks.{Stands, Counts}
+use Rattle.mark_pool.proofs.MarkCounts.{counts_new}
+use Rattle.mark_pool.proofs.Steps.{first_mark, stands_new}
 use Rattle.mark_pool.proofs.pool.MarkPool.new.Goals as goal
 
 pub invariant_of-result : goal.invariant_of-result
 invariant_of-result g c =
     let region = c.in_ok-open.field-0 in
-    let stands = stands_new region c.args.words (search rules) c.in_ok-open.ensures.zero in (
-      subst (λ older. Stands region c.args.words 0 (record { number = 0; start = 0 }) older) (sym c.new.ensures) stands,
-      sym (none_out region.places c.args.words (λ k lo hi. stands.rest k lo (omega arith))),
-    )
+    let words = c.args.words in
+    let stands = stands_new region words (search rules) c.in_ok-open.ensures.zero in
+    let counts = counts_new region.places words (λ k lo hi. stands.rest k lo (omega arith)) in
+    subst (λ older. Stands region words 0 first_mark older × Counts region.places words 0 first_mark older) (sym c.new.ensures) (stands, counts)
