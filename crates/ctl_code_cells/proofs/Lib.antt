@@ -1,0 +1,13 @@
+pub mod Elements
+pub mod Fitting
+pub mod FittingFrames
+pub mod FittingInstructions
+pub mod Links
+pub mod Lists
+pub mod Logs
+pub mod Numbers
+pub mod RightOperands
+pub mod FittingWorlds
+pub mod Small
+pub mod Texts
+pub mod Whole

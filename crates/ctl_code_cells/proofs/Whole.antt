@@ -1,0 +1,20 @@
+-- Code that is well formed, by the stacks that its table has.
+use Rattle.std.specs.Prelude.{slice_get}
+use Rattle.std.proofs.Common.{◌≡◌, ℕ, List, [], length, Some, ap, subst}
+use Rattle.ctl_code_cells.specs.declared.kinds.Kind.{Kind}
+use Rattle.ctl_code_cells.specs.declared.code.Instr.{Instr}
+use Rattle.ctl_code_cells.specs.declared.code.Entry.{Entry}
+use Rattle.ctl_code_cells.specs.declared.code.Operations.{Operations}
+use Rattle.ctl_code_cells.specs.declared.code.Code.{Code}
+use Rattle.ctl_code_cells.specs.Kinds.{or_empty, stack_at}
+use Rattle.ctl_code_cells.specs.Valid.{kinds_at, IsFine, IsValid, Leads, MayBeEntry}
+
+-- each instruction is well formed with the stack that the table has for its place
+abbrev pub EachIsFine : Code → Type 0
+EachIsFine code = (place : ℕ) (i : Instr) → slice_get code.instructions.items place ≡ Some i → IsFine code place i (stack_at code.kinds place)
+
+pub whole : (code : Code) → length code.kinds ≡ length code.instructions.items → Leads code 0 [] → EachIsFine code → ((f : ℕ) (e : Entry) → slice_get code.entries.items f ≡ Some e → Leads code e.place []) → ((t : ℕ) (o : Operations) → slice_get code.records.items t ≡ Some o → MayBeEntry code o.initialize × MayBeEntry code o.finalize) → IsValid code
+whole code long start fine entries records = record { long = long; start = start; each = each; entries = entries; records = records }
+  where
+    each : (place : ℕ) (i : Instr) (stack : List Kind) → slice_get code.instructions.items place ≡ Some i → kinds_at code place ≡ Some stack → IsFine code place i stack
+    each place i stack got at = subst (IsFine code place i) (ap or_empty at) (fine place i got)

@@ -1,0 +1,14 @@
+-- Stacks that share what is below their newest.
+use Rattle.std.specs.Prelude.{◌≡◌, ℕ, ◌≤◌, List, [], ◌∷◌, ◌++◌, Some, slice_get}
+use Rattle.ctl_code_cells.specs.declared.kinds.Kind.{Kind}
+use Rattle.ctl_code_cells.specs.declared.stacks.Link.{Link}
+use Rattle.ctl_code_cells.specs.Kinds.{stack_in}
+
+-- what links say, one after another: each puts its kind on a stack that was made before it
+abbrev pub stacks_over : List (List Kind) → List Link → List (List Kind)
+stacks_over made [] = made
+stacks_over made (l ∷ ls) = stacks_over (made ++ (l.kind ∷ stack_in made l.below) ∷ []) ls
+
+-- each link leads to a stack that was made before it
+abbrev pub LeadDown : List Link → Type 0
+LeadDown links = (i : ℕ) (l : Link) → slice_get links i ≡ Some l → l.below ≤ i

@@ -1,0 +1,193 @@
+//! What stands in the windows of the machine before each instruction.
+
+ghost use Rattle.std.specs.Prelude.{◌≡◌, ◌↔◌, [], ◌∷◌, ◌++◌, drop, length, reverse, slice_get, IsTrue, OnOk, MatchOption, List, Some};
+ghost use Rattle.ctl_code_cells.specs.declared.kinds.Kind.{Kind};
+ghost use Rattle.ctl_code_cells.specs.Kinds.{below_newest, changed, stack_at, stack_in, stacks_in};
+ghost use Rattle.ctl_code_cells.specs.Valid.{images_of};
+
+use crate::images::has_images_on;
+use crate::stacks::Stacks;
+use crate::template::TextPart;
+use crate::types::is_same_type;
+use ctl_program::types::Ty;
+use std::alloc::{AllocError, Global};
+use std::marker::Model;
+
+/// What stands in a window: an operand in one cell, or the cells of the slots of a master that was entered and is not left.
+#[derive(Clone, Copy)]
+pub enum Kind {
+    /// an operand of this type
+    Operand(Ty),
+    /// a block with so many slots (RM 5.6)
+    Block(usize),
+    /// a body with so many slots, whose window has so many cells at most
+    Body { slots: usize, room: usize },
+}
+
+/// Tells whether both are one kind.
+pub fn is_same_kind(left: Kind, right: Kind) -> bool
+    ensures { IsTrue result ↔ (left ≡ right) }
+{
+    match left {
+        Kind::Operand(ty) => matches!(right, Kind::Operand(other) if is_same_type(ty, other)),
+        Kind::Block(slots) => matches!(right, Kind::Block(other) if other == slots),
+        Kind::Body { slots, room } => {
+            matches!(right, Kind::Body { slots: others, room: bound } if others == slots && bound == room)
+        }
+    }
+}
+
+/// Answers the number of the stack before the instruction at a place; the empty one after the last.
+fn number_at(before: &[usize], place: usize) -> usize
+    ensures { (stacks : List (List Kind)) → stack_in stacks result ≡ stack_at (stacks_in stacks before.now) place }
+{
+    match before.get(place) {
+        Some(number) => *number,
+        None => 0,
+    }
+}
+
+/// The table of kinds: what stands on the stacks before each instruction of a body, the newest first.
+///
+/// A contract sees it as the list of these stacks, one for each instruction.
+#[derive(Drop)]
+pub struct Kinds {
+    stacks: Stacks,
+    before: Vec<usize>,
+}
+
+impl Model for Kinds {
+    ghost use Rattle.std.specs.Prelude.{List};
+    ghost use Rattle.ctl_code_cells.specs.declared.kinds.Kind.{Kind};
+    ghost use Rattle.ctl_code_cells.specs.Kinds.{stacks_in};
+
+    ghost Value = { List (List Kind) };
+
+    ghost view = { λ k. stacks_in k.stacks k.before.items };
+}
+
+impl Kinds {
+    /// Counts the instructions that it has stacks of.
+    pub fn len(&self) -> usize
+        ensures { result ≡ length self.now }
+    {
+        self.before.len()
+    }
+
+    /// Answers what stands before the instruction at a place, under so many newer ones.
+    pub fn kind_at(&self, place: usize, depth: usize) -> Option<Kind>
+        ensures { result ≡ slice_get (stack_at self.now place) depth }
+    {
+        let stack = number_at(self.before.as_slice(), place);
+        match self.stacks.top(self.stacks.without(stack, depth)) {
+            Some((kind, _)) => Some(kind),
+            None => None,
+        }
+    }
+
+    /// Tells whether what an instruction makes of the stack before one place stands before another: it takes so many of the newest, and
+    /// puts this on top, if any.
+    pub fn leads(&self, from: usize, taken: usize, new: Option<Kind>, to: usize) -> bool
+        ensures { IsTrue result ↔ (slice_get self.now to ≡ Some (changed taken new (stack_at self.now from))) }
+    {
+        let stack = number_at(self.before.as_slice(), from);
+        match self.before.get(to) {
+            Some(to) => self
+                .stacks
+                .is_with_top(*to, new, self.stacks.without(stack, taken)),
+            None => false,
+        }
+    }
+
+    /// Tells whether nothing stands before the instruction at a place of the table.
+    pub fn is_bare_at(&self, place: usize) -> bool
+        ensures { IsTrue result ↔ (slice_get self.now place ≡ Some []) }
+    {
+        match self.before.get(place) {
+            Some(stack) => self.stacks.top(*stack).is_none(),
+            None => false,
+        }
+    }
+
+    /// Tells whether the operands that the images of a text take stand on top before the instruction at a place.
+    pub fn has_images(&self, place: usize, parts: &[TextPart]) -> bool
+        ensures { IsTrue result ↔ ((below : List Kind) × (stack_at self.now place ≡ reverse (images_of parts.now) ++ below)) }
+    {
+        has_images_on(
+            &self.stacks,
+            number_at(self.before.as_slice(), place),
+            parts,
+        )
+    }
+}
+
+/// Notes the kinds while instructions are made.
+///
+/// A contract sees what was noted, and what stands on the stacks now.
+#[derive(Drop)]
+pub struct KindNotes {
+    stacks: Stacks,
+    before: Vec<usize>,
+    standing: usize,
+}
+
+impl Model for KindNotes {
+    ghost use Rattle.std.specs.Prelude.{◌≤◌, length};
+    ghost use Rattle.std.specs.List.{All};
+    ghost use Rattle.ctl_code_cells.specs.Kinds.{Noted, stack_in, stacks_in};
+
+    ghost Value = { Noted };
+
+    ghost view = { λ k. record { before = stacks_in k.stacks k.before.items; standing = stack_in k.stacks k.standing } };
+
+    ghost invariant = { λ k. All (λ n. n ≤ length k.stacks) k.before.items × (k.standing ≤ length k.stacks) };
+}
+
+impl KindNotes {
+    /// Makes notes where nothing stands and nothing was noted.
+    pub fn new(alloc: Global) -> KindNotes
+        ensures { result ≡ record { before = []; standing = [] } }
+    {
+        KindNotes {
+            stacks: Stacks::new(alloc),
+            before: Vec::new(alloc),
+            standing: 0,
+        }
+    }
+
+    /// Enters what stands on top from now on.
+    pub fn enter(&mut self, kind: Kind) -> Result<(), AllocError>
+        ensures { OnOk result (self.new ≡ record { before = self.old.before; standing = kind ∷ self.old.standing }) }
+    {
+        self.stacks.push(kind, self.standing)?;
+        self.standing = self.stacks.newest();
+        Ok(())
+    }
+
+    /// Takes the newest off.
+    pub fn leave(&mut self)
+        ensures { self.new ≡ record { before = self.old.before; standing = below_newest self.old.standing } }
+    {
+        self.standing = self.stacks.without(self.standing, 1);
+    }
+
+    /// Notes what stands there now before the next instruction.
+    pub fn note(&mut self) -> Result<(), AllocError>
+        ensures { OnOk result (self.new ≡ record { before = self.old.before ++ self.old.standing ∷ []; standing = self.old.standing }) }
+    {
+        self.before.push(self.standing)?;
+        Ok(())
+    }
+
+    /// Answers the table.
+    pub fn finish(self) -> Kinds
+        ensures { result ≡ self.before }
+    {
+        let KindNotes {
+            stacks,
+            before,
+            standing: _,
+        } = self;
+        Kinds { stacks, before }
+    }
+}

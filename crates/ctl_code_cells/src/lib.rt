@@ -1,0 +1,13 @@
+//! The code that the machine runs.
+#![tactic(auto)]
+
+pub mod code;
+mod fine;
+mod images;
+pub mod kinds;
+pub mod laws;
+mod stacks;
+pub mod template;
+mod types;
+pub mod valid;
+mod validate;
