@@ -6,7 +6,6 @@ pub mod Links
 pub mod Lists
 pub mod Logs
 pub mod Numbers
-pub mod RightOperands
 pub mod FittingWorlds
 pub mod Small
 pub mod Texts

@@ -12,7 +12,7 @@ use Rattle.ctl_meaning.specs.Lists.{last_of, opened_lists}
 use Rattle.ctl_meaning.specs.Changes.{object_at, create, set_slot, add_layer, begin_finalization, end_finalization, home_of, owner_of}
 use Rattle.ctl_meaning.specs.Choice.{Ask, picked}
 use Rattle.ctl_meaning.specs.Outcome.{ByExit, ByReturn, ByRaise, Goes, Leaves, Out, Gives, Stops, Cut, Act, Done, add, bind, on_goes, ◌>>=◌, ◌>>◌, done, nothing, tell, show, look, change, told, attempt, when, either, on_some, opened_outcome}
-use Rattle.ctl_meaning.specs.Types.{Tables, operation, depth, of_record}
+use Rattle.ctl_meaning.specs.Types.{Tables, Composite, operation, depth, of_record}
 use Rattle.ctl_meaning.specs.Names.{OfSubprogram, Call, Default, Tools, gone, must_exist, opened_names}
 use Rattle.ctl_meaning.specs.Finalization.{whole, These, component_at, call_operation, after_finalize, own_finalize, in_any_order, finalize_part, finalize, opened_finalization}
 use Rattle.ctl_meaning.specs.Adjustment.{birth_of, lives}
@@ -76,7 +76,7 @@ module _ (ask : Ask) (k : Tables) (code : Code) (setting : Setting k code) (call
       ∙ ap (λ x. started (operation (λ y. y.finalize) k t) n m (call_operation K (whole n) x (starts n) c l w)) e1
       ∙ ap (λ x. started x n m (call_operation K (whole n) g1 (starts n) c l w)) e2
 
-  declare_is : (m slot c : ℕ) (l : Log) (w : World) → declare K m slot (Record t) None c l w ≡ standing w.ledger.next_object m (initialize K (birth_of (Declared m) w) (whole w.ledger.next_object) (Record t) c l (set_slot m slot (Holds w.ledger.next_object) (create (Record t) [] (Declared m) w)))
+  declare_is : (m slot c : ℕ) (l : Log) (w : World) → declare Composite K m slot (Record t) None c l w ≡ standing w.ledger.next_object m (initialize K (birth_of (Declared m) w) (whole w.ledger.next_object) (Record t) c l (set_slot m slot (Holds w.ledger.next_object) (create (Record t) [] (Declared m) w)))
   unfolding declare fill opened_outcome
   declare_is m slot c l w = ap (λ cells. standing w.ledger.next_object m (initialize K (birth_of (Declared m) w) (whole w.ledger.next_object) (Record t) c l (set_slot m slot (Holds w.ledger.next_object) (create (Record t) cells (Declared m) w)))) (begin_cells_plain k t r here plain)
 
@@ -138,7 +138,7 @@ module _ (ask : Ask) (k : Tables) (code : Code) (setting : Setting k code) (call
             (done_with ask k code 2 2 ks ops s0 c _ (calls.runs f body.0 body.1 (home_of o.origin w) (Binds n 0 [] ∷ []) ks ops c (tell (starts n) l) w s0 le fits (e ∙ ap (λ y. moved l (Table.call_operation code (Some f) (starts n) n y ks ops w)) ey ∙ enter_shows (slice_get code.entries.items f) (starts n) (home_of o.origin w) (Binds n 0 [] ∷ []) ks ops l w)))
 
     -- a declaration
-    pub declare_runs : (slot : ℕ) (v : List ℕ) (place : ℕ) (ks : List Frame) (ops : List ℕ) (c : ℕ) (l : Log) (w : World) → c ≤ bound → Fits k w → slice_get code.instructions.items place ≡ Some (InstrOf.Declare slot t) → Runs ask code (Fits k) 4 5 (at v place ks ops l w) c (arrives v (place + 1) ks ops) (declare K (last_of v) slot (Record t) None c l w)
+    pub declare_runs : (slot : ℕ) (v : List ℕ) (place : ℕ) (ks : List Frame) (ops : List ℕ) (c : ℕ) (l : Log) (w : World) → c ≤ bound → Fits k w → slice_get code.instructions.items place ≡ Some (InstrOf.Declare slot t) → Runs ask code (Fits k) 4 5 (at v place ks ops l w) c (arrives v (place + 1) ks ops) (declare Composite K (last_of v) slot (Record t) None c l w)
     unfolding picked
     declare_runs slot v place ks ops c l w le fits has =
         subst (λ o. Runs ask code (Fits k) 4 5 (at v place ks ops l w) c (arrives v (place + 1) ks ops) o)

@@ -8,14 +8,14 @@ use Rattle.ctl_program.specs.declared.expression.Actual.{Actual}
 use Rattle.ctl_program.specs.declared.expression.Operand.{Operand, Operand-F, roll-Operand, map-Operand}
 use Rattle.ctl_program.specs.declared.expression.Actual.TheOpen.{Expr-F, Name-F}
 use Rattle.ctl_meaning.specs.Choice.{Ask}
-use Rattle.ctl_meaning.specs.Outcome.{◌>>=◌, opened_outcome}
-use Rattle.ctl_meaning.specs.Types.{Tables}
-use Rattle.ctl_meaning.specs.Names.{Call, Default, Tools, walk, opened_names}
+use Rattle.ctl_meaning.specs.Outcome.{◌>>=◌, ticked, opened_outcome}
+use Rattle.ctl_meaning.specs.Types.{Tables, Category, Elementary, cells_of}
+use Rattle.ctl_meaning.specs.Names.{Call, Default, Tools, read_found, walk, begins_as, opened_names}
 use Rattle.ctl_meaning.specs.Expressions.{Applied, Naming, Valued, apply, apply_each, eval, eval_name, eval_step, name_step as name_meaning, operand_step, join_each, var_part}
 use Rattle.ctl_meaning.proofs.Trees.{eval_roll, name_roll, operand_roll}
 use Rattle.ctl_code.specs.declared.code.Code.{Code}
 use Rattle.ctl_gen.specs.Values.{ValueCode, OperatorCode, missing_value, operator_code, operator_of, operators_run, read, value_code, values_run, variable_of}
-use Rattle.ctl_gen.proofs.Known.{both_true, scalar_if}
+use Rattle.ctl_gen.proofs.Known.{both_true, scalar_elementary, scalar_if}
 use Rattle.ctl_gen.proofs.TreeLayers.{value_roll, variable_roll, operator_roll}
 use Rattle.ctl_gen.proofs.Setting.{tools_with}
 use Rattle.ctl_gen.proofs.Expressions as X
@@ -29,7 +29,7 @@ module _ (ask : Ask) (k : Tables) (code : Code) (call : Call) (default : Default
 
   -- a name that is a variable alone finds it
   abbrev pub Finds : Name → Type 0
-  Finds n = (x : Var) → variable_of n ≡ Some x → X.Uses ask k code call default x (eval_name n K)
+  Finds n = (x : Var) → variable_of n ≡ Some x → X.Uses ask k code call default x (eval_name n Elementary K)
 
   abbrev IsOperator : Operand → Type 0
   IsOperator o = (operator_of o).right.runs ≡ true → X.Further ask k code call default (operator_code (operator_of o)) (apply o K)
@@ -81,10 +81,12 @@ module _ (ask : Ask) (k : Tables) (code : Code) (call : Call) (default : Default
   missing_rolled : (y : Expr-F Actual Expr Name Operand) → value_code (roll-Expr y) ≡ missing_value None → IsValue (roll-Expr y)
   missing_rolled y same h = absurd (let e = sym (ap (λ (x : ValueCode). x.runs) same) ∙ h in cc)
 
-  reads : (o : Option Var) (ty : Ty) (find : Naming) → ((x : Var) → o ≡ Some x → X.Uses ask k code call default x (find K)) → Meets (read o ty) (eval_step (Expr-F.Read find ty))
+  reads : (o : Option Var) (ty : Ty) (find : Naming) → ((x : Var) → o ≡ Some x → X.Uses ask k code call default x (find Elementary K)) → Meets (read o ty) (eval_step (Expr-F.Read find ty))
   unfolding eval_step
   reads None ty find h runs = absurd (cc)
-  reads (Some x) ty find h runs = X.read_value ask k code call default x (find K) (h x refl) ty (scalar_if ty runs)
+  reads (Some x) ty find h runs =
+      subst (λ (c : Category). X.Value ask k code call default (read (Some x) ty) (λ v. ticked (find c K v >>= read_found (cells_of k ty)))) (sym (scalar_elementary ty (scalar_if ty runs)))
+      (X.read_value ask k code call default x (find Elementary K) (h x refl) ty (scalar_if ty runs))
 
   expr_rolled : (y : Expr-F ActualToo ExprToo NameToo OperandToo) → IsValue (roll-Expr (bare_expr y))
   unfolding eval_step
@@ -116,16 +118,16 @@ module _ (ask : Ask) (k : Tables) (code : Code) (call : Call) (default : Default
   expr_rolled (Expr-F.Discriminant n i) = missing_rolled (Expr-F.Discriminant n.0 i) (value_roll (Expr-F.Discriminant n.0 i))
 
   -- in one tick
-  uses_it : (x : Var) → X.Uses ask k code call default x (λ v. var_part v x >>= walk K [])
+  uses_it : (x : Var) → X.Uses ask k code call default x (λ v. var_part Elementary v x >>= walk K [])
   unfolding var_part opened_names opened_outcome
   uses_it x v c l w = refl
 
-  finds : (y : Name-F Actual Expr Name Operand) (o : Option Var) (m : Naming) → variable_of (roll-Name y) ≡ o → eval_name (roll-Name y) ≡ m → ((x : Var) → o ≡ Some x → X.Uses ask k code call default x (m K)) → Finds (roll-Name y)
-  finds y o m same means h x is = subst (λ (n : Naming). X.Uses ask k code call default x (n K)) (sym means) (h x (sym same ∙ is))
+  finds : (y : Name-F Actual Expr Name Operand) (o : Option Var) (m : Naming) → variable_of (roll-Name y) ≡ o → eval_name (roll-Name y) ≡ m → ((x : Var) → o ≡ Some x → X.Uses ask k code call default x (m Elementary K)) → Finds (roll-Name y)
+  finds y o m same means h x is = subst (λ (n : Naming). X.Uses ask k code call default x (n Elementary K)) (sym means) (h x (sym same ∙ is))
 
   name_rolled : (y : Name-F ActualToo ExprToo NameToo OperandToo) → Finds (roll-Name (bare_name y))
-  unfolding name_meaning
-  name_rolled (Name-F.Variable v []) = finds (Name-F.Variable v []) _ _ (variable_roll (Name-F.Variable v [])) (name_roll (Name-F.Variable v [])) (λ x is. let same : v ≡ x = cc in subst (λ (y : Var). X.Uses ask k code call default y (λ u. var_part u v >>= walk K [])) same (uses_it v))
+  unfolding name_meaning begins_as
+  name_rolled (Name-F.Variable v []) = finds (Name-F.Variable v []) _ _ (variable_roll (Name-F.Variable v [])) (name_roll (Name-F.Variable v [])) (λ x is. let same : v ≡ x = cc in subst (λ (y : Var). X.Uses ask k code call default y (λ u. var_part Elementary u v >>= walk K [])) same (uses_it v))
   name_rolled (Name-F.Variable v (s ∷ ss)) = finds (Name-F.Variable v (s ∷ ss)) _ _ (variable_roll (Name-F.Variable v (s ∷ ss))) (name_roll (Name-F.Variable v (s ∷ ss))) (λ x is. absurd (cc))
   name_rolled (Name-F.Given e ss) = finds (Name-F.Given e.0 ss) _ _ (variable_roll (Name-F.Given e.0 ss)) (name_roll (Name-F.Given e.0 ss)) (λ x is. absurd (cc))
 

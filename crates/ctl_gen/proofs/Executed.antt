@@ -12,7 +12,7 @@ use Rattle.ctl_program.specs.declared.statement.Master.{Master, Master-F, roll-M
 use Rattle.ctl_tree.specs.declared.event.Event.TheVariants.{Newline}
 use Rattle.ctl_meaning.specs.Choice.{Ask}
 use Rattle.ctl_meaning.specs.Outcome.{Goes, tell, opened_outcome}
-use Rattle.ctl_meaning.specs.Types.{Tables}
+use Rattle.ctl_meaning.specs.Types.{Tables, Elementary}
 use Rattle.ctl_meaning.specs.Names.{Default, Tools}
 use Rattle.ctl_meaning.specs.Names as Names
 use Rattle.ctl_meaning.specs.Expressions.{eval, eval_name, Naming}
@@ -102,10 +102,10 @@ module _ (ask : Ask) (k : Tables) (code : Code) (setting : Setting k code) (call
   missing_does : (y : Stmt-F Stmt Arm Handler Master) → statement_code (roll-Stmt y) ≡ missing_statement → Does (roll-Stmt y)
   missing_does y same runs = absurd (let e = sym (ap (λ (x : StatementCode). x.runs k.records) same) ∙ runs in cc)
 
-  assign_does : (o : Option Var) (find : Naming) (e : Expr) → ((x : Var) → o ≡ Some x → Uses ask k code call default x (find K)) → Performs (assign o (value_code e)) (assign_doing find (eval e))
+  assign_does : (o : Option Var) (find : Naming) (e : Expr) → ((x : Var) → o ≡ Some x → Uses ask k code call default x (find Elementary K)) → Performs (assign o (value_code e)) (assign_doing find (eval e))
   unfolding assign_doing
   assign_does None find e uses runs n texts caught = absurd (cc)
-  assign_does (Some x) find e uses runs n texts caught = assign_runs ask k code call default bound x (find K) (uses x refl) (value_code e) (eval e K) (value_means ask k code call default e runs)
+  assign_does (Some x) find e uses runs n texts caught = assign_runs ask k code call default bound x (find Elementary K) (uses x refl) (value_code e) (eval e K) (value_means ask k code call default e runs)
 
   exit_does : (o : Option Expr) → Performs (exit (option_map value_code o)) (exit_doing (option_map eval o))
   unfolding exit_doing

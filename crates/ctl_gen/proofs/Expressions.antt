@@ -4,21 +4,19 @@ use Rattle.ctl_program.specs.declared.types.Ty.{Ty}
 use Rattle.ctl_program.specs.declared.types.Var.{Var}
 use Rattle.ctl_program.specs.declared.operators.BinaryOp.{BinaryOp}
 use Rattle.ctl_program.specs.declared.operators.Shortcut.{Shortcut}
-use Rattle.ctl_tree.specs.declared.ending.Stop.TheVariants.{UseAfterFree}
-use Rattle.ctl_meaning.specs.World.{Object, Log, World}
+use Rattle.ctl_meaning.specs.World.{Log, World}
 use Rattle.ctl_meaning.specs.Lists.{opened_lists}
-use Rattle.ctl_meaning.specs.Objects.{cells_at}
-use Rattle.ctl_meaning.specs.Changes.{object_at}
+use Rattle.ctl_meaning.specs.Activations.{master_of}
 use Rattle.ctl_meaning.specs.Choice.{Ask}
-use Rattle.ctl_meaning.specs.Outcome.{constraint_error, ByRaise, Result, Goes, Leaves, Out, Gives, Act, add, bind, on_goes, ◌>>=◌, done, ticked, either, on_some, opened_outcome}
+use Rattle.ctl_meaning.specs.Outcome.{constraint_error, ByRaise, Result, Goes, Leaves, Out, Gives, Act, add, bind, on_goes, ◌>>=◌, done, ticked, either, opened_outcome}
 use Rattle.ctl_meaning.specs.Numbers.{unary, binary}
 use Rattle.ctl_meaning.specs.Types.{Tables, cells_of}
-use Rattle.ctl_meaning.specs.Names.{Call, Default, Tools, Found, InObject, InCopy, Alone, gone, scalar_of, read_found, or_constraint_error, opened_names}
+use Rattle.ctl_meaning.specs.Names.{Call, Default, Tools, Found, InCopy, copy_in, slot_at, scalar_of, read_found, or_constraint_error, opened_names}
 use Rattle.ctl_code.specs.declared.code.Instr.{Instr}
 use Rattle.ctl_code.specs.declared.code.Instr.TheVariants as InstrOf
 use Rattle.ctl_code.specs.declared.code.Code.{Code}
 use Rattle.ctl_code.specs.States.{Frame, State}
-use Rattle.ctl_code.specs.Table.{by_result, then_binary, by_read, by_held, by_decision, found_by}
+use Rattle.ctl_code.specs.Table.{by_result, by_decision, value_of}
 use Rattle.ctl_code.specs.Steps.{moved, step}
 use Rattle.ctl_gen.specs.declared.right.Right.{Right}
 use Rattle.ctl_gen.specs.declared.right.Right.TheVariants as RightOf
@@ -27,13 +25,13 @@ use Rattle.ctl_code.specs.declared.kinds.Kind.{Kind}
 use Rattle.ctl_gen.specs.Values.{ValueCode, OperatorCode, code_by_right, constant, operator_code, operators_code, other_code, others_code, read}
 use Rattle.ctl_gen.specs.Values.{unary as unary_code}
 use Rattle.ctl_gen.proofs.Known.{IsScalar}
-use Rattle.ctl_gen.proofs.Values.{scalar_cells, plain_later, plain_then, plain_result, plain_either, plain_read}
+use Rattle.ctl_gen.proofs.Values.{one_cell, scalar_cells, plain_later, plain_then, plain_result, plain_either}
 use Rattle.ctl_gen.proofs.Place.{HasAt, has_front, has_back}
 use Rattle.ctl_gen.proofs.Worlds.{Fits}
 use Rattle.ctl_gen.proofs.Setting.{tools_with, by_code}
 use Rattle.ctl_gen.proofs.Operands.{Stands}
 use Rattle.ctl_gen.proofs.Worth.{Is, IsPlain, both_plain}
-use Rattle.ctl_gen.proofs.Follow.{Runs, at, gives, added, one_step, last_step, stop_step, no_step, arriving, bind_add}
+use Rattle.ctl_gen.proofs.Follow.{Runs, at, gives, added, one_step, last_step, no_step, arriving, bind_add}
 
 -- where an evaluation leads: its value over the operands, or the operands of the statement alone
 abbrev pub values : List ℕ → ℕ → List Frame → List ℕ → List ℕ → Result (List ℕ) → Log → World → State
@@ -53,17 +51,6 @@ module _ (ask : Ask) (k : Tables) (code : Code) (call : Call) (default : Default
   unfolding opened_names opened_outcome opened_lists
   result_runs None v place ks ops xs c l w s0 stands fits first = last_step ask code (Fits k) 1 1 s0 c 0 (values v (place + 1) ks ops (xs ++ ops)) (Leaves (ByRaise constraint_error)) l w (omega arith) fits (first ∙ ap (λ os. gives ks os (Leaves (ByRaise constraint_error)) l w) (stands xs))
   result_runs (Some n) v place ks ops xs c l w s0 stands fits first = last_step ask code (Fits k) 1 1 s0 c 0 (values v (place + 1) ks ops (xs ++ ops)) (Goes (n ∷ [])) l w (omega arith) fits first
-
-  -- what a use finds
-  read_runs : (f : Found) (v : List ℕ) (place : ℕ) (ks : List Frame) (ops over : List ℕ) (c : ℕ) (l : Log) (w : World) (s0 : State) → Fits k w → step ask code s0 ≡ moved l (by_read f v place ks over w) → Runs ask code (Fits k) 2 2 s0 c (values v (place + 1) ks ops over) (read_found 1 f c l w)
-  unfolding opened_names opened_outcome
-  read_runs (InObject n offset path) v place ks ops over c l w s0 fits first = by (object_at n w) refl
-    where
-      by : (y : Option Object) → object_at n w ≡ y → Runs ask code (Fits k) 2 2 s0 c (values v (place + 1) ks ops over) (on_some (object_at n w) gone (λ o. done (cells_at offset 1 o)) c l w)
-      by None e = subst (λ o. Runs ask code (Fits k) 2 2 s0 c (values v (place + 1) ks ops over) o) (sym (ap (λ y. on_some y gone (λ o. done (cells_at offset 1 o)) c l w) e)) (stop_step ask code (Fits k) 2 2 s0 _ c 0 (values v (place + 1) ks ops over) UseAfterFree l (omega arith) (first ∙ ap (λ y. moved l (by_held offset y v place ks over w)) e) refl refl)
-      by (Some o) e = subst (λ o1. Runs ask code (Fits k) 2 2 s0 c (values v (place + 1) ks ops over) o1) (sym (ap (λ y. on_some y gone (λ o. done (cells_at offset 1 o)) c l w) e)) (last_step ask code (Fits k) 2 2 s0 c 0 (values v (place + 1) ks ops over) (Goes (cells_at offset 1 o)) l w (omega arith) fits (first ∙ ap (λ y. moved l (by_held offset y v place ks over w)) e))
-  read_runs (InCopy m i offset) v place ks ops over c l w s0 fits first = last_step ask code (Fits k) 2 2 s0 c 0 (values v (place + 1) ks ops over) (Goes _) l w (omega arith) fits first
-  read_runs (Alone u) v place ks ops over c l w s0 fits first = last_step ask code (Fits k) 2 2 s0 c 0 (values v (place + 1) ks ops over) (Goes _) l w (omega arith) fits first
 
   -- an exception that leaves an operand leaves the expression
   fails : (b h : ℕ) (v : List ℕ) (place behind : ℕ) (ks : List Frame) (ops over under : List ℕ) (c : ℕ) (l : Log) (w : World) → Fits k w → Runs ask code (Fits k) b h (values v place ks ops over (Leaves (ByRaise constraint_error)) l w) c (values v behind ks ops under) (Gives (Leaves (ByRaise constraint_error)) 0 c l w)
@@ -90,7 +77,7 @@ module _ (ask : Ask) (k : Tables) (code : Code) (call : Call) (default : Default
     pub plain : (v : List ℕ) (c : ℕ) (l : Log) (w : World) → IsPlain c l w (act v c l w)
     pub begins : Begins x.code act
     pub constant : (n : ℕ) → x.right ≡ RightOf.Constant n → (v : List ℕ) (c : ℕ) (l : Log) (w : World) → act v c l w ≡ Gives (Goes (n ∷ [])) 1 c l w
-    pub variable : (y : Var) → x.right ≡ RightOf.Variable y → (v : List ℕ) (c : ℕ) (l : Log) (w : World) → act v c l w ≡ add 1 (add 1 (read_found 1 (found_by v y w) c l w))
+    pub variable : (y : Var) → x.right ≡ RightOf.Variable y → (v : List ℕ) (c : ℕ) (l : Log) (w : World) → act v c l w ≡ Gives (Goes (value_of v y w ∷ [])) 2 c l w
 
   pub value_runs : (x : ValueCode) (act : List ℕ → Act (List ℕ)) → Value x act → Evals x.code act
   value_runs x act value = by_first x.code act value.begins
@@ -111,27 +98,29 @@ module _ (ask : Ask) (k : Tables) (code : Code) (call : Call) (default : Default
     variable = λ y is v c l w. absurd (cc);
   }
 
-  -- what finds a variable, in one tick
+  -- what finds an elementary variable, in one tick: the cells of its slot
   abbrev pub Uses : Var → (List ℕ → Act Found) → Type 0
-  Uses x find = (v : List ℕ) (c : ℕ) (l : Log) (w : World) → find v c l w ≡ Gives (Goes (found_by v x w)) 1 c l w
+  Uses x find = (v : List ℕ) (c : ℕ) (l : Log) (w : World) → find v c l w ≡ Gives (Goes (InCopy (master_of v x) x.slot 0)) 1 c l w
 
-  reads_it : (x : Var) (find : List ℕ → Act Found) → Uses x find → (ty : Ty) → IsScalar ty → (v : List ℕ) (c : ℕ) (l : Log) (w : World) → ticked (find v >>= read_found (cells_of k ty)) c l w ≡ add 1 (add 1 (read_found 1 (found_by v x w) c l w))
-  unfolding opened_outcome
+  reads_it : (x : Var) (find : List ℕ → Act Found) → Uses x find → (ty : Ty) → IsScalar ty → (v : List ℕ) (c : ℕ) (l : Log) (w : World) → ticked (find v >>= read_found (cells_of k ty)) c l w ≡ Gives (Goes (value_of v x w ∷ [])) 2 c l w
+  unfolding opened_outcome read_found
   reads_it x find uses ty scalar v c l w =
       ap (λ o. add 1 (bind o (on_goes (read_found (cells_of k ty))))) (uses v c l w)
-      ∙ ap (λ n. add 1 (add 1 (read_found n (found_by v x w) c l w))) (scalar_cells k ty scalar)
+      ∙ ap (λ n. add 1 (add 1 (read_found n (InCopy (master_of v x) x.slot 0) c l w))) (scalar_cells k ty scalar)
+      ∙ ap (λ u. Gives (Goes u) 2 c l w) (one_cell (copy_in (slot_at (master_of v x) x.slot w)))
 
   pub read_value : (x : Var) (find : List ℕ → Act Found) → Uses x find → (ty : Ty) → IsScalar ty → Value (read (Some x) ty) (λ v. ticked (find v >>= read_found (cells_of k ty)))
+  unfolding opened_outcome scalar_of opened_lists
   read_value x find uses ty scalar = record {
-    plain = λ v c l w. let z = plain_later 1 c l w _ (plain_later 1 c l w _ (plain_read (found_by v x w) c l w)) in (z.0, reads_it x find uses ty scalar v c l w ∙ z.1);
+    plain = λ v c l w. (Is (value_of v x w) 2, reads_it x find uses ty scalar v c l w);
     begins = λ v place ks ops xs c l w stands fits has. record {
-      out = add 1 (read_found 1 (found_by v x w) c l w);
+      out = Gives (Goes (value_of v x w ∷ [])) 1 c l w;
       is = reads_it x find uses ty scalar v c l w;
-      plain = plain_later 1 c l w _ (plain_read (found_by v x w) c l w);
-      runs = added ask code (Fits k) 1 2 2 2 2 _ c _ _ (omega arith) (omega arith) (read_runs (found_by v x w) v place ks ops (xs ++ ops) c l w _ fits (by_code ask code v place ks (xs ++ ops) l w (InstrOf.Read x) has.0));
+      plain = (Is (value_of v x w) 1, refl);
+      runs = last_step ask code (Fits k) 2 2 _ c 1 (values v (place + 1) ks ops (xs ++ ops)) (Goes (value_of v x w ∷ [])) l w (omega arith) fits (by_code ask code v place ks (xs ++ ops) l w (InstrOf.Read x) has.0);
     };
     constant = λ n is v c l w. absurd (cc);
-    variable = λ y is v c l w. let same : x ≡ y = cc in reads_it x find uses ty scalar v c l w ∙ ap (λ (z : Var). add 1 (add 1 (read_found 1 (found_by v z w) c l w))) same;
+    variable = λ y is v c l w. let same : x ≡ y = cc in reads_it x find uses ty scalar v c l w ∙ ap (λ (z : Var). Gives (Goes (value_of v z w ∷ [])) 2 c l w) same;
   }
 
   -- an operator with one operand
@@ -172,26 +161,6 @@ module _ (ask : Ask) (k : Tables) (code : Code) (call : Call) (default : Default
     variable = λ y is v c l w. absurd (cc);
   }
 
-  -- an operator over the value of a variable
-  read_right_runs : (op : BinaryOp) (ty : Ty) (n : ℕ) (f : Found) (v : List ℕ) (place : ℕ) (ks : List Frame) (ops xs : List ℕ) (c : ℕ) (l : Log) (w : World) (s0 : State) → Stands ks ops → Fits k w → step ask code s0 ≡ moved l (then_binary op ty place (by_read f v place ks (n ∷ xs ++ ops) w)) → Runs ask code (Fits k) 2 2 s0 c (values v (place + 1) ks ops (xs ++ ops)) (bind (read_found 1 f c l w) (on_goes (λ u. or_constraint_error (binary op ty n (scalar_of u)))))
-  unfolding opened_names opened_outcome opened_lists
-  read_right_runs op ty n f v place ks ops xs c l w s0 stands fits first = by f first
-    where
-      goal : Found → Type 0
-      goal f1 = Runs ask code (Fits k) 2 2 s0 c (values v (place + 1) ks ops (xs ++ ops)) (bind (read_found 1 f1 c l w) (on_goes (λ u. or_constraint_error (binary op ty n (scalar_of u)))))
-
-      over : (m : ℕ) → step ask code s0 ≡ moved l (by_result (binary op ty n m) v place ks (xs ++ ops) w) → Runs ask code (Fits k) 2 2 s0 c (values v (place + 1) ks ops (xs ++ ops)) (add 0 (or_constraint_error (binary op ty n m) c l w))
-      over m e = added ask code (Fits k) 0 1 1 2 2 s0 c _ _ (omega arith) (omega arith) (result_runs (binary op ty n m) v place ks ops xs c l w s0 stands fits e)
-
-      by : (f1 : Found) → step ask code s0 ≡ moved l (then_binary op ty place (by_read f1 v place ks (n ∷ xs ++ ops) w)) → goal f1
-      by (InObject i offset path) e = held (object_at i w) refl
-        where
-          held : (y : Option Object) → object_at i w ≡ y → goal (InObject i offset path)
-          held None is = subst (λ o. Runs ask code (Fits k) 2 2 s0 c (values v (place + 1) ks ops (xs ++ ops)) (bind o (on_goes (λ u. or_constraint_error (binary op ty n (scalar_of u)))))) (sym (ap (λ y. on_some y gone (λ o. done (cells_at offset 1 o)) c l w) is)) (stop_step ask code (Fits k) 2 2 s0 _ c 0 (values v (place + 1) ks ops (xs ++ ops)) UseAfterFree l (omega arith) (e ∙ ap (λ y. moved l (then_binary op ty place (by_held offset y v place ks (n ∷ xs ++ ops) w))) is) refl refl)
-          held (Some o) is = subst (λ o1. Runs ask code (Fits k) 2 2 s0 c (values v (place + 1) ks ops (xs ++ ops)) (bind o1 (on_goes (λ u. or_constraint_error (binary op ty n (scalar_of u)))))) (sym (ap (λ y. on_some y gone (λ o. done (cells_at offset 1 o)) c l w) is)) (over (scalar_of (cells_at offset 1 o)) (e ∙ ap (λ y. moved l (then_binary op ty place (by_held offset y v place ks (n ∷ xs ++ ops) w))) is))
-      by (InCopy m i offset) e = over _ e
-      by (Alone u) e = over _ e
-
   -- an operator, and its right operand
   operator_runs : (r : Right) (op : BinaryOp) (ty : Ty) (n : ℕ) (x : ValueCode) (act : List ℕ → Act (List ℕ)) → x.right ≡ r → Value x act → (v : List ℕ) (place : ℕ) (ks : List Frame) (ops xs : List ℕ) (c : ℕ) (l : Log) (w : World) → Stands ks ops → Fits k w → HasAt code.instructions.items place (code_by_right r op ty x.code) → Runs ask code (Fits k) 0 0 (at v place ks (n ∷ xs ++ ops) l w) c (values v (place + length (code_by_right r op ty x.code)) ks ops (xs ++ ops)) (ticked (act v >>= (λ u. or_constraint_error (binary op ty n (scalar_of u)))) c l w)
   unfolding opened_outcome scalar_of opened_lists
@@ -201,14 +170,10 @@ module _ (ask : Ask) (k : Tables) (code : Code) (call : Call) (default : Default
       (added ask code (Fits k) 1 1 1 0 0 _ c _ _ (omega arith) (omega arith)
       (result_runs (binary op ty n m) v place ks ops xs c l w _ stands fits (by_code ask code v place ks (n ∷ xs ++ ops) l w (InstrOf.BinaryConstant op ty m) has.0))))
   operator_runs (RightOf.Variable y) op ty n x act is value v place ks ops xs c l w stands fits has =
-      let found = found_by v y w in
-      let goes = on_goes (λ u. or_constraint_error (binary op ty n (scalar_of u))) in
-      let e : bind (act v c l w) goes ≡ add 1 (add 1 (bind (read_found 1 found c l w) goes)) = ap (λ o. bind o goes) (value.variable y is v c l w) ∙ (bind_add 1 (add 1 (read_found 1 found c l w)) goes ∙ ap (λ o. add 1 o) (bind_add 1 (read_found 1 found c l w) goes)) in
-      subst (λ o. Runs ask code (Fits k) 0 0 (at v place ks (n ∷ xs ++ ops) l w) c (values v (place + 1) ks ops (xs ++ ops)) (add 1 o)) (sym e)
+      subst (λ o. Runs ask code (Fits k) 0 0 (at v place ks (n ∷ xs ++ ops) l w) c (values v (place + 1) ks ops (xs ++ ops)) (add 1 (bind o (on_goes (λ u. or_constraint_error (binary op ty n (scalar_of u))))))) (sym (value.variable y is v c l w))
       (added ask code (Fits k) 1 0 0 0 0 _ c _ _ (omega arith) (omega arith)
-      (added ask code (Fits k) 1 0 0 0 0 _ c _ _ (omega arith) (omega arith)
-      (added ask code (Fits k) 1 2 2 0 0 _ c _ _ (omega arith) (omega arith)
-      (read_right_runs op ty n found v place ks ops xs c l w _ stands fits (by_code ask code v place ks (n ∷ xs ++ ops) l w (InstrOf.BinaryVariable op ty y) has.0)))))
+      (added ask code (Fits k) 2 1 1 0 0 _ c _ _ (omega arith) (omega arith)
+      (result_runs (binary op ty n (value_of v y w)) v place ks ops xs c l w _ stands fits (by_code ask code v place ks (n ∷ xs ++ ops) l w (InstrOf.BinaryVariable op ty y) has.0))))
   operator_runs RightOf.Evaluated op ty n x act is value v place ks ops xs c l w stands fits has = operand_runs op ty n x.code act (value_runs x act value) value.plain v place ks ops xs c l w stands fits has
 
   -- over a left operand, these instructions do this

@@ -27,7 +27,7 @@ use Rattle.ctl_code.specs.declared.code.Code.{Code}
 use Rattle.ctl_code.specs.Valid.{IsAtEnd, IsFine, IsRecord, Leads}
 use Rattle.ctl_gen.specs.Values.{ValueCode, is_run_type, value_code, value_type, variable_of}
 use Rattle.ctl_gen.specs.Layout.{ArmCode, ItemCode, MasterCode, StatementCode, all, all_items, arm_code, arm_kinds, arms_code, arms_kinds, arms_run, arms_texts, assign, block, branches, exit, for, further_arm, guarded, has_no_handlers, inside, is_declared, item_code, loop, loop_code, master_code, missing_statement, no_code, object, statement_code, tested, turn_kinds, turns_code}
-use Rattle.ctl_gen.proofs.Known.{both_true, known_if}
+use Rattle.ctl_gen.proofs.Known.{both_true, plain_if}
 use Rattle.ctl_gen.proofs.StatementLayers.{statement_assign, statement_block, statement_exit, statement_for, statement_if, statement_loop, statement_new_line, statement_null, statement_put, statement_put_line, statement_while}
 use Rattle.ctl_gen.proofs.StatementLayers as L
 use Rattle.ctl_gen.proofs.TreeLayers.{arm_roll, master_roll}
@@ -132,7 +132,7 @@ module _ (code : Code) (k : Tables) (records : (t : ℕ) (r : RecordType) → sl
   -- Items --------------------------------------------------------------------------------------------
 
   bare_good : (slot : ℕ) (ty : Ty) → is_declared k.records ty ≡ true → Good code (object slot ty None).code (object slot ty None).kinds
-  bare_good slot (Record t) runs = let known = known_if k (Record t) runs in one_good code (InstrOf.Declare slot t) (λ s p next. (records t known.0 known.1, next))
+  bare_good slot (Record t) runs = let known = plain_if k (slice_get k.records t) runs in one_good code (InstrOf.Declare slot t) (λ s p next. (records t known.0 known.1, next))
   bare_good slot Integer runs = one_good code (InstrOf.DeclareScalar slot Integer) (λ s p next. (tt, next))
   bare_good slot Boolean runs = one_good code (InstrOf.DeclareScalar slot Boolean) (λ s p next. (tt, next))
   bare_good slot Count runs = absurd (cc)

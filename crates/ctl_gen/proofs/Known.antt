@@ -1,4 +1,4 @@
--- The types of the objects of this version: scalar ones, and controlled record types without components.
+-- The types of the variables of this version: scalar ones, and controlled record types without components.
 use Rattle.std.proofs.Common.{◌≡◌, ℕ, zero, suc, List, [], ◌∷◌, ◌++◌, Option, Some, None, Bool, true, false, refl, ap, ◌∙◌}
 use Rattle.std.specs.Prelude.{slice_get, ◌&&◌}
 use Rattle.ctl_program.specs.declared.types.Ty.{Ty}
@@ -7,9 +7,9 @@ use Rattle.ctl_program.specs.declared.types.Root.{Root}
 use Rattle.ctl_program.specs.declared.types.Root.TheVariants.{Controlled, Untagged, BlockPool, MarkPool}
 use Rattle.ctl_program.specs.declared.types.Component.{Component}
 use Rattle.ctl_program.specs.declared.types.RecordType.{RecordType}
-use Rattle.ctl_meaning.specs.Types.{Tables, components, with_own, of_parent}
+use Rattle.ctl_meaning.specs.Types.{Tables, Elementary, category_of, components, with_own, of_parent}
 use Rattle.ctl_gen.specs.Values.{is_run_type}
-use Rattle.ctl_gen.specs.Layout.{extends_bare, has_no_components, has_no_parent, is_bare, is_controlled, is_declared, is_plain}
+use Rattle.ctl_gen.specs.Layout.{extends_bare, has_no_components, has_no_parent, is_bare, is_controlled, is_plain}
 
 -- both hold where their conjunction does
 pub both_true : (a b : Bool) → (a && b) ≡ true → (a ≡ true) × (b ≡ true)
@@ -21,6 +21,17 @@ abbrev pub IsScalar : Ty → Type 0
 IsScalar Integer = Unit {0}
 IsScalar Boolean = Unit {0}
 IsScalar _ = ⊥
+
+-- a scalar type is elementary
+pub scalar_elementary : (ty : Ty) → IsScalar ty → category_of ty ≡ Elementary
+unfolding category_of
+scalar_elementary Integer h = refl
+scalar_elementary Boolean h = refl
+scalar_elementary Count h = absurd h
+scalar_elementary Address h = absurd h
+scalar_elementary Handle h = absurd h
+scalar_elementary (Access a) h = absurd h
+scalar_elementary (Record t) h = absurd h
 
 pub scalar_if : (ty : Ty) → is_run_type ty ≡ true → IsScalar ty
 scalar_if Integer e = tt
@@ -40,10 +51,6 @@ pub record IsPlain (k : Tables) (r : RecordType) : Type 0 where
 abbrev pub IsPlainType : Tables → Ty → Type 0
 IsPlainType k (Record t) = (r : RecordType) × (slice_get k.records t ≡ Some r) × IsPlain k r
 IsPlainType k _ = ⊥
-
-abbrev pub IsKnownType : Tables → Ty → Type 0
-IsKnownType k (Record t) = IsPlainType k (Record t)
-IsKnownType k ty = IsScalar ty
 
 root_if : (r : Root) → is_controlled r ≡ true → r ≡ Controlled
 root_if Controlled e = refl
@@ -78,18 +85,9 @@ unfolding of_parent
 from_bare records None n e = refl
 from_bare records (Some p) n e = bare_components records p n e
 
-plain_if : (k : Tables) (o : Option RecordType) → is_plain k.records o ≡ true → (r : RecordType) × (o ≡ Some r) × IsPlain k r
+pub plain_if : (k : Tables) (o : Option RecordType) → is_plain k.records o ≡ true → (r : RecordType) × (o ≡ Some r) × IsPlain k r
 plain_if k None e = absurd (cc)
 plain_if k (Some r) e =
     let h = both_true (is_controlled r.root) (extends_bare k.records r.parent && has_no_components r.own) e in
     let g = both_true (extends_bare k.records r.parent) (has_no_components r.own) h.1 in
     (r, refl, record { controlled = root_if r.root h.0; inherits_none = λ n. from_bare k.records r.parent n g.0; no_components = components_if r.own g.1 })
-
-pub known_if : (k : Tables) (ty : Ty) → is_declared k.records ty ≡ true → IsKnownType k ty
-known_if k Integer e = tt
-known_if k Boolean e = tt
-known_if k Count e = absurd (cc)
-known_if k Address e = absurd (cc)
-known_if k Handle e = absurd (cc)
-known_if k (Access a) e = absurd (cc)
-known_if k (Record t) e = plain_if k (slice_get k.records t) e

@@ -19,13 +19,11 @@ use Rattle.ctl_code.specs.declared.code.Code.{Code}
 use Rattle.ctl_code.specs.States.{After, Frame, InMaster, Leaving, State}
 use Rattle.ctl_code.specs.Table.{behind, finalize_declared, next_layer, cut_back}
 use Rattle.ctl_code.specs.Steps.{moved, step}
-use Rattle.ctl_gen.proofs.Known.{IsScalar}
-use Rattle.ctl_gen.proofs.Known.{IsKnownType}
+use Rattle.ctl_gen.proofs.Known.{IsPlainType}
 use Rattle.ctl_gen.proofs.Worlds.{Fits, FoundFits, object_fits, LayersFit, layers_fit, fits_take, fits_close}
 use Rattle.ctl_gen.proofs.Setting.{Setting, tools_with, flagged, Calls}
 use Rattle.ctl_gen.proofs.Finalize.{finalize_as, declared_runs}
-use Rattle.ctl_gen.proofs.Scalars.{scalar_end}
-use Rattle.ctl_gen.proofs.Follow.{Runs, gives, both, added, one_step, last_step, stop_step, end_step, bind_bind}
+use Rattle.ctl_gen.proofs.Follow.{Runs, gives, both, added, one_step, stop_step, end_step, bind_bind}
 
 -- where the end of a master leads
 abbrev pub leaves : After → List Frame → List ℕ → Result Left → Log → World → State
@@ -54,13 +52,10 @@ module _ (ask : Ask) (k : Tables) (code : Code) (setting : Setting k code) (call
       goal : Out Bool → Type 0
       goal x = Runs ask code (Fits k) 3 3 s0 c (gives ks ops) x
 
-      scalar : (ty : Ty) → IsScalar ty → step ask code s0 ≡ gives ks ops (Goes false) l w → goal (finalize_as K n ty c l w)
-      scalar ty known1 e = subst goal (sym (scalar_end ask k code call default bound n ty known1 c l w fits)) (last_step ask code (Fits k) 3 3 s0 c 0 (gives ks ops) (Goes false) l w (omega arith) fits e)
-
-      by : (ty : Ty) → IsKnownType k ty → step ask code s0 ≡ begins ty → goal (finalize_as K n ty c l w)
+      by : (ty : Ty) → IsPlainType k ty → step ask code s0 ≡ begins ty → goal (finalize_as K n ty c l w)
       by (Record t) known1 e = declared_runs ask k code setting call default t known1.0 known1.1 known1.2 bound calls n ks ops c l w s0 o le fits at e
-      by Integer known1 e = scalar Integer tt e
-      by Boolean known1 e = scalar Boolean tt e
+      by Integer known1 e = absurd known1
+      by Boolean known1 e = absurd known1
       by Count known1 e = absurd known1
       by Address known1 e = absurd known1
       by Handle known1 e = absurd known1

@@ -11,7 +11,7 @@ use Rattle.ctl_meaning.specs.Changes.{open_master}
 use Rattle.ctl_meaning.specs.Ledger.{layers_of}
 use Rattle.ctl_meaning.specs.Choice.{Ask}
 use Rattle.ctl_meaning.specs.Outcome.{ByExit, ByReturn, ByRaise, Result, Goes, Leaves, Gives, Act, Done, bind, on_goes, given, then_always, opened_outcome}
-use Rattle.ctl_meaning.specs.Types.{Tables}
+use Rattle.ctl_meaning.specs.Types.{Tables, category_of}
 use Rattle.ctl_meaning.specs.Names.{Default, Returned, Tools}
 use Rattle.ctl_meaning.specs.Names as Names
 use Rattle.ctl_meaning.specs.Expressions.{Valued, eval, if_given}
@@ -25,7 +25,7 @@ use Rattle.ctl_code.specs.Table.{behind as mode_behind}
 use Rattle.ctl_code.specs.Steps.{step}
 use Rattle.ctl_gen.specs.Values.{ValueCode, value_code}
 use Rattle.ctl_gen.specs.Layout.{ArmCode, ItemCode, MasterCode, StatementCode, all, all_items, arms_code, arms_run, arms_texts, block, block_code, branches, guarded_turn, inside, is_declared, item_code}
-use Rattle.ctl_gen.proofs.Known.{both_true, known_if, scalar_if}
+use Rattle.ctl_gen.proofs.Known.{both_true, plain_if, scalar_if}
 use Rattle.ctl_gen.proofs.Place.{HasAt, has_front, has_back}
 use Rattle.ctl_gen.proofs.Worlds.{Fits, fits_open}
 use Rattle.ctl_gen.proofs.Setting.{Setting, tools_with, Calls, by_code}
@@ -53,9 +53,9 @@ module _ (ask : Ask) (k : Tables) (code : Code) (setting : Setting k code) (call
   Elaborates x m = x.runs k.records ≡ true → Does ask k code bound x.code (λ v. m K v (last_of v))
 
   bare_object : (slot : ℕ) (ty : Ty) → is_declared k.records ty ≡ true → Does ask k code bound ((item_code (Object slot ty None)).code) (λ v. object slot ty None K v (last_of v))
-  unfolding object if_given opened_outcome
+  unfolding object if_given category_of opened_outcome
   bare_object slot (Record t) runs v place ks ops c l w le stands fits has =
-      let known = known_if k (Record t) runs in
+      let known = plain_if k (slice_get k.records t) runs in
       added ask code (Fits k) 1 4 5 0 0 _ c (arrives v (place + 1) ks ops) _ (omega arith) (omega arith) (added ask code (Fits k) 0 4 5 4 5 _ c (arrives v (place + 1) ks ops) _ (omega arith) (omega arith) (declare_runs ask k code setting call default t known.0 known.1 known.2 bound calls slot v place ks ops c l w le fits has.0))
   bare_object slot Integer runs v place ks ops c l w le stands fits has = scalar_runs ask k code call default bound slot Integer tt v place ks ops c l w le stands fits has
   bare_object slot Boolean runs v place ks ops c l w le stands fits has = scalar_runs ask k code call default bound slot Boolean tt v place ks ops c l w le stands fits has

@@ -1,4 +1,4 @@
--- The worlds of the programs of this version: each object is of a known type, each layer is one object, and there is no pool.
+-- The worlds of the programs of this version: each object is of a plain record type, each layer is one object, and there is no pool.
 use Rattle.std.proofs.Common.{◌≡◌, ℕ, List, [], ◌∷◌, ◌++◌, Option, Some, None, Bool, true, false, refl, sym, ap, subst}
 use Rattle.std.specs.Prelude.{if◌then◌else◌, nat_eq, not, drop}
 use Rattle.ctl_program.specs.declared.types.Ty.{Ty}
@@ -6,19 +6,19 @@ use Rattle.ctl_meaning.specs.Types.{Tables}
 use Rattle.ctl_meaning.specs.World.{Finalized, Origin, Object, Layer, Single, Sets, Master, Slot, World, opened_world, empty_world}
 use Rattle.ctl_meaning.specs.Lists.{first_with, change_each, keep, opened_lists}
 use Rattle.ctl_meaning.specs.Ledger.{with_layer, without_newest, layers_in, layers_of, opened_ledger}
-use Rattle.ctl_meaning.specs.Objects.{object_in, with_cells, with_begun, with_finalized, is_untouched, opened_objects}
+use Rattle.ctl_meaning.specs.Objects.{object_in, with_begun, with_finalized, is_untouched, opened_objects}
 use Rattle.ctl_meaning.specs.Pools.{keep_pools}
-use Rattle.ctl_meaning.specs.Changes.{object_at, create, write_cells, open_master, add_layer, take_layer, set_slot, close_master, begin_finalization, end_finalization, opened_changes}
-use Rattle.ctl_gen.proofs.Known.{IsKnownType}
+use Rattle.ctl_meaning.specs.Changes.{object_at, take_object_number, create, open_master, add_layer, take_layer, set_slot, close_master, begin_finalization, end_finalization, opened_changes}
+use Rattle.ctl_gen.proofs.Known.{IsPlainType}
 
 abbrev pub ObjectsFit : Tables → List Object → Type 0
 ObjectsFit k [] = Unit {0}
-ObjectsFit k (o ∷ os) = IsKnownType k o.ty × ObjectsFit k os
+ObjectsFit k (o ∷ os) = IsPlainType k o.ty × ObjectsFit k os
 
 -- an object that is found
 abbrev pub FoundFits : Tables → Option Object → Type 0
 FoundFits k None = Unit {0}
-FoundFits k (Some o) = IsKnownType k o.ty
+FoundFits k (Some o) = IsPlainType k o.ty
 
 -- each layer is one object
 abbrev pub LayersFit : List Layer → Type 0
@@ -51,7 +51,7 @@ pub object_fits : (k : Tables) (n : ℕ) (w : World) → Fits k w → FoundFits 
 unfolding object_at object_in
 object_fits k n w h = object_found k (λ o. nat_eq o.number n) w.objects h.objects
 
-objects_and : (k : Tables) (os : List Object) (o : Object) → IsKnownType k o.ty → ObjectsFit k os → ObjectsFit k (os ++ o ∷ [])
+objects_and : (k : Tables) (os : List Object) (o : Object) → IsPlainType k o.ty → ObjectsFit k os → ObjectsFit k (os ++ o ∷ [])
 objects_and k [] o known h = (known, tt)
 objects_and k (p ∷ os) o known h = (h.0, objects_and k os o known h.1)
 
@@ -61,8 +61,8 @@ unfolding change_each
 objects_changed k p f same [] h = tt
 objects_changed k p f same (o ∷ os) h = (one (p o), objects_changed k p f same os h.1)
   where
-    one : (b : Bool) → IsKnownType k (if b then f o else o).ty
-    one true = subst (IsKnownType k) (sym (same o)) h.0
+    one : (b : Bool) → IsPlainType k (if b then f o else o).ty
+    one true = subst (IsPlainType k) (sym (same o)) h.0
     one false = h.0
 
 objects_kept : (k : Tables) (p : Object → Bool) (os : List Object) → ObjectsFit k os → ObjectsFit k (keep p os)
@@ -131,17 +131,17 @@ pub fits_open : (k : Tables) (d : List ℕ) (slots : List Slot) (w : World) → 
 unfolding opened_changes opened_ledger
 fits_open k d slots w h = record { objects = h.objects; masters = (tt, h.masters); block_pools = h.block_pools; mark_pools = h.mark_pools }
 
-pub fits_create : (k : Tables) (ty : Ty) (cells : List ℕ) (origin : Origin) (w : World) → IsKnownType k ty → Fits k w → Fits k (create ty cells origin w)
+pub fits_number : (k : Tables) (w : World) → Fits k w → Fits k (take_object_number w)
+unfolding opened_changes opened_ledger
+fits_number k w h = record { objects = h.objects; masters = h.masters; block_pools = h.block_pools; mark_pools = h.mark_pools }
+
+pub fits_create : (k : Tables) (ty : Ty) (cells : List ℕ) (origin : Origin) (w : World) → IsPlainType k ty → Fits k w → Fits k (create ty cells origin w)
 unfolding opened_changes opened_ledger
 fits_create k ty cells origin w known h = record { objects = objects_and k w.objects _ known h.objects; masters = h.masters; block_pools = h.block_pools; mark_pools = h.mark_pools }
 
 pub fits_slot : (k : Tables) (n i : ℕ) (x : Slot) (w : World) → Fits k w → Fits k (set_slot n i x w)
 unfolding opened_changes
 fits_slot k n i x w h = record { objects = h.objects; masters = h.masters; block_pools = h.block_pools; mark_pools = h.mark_pools }
-
-pub fits_write : (k : Tables) (n offset : ℕ) (v : List ℕ) (w : World) → Fits k w → Fits k (write_cells n offset v w)
-unfolding opened_changes opened_objects
-fits_write k n offset v w h = record { objects = objects_changed k _ (with_cells offset v) (λ o. refl) w.objects h.objects; masters = h.masters; block_pools = h.block_pools; mark_pools = h.mark_pools }
 
 pub fits_layer : (k : Tables) (m n : ℕ) (w : World) → Fits k w → Fits k (add_layer m (Single n) w)
 unfolding opened_changes opened_ledger

@@ -1,9 +1,8 @@
 -- What an expression comes to where it changes nothing, and what follows it.
 use Rattle.std.proofs.Common.{◌≡◌, ℕ, ◌+◌, ◌≤◌, List, [], ◌∷◌, sym, subst, arith}
-use Rattle.ctl_tree.specs.declared.ending.Stop.TheVariants.{UseAfterFree}
 use Rattle.ctl_meaning.specs.World.{Log, World}
 use Rattle.ctl_meaning.specs.Choice.{Ask}
-use Rattle.ctl_meaning.specs.Outcome.{constraint_error, ByRaise, Result, Goes, Leaves, Out, Gives, Stops, Act, bind}
+use Rattle.ctl_meaning.specs.Outcome.{constraint_error, ByRaise, Result, Goes, Leaves, Out, Gives, Act, bind}
 use Rattle.ctl_code.specs.declared.code.Code.{Code}
 use Rattle.ctl_code.specs.States.{State}
 use Rattle.ctl_gen.proofs.Follow.{Runs, after_comes}
@@ -12,12 +11,10 @@ use Rattle.ctl_gen.proofs.Follow.{Runs, after_comes}
 pub data Worth : Type 0 where
   Is : (cell ticks : ℕ) → Worth
   Fails : (ticks : ℕ) → Worth
-  Lost : (ticks : ℕ) → Worth
 
 abbrev pub out_of : Worth → ℕ → Log → World → Out (List ℕ)
 out_of (Is n t) c l w = Gives (Goes (n ∷ [])) t c l w
 out_of (Fails t) c l w = Gives (Leaves (ByRaise constraint_error)) t c l w
-out_of (Lost t) c l w = Stops UseAfterFree t l
 
 -- one of these, with nothing else changed
 abbrev pub IsPlain : ℕ → Log → World → Out (List ℕ) → Type 0
@@ -32,4 +29,3 @@ module _ (ask : Ask) (code : Code) (Fits : World → Type 0) where
       by : (x1 : Worth) → Runs ask code Fits b h s c mid (out_of x1 c l w) → Runs ask code Fits d e s c next (bind (out_of x1 c l w) f)
       by (Is n t) a1 = after_comes ask code Fits b b1 h1 d e s (mid (Goes (n ∷ [])) l w) c c t w next (f (Goes (n ∷ [])) c l w) le fe a1 (z n a1.fits)
       by (Fails t) a1 = after_comes ask code Fits b b1 h1 d e s (mid (Leaves (ByRaise constraint_error)) l w) c c t w next (f (Leaves (ByRaise constraint_error)) c l w) le fe a1 (y a1.fits)
-      by (Lost t) a1 = record { n = a1.n; in_time = omega (arith, a1.in_time, he); logged = a1.logged; over = a1.over }

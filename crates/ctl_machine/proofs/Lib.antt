@@ -22,6 +22,5 @@ pub mod Steps
 pub mod Ends
 pub mod Moves
 pub mod LoopMoves
-pub mod ScalarMoves
-pub mod VariableMoves
-pub mod Stored
+pub mod Cells
+pub mod Forgotten

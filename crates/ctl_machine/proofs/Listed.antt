@@ -7,7 +7,7 @@ use Rattle.std.specs.FinMap.{FinMap, get, get-empty, insert, remove}
 use Rattle.std.proofs.lemmas.Bool.{cases_eq}
 use Rattle.std.proofs.lemmas.List.{drop-map}
 use Rattle.number_map.specs.Table.{change}
-use Rattle.number_map.proofs.Changes.{get_dropped, get_here, get_there, insert_again, insert_same}
+use Rattle.number_map.proofs.Changes.{get_dropped, get_here, get_there}
 use Rattle.fin_lists.specs.Lists.{Lists, add_object, collections_of, drop_newest, layers_of, newest_layer, no_lists, with_master, without_master, without_set, without_sets}
 use Rattle.fin_lists.specs.Lists as F
 use Rattle.fin_lists.specs.Masters.{with_object, without_newest}
@@ -62,23 +62,10 @@ module _ {V : Type 0} (k : ℕ) (f : V → V) (t : FinMap nat_cmp V) where
       by None none = let gone : false ≡ true = rw (still_absent q none) at some in absurd (cc)
       by (Some v) is = rw is refl
 
-  -- a change that another one takes back
-  taken_back : (g : V → V) → ((v : V) → g (f v) ≡ v) → change k g (change k f t) ≡ t
-  taken_back g back = by (get t k) refl
-    where
-      by : (o : Option V) → get t k ≡ o → change k g (option_map_or (λ v. insert t k (f v)) o t) ≡ t
-      by None none = rw none refl
-      by (Some v) some = rw (get_here t k (f v), insert_again t k (f v) (g (f v)), back v, insert_same t k v some) refl
-
 -- One master ------------------------------------------------------------------------------------------
 
 abbrev layers_in : Option M.Master → List Kept
 layers_in o = option_map_or (λ x. x.layers) o []
-
--- an object that was added is dropped
-pub added_dropped : (k x : ℕ) (l : Lists) → drop_newest k (add_object k x l) ≡ l
-unfolding drop_newest add_object
-added_dropped k x l = ap (λ t. record l { masters = t }) (taken_back k (with_object x) l.masters without_newest (λ v. refl))
 
 added_layers : (k x : ℕ) (l : Lists) → is_some (get l.masters k) ≡ true → layers_of k (add_object k x l) ≡ Declared x ∷ layers_of k l
 unfolding layers_of add_object

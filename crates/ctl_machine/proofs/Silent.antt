@@ -8,8 +8,7 @@ use Rattle.ctl_program.specs.declared.operators.Direction.{Direction}
 use Rattle.ctl_program.specs.declared.types.Var.{Var}
 use Rattle.ctl_tree.specs.declared.event.Event.{Event}
 use Rattle.ctl_meaning.specs.World.{Object, Layer, Single, Sets, Slot, World}
-use Rattle.ctl_meaning.specs.Changes.{object_at, write_cells, take_layer, begin_finalization}
-use Rattle.ctl_meaning.specs.Names.{Found, InObject, InCopy, Alone}
+use Rattle.ctl_meaning.specs.Changes.{object_at, take_layer, begin_finalization}
 use Rattle.ctl_meaning.specs.Numbers.{signed, is_true, unary, binary}
 use Rattle.ctl_meaning.specs.Expressions.{decides}
 use Rattle.ctl_meaning.specs.Outcome.{ByExit, ByReturn, ByRaise, Result, Goes, Leaves, Done}
@@ -20,8 +19,7 @@ use Rattle.ctl_code.specs.declared.template.TextPart.{TextPart}
 use Rattle.ctl_code.specs.declared.code.Entry.{Entry}
 use Rattle.ctl_code.specs.declared.code.Code.{Code}
 use Rattle.ctl_code.specs.States.{Mode, At, Giving, Stopped, Stuck, After, Frame, InMaster, Leaving, Creating, Initializing, Finalizing, Looping, Counting, Move}
-use Rattle.ctl_code.specs.Table.{enter_body, call_operation, operation_of, with_scalar, by_result, by_binary, by_decision, by_held, by_read, found_by, by_kept, by_write, by_scalar, by_value, by_exit, by_test, by_range, by_next, behind_loop, by_text, by_instr, finalize_declared, next_layer, left_mode, come_to_life, by_frame, act}
-use Rattle.ctl_code.proofs.RightOperands.{over_read}
+use Rattle.ctl_code.specs.Table.{enter_body, call_operation, operation_of, by_result, by_binary, by_decision, value_of, by_exit, by_test, by_range, by_next, behind_loop, by_text, by_instr, finalize_declared, next_layer, left_mode, come_to_life, by_frame, act}
 
 -- where a result is handed on, nothing is shown
 abbrev pub silent_at : Mode → List Event → Type 0
@@ -65,32 +63,6 @@ silent_decision : (b : Bool) (n count : ℕ) (d : List ℕ) (place : ℕ) (k : L
 silent_decision true n count d place k ops w = tt
 silent_decision false n count d place k ops w = tt
 
-silent_held : (offset : ℕ) (o : Option Object) (d : List ℕ) (place : ℕ) (k : List Frame) (ops : List ℕ) (w : World) → IsSilent (by_held offset o d place k ops w)
-silent_held offset None d place k ops w = tt
-silent_held offset (Some o) d place k ops w = tt
-
-silent_read : (f : Found) (d : List ℕ) (place : ℕ) (k : List Frame) (ops : List ℕ) (w : World) → IsSilent (by_read f d place k ops w)
-silent_read (InObject n offset path) d place k ops w = silent_held offset (object_at n w) d place k ops w
-silent_read (InCopy m i offset) d place k ops w = tt
-silent_read (Alone v) d place k ops w = tt
-
-silent_kept : (n offset x : ℕ) (o : Option Object) (d : List ℕ) (place : ℕ) (k : List Frame) (ops : List ℕ) (w : World) → IsSilent (by_kept n offset x o d place k ops w)
-silent_kept n offset x None d place k ops w = tt
-silent_kept n offset x (Some o) d place k ops w = tt
-
-silent_write : (f : Found) (x : ℕ) (d : List ℕ) (place : ℕ) (k : List Frame) (ops : List ℕ) (w : World) → IsSilent (by_write f x d place k ops w)
-silent_write (InObject n offset path) x d place k ops w = silent_kept n offset x (object_at n w) d place k ops w
-silent_write (InCopy m i offset) x d place k ops w = tt
-silent_write (Alone v) x d place k ops w = tt
-
-silent_scalar : (n : ℕ) (o : Option Object) (d : List ℕ) (place : ℕ) (k : List Frame) (ops : List ℕ) (w : World) → IsSilent (by_scalar n o d place k ops w)
-silent_scalar n None d place k ops w = tt
-silent_scalar n (Some o) d place k ops w = tt
-
-silent_value : (n x : ℕ) (o : Option Object) (d : List ℕ) (place : ℕ) (k : List Frame) (ops : List ℕ) (w : World) → IsSilent (by_value n x o d place k ops w)
-silent_value n x None d place k ops w = tt
-silent_value n x (Some o) d place k ops w = silent_scalar n (object_at n (write_cells n 0 (x ∷ []) w)) d place k ops (write_cells n 0 (x ∷ []) w)
-
 silent_exit : (b : Bool) (d : List ℕ) (place : ℕ) (k : List Frame) (ops : List ℕ) (w : World) → IsSilent (by_exit b d place k ops w)
 silent_exit true d place k ops w = refl
 silent_exit false d place k ops w = tt
@@ -119,17 +91,17 @@ silent_instr code None d place k ops w = tt
 silent_instr code (Some (Start f)) d place k ops w = silent_enter (slice_get code.entries.items f) [] d [] k ops w
 silent_instr code (Some (Enter slots n)) d place k ops w = tt
 silent_instr code (Some (Declare slot t)) d place k ops w = refl
-silent_instr code (Some (DeclareScalar slot ty)) d place k ops w = silent_scalar w.ledger.next_object (object_at w.ledger.next_object (with_scalar d slot ty w)) d place k ops (with_scalar d slot ty w)
+silent_instr code (Some (DeclareScalar slot ty)) d place k ops w = tt
 silent_instr code (Some (DeclareValue slot ty)) d place k [] w = tt
-silent_instr code (Some (DeclareValue slot ty)) d place k (x ∷ ops) w = silent_value w.ledger.next_object x (object_at w.ledger.next_object (with_scalar d slot ty w)) d place k ops (with_scalar d slot ty w)
+silent_instr code (Some (DeclareValue slot ty)) d place k (x ∷ ops) w = tt
 silent_instr code (Some (Push n)) d place k ops w = tt
-silent_instr code (Some (Read v)) d place k ops w = silent_read (found_by d v w) d place k ops w
+silent_instr code (Some (Read v)) d place k ops w = tt
 silent_instr code (Some (Assign v)) d place k [] w = tt
-silent_instr code (Some (Assign v)) d place k (x ∷ ops) w = silent_write (found_by d v w) x d place k ops w
+silent_instr code (Some (Assign v)) d place k (x ∷ ops) w = tt
 silent_instr code (Some (Unary op ty)) d place k [] w = tt
 silent_instr code (Some (Unary op ty)) d place k (n ∷ ops) w = silent_result (unary op ty n) d place k ops w
 silent_instr code (Some (Binary op ty)) d place k ops w = silent_binary op ty d place k ops w
-silent_instr code (Some (BinaryVariable op ty v)) d place k ops w = over_read IsSilent op ty (found_by d v w) d place k ops w (λ x. silent_binary op ty d place k (x ∷ ops) w) tt
+silent_instr code (Some (BinaryVariable op ty v)) d place k ops w = silent_binary op ty d place k (value_of d v w ∷ ops) w
 silent_instr code (Some (BinaryConstant op ty n)) d place k ops w = silent_binary op ty d place k (n ∷ ops) w
 silent_instr code (Some (Decide form count)) d place k [] w = tt
 silent_instr code (Some (Decide form count)) d place k (n ∷ ops) w = silent_decision (decides form (n ∷ [])) n count d place k ops w

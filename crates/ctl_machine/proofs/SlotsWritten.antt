@@ -12,7 +12,7 @@ use Rattle.ctl_meaning.specs.Changes as C
 use Rattle.ctl_meaning.specs.Changes.{opened_changes}
 use Rattle.ctl_machine.specs.declared.masters.Slot.{Slot}
 use Rattle.ctl_machine.specs.declared.masters.Master.{Master}
-use Rattle.ctl_machine.specs.Objects.{Existing}
+use Rattle.ctl_machine.specs.declared.objects.Object.{Object}
 use Rattle.ctl_machine.specs.Masters.{slot_of}
 use Rattle.ctl_machine.specs.World.{activation_of, master_of, all_but_outermost, numbers_of, world_from, world_of, AreNested, AreLast, AreListed, HaveNoOther, AreDeclaredIn, IsSound}
 use Rattle.ctl_machine.proofs.Numbers.{eq_differs}
@@ -25,7 +25,7 @@ same_masters : (l : Lists) (m : Master) (s : Vec Slot Global) (ms : List Master)
 same_masters l m s [] = refl
 same_masters l m s (o ∷ ms) = refl
 
-pub put_newest : (g : ℕ) (l : Lists) (n slot : ℕ) (x : W.Slot) (m : Master) (s : Vec Slot Global) (ms : List Master) (xs : List Existing) → AreNested m ms → n ≡ m.number
+pub put_newest : (g : ℕ) (l : Lists) (n slot : ℕ) (x : W.Slot) (m : Master) (s : Vec Slot Global) (ms : List Master) (xs : List Object) → AreNested m ms → n ≡ m.number
     → map slot_of s.items ≡ slice_set (map slot_of m.slots.items) slot x
     → world_from g l (record m { slots = s }) ms xs ≡ C.set_slot n slot x (world_from g l m ms xs)
 unfolding opened_changes
@@ -38,7 +38,7 @@ unfolding opened_lists opened_activations
 no_slot_written n slot x m [] differs absent = refl
 no_slot_written n slot x m (o ∷ ms) differs absent = rw (eq_differs m.number n differs) (ap (λ (l : List W.Activation). activation_of m ∷ l) (no_slot_written n slot x o ms (All-head (λ a. a.number ≢ n) o ms absent) (All-tail (λ a. a.number ≢ n) o ms absent)))
 
-pub put_nowhere : (g : ℕ) (l : Lists) (n slot : ℕ) (x : W.Slot) (m : Master) (older : List Master) (xs : List Existing) → n ≢ m.number → All (λ o. o.number ≢ n) older → world_of g l m older xs ≡ C.set_slot n slot x (world_of g l m older xs)
+pub put_nowhere : (g : ℕ) (l : Lists) (n slot : ℕ) (x : W.Slot) (m : Master) (older : List Master) (xs : List Object) → n ≢ m.number → All (λ o. o.number ≢ n) older → world_of g l m older xs ≡ C.set_slot n slot x (world_of g l m older xs)
 unfolding opened_changes
 put_nowhere g l n slot x m older xs differs absent = rw (← no_slot_written n slot x m (reverse older) (λ same. differs (sym same)) (All-permutation (λ a. a.number ≢ n) older (reverse older) (IsPermutation-reverse older) absent)) refl
 
@@ -94,7 +94,7 @@ module _ (n slot : ℕ) (x : W.Slot) (o : Master) (s : Vec Slot Global) (ms : Li
   numbers_put (y ∷ newer) = ap (λ (l : List ℕ). y.number ∷ l) (numbers_put newer)
 
 -- the older masters, from the outermost on, after the slot at a place was written
-module _ (g : ℕ) (l : Lists) (n slot i : ℕ) (x : W.Slot) (m o : Master) (s : Vec Slot Global) (older : List Master) (xs : List Existing) (in_range : i < length older) (read : o ≡ get_or older i o) (same : n ≡ o.number) (put : map slot_of s.items ≡ slice_set (map slot_of o.slots.items) slot x) where
+module _ (g : ℕ) (l : Lists) (n slot i : ℕ) (x : W.Slot) (m o : Master) (s : Vec Slot Global) (older : List Master) (xs : List Object) (in_range : i < length older) (read : o ≡ get_or older i o) (same : n ≡ o.number) (put : map slot_of s.items ≡ slice_set (map slot_of o.slots.items) slot x) where
   before : (all : List Master) → all ≡ older → (front back : List Master) → IsAround older i o front back → reverse all ≡ reverse back ++ o ∷ reverse front
   before all is front back a = ap (λ k. reverse k) (is ∙ a.here) ∙ turn front back o
 

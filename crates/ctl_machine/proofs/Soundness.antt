@@ -12,7 +12,8 @@ use Rattle.ctl_machine.specs.declared.masters.Master.{Master}
 use Rattle.ctl_meaning.specs.World as W
 use Rattle.ctl_machine.specs.Masters.{slot_of}
 use Rattle.ctl_machine.specs.Numbers.{Rises}
-use Rattle.ctl_machine.specs.Objects.{Existing, numbers, homes, UpTo, StayInPlace, IsFrontOf, kept_without}
+use Rattle.ctl_machine.specs.declared.objects.Object.{Object}
+use Rattle.ctl_machine.specs.Objects.{numbers, homes, UpTo, StayInPlace, IsFrontOf, kept_without}
 use Rattle.ctl_machine.specs.World.{AreNested, AreLast, AreListed, HaveNoOther, AreDeclaredIn, numbers_of, IsSound}
 use Rattle.ctl_machine.proofs.Numbers.{eq_same, eq_differs}
 use Rattle.ctl_machine.proofs.MastersByNumber.{below}
@@ -53,7 +54,7 @@ slots_listed l m s [] listed = listed
 slots_listed l m s (o ∷ ms) listed = listed
 
 -- no object is of a newer master
-pub up_to : (m : Master) (ms : List Master) (xs : List Existing) → AreNested m ms → AreDeclaredIn (numbers_of m ms) xs → UpTo m.number xs
+pub up_to : (m : Master) (ms : List Master) (xs : List Object) → AreNested m ms → AreDeclaredIn (numbers_of m ms) xs → UpTo m.number xs
 up_to m ms xs nested declared =
     All-weaker (Contains (numbers_of m ms)) (λ n. n ≤ m.number) (λ n among. All-contains (λ k. k ≤ m.number) (numbers_of m ms) n bounded among) (homes xs) declared
   where
@@ -69,11 +70,11 @@ last_pushed (x ∷ y ∷ ns) n = last_pushed (y ∷ ns) n
 
 -- Changes ----------------------------------------------------------------------------------------------
 
-module _ (g : ℕ) (l : Lists) (m : Master) (older : List Master) (xs : List Existing) (sound : IsSound g l m older xs) where
+module _ (g : ℕ) (l : Lists) (m : Master) (older : List Master) (xs : List Object) (sound : IsSound g l m older xs) where
   pub newest_bounds : UpTo m.number xs
   newest_bounds = up_to m (reverse older) xs sound.nested sound.declared
 
-  pub sound_in_place : (ys : List Existing) → StayInPlace xs ys → IsSound g l m older ys
+  pub sound_in_place : (ys : List Object) → StayInPlace xs ys → IsSound g l m older ys
   sound_in_place ys stay = record {
     nested = sound.nested;
     last = sound.last;
@@ -104,17 +105,31 @@ module _ (g : ℕ) (l : Lists) (m : Master) (older : List Master) (xs : List Exi
   sound_dropped k = sound_lists (drop_newest k l) refl (dropped_listed k l m (reverse older) sound.listed) (λ n some. sound.only n (was_there k without_newest l.masters n some))
 
   -- an object of the newest master
-  pub sound_declared : (s : Vec Slot Global) (slot : ℕ) (x : W.Slot) (o : Existing) → map slot_of s.items ≡ slice_set (map slot_of m.slots.items) slot x → o.number ≡ g + 1 → o.master ≡ m.number → IsSound (g + 1) l (record m { slots = s }) older (xs ++ o ∷ [])
+  pub sound_declared : (s : Vec Slot Global) (slot : ℕ) (x : W.Slot) (o : Object) → map slot_of s.items ≡ slice_set (map slot_of m.slots.items) slot x → o.number ≡ g + 1 → o.master ≡ m.number → IsSound (g + 1) l (record m { slots = s }) older (xs ++ o ∷ [])
   sound_declared s slot x o put number master = record {
     nested = slots_nested m s slot x (reverse older) put sound.nested;
     last = slots_last m s (reverse older) sound.last;
     listed = slots_listed l m s (reverse older) sound.listed;
     only = sound.only;
     given = sound.given;
-    rising = rw (map-append (λ (x : Existing). x.number) xs (o ∷ []), number) (rises_push (numbers xs) g sound.rising sound.behind);
-    behind = rw (map-append (λ (x : Existing). x.number) xs (o ∷ []), number) (All-push (λ n. n ≤ g + 1) (numbers xs) (g + 1) (All-weaker (λ n. n ≤ g) (λ n. n ≤ g + 1) (λ n le. omega arith) (numbers xs) sound.behind) (omega arith));
-    in_order = rw (map-append (λ (x : Existing). x.master) xs (o ∷ []), master) (IsNonDecreasingBy-push (λ n. n) (homes xs) m.number sound.in_order (λ d some. newest_bounds _ d (omega arith)));
-    declared = rw (map-append (λ (x : Existing). x.master) xs (o ∷ []), master) (All-push (Contains (numbers_of m (reverse older))) (homes xs) m.number sound.declared (0, omega arith, refl));
+    rising = rw (map-append (λ (x : Object). x.number) xs (o ∷ []), number) (rises_push (numbers xs) g sound.rising sound.behind);
+    behind = rw (map-append (λ (x : Object). x.number) xs (o ∷ []), number) (All-push (λ n. n ≤ g + 1) (numbers xs) (g + 1) (All-weaker (λ n. n ≤ g) (λ n. n ≤ g + 1) (λ n le. omega arith) (numbers xs) sound.behind) (omega arith));
+    in_order = rw (map-append (λ (x : Object). x.master) xs (o ∷ []), master) (IsNonDecreasingBy-push (λ n. n) (homes xs) m.number sound.in_order (λ d some. newest_bounds _ d (omega arith)));
+    declared = rw (map-append (λ (x : Object). x.master) xs (o ∷ []), master) (All-push (Contains (numbers_of m (reverse older))) (homes xs) m.number sound.declared (0, omega arith, refl));
+  }
+
+  -- a number is given, and a slot of the newest master is written
+  pub sound_numbered : (s : Vec Slot Global) (slot : ℕ) (x : W.Slot) → map slot_of s.items ≡ slice_set (map slot_of m.slots.items) slot x → IsSound (g + 1) l (record m { slots = s }) older xs
+  sound_numbered s slot x put = record {
+    nested = slots_nested m s slot x (reverse older) put sound.nested;
+    last = slots_last m s (reverse older) sound.last;
+    listed = slots_listed l m s (reverse older) sound.listed;
+    only = sound.only;
+    given = sound.given;
+    rising = sound.rising;
+    behind = All-weaker (λ n. n ≤ g) (λ n. n ≤ g + 1) (λ n le. omega arith) (numbers xs) sound.behind;
+    in_order = sound.in_order;
+    declared = sound.declared;
   }
 
   -- a slot of the newest master is written
@@ -143,7 +158,7 @@ module _ (g : ℕ) (l : Lists) (m : Master) (older : List Master) (xs : List Exi
 
 -- Leaving ----------------------------------------------------------------------------------------------
 
-passes : (n : ℕ) (xs : List Existing) → All (λ k. k ≢ n) (homes (kept_without n xs))
+passes : (n : ℕ) (xs : List Object) → All (λ k. k ≢ n) (homes (kept_without n xs))
 unfolding opened_lists
 passes n [] = All-nil (λ k. k ≢ n)
 passes n (x ∷ xs) = elim (cases_eq x.master n) [
@@ -156,37 +171,37 @@ among_others : (n : ℕ) (ns : List ℕ) (k : ℕ) → k ≢ n → Contains (n �
 among_others n ns k differs (zero, in_range, is) = absurd (differs (sym is))
 among_others n ns k differs (suc i, in_range, is) = (i, omega arith, is)
 
-module _ (g : ℕ) (l : Lists) (m : Master) (older : List Master) (xs : List Existing) (sound : IsSound g l m older xs) where
+module _ (g : ℕ) (l : Lists) (m : Master) (older : List Master) (xs : List Object) (sound : IsSound g l m older xs) where
   -- the first objects, which other masters declare
-  pub sound_left : (o : Master) (rest : List Master) (ys : List Existing) → older ≡ rest ++ o ∷ [] → IsFrontOf xs ys → ys ≡ kept_without m.number xs → IsSound g (without_master m.number l) o rest ys
+  pub sound_left : (o : Master) (rest : List Master) (ys : List Object) → older ≡ rest ++ o ∷ [] → IsFrontOf xs ys → ys ≡ kept_without m.number xs → IsSound g (without_master m.number l) o rest ys
   sound_left o rest ys last front kept =
       let turned : reverse older ≡ o ∷ reverse rest = rw (last, reverse-append rest (o ∷ [])) refl in
       let nested : AreNested m (o ∷ reverse rest) = subst (λ ms. AreNested m ms) turned sound.nested in
       let among : AreDeclaredIn (numbers_of m (o ∷ reverse rest)) xs = subst (λ ms. AreDeclaredIn (numbers_of m ms) xs) turned sound.declared in
       let others : All (λ k. k ≢ m.number) (homes ys) = rw kept (passes m.number xs) in
-      let front_among : AreDeclaredIn (numbers_of m (o ∷ reverse rest)) ys = rw (front.1, ← take-map (λ (x : Existing). x.master) front.0 xs) (All-take (Contains (numbers_of m (o ∷ reverse rest))) front.0 (homes xs) among) in
+      let front_among : AreDeclaredIn (numbers_of m (o ∷ reverse rest)) ys = rw (front.1, ← take-map (λ (x : Object). x.master) front.0 xs) (All-take (Contains (numbers_of m (o ∷ reverse rest))) front.0 (homes xs) among) in
       record {
         nested = nested.1;
         last = (subst (λ ms. AreLast m ms) turned sound.last).1;
         listed = listed_agree l (without_master m.number l) m.number (closed_there m.number l) o (reverse rest) nested.1 nested.0 (subst (λ ms. AreListed l m ms) turned sound.listed).1;
         only = λ n some. (let before = closed_was m.number l n some in among_others m.number (numbers_of o (reverse rest)) n before.0 (subst (λ ms. HaveNoOther l (numbers_of m ms)) turned sound.only n before.1));
         given = rw (closed_given m.number l) (omega (arith, nested.0, sound.given));
-        rising = rw (front.1, ← take-map (λ (x : Existing). x.number) front.0 xs) (rises_take (numbers xs) front.0 sound.rising);
-        behind = rw (front.1, ← take-map (λ (x : Existing). x.number) front.0 xs) (All-take (λ n. n ≤ g) front.0 (numbers xs) sound.behind);
-        in_order = rw (front.1, ← take-map (λ (x : Existing). x.master) front.0 xs) (IsNonDecreasingBy-take (λ n. n) front.0 (homes xs) sound.in_order);
+        rising = rw (front.1, ← take-map (λ (x : Object). x.number) front.0 xs) (rises_take (numbers xs) front.0 sound.rising);
+        behind = rw (front.1, ← take-map (λ (x : Object). x.number) front.0 xs) (All-take (λ n. n ≤ g) front.0 (numbers xs) sound.behind);
+        in_order = rw (front.1, ← take-map (λ (x : Object). x.master) front.0 xs) (IsNonDecreasingBy-take (λ n. n) front.0 (homes xs) sound.in_order);
         declared = λ i d in_range. among_others m.number (numbers_of o (reverse rest)) (get_or (homes ys) i d) (others i d in_range) (front_among i d in_range);
       }
 
   -- the outermost stays
-  pub sound_front : (rest : List Master) (ys : List Existing) → rest ≡ older → IsFrontOf xs ys → IsSound g l m rest ys
+  pub sound_front : (rest : List Master) (ys : List Object) → rest ≡ older → IsFrontOf xs ys → IsSound g l m rest ys
   sound_front rest ys same front = record {
     nested = subst (λ ms. AreNested m (reverse ms)) (sym same) sound.nested;
     last = subst (λ ms. AreLast m (reverse ms)) (sym same) sound.last;
     listed = subst (λ ms. AreListed l m (reverse ms)) (sym same) sound.listed;
     only = subst (λ ms. HaveNoOther l (numbers_of m (reverse ms))) (sym same) sound.only;
     given = sound.given;
-    rising = rw (front.1, ← take-map (λ (x : Existing). x.number) front.0 xs) (rises_take (numbers xs) front.0 sound.rising);
-    behind = rw (front.1, ← take-map (λ (x : Existing). x.number) front.0 xs) (All-take (λ n. n ≤ g) front.0 (numbers xs) sound.behind);
-    in_order = rw (front.1, ← take-map (λ (x : Existing). x.master) front.0 xs) (IsNonDecreasingBy-take (λ n. n) front.0 (homes xs) sound.in_order);
-    declared = subst (λ ms. AreDeclaredIn (numbers_of m (reverse ms)) ys) (sym same) (rw (front.1, ← take-map (λ (x : Existing). x.master) front.0 xs) (All-take (Contains (numbers_of m (reverse older))) front.0 (homes xs) sound.declared));
+    rising = rw (front.1, ← take-map (λ (x : Object). x.number) front.0 xs) (rises_take (numbers xs) front.0 sound.rising);
+    behind = rw (front.1, ← take-map (λ (x : Object). x.number) front.0 xs) (All-take (λ n. n ≤ g) front.0 (numbers xs) sound.behind);
+    in_order = rw (front.1, ← take-map (λ (x : Object). x.master) front.0 xs) (IsNonDecreasingBy-take (λ n. n) front.0 (homes xs) sound.in_order);
+    declared = subst (λ ms. AreDeclaredIn (numbers_of m (reverse ms)) ys) (sym same) (rw (front.1, ← take-map (λ (x : Object). x.master) front.0 xs) (All-take (Contains (numbers_of m (reverse older))) front.0 (homes xs) sound.declared));
   }

@@ -5,7 +5,6 @@ pub mod World
 pub mod Operators
 pub mod Images
 pub mod Turns
-pub mod Variables
 pub mod Control
 pub mod Calls
 pub mod Engine

@@ -3,6 +3,7 @@
 ghost use Rattle.std.specs.Prelude.{◌≡◌, ◌≢◌, All, IfNone, IfOk, IfSome, map, slice_get, slice_set, take};
 ghost use Rattle.ctl_meaning.specs.World as W;
 ghost use Rattle.ctl_meaning.specs.Lists.{item_or};
+ghost use Rattle.ctl_meaning.specs.Names.{copy_in, scalar_of};
 ghost use Rattle.ctl_machine.specs.Masters.{AreRising, slots_for, slot_of};
 ghost use Rattle.ctl_machine.specs.Numbers.{StandsAt};
 
@@ -17,8 +18,22 @@ pub enum Slot {
     Holds(u64),
     /// a formal parameter stands for the object of this number
     Binds(u64),
-    /// a value: that of a loop parameter
+    /// a value: that of an elementary variable, or of a loop parameter
     Copies(u64),
+}
+
+impl Slot {
+    /// The value of the elementary variable whose slot this is, 0 where it has none.
+    #[inline(always)]
+    #[tactic(auto, unfolding(ctl_meaning::specs::Names::copy_in, ctl_meaning::specs::Names::scalar_of, ctl_meaning::specs::Lists::item_or))]
+    pub fn cell(self) -> u64
+        ensures { result ≡ scalar_of (copy_in (slot_of self)) }
+    {
+        match self {
+            Slot::Copies(cell) => cell,
+            Slot::Unset | Slot::Holds(_) | Slot::Binds(_) => 0,
+        }
+    }
 }
 
 /// An active master: an execution of a body or a block (RM 7.6.1). The outermost one stands for what is around the main

@@ -285,7 +285,7 @@ impl Engine {
             Some(Ty::Record(record_type)) => {
                 self.finalize_object(code, departure, object, record_type)
             }
-            // A scalar has nothing to finalize.
+            // Only a record has something to finalize.
             Some(_) => {
                 self.pass_layer(departure, Mode::Giving(Handed::Normal));
                 Ok(())

@@ -2,14 +2,13 @@
 //!
 //! A contract sees a world of the meaning, and each change as one of the meaning's.
 
-ghost use Rattle.std.specs.Prelude.{◌≡◌, ℕ, ◌+◌, ◌^◌, ◌<◌, [], ◌∷◌, IfOk, OnOk, OnErr, true, is_some, map, option_map, replicate, take};
-ghost use Rattle.std.specs.Bool.{OnFalse};
+ghost use Rattle.std.specs.Prelude.{◌≡◌, ℕ, ◌+◌, ◌^◌, ◌<◌, [], ◌∷◌, IfOk, OnOk, OnErr, map, option_map, replicate, take};
 ghost use Rattle.ctl_meaning.specs.World as W;
 ghost use Rattle.ctl_meaning.specs.Ledger.{layers_of};
 ghost use Rattle.ctl_meaning.specs.Lists.{last_of};
 ghost use Rattle.ctl_meaning.specs.Activations as A;
 ghost use Rattle.ctl_meaning.specs.Names as N;
-ghost use Rattle.ctl_meaning.specs.Objects.{cells_at};
+ghost use Rattle.ctl_meaning.specs.Objects.{overwritten};
 ghost use Rattle.ctl_meaning.specs.Changes as C;
 ghost use Rattle.ctl_machine.specs.Masters.{slots_for, slot_of};
 ghost use Rattle.ctl_machine.specs.World.{world_of, IsSound, IsHome, IsNewestLayer, levels_of, newest_display, newest_master, newest_layers, display_at, declared_in, scalar_in, all_but_first, first_with_layer, first_without_layer};
@@ -189,52 +188,31 @@ impl World {
     {
         let number = self.given_objects + 1;
         self.objects
-            .create(number, Ty::Record(record_type), None, self.newest.number)?;
+            .create(number, Ty::Record(record_type), self.newest.number)?;
         put_slot(&mut self.newest.slots, slot, Slot::Holds(number));
         self.given_objects = number;
         Ok(number)
     }
 
-    /// A new scalar object with this value is declared in the newest master, at this slot, and is its newest layer (RM 3.3.1).
-    /// Unchanged where memory is refused.
-    pub fn declare_scalar(&mut self, slot: usize, ty: Ty, cell: u64) -> Result<(), AllocError>
+    /// A new elementary variable of the newest master takes an object number, and its slot has this value (RM 3.3.1).
+    pub fn declare_scalar(&mut self, slot: usize, cell: u64)
         requires { self.old.ledger.next_object < 2 ^ 64 }
-        ensures ok { OnOk result (self.new ≡ C.add_layer (newest_master self.old) (W.Single self.old.ledger.next_object) (scalar_in slot ty cell self.old)) }
-        ensures levels { OnOk result (levels_of self.new ≡ first_with_layer (W.Single self.old.ledger.next_object) (levels_of self.old)) }
-        ensures there { OnOk result ((x : ℕ) → is_some (C.object_at self.old.ledger.next_object (scalar_in slot ty x self.old)) ≡ true) }
-        ensures written { OnOk result (C.write_cells self.old.ledger.next_object 0 (cell ∷ []) (scalar_in slot ty 0 self.old) ≡ scalar_in slot ty cell self.old) }
-        ensures last { OnOk result (last_of (newest_display self.old) ≡ newest_master self.old) }
-        ensures err { OnErr result (self.new ≡ self.old) }
+        ensures declared { self.new ≡ scalar_in slot cell self.old }
+        ensures levels { levels_of self.new ≡ levels_of self.old }
+        ensures last { last_of (newest_display self.old) ≡ newest_master self.old }
     {
-        let number = self.given_objects + 1;
-        let master = self.newest.number;
-        self.lists.add_object(MasterNo(master), number)?;
-        if let Err(error) = self.objects.create(number, ty, Some(cell), master) {
-            // Taken out again, so that nothing has changed.
-            self.lists.drop_newest(MasterNo(master));
-            return Err(error);
-        }
-        put_slot(&mut self.newest.slots, slot, Slot::Holds(number));
-        self.given_objects = number;
-        Ok(())
+        put_slot(&mut self.newest.slots, slot, Slot::Copies(cell));
+        self.given_objects += 1;
     }
 
-    /// The scalar in the object of this number, where that object exists.
+    /// A law of these worlds: what is written to the slot of an elementary variable takes the place of all that was there. It does
+    /// nothing.
     #[inline(always)]
-    pub fn scalar(&self, object: u64) -> Option<u64>
-        ensures { result ≡ option_map (λ o. N.scalar_of (cells_at 0 1 o)) (C.object_at object self.now) }
+    pub fn slots_have_one_cell(&self)
+        ensures { (master slot cell : ℕ) → overwritten 0 (cell ∷ []) (N.copy_in (N.slot_at master slot self.now)) ≡ cell ∷ [] }
     {
-        self.objects.scalar(object)
-    }
-
-    /// The scalar in the object of this number is written, where that object exists (RM 5.2); whether it does.
-    #[inline(always)]
-    pub fn write_scalar(&mut self, object: u64, cell: u64) -> bool
-        ensures exists { result ≡ is_some (C.object_at object self.old) }
-        ensures written { self.new ≡ C.write_cells object 0 (cell ∷ []) self.old }
-        ensures kept { OnFalse result (self.new ≡ self.old) }
-    {
-        self.objects.write_scalar(object, cell)
+        // Read, so that the proof sees what the world is made of.
+        let _newest = self.newest.number;
     }
 
     /// The number of the master that a use names, where the newest master's part stands; 0 where there is none.

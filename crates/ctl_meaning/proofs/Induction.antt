@@ -31,8 +31,8 @@ use Rattle.ctl_meaning.specs.Changes.{object_at}
 use Rattle.ctl_meaning.specs.Members.{Group}
 use Rattle.ctl_meaning.specs.Choice.{Ask}
 use Rattle.ctl_meaning.specs.Outcome.{Way, ByExit, ByReturn, ByRaise, Result, Goes, Leaves, Act, Done, on_goes, ◌>>=◌, ◌>>◌, done, nothing, leave_by, raise, ticked, spend, choose, told, attempt, Tried, Fine, Raised, when, either, on_some}
-use Rattle.ctl_meaning.specs.Types.{Tables, Placed, depth, of_record}
-use Rattle.ctl_meaning.specs.Names.{OfSubprogram, OfAllocator, Call as Caller, Default, Tools, Found, InObject, InCopy, Alone, gone, existing, must_exist, read_part, write_part, read_found, write_found, find_var, dereferenced, narrowed, one_step, walk, or_constraint_error}
+use Rattle.ctl_meaning.specs.Types.{Tables, Category, Elementary, Composite, category_of, Placed, depth, of_record}
+use Rattle.ctl_meaning.specs.Names.{OfSubprogram, OfAllocator, Call as Caller, Default, Tools, Found, InObject, InCopy, Alone, gone, existing, must_exist, read_part, write_part, read_found, write_found, find_var, dereferenced, narrowed, one_step, walk, begins_as, or_constraint_error}
 use Rattle.ctl_meaning.specs.Marks.{with_mark_pool, mark, default_subpool, subpool_function, discriminant}
 use Rattle.ctl_meaning.specs.Expressions.{Passed, no_actuals, with_formal, bound, by_reference, copied, by_copy, copy_back, call_with, Valued, Naming, Applied, Supplied, pass_each, apply_each, join_each, var_part, if_given, operands, allocator, eval_step, operand_step, name_step, actual_step}
 use Rattle.ctl_meaning.specs.Finalization.{Spot, whole, component_at, no_component, with_home, call_operation, Chosen, Every, These, after_finalize, own_finalize, in_any_order, parts_to_finalize, finalize_part, finalize, finalize_begun, finalize_object, finalize_if_controlled, finalize_failed, finalize_group}
@@ -44,7 +44,7 @@ use Rattle.ctl_meaning.specs.Masters.{finalize_declared, finalize_sets, finalize
 use Rattle.ctl_meaning.specs.Statements as S
 use Rattle.ctl_meaning.specs.Statements.{dispatch, join_pieces, eval_text, spot_of, overwrite, assign_record, leaving, turned, loop, one_turn, while, for_turns, for, set_loop, handled, Doing, Guarding, Body, do_each, do_first, handle, scalar}
 use Rattle.ctl_meaning.specs.Run.{Routine, returned, run_routine}
-use Rattle.ctl_meaning.proofs.Relation.{creates, creates_at, writes, forgets, opens, closes, layers, takes, sets, gathers, starts, begins, ends, stores, shuts, empties, Closed, Each, IfSome}
+use Rattle.ctl_meaning.proofs.Relation.{numbers, creates, creates_at, writes, forgets, opens, closes, layers, takes, sets, gathers, starts, begins, ends, stores, shuts, empties, Closed, Each, IfSome}
 
 module _ (t : Tables) (ask other : Ask) (call spare : Caller) (default fallback : Default) (Rel : (A : Type 0) → Act A → Act A → Type 0) (closed : Closed t ask other Rel) where
   abbrev Same : {A : Type 0} → Act A → Act A → Type 0
@@ -164,9 +164,10 @@ module _ (t : Tables) (ask other : Ask) (call spare : Caller) (default fallback 
   k_write_found (InCopy m i x) v = closed.looks (λ w. closed.changes (sets m i _))
   k_write_found (Alone u) v = k_nothing
 
-  k_find_var : (env : List ℕ) (v : Var) → Same (find_var env v) (find_var env v)
+  k_find_var : (c : Category) (env : List ℕ) (v : Var) → Same (find_var c env v) (find_var c env v)
   unfolding find_var
-  k_find_var env v = closed.looks (λ w. k_done _)
+  k_find_var Elementary env v = k_done _
+  k_find_var Composite env v = closed.looks (λ w. k_done _)
 
   k_dereferenced : (n : ℕ) → Same (dereferenced n) (dereferenced n)
   unfolding dereferenced
@@ -240,7 +241,7 @@ module _ (t : Tables) (ask other : Ask) (call spare : Caller) (default fallback 
   GoodValue e = (env : List ℕ) → Same (e k env) (e j env)
 
   abbrev pub GoodName : Naming → Type 0
-  GoodName n = (env : List ℕ) → Same (n k env) (n j env)
+  GoodName n = (c : Category) (env : List ℕ) → Same (n c k env) (n c j env)
 
   abbrev pub GoodOperand : Applied → Type 0
   GoodOperand o = (env v : List ℕ) → Same (o k env v) (o j env v)
@@ -265,9 +266,9 @@ module _ (t : Tables) (ask other : Ask) (call spare : Caller) (default fallback 
     unfolding call_with
     k_call_with env f p = k_seq (calls f p.slots env) (λ r. k_then (k_copy_back r.slots p.back) (k_done r))
 
-    k_var_part : (env : List ℕ) (v : Var) → Same (var_part env v) (var_part env v)
+    k_var_part : (c : Category) (env : List ℕ) (v : Var) → Same (var_part c env v) (var_part c env v)
     unfolding var_part
-    k_var_part env v = k_ticked (k_find_var env v)
+    k_var_part c env v = k_ticked (k_find_var c env v)
 
     k_pass_each : (env : List ℕ) (xs : List Supplied) → Each GoodActual xs → (p : Passed) → Same (pass_each k env xs p) (pass_each j env xs p)
     unfolding pass_each
@@ -299,7 +300,7 @@ module _ (t : Tables) (ask other : Ask) (call spare : Caller) (default fallback 
 
     pub good_read : (n : Naming) (ty : Ty) → GoodName n → GoodValue (eval_step (Expr-F.Read n ty))
     unfolding eval_step
-    good_read n ty h env = k_ticked (k_seq (h env) (λ f. k_read_found _ f))
+    good_read n ty h env = k_ticked (k_seq (h (category_of ty) env) (λ f. k_read_found _ f))
 
     pub good_call : (f : ℕ) (xs : List Supplied) → Each GoodActual xs → GoodValue (eval_step (Expr-F.Call f xs))
     unfolding eval_step
@@ -323,7 +324,7 @@ module _ (t : Tables) (ask other : Ask) (call spare : Caller) (default fallback 
 
     pub good_access : (v : Var) → GoodValue (eval_step (Expr-F.Access v))
     unfolding eval_step
-    good_access v env = k_ticked (k_seq (k_var_part env v) (λ f. k_done _))
+    good_access v env = k_ticked (k_seq (k_var_part Composite env v) (λ f. k_done _))
 
     pub good_new : (access : ℕ) (ty : Ty) (x y : Option Valued) → IfSome GoodValue x → IfSome GoodValue y → GoodValue (eval_step (Expr-F.New access ty x y))
     unfolding eval_step allocator
@@ -331,11 +332,11 @@ module _ (t : Tables) (ask other : Ask) (call spare : Caller) (default fallback 
 
     pub good_subpool : (which : SubpoolFunction) (n : Naming) → GoodName n → GoodValue (eval_step (Expr-F.Subpool which n))
     unfolding eval_step
-    good_subpool which n h env = k_ticked (k_seq (h env) (λ f. k_subpool_function which _))
+    good_subpool which n h env = k_ticked (k_seq (h Composite env) (λ f. k_subpool_function which _))
 
     pub good_discriminant : (n : Naming) (i : ℕ) → GoodName n → GoodValue (eval_step (Expr-F.Discriminant n i))
     unfolding eval_step
-    good_discriminant n i h env = k_ticked (k_seq (h env) (λ f. k_discriminant _ i))
+    good_discriminant n i h env = k_ticked (k_seq (h Composite env) (λ f. k_discriminant _ i))
 
     pub good_operand : (op : BinaryOp) (ty : Ty) (e : Valued) → GoodValue e → GoodOperand (operand_step (record { op = op; ty = ty; right = e }))
     unfolding operand_step
@@ -343,11 +344,11 @@ module _ (t : Tables) (ask other : Ask) (call spare : Caller) (default fallback 
 
     pub good_variable : (v : Var) (ss : List Step) → GoodName (name_step (Name-F.Variable v ss))
     unfolding name_step
-    good_variable v ss env = k_seq (k_var_part env v) (k_walk ss)
+    good_variable v ss c env = k_seq (k_var_part (begins_as ss c) env v) (k_walk ss)
 
     pub good_given : (e : Valued) (ss : List Step) → GoodValue e → GoodName (name_step (Name-F.Given e ss))
     unfolding name_step
-    good_given e ss h env = k_seq (k_seq (h env) (λ v. k_done _)) (k_walk ss)
+    good_given e ss h c env = k_seq (k_seq (h env) (λ v. k_done _)) (k_walk ss)
 
     pub good_by_value : (e : Valued) → GoodValue e → GoodActual (actual_step (Actual-F.ByValue e))
     unfolding actual_step
@@ -355,11 +356,11 @@ module _ (t : Tables) (ask other : Ask) (call spare : Caller) (default fallback 
 
     pub good_part : (n : Naming) → GoodName n → GoodActual (actual_step (Actual-F.Part n))
     unfolding actual_step
-    good_part n h = (λ env. k_ticked (h env), k_by_reference)
+    good_part n h = (λ env. k_ticked (h Composite env), k_by_reference)
 
     pub good_copied : (n : Naming) (ty : Ty) (b : CopyStart) → GoodName n → GoodActual (actual_step (Actual-F.Copied n ty b))
     unfolding actual_step
-    good_copied n ty b h = (λ env. k_ticked (h env), λ f. k_by_copy _ b f)
+    good_copied n ty b h = (λ env. k_ticked (h (category_of ty) env), λ f. k_by_copy _ b f)
 
     module _ (values : Starts) where
       -- Finalize, Adjust, Initialize ------------------------------------------------
@@ -588,7 +589,7 @@ module _ (t : Tables) (ask other : Ask) (call spare : Caller) (default fallback 
       k_storage : (env : List ℕ) (p : Option Var) (h : Option (List ℕ)) (size : ℕ) → Same (storage k env p h size) (storage j env p h size)
       unfolding storage
       k_storage env None h size = k_done _
-      k_storage env (Some v) h size = k_seq (k_find_var env v) (λ f. k_existing _ (λ o. k_storage_in _ h size _))
+      k_storage env (Some v) h size = k_seq (k_find_var Composite env v) (λ f. k_existing _ (λ o. k_storage_in _ h size _))
 
       -- Allocators and Free --------------------------------------------------------------
 
@@ -652,9 +653,10 @@ module _ (t : Tables) (ask other : Ask) (call spare : Caller) (default fallback 
       unfolding in_master
       k_in_master env ss f g h = closed.looks (λ w. k_then (closed.changes (opens env ss)) (closed.joins (h _) (λ r. k_leave_master _ r)))
 
-      k_declare : (m slot : ℕ) (ty : Ty) (v : Option (List ℕ)) → Same (declare k m slot ty v) (declare j m slot ty v)
+      k_declare : (c : Category) (m slot : ℕ) (ty : Ty) (v : Option (List ℕ)) → Same (declare c k m slot ty v) (declare c j m slot ty v)
       unfolding declare
-      k_declare m slot ty v =
+      k_declare Elementary m slot ty v = k_then (closed.changes numbers) (closed.changes (sets m slot _))
+      k_declare Composite m slot ty v =
           closed.looks (λ w. k_then (k_then (k_then (closed.changes (creates ty _ _)) (closed.changes (sets m slot _))) (k_fill _ _ ty v)) (closed.changes (layers m _)))
 
       k_gather_each : (m : ℕ) (accesses found : List ℕ) → Same (gather_each k m accesses found) (gather_each j m accesses found)
@@ -699,7 +701,7 @@ module _ (t : Tables) (ask other : Ask) (call spare : Caller) (default fallback 
 
       pub good_object : (slot : ℕ) (ty : Ty) (v : Option Valued) → IfSome GoodValue v → GoodItem (object slot ty v)
       unfolding object
-      good_object slot ty v h env m = k_ticked (k_seq (k_if_given env v h) (λ x. k_declare m slot ty x))
+      good_object slot ty v h env m = k_ticked (k_seq (k_if_given env v h) (λ x. k_declare (category_of ty) m slot ty x))
 
       pub good_pool : (slot u : ℕ) (ds : List (ℕ × Valued)) → Each GoodAssociation ds → GoodItem (pool slot u ds)
       unfolding pool
@@ -819,11 +821,11 @@ module _ (t : Tables) (ask other : Ask) (call spare : Caller) (default fallback 
 
       pub good_assign : (n : Naming) (v : Valued) → GoodName n → GoodValue v → GoodDoing (S.assign n v)
       unfolding S.assign
-      good_assign n v h i env e = k_ticked (k_seq (h env) (λ f. k_seq (i env) (λ x. k_write_found f x)))
+      good_assign n v h i env e = k_ticked (k_seq (h Elementary env) (λ f. k_seq (i env) (λ x. k_write_found f x)))
 
       pub good_assign_part : (n : Naming) (u : ℕ) (a : Supplied) → GoodName n → GoodActual a → GoodDoing (S.assign_part n u a)
       unfolding S.assign_part
-      good_assign_part n u a h i env e = k_ticked (k_seq (h env) (λ f. k_seq (i.0 env) (λ g. k_assign_record u f g)))
+      good_assign_part n u a h i env e = k_ticked (k_seq (h Composite env) (λ f. k_seq (i.0 env) (λ g. k_assign_record u f g)))
 
       pub good_call_statement : (f : ℕ) (xs : List Supplied) → Each GoodActual xs → GoodDoing (S.call f xs)
       unfolding S.call
@@ -831,19 +833,19 @@ module _ (t : Tables) (ask other : Ask) (call spare : Caller) (default fallback 
 
       pub good_call_nothing : (n : Naming) → GoodName n → GoodDoing (S.call_nothing n)
       unfolding S.call_nothing
-      good_call_nothing n h env e = k_ticked (k_then (h env) k_nothing)
+      good_call_nothing n h env e = k_ticked (k_then (h Composite env) k_nothing)
 
       pub good_dispatching : (op : Operation) (n : Naming) → GoodName n → GoodDoing (S.call_dispatching op n)
       unfolding S.call_dispatching
-      good_dispatching op n h env e = k_ticked (k_seq (h env) (λ f. k_dispatch env op f))
+      good_dispatching op n h env e = k_ticked (k_seq (h Composite env) (λ f. k_dispatch env op f))
 
       pub good_call_allocate : (p a : Naming) (size al : Valued) → GoodName p → GoodName a → GoodValue size → GoodValue al → GoodDoing (S.call_allocate p a size al)
       unfolding S.call_allocate
-      good_call_allocate p a size al h i l m env e = k_ticked (k_seq (h env) (λ f. k_seq (i env) (λ g. k_scalar (l env) (λ s. k_seq (k_then (m env) (k_library_allocate _ s)) (λ y. k_write_found g _)))))
+      good_call_allocate p a size al h i l m env e = k_ticked (k_seq (h Composite env) (λ f. k_seq (i Elementary env) (λ g. k_scalar (l env) (λ s. k_seq (k_then (m env) (k_library_allocate _ s)) (λ y. k_write_found g _)))))
 
       pub good_call_deallocate : (p : Naming) (a size al : Valued) → GoodName p → GoodValue a → GoodValue size → GoodValue al → GoodDoing (S.call_deallocate p a size al)
       unfolding S.call_deallocate
-      good_call_deallocate p a size al h i l m env e = k_ticked (k_seq (h env) (λ f. k_scalar (i env) (λ y. k_then (k_then (l env) (m env)) (k_library_deallocate _ y))))
+      good_call_deallocate p a size al h i l m env e = k_ticked (k_seq (h Composite env) (λ f. k_scalar (i env) (λ y. k_then (k_then (l env) (m env)) (k_library_deallocate _ y))))
 
       pub good_put : (ps : List Valued) → Each GoodValue ps → GoodDoing (S.put ps)
       unfolding S.put
@@ -897,11 +899,11 @@ module _ (t : Tables) (ask other : Ask) (call spare : Caller) (default fallback 
 
       pub good_free : (a : ℕ) (n : Naming) → GoodName n → GoodDoing (S.free_object_of a n)
       unfolding S.free_object_of
-      good_free a n h env e = k_ticked (k_seq (h env) (λ f. k_free env a f))
+      good_free a n h env e = k_ticked (k_seq (h Elementary env) (λ f. k_free env a f))
 
       pub good_release : (n : Naming) → GoodName n → GoodDoing (S.release_subpool n)
       unfolding S.release_subpool
-      good_release n h env e = k_ticked (k_seq (h env) (λ f. k_unchecked f))
+      good_release n h env e = k_ticked (k_seq (h Elementary env) (λ f. k_unchecked f))
 
       pub good_guard : (v : Valued) (ss : List Doing) → GoodValue v → Each GoodDoing ss → GoodGuard (S.guard v ss)
       unfolding S.guard

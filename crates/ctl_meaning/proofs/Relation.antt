@@ -5,7 +5,7 @@ use Rattle.ctl_tree.specs.declared.ending.Stop.{Stop}
 use Rattle.ctl_tree.specs.declared.event.Event.{Event}
 use Rattle.ctl_tree.specs.declared.event.Cause.{Cause}
 use Rattle.ctl_meaning.specs.World.{Member, Layer, Origin, Place, Slot, Pools, World}
-use Rattle.ctl_meaning.specs.Changes.{create, create_at, write_cells, forget, open_master, close_master, add_layer, take_layer, set_slot, add_collection, start_collections, begin_finalization, end_finalization, in_pools, close_pool_at, empty_subpool}
+use Rattle.ctl_meaning.specs.Changes.{take_object_number, create, create_at, write_cells, forget, open_master, close_master, add_layer, take_layer, set_slot, add_collection, start_collections, begin_finalization, end_finalization, in_pools, close_pool_at, empty_subpool}
 use Rattle.ctl_meaning.specs.Members.{Group}
 use Rattle.ctl_meaning.specs.Choice.{Ask}
 use Rattle.ctl_meaning.specs.Outcome.{Result, Act, Done, given, then_always, stop, counted, spend, look, change, show, answered}
@@ -16,6 +16,7 @@ use Rattle.ctl_meaning.specs.Statements.{loop, one_turn, while}
 
 -- all changes of the world but a member's joining
 pub data Edit : (World → World) → Type 0 where
+  numbers : Edit take_object_number
   creates : (ty : Ty) (cells : List ℕ) (origin : Origin) → Edit (create ty cells origin)
   creates_at : (ty : Ty) (cells : List ℕ) (set : ℕ) (place : Place) → Edit (create_at ty cells set place)
   writes : (n offset : ℕ) (v : List ℕ) → Edit (write_cells n offset v)

@@ -19,6 +19,10 @@ object_at n w = object_in n w.objects
 unfoldable pub new_object : ℕ → Ty → List ℕ → Origin → Object
 new_object n ty cells origin = record { number = n; ty = ty; cells = cells; state = Untouched; origin = origin; joined = false }
 
+-- the next object number is taken
+unfoldable pub take_object_number : World → World
+take_object_number w = record w { ledger = take_number w.ledger }
+
 -- a new object takes the next number
 unfoldable pub create : Ty → List ℕ → Origin → World → World
 create ty cells origin w = record w { ledger = take_number w.ledger; objects = w.objects ++ new_object w.ledger.next_object ty cells origin ∷ [] }
@@ -143,5 +147,5 @@ is_vacant w (Some b) = not (is_held w b.holder)
 
 -- everything here, opened at once
 unfoldable pub opened_changes : Unit {0}
-unfolding object_at new_object create write_cells forget forget_all count_of open_master add_layer take_layer set_slot sets_of ends_with close_master gone_with add_collection start_collections join begin_finalization end_finalization home_master home_of owner_of in_pools put_into create_at close_pool_at empty_subpool is_busy is_held is_vacant
+unfolding object_at new_object take_object_number create write_cells forget forget_all count_of open_master add_layer take_layer set_slot sets_of ends_with close_master gone_with add_collection start_collections join begin_finalization end_finalization home_master home_of owner_of in_pools put_into create_at close_pool_at empty_subpool is_busy is_held is_vacant
 opened_changes = tt

@@ -19,8 +19,8 @@ use Rattle.ctl_meaning.specs.World.{Slot, Unset, Binds, Copies}
 use Rattle.ctl_meaning.specs.Lists.{item_or}
 use Rattle.ctl_meaning.specs.Outcome.{Act, Done, ◌>>=◌, ◌>>◌, done, nothing, ticked, spend, look, either}
 use Rattle.ctl_meaning.specs.Numbers.{unary, binary, converted, is_true}
-use Rattle.ctl_meaning.specs.Types.{cells_of}
-use Rattle.ctl_meaning.specs.Names.{OfSubprogram, OfAllocator, Returned, Tools, Found, InObject, InCopy, Alone, copy_in, scalar_of, slot_at, read_found, write_found, find_var, object_of, walk, or_constraint_error}
+use Rattle.ctl_meaning.specs.Types.{Category, Composite, category_of, cells_of}
+use Rattle.ctl_meaning.specs.Names.{OfSubprogram, OfAllocator, Returned, Tools, Found, InObject, InCopy, Alone, copy_in, scalar_of, slot_at, read_found, write_found, find_var, object_of, walk, begins_as, or_constraint_error}
 use Rattle.ctl_meaning.specs.Marks.{subpool_function, discriminant}
 
 -- Parameters (6.2, 6.4.1) --------------------------------------------------------
@@ -77,9 +77,9 @@ call_with k env f p = k.call (OfSubprogram f p.slots) env >>= (λ r. copy_back r
 abbrev pub Valued : Type 0
 Valued = Tools → List ℕ → Act (List ℕ)
 
--- a name finds what it denotes
+-- a name finds what it denotes, which is of some category
 abbrev pub Naming : Type 0
-Naming = Tools → List ℕ → Act Found
+Naming = Category → Tools → List ℕ → Act Found
 
 -- an operator with its right operand, behind the value of the left one
 abbrev pub Applied : Type 0
@@ -109,8 +109,8 @@ unfoldable pub join_each : Tools → List ℕ → Shortcut → List Valued → L
 join_each k env op [] v = done v
 join_each k env op (e ∷ rest) v = ticked (either (decides op v) (done v) (e k env)) >>= join_each k env op rest
 
-unfoldable pub var_part : List ℕ → Var → Act Found
-var_part env v = ticked (find_var env v)
+unfoldable pub var_part : Category → List ℕ → Var → Act Found
+var_part c env v = ticked (find_var c env v)
 
 -- the cells of a value that may be left out
 unfoldable pub if_given : {A : Type 0} → (A → Act (List ℕ)) → Option A → Act (Option (List ℕ))
@@ -129,30 +129,30 @@ allocator k env access ty m = spend (m >>= (λ p. k.call (OfAllocator access ty 
 
 unfoldable pub eval_step : Expr-F Supplied Valued Naming Applied → Valued
 eval_step (Expr-F.Constant n) k env = ticked (done (n ∷ []))
-eval_step (Expr-F.Read name ty) k env = ticked (name k env >>= read_found (cells_of k.tables ty))
+eval_step (Expr-F.Read name ty) k env = ticked (name (category_of ty) k env >>= read_found (cells_of k.tables ty))
 eval_step (Expr-F.Call f actuals) k env = ticked (pass_each k env actuals no_actuals >>= call_with k env f >>= (λ r. done r.cells))
 eval_step (Expr-F.Unary op ty e) k env = ticked (e k env >>= (λ v. or_constraint_error (unary op ty (scalar_of v))))
 eval_step (Expr-F.Chain e first rest) k env = e k env >>= apply_each k env (first ∷ rest)
 eval_step (Expr-F.Short op e first rest) k env = e k env >>= join_each k env op (first ∷ rest)
 eval_step (Expr-F.Convert ty e) k env = ticked (e k env >>= (λ v. or_constraint_error (converted ty (scalar_of v))))
-eval_step (Expr-F.Access v) k env = ticked (var_part env v >>= (λ f. done (object_of f ∷ [])))
+eval_step (Expr-F.Access v) k env = ticked (var_part Composite env v >>= (λ f. done (object_of f ∷ [])))
 eval_step (Expr-F.New access ty handle value) k env = ticked (allocator k env access ty (operands k env handle value) >>= (λ r. done r.cells))
-eval_step (Expr-F.Subpool which name) k env = ticked (name k env >>= (λ f. subpool_function which (object_of f)))
-eval_step (Expr-F.Discriminant name n) k env = ticked (name k env >>= (λ f. discriminant (object_of f) n))
+eval_step (Expr-F.Subpool which name) k env = ticked (name Composite k env >>= (λ f. subpool_function which (object_of f)))
+eval_step (Expr-F.Discriminant name n) k env = ticked (name Composite k env >>= (λ f. discriminant (object_of f) n))
 
 unfoldable pub operand_step : Operand-F Supplied Valued Naming Applied → Applied
 operand_step o k env v = ticked (o.right k env >>= (λ u. or_constraint_error (binary o.op o.ty (scalar_of v) (scalar_of u))))
 
--- an object, or the value of a function call or of a converted access value; and then the steps
+-- a variable, or the value of a function call or of a converted access value; and then the steps
 unfoldable pub name_step : Name-F Supplied Valued Naming Applied → Naming
-name_step (Name-F.Variable v steps) k env = var_part env v >>= walk k steps
-name_step (Name-F.Given e steps) k env = e k env >>= (λ v. done (Alone v)) >>= walk k steps
+name_step (Name-F.Variable v steps) c k env = var_part (begins_as steps c) env v >>= walk k steps
+name_step (Name-F.Given e steps) c k env = e k env >>= (λ v. done (Alone v)) >>= walk k steps
 
 -- an actual that is a name is an expression node too
 unfoldable pub actual_step : Actual-F Supplied Valued Naming Applied → Supplied
 actual_step (Actual-F.ByValue e) = record { source = λ k env. e k env >>= (λ v. done (Alone v)); taken = λ k. by_reference }
-actual_step (Actual-F.Part name) = record { source = λ k env. ticked (name k env); taken = λ k. by_reference }
-actual_step (Actual-F.Copied name ty begins) = record { source = λ k env. ticked (name k env); taken = λ k. by_copy (cells_of k.tables ty) begins }
+actual_step (Actual-F.Part name) = record { source = λ k env. ticked (name Composite k env); taken = λ k. by_reference }
+actual_step (Actual-F.Copied name ty begins) = record { source = λ k env. ticked (name (category_of ty) k env); taken = λ k. by_copy (cells_of k.tables ty) begins }
 
 -- Whole trees -----------------------------------------------------------------------
 

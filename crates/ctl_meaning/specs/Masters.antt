@@ -8,15 +8,16 @@ use Rattle.ctl_program.specs.declared.types.Root.{Root}
 use Rattle.ctl_program.specs.declared.types.Root.TheVariants.{MarkPool}
 use Rattle.ctl_program.specs.declared.statement.Item.{Item}
 use Rattle.ctl_tree.specs.declared.event.Cause.TheVariants.{Scope, Collection}
-use Rattle.ctl_meaning.specs.World.{Declared, Layer, Single, Sets, Slot, Holds, Gathers}
+use Rattle.ctl_meaning.specs.World.{Declared, Layer, Single, Sets, Slot, Holds, Copies, Gathers}
+use Rattle.ctl_meaning.specs.Lists.{item_or}
 use Rattle.ctl_meaning.specs.Activations.{slots_in, activation_at}
 use Rattle.ctl_meaning.specs.Ledger.{layers_of}
 use Rattle.ctl_meaning.specs.Pools.{push_block_pool, push_mark_pool}
-use Rattle.ctl_meaning.specs.Changes.{create, open_master, close_master, gone_with, add_layer, take_layer, set_slot, add_collection, start_collections, in_pools, close_pool_at}
+use Rattle.ctl_meaning.specs.Changes.{take_object_number, create, open_master, close_master, gone_with, add_layer, take_layer, set_slot, add_collection, start_collections, in_pools, close_pool_at}
 use Rattle.ctl_meaning.specs.Members.{OfSets}
 use Rattle.ctl_meaning.specs.Limits.{least_block_size, greatest_block_size, least_block_count, greatest_block_count, least_mark_pool_size, greatest_mark_pool_size}
 use Rattle.ctl_meaning.specs.Outcome.{constraint_error, Result, Act, Done, ◌>>=◌, ◌>>◌, done, nothing, raise, counted, ticked, then_always, look, change, Tried, Fine, Raised, attempt, either, on_some}
-use Rattle.ctl_meaning.specs.Types.{root_of, begin_cells}
+use Rattle.ctl_meaning.specs.Types.{Category, Elementary, Composite, category_of, root_of, begin_cells}
 use Rattle.ctl_meaning.specs.Names.{Tools, gone, existing, scalar_of}
 use Rattle.ctl_meaning.specs.Expressions.{Valued, if_given, eval}
 use Rattle.ctl_meaning.specs.Finalization.{finalize_if_controlled, finalize_group}
@@ -65,9 +66,11 @@ in_master k env slots run =
 
 -- Items (3.11) ------------------------------------------------------------------------------
 
--- a declared object takes its number and is filled; it is a layer only where that succeeded
-unfoldable pub declare : Tools → ℕ → ℕ → Ty → Option (List ℕ) → Act Done
-declare k m slot ty value =
+-- an elementary variable takes an object number too, and its value is in its slot: nothing but a use of that slot reaches it, and it has
+-- nothing to finalize. A composite object takes its number and is filled; it is a layer only where that succeeded
+unfoldable pub declare : Category → Tools → ℕ → ℕ → Ty → Option (List ℕ) → Act Done
+declare Elementary k m slot ty value = change take_object_number >> change (set_slot m slot (Copies (item_or (begin_cells k.tables ty) value)))
+declare Composite k m slot ty value =
     look (λ w. change (create ty (begin_cells k.tables ty) (Declared m))
     >> change (set_slot m slot (Holds w.ledger.next_object))
     >> fill k (birth_of (Declared m) w) w.ledger.next_object ty value
@@ -124,7 +127,7 @@ collections accesses k env m = gather_each k m accesses []
 
 -- each other declaration is a tick
 unfoldable pub object : ℕ → Ty → Option Valued → Elaborating
-object slot ty value k env m = ticked (if_given (λ e. e k env) value >>= declare k m slot ty)
+object slot ty value k env m = ticked (if_given (λ e. e k env) value >>= declare (category_of ty) k m slot ty)
 
 unfoldable pub pool : ℕ → ℕ → List (ℕ × Valued) → Elaborating
 pool slot t ds k env m = ticked (discriminants k env ds (0, 0) >>= declare_pool k m slot t)

@@ -12,7 +12,7 @@ use Rattle.ctl_meaning.specs.Objects.{first_cells, cells_at, overwritten}
 use Rattle.ctl_meaning.specs.Changes.{object_at, write_cells, set_slot}
 use Rattle.ctl_meaning.specs.Choice.{Ask}
 use Rattle.ctl_meaning.specs.Outcome.{constraint_error, Act, Done, ◌>>=◌, ◌>>◌, done, nothing, raise, stop, ticked, look, change, either, on_some}
-use Rattle.ctl_meaning.specs.Types.{Tables, placed, offset_in, record_of, descends}
+use Rattle.ctl_meaning.specs.Types.{Tables, Category, Elementary, Composite, placed, offset_in, record_of, descends}
 
 -- what is run where a display is seen: a user's body with the slots of its formals, which takes one from the clock, or an allocator with
 -- its handle and its value, which has taken one
@@ -92,9 +92,11 @@ found_in m i (Holds o) = InObject o 0 []
 found_in m i (Binds o offset path) = InObject o offset path
 found_in m i _ = InCopy m i 0
 
--- a use, where a display is seen
-unfoldable pub find_var : List ℕ → Var → Act Found
-find_var env v = look (λ w. done (found_in (master_of env v) v.slot (slot_at (master_of env v) v.slot w)))
+-- a use of a variable of some category, where a display is seen: an elementary one is the cells of its slot, whatever the slot holds, and
+-- a composite one is what its slot holds
+unfoldable pub find_var : Category → List ℕ → Var → Act Found
+find_var Elementary env v = done (InCopy (master_of env v) v.slot 0)
+find_var Composite env v = look (λ w. done (found_in (master_of env v) v.slot (slot_at (master_of env v) v.slot w)))
 
 unfoldable pub object_of : Found → ℕ
 object_of (InObject o offset path) = o
@@ -131,6 +133,12 @@ unfoldable pub walk : Tools → List Step → Found → Act Found
 walk k [] f = done f
 walk k (s ∷ ss) f = ticked (one_step k s f) >>= walk k ss
 
+-- the category of the variable that a name begins with, where what the whole name denotes is of this category
+unfoldable pub begins_as : List Step → Category → Category
+begins_as [] c = c
+begins_as (Dereference ∷ more) c = Elementary
+begins_as (step ∷ more) c = Composite
+
 -- a cell, or Constraint_Error
 unfoldable pub or_constraint_error : Option ℕ → Act (List ℕ)
 or_constraint_error None = raise constraint_error
@@ -138,5 +146,5 @@ or_constraint_error (Some n) = done (n ∷ [])
 
 -- everything here, opened at once
 unfoldable pub opened_names : Unit {0}
-unfolding gone existing must_exist read_part write_part copy_in scalar_of slot_at read_found write_found found_in find_var object_of same_found moved dereferenced narrowed one_step walk or_constraint_error
+unfolding gone existing must_exist read_part write_part copy_in scalar_of slot_at read_found write_found found_in find_var object_of same_found moved dereferenced narrowed one_step walk begins_as or_constraint_error
 opened_names = tt

@@ -24,7 +24,7 @@ use Rattle.ctl_meaning.specs.Activations.{master_of}
 use Rattle.ctl_meaning.specs.Changes.{set_slot}
 use Rattle.ctl_meaning.specs.Outcome.{ByExit, ByReturn, ByRaise, Result, Goes, Leaves, Cut, Act, Done, given, ◌>>=◌, ◌>>◌, done, nothing, leave_by, raise, counted, ticked, then_always, spend, change, show, when, either, on_some}
 use Rattle.ctl_meaning.specs.Numbers.{signed, cell_of, is_true, integer_image, boolean_image}
-use Rattle.ctl_meaning.specs.Types.{Tables, cells_of, has_controlled, operation, record_of}
+use Rattle.ctl_meaning.specs.Types.{Tables, Elementary, Composite, cells_of, has_controlled, operation, record_of}
 use Rattle.ctl_meaning.specs.Names.{Tools, Found, InObject, existing, scalar_of, read_found, write_found, object_of, same_found}
 use Rattle.ctl_meaning.specs.Expressions.{no_actuals, with_formal, by_reference, call_with, Valued, Naming, Supplied, pass_each, eval, eval_name, supply}
 use Rattle.ctl_meaning.specs.Finalization.{Spot, Every, finalize}
@@ -195,27 +195,27 @@ unfoldable pub null : Doing
 null k env caught = ticked nothing
 
 unfoldable pub assign : Naming → Valued → Doing
-assign n e k env caught = ticked (n k env >>= (λ f. e k env >>= write_found f))
+assign n e k env caught = ticked (n Elementary k env >>= (λ f. e k env >>= write_found f))
 
 unfoldable pub assign_part : Naming → ℕ → Supplied → Doing
-assign_part n t a k env caught = ticked (n k env >>= (λ f. a.source k env >>= assign_record k t f))
+assign_part n t a k env caught = ticked (n Composite k env >>= (λ f. a.source k env >>= assign_record k t f))
 
 unfoldable pub call : ℕ → List Supplied → Doing
 call f actuals k env caught = ticked (pass_each k env actuals no_actuals >>= call_with k env f >> nothing)
 
 unfoldable pub call_nothing : Naming → Doing
-call_nothing n k env caught = ticked (n k env >> nothing)
+call_nothing n k env caught = ticked (n Composite k env >> nothing)
 
 unfoldable pub call_dispatching : Operation → Naming → Doing
-call_dispatching op n k env caught = ticked (n k env >>= dispatch k env op)
+call_dispatching op n k env caught = ticked (n Composite k env >>= dispatch k env op)
 
 unfoldable pub call_allocate : Naming → Naming → Valued → Valued → Doing
 call_allocate p a size alignment k env caught =
-    ticked (p k env >>= (λ f. a k env >>= (λ g. scalar (size k env) (λ s. alignment k env >> library_allocate (object_of f) s >>= (λ x. write_found g (x ∷ []))))))
+    ticked (p Composite k env >>= (λ f. a Elementary k env >>= (λ g. scalar (size k env) (λ s. alignment k env >> library_allocate (object_of f) s >>= (λ x. write_found g (x ∷ []))))))
 
 unfoldable pub call_deallocate : Naming → Valued → Valued → Valued → Doing
 call_deallocate p a size alignment k env caught =
-    ticked (p k env >>= (λ f. scalar (a k env) (λ x. size k env >> alignment k env >> library_deallocate (object_of f) x)))
+    ticked (p Composite k env >>= (λ f. scalar (a k env) (λ x. size k env >> alignment k env >> library_deallocate (object_of f) x)))
 
 unfoldable pub put : List Valued → Doing
 put pieces k env caught = ticked (eval_text k env pieces >>= (λ v. show (Print v)))
@@ -257,10 +257,10 @@ unfoldable pub do_block : Body → Doing
 do_block b k env caught = ticked (in_master k env (unset_slots b) (λ inner. b.inside k inner caught) >>= (λ x. given x.result))
 
 unfoldable pub free_object_of : ℕ → Naming → Doing
-free_object_of access n k env caught = ticked (n k env >>= free k env access)
+free_object_of access n k env caught = ticked (n Elementary k env >>= free k env access)
 
 unfoldable pub release_subpool : Naming → Doing
-release_subpool n k env caught = ticked (n k env >>= unchecked_deallocate_subpool k)
+release_subpool n k env caught = ticked (n Elementary k env >>= unchecked_deallocate_subpool k)
 
 -- the statements of an arm, if its condition holds
 unfoldable pub guard : Valued → List Doing → Guarding

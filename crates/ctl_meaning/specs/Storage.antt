@@ -15,7 +15,7 @@ use Rattle.ctl_meaning.specs.Objects.{lies_in_subpool, lies_in_pool}
 use Rattle.ctl_meaning.specs.Changes.{in_pools, is_vacant, is_busy, empty_subpool, close_pool_at, count_of}
 use Rattle.ctl_meaning.specs.Members.{OfSubpool}
 use Rattle.ctl_meaning.specs.Outcome.{constraint_error, program_error, storage_error, Act, Done, ◌>>=◌, ◌>>◌, done, nothing, raise, stop, counted, look, change, show, either, on_some}
-use Rattle.ctl_meaning.specs.Types.{operation, root_of, record_of}
+use Rattle.ctl_meaning.specs.Types.{Composite, operation, root_of, record_of}
 use Rattle.ctl_meaning.specs.Names.{OfSubprogram, Returned, Tools, Found, gone, existing, copy_in, scalar_of, read_found, write_found, find_var, object_of}
 use Rattle.ctl_meaning.specs.Marks.{default_subpool}
 use Rattle.ctl_meaning.specs.Finalization.{with_home, finalize_group}
@@ -136,7 +136,7 @@ storage_in k n handle size _ = block_storage k n size
 -- the standard pool where none was specified; its storage is the host's
 unfoldable pub storage : Tools → List ℕ → Option Var → Option (List ℕ) → ℕ → Act Place
 storage k env None handle size = done Standard
-storage k env (Some v) handle size = find_var env v >>= (λ f. existing (object_of f) (λ o. storage_in k (object_of f) handle size (root_of k.tables (record_of o.ty))))
+storage k env (Some v) handle size = find_var Composite env v >>= (λ f. existing (object_of f) (λ o. storage_in k (object_of f) handle size (root_of k.tables (record_of o.ty))))
 
 -- everything here, opened at once
 unfoldable pub opened_storage : Unit {0}

@@ -20,6 +20,16 @@ pub record Tables : Type 0 where
 unfoldable pub tables_of : Checked → Tables
 tables_of p = record { records = p.records; accesses = p.accesses }
 
+-- Categories (3.2) -----------------------------------------------------------
+
+-- the category of a type: composite are records, elementary all others
+pub data Category : Type 0 where
+  Elementary Composite : Category
+
+unfoldable pub category_of : Ty → Category
+category_of (Record t) = Composite
+category_of _ = Elementary
+
 -- Components -----------------------------------------------------------------
 
 unfoldable pub of_parent : {A : Type 0} → A → (ℕ → A) → Option ℕ → A
@@ -158,5 +168,5 @@ operation f k t = operation_in f (slice_get k.records t)
 
 -- everything here, opened at once
 unfoldable pub opened_types : Unit {0}
-unfolding tables_of of_parent with_own components of_record record_of total cells_within depth components_of cells_of begin_cells placed_from placed offset_in root_in is_tagged_root root_of is_controlled controlled_within has_controlled default_within has_default is_initialized parent_in descends_within descends as_record_size size_within size_of operation_in operation
+unfolding tables_of category_of of_parent with_own components of_record record_of total cells_within depth components_of cells_of begin_cells placed_from placed offset_in root_in is_tagged_root root_of is_controlled controlled_within has_controlled default_within has_default is_initialized parent_in descends_within descends as_record_size size_within size_of operation_in operation
 opened_types = tt

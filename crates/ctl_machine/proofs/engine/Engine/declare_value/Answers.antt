@@ -1,17 +1,21 @@
-use Rattle.std.proofs.Common.{◌+◌, refl, ap, ◌∙◌, drop}
+use Rattle.std.proofs.Common.{[], ◌∷◌, ◌+◌, refl, sym, ap, ◌∙◌, drop}
+use Rattle.ctl_meaning.specs.World.{World, Copies}
+use Rattle.ctl_meaning.specs.Changes.{set_slot, take_object_number}
+use Rattle.ctl_code.specs.States as T
 use Rattle.ctl_code.specs.Table as Table
 use Rattle.ctl_machine.specs.World.{newest_display}
 use Rattle.ctl_machine.specs.Engine.{control_of}
+use Rattle.ctl_machine.proofs.Moves.{goes}
 use Rattle.ctl_machine.proofs.Tops.{makes_by}
-use Rattle.ctl_machine.proofs.Moves.{layered_on}
-use Rattle.ctl_machine.proofs.ScalarMoves.{valued_scalar}
 use Rattle.ctl_machine.proofs.engine.Engine.declare_value.Goals as goal
 
-pub returns-clause-ok : goal.returns-clause-ok
-returns-clause-ok c =
+pub returns : goal.returns
+returns c =
     let e = c.args.self.now in
     let d = newest_display e.world in
-    let made = c.in_ok-declare_scalar.ensures in
-    let moves = ap (λ ops. Table.by_declaration c.args.slot c.args.ty d c.args.place (control_of e) ops e.world) c.top-cell.ensures
-    ∙ valued_scalar c.args.slot c.args.ty c.args.place (control_of e) (drop 1 e.operands) e.world made.last made.there c.top-cell.result made.written in
-    makes_by _ _ _ _ moves (layered_on _ _ _ (c.args.place + 1) (drop 1 e.operands) _ c.requires.rests refl made.levels refl c.drop_newest.ensures made.ok refl)
+    let ops = drop 1 e.operands in
+    let cell = c.take_top-cell.result in
+    let made = c.declare_scalar.ensures in
+    let moves = ap (λ o. Table.by_declaration c.args.slot d c.args.place (control_of e) o e.world) c.take_top-cell.ensures.newest
+    ∙ ap (λ (w : World). Table.quiet (T.At d (c.args.place + 1)) (control_of e) ops w) (ap (λ m. set_slot m c.args.slot (Copies (cell ∷ [])) (take_object_number e.world)) made.last ∙ sym made.declared) in
+    makes_by _ _ _ _ moves (goes _ _ (T.At d (c.args.place + 1)) ops c.declare_scalar.new.self c.requires.rests refl made.levels refl c.take_top-cell.ensures.rest refl refl)
