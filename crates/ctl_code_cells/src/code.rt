@@ -97,8 +97,6 @@ pub struct Entry {
     pub level: usize,
     /// how many slots its master has, those of its formal parameters first
     pub slots: usize,
-    /// how many cells its window has at most
-    pub room: usize,
     /// the place of its first instruction
     pub place: usize,
 }
@@ -116,6 +114,8 @@ pub struct Code {
     pub instructions: Vec<Instr>,
     /// what stands in the window before each instruction
     pub kinds: Kinds,
+    /// how many cells a window has at most
+    pub room: usize,
     pub entries: Vec<Entry>,
     pub records: Vec<Operations>,
     pub texts: Vec<Template>,

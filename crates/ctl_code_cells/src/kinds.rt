@@ -20,8 +20,8 @@ pub enum Kind {
     Operand(Ty),
     /// a block with so many slots (RM 5.6)
     Block(usize),
-    /// a body with so many slots, whose window has so many cells at most
-    Body { slots: usize, room: usize },
+    /// a body: how many masters stand around its declaration, and how many slots it has
+    Body { level: usize, slots: usize },
 }
 
 /// Tells whether both are one kind.
@@ -31,8 +31,8 @@ pub fn is_same_kind(left: Kind, right: Kind) -> bool
     match left {
         Kind::Operand(ty) => matches!(right, Kind::Operand(other) if is_same_type(ty, other)),
         Kind::Block(slots) => matches!(right, Kind::Block(other) if other == slots),
-        Kind::Body { slots, room } => {
-            matches!(right, Kind::Body { slots: others, room: bound } if others == slots && bound == room)
+        Kind::Body { level, slots } => {
+            matches!(right, Kind::Body { level: other, slots: others } if other == level && others == slots)
         }
     }
 }
