@@ -1,2 +1,13 @@
 pub mod Layers
 pub mod StatementLayers
+pub mod Known
+pub mod Place
+pub mod Follow
+pub mod Plain
+pub mod Values
+pub mod Cells
+pub mod Worth
+pub mod Expressions
+pub mod TreeLayers
+pub mod Setting
+pub mod Evaluated
