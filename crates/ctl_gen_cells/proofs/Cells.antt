@@ -8,7 +8,7 @@ use Rattle.ctl_program.specs.declared.types.Var.{Var}
 use Rattle.ctl_meaning.specs.World.{Log, World}
 use Rattle.ctl_meaning.specs.Lists.{item_or, opened_lists}
 use Rattle.ctl_meaning.specs.Activations.{master_of, opened_activations}
-use Rattle.ctl_meaning.specs.Outcome.{Way, Result, Goes, Leaves, Out, Gives, Stops, Cut, add, opened_outcome}
+use Rattle.ctl_meaning.specs.Outcome.{Way, ByExit, ByReturn, ByRaise, Result, Goes, Leaves, Out, Gives, Stops, Cut, add, opened_outcome}
 use Rattle.ctl_meaning.specs.Choice.{Ask, picked}
 use Rattle.ctl_meaning.specs.Names.{copy_in, slot_at, scalar_of, opened_names}
 use Rattle.ctl_code_cells.specs.declared.code.Named.{Named}
@@ -111,10 +111,12 @@ cell_is d s v w long = ap (λ m. scalar_of (copy_in (slot_at m v.slot w))) (out_
 
 -- What an act gives ---------------------------------------------------------------------------------
 
--- one cell, of which something is true in the world that is left
+-- one cell, of which something is true in the world that is left; nothing but an exception leaves an expression
 abbrev pub IsCell : (ℕ → World → Type 0) → Out (List ℕ) → Type 0
 IsCell P (Gives (Goes u) t c l w) = (n : ℕ) × (u ≡ n ∷ []) × P n w
-IsCell P (Gives (Leaves y) t c l w) = Unit {0}
+IsCell P (Gives (Leaves ByExit) t c l w) = ⊥
+IsCell P (Gives (Leaves (ByReturn v)) t c l w) = ⊥
+IsCell P (Gives (Leaves (ByRaise e)) t c l w) = Unit {0}
 IsCell P (Stops s t l) = Unit {0}
 IsCell P (Cut t c l) = Unit {0}
 

@@ -7,6 +7,7 @@ use Rattle.ctl_program.specs.declared.expression.Name.{Name, roll-Name, map-Name
 use Rattle.ctl_program.specs.declared.expression.Actual.{Actual}
 use Rattle.ctl_program.specs.declared.expression.Operand.{Operand, Operand-F, roll-Operand, map-Operand}
 use Rattle.ctl_program.specs.declared.expression.Actual.TheOpen.{Expr-F, Name-F}
+use Rattle.ctl_meaning.specs.World.{World}
 use Rattle.ctl_meaning.specs.Choice.{Ask}
 use Rattle.ctl_meaning.specs.Outcome.{◌>>=◌, ticked, opened_outcome}
 use Rattle.ctl_meaning.specs.Types.{Tables, Category, Elementary, cells_of}

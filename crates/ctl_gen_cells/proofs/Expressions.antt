@@ -11,7 +11,7 @@ use Rattle.ctl_meaning.specs.World.{Log, World}
 use Rattle.ctl_meaning.specs.Lists.{opened_lists}
 use Rattle.ctl_meaning.specs.Activations.{master_of}
 use Rattle.ctl_meaning.specs.Choice.{Ask}
-use Rattle.ctl_meaning.specs.Outcome.{constraint_error, Way, ByRaise, Result, Goes, Leaves, Out, Gives, Stops, Cut, Act, add, bind, on_goes, ◌>>=◌, done, ticked, either, opened_outcome}
+use Rattle.ctl_meaning.specs.Outcome.{constraint_error, Way, ByExit, ByReturn, ByRaise, Result, Goes, Leaves, Out, Gives, Stops, Cut, Act, add, bind, on_goes, ◌>>=◌, done, ticked, either, opened_outcome}
 use Rattle.ctl_meaning.specs.Numbers.{unary, binary}
 use Rattle.ctl_meaning.specs.Types.{Tables, cells_of}
 use Rattle.ctl_meaning.specs.Names.{Found, InCopy, copy_in, slot_at, scalar_of, read_found, or_constraint_error, opened_names}
@@ -178,12 +178,14 @@ module _ (ask : Ask) (k : Tables) (code : Code) (Fits : World → Type 0) where
     where
       cell_less : (P Q : ℕ → World → Type 0) (o : Out (List ℕ)) → IsCell (λ n w1. P n w1 × Q n w1) o → IsCell P o
       cell_less P Q (Gives (Goes u) t c1 l1 w1) h = (h.0, h.1, h.2.0)
-      cell_less P Q (Gives (Leaves y) t c1 l1 w1) h = tt
+      cell_less P Q (Gives (Leaves ByExit) t c1 l1 w1) h = absurd h
+      cell_less P Q (Gives (Leaves (ByReturn y)) t c1 l1 w1) h = absurd h
+      cell_less P Q (Gives (Leaves (ByRaise y)) t c1 l1 w1) h = tt
       cell_less P Q (Stops s1 t l1) h = tt
       cell_less P Q (Cut t c1 l1) h = tt
 
   -- what follows an operand that is held
-  pub held_then : {B : Type 0} (h : Held) (P : ℕ → World → Type 0) (act : List ℕ → Act (List ℕ)) (d : List ℕ) (place : ℕ) (ks : List Frame) (ops : List ℕ) (c : ℕ) (l : Log) (w : World) (next : Result B → Log → World → State) (f : Result (List ℕ) → Act B) → Holds h P act d place ks ops c l w → ((n c1 : ℕ) (l1 : Log) (w1 : World) → c1 ≤ c → Fits w1 → P n w1 → Runs ask code Kept 8 8 (at d (place + length h.code) ks (waiting h.cell.named n ops) l1 w1) c1 next (f (Goes (n ∷ [])) c1 l1 w1)) → ((y : Way) (c1 : ℕ) (l1 : Log) (w1 : World) → c1 ≤ c → Fits w1 → Runs ask code Kept 8 8 (transferred y ks l1 w1) c1 next (f (Leaves y) c1 l1 w1)) → Runs ask code Kept 0 0 (at d place ks ops l w) c next (bind (act d c l w) f)
+  pub held_then : {B : Type 0} (h : Held) (P : ℕ → World → Type 0) (act : List ℕ → Act (List ℕ)) (d : List ℕ) (place : ℕ) (ks : List Frame) (ops : List ℕ) (c : ℕ) (l : Log) (w : World) (next : Result B → Log → World → State) (f : Result (List ℕ) → Act B) → Holds h P act d place ks ops c l w → ((n c1 : ℕ) (l1 : Log) (w1 : World) → c1 ≤ c → Fits w1 → P n w1 → Runs ask code Kept 8 8 (at d (place + length h.code) ks (waiting h.cell.named n ops) l1 w1) c1 next (f (Goes (n ∷ [])) c1 l1 w1)) → ((y c1 : ℕ) (l1 : Log) (w1 : World) → c1 ≤ c → Fits w1 → Runs ask code Kept 8 8 (transferred (ByRaise y) ks l1 w1) c1 next (f (Leaves (ByRaise y)) c1 l1 w1)) → Runs ask code Kept 0 0 (at d place ks ops l w) c next (bind (act d c l w) f)
   unfolding scalar_of opened_lists
   held_then h P act d place ks ops c l w next f x goes leaves = then_paid ask code Kept P _ c (held_in h.cell.named d (place + length h.code) ks ops) next (act d c l w) x.out f x.is x.cells x.runs goes leaves
 
@@ -192,7 +194,7 @@ module _ (ask : Ask) (k : Tables) (code : Code) (Fits : World → Type 0) where
   pub unary_value : (op : UnaryOp) (ty : Ty) (x : ValueCode) (act : List ℕ → Act (List ℕ)) → Value x act → Value (unary_value_code op ty x) (λ d. ticked (act d >>= (λ u. or_constraint_error (unary op ty (scalar_of u)))))
   unfolding opened_outcome scalar_of opened_lists
   unary_value op ty x act value = record {
-    cell = λ d c l w. cell_later Any 1 _ (cell_always Any (act d c l w) (λ u. or_constraint_error (unary op ty (scalar_of u))) (λ u c1 l1 w1. result_cell (unary op ty (scalar_of u)) c1 l1 w1));
+    cell = λ d c l w. cell_later Any 1 _ (cell_always Any Any (act d c l w) (λ u. or_constraint_error (unary op ty (scalar_of u))) (value.cell d c l w) (λ u c1 l1 w1. result_cell (unary op ty (scalar_of u)) c1 l1 w1));
     begins = λ to t s d place ks ops c l w fits long has.
         let h = held x ty s in
         let e : place + length h.code + 1 ≡ place + length (unary_code op ty to h) = omega (arith, length-append h.code ((InstrOf.Unary op ty h.cell to, h.after) ∷ [])) in
@@ -201,7 +203,7 @@ module _ (ask : Ask) (k : Tables) (code : Code) (Fits : World → Type 0) where
         record {
           out = (act d >>= (λ u. or_constraint_error (unary op ty (scalar_of u)))) c l w;
           is = refl;
-          cells = cell_always Any (act d c l w) (λ u. or_constraint_error (unary op ty (scalar_of u))) (λ u c1 l1 w1. result_cell (unary op ty (scalar_of u)) c1 l1 w1);
+          cells = cell_always Any Any (act d c l w) (λ u. or_constraint_error (unary op ty (scalar_of u))) (value.cell d c l w) (λ u c1 l1 w1. result_cell (unary op ty (scalar_of u)) c1 l1 w1);
           runs =
               within ask code Kept 0 0 8 8 _ c _ _ (omega arith) (omega arith)
               (held_then h (λ n w1. Stays h.cell.named n d w1) act d place ks ops c l w (landed to.named d (place + length (unary_code op ty to h)) ks ops) (on_goes (λ u. or_constraint_error (unary op ty (scalar_of u)))) first
@@ -211,7 +213,7 @@ module _ (ask : Ask) (k : Tables) (code : Code) (Fits : World → Type 0) where
               (result_runs (unary op ty n) to.named d (place + length h.code) ks ops c1 l1 w1 _ fits1
               (by_code ask code d (place + length h.code) ks (waiting h.cell.named n ops) l1 w1 (InstrOf.Unary op ty h.cell to) there
               ∙ ap (moved l1) (taking_is h.cell.named n (λ y rest. by_result (unary op ty y) to.named rest (here d (place + length h.code) ks w1)) ops d (place + length h.code) ks w1 p)))))
-              (λ y c1 l1 w1 lo fits1. leaves_it 8 8 to.named d (place + length (unary_code op ty to h)) ks ops y c1 l1 w1 fits1));
+              (λ y c1 l1 w1 lo fits1. leaves_it 8 8 to.named d (place + length (unary_code op ty to h)) ks ops (ByRaise y) c1 l1 w1 fits1));
         };
     constant = λ n is d c l w. absurd (cc);
     variable = λ y is d c l w. absurd (cc);
@@ -249,7 +251,7 @@ module _ (ask : Ask) (k : Tables) (code : Code) (Fits : World → Type 0) where
       (by_code ask code d (place + length h.code) ks (waiting h.cell.named m (waiting left.named n ops)) l1 w1 (InstrOf.Binary (operator_for o ty) left h.cell to) there
       ∙ ap (moved l1) (taking_is h.cell.named m (λ b rest. by_binary (operator_for o ty) b left.named to.named rest (here d (place + length h.code) ks w1)) (waiting left.named n ops) d (place + length h.code) ks w1 p.0)
       ∙ ap (moved l1) (taking_is left.named n (λ a rest. by_result (binary o.op o.ty a m) to.named rest (here d (place + length h.code) ks w1)) ops d (place + length h.code) ks w1 p.1)))))
-      (λ y c1 l1 w1 lo fits1. leaves_it 8 8 to.named d (place + length (binary_code o left ty to h)) ks ops y c1 l1 w1 fits1))
+      (λ y c1 l1 w1 lo fits1. leaves_it 8 8 to.named d (place + length (binary_code o left ty to h)) ks ops (ByRaise y) c1 l1 w1 fits1))
 
   -- an evaluated right operand, over a left one that is an operand
   both_hold : (x : ValueCode) (act : List ℕ → Act (List ℕ)) → Value x act → (left : Named) → MayStay left RightOf.Evaluated → (n : ℕ) (ty : Ty) (s : List Kind) (d : List ℕ) (place : ℕ) (ks : List Frame) (ops : List ℕ) (c : ℕ) (l : Log) (w : World) → Fits w → length d ≡ depth s → Laid code place (evaluated x ty s).code → Holds (evaluated x ty s) (λ m w1. Stays Operand m d w1 × Stays left n d w1) act d place ks ops c l w
@@ -259,7 +261,9 @@ module _ (ask : Ask) (k : Tables) (code : Code) (Fits : World → Type 0) where
     where
       twice : (o : Out (List ℕ)) → IsCell Any o → IsCell (λ m w1. Unit {0} × Unit {0}) o
       twice (Gives (Goes u) t c1 l1 w1) h = (h.0, h.1, (tt, tt))
-      twice (Gives (Leaves y) t c1 l1 w1) h = tt
+      twice (Gives (Leaves ByExit) t c1 l1 w1) h = absurd h
+      twice (Gives (Leaves (ByReturn y)) t c1 l1 w1) h = absurd h
+      twice (Gives (Leaves (ByRaise y)) t c1 l1 w1) h = tt
       twice (Stops s1 t l1) h = tt
       twice (Cut t c1 l1) h = tt
   both_hold x act value (Variable out slot) stay n ty s d place ks ops c l w fits long has = absurd stay
@@ -287,7 +291,7 @@ module _ (ask : Ask) (k : Tables) (code : Code) (Fits : World → Type 0) where
   pub operator_further : (o : OperatorCode) (act : List ℕ → Act (List ℕ)) → Value o.right act → Further o (combined o act)
   unfolding opened_outcome scalar_of opened_lists
   operator_further o act value = record {
-    cells = λ n d c l w. cell_later Any 1 _ (cell_always Any (act d c l w) (λ z. or_constraint_error (binary o.op o.ty n (scalar_of z))) (λ u c1 l1 w1. result_cell (binary o.op o.ty n (scalar_of u)) c1 l1 w1));
+    cells = λ n d c l w. cell_later Any 1 _ (cell_always Any Any (act d c l w) (λ z. or_constraint_error (binary o.op o.ty n (scalar_of z))) (value.cell d c l w) (λ u c1 l1 w1. result_cell (binary o.op o.ty n (scalar_of u)) c1 l1 w1));
     runs = λ left ty to s stay n d place ks ops c l w fits long stays has. operator_runs o.right.right o act refl value left ty to s stay n d place ks ops c l w fits long stays has;
   }
 
@@ -316,7 +320,7 @@ module _ (ask : Ask) (k : Tables) (code : Code) (Fits : World → Type 0) where
       (both_cell ask code Kept Any 0 0 0 0 0 0 _ c (landed to.named d (place + length is) ks ops) (landed to.named d (place + length is) ks ops) (m K d (n ∷ []) c l w) (on_goes (λ v. done v)) (omega arith) (omega arith) (omega arith) (h.0.cells n d c l w)
       (h.0.runs left ty to s stay n d place ks ops c l w fits long stays (laid_front code place is [] has))
       (λ n1 c1 l1 w1 lo fits1 p. no_step ask code Kept 0 0 _ c1 0 (landed to.named d (place + length is) ks ops) (Goes (n1 ∷ [])) l1 w1 fits1 refl)
-      (λ y c1 l1 w1 lo fits1. no_step ask code Kept 0 0 _ c1 0 (landed to.named d (place + length is) ks ops) (Leaves y) l1 w1 fits1 refl))
+      (λ y c1 l1 w1 lo fits1. no_step ask code Kept 0 0 _ c1 0 (landed to.named d (place + length is) ks ops) (Leaves (ByRaise y)) l1 w1 fits1 refl))
   operators_run K o (p ∷ ps) m (m2 ∷ ms) h base left s ty to stay n d place ks ops c l w fits long0 long stays has =
       let is = operator_code o left ty (new_operand base) s in
       let js = operators_code base (new_operand base) (KindOf.Operand o.ty ∷ base) o.ty (p ∷ ps) to in
@@ -325,7 +329,7 @@ module _ (ask : Ask) (k : Tables) (code : Code) (Fits : World → Type 0) where
       (both_cell ask code Kept Any 0 0 0 0 0 0 _ c (landed Operand d (place + length is) ks ops) (landed to.named d (place + length is + length js) ks ops) (m K d (n ∷ []) c l w) (on_goes (apply_each K d (m2 ∷ ms))) (omega arith) (omega arith) (omega arith) (h.0.cells n d c l w)
       (h.0.runs left ty (new_operand base) s stay n d place ks ops c l w fits long stays (laid_front code place is js has))
       (λ n1 c1 l1 w1 lo fits1 x. operators_run K p ps m2 ms h.1 base (new_operand base) (KindOf.Operand o.ty ∷ base) o.ty to tt n1 d (place + length is) ks ops c1 l1 w1 fits1 long0 long0 tt (laid_back code place is js has))
-      (λ y c1 l1 w1 lo fits1. leaves_it 0 0 to.named d (place + length is + length js) ks ops y c1 l1 w1 fits1))
+      (λ y c1 l1 w1 lo fits1. leaves_it 0 0 to.named d (place + length is + length js) ks ops (ByRaise y) c1 l1 w1 fits1))
 
   -- the left operand of a chain
   held_depth : (r : Right) (x : ValueCode) (ty : Ty) (s : List Kind) → depth (held_by r x ty s).after ≡ depth s
@@ -361,7 +365,7 @@ module _ (ask : Ask) (k : Tables) (code : Code) (Fits : World → Type 0) where
   left_holds RightOf.Evaluated x act value ty s d place ks ops c l w fits long has = evaluated_holds x act value ty s d place ks ops c l w fits long has
 
   -- what follows an expression begins with its first tick
-  begins_with : (h : Held) (P Q : ℕ → World → Type 0) (act : List ℕ → Act (List ℕ)) (more : List ℕ → Act (List ℕ)) (d : List ℕ) (place : ℕ) (ks : List Frame) (ops : List ℕ) (c : ℕ) (l : Log) (w : World) (next : Result (List ℕ) → Log → World → State) → Holds h P act d place ks ops c l w → ((n c1 : ℕ) (l1 : Log) (w1 : World) → P n w1 → IsCell Q (more (n ∷ []) c1 l1 w1)) → ((n c1 : ℕ) (l1 : Log) (w1 : World) → Fits w1 → P n w1 → Runs ask code Kept 0 0 (at d (place + length h.code) ks (waiting h.cell.named n ops) l1 w1) c1 next (more (n ∷ []) c1 l1 w1)) → ((y : Way) (c1 : ℕ) (l1 : Log) (w1 : World) → Fits w1 → Runs ask code Kept 0 0 (transferred y ks l1 w1) c1 next (Gives (Leaves y) 0 c1 l1 w1)) → Begins Q (at d place ks ops l w) c next (bind (act d c l w) (on_goes more))
+  begins_with : (h : Held) (P Q : ℕ → World → Type 0) (act : List ℕ → Act (List ℕ)) (more : List ℕ → Act (List ℕ)) (d : List ℕ) (place : ℕ) (ks : List Frame) (ops : List ℕ) (c : ℕ) (l : Log) (w : World) (next : Result (List ℕ) → Log → World → State) → Holds h P act d place ks ops c l w → ((n c1 : ℕ) (l1 : Log) (w1 : World) → P n w1 → IsCell Q (more (n ∷ []) c1 l1 w1)) → ((n c1 : ℕ) (l1 : Log) (w1 : World) → Fits w1 → P n w1 → Runs ask code Kept 0 0 (at d (place + length h.code) ks (waiting h.cell.named n ops) l1 w1) c1 next (more (n ∷ []) c1 l1 w1)) → ((y c1 : ℕ) (l1 : Log) (w1 : World) → Fits w1 → Runs ask code Kept 0 0 (transferred (ByRaise y) ks l1 w1) c1 next (Gives (Leaves (ByRaise y)) 0 c1 l1 w1)) → Begins Q (at d place ks ops l w) c next (bind (act d c l w) (on_goes more))
   unfolding opened_outcome scalar_of opened_lists
   begins_with h P Q act more d place ks ops c l w next x cells goes leaves = record {
     out = bind x.out (on_goes more);
@@ -384,7 +388,7 @@ module _ (ask : Ask) (k : Tables) (code : Code) (Fits : World → Type 0) where
         (left_holds o.right.right x act value ty s d place ks ops c l w fits long (laid_front code place h.code js has))
         (λ n c1 l1 w1 p. operators_cells K (o ∷ os) (m ∷ ms) each n d c1 l1 w1)
         (λ n c1 l1 w1 fits1 p. operators_run K o os m ms each s h.cell h.after ty to (left_stays o.right.right x ty s) n d (place + length h.code) ks ops c1 l1 w1 fits1 long (long ∙ sym (left_depth o.right.right x ty s)) p (laid_back code place h.code js has))
-        (λ y c1 l1 w1 fits1. leaves_it 0 0 to.named d (place + length h.code + length js) ks ops y c1 l1 w1 fits1));
+        (λ y c1 l1 w1 fits1. leaves_it 0 0 to.named d (place + length h.code + length js) ks ops (ByRaise y) c1 l1 w1 fits1));
     constant = λ n is d c l w. absurd (cc);
     variable = λ y is d c l w. absurd (cc);
   }
@@ -474,7 +478,7 @@ module _ (ask : Ask) (k : Tables) (code : Code) (Fits : World → Type 0) where
       (λ n1 c1 l1 w1 lo fits1 p.
       within ask code Kept (spare xs) (spare xs) 1 1 _ c1 _ _ (spare_least xs) (spare_least xs)
       (others_run K form xs ms h.1 to s n1 d (place + length is) ks ops c1 l1 w1 fits1 long (laid_back code place is js has) (subst (λ q. Laid code q (moved_to to s)) e0 last)))
-      (λ y c1 l1 w1 lo fits1. leaves_it 1 1 to.named d (place + length is + length js + length (moved_to to s)) ks ops y c1 l1 w1 fits1))))
+      (λ y c1 l1 w1 lo fits1. leaves_it 1 1 to.named d (place + length is + length js + length (moved_to to s)) ks ops (ByRaise y) c1 l1 w1 fits1))))
 
   pub short_value : (K : Tools) (form : Shortcut) (x : ValueCode) (act : List ℕ → Act (List ℕ)) → Value x act → (y : ValueCode) (ys : List ValueCode) (m : Valued) (ms : List Valued) → EachValue K (y ∷ ys) (m ∷ ms) → Value (short form x y ys) (λ d. act d >>= join_each K d form (m ∷ ms))
   unfolding opened_outcome scalar_of opened_lists
@@ -492,7 +496,7 @@ module _ (ask : Ask) (k : Tables) (code : Code) (Fits : World → Type 0) where
         (evaluated_holds x act value Boolean s d place ks ops c l w fits long (laid_front code place h.code js front))
         (λ n c1 l1 w1 p. others_cells K form (y ∷ ys) (m ∷ ms) each n d c1 l1 w1)
         (λ n c1 l1 w1 fits1 p. others_run K form (y ∷ ys) (m ∷ ms) each to s n d (place + length h.code) ks ops c1 l1 w1 fits1 long (laid_back code place h.code js front) last)
-        (λ z c1 l1 w1 fits1. leaves_it 0 0 to.named d (place + length h.code + length js + length (moved_to to s)) ks ops z c1 l1 w1 fits1));
+        (λ z c1 l1 w1 fits1. leaves_it 0 0 to.named d (place + length h.code + length js + length (moved_to to s)) ks ops (ByRaise z) c1 l1 w1 fits1));
     constant = λ n is d c l w. absurd (cc);
     variable = λ z is d c l w. absurd (cc);
   }

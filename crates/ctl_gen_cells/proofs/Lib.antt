@@ -9,5 +9,8 @@ pub mod Cells
 pub mod Worth
 pub mod Expressions
 pub mod TreeLayers
+pub mod Worlds
 pub mod Setting
 pub mod Evaluated
+pub mod Does
+pub mod Loops
