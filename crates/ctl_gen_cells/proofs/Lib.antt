@@ -14,3 +14,5 @@ pub mod Setting
 pub mod Evaluated
 pub mod Does
 pub mod Loops
+pub mod Assign
+pub mod Branches

@@ -127,14 +127,14 @@ module _ (ask : Ask) (k : Tables) (code : Code) (bound : ℕ) where
   turn_of y x s = test_code y s (length (x (behind (test_length y s) (in_loop s))) + 1) ++ x (behind (test_length y s) (in_loop s))
 
   whiles_run : (y : ValueCode) (test : List ℕ → Act (List ℕ)) → ((w0 : World) → Value ask k code (Since k code w0) y test) → (x : Around → List Line) (act : List ℕ → Act Done) → Does ask k code bound x act → (s : List Kind) (n : ℕ) (e : Landing) (w0 : World) (d : List ℕ) (start place : ℕ) (ks : List Frame) (ops : List ℕ) (c : ℕ) (l : Log) (w : World) → c ≤ n → c ≤ bound → Since k code w0 w → Sees d s w0 → Laid code start (turn_of y x s ++ (InstrOf.Back (length (turn_of y x s)), s) ∷ []) → Lands d (start - 1) ks ops place ops → start + length (turn_of y x s) + 1 ≡ place → Runs ask code (Kept k code w0) 0 1 (at d start ks ops l w) c (arrives e d place ks ops) (turns n (while (test d) (act d)) c l w)
-  unfolding turns while opened_outcome scalar_of opened_lists
+  unfolding turns while turned opened_outcome scalar_of opened_lists
   whiles_run y test value x act does s zero e w0 d start place ks ops c l w fuel le fits sees has lands far = record { n = 0; in_time = omega arith; logged = refl; going = tt; why = inl (omega (arith, fuel)) }
   whiles_run y test value x act does s (suc n) e w0 d start place ks ops c l w fuel le fits sees has lands far =
       subst (λ o. Runs ask code (Kept k code w0) 0 1 (at d start ks ops l w) c (arrives e d place ks ops) o) (sym (bind_bind (test d c l w) (on_goes (tested (act d))) (turned again)))
       (within ask code (Kept k code w0) 0 0 0 1 _ c _ _ (omega arith) (omega arith)
       (test_runs (λ r c1 l1 w1. bind (on_goes (tested (act d)) r c1 l1 w1) (turned again)) w0 y test (value w0) s (length b + 1) d start ks ops c l w (arrives e d place ks ops) fits sees (laid_front code start (test_code y s (length b + 1)) b inside)
       (λ m c1 l1 w1 s0 lo fits1 first going logged. by m c1 l1 w1 s0 lo fits1 going logged (λ c2 l2 w2 lo2 fits2. whiles_run y test value x act does s n e w0 d start place ks ops c2 l2 w2 (omega (arith, lo, lo2, fuel)) (omega (arith, lo, lo2, le)) fits2 sees has lands far) (is_true m) refl first)
-      (λ z c1 l1 w1 lo fits1. added ask code (Kept k code w0) 0 8 8 8 8 _ c1 _ _ (omega arith) (omega arith) (within ask code (Kept k code w0) 4 4 8 8 _ c1 _ _ (omega arith) (omega arith) (loop_ends e d (start - 1) start place ks ops ops w0 (turns n (while (test d) (act d))) lands (ByRaise z) c1 l1 w1 fits1)))))
+      (λ z c1 l1 w1 lo fits1. no_step ask code (Kept k code w0) 8 8 (transferred (ByRaise z) ks l1 w1) c1 0 (arrives e d place ks ops) (Leaves (ByRaise z)) l1 w1 fits1 refl)))
     where
       b : List Line
       b = x (behind (test_length y s) (in_loop s))
@@ -171,10 +171,10 @@ module _ (ask : Ask) (k : Tables) (code : Code) (bound : ℕ) where
       by m c1 l1 w1 s0 lo fits1 going logged more true t first =
           let e0 : q + 0 ≡ q = omega arith in
           subst (λ z. Runs ask code (Kept k code w0) 8 8 s0 c1 (arrives e d place ks ops) (bind (either z (one_turn (act d)) (done false) c1 l1 w1) (turned again))) (sym t)
-          (within ask code (Kept k code w0) 0 1 8 8 s0 c1 (arrives e d place ks ops) _ (omega arith) (omega arith)
+          (within ask code (Kept k code w0) 0 1 8 8 s0 c1 (arrives e d place ks ops) (bind (one_turn (act d) c1 l1 w1) (turned (turns n (while (test d) (act d))))) (omega arith) (omega arith)
           (turn_runs (act d) (turned again) w0 (arrives (On (start - 1)) d (q + length b) ks ops) (arrives e d place ks ops) s0 (at d q ks ops l1 w1) c1 l1 w1 (first ∙ ap (λ z. at d (q + (if z then 0 else length b + 1)) ks ops l1 w1) t ∙ ap (λ p. at d p ks ops l1 w1) e0) going logged
           (λ c2 lo2. subst (λ p. Runs ask code (Kept k code w0) 0 0 (at d q ks ops l1 w1) c2 (arrives (On p) d (q + length b) ks ops) (act d c2 l1 w1)) landing (does (behind (test_length y s) (in_loop s)) w0 d q ks ops c2 l1 w1 (omega (arith, lo, lo2, le)) fits1 sees tail))
-          (λ c2 l2 w2 lo2 fits2. one_step ask code (Kept k code w0) 0 1 4 4 _ _ c2 c2 _ _ (omega arith) (omega arith) (omega arith) (omega arith) (back l2 w2) (more c2 l2 w2 lo2 fits2))
+          (λ c2 l2 w2 lo2 fits2. one_step ask code (Kept k code w0) 0 1 4 4 (at d (q + length b) ks ops l2 w2) (at d start ks ops l2 w2) c2 c2 (arrives e d place ks ops) (turns n (while (test d) (act d)) c2 l2 w2) (omega arith) (omega arith) (omega arith) (omega arith) (back l2 w2) (more c2 l2 w2 lo2 fits2))
           (λ z c2 l2 w2 lo2 fits2. loop_ends e d (start - 1) (q + length b) place ks ops ops w0 again lands z c2 l2 w2 fits2)))
       by m c1 l1 w1 s0 lo fits1 going logged more false t first =
           let e1 : q + (length b + 1) ≡ place = omega (arith, far, size) in
@@ -242,8 +242,8 @@ module _ (ask : Ask) (k : Tables) (code : Code) (bound : ℕ) where
       by m c1 l1 w1 s0 fits1 true t first =
           let e0 : place + test_length y s + 0 ≡ place + test_length y s = omega arith in
           subst (λ z. Runs ask code (Kept k code w0) 8 8 s0 c1 (arrives e d end ks ops) (either z (leave_by ByExit) nothing c1 l1 w1)) (sym t)
-          (one_step ask code (Kept k code w0) 7 7 8 8 s0 (at d (place + test_length y s) ks ops l1 w1) c1 c1 _ _ (omega arith) (omega arith) (omega arith) (omega arith) (first ∙ ap (λ z. at d (place + test_length y s + (if z then 0 else 1)) ks ops l1 w1) t ∙ ap (λ p. at d p ks ops l1 w1) e0)
-          (last_step ask code (Kept k code w0) 7 7 _ c1 0 (arrives e d end ks ops) (Leaves ByExit) l1 w1 (omega arith) fits1
+          (one_step ask code (Kept k code w0) 7 7 8 8 s0 (at d (place + test_length y s) ks ops l1 w1) c1 c1 (arrives e d end ks ops) (leave_by ByExit c1 l1 w1) (omega arith) (omega arith) (omega arith) (omega arith) (first ∙ ap (λ z. at d (place + test_length y s + (if z then 0 else 1)) ks ops l1 w1) t ∙ ap (λ p. at d p ks ops l1 w1) e0)
+          (last_step ask code (Kept k code w0) 7 7 (at d (place + test_length y s) ks ops l1 w1) c1 0 (arrives e d end ks ops) (Leaves ByExit) l1 w1 (omega arith) fits1
           (leave_step a1.exits d (place + test_length y s) ks ops l1 w1 there ∙ ap (λ (x : Landing). landed_on x d ks ops l1 w1) (landing_further a.exits (test_length y s) place))))
       by m c1 l1 w1 s0 fits1 false t first =
           subst (λ z. Runs ask code (Kept k code w0) 8 8 s0 c1 (arrives e d end ks ops) (either z (leave_by ByExit) nothing c1 l1 w1)) (sym t)

@@ -16,15 +16,16 @@ use Rattle.ctl_code_cells.specs.declared.kinds.Kind.{Kind}
 use Rattle.ctl_code_cells.specs.States.{Handed, Complete, Frame, State}
 use Rattle.ctl_code_cells.specs.Table.{enter_body, operation_of}
 use Rattle.ctl_code_cells.specs.Steps.{moved, step}
-use Rattle.ctl_code_cells.specs.Valid.{IsInScope}
+use Rattle.ctl_code_cells.specs.Valid.{IsInScope, IsValid, kinds_at}
 use Rattle.ctl_code_cells.specs.Windows.{depth}
 use Rattle.ctl_gen_cells.specs.Run.{IsBody}
 use Rattle.ctl_gen_cells.proofs.Worlds.{Each, IsSmall, Fits, Keeps, Since, home}
 use Rattle.ctl_gen_cells.proofs.Follow.{Runs, at, gives}
 
--- the machine's table names the operations of the record types, these are among these subprograms, and each instruction is one
+-- the machine's table names the operations of the record types, these are among these subprograms, and the code is well formed
 pub record Setting (k : Tables) (code : Code) : Type 0 where
   pub subprograms : List Subprogram
+  pub valid : IsValid code
   pub initialize : (t : ℕ) → operation_of (λ x. x.initialize) code t ≡ operation (λ x. x.initialize) k t
   pub finalize : (t : ℕ) → operation_of (λ x. x.finalize) code t ≡ operation (λ x. x.finalize) k t
   pub initialize_body : (t f : ℕ) → operation (λ x. x.initialize) k t ≡ Some f → IsBody subprograms f
@@ -76,3 +77,7 @@ pub record Calls (ask : Ask) (k : Tables) (code : Code) (setting : Setting k cod
 pub enter_shows : (x : Option Entry) (e : Event) (v : List ℕ) (actuals : List Slot) (k : List Frame) (l : Log) (w : World) → moved l (enter_body x (e ∷ []) v actuals k w) ≡ moved (tell e l) (enter_body x [] v actuals k w)
 enter_shows None e v actuals k l w = refl
 enter_shows (Some x) e v actuals k l w = refl
+
+-- where something stands there is an instruction
+pub never_missing : (code : Code) → IsValid code → (place : ℕ) (s : List Kind) → slice_get code.instructions.items place ≡ Some InstrOf.Missing → kinds_at code place ≡ Some s → ⊥
+never_missing code valid place s here standing = valid.each place InstrOf.Missing s here standing
