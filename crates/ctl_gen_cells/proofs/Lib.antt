@@ -16,3 +16,6 @@ pub mod Does
 pub mod Loops
 pub mod Assign
 pub mod Branches
+pub mod Finalize
+pub mod Leave
+pub mod Declare
