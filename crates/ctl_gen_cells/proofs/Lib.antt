@@ -19,3 +19,4 @@ pub mod Branches
 pub mod Finalize
 pub mod Leave
 pub mod Declare
+pub mod Statements
