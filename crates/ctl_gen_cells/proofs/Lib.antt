@@ -19,4 +19,5 @@ pub mod Branches
 pub mod Finalize
 pub mod Leave
 pub mod Declare
+pub mod Texts
 pub mod Statements
