@@ -8,3 +8,4 @@ pub mod Links
 pub mod Lists
 pub mod Logs
 pub mod Numbers
+pub mod Small
