@@ -1,6 +1,6 @@
 //! What holds of every run of every code.
 
-ghost use Rattle.ctl_code_cells.specs.Laws.{IsSmall, IsLogged};
+ghost use Rattle.ctl_code_cells.specs.Laws.{ChoosesByOrder, IsSmall, IsLogged};
 ghost use Rattle.ctl_code_cells.specs.Fits.{KeepsToItsCode};
 ghost use Rattle.ctl_code_cells.specs.Valid.{IsValid};
 
@@ -17,6 +17,13 @@ pub fn every_step_is_small(code: &Code)
 /// picks obey gives the same run.
 pub fn every_run_is_logged(code: &Code)
     ensures { IsLogged code.now }
+{
+    let _ = code;
+}
+
+/// A choice, among however many candidates, is made by the order: its answer is noted with their number, and the step is made with it.
+pub fn every_choice_is_by_order(code: &Code)
+    ensures { ChoosesByOrder code.now }
 {
     let _ = code;
 }
