@@ -2,8 +2,8 @@ use Rattle.std.proofs.Common.{◌≡◌, ◌+◌, ◌≤◌, length, Some, arith
 use Rattle.std.specs.Prelude.{slice_get}
 use Rattle.std.proofs.lemmas.Grind.{common_steps}
 use Rattle.std.proofs.lemmas.Option.{gets}
-use Rattle.ctl_code_cells.proofs.Links.{no_link, top_of_link}
-use Rattle.ctl_code_cells.proofs.stacks.Stacks.top.Goals as goal
+use Rattle.ctl_code_cells.proofs.Links.{measured, no_link, top_of_link}
+use Rattle.ctl_code_cells.proofs.stacks.Stacks.link.Goals as goal
 
 pub returns-in_err-link-clause-top : goal.returns-in_err-link-clause-top
 returns-in_err-link-clause-top c =
@@ -19,7 +19,7 @@ returns-clause-top c =
     let i = c.in_ok-checked_sub.field-0 in
     let next : c.args.stack ≡ i + 1 = grind (arith, common_steps) in
     let got : slice_get links i ≡ Some c.in_ok-link.link.now = grind (arith, common_steps, gets) in
-    rw (← c.self.view_is) (top_of_link links i c.args.stack c.in_ok-link.link.now c.self.invariant next got)
+    rw (← c.self.view_is) (top_of_link links i c.args.stack c.in_ok-link.link.now c.self.invariant.0 next got)
 
 pub returns-clause-below : goal.returns-clause-below
 returns-clause-below c =
@@ -27,4 +27,12 @@ returns-clause-below c =
     let i = c.in_ok-checked_sub.field-0 in
     let next : c.args.stack ≡ i + 1 = grind (arith, common_steps) in
     let got : slice_get links i ≡ Some c.in_ok-link.link.now = grind (arith, common_steps, gets) in
-    omega (arith, c.self.invariant i c.in_ok-link.link.now got)
+    omega (arith, c.self.invariant.0 i c.in_ok-link.link.now got)
+
+pub returns-clause-measures : goal.returns-clause-measures
+returns-clause-measures c =
+    let links = c.self.inside.links.items in
+    let i = c.in_ok-checked_sub.field-0 in
+    let next : c.args.stack ≡ i + 1 = grind (arith, common_steps) in
+    let got : slice_get links i ≡ Some c.in_ok-link.link.now = grind (arith, common_steps, gets) in
+    rw (← c.self.view_is) (measured links i c.args.stack c.in_ok-link.link.now c.self.invariant.0 c.self.invariant.1 next got)
