@@ -8,4 +8,7 @@ pub mod Links
 pub mod Lists
 pub mod Logs
 pub mod Numbers
+pub mod Shapes
 pub mod Small
+pub mod Texts
+pub mod Whole

@@ -2,9 +2,9 @@
 
 ghost use Rattle.ctl_code_cells.specs.Laws.{ChoosesByOrder, IsSmall, IsLogged};
 ghost use Rattle.ctl_code_cells.specs.Fits.{KeepsToItsCode};
-ghost use Rattle.ctl_code_cells.specs.Valid.{IsValid};
 
 use crate::code::Code;
+use crate::valid::ValidCode;
 
 /// A step shows at most two events, opens at most one master and takes at most one object number.
 pub fn every_step_is_small(code: &Code)
@@ -29,9 +29,8 @@ pub fn every_choice_is_by_order(code: &Code)
 }
 
 /// Valid code is never stuck: each instruction finds the operands, the place and the frame that it needs.
-pub fn valid_code_keeps_to_its_code(code: &Code)
-    requires { IsValid code.now }
+pub fn valid_code_keeps_to_its_code(code: &ValidCode)
     ensures { KeepsToItsCode code.now }
 {
-    let _ = code;
+    let _ = code.code();
 }
