@@ -2,7 +2,7 @@
 //! stands what it leaves.
 
 ghost use Rattle.std.specs.Prelude.{◌≡◌, ◌↔◌, ◌+◌, ◌-◌, ◌<◌, ◌≤◌, ◌^◌, ◌∷◌, [], drop, length, reverse, slice_get, IsTrue, List, MatchOption, Some};
-ghost use Rattle.ctl_program.specs.declared.types.Ty.TheVariants.{Boolean};
+ghost use Rattle.ctl_program.specs.declared.types.Ty.TheVariants.{Boolean, Integer};
 ghost use Rattle.ctl_code_cells.specs.declared.kinds.Kind.{Kind};
 ghost use Rattle.ctl_code_cells.specs.declared.kinds.Kind.TheVariants.{Block, Operand};
 ghost use Rattle.ctl_code_cells.specs.declared.code.Instr.TheVariants as I;
@@ -265,13 +265,37 @@ fn is_unless_fine(code: &Code, place: usize, from: Cell, length: usize) -> bool
     }
 }
 
+/// Tells whether the bounds of a loop stand on top, the low one in this cell (RM 5.5).
+fn has_bounds(code: &Code, place: usize, low: usize) -> bool
+    ensures { let stack = stack_at code.now.kinds place in
+        IsTrue result ↔ ((stack ≡ Operand Integer ∷ Operand Integer ∷ drop 2 stack) × (low ≡ height (drop 2 stack))) }
+{
+    has(code, place, 0, Kind::Operand(Ty::Integer)) && is_operand(code, place, 1, low, Ty::Integer)
+}
+
 /// Tells whether the bounds of a loop stand on top, and its parameter is this cell (RM 5.5).
 fn is_bounded(code: &Code, place: usize, low: usize, slot: usize, parameter: usize) -> bool
     ensures { let stack = stack_at code.now.kinds place in IsTrue result ↔ Bounded low slot parameter stack (λ below. below ≡ drop 2 stack) }
 {
-    has(code, place, 0, Kind::Operand(Ty::Integer))
-        && is_operand(code, place, 1, low, Ty::Integer)
-        && is_variable(code, place, 2, parameter, 0, slot)
+    has_bounds(code, place, low) && is_variable(code, place, 2, parameter, 0, slot)
+}
+
+/// Tells whether the first turn of a loop stands behind the next place, and what follows where the loop's length says (RM 5.5).
+fn leads_to_turn(code: &Code, place: usize, length: usize) -> bool
+    requires { place + 1 < 2 ^ 64 }
+    ensures { let stack = stack_at code.now.kinds place in
+        IsTrue result ↔ (Leads code.now (place + 2) stack × Leads code.now (place + 1 + length) (drop 2 stack)) }
+{
+    leads_behind(code, place, 0, 0) && leads_ahead(code, place, 2, length)
+}
+
+/// Tells whether the next turn of a loop stands so many instructions back, and what follows at the next place (RM 5.5).
+fn leads_back_to_turn(code: &Code, place: usize, length: usize) -> bool
+    requires { place + 1 < 2 ^ 64 }
+    ensures { let stack = stack_at code.now.kinds place in
+        IsTrue result ↔ (((length ≤ place) × Leads code.now (place - length) stack) × Leads code.now (place + 1) (drop 2 stack)) }
+{
+    leads_back(code, place, length) && leads_on(code, place, 2, None)
 }
 
 /// Checks a loop with a parameter: its bounds, its first turn, and what follows (RM 5.5).
@@ -280,9 +304,7 @@ fn is_for_fine(code: &Code, place: usize, low: usize, slot: usize, parameter: us
     ensures { let stack = stack_at code.now.kinds place in
         IsTrue result ↔ Bounded low slot parameter stack (λ below. Leads code.now (place + 2) stack × Leads code.now (place + 1 + length) below) }
 {
-    is_bounded(code, place, low, slot, parameter)
-        && leads_behind(code, place, 0, 0)
-        && leads_ahead(code, place, 2, length)
+    is_bounded(code, place, low, slot, parameter) && leads_to_turn(code, place, length)
 }
 
 /// Checks the next turn of such a loop (RM 5.5).
@@ -291,9 +313,7 @@ fn is_next_fine(code: &Code, place: usize, low: usize, slot: usize, parameter: u
     ensures { let stack = stack_at code.now.kinds place in
         IsTrue result ↔ ((length ≤ place) × Bounded low slot parameter stack (λ below. Leads code.now (place - length) stack × Leads code.now (place + 1) below)) }
 {
-    is_bounded(code, place, low, slot, parameter)
-        && leads_back(code, place, length)
-        && leads_on(code, place, 2, None)
+    is_bounded(code, place, low, slot, parameter) && leads_back_to_turn(code, place, length)
 }
 
 /// Tells whether so many images stand over so many cells, and the next place finds what is left.
