@@ -34,3 +34,7 @@ pub split_at : {X : Type 0} (n : ℕ) (xs : List X) (x : X) → slice_get xs n �
 split_at n [] x e = absurd (cc e)
 split_at zero (y ∷ ys) x e = cc
 split_at (suc n) (y ∷ ys) x e = let same : suc n + 1 ≡ suc (n + 1) = omega arith in rw same (split_at n ys x e)
+
+pub empty_at_first : {X : Type 0} (xs : List X) → slice_get xs 0 ≡ None → xs ≡ []
+empty_at_first [] e = refl
+empty_at_first (x ∷ xs) e = absurd (cc e)

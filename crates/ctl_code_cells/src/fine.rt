@@ -349,7 +349,7 @@ fn is_at_end(code: &Code, place: usize) -> bool
 fn is_bare(code: &Code, place: usize) -> bool
     ensures { IsTrue result ↔ (stack_at code.now.kinds place ≡ []) }
 {
-    code.kinds.kind_at(place, 0).is_none()
+    matches!(code.kinds.kind_at(place, 0), None)
 }
 
 /// Tells whether the instruction is well formed where it stands.
