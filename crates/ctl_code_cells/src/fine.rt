@@ -162,7 +162,14 @@ fn puts_operand(code: &Code, place: usize, taken: usize, at: usize, ty: Ty) -> b
 }
 
 /// Tells whether this is the cell of a variable, where so many were taken, and the next place finds what is left.
-fn puts_variable(code: &Code, place: usize, taken: usize, at: usize, out: usize, slot: usize) -> bool
+fn puts_variable(
+    code: &Code,
+    place: usize,
+    taken: usize,
+    at: usize,
+    out: usize,
+    slot: usize,
+) -> bool
     requires { place + 1 < 2 ^ 64 }
     ensures { let stack = drop taken (stack_at code.now.kinds place) in
         IsTrue result ↔ ((variable_at stack out slot ≡ Some at) × Leads code.now (place + 1) stack) }
@@ -182,7 +189,15 @@ fn puts(code: &Code, place: usize, taken: usize, cell: Cell, ty: Ty) -> bool
 }
 
 /// Tells whether a value is taken from one cell, where so many were taken before, and one is put into another.
-fn passes(code: &Code, place: usize, before: usize, from: Cell, operand: Ty, to: Cell, ty: Ty) -> bool
+fn passes(
+    code: &Code,
+    place: usize,
+    before: usize,
+    from: Cell,
+    operand: Ty,
+    to: Cell,
+    ty: Ty,
+) -> bool
     requires { (place + 1 < 2 ^ 64) × (before + 1 < 2 ^ 64) }
     ensures { IsTrue result ↔ Takes from operand (drop before (stack_at code.now.kinds place)) (Puts code.now place to ty) }
 {
@@ -227,7 +242,14 @@ fn is_enter_fine(code: &Code, place: usize, slots: usize, length: usize) -> bool
 }
 
 /// Checks an operator whose right operand is a constant (RM 4.5).
-fn is_constant_fine(code: &Code, place: usize, op: Operator, left: Cell, right: u64, to: Cell) -> bool
+fn is_constant_fine(
+    code: &Code,
+    place: usize,
+    op: Operator,
+    left: Cell,
+    right: u64,
+    to: Cell,
+) -> bool
     requires { place + 1 < 2 ^ 64 }
     ensures { IsTrue result ↔ IsFine code.now place (I.BinaryConstant op left right to) (stack_at code.now.kinds place) }
 {
@@ -299,7 +321,14 @@ fn leads_back_to_turn(code: &Code, place: usize, length: usize) -> bool
 }
 
 /// Checks a loop with a parameter: its bounds, its first turn, and what follows (RM 5.5).
-fn is_for_fine(code: &Code, place: usize, low: usize, slot: usize, parameter: usize, length: usize) -> bool
+fn is_for_fine(
+    code: &Code,
+    place: usize,
+    low: usize,
+    slot: usize,
+    parameter: usize,
+    length: usize,
+) -> bool
     requires { place + 1 < 2 ^ 64 }
     ensures { let stack = stack_at code.now.kinds place in
         IsTrue result ↔ Bounded low slot parameter stack (λ below. Leads code.now (place + 2) stack × Leads code.now (place + 1 + length) below) }
@@ -308,7 +337,14 @@ fn is_for_fine(code: &Code, place: usize, low: usize, slot: usize, parameter: us
 }
 
 /// Checks the next turn of such a loop (RM 5.5).
-fn is_next_fine(code: &Code, place: usize, low: usize, slot: usize, parameter: usize, length: usize) -> bool
+fn is_next_fine(
+    code: &Code,
+    place: usize,
+    low: usize,
+    slot: usize,
+    parameter: usize,
+    length: usize,
+) -> bool
     requires { place + 1 < 2 ^ 64 }
     ensures { let stack = stack_at code.now.kinds place in
         IsTrue result ↔ ((length ≤ place) × Bounded low slot parameter stack (λ below. Leads code.now (place - length) stack × Leads code.now (place + 1) below)) }
@@ -332,7 +368,8 @@ fn is_text_fine(code: &Code, place: usize, number: usize, first: usize) -> bool
     match code.texts.get(number) {
         Some(text) => {
             let parts = text.parts();
-            code.kinds.has_images(place, parts) && drops_images(code, place, count_images(parts), first)
+            code.kinds.has_images(place, parts)
+                && drops_images(code, place, count_images(parts), first)
         }
         None => false,
     }
@@ -342,7 +379,10 @@ fn is_text_fine(code: &Code, place: usize, number: usize, first: usize) -> bool
 fn is_at_end(code: &Code, place: usize) -> bool
     ensures { IsTrue result ↔ IsAtEnd (stack_at code.now.kinds place) }
 {
-    matches!(code.kinds.kind_at(place, 0), Some(Kind::Block(_) | Kind::Body { .. }))
+    matches!(
+        code.kinds.kind_at(place, 0),
+        Some(Kind::Block(_) | Kind::Body { .. })
+    )
 }
 
 /// Tells whether nothing stands before an instruction.
@@ -362,26 +402,62 @@ pub fn is_fine(code: &Code, place: usize, instr: &Instr) -> bool
         Instr::Enter { slots, length } => is_enter_fine(code, place, slots, length),
         Instr::Leave | Instr::Exit => is_at_end(code, place),
         Instr::Declare { slot: _, record } => {
-            is_declarable(code, code.kinds.depth_at(place), record) && leads_on(code, place, 0, None)
+            is_declarable(code, code.kinds.depth_at(place), record)
+                && leads_on(code, place, 0, None)
         }
         Instr::Number | Instr::NewLine => leads_on(code, place, 0, None),
         Instr::Set { value, ty, to } => is_cell_of(ty, value) && puts(code, place, 0, to, ty),
         Instr::Move { from, ty, to } => is_scalar(ty) && passes(code, place, 0, from, ty, to, ty),
-        Instr::Fetch { out: _, slot: _, ty, to } => is_scalar(ty) && puts(code, place, 0, to, ty),
+        Instr::Fetch {
+            out: _,
+            slot: _,
+            ty,
+            to,
+        } => is_scalar(ty) && puts(code, place, 0, to, ty),
         Instr::Store { from, ty, .. } => is_scalar(ty) && drops(code, place, from, ty),
-        Instr::Unary { op, ty, from, to } => is_unary_of(op, ty) && passes(code, place, 0, from, ty, to, ty),
-        Instr::Binary { op, left, right, to } => {
-            is_binary_of(op.op, op.operands, op.result) && passes_both(code, place, op, left, right, to)
+        Instr::Unary { op, ty, from, to } => is_unary_of(op, ty)
+            && passes(code, place, 0, from, ty, to, ty),
+        Instr::Binary {
+            op,
+            left,
+            right,
+            to,
+        } => {
+            is_binary_of(op.op, op.operands, op.result)
+                && passes_both(code, place, op, left, right, to)
         }
-        Instr::BinaryConstant { op, left, right, to } => is_constant_fine(code, place, op, left, right, to),
-        Instr::Decide { form: _, at, length } => leads_ahead(code, place, 0, length) && is_undecided(code, place, at),
+        Instr::BinaryConstant {
+            op,
+            left,
+            right,
+            to,
+        } => is_constant_fine(code, place, op, left, right, to),
+        Instr::Decide {
+            form: _,
+            at,
+            length,
+        } => leads_ahead(code, place, 0, length) && is_undecided(code, place, at),
         Instr::Skip(length) => leads_ahead(code, place, 0, length),
         Instr::Back(length) => leads_back(code, place, length),
         Instr::Abandon(length) => is_abandon_fine(code, place, length),
         Instr::Unless { from, length } => is_unless_fine(code, place, from, length),
-        Instr::For { low, slot, parameter, way: _, length } => is_for_fine(code, place, low, slot, parameter, length),
-        Instr::Next { low, slot, parameter, way: _, length } => is_next_fine(code, place, low, slot, parameter, length),
-        Instr::Put { text, first } | Instr::PutLine { text, first } => is_text_fine(code, place, text, first),
+        Instr::For {
+            low,
+            slot,
+            parameter,
+            way: _,
+            length,
+        } => is_for_fine(code, place, low, slot, parameter, length),
+        Instr::Next {
+            low,
+            slot,
+            parameter,
+            way: _,
+            length,
+        } => is_next_fine(code, place, low, slot, parameter, length),
+        Instr::Put { text, first } | Instr::PutLine { text, first } => is_text_fine(
+            code, place, text, first,
+        ),
         Instr::Missing => false,
     }
 }
