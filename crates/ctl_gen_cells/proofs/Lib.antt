@@ -21,3 +21,7 @@ pub mod Leave
 pub mod Declare
 pub mod Texts
 pub mod Statements
+pub mod Ranges
+pub mod Executed
+pub mod Bodies
+pub mod Whole

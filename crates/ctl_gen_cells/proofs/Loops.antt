@@ -36,7 +36,7 @@ module _ (ask : Ask) (k : Tables) (code : Code) (bound : ℕ) where
   exits_run b h e d place ks ops w0 y c l w fits s is = no_step ask code (Kept k code w0) b h s c 0 (arrives e d place ks ops) (Leaves y) l w fits is
 
   -- a turn, from the step that begins it, and what follows
-  turn_runs : (m : Act Done) (f : Result Bool → Act Done) (w0 : World) (mid next : Result Done → Log → World → State) (s0 s1 : State) (c : ℕ) (l : Log) (w : World) → step ask code s0 ≡ s1 → IsGoing s0 → s0.log ≡ l → ((c1 : ℕ) → c1 + 1 ≤ c → Runs ask code (Kept k code w0) 0 0 s1 c1 mid (m c1 l w)) → ((c1 : ℕ) (l1 : Log) (w2 : World) → c1 + 1 ≤ c → Since k code w0 w2 → Runs ask code (Kept k code w0) 4 4 (mid (Goes tt) l1 w2) c1 next (f (Goes true) c1 l1 w2)) → ((y : Way) (c1 : ℕ) (l1 : Log) (w2 : World) → c1 + 1 ≤ c → Since k code w0 w2 → Runs ask code (Kept k code w0) 4 4 (mid (Leaves y) l1 w2) c1 next (f (Leaves y) c1 l1 w2)) → Runs ask code (Kept k code w0) 0 1 s0 c next (bind (one_turn m c l w) f)
+  pub turn_runs : (m : Act Done) (f : Result Bool → Act Done) (w0 : World) (mid next : Result Done → Log → World → State) (s0 s1 : State) (c : ℕ) (l : Log) (w : World) → step ask code s0 ≡ s1 → IsGoing s0 → s0.log ≡ l → ((c1 : ℕ) → c1 + 1 ≤ c → Runs ask code (Kept k code w0) 0 0 s1 c1 mid (m c1 l w)) → ((c1 : ℕ) (l1 : Log) (w2 : World) → c1 + 1 ≤ c → Since k code w0 w2 → Runs ask code (Kept k code w0) 4 4 (mid (Goes tt) l1 w2) c1 next (f (Goes true) c1 l1 w2)) → ((y : Way) (c1 : ℕ) (l1 : Log) (w2 : World) → c1 + 1 ≤ c → Since k code w0 w2 → Runs ask code (Kept k code w0) 4 4 (mid (Leaves y) l1 w2) c1 next (f (Leaves y) c1 l1 w2)) → Runs ask code (Kept k code w0) 0 1 s0 c next (bind (one_turn m c l w) f)
   unfolding one_turn opened_outcome
   turn_runs m f w0 mid next s0 s1 zero l w first going logged body again leave = record { n = 0; in_time = omega arith; logged = logged; going = going; why = inl (omega arith) }
   turn_runs m f w0 mid next s0 s1 (suc c) l w first going logged body again leave =
