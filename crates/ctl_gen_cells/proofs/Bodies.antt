@@ -1,5 +1,5 @@
 -- The execution of a body, and of the main procedure.
-use Rattle.std.proofs.Common.{◌≡◌, ℕ, zero, suc, ◌+◌, ◌≤◌, List, [], ◌∷◌, ◌++◌, length, Option, Some, None, true, refl, sym, ap, ◌∙◌, subst, arith, inl}
+use Rattle.std.proofs.Common.{◌≡◌, ℕ, zero, suc, ◌+◌, ◌≤◌, List, [], ◌∷◌, ◌++◌, length, Some, true, refl, sym, ap, ◌∙◌, subst, arith, inl}
 use Rattle.std.specs.Prelude.{slice_get, take, drop, replicate}
 use Rattle.ctl_program.specs.declared.operators.SubprogramKind.{SubprogramKind}
 use Rattle.ctl_program.specs.declared.operators.SubprogramKind.TheVariants.{Procedure}
@@ -8,7 +8,7 @@ use Rattle.ctl_program.specs.declared.program.Subprogram.{Subprogram}
 use Rattle.ctl_meaning.specs.World.{Slot, Unset, Log, World, empty_log, empty_world}
 use Rattle.ctl_meaning.specs.Changes.{open_master}
 use Rattle.ctl_meaning.specs.Choice.{Ask}
-use Rattle.ctl_meaning.specs.Outcome.{ByExit, ByReturn, ByRaise, Result, Goes, Leaves, Gives, Done, bind, on_goes, on_some, opened_outcome}
+use Rattle.ctl_meaning.specs.Outcome.{ByExit, ByReturn, ByRaise, Result, Goes, Leaves, Done, bind, on_goes, on_some, opened_outcome}
 use Rattle.ctl_meaning.specs.Types.{Tables}
 use Rattle.ctl_meaning.specs.Names.{OfSubprogram, Returned, Tools, gone}
 use Rattle.ctl_meaning.specs.Names as Names
@@ -26,7 +26,7 @@ use Rattle.ctl_code_cells.specs.Steps.{moved, step, start}
 use Rattle.ctl_gen_cells.specs.Layout.{MasterCode, body_code, entry_at, master_code, nowhere}
 use Rattle.ctl_gen_cells.proofs.StatementLayers.{master_is}
 use Rattle.ctl_gen_cells.proofs.Place.{HasAt, Laid}
-use Rattle.ctl_gen_cells.proofs.Worlds.{Each, IsSmall, small_unset, Fits, Since, fits_empty, keeps_itself}
+use Rattle.ctl_gen_cells.proofs.Worlds.{Each, IsSmall, small_unset, Since, fits_empty, keeps_itself}
 use Rattle.ctl_gen_cells.proofs.Setting.{Setting, returns, Told, Calls}
 use Rattle.ctl_gen_cells.proofs.Cells.{by_code}
 use Rattle.ctl_gen_cells.proofs.Leave.{leaves}

@@ -26,7 +26,6 @@ use Rattle.ctl_gen_cells.specs.Values.{value_code, variable_of}
 use Rattle.ctl_gen_cells.specs.Layout.{StatementCode, all, all_items, arm_code, assign, exit, has_no_handlers, inside, item_code, master_code, missing_statement, no_code, statement_code}
 use Rattle.ctl_gen_cells.proofs.Known.{both_true}
 use Rattle.ctl_gen_cells.proofs.TreeLayers.{arm_roll, master_roll, statement_roll}
-use Rattle.ctl_gen_cells.specs.Around.{local_at}
 use Rattle.ctl_gen_cells.proofs.Setting.{Setting, Calls, tools_with}
 use Rattle.ctl_gen_cells.proofs.Worlds.{Fits, Since, Kept}
 use Rattle.ctl_gen_cells.proofs.Cells.{by_code}

@@ -13,7 +13,7 @@ use Rattle.ctl_meaning.specs.Lists.{last_of, opened_lists}
 use Rattle.ctl_meaning.specs.Activations.{master_of}
 use Rattle.ctl_meaning.specs.Changes.{set_slot}
 use Rattle.ctl_meaning.specs.Choice.{Ask}
-use Rattle.ctl_meaning.specs.Outcome.{Way, ByExit, ByRaise, Result, Goes, Leaves, Act, Done, bind, on_goes, ◌>>◌, given, nothing, ticked, then_always, opened_outcome}
+use Rattle.ctl_meaning.specs.Outcome.{ByRaise, Goes, Leaves, Act, Done, bind, on_goes, ◌>>◌, given, nothing, ticked, then_always, opened_outcome}
 use Rattle.ctl_meaning.specs.Numbers.{signed, cell_of}
 use Rattle.ctl_meaning.specs.Types.{Tables}
 use Rattle.ctl_meaning.specs.Names.{scalar_of}
@@ -27,10 +27,10 @@ use Rattle.ctl_code_cells.specs.States.{Frame, State}
 use Rattle.ctl_code_cells.specs.Table.{out_of, present, bounds_after, with_parameter, in_turn, ahead, on}
 use Rattle.ctl_code_cells.specs.Steps.{moved, step}
 use Rattle.ctl_code_cells.specs.Valid.{IsValid}
-use Rattle.ctl_code_cells.specs.Windows.{height, depth, variable_at}
+use Rattle.ctl_code_cells.specs.Windows.{height, depth}
 use Rattle.ctl_gen_cells.specs.Around.{Line, Around, newest_at, newest_by, new_operand, out_to}
 use Rattle.ctl_gen_cells.specs.Values.{ValueCode}
-use Rattle.ctl_gen_cells.specs.Layout.{in_loop, with_bounds, bounds_code, turns_code, for_of, next_of}
+use Rattle.ctl_gen_cells.specs.Layout.{in_loop, with_bounds, bounds_code, turns_code, next_of}
 use Rattle.ctl_gen_cells.proofs.Place.{Laid, laid_front, laid_back}
 use Rattle.ctl_gen_cells.proofs.Worlds.{Since, Kept, since_slot}
 use Rattle.ctl_gen_cells.proofs.Setting.{Sees, never_missing}
@@ -40,7 +40,7 @@ use Rattle.ctl_gen_cells.proofs.Assign.{newest_is}
 use Rattle.ctl_gen_cells.proofs.Expressions.{Value, value_runs}
 use Rattle.ctl_gen_cells.proofs.Loops.{Lands, loop_ends, turn_runs}
 use Rattle.ctl_gen_cells.proofs.Does.{Does}
-use Rattle.ctl_gen_cells.proofs.Follow.{IsGoing, Runs, Landing, On, landing_of, at, arrives, added, within, one_step, last_step, no_step, arriving, left_behind}
+use Rattle.ctl_gen_cells.proofs.Follow.{IsGoing, Runs, Landing, On, landing_of, at, arrives, added, within, last_step, no_step, arriving, left_behind}
 
 -- Numbers and their cells ---------------------------------------------------------------------------
 

@@ -8,25 +8,23 @@ use Rattle.ctl_program.specs.declared.program.Subprogram.{Subprogram}
 use Rattle.ctl_program.specs.declared.program.Checked.{Checked}
 use Rattle.ctl_tree.specs.declared.ending.End.{End}
 use Rattle.ctl_tree.specs.declared.ending.End as EndOf
-use Rattle.ctl_meaning.specs.World.{Pick, Log, World, empty_log}
+use Rattle.ctl_meaning.specs.World.{Pick, Log, empty_log}
 use Rattle.ctl_meaning.specs.Choice.{Ask, Obeys, replayed}
-use Rattle.ctl_meaning.specs.Outcome.{Result, Goes, Leaves, Out, Gives, Stops, Cut}
+use Rattle.ctl_meaning.specs.Outcome.{Goes, Leaves, Out, Gives, Stops, Cut}
 use Rattle.ctl_meaning.specs.Types.{tables_of, operation, operation_in}
 use Rattle.ctl_meaning.specs.Names.{Returned}
 use Rattle.ctl_meaning.specs.Run.{Outcome, end_by, meaning_of, outcome, outcome_of, routine_of, run}
-use Rattle.ctl_code_cells.specs.declared.code.Instr.{Instr}
 use Rattle.ctl_code_cells.specs.declared.code.Instr.TheVariants as InstrOf
 use Rattle.ctl_code_cells.specs.declared.template.TextPart.{TextPart}
 use Rattle.ctl_code_cells.specs.declared.code.Entry.{Entry}
 use Rattle.ctl_code_cells.specs.declared.code.Code.{Code}
 use Rattle.ctl_code_cells.specs.States.{Mode, At, Transfers, Giving, Stopped, Stuck, Frame, State}
-use Rattle.ctl_code_cells.specs.declared.kinds.Kind.{Kind}
-use Rattle.ctl_code_cells.specs.Valid.{IsInScope, IsValid, kinds_at}
+use Rattle.ctl_code_cells.specs.Valid.{IsValid}
 use Rattle.ctl_code_cells.specs.Table as Table
 use Rattle.ctl_code_cells.specs.Steps.{step, steps, start, machine, end_at, end_of}
 use Rattle.ctl_code_cells.specs.Laws.{IsPrefix, Grows}
 use Rattle.ctl_code_cells.proofs.Logs.{obeys_none, obeys_itself, no_more_than, Stays, steps_obey, grow, stay, meet, ended_stays, agree}
-use Rattle.ctl_gen_cells.specs.Around.{Line, behind}
+use Rattle.ctl_gen_cells.specs.Around.{Line}
 use Rattle.ctl_gen_cells.specs.Layout.{HasKinds, IsLaidOut, bodies, body_code, entries_from, entry_at, instructions_of, kinds_of, nowhere, operations_of, program_code}
 use Rattle.ctl_gen_cells.specs.Run.{AreLinked, IsBody, IsRun, IsWritten, are_procedures, is_procedure}
 use Rattle.ctl_gen_cells.proofs.Known.{both_true}
