@@ -1,2 +1,3 @@
 pub mod Layers
 pub mod StatementLayers
+pub mod Emission

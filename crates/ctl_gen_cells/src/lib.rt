@@ -2,3 +2,5 @@
 #![tactic(auto)]
 
 pub mod right;
+pub mod runs;
+mod typing;
