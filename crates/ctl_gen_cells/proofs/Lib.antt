@@ -1,3 +1,5 @@
 pub mod Layers
 pub mod StatementLayers
 pub mod Emission
+pub mod EmittedValues
+pub mod EmittedTexts

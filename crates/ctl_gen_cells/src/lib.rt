@@ -1,6 +1,8 @@
 //! From the checked program to the machine's code.
 #![tactic(auto)]
 
+mod emit;
+mod emit_expressions;
 pub mod right;
 pub mod runs;
 mod typing;
