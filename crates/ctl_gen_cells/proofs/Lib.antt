@@ -3,3 +3,5 @@ pub mod StatementLayers
 pub mod Emission
 pub mod EmittedValues
 pub mod EmittedTexts
+pub mod EmittedStatements
+pub mod EmittedLoops
