@@ -5,3 +5,4 @@ pub mod EmittedValues
 pub mod EmittedTexts
 pub mod EmittedStatements
 pub mod EmittedLoops
+pub mod EmittedArms

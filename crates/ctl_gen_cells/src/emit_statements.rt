@@ -221,8 +221,8 @@ impl Emitter {
     /// Emits further arms, whose ends lead back to the end of the first one.
     #[cycle(emit)]
     fn further_arms(&mut self, arms: &[Arm], end: usize, landing: Option<usize>) -> Result<(), AllocError>
-        requires { ForSome landing (λ at. at ≤ length self.old.instructions) }
-        requires { end ≤ length self.old.instructions }
+        requires landing { ForSome landing (λ at. at ≤ length self.old.instructions) }
+        requires end { end ≤ length self.old.instructions }
         ensures { OnOk result (self.new ≡ stated (further_arms (length self.old.instructions - end) (map spec.arm_code arms.now)) landing self.old) }
     {
         for arm in arms {

@@ -3,6 +3,7 @@
 
 mod emit;
 mod emit_expressions;
+mod emit_statements;
 pub mod right;
 pub mod runs;
 mod typing;
