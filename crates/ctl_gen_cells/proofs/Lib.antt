@@ -6,3 +6,4 @@ pub mod EmittedTexts
 pub mod EmittedStatements
 pub mod EmittedLoops
 pub mod EmittedArms
+pub mod EmittedBodies

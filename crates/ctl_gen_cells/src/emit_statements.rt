@@ -18,11 +18,24 @@ use ctl_code_cells::code::Instr;
 use ctl_code_cells::kinds::Kind;
 use ctl_program::expression::{Expr, Name};
 use ctl_program::operators::Direction;
+use ctl_program::program::Subprogram;
 use ctl_program::statement::{Arm, Item, Master, Piece, Stmt};
 use ctl_program::types::{Ty, Var};
 use std::alloc::AllocError;
 
 impl Emitter {
+    /// Emits the body of a subprogram, whose window begins with its slots.
+    pub fn body(&mut self, subprogram: &Subprogram) -> Result<(), AllocError>
+        requires { self.old.notes.standing ≡ [] }
+        ensures { OnOk result (self.new ≡ stated (spec.body_code subprogram.now) None self.old) }
+    {
+        let (level, slots) = (subprogram.level, subprogram.body.slots);
+        self.enter(Kind::Body { level, slots })?;
+        self.master(&subprogram.body)?;
+        self.leave();
+        Ok(())
+    }
+
     /// Emits a master's items, its statements, and their end.
     #[cycle(emit)]
     pub fn master(&mut self, master: &Master) -> Result<(), AllocError>
