@@ -208,6 +208,7 @@ impl Emitter {
         requires { ForSome landing (λ at. at ≤ length self.old.instructions) }
         ensures emitted { OnOk result (self.new ≡ stated (open_arms (map spec.arm_code arms.now)) landing self.old) }
         ensures end { IfOk result (λ end. end ≡ first_end landing (map spec.arm_code arms.now) self.old) }
+        ensures landing { OnOk result (ForSome landing (λ at. at ≤ length self.new.instructions)) }
     {
         match arms {
             [] => Ok(None),

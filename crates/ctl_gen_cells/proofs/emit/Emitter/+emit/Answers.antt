@@ -1,4 +1,4 @@
-use Rattle.std.proofs.Common.{◌≡◌, ◌+◌, ◌-◌, ◌∷◌, ◌≤◌, ℕ, List, Option, None, Some, ap, sym, ◌∙◌, map, drop, length, option_map, arith, false, true}
+use Rattle.std.proofs.Common.{◌≡◌, ◌+◌, ◌-◌, ◌∷◌, ◌≤◌, ℕ, List, Option, None, Some, ap, sym, ◌∙◌, map, take, drop, length, option_map, arith, false, true}
 use Rattle.std.proofs.lemmas.List.{drop_all}
 use Rattle.ctl_program.specs.declared.types.Ty.TheVariants.{Boolean}
 use Rattle.ctl_program.specs.declared.statement.Arm.{Arm, out-Arm, size-Arm}
@@ -144,11 +144,24 @@ pub arms-further_arms-requires : goal.arms-further_arms-requires
 arms-further_arms-requires t c =
     let h = no_deeper (λ y. size-Arm y) c.args.arms.now in
     let e1 = c.tested.new.self in
-    let e2 = c.put.new.self in (
+    let e2 = c.put.new.self in
+    let arm = tested (value_code (out-Arm c.first-item.result).test) (all (map statement_code c.as_slice.result.now)) in (
       omega (arith, h, c.decreases),
-      (line_within (InstrOf.Skip 0) c.args.landing e1 e2 (statement_within _ c.args.landing c.args.self.now e1 c.requires c.in_ok-tested-in-len1-up.ensures) c.in_ok-put-in-len1-up.ensures,
+      (line_within (InstrOf.Skip 0) c.args.landing e1 e2 (statement_within arm c.args.landing c.args.self.now e1 c.requires c.in_ok-tested-in-len1-up.ensures) c.in_ok-put-in-len1-up.ensures,
        end_at (InstrOf.Skip 0) e1 e2 c.place-end.result c.place-end.ensures c.in_ok-put-in-len1-up.ensures),
     )
+
+pub arms-returns-in_ok-further_arms-in-len1-up-clause-landing : goal.arms-returns-in_ok-further_arms-in-len1-up-clause-landing
+arms-returns-in_ok-further_arms-in-len1-up-clause-landing t c =
+    let l = c.args.landing in
+    let e1 = c.tested.new.self in
+    let e2 = c.put.new.self in
+    let e3 = c.further_arms.new.self in
+    let arm = tested (value_code (out-Arm c.first-item.result).test) (all (map statement_code c.as_slice.result.now)) in
+    let rest = map arm_code (take (length c.args.arms.now - 1) (drop 1 c.args.arms.now)) in
+    statement_within (further_arms (length e2.instructions - c.place-end.result) rest) l e2 e3
+    (line_within (InstrOf.Skip 0) l e1 e2 (statement_within arm l c.args.self.now e1 c.requires c.in_ok-tested-in-len1-up.ensures) c.in_ok-put-in-len1-up.ensures)
+    c.in_ok-further_arms-in-len1-up.ensures
 
 pub further_arms-loop-arm-preserved : goal.further_arms-loop-arm-preserved
 further_arms-loop-arm-preserved t c =
