@@ -1,0 +1,4 @@
+//! From the checked program to the machine's code.
+#![tactic(auto)]
+
+pub mod right;
