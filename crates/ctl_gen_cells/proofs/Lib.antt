@@ -4,3 +4,6 @@ pub mod Known
 pub mod Place
 pub mod TreeLayers
 pub mod Formed
+pub mod FormedTypes
+pub mod FormedAround
+pub mod FormedValues
