@@ -350,7 +350,7 @@ module _ (code : Code) where
         (next_operating (record { op = op; ty = u; right = value_code y }) (map operator_of more) s t (next_joins op s u joins scalar) (usable_as (value_code y) s scalar (typed_fine right y_runs)) (operating rest e.1 (joins_scalar op s u joins)))
 
     conditions : {k : W.Setting} {env : W.Frames} {xs : List Expr} (form : Shortcut) → Truths k env xs → values_run (map value_code xs) ≡ true → Conditions form (map value_code xs)
-    conditions form T.no_more_truths runs = no_condition form
+    conditions form T.no_more_truths runs = λ s. none code (KindOf.Operand Boolean ∷ s)
     conditions form (T.one_more_truth {x = x} {more = more} h rest) runs =
         let e = both_true (value_code x).runs (values_run (map value_code more)) runs in
         next_condition form (value_code x) (map value_code more) (usable_as (value_code x) Boolean tt (typed_fine h e.0)) (conditions form rest e.1)
