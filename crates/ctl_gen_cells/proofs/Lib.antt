@@ -7,3 +7,5 @@ pub mod Formed
 pub mod FormedTypes
 pub mod FormedAround
 pub mod FormedValues
+pub mod FormedTexts
+pub mod FormedLines
