@@ -37,21 +37,21 @@ module _ (code : Code) where
   -- turns that are repeated, behind their landing
   pub loop_formed : (p : ℕ) (s : List Kind) (turn : List Line) → (Leads code (p + 1) s → Leads code (p + 1 + 1 + length turn + 1) s → FormedAt code (p + 1 + 1) turn s (Some s)) → FormedAt code p (loop_code turn s) s (Some s)
   loop_formed p s turn f h =
-      let back = (InstrOf.Back (length turn), s) ∷ [] in
+      let back : List Line = (InstrOf.Back (length turn), s) ∷ [] in
       let q = p + 1 + 1 in
       let last = has_back code q turn back (Some s) h.1.1 in
       let x = f h.1.0 last.1 (has_front code q turn back (Some s) (Some s) h.1.1 last.0) in
       let behind : q + length turn + 1 ≡ q + (length turn + 1) = omega arith in
       let before : q ≡ q + length turn - length turn = omega arith in
       let count : length turn ≤ q + length turn = omega arith in
-      let again = (count, leads_at code q (q + length turn - length turn) s before x.0) in
+      let again : IsFine code (q + length turn) (InstrOf.Back (length turn)) s = (count, leads_at code q (q + length turn - length turn) s before x.0) in
       (h.0, (x.0, (leads_at code (q + length turn + 1) (q + (length turn + 1)) s behind last.1, fine_both code q turn back x.1 (again, tt))))
 
   -- turns over the values between two bounds, whose parameter has its cell in the newest master
   pub turns_formed : (p : ℕ) (s : List Kind) (v : Var) (way : Direction) (at : ℕ) (turn : List Line) → variable_at s 0 v.slot ≡ Some at → (Leads code (p + 1) (with_bounds s) → FormedAt code (p + 1 + 1) turn (with_bounds s) (Some (with_bounds s))) → FormedAt code p (turns_code (Some at) v way turn s) (with_bounds s) (Some s)
   turns_formed p s v way at turn there f h =
       let top = with_bounds s in
-      let next = (InstrOf.Next (height s) v.slot at way (length turn), top) ∷ [] in
+      let next : List Line = (InstrOf.Next (height s) v.slot at way (length turn), top) ∷ [] in
       let q = p + 1 + 1 in
       let last = has_back code q turn next (Some s) h.1.1 in
       let x = f h.1.0 (has_front code q turn next (Some s) (Some top) h.1.1 last.0) in
@@ -60,7 +60,7 @@ module _ (code : Code) where
       let landed : q + length turn + 1 ≡ q + (length turn + 1) = omega arith in
       let before : q ≡ q + length turn - length turn = omega arith in
       let count : length turn ≤ q + length turn = omega arith in
-      let again = (count, (s, refl, (refl, there, (leads_at code q (q + length turn - length turn) top before x.0, last.1)))) in
+      let again : IsFine code (q + length turn) (InstrOf.Next (height s) v.slot at way (length turn)) top = (count, (s, refl, (refl, there, (leads_at code q (q + length turn - length turn) top before x.0, last.1)))) in
       (
         h.0,
         (
@@ -77,7 +77,7 @@ module _ (code : Code) where
   -- a master's lines, between its entry and what an exit statement leads to behind it
   pub block_formed : (p slots : ℕ) (s : List Kind) (inner : List Line) (exit : Instr) → FormedAt code (p + 1) inner (Block slots ∷ s) None → IsFine code (p + 1 + length inner) exit s → FormedAt code p ((InstrOf.Enter slots (length inner), s) ∷ inner ++ (exit, s) ∷ []) s (Some s)
   block_formed p slots s inner exit f fine h =
-      let end = (exit, s) ∷ [] in
+      let end : List Line = (exit, s) ∷ [] in
       let last = has_back code (p + 1) inner end (Some s) h.1 in
       let x = f (has_front code (p + 1) inner end (Some s) None h.1 tt) in
       (h.0, ((x.0, last.0, last.1), fine_both code (p + 1) inner end x.1 (fine, tt)))

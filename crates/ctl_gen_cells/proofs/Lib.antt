@@ -9,3 +9,4 @@ pub mod FormedAround
 pub mod FormedValues
 pub mod FormedTexts
 pub mod FormedLines
+pub mod FormedStatements
