@@ -10,3 +10,5 @@ pub mod FormedValues
 pub mod FormedTexts
 pub mod FormedLines
 pub mod FormedStatements
+pub mod FormedArms
+pub mod FormedMasters
