@@ -44,7 +44,7 @@ module _ (code : Code) (env : W.Frames) where
       (further_formed more good.1 (behind (size + 1) a) n1 (back + size + 1) (p + length arm) first agrees (Place.has_back code.texts.items n x.body.texts (arms_texts more) texts) (exit_further code p (size + 1) (p + length arm) a.exits s on can) next lead)
 
   pub branches_stay : (arms : List ArmCode) (others : StatementCode) → GoodArms arms → Stays code env others.texts others.code → Stays code env (branches arms others).texts (branches arms others).code
-  branches_stay [] others good h = h
+  branches_stay [] others good h a n p agrees texts can has = h a n p agrees texts can has
   branches_stay (x ∷ more) others good h a n p agrees texts can has =
       let s = a.stack in
       let turn = turn_code x a n in

@@ -60,12 +60,12 @@ module _ (code : Code) (records : List RecordType) (k : W.Setting) (declarable :
   filled env slot h s (D.fills names) agrees = agrees.slots (record { level = length env; slot = slot }) h names refl
 
   object_good : (env : W.Frames) (slot : ℕ) (ty : Ty) (o : Option Expr) → Fills env slot (W.Declared ty) → W.InView k env ty → Perhaps k env o ty → GoodItem env (item_code (Object slot ty o))
-  object_good env slot ty None fills view T.left_out runs s agrees =
-      let cell = filled env slot (W.Declared ty) s fills agrees in
+  object_good env slot ty None fresh view T.left_out runs s agrees =
+      let cell = filled env slot (W.Declared ty) s fresh agrees in
       declaration_formed code records slot cell.0 ty s runs cell.1 (subst (λ n. MayDeclare code n ty) (sym agrees.deep) (may_declare env ty view))
-  object_good env slot ty (Some e) fills view (T.given h) runs s agrees =
+  object_good env slot ty (Some e) fresh view (T.given h) runs s agrees =
       let g = both_true (is_run_type ty) (value_code e).runs runs in
-      let cell = filled env slot (W.Declared ty) s fills agrees in
+      let cell = filled env slot (W.Declared ty) s fresh agrees in
       valued_formed code slot cell.0 ty (value_code e) s cell.1 (usable_as code (value_code e) ty (run_scalar ty g.0) (typed_fine code h g.1))
 
   item_good : {env : W.Frames} {x : Item} → Elaborated k env x → GoodItem env (item_code x)
@@ -92,7 +92,7 @@ module _ (code : Code) (records : List RecordType) (k : W.Setting) (declarable :
   not_missing env x same runs = absurd (let e = sym (ap (λ (z : StatementCode). z.runs records) same) ∙ runs in cc)
 
   assign_good : (env : W.Frames) (o : Option Var) (x : ValueCode) (t : Ty) → (x.runs ≡ true → Fine code x t) → GoodStatement env (assign o x)
-  assign_good env None x t fine runs = absurd (cc)
+  assign_good env None x t fine runs a n p agrees texts can = absurd (cc)
   assign_good env (Some v) x t fine runs a n p agrees texts can = assign_formed code (local_at a.stack v) v x a.stack refl (value_usable code x t (fine runs)) p
 
   exit_good : {env : W.Frames} (o : Option Expr) → Perhaps k env o Boolean → GoodStatement env (exit (option_map value_code o))
@@ -183,7 +183,7 @@ module _ (code : Code) (records : List RecordType) (k : W.Setting) (declarable :
         all_stay code env (statement_code y) (map statement_code ys) (statement_good h g.0) (each_good rest g.1)
 
     arms_good : {env : W.Frames} {a : D.Around} {ys : List Arm} → GuardedEach k env a ys → arms_run (map arm_code ys) records ≡ true → GoodArms code env (map arm_code ys)
-    arms_good D.no_more_arms runs = tt
+    arms_good D.no_more_arms = λ runs. tt
     arms_good {env} (D.one_more_arm {test = e} {body = body} {more = more} t h rest) =
         subst (λ (z : ArmCode). arms_run (z ∷ map arm_code more) records ≡ true → GoodArms code env (z ∷ map arm_code more)) (sym (arm_roll (record { test = e; body = body })))
         (λ runs.

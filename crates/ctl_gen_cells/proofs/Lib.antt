@@ -12,3 +12,4 @@ pub mod FormedLines
 pub mod FormedStatements
 pub mod FormedArms
 pub mod FormedMasters
+pub mod FormedWhole
