@@ -39,6 +39,11 @@ use Rattle.ctl_gen_cells.proofs.FormedTexts.{print_formed}
 use Rattle.ctl_gen_cells.proofs.FormedTypes.{run_scalar}
 use Rattle.ctl_gen_cells.proofs.FormedValues.{Fine, typed_fine, Usable, usable_as, value_usable}
 
+-- a master has as many slots as it is told to
+pub slots_told : {k : W.Setting} {env : W.Frames} {f : W.Frame} {a : D.Around} {m : Master} → Mastered k env f a m → (master_code m).slots ≡ length f
+slots_told (D.master {f = f} {is = items} {body = body} {hs = hs} elaborated done handled) =
+    ap (λ (z : MasterCode). z.slots) (master_roll (record { slots = length f; items = items; body = body; handlers = hs }))
+
 -- the operations of each record type that is declared around a place are declared there too
 module _ (code : Code) (records : List RecordType) (k : W.Setting) (declarable : (env : W.Frames) (t : ℕ) → W.HasRecord k env t → IsDeclarable code (length env) t) where
   -- Items ------------------------------------------------------------------------------------------
@@ -126,11 +131,6 @@ module _ (code : Code) (records : List RecordType) (k : W.Setting) (declarable :
       block_formed code p m.slots s inner (exit_of (further (size + 1) a.exits))
       (h runs (Block m.slots ∷ s) n (p + 1) over texts tt)
       (exit_fine code (p + 1 + size) (further (size + 1) a.exits) s (exit_further code p (size + 1) (p + 1 + size) a.exits s there can))
-
-  -- a master has as many slots as it is told to
-  pub slots_told : {env : W.Frames} {f : W.Frame} {a : D.Around} {m : Master} → Mastered k env f a m → (master_code m).slots ≡ length f
-  slots_told (D.master {f = f} {is = items} {body = body} {hs = hs} elaborated done handled) =
-      ap (λ (z : MasterCode). z.slots) (master_roll (record { slots = length f; items = items; body = body; handlers = hs }))
 
   -- Well-typed statements ----------------------------------------------------------------------------
 

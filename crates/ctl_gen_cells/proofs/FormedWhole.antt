@@ -45,10 +45,10 @@ operations_from [] t o e = absurd (cc)
 operations_from (x ∷ rs) zero o e = let same : operations_in x ≡ o = cc e in (x, refl, same)
 operations_from (x ∷ rs) (suc t) o e = operations_from rs t o e
 
--- each subprogram has its entry, which says its level
-entry_there : (place n : ℕ) (ss : List Subprogram) (f : ℕ) (s : Subprogram) → slice_get ss f ≡ Some s → (e : Entry) × (slice_get (entries_from place n ss) f ≡ Some e) × (e.level ≡ s.level)
+-- each subprogram has its entry
+entry_there : (place n : ℕ) (ss : List Subprogram) (f : ℕ) (s : Subprogram) → slice_get ss f ≡ Some s → (at : ℕ) × (slice_get (entries_from place n ss) f ≡ Some (entry_at at s))
 entry_there place n [] f s h = absurd (cc)
-entry_there place n (x ∷ ss) zero s h = let same : x ≡ s = cc h in (entry_at place x, refl, ap (λ (y : Subprogram). y.level) same)
+entry_there place n (x ∷ ss) zero s h = let same : x ≡ s = cc h in (place, ap (λ (y : Subprogram). Some (entry_at place y)) same)
 entry_there place n (x ∷ ss) (suc f) s h = entry_there (place + length ((body_code x).code nowhere n)) (n + length (body_code x).texts) ss f s h
 
 -- masters that stand around others are not more
@@ -58,49 +58,68 @@ not_more home env e =
     let least = length-take (length home) env in
     omega (arith, size, least)
 
+-- the first formal has a slot
+formal_slot : (formals : List W.Formal) (first : W.Formal) (rest : List W.Formal) (others : W.Frame) → formals ≡ first ∷ rest → 1 ≤ length (map W.OfFormal formals ++ others)
+formal_slot formals first rest others e = subst (λ fs. 1 ≤ length (map W.OfFormal fs ++ others)) (sym e) (omega arith)
+
 -- Subprograms that are named ------------------------------------------------------------------------
 
 module _ (program : Checked) (typed : WellTyped program) where
-  -- a subprogram that can be called, which is declared among its home's masters
-  record Known (f : ℕ) (home : W.Frames) : Type 0 where
-    is : Subprogram
-    found : slice_get program.subprograms f ≡ Some is
-    level : is.level ≤ length home
+  -- a subprogram of the table
+  record Called (f : ℕ) (is : W.Signature) : Type 0 where
+    body : Subprogram
+    found : slice_get program.subprograms f ≡ Some body
+    fine : SubprogramFine typed.k body is
 
-  callable : (home : W.Frames) (f : ℕ) (is : W.Signature) → W.Callable typed.k home f is → Known f home
-  callable home f is c =
+  called : (home : W.Frames) (f : ℕ) (is : W.Signature) → W.Callable typed.k home f is → Called f is
+  called home f is c =
       let s = alike W.Signature Subprogram typed.k.subprograms program.subprograms typed.fits.subprograms f is c.found in
-      let level = (typed.each_subprogram f s.0 is s.1 c.found).level in
+      record { body = s.0; found = s.1; fine = typed.each_subprogram f s.0 is s.1 c.found }
+
+  -- an operation of a type: it is declared among the masters around the type, and has a slot for its object
+  record Operation (f : ℕ) (home : W.Frames) : Type 0 where
+    body : Subprogram
+    found : slice_get program.subprograms f ≡ Some body
+    level : body.level ≤ length home
+    slots : 1 ≤ (master_code body.body).slots
+
+  -- no operation, or one such
+  abbrev MayBeOperation : W.Frames → Option ℕ → Type 0
+  MayBeOperation home None = Unit {0}
+  MayBeOperation home (Some f) = Operation f home
+
+  overrides : (home : W.Frames) (n : ℕ) (rest : List W.Formal) (o : Option ℕ) → Overrides typed.k home n rest o → MayBeOperation home o
+  overrides home n rest None h = tt
+  overrides home n rest (Some f) (operation {is = is} c gives formals descends) =
+      let s = called home f is c in
+      let level = s.fine.level in
       let least = not_more is.home home c.encloses in
-      record { is = s.0; found = s.1; level = omega (arith, level, least) }
+      let slots = slots_told s.fine.body in
+      record {
+        body = s.body;
+        found = s.found;
+        level = omega (arith, level, least);
+        slots = subst (λ m. 1 ≤ m) (sym slots) (formal_slot is.formals _ rest s.fine.others formals);
+      }
 
-  -- no operation, or one that can be called at its type's home
-  abbrev MayBeKnown : W.Frames → Option ℕ → Type 0
-  MayBeKnown home None = Unit {0}
-  MayBeKnown home (Some f) = Known f home
-
-  known : (home : W.Frames) (n : ℕ) (rest : List W.Formal) (o : Option ℕ) → Overrides typed.k home n rest o → MayBeKnown home o
-  known home n rest None h = tt
-  known home n rest (Some f) (operation {is = is} c gives formals descends) = callable home f is c
-
-  written : (home : W.Frames) (o : Option ℕ) → MayBeKnown home o → IsWritten program.subprograms o
+  written : (home : W.Frames) (o : Option ℕ) → MayBeOperation home o → IsWritten program.subprograms o
   written home None h = tt
-  written home (Some f) h = (h.is, h.found)
+  written home (Some f) h = (h.body, h.found)
 
   home_of : (t : ℕ) (r : RecordType) → slice_get program.records t ≡ Some r → (home : W.Frames) × (slice_get typed.k.record_homes t ≡ Some home)
   home_of t r e = alike RecordType W.Frames program.records typed.k.record_homes (sym typed.fits.record_homes) t r e
 
-  initialize_known : (t : ℕ) (r : RecordType) (home : W.Frames) → slice_get program.records t ≡ Some r → slice_get typed.k.record_homes t ≡ Some home → MayBeKnown home r.operations.initialize
-  initialize_known t r home e at = known home t [] r.operations.initialize (typed.each_record t r home e at).operations.initialize
+  initialize_written : (t : ℕ) (r : RecordType) (home : W.Frames) → slice_get program.records t ≡ Some r → slice_get typed.k.record_homes t ≡ Some home → MayBeOperation home r.operations.initialize
+  initialize_written t r home e at = overrides home t [] r.operations.initialize (typed.each_record t r home e at).operations.initialize
 
-  finalize_known : (t : ℕ) (r : RecordType) (home : W.Frames) → slice_get program.records t ≡ Some r → slice_get typed.k.record_homes t ≡ Some home → MayBeKnown home r.operations.finalize
-  finalize_known t r home e at = known home t [] r.operations.finalize (typed.each_record t r home e at).operations.finalize
+  finalize_written : (t : ℕ) (r : RecordType) (home : W.Frames) → slice_get program.records t ≡ Some r → slice_get typed.k.record_homes t ≡ Some home → MayBeOperation home r.operations.finalize
+  finalize_written t r home e at = overrides home t [] r.operations.finalize (typed.each_record t r home e at).operations.finalize
 
   pub linked_of : AreLinked program
   linked_of = record {
-    main = let h = callable [] program.main _ typed.main in (h.is, h.found);
-    initialize = λ t r e. let home = home_of t r e in written home.0 r.operations.initialize (initialize_known t r home.0 e home.1);
-    finalize = λ t r e. let home = home_of t r e in written home.0 r.operations.finalize (finalize_known t r home.0 e home.1);
+    main = let s = called [] program.main _ typed.main in (s.body, s.found);
+    initialize = λ t r e. let home = home_of t r e in written home.0 r.operations.initialize (initialize_written t r home.0 e home.1);
+    finalize = λ t r e. let home = home_of t r e in written home.0 r.operations.finalize (finalize_written t r home.0 e home.1);
   }
 
 -- Bodies ---------------------------------------------------------------------------------------------
@@ -168,11 +187,11 @@ module _ (program : Checked) (code : Code) (laid : IsLaidOut program code) (kind
 
   -- Tables -------------------------------------------------------------------------------------------
 
-  entry_of : (f : ℕ) (s : Subprogram) → slice_get program.subprograms f ≡ Some s → (e : Entry) × (slice_get code.entries.items f ≡ Some e) × (e.level ≡ s.level)
-  entry_of f s h = subst (λ es. (e : Entry) × (slice_get es f ≡ Some e) × (e.level ≡ s.level)) (sym laid.entries) (entry_there 1 0 program.subprograms f s h)
+  entry_of : (f : ℕ) (s : Subprogram) → slice_get program.subprograms f ≡ Some s → (at : ℕ) × (slice_get code.entries.items f ≡ Some (entry_at at s))
+  entry_of f s h = subst (λ es. (at : ℕ) × (slice_get es f ≡ Some (entry_at at s))) (sym laid.entries) (entry_there 1 0 program.subprograms f s h)
 
   is_entry : (f : ℕ) → IsBody program.subprograms f → IsEntry code f
-  is_entry f body = let e = entry_of f body.0 body.1 in (e.0, e.1)
+  is_entry f body = let e = entry_of f body.0 body.1 in (entry_at e.0 body.0, e.1)
 
   may_be_entry : (o : Option ℕ) → IsWritten program.subprograms o → MayBeEntry code o
   may_be_entry None h = tt
@@ -187,14 +206,13 @@ module _ (program : Checked) (code : Code) (laid : IsLaidOut program code) (kind
       subst (λ (z : Operations). MayBeEntry code z.initialize × MayBeEntry code z.finalize) x.2 (may_be_entry x.0.operations.initialize (linked.initialize t x.0 x.1), may_be_entry x.0.operations.finalize (linked.finalize t x.0 x.1))
 
   -- an operation that can be called at its type's home is in scope inside it
-  in_scope : (home env : W.Frames) (o : Option ℕ) → W.Encloses home env → MayBeKnown program typed home o → IsInScope code (length env) o
+  in_scope : (home env : W.Frames) (o : Option ℕ) → W.Encloses home env → MayBeOperation program typed home o → IsInScope code (length env) o
   in_scope home env None e h = tt
   in_scope home env (Some f) e h =
-      let x = entry_of f h.is h.found in
+      let x = entry_of f h.body h.found in
       let least = not_more home env e in
       let level = h.level in
-      let same = x.2 in
-      (x.0, x.1, omega (arith, least, level, same))
+      (entry_at x.0 h.body, x.1, omega (arith, least, level))
 
   declarable : (env : W.Frames) (t : ℕ) → W.HasRecord typed.k env t → IsDeclarable code (length env) t
   declarable env t h =
@@ -202,8 +220,8 @@ module _ (program : Checked) (code : Code) (laid : IsLaidOut program code) (kind
       (
         operations_in h.is,
         operations_there t h.is e,
-        in_scope h.home env h.is.operations.initialize h.encloses (initialize_known program typed t h.is h.home e h.at_home),
-        in_scope h.home env h.is.operations.finalize h.encloses (finalize_known program typed t h.is h.home e h.at_home),
+        in_scope h.home env h.is.operations.initialize h.encloses (initialize_written program typed t h.is h.home e h.at_home),
+        in_scope h.home env h.is.operations.finalize h.encloses (finalize_written program typed t h.is h.home e h.at_home),
       )
 
   -- Instructions -------------------------------------------------------------------------------------
@@ -218,7 +236,7 @@ module _ (program : Checked) (code : Code) (laid : IsLaidOut program code) (kind
   good_body s is h runs a n p texts =
       let frame = map W.OfFormal is.formals ++ h.others in
       let slots = (master_code s.body).slots in
-      let over = subst (λ m. Agrees (is.home ++ frame ∷ []) (Body s.level m ∷ [])) (sym (slots_told code program.records typed.k declarable h.body)) (agrees_body is.home frame s.level h.level) in
+      let over = subst (λ m. Agrees (is.home ++ frame ∷ []) (Body s.level m ∷ [])) (sym (slots_told h.body)) (agrees_body is.home frame s.level h.level) in
       master_good code program.records typed.k declarable h.body runs (Body s.level slots ∷ []) n p over texts tt
 
   good : (f : ℕ) (s : Subprogram) → slice_get program.subprograms f ≡ Some s → GoodBody code program.records s
