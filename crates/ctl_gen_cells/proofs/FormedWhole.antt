@@ -13,7 +13,7 @@ use Rattle.ctl_code_cells.specs.declared.code.Instr.{Instr}
 use Rattle.ctl_code_cells.specs.declared.code.Entry.{Entry}
 use Rattle.ctl_code_cells.specs.declared.code.Operations.{Operations}
 use Rattle.ctl_code_cells.specs.declared.code.Code.{Code}
-use Rattle.ctl_code_cells.specs.Valid.{IsBegun, IsDeclarable, IsEntry, IsFine, IsInScope, IsValid, Leads, MayBeEntry}
+use Rattle.ctl_code_cells.specs.Valid.{IsBegun, IsDeclarable, IsEntry, IsFine, IsInScope, IsValid, Leads, MayBeEntry, TakesObject}
 use Rattle.ctl_gen_cells.specs.Around.{Line, Around, behind}
 use Rattle.ctl_gen_cells.specs.Layout.{bodies, body_code, entries_from, entry_at, HasKinds, in_body, instructions_of, IsLaidOut, kinds_of, master_code, nowhere, operations_in, operations_of, program_code}
 use Rattle.ctl_gen_cells.specs.Run.{AreLinked, IsBody, IsRun, IsWritten, are_procedures}
@@ -205,6 +205,17 @@ module _ (program : Checked) (code : Code) (laid : IsLaidOut program code) (kind
       let x = operations_from program.records t o (sym (ap (λ os. slice_get os t) laid.records) ∙ h) in
       subst (λ (z : Operations). MayBeEntry code z.initialize × MayBeEntry code z.finalize) x.2 (may_be_entry x.0.operations.initialize (linked.initialize t x.0 x.1), may_be_entry x.0.operations.finalize (linked.finalize t x.0 x.1))
 
+  takes_object : (home : W.Frames) (o : Option ℕ) → MayBeOperation program typed home o → TakesObject code o
+  takes_object home None h = tt
+  takes_object home (Some f) h = let x = entry_of f h.body h.found in (entry_at x.0 h.body, x.1, h.slots)
+
+  formals_of : (t : ℕ) (o : Operations) → slice_get code.records.items t ≡ Some o → TakesObject code o.initialize × TakesObject code o.finalize
+  formals_of t o h =
+      let x = operations_from program.records t o (sym (ap (λ os. slice_get os t) laid.records) ∙ h) in
+      let home = home_of program typed t x.0 x.1 in
+      subst (λ (z : Operations). TakesObject code z.initialize × TakesObject code z.finalize) x.2
+      (takes_object home.0 x.0.operations.initialize (initialize_written program typed t x.0 home.0 x.1 home.1), takes_object home.0 x.0.operations.finalize (finalize_written program typed t x.0 home.0 x.1 home.1))
+
   -- an operation that can be called at its type's home is in scope inside it
   in_scope : (home env : W.Frames) (o : Option ℕ) → W.Encloses home env → MayBeOperation program typed home o → IsInScope code (length env) o
   in_scope home env None e h = tt
@@ -261,4 +272,5 @@ module _ (program : Checked) (code : Code) (laid : IsLaidOut program code) (kind
     room = kinds.room;
     entries = λ f e h. formed.begin f e (sym (ap (λ es. slice_get es f) laid.entries) ∙ h);
     records = records_of;
+    formals = formals_of;
   }
