@@ -6,7 +6,7 @@ use Rattle.ctl_code_cells.specs.declared.code.Instr.{Instr}
 use Rattle.ctl_code_cells.specs.declared.code.Instr.TheVariants as InstrOf
 use Rattle.ctl_code_cells.specs.declared.code.Code.{Code}
 use Rattle.ctl_code_cells.specs.Valid.{IsFine, Leads}
-use Rattle.ctl_gen_cells.specs.Around.{Line, Around, behind}
+use Rattle.ctl_gen_cells.specs.Around.{Around, behind}
 use Rattle.ctl_gen_cells.specs.Layout.{ArmCode, StatementCode, arm_with, arms_code, arms_texts, branches, rest_code, turn_code}
 use Rattle.ctl_gen_cells.proofs.Place.{HasAt}
 use Rattle.ctl_gen_cells.proofs.Place as Place

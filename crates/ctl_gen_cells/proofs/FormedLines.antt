@@ -1,6 +1,6 @@
 -- Lines of loops, conditions and arms are well formed where their parts are.
-use Rattle.std.proofs.Common.{◌≡◌, ℕ, ◌+◌, ◌-◌, ◌≤◌, List, [], ◌∷◌, ◌++◌, length, Option, Some, None, refl, sym, subst, arith, append_assoc, length-append}
-use Rattle.ctl_program.specs.declared.types.Ty.TheVariants.{Integer, Boolean}
+use Rattle.std.proofs.Common.{◌≡◌, ℕ, ◌+◌, ◌-◌, ◌≤◌, List, [], ◌∷◌, ◌++◌, length, Some, None, refl, arith}
+use Rattle.ctl_program.specs.declared.types.Ty.TheVariants.{Boolean}
 use Rattle.ctl_program.specs.declared.types.Var.{Var}
 use Rattle.ctl_program.specs.declared.operators.Direction.{Direction}
 use Rattle.ctl_code_cells.specs.declared.kinds.Kind.{Kind}
@@ -10,10 +10,10 @@ use Rattle.ctl_code_cells.specs.declared.code.Instr.TheVariants as InstrOf
 use Rattle.ctl_code_cells.specs.declared.code.Code.{Code}
 use Rattle.ctl_code_cells.specs.Windows.{height, variable_at}
 use Rattle.ctl_code_cells.specs.Valid.{IsFine, Leads}
-use Rattle.ctl_gen_cells.specs.Around.{Line, Around, exit_of}
+use Rattle.ctl_gen_cells.specs.Around.{Line}
 use Rattle.ctl_gen_cells.specs.Values.{Held}
 use Rattle.ctl_gen_cells.specs.Layout.{loop_code, test_held, turns_code, with_bounds}
-use Rattle.ctl_gen_cells.proofs.Formed.{AreFine, both_at, fine_both, FormedAt, Has, has_back, has_front, leads_at}
+use Rattle.ctl_gen_cells.proofs.Formed.{both_at, fine_both, FormedAt, has_back, has_front, leads_at}
 use Rattle.ctl_gen_cells.proofs.FormedValues.{Found}
 
 module _ (code : Code) where
@@ -60,8 +60,7 @@ module _ (code : Code) where
       let landed : q + length turn + 1 ≡ q + (length turn + 1) = omega arith in
       let before : q ≡ q + length turn - length turn = omega arith in
       let count : length turn ≤ q + length turn = omega arith in
-      let again : IsFine code (q + length turn) (InstrOf.Next (height s) v.slot at way (length turn)) top = (count, (s, refl, (refl, there, (leads_at code q (q + length turn - length turn) top before x.0, last.1)))) in
-      (
+      let again : IsFine code (q + length turn) (InstrOf.Next (height s) v.slot at way (length turn)) top = (count, (s, refl, (refl, there, (leads_at code q (q + length turn - length turn) top before x.0, last.1)))) in (
         h.0,
         (
           (s, refl, (refl, there, (leads_at code q (p + 2) top second x.0, leads_at code (q + length turn + 1) (p + 1 + (length turn + 2)) s behind last.1))),

@@ -17,12 +17,12 @@ use Rattle.ctl_well_typed.specs.Expressions as T
 use Rattle.ctl_well_typed.specs.Statements.{Done, DoneEach, Elaborated, ElaboratedEach, Fills, GuardedEach, Mastered}
 use Rattle.ctl_well_typed.specs.Statements as D
 use Rattle.ctl_code_cells.specs.declared.kinds.Kind.{Kind}
-use Rattle.ctl_code_cells.specs.declared.kinds.Kind.TheVariants.{Block, Body}
+use Rattle.ctl_code_cells.specs.declared.kinds.Kind.TheVariants.{Block}
 use Rattle.ctl_code_cells.specs.declared.code.Instr.TheVariants as InstrOf
 use Rattle.ctl_code_cells.specs.declared.code.Code.{Code}
 use Rattle.ctl_code_cells.specs.Windows.{variable_at}
 use Rattle.ctl_code_cells.specs.Valid.{IsAtEnd, IsDeclarable}
-use Rattle.ctl_gen_cells.specs.Around.{Around, FromMaster, behind, exit_of, further, local_at, newest_at}
+use Rattle.ctl_gen_cells.specs.Around.{Around, FromMaster, behind, exit_of, further, local_at}
 use Rattle.ctl_gen_cells.specs.Values.{ValueCode, is_run_type, value_code, variable_of}
 use Rattle.ctl_gen_cells.specs.Layout.{ArmCode, ItemCode, MasterCode, StatementCode, all, all_items, arm_code, arms_run, assign, block, exit, has_no_handlers, in_master, inside, item_code, master_code, missing_statement, no_code, statement_code, tested}
 use Rattle.ctl_gen_cells.proofs.Known.{both_true}
@@ -34,10 +34,10 @@ use Rattle.ctl_gen_cells.proofs.Formed.{both, both_at, Formed, FormedAt, none, o
 use Rattle.ctl_gen_cells.proofs.FormedAround.{Agrees, agrees_inside, exit_fine, exit_further, newest_there}
 use Rattle.ctl_gen_cells.proofs.FormedArms.{GoodArms, branches_stay}
 use Rattle.ctl_gen_cells.proofs.FormedLines.{block_formed}
-use Rattle.ctl_gen_cells.proofs.FormedStatements.{MayDeclare, Stays, Turns, all_stay, assign_formed, declaration_formed, exit_stays, exit_when_stays, for_stays, loop_stays, tested_turns, valued_formed}
+use Rattle.ctl_gen_cells.proofs.FormedStatements.{MayDeclare, Stays, all_stay, assign_formed, declaration_formed, exit_stays, exit_when_stays, for_stays, loop_stays, tested_turns, valued_formed}
 use Rattle.ctl_gen_cells.proofs.FormedTexts.{print_formed}
 use Rattle.ctl_gen_cells.proofs.FormedTypes.{run_scalar}
-use Rattle.ctl_gen_cells.proofs.FormedValues.{Fine, typed_fine, Usable, usable_as, value_usable}
+use Rattle.ctl_gen_cells.proofs.FormedValues.{Fine, typed_fine, usable_as, value_usable}
 
 -- a master has as many slots as it is told to
 pub slots_told : {k : W.Setting} {env : W.Frames} {f : W.Frame} {a : D.Around} {m : Master} → Mastered k env f a m → (master_code m).slots ≡ length f
@@ -144,25 +144,25 @@ module _ (code : Code) (records : List RecordType) (k : W.Setting) (declarable :
     statement_good {env} (D.exit {x = o} inside_a_loop perhaps) = good_as env _ _ (statement_exit o) (exit_good o perhaps)
     statement_good {env} (D.choose {arms = arms} {others = others} each rest) =
         good_as env _ _ (statement_if arms others) (λ runs.
-            let e = both_true (arms_run (map arm_code arms) records) ((all (map statement_code others)).runs records) runs in
-            branches_stay code env (map arm_code arms) (all (map statement_code others)) (arms_good each e.0) (each_good rest e.1))
+        let e = both_true (arms_run (map arm_code arms) records) ((all (map statement_code others)).runs records) runs in
+        branches_stay code env (map arm_code arms) (all (map statement_code others)) (arms_good each e.0) (each_good rest e.1))
     statement_good {env} (D.loop {body = body} h) =
         good_as env _ _ (statement_loop body) (λ runs. loop_stays code env (all (map statement_code body)) (λ a n p agrees texts can next. each_good h runs a n p agrees texts can))
     statement_good {env} (D.while {test = e} {body = body} t h) =
         good_as env _ _ (statement_while e body) (λ runs.
-            let b = all (map statement_code body) in
-            let g = both_true (value_code e).runs (b.runs records) runs in
-            loop_stays code env (tested (value_code e) b) (tested_turns code env (value_code e) b (usable_as code (value_code e) Boolean tt (typed_fine code t g.0)) (each_good h g.1)))
+        let b = all (map statement_code body) in
+        let g = both_true (value_code e).runs (b.runs records) runs in
+        loop_stays code env (tested (value_code e) b) (tested_turns code env (value_code e) b (usable_as code (value_code e) Boolean tt (typed_fine code t g.0)) (each_good h g.1)))
     statement_good {env} (D.for {number = number} {way = way} {low = low} {high = high} {body = body} (D.fills names) from to h) =
         let v : Var = record { level = length env; slot = number } in
         good_as env _ _ (statement_for v way low high body) (λ runs.
-            let b = all (map statement_code body) in
-            let e = both_true (value_code low).runs ((value_code high).runs && b.runs records) runs in
-            let g = both_true (value_code high).runs (b.runs records) e.1 in
-            for_stays code env v way (value_code low) (value_code high) b (λ s agrees. newest_there env s v W.LoopParameter agrees names refl)
-            (usable_as code (value_code low) Integer tt (typed_fine code from e.0))
-            (usable_as code (value_code high) Integer tt (typed_fine code to g.0))
-            (each_good h g.1))
+        let b = all (map statement_code body) in
+        let e = both_true (value_code low).runs ((value_code high).runs && b.runs records) runs in
+        let g = both_true (value_code high).runs (b.runs records) e.1 in
+        for_stays code env v way (value_code low) (value_code high) b (λ s agrees. newest_there env s v W.LoopParameter agrees names refl)
+        (usable_as code (value_code low) Integer tt (typed_fine code from e.0))
+        (usable_as code (value_code high) Integer tt (typed_fine code to g.0))
+        (each_good h g.1))
     statement_good {env} (D.block {m = m} {f = f} h) = good_as env _ _ (statement_block m) (block_good env f (master_code m) (slots_told h) (master_good h))
     statement_good {env} (D.assign_record {x = x} {t = t} {v = v} denotes fits) = not_missing env _ (L.statement_assign_record x t v)
     statement_good {env} (D.call {s = f} {actuals = actuals} callable gives fits) = not_missing env _ (L.statement_call f actuals)
@@ -187,10 +187,10 @@ module _ (code : Code) (records : List RecordType) (k : W.Setting) (declarable :
     arms_good {env} (D.one_more_arm {test = e} {body = body} {more = more} t h rest) =
         subst (λ (z : ArmCode). arms_run (z ∷ map arm_code more) records ≡ true → GoodArms code env (z ∷ map arm_code more)) (sym (arm_roll (record { test = e; body = body })))
         (λ runs.
-            let b = all (map statement_code body) in
-            let f = both_true (value_code e).runs (b.runs records && arms_run (map arm_code more) records) runs in
-            let g = both_true (b.runs records) (arms_run (map arm_code more) records) f.1 in
-            (tested_turns code env (value_code e) b (usable_as code (value_code e) Boolean tt (typed_fine code t f.0)) (each_good h g.0), arms_good rest g.1))
+        let b = all (map statement_code body) in
+        let f = both_true (value_code e).runs (b.runs records && arms_run (map arm_code more) records) runs in
+        let g = both_true (b.runs records) (arms_run (map arm_code more) records) f.1 in
+        (tested_turns code env (value_code e) b (usable_as code (value_code e) Boolean tt (typed_fine code t f.0)) (each_good h g.0), arms_good rest g.1))
 
     pub master_good : {env : W.Frames} {f : W.Frame} {a : D.Around} {m : Master} → Mastered k env f a m → GoodMaster (env ++ f ∷ []) (master_code m).inside
     master_good (D.master {env = env} {f = f} {is = items} {body = body} {hs = hs} elaborated done handled) =

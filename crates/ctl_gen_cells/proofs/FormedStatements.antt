@@ -1,6 +1,5 @@
 -- The code of each construct is well formed where its parts are, and leaves in the window what stood there.
-use Rattle.std.proofs.Common.{◌≡◌, ℕ, ◌+◌, ◌-◌, ◌≤◌, List, [], ◌∷◌, ◌++◌, length, Bool, true, Option, Some, None, refl, sym, subst, arith, append_assoc, length-append}
-use Rattle.std.specs.Prelude.{◌&&◌}
+use Rattle.std.proofs.Common.{◌≡◌, ℕ, ◌+◌, List, [], ◌∷◌, ◌++◌, length, true, Option, Some, None, refl, sym, subst, arith, length-append}
 use Rattle.ctl_program.specs.declared.types.Ty.{Ty}
 use Rattle.ctl_program.specs.declared.types.Ty.TheVariants.{Integer, Count, Boolean, Address, Handle, Access, Record}
 use Rattle.ctl_program.specs.declared.types.Var.{Var}
@@ -8,22 +7,20 @@ use Rattle.ctl_program.specs.declared.types.RecordType.{RecordType}
 use Rattle.ctl_program.specs.declared.operators.Direction.{Direction}
 use Rattle.ctl_well_typed.specs.Setting as W
 use Rattle.ctl_code_cells.specs.declared.kinds.Kind.{Kind}
-use Rattle.ctl_code_cells.specs.declared.kinds.Kind.TheVariants.{Operand, Block}
-use Rattle.ctl_code_cells.specs.declared.code.Instr.{Instr}
+use Rattle.ctl_code_cells.specs.declared.kinds.Kind.TheVariants.{Operand}
 use Rattle.ctl_code_cells.specs.declared.code.Instr.TheVariants as InstrOf
 use Rattle.ctl_code_cells.specs.declared.code.Code.{Code}
 use Rattle.ctl_code_cells.specs.declared.template.TextPart.{TextPart}
-use Rattle.ctl_code_cells.specs.Windows.{depth, height, variable_at}
-use Rattle.ctl_code_cells.specs.Valid.{IsAtEnd, IsCellOf, IsDeclarable, IsFine, Leads}
-use Rattle.ctl_gen_cells.specs.Around.{Line, Around, FromMaster, behind, exit_of, further, local_at, local_cell, new_operand, newest_at, newest_cell, out_to}
-use Rattle.ctl_gen_cells.specs.Values.{ValueCode, held, is_run_type, value_type}
-use Rattle.ctl_gen_cells.specs.Layout.{ArmCode, ItemCode, MasterCode, StatementCode, all, arm_with, arms_code, arms_run, arms_texts, assign_code, block, bounds_code, branches, declaration, for, in_loop, inside, is_declared, leaves_code, loop, object, rest_code, scalar_code, store_code, test_code, test_held, test_length, tested, tested_code, turn_code, turns_code, valued_code, with_bounds}
-use Rattle.ctl_gen_cells.proofs.Known.{both_true}
+use Rattle.ctl_code_cells.specs.Windows.{depth, variable_at}
+use Rattle.ctl_code_cells.specs.Valid.{IsCellOf, IsDeclarable, Leads}
+use Rattle.ctl_gen_cells.specs.Around.{Line, Around, behind, local_at, local_cell, new_operand, newest_at, newest_cell, out_to}
+use Rattle.ctl_gen_cells.specs.Values.{ValueCode, held, value_type}
+use Rattle.ctl_gen_cells.specs.Layout.{StatementCode, all, assign_code, bounds_code, declaration, for, in_loop, is_declared, leaves_code, loop, scalar_code, test_code, test_held, test_length, tested_code, turns_code, valued_code, with_bounds}
 use Rattle.ctl_gen_cells.proofs.Place.{HasAt}
 use Rattle.ctl_gen_cells.proofs.Place as Place
-use Rattle.ctl_gen_cells.proofs.Formed.{AreFine, both, both_at, Formed, FormedAt, Has, has_back, has_end, leads_at, one}
-use Rattle.ctl_gen_cells.proofs.FormedAround.{Agrees, CanExit, agrees_inside, agrees_under, exit_fine, exit_further}
-use Rattle.ctl_gen_cells.proofs.FormedLines.{block_formed, ended_formed, loop_formed, test_formed, turns_formed}
+use Rattle.ctl_gen_cells.proofs.Formed.{both, both_at, Formed, FormedAt, has_end, leads_at, one}
+use Rattle.ctl_gen_cells.proofs.FormedAround.{Agrees, CanExit, agrees_under, exit_fine, exit_further}
+use Rattle.ctl_gen_cells.proofs.FormedLines.{loop_formed, test_formed, turns_formed}
 use Rattle.ctl_gen_cells.proofs.FormedValues.{Usable, found}
 
 module _ (code : Code) where

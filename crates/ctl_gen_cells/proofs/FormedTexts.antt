@@ -13,7 +13,7 @@ use Rattle.ctl_code_cells.specs.declared.kinds.Kind.TheVariants.{Operand}
 use Rattle.ctl_code_cells.specs.declared.code.Code.{Code}
 use Rattle.ctl_code_cells.specs.Windows.{height}
 use Rattle.ctl_code_cells.specs.Valid.{images_of, IsFine, Leads}
-use Rattle.ctl_gen_cells.specs.Around.{Line, new_operand}
+use Rattle.ctl_gen_cells.specs.Around.{new_operand}
 use Rattle.ctl_gen_cells.specs.Values.{value_code}
 use Rattle.ctl_gen_cells.specs.Texts.{parts_of, piece_code, pieces_are_run, pieces_code, print_code, print_of, with_piece, with_pieces}
 use Rattle.ctl_gen_cells.proofs.Known.{both_true}

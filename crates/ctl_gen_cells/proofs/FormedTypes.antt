@@ -1,5 +1,5 @@
 -- What the types of a well-typed expression say of its instructions.
-use Rattle.std.proofs.Common.{◌≡◌, ℕ, Option, Some, None, Bool, true, refl}
+use Rattle.std.proofs.Common.{◌≡◌, ℕ, Option, Bool, true, refl}
 use Rattle.ctl_program.specs.declared.types.Ty.{Ty}
 use Rattle.ctl_program.specs.declared.types.Ty.TheVariants.{Integer, Count, Boolean, Address, Handle, Record}
 use Rattle.ctl_program.specs.declared.types.Ty.TheVariants as TyOf

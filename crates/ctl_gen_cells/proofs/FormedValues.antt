@@ -1,5 +1,5 @@
 -- The code of a well-typed expression is well formed, and puts a value of its type where it is wanted.
-use Rattle.std.proofs.Common.{◌≡◌, ℕ, ◌+◌, List, [], ◌∷◌, ◌++◌, length, map, Option, Some, None, Bool, true, ◌⊎◌, inl, inr, refl, sym, ap, ◌∙◌, subst}
+use Rattle.std.proofs.Common.{◌≡◌, ℕ, ◌+◌, List, [], ◌∷◌, ◌++◌, length, map, Option, Some, None, true, ◌⊎◌, inl, inr, refl, sym, ap, ◌∙◌, subst}
 use Rattle.std.specs.Prelude.{◌&&◌, unwrap_or}
 use Rattle.ctl_program.specs.declared.types.Ty.{Ty}
 use Rattle.ctl_program.specs.declared.types.Ty.TheVariants.{Integer, Boolean}
@@ -27,7 +27,7 @@ use Rattle.ctl_code_cells.specs.Valid as Valid
 use Rattle.ctl_code_cells.specs.Valid.{BinaryOf, IsCellOf, IsFine, Leads, Puts, Taken, UnaryOf}
 use Rattle.ctl_gen_cells.specs.declared.right.Right.{Right}
 use Rattle.ctl_gen_cells.specs.declared.right.Right.TheVariants as RightOf
-use Rattle.ctl_gen_cells.specs.Around.{Line, local_at, local_cell, new_operand}
+use Rattle.ctl_gen_cells.specs.Around.{Line, local_at, new_operand}
 use Rattle.ctl_gen_cells.specs.Values.{Held, OperatorCode, ValueCode, binary_code, chain, common_type, constant, evaluated, first_type, held, held_by, in_cell, last_type, left_held, missing_value, moved_to, next_target, operand_type, operator_by, operator_code, operator_for, operator_of, operators_code, operators_run, other_code, others_code, read, read_from, short, unary, value_code, value_type, values_run, variable_of}
 use Rattle.ctl_gen_cells.proofs.Known.{both_true}
 use Rattle.ctl_gen_cells.proofs.Layers.{value_access, value_call, value_chain, value_constant, value_convert, value_discriminant, value_new, value_read, value_short, value_subpool, value_unary}

@@ -1,6 +1,6 @@
 -- The code of a well-typed program is valid, and the subprograms that such a program names are in its table.
 use Rattle.std.proofs.Common.{◌≡◌, ℕ, zero, suc, ◌+◌, ◌≤◌, List, [], ◌∷◌, ◌++◌, length, map, Option, Some, None, true, refl, sym, ap, ◌∙◌, subst, arith, take}
-use Rattle.std.specs.Prelude.{slice_get, min}
+use Rattle.std.specs.Prelude.{slice_get}
 use Rattle.std.proofs.lemmas.List.{length-take}
 use Rattle.ctl_program.specs.declared.types.RecordType.{RecordType}
 use Rattle.ctl_program.specs.declared.program.Subprogram.{Subprogram}
@@ -227,8 +227,7 @@ module _ (program : Checked) (code : Code) (laid : IsLaidOut program code) (kind
 
   declarable : (env : W.Frames) (t : ℕ) → W.HasRecord typed.k env t → IsDeclarable code (length env) t
   declarable env t h =
-      let e = sym (ap (λ rs. slice_get rs t) typed.fits.records) ∙ h.found in
-      (
+      let e = sym (ap (λ rs. slice_get rs t) typed.fits.records) ∙ h.found in (
         operations_in h.is,
         operations_there t h.is e,
         in_scope h.home env h.is.operations.initialize h.encloses (initialize_written program typed t h.is h.home e h.at_home),
