@@ -11,7 +11,7 @@ use Rattle.ctl_gen_cells.specs.Layout.{ArmCode, StatementCode, arm_with, arms_co
 use Rattle.ctl_gen_cells.proofs.Place.{HasAt}
 use Rattle.ctl_gen_cells.proofs.Place as Place
 use Rattle.ctl_gen_cells.proofs.Formed.{both_at, FormedAt, Has, has_back, has_end, leads_at}
-use Rattle.ctl_gen_cells.proofs.FormedAround.{Agrees, CanExit, exit_further}
+use Rattle.ctl_gen_cells.proofs.FormedAround.{Agrees, CanLeave, leave_behind}
 use Rattle.ctl_gen_cells.proofs.FormedLines.{ended_formed}
 use Rattle.ctl_gen_cells.proofs.FormedStatements.{Stays, Turns}
 
@@ -21,11 +21,11 @@ module _ (code : Code) (env : W.Frames) where
   GoodArms (x ∷ more) = Turns code env x.body.texts (turn_code x) × GoodArms more
 
   -- an arm whose end is fine where it stands
-  arm_formed : (x : ArmCode) (end : Instr) (a : Around) (n p : ℕ) → Turns code env x.body.texts (turn_code x) → Agrees env a.stack → HasAt code.texts.items n x.body.texts → CanExit code p a.exits a.stack → IsFine code (p + length (turn_code x a n)) end a.stack → FormedAt code p (arm_with x end a n) a.stack (Some a.stack)
+  arm_formed : (x : ArmCode) (end : Instr) (a : Around) (n p : ℕ) → Turns code env x.body.texts (turn_code x) → Agrees env a.stack → HasAt code.texts.items n x.body.texts → CanLeave code p a → IsFine code (p + length (turn_code x a n)) end a.stack → FormedAt code p (arm_with x end a n) a.stack (Some a.stack)
   arm_formed x end a n p turns agrees texts can fine = ended_formed code p (turn_code x a n) end a.stack (λ next. turns a n p agrees texts can next) (λ next. fine)
 
   -- further arms, whose ends lead back to the end of the first one
-  further_formed : (arms : List ArmCode) → GoodArms arms → (a : Around) (n back p first : ℕ) → Agrees env a.stack → HasAt code.texts.items n (arms_texts arms) → CanExit code p a.exits a.stack → first + back ≡ p → Leads code first a.stack → FormedAt code p (arms_code back arms a n) a.stack (Some a.stack)
+  further_formed : (arms : List ArmCode) → GoodArms arms → (a : Around) (n back p first : ℕ) → Agrees env a.stack → HasAt code.texts.items n (arms_texts arms) → CanLeave code p a → first + back ≡ p → Leads code first a.stack → FormedAt code p (arms_code back arms a n) a.stack (Some a.stack)
   further_formed [] good a n back p first agrees texts can from lead = λ h. (h, tt)
   further_formed (x ∷ more) good a n back p first agrees texts can from lead =
       let s = a.stack in
@@ -41,7 +41,7 @@ module _ (code : Code) (env : W.Frames) where
       let on : p + (size + 1) ≡ p + length arm = omega (arith, counted) in
       both_at code p arm (arms_code (back + size + 1) more (behind (size + 1) a) n1) s s (Some s)
       (arm_formed x end a n p good.0 agrees (Place.has_front code.texts.items n x.body.texts (arms_texts more) texts) can (within, leads_at code first (p + size - (back + size)) s there lead))
-      (further_formed more good.1 (behind (size + 1) a) n1 (back + size + 1) (p + length arm) first agrees (Place.has_back code.texts.items n x.body.texts (arms_texts more) texts) (exit_further code p (size + 1) (p + length arm) a.exits s on can) next lead)
+      (further_formed more good.1 (behind (size + 1) a) n1 (back + size + 1) (p + length arm) first agrees (Place.has_back code.texts.items n x.body.texts (arms_texts more) texts) (leave_behind code p (size + 1) (p + length arm) a on can) next lead)
 
   pub branches_stay : (arms : List ArmCode) (others : StatementCode) → GoodArms arms → Stays code env others.texts others.code → Stays code env (branches arms others).texts (branches arms others).code
   branches_stay [] others good h a n p agrees texts can has = h a n p agrees texts can has
@@ -69,10 +69,10 @@ module _ (code : Code) (env : W.Frames) where
       let texts1 = Place.has_back code.texts.items n x.body.texts (arms_texts more) texts0 in
       let texts2 = Place.has_back code.texts.items n (arms_texts (x ∷ more)) others.texts texts in
       let printed : n + length (arms_texts (x ∷ more)) ≡ n2 = omega (arith, length-append x.body.texts (arms_texts more)) in
-      let can1 = exit_further code p (size + 1) q a.exits s on can in
+      let can1 = leave_behind code p (size + 1) q a on can in
       both_at code p arm rest s s (Some s)
       (arm_formed x end a n p good.0 agrees (Place.has_front code.texts.items n x.body.texts (arms_texts more) texts0) can skips)
       (both_at code q further (others.code (behind count b) n2) s s (Some s)
       (further_formed more good.1 b n1 1 q first agrees texts1 can1 next lead)
-      (h (behind count b) n2 (q + count) agrees (subst (λ m. HasAt code.texts.items m others.texts) printed texts2) (exit_further code q count (q + count) b.exits s refl can1)))
+      (h (behind count b) n2 (q + count) agrees (subst (λ m. HasAt code.texts.items m others.texts) printed texts2) (leave_behind code q count (q + count) b refl can1)))
       has

@@ -1,5 +1,5 @@
--- What stands in the window agrees with the masters around: as many are there, and each slot of the newest one has its cell. An exit
--- statement leads to where it can.
+-- What stands in the window agrees with the masters around: as many are there, and each slot of the newest one has its cell. And where
+-- a stretch can be left.
 use Rattle.std.proofs.Common.{◌≡◌, ℕ, ◌+◌, ◌-◌, ◌<◌, ◌≤◌, List, [], ◌∷◌, ◌++◌, length, Some, None, Bool, true, false, refl, sym, ◌∙◌, subst, arith, length-append}
 use Rattle.std.specs.Prelude.{nat_lt, if◌then◌else◌, slice_get}
 use Rattle.std.proofs.lemmas.Bool.Decides.{nat_tests}
@@ -12,9 +12,10 @@ use Rattle.ctl_code_cells.specs.declared.kinds.Kind.TheVariants.{Operand, Block,
 use Rattle.ctl_code_cells.specs.declared.code.Code.{Code}
 use Rattle.ctl_code_cells.specs.Windows.{depth, height, slot_over, variable_at}
 use Rattle.ctl_code_cells.specs.Valid.{IsAtEnd, IsFine, Leads}
-use Rattle.ctl_gen_cells.specs.Around.{Exits, FromMaster, FromLoop, exit_of, further, newest_at, out_to}
+use Rattle.ctl_gen_cells.specs.Around.{Exits, FromMaster, FromLoop, Around, behind, exit_of, further, newest_at, out_to}
+use Rattle.ctl_gen_cells.specs.Layout.{leaves_code}
 use Rattle.ctl_gen_cells.proofs.Place.{has_all}
-use Rattle.ctl_gen_cells.proofs.Formed.{leads_at}
+use Rattle.ctl_gen_cells.proofs.Formed.{FormedAt, leads_at}
 
 -- Slots -------------------------------------------------------------------------------------------
 
@@ -80,22 +81,31 @@ newest_there env s v h a names newest =
     let there = a.slots v h names newest in
     (there.0, rw out there.1, there.1)
 
--- Exit statements ---------------------------------------------------------------------------------
+-- Where a stretch can be left ----------------------------------------------------------------------
 
 module _ (code : Code) where
-  -- an exit statement at a place leaves a master, or leads back to a landing, before which this stands
-  abbrev pub CanExit : ℕ → Exits → List Kind → Type 0
-  CanExit p FromMaster s = IsAtEnd s
-  CanExit p (FromLoop back) s = (landing : ℕ) × (landing + back ≡ p) × Leads code landing s
+  abbrev LeavesBy : ℕ → Exits → List Kind → Type 0
+  LeavesBy p FromMaster s = IsAtEnd s
+  LeavesBy p (FromLoop back) s = (landing : ℕ) × (landing + back ≡ p) × Leads code landing s
 
-  pub exit_fine : (p : ℕ) (e : Exits) (s : List Kind) → CanExit p e s → IsFine code p (exit_of e) s
-  exit_fine p FromMaster s h = h
-  exit_fine p (FromLoop back) s (landing, from, lead) =
+  -- an exit statement at a place leaves the newest master, or leads back to a landing, before which the same stands
+  abbrev pub CanLeave : ℕ → Around → Type 0
+  CanLeave p a = LeavesBy p a.exits a.stack
+
+  left_fine : (p : ℕ) (e : Exits) (s : List Kind) → LeavesBy p e s → IsFine code p (exit_of e) s
+  left_fine p FromMaster s h = h
+  left_fine p (FromLoop back) s (landing, from, lead) =
       let count : back ≤ p = omega (arith, from) in
       let there : landing ≡ p - back = omega (arith, from) in
       (count, leads_at code landing (p - back) s there lead)
 
+  pub leaves_formed : (p : ℕ) (a : Around) → CanLeave p a → FormedAt code p (leaves_code a) a.stack (Some a.stack)
+  leaves_formed p a can h = (h.0, (left_fine p a.exits a.stack can, tt))
+
+  left_further : (p n q : ℕ) (e : Exits) (s : List Kind) → p + n ≡ q → LeavesBy p e s → LeavesBy q (further n e) s
+  left_further p n q FromMaster s same h = h
+  left_further p n q (FromLoop back) s same (landing, from, lead) = (landing, omega (arith, from, same), lead)
+
   -- so many instructions further on
-  pub exit_further : (p n q : ℕ) (e : Exits) (s : List Kind) → p + n ≡ q → CanExit p e s → CanExit q (further n e) s
-  exit_further p n q FromMaster s same h = h
-  exit_further p n q (FromLoop back) s same (landing, from, lead) = (landing, omega (arith, from, same), lead)
+  pub leave_behind : (p n q : ℕ) (a : Around) → p + n ≡ q → CanLeave p a → CanLeave q (behind n a)
+  leave_behind p n q a same h = left_further p n q a.exits a.stack same h

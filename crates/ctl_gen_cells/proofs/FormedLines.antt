@@ -10,9 +10,9 @@ use Rattle.ctl_code_cells.specs.declared.code.Instr.TheVariants as InstrOf
 use Rattle.ctl_code_cells.specs.declared.code.Code.{Code}
 use Rattle.ctl_code_cells.specs.Windows.{height, variable_at}
 use Rattle.ctl_code_cells.specs.Valid.{IsFine, Leads}
-use Rattle.ctl_gen_cells.specs.Around.{Line}
+use Rattle.ctl_gen_cells.specs.Around.{Line, Around}
 use Rattle.ctl_gen_cells.specs.Values.{Held}
-use Rattle.ctl_gen_cells.specs.Layout.{loop_code, test_held, turns_code, with_bounds}
+use Rattle.ctl_gen_cells.specs.Layout.{leaves_code, loop_code, test_held, turns_code, with_bounds}
 use Rattle.ctl_gen_cells.proofs.Formed.{both_at, fine_both, FormedAt, has_back, has_front, leads_at}
 use Rattle.ctl_gen_cells.proofs.FormedValues.{Found}
 
@@ -73,10 +73,9 @@ module _ (code : Code) where
 
   -- Blocks -----------------------------------------------------------------------------------------
 
-  -- a master's lines, between its entry and what an exit statement leads to behind it
-  pub block_formed : (p slots : ℕ) (s : List Kind) (inner : List Line) (exit : Instr) → FormedAt code (p + 1) inner (Block slots ∷ s) None → IsFine code (p + 1 + length inner) exit s → FormedAt code p ((InstrOf.Enter slots (length inner), s) ∷ inner ++ (exit, s) ∷ []) s (Some s)
-  block_formed p slots s inner exit f fine h =
-      let end : List Line = (exit, s) ∷ [] in
-      let last = has_back code (p + 1) inner end (Some s) h.1 in
-      let x = f (has_front code (p + 1) inner end (Some s) None h.1 tt) in
-      (h.0, ((x.0, last.0, last.1), fine_both code (p + 1) inner end x.1 (fine, tt)))
+  -- a master's lines, between its entry and what stands behind it for who leaves it
+  pub block_formed : (p slots : ℕ) (inner : List Line) (a : Around) → FormedAt code (p + 1) inner (Block slots ∷ a.stack) None → FormedAt code (p + 1 + length inner) (leaves_code a) a.stack (Some a.stack) → FormedAt code p ((InstrOf.Enter slots (length inner), a.stack) ∷ inner ++ leaves_code a) a.stack (Some a.stack)
+  block_formed p slots inner a f g h =
+      let last = has_back code (p + 1) inner (leaves_code a) (Some a.stack) h.1 in
+      let x = f (has_front code (p + 1) inner (leaves_code a) (Some a.stack) None h.1 tt) in
+      (h.0, ((x.0, last.0, last.1), fine_both code (p + 1) inner (leaves_code a) x.1 (g last).1))

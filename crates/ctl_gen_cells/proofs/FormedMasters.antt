@@ -22,7 +22,7 @@ use Rattle.ctl_code_cells.specs.declared.code.Instr.TheVariants as InstrOf
 use Rattle.ctl_code_cells.specs.declared.code.Code.{Code}
 use Rattle.ctl_code_cells.specs.Windows.{variable_at}
 use Rattle.ctl_code_cells.specs.Valid.{IsAtEnd, IsDeclarable}
-use Rattle.ctl_gen_cells.specs.Around.{Around, FromMaster, behind, exit_of, further, local_at}
+use Rattle.ctl_gen_cells.specs.Around.{behind, local_at}
 use Rattle.ctl_gen_cells.specs.Values.{ValueCode, is_run_type, value_code, variable_of}
 use Rattle.ctl_gen_cells.specs.Layout.{ArmCode, ItemCode, MasterCode, StatementCode, all, all_items, arm_code, arms_run, assign, block, exit, has_no_handlers, in_master, inside, item_code, master_code, missing_statement, no_code, statement_code, tested}
 use Rattle.ctl_gen_cells.proofs.Known.{both_true}
@@ -31,10 +31,10 @@ use Rattle.ctl_gen_cells.proofs.StatementLayers as L
 use Rattle.ctl_gen_cells.proofs.TreeLayers.{arm_roll, master_roll}
 use Rattle.ctl_gen_cells.proofs.Place.{HasAt}
 use Rattle.ctl_gen_cells.proofs.Formed.{both, both_at, Formed, FormedAt, none, one}
-use Rattle.ctl_gen_cells.proofs.FormedAround.{Agrees, agrees_inside, exit_fine, exit_further, newest_there}
+use Rattle.ctl_gen_cells.proofs.FormedAround.{Agrees, agrees_inside, leave_behind, leaves_formed, newest_there}
 use Rattle.ctl_gen_cells.proofs.FormedArms.{GoodArms, branches_stay}
 use Rattle.ctl_gen_cells.proofs.FormedLines.{block_formed}
-use Rattle.ctl_gen_cells.proofs.FormedStatements.{MayDeclare, Stays, all_stay, assign_formed, declaration_formed, exit_stays, exit_when_stays, for_stays, loop_stays, tested_turns, valued_formed}
+use Rattle.ctl_gen_cells.proofs.FormedStatements.{MayDeclare, Stays, all_stay, assign_formed, declaration_formed, for_stays, leaves_stay, leaves_when_stay, loop_stays, tested_turns, valued_formed}
 use Rattle.ctl_gen_cells.proofs.FormedTexts.{print_formed}
 use Rattle.ctl_gen_cells.proofs.FormedTypes.{run_scalar}
 use Rattle.ctl_gen_cells.proofs.FormedValues.{Fine, typed_fine, usable_as, value_usable}
@@ -100,20 +100,21 @@ module _ (code : Code) (records : List RecordType) (k : W.Setting) (declarable :
   assign_good env None x t fine runs a n p agrees texts can = absurd (cc)
   assign_good env (Some v) x t fine runs a n p agrees texts can = assign_formed code (local_at a.stack v) v x a.stack refl (value_usable code x t (fine runs)) p
 
-  exit_good : {env : W.Frames} (o : Option Expr) → Perhaps k env o Boolean → GoodStatement env (exit (option_map value_code o))
-  exit_good {env} None T.left_out runs = exit_stays code env
-  exit_good {env} (Some e) (T.given h) runs = exit_when_stays code env (value_code e) (usable_as code (value_code e) Boolean tt (typed_fine code h runs))
+  leaving_good : {env : W.Frames} (o : Option Expr) → Perhaps k env o Boolean → GoodStatement env (exit (option_map value_code o))
+  leaving_good {env} None T.left_out runs = leaves_stay code env
+  leaving_good {env} (Some e) (T.given h) runs = leaves_when_stay code env (value_code e) (usable_as code (value_code e) Boolean tt (typed_fine code h runs))
 
   -- Masters ------------------------------------------------------------------------------------------
 
   abbrev pub GoodMaster : W.Frames → StatementCode → Type 0
-  GoodMaster env x = x.runs records ≡ true → (s : List Kind) (n p : ℕ) → Agrees env s → HasAt code.texts.items n x.texts → IsAtEnd s → FormedAt code p (x.code (record { stack = s; exits = FromMaster }) n) s None
+  GoodMaster env x = x.runs records ≡ true → (m : Kind) (below : List Kind) (n p : ℕ) → Agrees env (m ∷ below) → HasAt code.texts.items n x.texts → IsAtEnd (m ∷ below) → FormedAt code p (x.code (in_master m below) n) (m ∷ below) None
 
   inside_good : (env : W.Frames) (x : ItemCode) (body : StatementCode) (unhandled : Bool) → GoodItem env x → GoodStatement env body → GoodMaster env (inside x body unhandled)
-  inside_good env x body unhandled items h runs s n p agrees texts top =
+  inside_good env x body unhandled items h runs m below n p agrees texts top =
       let e = both_true (x.runs records) (body.runs records && unhandled) runs in
       let f = both_true (body.runs records) unhandled e.1 in
-      let a : Around = record { stack = s; exits = FromMaster } in
+      let s = m ∷ below in
+      let a = in_master m below in
       let first = x.code s in
       let size = length first in
       let second = body.code (behind size a) n in
@@ -128,9 +129,9 @@ module _ (code : Code) (records : List RecordType) (k : W.Setting) (declarable :
       let size = length inner in
       let over = subst (λ slots. Agrees (env ++ f ∷ []) (Block slots ∷ s)) (sym same) (agrees_inside env f s agrees) in
       let there : p + (size + 1) ≡ p + 1 + size = omega arith in
-      block_formed code p m.slots s inner (exit_of (further (size + 1) a.exits))
-      (h runs (Block m.slots ∷ s) n (p + 1) over texts tt)
-      (exit_fine code (p + 1 + size) (further (size + 1) a.exits) s (exit_further code p (size + 1) (p + 1 + size) a.exits s there can))
+      block_formed code p m.slots inner (behind (size + 1) a)
+      (h runs (Block m.slots) s n (p + 1) over texts tt)
+      (leaves_formed code (p + 1 + size) (behind (size + 1) a) (leave_behind code p (size + 1) (p + 1 + size) a there can))
 
   -- Well-typed statements ----------------------------------------------------------------------------
 
@@ -141,7 +142,7 @@ module _ (code : Code) (records : List RecordType) (k : W.Setting) (declarable :
     statement_good {env} (D.put {ps = ps} puts) = good_as env _ _ (statement_put ps) (λ runs a n p agrees texts can. print_formed code false n ps puts runs texts.0 a.stack p)
     statement_good {env} (D.put_line {ps = ps} puts) = good_as env _ _ (statement_put_line ps) (λ runs a n p agrees texts can. print_formed code true n ps puts runs texts.0 a.stack p)
     statement_good {env} D.new_line = good_as env _ _ statement_new_line (λ runs a n p agrees texts can. one code InstrOf.NewLine a.stack (Some a.stack) (λ q next. next) p)
-    statement_good {env} (D.exit {x = o} inside_a_loop perhaps) = good_as env _ _ (statement_exit o) (exit_good o perhaps)
+    statement_good {env} (D.exit {x = o} inside_a_loop perhaps) = good_as env _ _ (statement_exit o) (leaving_good o perhaps)
     statement_good {env} (D.choose {arms = arms} {others = others} each rest) =
         good_as env _ _ (statement_if arms others) (λ runs.
         let e = both_true (arms_run (map arm_code arms) records) ((all (map statement_code others)).runs records) runs in

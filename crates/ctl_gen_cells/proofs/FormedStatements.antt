@@ -19,7 +19,7 @@ use Rattle.ctl_gen_cells.specs.Layout.{StatementCode, all, assign_code, bounds_c
 use Rattle.ctl_gen_cells.proofs.Place.{HasAt}
 use Rattle.ctl_gen_cells.proofs.Place as Place
 use Rattle.ctl_gen_cells.proofs.Formed.{both, both_at, Formed, FormedAt, has_end, leads_at, one}
-use Rattle.ctl_gen_cells.proofs.FormedAround.{Agrees, CanExit, agrees_under, exit_fine, exit_further}
+use Rattle.ctl_gen_cells.proofs.FormedAround.{Agrees, CanLeave, agrees_under, leave_behind, leaves_formed}
 use Rattle.ctl_gen_cells.proofs.FormedLines.{loop_formed, test_formed, turns_formed}
 use Rattle.ctl_gen_cells.proofs.FormedValues.{Usable, found}
 
@@ -60,11 +60,11 @@ module _ (code : Code) where
 
   -- lines of statements inside these masters, with the texts that they print
   abbrev pub Stays : W.Frames → List (List TextPart) → (Around → ℕ → List Line) → Type 0
-  Stays env texts lines = (a : Around) (n p : ℕ) → Agrees env a.stack → HasAt code.texts.items n texts → CanExit code p a.exits a.stack → FormedAt code p (lines a n) a.stack (Some a.stack)
+  Stays env texts lines = (a : Around) (n p : ℕ) → Agrees env a.stack → HasAt code.texts.items n texts → CanLeave code p a → FormedAt code p (lines a n) a.stack (Some a.stack)
 
   -- the same of lines that may lead to the second place behind them
   abbrev pub Turns : W.Frames → List (List TextPart) → (Around → ℕ → List Line) → Type 0
-  Turns env texts lines = (a : Around) (n p : ℕ) → Agrees env a.stack → HasAt code.texts.items n texts → CanExit code p a.exits a.stack → Leads code (p + length (lines a n) + 1) a.stack → FormedAt code p (lines a n) a.stack (Some a.stack)
+  Turns env texts lines = (a : Around) (n p : ℕ) → Agrees env a.stack → HasAt code.texts.items n texts → CanLeave code p a → Leads code (p + length (lines a n) + 1) a.stack → FormedAt code p (lines a n) a.stack (Some a.stack)
 
   pub all_stay : (env : W.Frames) (x : StatementCode) (xs : List StatementCode) → Stays env x.texts x.code → Stays env (all xs).texts (all xs).code → Stays env (all (x ∷ xs)).texts (all (x ∷ xs)).code
   all_stay env x xs h rest a n p agrees texts can =
@@ -72,7 +72,7 @@ module _ (code : Code) where
       let n1 = n + length x.texts in
       both_at code p (x.code a n) ((all xs).code (behind size a) n1) a.stack a.stack (Some a.stack)
       (h a n p agrees (Place.has_front code.texts.items n x.texts (all xs).texts texts) can)
-      (rest (behind size a) n1 (p + size) agrees (Place.has_back code.texts.items n x.texts (all xs).texts texts) (exit_further code p size (p + size) a.exits a.stack refl can))
+      (rest (behind size a) n1 (p + size) agrees (Place.has_back code.texts.items n x.texts (all xs).texts texts) (leave_behind code p size (p + size) a refl can))
 
   pub assign_formed : (o : Option ℕ) (v : Var) (x : ValueCode) (s : List Kind) → local_at s v ≡ o → Usable code x (value_type x) → Formed code (assign_code o v x s) s (Some s)
   assign_formed (Some at) v x s here usable = usable.formed (local_cell s v at) s here
@@ -85,25 +85,22 @@ module _ (code : Code) where
 
   -- Conditions -------------------------------------------------------------------------------------
 
-  leaves_formed : (a : Around) (p : ℕ) → CanExit code p a.exits a.stack → FormedAt code p (leaves_code a) a.stack (Some a.stack)
-  leaves_formed a p can h = (h.0, (exit_fine code p a.exits a.stack can, tt))
+  pub leaves_stay : (env : W.Frames) → Stays env [] (λ a n. leaves_code a)
+  leaves_stay env a n p agrees texts can = leaves_formed code p a can
 
-  pub exit_stays : (env : W.Frames) → Stays env [] (λ a n. leaves_code a)
-  exit_stays env a n p agrees texts can = leaves_formed a p can
-
-  pub exit_when_stays : (env : W.Frames) (x : ValueCode) → Usable code x Boolean → Stays env [] (λ a n. test_code x a.stack 1 ++ leaves_code (behind (test_length x a.stack) a))
-  exit_when_stays env x usable a n p agrees texts can has =
+  pub leaves_when_stay : (env : W.Frames) (x : ValueCode) → Usable code x Boolean → Stays env [] (λ a n. test_code x a.stack 1 ++ leaves_code (behind (test_length x a.stack) a))
+  leaves_when_stay env x usable a n p agrees texts can has =
       let s = a.stack in
       let h = held x Boolean s in
       let test = test_held h 1 in
-      let exit = leaves_code (behind (test_length x s) a) in
+      let end = leaves_code (behind (test_length x s) a) in
       let size : length test ≡ length h.code + 1 = length-append h.code ((InstrOf.Unless h.cell 1, h.after) ∷ []) in
-      let last : p + length (test ++ exit) ≡ p + length h.code + 1 + 1 = omega (arith, size, length-append test exit) in
-      let skip = leads_at code (p + length (test ++ exit)) (p + length h.code + 1 + 1) s last (has_end code p (test ++ exit) (Some s) has) in
+      let last : p + length (test ++ end) ≡ p + length h.code + 1 + 1 = omega (arith, size, length-append test end) in
+      let skip = leads_at code (p + length (test ++ end)) (p + length h.code + 1 + 1) s last (has_end code p (test ++ end) (Some s) has) in
       let there : p + test_length x s ≡ p + length test = omega (arith, size) in
-      both_at code p test exit s s (Some s)
+      both_at code p test end s s (Some s)
       (test_formed code p h 1 s (found code x Boolean s usable) skip)
-      (leaves_formed (behind (test_length x s) a) (p + length test) (exit_further code p (test_length x s) (p + length test) a.exits s there can))
+      (leaves_formed code (p + length test) (behind (test_length x s) a) (leave_behind code p (test_length x s) (p + length test) a there can))
       has
 
   -- statements that are passed over where a condition does not hold
@@ -119,7 +116,7 @@ module _ (code : Code) where
       let last : p + length (test ++ b) + 1 ≡ p + length h.code + 1 + (length b + 1) = omega (arith, counted, length-append test b) in
       both_at code p test b s s (Some s)
       (test_formed code p h (length b + 1) s (found code x Boolean s usable) (leads_at code (p + length (test ++ b) + 1) (p + length h.code + 1 + (length b + 1)) s last skip))
-      (g (behind size a) n (p + length test) agrees texts (exit_further code p size (p + length test) a.exits s there can))
+      (g (behind size a) n (p + length test) agrees texts (leave_behind code p size (p + length test) a there can))
 
   -- Loops ------------------------------------------------------------------------------------------
 

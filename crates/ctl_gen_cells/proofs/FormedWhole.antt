@@ -247,7 +247,7 @@ module _ (program : Checked) (code : Code) (laid : IsLaidOut program code) (kind
       let frame = map W.OfFormal is.formals ++ h.others in
       let slots = (master_code s.body).slots in
       let over = subst (λ m. Agrees (is.home ++ frame ∷ []) (Body s.level m ∷ [])) (sym (slots_told h.body)) (agrees_body is.home frame s.level h.level) in
-      master_good code program.records typed.k declarable h.body runs (Body s.level slots ∷ []) n p over texts tt
+      master_good code program.records typed.k declarable h.body runs (Body s.level slots) [] n p over texts tt
 
   good : (f : ℕ) (s : Subprogram) → slice_get program.subprograms f ≡ Some s → GoodBody code program.records s
   good f s e =
