@@ -1,14 +1,17 @@
 //! Whether an instruction is well formed: it finds in the window what it takes, where it says, and leads to places before which there
 //! stands what it leaves.
 
-ghost use Rattle.std.specs.Prelude.{◌≡◌, ◌↔◌, ◌+◌, ◌-◌, ◌<◌, ◌≤◌, ◌^◌, ◌∷◌, [], drop, length, reverse, slice_get, IsTrue, List, MatchOption, Some};
+ghost use Rattle.std.specs.Prelude.{◌≡◌, ◌↔◌, ℕ, ◌+◌, ◌-◌, ◌<◌, ◌≤◌, ◌^◌, ◌∷◌, [], drop, length, reverse, slice_get, IsTrue, List, MatchOption, Some};
 ghost use Rattle.ctl_program.specs.declared.types.Ty.TheVariants.{Boolean, Integer};
 ghost use Rattle.ctl_code_cells.specs.declared.kinds.Kind.{Kind};
 ghost use Rattle.ctl_code_cells.specs.declared.kinds.Kind.TheVariants.{Block, Operand};
+ghost use Rattle.ctl_program.specs.declared.operators.Direction.{Direction};
+ghost use Rattle.ctl_code_cells.specs.declared.code.Cell.{Cell};
+ghost use Rattle.ctl_code_cells.specs.declared.code.Operator.{Operator};
 ghost use Rattle.ctl_code_cells.specs.declared.code.Instr.TheVariants as I;
 ghost use Rattle.ctl_code_cells.specs.Kinds.{changed, stack_at};
 ghost use Rattle.ctl_code_cells.specs.Valid.{Bounded, IsAtEnd, IsDeclarable, IsEntry, IsFine, IsInScope, IsText, Leads, Puts, Taken, Takes, Under};
-ghost use Rattle.ctl_code_cells.specs.Windows.{height, variable_at};
+ghost use Rattle.ctl_code_cells.specs.Windows.{depth, height, variable_at};
 
 use crate::code::{Cell, Code, Instr, Named, Operator};
 use crate::images::count_images;
@@ -392,31 +395,22 @@ fn is_bare(code: &Code, place: usize) -> bool
     matches!(code.kinds.kind_at(place, 0), None)
 }
 
-/// Tells whether the instruction is well formed where it stands.
-pub fn is_fine(code: &Code, place: usize, instr: &Instr) -> bool
+/// Checks the declaration of an object (RM 3.3.1).
+fn is_declare_fine(code: &Code, place: usize, number: usize) -> bool
     requires { place + 1 < 2 ^ 64 }
-    ensures { IsTrue result ↔ IsFine code.now place instr.now (stack_at code.now.kinds place) }
+    ensures { let stack = stack_at code.now.kinds place in
+        IsTrue result ↔ (IsDeclarable code.now (depth stack) number × Leads code.now (place + 1) stack) }
+{
+    is_declarable(code, code.kinds.depth_at(place), number) && leads_on(code, place, 0, None)
+}
+
+/// Checks an operator with two operands (RM 4.5).
+fn is_binary_fine(code: &Code, place: usize, instr: &Instr) -> bool
+    requires { place + 1 < 2 ^ 64 }
+    ensures both { (op : Operator) (left right to : Cell) → instr.now ≡ I.Binary op left right to → IsTrue result ↔ IsFine code.now place instr.now (stack_at code.now.kinds place) }
+    ensures constant { (op : Operator) (left : Cell) (right : ℕ) (to : Cell) → instr.now ≡ I.BinaryConstant op left right to → IsTrue result ↔ IsFine code.now place instr.now (stack_at code.now.kinds place) }
 {
     match *instr {
-        Instr::Start(entry) => is_bare(code, place) && is_entry(code, entry),
-        Instr::Enter { slots, length } => is_enter_fine(code, place, slots, length),
-        Instr::Leave | Instr::Exit => is_at_end(code, place),
-        Instr::Declare { slot: _, record } => {
-            is_declarable(code, code.kinds.depth_at(place), record)
-                && leads_on(code, place, 0, None)
-        }
-        Instr::Number | Instr::NewLine => leads_on(code, place, 0, None),
-        Instr::Set { value, ty, to } => is_cell_of(ty, value) && puts(code, place, 0, to, ty),
-        Instr::Move { from, ty, to } => is_scalar(ty) && passes(code, place, 0, from, ty, to, ty),
-        Instr::Fetch {
-            out: _,
-            slot: _,
-            ty,
-            to,
-        } => is_scalar(ty) && puts(code, place, 0, to, ty),
-        Instr::Store { from, ty, .. } => is_scalar(ty) && drops(code, place, from, ty),
-        Instr::Unary { op, ty, from, to } => is_unary_of(op, ty)
-            && passes(code, place, 0, from, ty, to, ty),
         Instr::Binary {
             op,
             left,
@@ -432,15 +426,17 @@ pub fn is_fine(code: &Code, place: usize, instr: &Instr) -> bool
             right,
             to,
         } => is_constant_fine(code, place, op, left, right, to),
-        Instr::Decide {
-            form: _,
-            at,
-            length,
-        } => leads_ahead(code, place, 0, length) && is_undecided(code, place, at),
-        Instr::Skip(length) => leads_ahead(code, place, 0, length),
-        Instr::Back(length) => leads_back(code, place, length),
-        Instr::Abandon(length) => is_abandon_fine(code, place, length),
-        Instr::Unless { from, length } => is_unless_fine(code, place, from, length),
+        _ => false,
+    }
+}
+
+/// Checks a loop with a parameter, or its next turn (RM 5.5).
+fn is_loop_fine(code: &Code, place: usize, instr: &Instr) -> bool
+    requires { place + 1 < 2 ^ 64 }
+    ensures first { (low slot parameter : ℕ) (way : Direction) (length : ℕ) → instr.now ≡ I.For low slot parameter way length → IsTrue result ↔ IsFine code.now place instr.now (stack_at code.now.kinds place) }
+    ensures next { (low slot parameter : ℕ) (way : Direction) (length : ℕ) → instr.now ≡ I.Next low slot parameter way length → IsTrue result ↔ IsFine code.now place instr.now (stack_at code.now.kinds place) }
+{
+    match *instr {
         Instr::For {
             low,
             slot,
@@ -455,6 +451,35 @@ pub fn is_fine(code: &Code, place: usize, instr: &Instr) -> bool
             way: _,
             length,
         } => is_next_fine(code, place, low, slot, parameter, length),
+        _ => false,
+    }
+}
+
+/// Tells whether the instruction is well formed where it stands.
+pub fn is_fine(code: &Code, place: usize, instr: &Instr) -> bool
+    requires { place + 1 < 2 ^ 64 }
+    ensures { IsTrue result ↔ IsFine code.now place instr.now (stack_at code.now.kinds place) }
+{
+    match *instr {
+        Instr::Start(entry) => is_bare(code, place) && is_entry(code, entry),
+        Instr::Enter { slots, length } => is_enter_fine(code, place, slots, length),
+        Instr::Leave | Instr::Exit => is_at_end(code, place),
+        Instr::Declare { slot: _, record } => is_declare_fine(code, place, record),
+        Instr::Number | Instr::NewLine => leads_on(code, place, 0, None),
+        Instr::Set { value, ty, to } => is_cell_of(ty, value) && puts(code, place, 0, to, ty),
+        Instr::Move { from, ty, to } => is_scalar(ty) && passes(code, place, 0, from, ty, to, ty),
+        Instr::Fetch { ty, to, .. } => is_scalar(ty) && puts(code, place, 0, to, ty),
+        Instr::Store { from, ty, .. } => is_scalar(ty) && drops(code, place, from, ty),
+        Instr::Unary { op, ty, from, to } => is_unary_of(op, ty)
+            && passes(code, place, 0, from, ty, to, ty),
+        Instr::Binary { .. } | Instr::BinaryConstant { .. } => is_binary_fine(code, place, instr),
+        Instr::Decide { at, length, .. } => leads_ahead(code, place, 0, length)
+            && is_undecided(code, place, at),
+        Instr::Skip(length) => leads_ahead(code, place, 0, length),
+        Instr::Back(length) => leads_back(code, place, length),
+        Instr::Abandon(length) => is_abandon_fine(code, place, length),
+        Instr::Unless { from, length } => is_unless_fine(code, place, from, length),
+        Instr::For { .. } | Instr::Next { .. } => is_loop_fine(code, place, instr),
         Instr::Put { text, first } | Instr::PutLine { text, first } => is_text_fine(
             code, place, text, first,
         ),

@@ -7,7 +7,7 @@ ghost use Rattle.ctl_code_cells.specs.declared.code.Entry.{Entry};
 ghost use Rattle.ctl_code_cells.specs.declared.code.Instr.{Instr};
 ghost use Rattle.ctl_code_cells.specs.declared.code.Operations.{Operations};
 ghost use Rattle.ctl_code_cells.specs.Kinds.{stack_at};
-ghost use Rattle.ctl_code_cells.specs.Valid.{IsBegun, IsFine, IsStarted, IsValid, MayBeEntry};
+ghost use Rattle.ctl_code_cells.specs.Valid.{IsBegun, IsFine, IsStarted, IsValid, MayBeEntry, TakesObject};
 
 use crate::code::{Code, Instr};
 use crate::fine::{is_entry, is_fine};
@@ -63,6 +63,31 @@ fn are_records_fine(code: &Code) -> bool
     true
 }
 
+/// Tells whether there is no operation, or one whose body has a slot for the object that it is called for.
+fn takes_object(code: &Code, number: Option<usize>) -> bool
+    ensures { IsTrue result ↔ TakesObject code.now number }
+{
+    let Some(number) = number else {
+        return true;
+    };
+    match code.entries.get(number) {
+        Some(entry) => entry.slots >= 1,
+        None => false,
+    }
+}
+
+/// Tells whether each operation of a record type has a slot for its object (RM 7.6).
+fn are_formals_fine(code: &Code) -> bool
+    ensures { IsTrue result ↔ ((t : ℕ) (o : Operations) → slice_get code.now.records.items t ≡ Some o → TakesObject code.now o.initialize × TakesObject code.now o.finalize) }
+{
+    for operations in &code.records {
+        if !takes_object(code, operations.initialize) || !takes_object(code, operations.finalize) {
+            return false;
+        }
+    }
+    true
+}
+
 /// Tells whether the first instruction executes the main procedure, and nothing stands before it.
 fn is_started(code: &Code) -> bool
     ensures { IsTrue result ↔ IsStarted code.now }
@@ -85,6 +110,9 @@ pub fn is_valid(code: &Code) -> bool
     ensures { IsTrue result ↔ IsValid code.now }
 {
     if !is_started(code) || !are_stacks_fine(code) || !are_instructions_fine(code) {
+        return false;
+    }
+    if !are_formals_fine(code) {
         return false;
     }
     are_entries_fine(code) && are_records_fine(code)

@@ -1,4 +1,4 @@
-use Rattle.std.proofs.Common.{◌+◌, ◌-◌, refl}
+use Rattle.std.proofs.Common.{◌+◌, refl}
 use Rattle.ctl_code_cells.specs.Kinds.{stack_at}
 use Rattle.ctl_code_cells.specs.Valid.{Leads}
 use Rattle.ctl_code_cells.proofs.Shapes.{bounded, not_bounded}

@@ -1,7 +1,7 @@
 use Rattle.std.proofs.Common.{◌+◌, drop}
 use Rattle.ctl_program.specs.declared.types.Ty.TheVariants.{Boolean}
 use Rattle.ctl_code_cells.specs.Kinds.{stack_at}
-use Rattle.ctl_code_cells.specs.Valid.{Leads, Puts, Takes}
+use Rattle.ctl_code_cells.specs.Valid.{Leads}
 use Rattle.ctl_code_cells.proofs.Shapes.{takes, takes_not}
 use Rattle.ctl_code_cells.proofs.fine.is_unless_fine.Goals as goal
 

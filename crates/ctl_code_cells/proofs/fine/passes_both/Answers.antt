@@ -1,7 +1,6 @@
-use Rattle.std.proofs.Common.{◌+◌, drop}
-use Rattle.ctl_program.specs.declared.types.Ty.TheVariants.{Boolean}
+use Rattle.std.proofs.Common.{drop}
 use Rattle.ctl_code_cells.specs.Kinds.{stack_at}
-use Rattle.ctl_code_cells.specs.Valid.{Leads, Puts, Takes}
+use Rattle.ctl_code_cells.specs.Valid.{Puts, Takes}
 use Rattle.ctl_code_cells.proofs.Shapes.{takes, takes_not}
 use Rattle.ctl_code_cells.proofs.fine.passes_both.Goals as goal
 

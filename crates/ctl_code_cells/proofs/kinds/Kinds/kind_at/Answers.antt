@@ -1,4 +1,4 @@
-use Rattle.std.proofs.Common.{◌≡◌, [], ◌∷◌, drop, sym, ◌∙◌}
+use Rattle.std.proofs.Common.{◌≡◌, drop, sym, ◌∙◌}
 use Rattle.ctl_code_cells.specs.Kinds.{stack_at, stack_in}
 use Rattle.ctl_code_cells.proofs.Lists.{get_by_drop, none_by_drop}
 use Rattle.ctl_code_cells.proofs.kinds.Kinds.kind_at.Goals as goal
