@@ -16,6 +16,11 @@ pub mod Does
 pub mod Loops
 pub mod Assign
 pub mod Branches
+pub mod Finalize
+pub mod Leave
+pub mod Declare
+pub mod Texts
+pub mod Statements
 pub mod Formed
 pub mod FormedTypes
 pub mod FormedAround

@@ -201,7 +201,7 @@ module _ (ask : Ask) (k : Tables) (code : Code) (bound : ℕ) where
   -- Exit statements ---------------------------------------------------------------------------------
 
   -- the instruction of an exit statement
-  leave_step : (x : Exits) (d : List ℕ) (place : ℕ) (ks : List Frame) (ops : List ℕ) (l : Log) (w : World) → slice_get code.instructions.items place ≡ Some (exit_of x) → step ask code (at d place ks ops l w) ≡ landed_on (landing_of x place) d ks ops l w
+  pub leave_step : (x : Exits) (d : List ℕ) (place : ℕ) (ks : List Frame) (ops : List ℕ) (l : Log) (w : World) → slice_get code.instructions.items place ≡ Some (exit_of x) → step ask code (at d place ks ops l w) ≡ landed_on (landing_of x place) d ks ops l w
   leave_step FromMaster d place ks ops l w has = by_code ask code d place ks ops l w InstrOf.Exit has
   leave_step (FromLoop back) d place ks ops l w has = by_code ask code d place ks ops l w (InstrOf.Back back) has
 

@@ -184,6 +184,7 @@ module _ (k : Tables) (code : Code) where
 
   pub record Fits (w : World) : Type 0 where
     pub objects : Each (Settled w.ledger.next_master w.activations) w.objects
+    pub numbers : Each (λ o. o.number < w.ledger.next_object) w.objects
     pub masters : Each AreSingle w.ledger.masters
     pub copies : Each AreSmall w.activations
     pub block_pools : w.pools.block_pools ≡ []
@@ -223,11 +224,11 @@ module _ (k : Tables) (code : Code) where
 
   pub fits_empty : Fits empty_world
   unfolding opened_world
-  fits_empty = record { objects = tt; masters = tt; copies = tt; block_pools = refl; mark_pools = refl }
+  fits_empty = record { objects = tt; numbers = tt; masters = tt; copies = tt; block_pools = refl; mark_pools = refl }
 
   fits_number : (w : World) → Fits w → Fits (take_object_number w)
   unfolding opened_changes opened_ledger
-  fits_number w h = record { objects = h.objects; masters = h.masters; copies = h.copies; block_pools = h.block_pools; mark_pools = h.mark_pools }
+  fits_number w h = record { objects = h.objects; numbers = each_all (λ o. o.number < w.ledger.next_object) (λ o. o.number < w.ledger.next_object + 1) (λ o lt. omega (arith, lt)) w.objects h.numbers; masters = h.masters; copies = h.copies; block_pools = h.block_pools; mark_pools = h.mark_pools }
 
   pub since_number : (w0 w : World) → Since w0 w → Since w0 (take_object_number w)
   unfolding opened_changes opened_ledger
@@ -237,6 +238,7 @@ module _ (k : Tables) (code : Code) where
   unfolding opened_changes opened_activations
   fits_slot n i x w small h = record {
     objects = each_all (Settled w.ledger.next_master w.activations) (Settled w.ledger.next_master (change_each (λ a. nat_eq a.master n) (with_slot i x) w.activations)) (settled_in w.ledger.next_master w.ledger.next_master w.activations _ (omega arith) (λ m lt. home_slot m n i x w.activations)) w.objects h.objects;
+    numbers = h.numbers;
     masters = h.masters;
     copies = each_changed AreSmall _ (with_slot i x) (λ a y. small_set a.slots i x small y) w.activations h.copies;
     block_pools = h.block_pools;
@@ -256,6 +258,7 @@ module _ (k : Tables) (code : Code) where
   unfolding opened_changes opened_ledger
   fits_create ty cells m w known old inside h = record {
     objects = each_and (Settled w.ledger.next_master w.activations) w.objects _ (record { plain = known; master = m; origin = refl; old = old; inside = inside }) h.objects;
+    numbers = each_and (λ o. o.number < w.ledger.next_object + 1) w.objects _ (omega arith) (each_all (λ o. o.number < w.ledger.next_object) (λ o. o.number < w.ledger.next_object + 1) (λ o lt. omega (arith, lt)) w.objects h.numbers);
     masters = h.masters;
     copies = h.copies;
     block_pools = h.block_pools;
@@ -268,17 +271,25 @@ module _ (k : Tables) (code : Code) where
 
   pub since_layer : (m n : ℕ) (w0 w : World) → Since w0 w → Since w0 (add_layer m (Single n) w)
   unfolding opened_changes opened_ledger
-  since_layer m n w0 w h = (record { objects = h.0.objects; masters = each_changed AreSingle _ (with_layer (Single n)) (λ x y. (tt, y)) w.ledger.masters h.0.masters; copies = h.0.copies; block_pools = h.0.block_pools; mark_pools = h.0.mark_pools }, record { later = h.1.later; homes = h.1.homes })
+  since_layer m n w0 w h = (record { objects = h.0.objects; numbers = h.0.numbers; masters = each_changed AreSingle _ (with_layer (Single n)) (λ x y. (tt, y)) w.ledger.masters h.0.masters; copies = h.0.copies; block_pools = h.0.block_pools; mark_pools = h.0.mark_pools }, record { later = h.1.later; homes = h.1.homes })
 
   pub since_take : (m : ℕ) (w0 w : World) → Since w0 w → Since w0 (take_layer m w)
   unfolding opened_changes opened_ledger
-  since_take m w0 w h = (record { objects = h.0.objects; masters = each_changed AreSingle _ without_newest (λ x y. all_but_newest x.layers y) w.ledger.masters h.0.masters; copies = h.0.copies; block_pools = h.0.block_pools; mark_pools = h.0.mark_pools }, record { later = h.1.later; homes = h.1.homes })
+  since_take m w0 w h = (record { objects = h.0.objects; numbers = h.0.numbers; masters = each_changed AreSingle _ without_newest (λ x y. all_but_newest x.layers y) w.ledger.masters h.0.masters; copies = h.0.copies; block_pools = h.0.block_pools; mark_pools = h.0.mark_pools }, record { later = h.1.later; homes = h.1.homes })
 
   same_finalized : (o : Object) → (with_finalized o).ty ≡ o.ty
   unfolding with_finalized
   same_finalized o = by (is_untouched o.state)
     where
       by : (b : Bool) → (if b then o else record o { state = Finalized }).ty ≡ o.ty
+      by true = refl
+      by false = refl
+
+  same_number : (o : Object) → (with_finalized o).number ≡ o.number
+  unfolding with_finalized
+  same_number o = by (is_untouched o.state)
+    where
+      by : (b : Bool) → (if b then o else record o { state = Finalized }).number ≡ o.number
       by true = refl
       by false = refl
 
@@ -295,11 +306,11 @@ module _ (k : Tables) (code : Code) where
 
   pub since_begin : (n : ℕ) (w0 w : World) → Since w0 w → Since w0 (begin_finalization n w)
   unfolding opened_changes opened_objects
-  since_begin n w0 w h = (record { objects = each_changed (Settled w.ledger.next_master w.activations) _ with_begun (λ o y. settled_as w.ledger.next_master w.activations o (with_begun o) refl refl y) w.objects h.0.objects; masters = h.0.masters; copies = h.0.copies; block_pools = h.0.block_pools; mark_pools = h.0.mark_pools }, record { later = h.1.later; homes = h.1.homes })
+  since_begin n w0 w h = (record { objects = each_changed (Settled w.ledger.next_master w.activations) _ with_begun (λ o y. settled_as w.ledger.next_master w.activations o (with_begun o) refl refl y) w.objects h.0.objects; numbers = each_changed (λ o. o.number < w.ledger.next_object) _ with_begun (λ o y. y) w.objects h.0.numbers; masters = h.0.masters; copies = h.0.copies; block_pools = h.0.block_pools; mark_pools = h.0.mark_pools }, record { later = h.1.later; homes = h.1.homes })
 
   pub since_end : (n : ℕ) (w0 w : World) → Since w0 w → Since w0 (end_finalization n w)
   unfolding opened_changes opened_objects
-  since_end n w0 w h = (record { objects = each_changed (Settled w.ledger.next_master w.activations) _ with_finalized (λ o y. settled_as w.ledger.next_master w.activations o (with_finalized o) (same_finalized o) (same_origin o) y) w.objects h.0.objects; masters = h.0.masters; copies = h.0.copies; block_pools = h.0.block_pools; mark_pools = h.0.mark_pools }, record { later = h.1.later; homes = h.1.homes })
+  since_end n w0 w h = (record { objects = each_changed (Settled w.ledger.next_master w.activations) _ with_finalized (λ o y. settled_as w.ledger.next_master w.activations o (with_finalized o) (same_finalized o) (same_origin o) y) w.objects h.0.objects; numbers = each_changed (λ o. o.number < w.ledger.next_object) _ with_finalized (λ o y. subst (λ m. m < w.ledger.next_object) (sym (same_number o)) y) w.objects h.0.numbers; masters = h.0.masters; copies = h.0.copies; block_pools = h.0.block_pools; mark_pools = h.0.mark_pools }, record { later = h.1.later; homes = h.1.homes })
 
   -- a master is entered ------------------------------------------------------------------------------
 
@@ -323,6 +334,7 @@ module _ (k : Tables) (code : Code) where
   unfolding open_master opened_ledger opened_activations
   fits_open d slots w small h = record {
     objects = each_all (Settled w.ledger.next_master w.activations) (Settled (w.ledger.next_master + 1) (open_master d slots w).activations) (settled_in w.ledger.next_master (w.ledger.next_master + 1) w.activations (open_master d slots w).activations (omega arith) (λ n lt. home_open n d slots w lt)) w.objects h.objects;
+    numbers = h.numbers;
     masters = (tt, h.masters);
     copies = (small, h.copies);
     block_pools = h.block_pools;
@@ -334,6 +346,7 @@ module _ (k : Tables) (code : Code) where
   unfolding opened_changes opened_ledger opened_activations opened_objects keep_pools opened_lists
   fits_close m w h = record {
     objects = each_kept (Settled w.ledger.next_master w.activations) (Settled w.ledger.next_master (keep (λ a. not (nat_eq a.master m)) w.activations)) _ left w.objects h.objects;
+    numbers = each_kept (λ o. o.number < w.ledger.next_object) (λ o. o.number < w.ledger.next_object) _ (λ o e y. y) w.objects h.numbers;
     masters = each_kept AreSingle AreSingle (λ x. not (nat_eq x.number m)) (λ x e y. y) w.ledger.masters h.masters;
     copies = each_kept AreSmall AreSmall (λ a. not (nat_eq a.master m)) (λ x e y. y) w.activations h.copies;
     block_pools = ap (keep _) h.block_pools;
@@ -357,3 +370,21 @@ module _ (k : Tables) (code : Code) where
   pub since_close : (m : ℕ) (w0 w : World) → w0.ledger.next_master ≤ m → Since w0 w → Since w0 (close_master m w)
   unfolding opened_changes opened_ledger opened_activations
   since_close m w0 w young h = (fits_close m w h.0, record { later = h.1.later; homes = λ n lt. home_kept n m (ne_eqb m n (λ e. absurd (omega (arith, e, lt, young)))) w.activations ∙ h.1.homes n lt })
+
+  -- the object that was created is the one of its number
+  new_found : (n : ℕ) (os : List Object) (x o : Object) → Each (λ p. p.number < n) os → first_with (λ p. nat_eq p.number n) (os ++ x ∷ []) ≡ Some o → o.ty ≡ x.ty
+  unfolding opened_lists
+  new_found n [] x o h e = by (nat_eq x.number n) e
+    where
+      by : (b : Bool) → (if b then Some x else None) ≡ Some o → o.ty ≡ x.ty
+      by true e1 = let same : x ≡ o = cc e1 in sym (ap (λ (y : Object). y.ty) same)
+      by false e1 = absurd (cc e1)
+  new_found n (p ∷ os) x o h e = by (nat_eq p.number n) refl (new_found n os x o h.1) e
+    where
+      by : (b : Bool) → nat_eq p.number n ≡ b → (first_with (λ q. nat_eq q.number n) (os ++ x ∷ []) ≡ Some o → o.ty ≡ x.ty) → (if b then Some p else first_with (λ q. nat_eq q.number n) (os ++ x ∷ [])) ≡ Some o → o.ty ≡ x.ty
+      by true is rest e1 = absurd (let same = eqb-true p.number n is in let lt = h.0 in omega (arith, same, lt))
+      by false is rest e1 = rest e1
+
+  pub created_ty : (ty : Ty) (cells : List ℕ) (m slot : ℕ) (w : World) → Fits w → (o : Object) → object_at w.ledger.next_object (set_slot m slot (Holds w.ledger.next_object) (create ty cells (Declared m) w)) ≡ Some o → o.ty ≡ ty
+  unfolding opened_changes object_in
+  created_ty ty cells m slot w h o e = new_found w.ledger.next_object w.objects _ o h.numbers e
