@@ -461,7 +461,7 @@ pub fn is_fine(code: &Code, place: usize, instr: &Instr) -> bool
     ensures { IsTrue result ↔ IsFine code.now place instr.now (stack_at code.now.kinds place) }
 {
     match *instr {
-        Instr::Start(entry) => is_bare(code, place) && is_entry(code, entry),
+        Instr::Start(entry) => is_bare(code, place) && is_in_scope(code, 0, Some(entry)),
         Instr::Enter { slots, length } => is_enter_fine(code, place, slots, length),
         Instr::Leave | Instr::Exit => is_at_end(code, place),
         Instr::Declare { slot: _, record } => is_declare_fine(code, place, record),
