@@ -1,5 +1,12 @@
 pub mod Layers
 pub mod StatementLayers
+pub mod Emission
+pub mod EmittedValues
+pub mod EmittedTexts
+pub mod EmittedStatements
+pub mod EmittedLoops
+pub mod EmittedArms
+pub mod EmittedBodies
 pub mod Known
 pub mod Place
 pub mod Follow

@@ -1,4 +1,10 @@
 //! From the checked program to the machine's code.
 #![tactic(auto)]
 
+mod emit;
+mod emit_expressions;
+mod emit_statements;
+pub mod generate;
 pub mod right;
+pub mod runs;
+mod typing;

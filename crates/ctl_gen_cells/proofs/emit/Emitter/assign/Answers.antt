@@ -1,0 +1,15 @@
+use Rattle.std.proofs.Common.{None, ap, sym, ◌∙◌}
+use Rattle.ctl_gen_cells.specs.Emitted.{stated}
+use Rattle.ctl_gen_cells.specs.Values.{value_code}
+use Rattle.ctl_gen_cells.specs.Layout.{assign}
+use Rattle.ctl_gen_cells.proofs.Emission.{on_ok}
+use Rattle.ctl_gen_cells.proofs.EmittedStatements.{assigned_out}
+use Rattle.ctl_gen_cells.proofs.emit.Emitter.assign.Goals as goal
+
+pub returns-in_ok-from-in-None : goal.returns-in_ok-from-in-None
+returns-in_ok-from-in-None c = on_ok _ _ c.take.result c.take.ensures (λ e.
+    let x = value_code c.args.value.now in
+    let e0 = c.args.self.now in
+    assigned_out c.in-Some.variable x c.value_type-ty.result c.out_to-out.result c.in_ok-from-in-None.from e0 c.held.new.self c.take.new.self
+    c.value_type-ty.ensures (sym c.in-None.is ∙ c.local_cell.ensures) c.out_to-out.ensures c.in_ok-from-in-None.ensures.held c.in_ok-from-in-None.ensures.cell e
+    ∙ ap (λ v. stated (assign v x) None e0) (sym c.in-Some.is ∙ c.variable_of.ensures))

@@ -1,0 +1,111 @@
+//! The code of a whole program.
+
+ghost use Rattle.std.specs.Prelude.{◌≡◌, ◌⊎◌, IfErr, IfOk, length};
+ghost use Rattle.ctl_tree.specs.declared.fault.FaultCode.TheVariants.{LeftOut, Memory};
+ghost use Rattle.ctl_well_typed.specs.Programs.{WellTyped};
+ghost use Rattle.ctl_gen_cells.specs.Correct.{Behaves};
+ghost use Rattle.ctl_gen_cells.specs.Run.{AreLinked, IsRun};
+ghost use Rattle.ctl_gen_cells.specs.Layout.{HasKinds, IsLaidOut, entry_at, operations_of};
+
+use crate::emit::Emitter;
+use ctl_code_cells::code::{Code, Entry, Instr, Operations};
+use ctl_code_cells::valid::ValidCode;
+use ctl_program::program::{Checked, Subprogram};
+use ctl_program::types::RecordType;
+use ctl_tree::fault::{Fault, FaultCode};
+use ctl_tree::text::Text;
+use std::alloc::{AllocError, Global};
+
+/// Gives the code of a checked program, validated. The fault is MEMORY, or LEFT_OUT at the beginning of the text where this version has
+/// no well-formed code for the program.
+///
+/// The contract says how the instructions stand, and that they do what a program of this version means: after every number of steps
+/// and under every order the machine has shown a beginning of what the program's meaning shows for the picks that were taken, it
+/// has shown all of it where it has ended, it is never stuck, and each outcome is reached in 64 steps a tick. The code of a well-typed
+/// program of this version is well formed.
+pub fn generate(alloc: Global, program: &Checked) -> Result<ValidCode, Fault>
+    ensures layout { IfOk result (λ code. IsLaidOut program.now code) }
+    ensures behaves { IfOk result (λ code. IsRun program.now → AreLinked program.now → Behaves program.now code) }
+    ensures memory { IsRun program.now → WellTyped program.now → IfErr result (λ fault. fault ≡ record { code = Memory; line = 1; column = 1 }) }
+    ensures refused { IfErr result (λ fault. (fault ≡ record { code = Memory; line = 1; column = 1 }) ⊎ (fault ≡ record { code = LeftOut; line = 1; column = 1 })) }
+{
+    match assemble(alloc, program)?.validate() {
+        Some(code) => Ok(code),
+        None => Err(left_out()),
+    }
+}
+
+/// Answers the fault of a program that has no valid code, at the beginning: no part of the text is to blame more than another.
+fn left_out() -> Fault
+    ensures { result ≡ record { code = LeftOut; line = 1; column = 1 } }
+{
+    Fault {
+        code: FaultCode::LeftOut,
+        line: 1,
+        column: 1,
+    }
+}
+
+/// Makes the instructions, and the tables that they name.
+fn assemble(alloc: Global, program: &Checked) -> Result<Code, Fault>
+    ensures laid_out { IfOk result (λ code. IsLaidOut program.now code) }
+    ensures kinds { IfOk result (λ code. HasKinds program.now code) }
+    ensures memory { IfErr result (λ fault. fault ≡ record { code = Memory; line = 1; column = 1 }) }
+{
+    let mut emitter = Emitter::new(alloc);
+    emitter.put(Instr::Start(program.main))?;
+    let mut entries = Vec::new(alloc);
+    for subprogram in program.subprograms.as_slice() {
+        entries.push(entry_of(&emitter, subprogram))?;
+        emitter.body(subprogram)?;
+    }
+    let records = records_of(alloc, program.records.as_slice())?;
+    let exceptions = names_of(alloc, program.exceptions.as_slice())?;
+    let room = emitter.room();
+    let (instructions, texts, kinds) = emitter.finish();
+    Ok(Code {
+        instructions,
+        kinds,
+        room,
+        entries,
+        records,
+        texts,
+        exceptions,
+    })
+}
+
+/// Gives the entry of a subprogram whose body comes next.
+fn entry_of(emitter: &Emitter, subprogram: &Subprogram) -> Entry
+    ensures { result ≡ entry_at (length emitter.now.instructions) subprogram.now }
+{
+    Entry {
+        level: subprogram.level,
+        slots: subprogram.body.slots,
+        place: emitter.place(),
+    }
+}
+
+/// Gives the operations of record types.
+fn records_of(alloc: Global, records: &[RecordType]) -> Result<Vec<Operations>, AllocError>
+    ensures { IfOk result (λ all. all.items ≡ operations_of records.now) }
+{
+    let mut all = Vec::new(alloc);
+    for record in records {
+        all.push(Operations {
+            initialize: record.operations.initialize,
+            finalize: record.operations.finalize,
+        })?;
+    }
+    Ok(all)
+}
+
+/// Copies the names of exceptions.
+fn names_of(alloc: Global, names: &[Text]) -> Result<Vec<Text>, AllocError>
+    ensures { IfOk result (λ all. all.items ≡ names.now) }
+{
+    let mut all = Vec::new(alloc);
+    for name in names {
+        all.push(name.copied(alloc)?)?;
+    }
+    Ok(all)
+}

@@ -1,0 +1,309 @@
+//! Whether this version runs each construct of a checked program.
+
+ghost use Rattle.std.specs.Prelude.{◌≡◌, [], ◌∷◌, map, option_map, Some};
+ghost use Rattle.ctl_gen_cells.specs.Layout as spec;
+ghost use Rattle.ctl_gen_cells.specs.Run as whole;
+ghost use Rattle.ctl_gen_cells.specs.Texts as texts;
+ghost use Rattle.ctl_gen_cells.specs.Values as values;
+
+use crate::right::variable_of;
+use ctl_program::expression::{Expr, Name, Operand};
+use ctl_program::operators::SubprogramKind;
+use ctl_program::program::{Checked, Subprogram};
+use ctl_program::statement::{Arm, Item, Master, Piece, Stmt};
+use ctl_program::types::{RecordType, Root, Ty};
+
+/// Tells whether this version runs each construct of a program.
+pub fn is_run(program: &Checked) -> bool
+    ensures { result ≡ whole.is_run program.now }
+{
+    are_procedures(program.subprograms.as_slice())
+        && bodies(program.records.as_slice(), program.subprograms.as_slice())
+}
+
+/// Tells whether no subprogram is a function.
+fn are_procedures(subprograms: &[Subprogram]) -> bool
+    ensures { result ≡ whole.are_procedures subprograms.now }
+{
+    for subprogram in subprograms {
+        if !matches!(subprogram.kind, SubprogramKind::Procedure) {
+            return false;
+        }
+    }
+    true
+}
+
+/// Tells whether the bodies of these subprograms are run.
+fn bodies(records: &[RecordType], subprograms: &[Subprogram]) -> bool
+    ensures { result ≡ (spec.bodies subprograms.now).runs records.now }
+{
+    for subprogram in subprograms {
+        if !master(&subprogram.body, records) {
+            return false;
+        }
+    }
+    true
+}
+
+/// Tells whether variables of a type are run.
+fn is_run_type(ty: Ty) -> bool
+    ensures { result ≡ values.is_run_type ty }
+{
+    matches!(ty, Ty::Integer | Ty::Boolean)
+}
+
+/// Tells whether the value of a name is run: of a variable alone.
+fn is_read(name: &Name, ty: Ty) -> bool
+    ensures { result ≡ (values.read (values.variable_of name.now) ty).runs }
+{
+    match variable_of(name) {
+        Some(_) => is_run_type(ty),
+        None => false,
+    }
+}
+
+/// Tells whether an expression is run.
+#[cycle(values)]
+#[tactic(auto, using(crate::proofs::Layers::value_constant, crate::proofs::Layers::value_read, crate::proofs::Layers::value_call, crate::proofs::Layers::value_unary, crate::proofs::Layers::value_chain, crate::proofs::Layers::value_short, crate::proofs::Layers::value_convert, crate::proofs::Layers::value_access, crate::proofs::Layers::value_new, crate::proofs::Layers::value_subpool, crate::proofs::Layers::value_discriminant))]
+fn value(expression: &Expr) -> bool
+    ensures { result ≡ (values.value_code expression.now).runs }
+{
+    match expression {
+        Expr::Constant(_) => true,
+        Expr::Read(name, ty) => is_read(name, *ty),
+        Expr::Unary(_, _, operand) => value(operand.get()),
+        Expr::Chain(first, second, more) => {
+            value(first.get()) && operand(second.get()) && operands(more.as_slice())
+        }
+        Expr::Short(_, first, second, more) => {
+            value(first.get()) && value(second.get()) && values(more.as_slice())
+        }
+        Expr::Call(..)
+        | Expr::Convert(..)
+        | Expr::Access(_)
+        | Expr::New(..)
+        | Expr::Subpool(..)
+        | Expr::Discriminant(..) => false,
+    }
+}
+
+/// Tells whether the right operand of an operator is run.
+#[cycle(values)]
+#[tactic(auto, using(crate::proofs::Layers::operator_is))]
+fn operand(operand: &Operand) -> bool
+    ensures { result ≡ (values.operator_of operand.now).right.runs }
+{
+    value(&operand.right)
+}
+
+/// Tells whether the right operands of operators are run.
+#[cycle(values)]
+fn operands(operands: &[Operand]) -> bool
+    ensures { result ≡ values.operators_run (map values.operator_of operands.now) }
+{
+    for one in operands {
+        if !operand(one) {
+            return false;
+        }
+    }
+    true
+}
+
+/// Tells whether operands of a short-circuit form are run.
+#[cycle(values)]
+fn values(operands: &[Expr]) -> bool
+    ensures { result ≡ values.values_run (map values.value_code operands.now) }
+{
+    for one in operands {
+        if !value(one) {
+            return false;
+        }
+    }
+    true
+}
+
+/// Tells whether a piece of a text is run.
+fn piece(piece: &Piece) -> bool
+    ensures { result ≡ texts.piece_is_run piece.now }
+{
+    match piece {
+        Piece::Text(_) => true,
+        Piece::IntegerImage(expression) => value(expression),
+        Piece::BooleanImage(expression) => value(expression),
+    }
+}
+
+/// Tells whether a text is run.
+fn pieces(pieces: &[Piece]) -> bool
+    ensures { result ≡ texts.pieces_are_run pieces.now }
+{
+    for one in pieces {
+        if !piece(one) {
+            return false;
+        }
+    }
+    true
+}
+
+/// Tells whether a type extends none and has no components, as Controlled and Limited_Controlled themselves.
+fn is_bare(entry: &RecordType) -> bool
+    ensures { result ≡ spec.is_bare (Some entry.now) }
+{
+    entry.parent.is_none() && entry.own.as_slice().is_empty()
+}
+
+/// Tells whether a type with this parent extends none, or such a type.
+fn extends_bare(records: &[RecordType], parent: Option<usize>) -> bool
+    ensures { result ≡ spec.extends_bare records.now parent }
+{
+    match parent {
+        Some(number) => match records.get(number) {
+            Some(entry) => is_bare(entry),
+            None => false,
+        },
+        None => true,
+    }
+}
+
+/// Tells whether objects of a record type are run: one that extends Controlled or Limited_Controlled without components (RM 7.6).
+fn is_plain(records: &[RecordType], entry: &RecordType) -> bool
+    ensures { result ≡ spec.is_plain records.now (Some entry.now) }
+{
+    matches!(entry.root, Root::Controlled)
+        && extends_bare(records, entry.parent)
+        && entry.own.as_slice().is_empty()
+}
+
+/// Tells whether objects of a type are run.
+fn is_declared(records: &[RecordType], ty: Ty) -> bool
+    ensures { result ≡ spec.is_declared records.now ty }
+{
+    match ty {
+        Ty::Record(number) => match records.get(number) {
+            Some(entry) => is_plain(records, entry),
+            None => false,
+        },
+        _ => is_run_type(ty),
+    }
+}
+
+/// Tells whether an item is run.
+fn item(records: &[RecordType], item: &Item) -> bool
+    ensures { result ≡ (spec.item_code item.now).runs records.now }
+{
+    match item {
+        Item::Object(_, ty, None) => is_declared(records, *ty),
+        Item::Object(_, ty, Some(expression)) => is_run_type(*ty) && value(expression),
+        Item::Silent => true,
+        Item::Collections(_) | Item::Pool(..) => false,
+    }
+}
+
+/// Tells whether items are run.
+fn items(records: &[RecordType], items: &[Item]) -> bool
+    ensures { result ≡ (spec.all_items (map spec.item_code items.now)).runs records.now }
+{
+    for one in items {
+        if !item(records, one) {
+            return false;
+        }
+    }
+    true
+}
+
+/// Tells whether an assignment is run: to a variable.
+fn is_assigned(name: &Name, expression: &Expr) -> bool
+    ensures { result ≡ (spec.assign (values.variable_of name.now) (values.value_code expression.now)).runs [] }
+{
+    variable_of(name).is_some() && value(expression)
+}
+
+/// Tells whether the condition of an exit is run, if there is one.
+fn is_exit(condition: &Option<Expr>) -> bool
+    ensures { result ≡ (spec.exit (option_map values.value_code condition.now)).runs [] }
+{
+    match condition {
+        Some(expression) => value(expression),
+        None => true,
+    }
+}
+
+/// Tells whether a statement is run.
+#[cycle(statements)]
+#[tactic(auto, unfolding(crate::specs::Layout::statement_code, crate::specs::Layout::master_code, crate::specs::Layout::arm_code))]
+fn statement(statement: &Stmt, records: &[RecordType]) -> bool
+    ensures { result ≡ (spec.statement_code statement.now).runs records.now }
+{
+    match statement {
+        Stmt::Null | Stmt::NewLine => true,
+        Stmt::Assign(name, expression) => is_assigned(name, expression),
+        Stmt::Put(text) | Stmt::PutLine(text) => pieces(text.as_slice()),
+        Stmt::Exit(condition) => is_exit(condition),
+        Stmt::If(arms, otherwise) => {
+            conditional(arms.as_slice(), records) && statements(otherwise.as_slice(), records)
+        }
+        Stmt::Loop(body) => statements(body.as_slice(), records),
+        Stmt::While(test, body) => value(test) && statements(body.as_slice(), records),
+        Stmt::For(_, _, low, high, body) => {
+            value(low) && value(high) && statements(body.as_slice(), records)
+        }
+        Stmt::Block(inside) => master(inside.get(), records),
+        Stmt::AssignRecord(..)
+        | Stmt::Call(..)
+        | Stmt::Nothing(_)
+        | Stmt::Dispatch(..)
+        | Stmt::LibraryAllocate(..)
+        | Stmt::LibraryDeallocate(..)
+        | Stmt::Return(_)
+        | Stmt::Raise(_)
+        | Stmt::RaiseAgain
+        | Stmt::Free(..)
+        | Stmt::Release(_) => false,
+    }
+}
+
+/// Tells whether statements are run.
+#[cycle(statements)]
+fn statements(statements: &[Stmt], records: &[RecordType]) -> bool
+    ensures { result ≡ (spec.all (map spec.statement_code statements.now)).runs records.now }
+{
+    for one in statements {
+        if !statement(one, records) {
+            return false;
+        }
+    }
+    true
+}
+
+/// Tells whether an arm is run.
+#[cycle(statements)]
+#[tactic(auto, unfolding(crate::specs::Layout::statement_code, crate::specs::Layout::arm_code))]
+fn arm(arm: &Arm, records: &[RecordType]) -> bool
+    ensures { result ≡ spec.arms_run (spec.arm_code arm.now ∷ []) records.now }
+{
+    value(&arm.test) && statements(arm.body.as_slice(), records)
+}
+
+/// Tells whether arms are run.
+#[cycle(statements)]
+fn conditional(arms: &[Arm], records: &[RecordType]) -> bool
+    ensures { result ≡ spec.arms_run (map spec.arm_code arms.now) records.now }
+{
+    for one in arms {
+        if !arm(one, records) {
+            return false;
+        }
+    }
+    true
+}
+
+/// Tells whether a master is run: its items, its statements, and no handler.
+#[cycle(statements)]
+#[tactic(auto, unfolding(crate::specs::Layout::statement_code, crate::specs::Layout::master_code, crate::specs::Layout::no_code))]
+fn master(inside: &Master, records: &[RecordType]) -> bool
+    ensures { result ≡ (spec.master_code inside.now).inside.runs records.now }
+{
+    items(records, inside.items.as_slice())
+        && statements(inside.body.as_slice(), records)
+        && inside.handlers.as_slice().is_empty()
+}
