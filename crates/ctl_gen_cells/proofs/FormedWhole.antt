@@ -257,8 +257,16 @@ module _ (program : Checked) (code : Code) (laid : IsLaidOut program code) (kind
   formed : BodiesFormed code program.records nowhere 1 0 program.subprograms
   formed = bodies_formed code program.records program.subprograms parts.1 good nowhere 1 0 printed stands.1
 
+  -- the main procedure is declared in no master
+  main_in_scope : IsInScope code 0 (Some program.main)
+  main_in_scope =
+      let s = called program typed [] program.main _ typed.main in
+      let x = entry_of program.main s.body s.found in
+      let level = s.fine.level in
+      (entry_at x.0 s.body, x.1, omega (arith, level))
+
   all_fine : AreFine code 0 (program_code program)
-  all_fine = ((refl, is_entry program.main linked.main), formed.fine)
+  all_fine = ((refl, main_in_scope), formed.fine)
 
   pub is_valid : IsValid code
   is_valid = record {

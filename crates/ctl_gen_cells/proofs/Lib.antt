@@ -1,12 +1,5 @@
 pub mod Layers
 pub mod StatementLayers
-pub mod Emission
-pub mod EmittedValues
-pub mod EmittedTexts
-pub mod EmittedStatements
-pub mod EmittedLoops
-pub mod EmittedArms
-pub mod EmittedBodies
 pub mod Known
 pub mod Place
 pub mod Follow
@@ -38,3 +31,10 @@ pub mod FormedStatements
 pub mod FormedArms
 pub mod FormedMasters
 pub mod FormedWhole
+pub mod Emission
+pub mod EmittedValues
+pub mod EmittedTexts
+pub mod EmittedStatements
+pub mod EmittedLoops
+pub mod EmittedArms
+pub mod EmittedBodies
