@@ -1,0 +1,17 @@
+-- What it means that instructions do what a statement means, wherever they stand.
+use Rattle.std.proofs.Common.{◌≡◌, ℕ, ◌+◌, ◌≤◌, List, length}
+use Rattle.ctl_meaning.specs.World.{Log, World}
+use Rattle.ctl_meaning.specs.Choice.{Ask}
+use Rattle.ctl_meaning.specs.Outcome.{Act, Done}
+use Rattle.ctl_meaning.specs.Types.{Tables}
+use Rattle.ctl_code_cells.specs.declared.code.Code.{Code}
+use Rattle.ctl_code_cells.specs.States.{Frame}
+use Rattle.ctl_gen_cells.specs.Around.{Line, Around}
+use Rattle.ctl_gen_cells.proofs.Place.{Laid}
+use Rattle.ctl_gen_cells.proofs.Worlds.{Since, Kept}
+use Rattle.ctl_gen_cells.proofs.Setting.{Sees}
+use Rattle.ctl_gen_cells.proofs.Follow.{Runs, at, arrives, landing_of}
+
+-- while no more than the bound is on the clock, in the worlds since an earlier one in which this display was seen
+abbrev pub Does : Ask → Tables → Code → ℕ → (Around → List Line) → (List ℕ → Act Done) → Type 0
+Does ask k code bound x act = (a : Around) (w0 : World) (d : List ℕ) (place : ℕ) (ks : List Frame) (ops : List ℕ) (c : ℕ) (l : Log) (w : World) → c ≤ bound → Since k code w0 w → Sees d a.stack w0 → Laid code place (x a) → Runs ask code (Kept k code w0) 0 0 (at d place ks ops l w) c (arrives (landing_of a.exits place) d (place + length (x a)) ks ops) (act d c l w)

@@ -1,0 +1,140 @@
+-- The code of each construct is well formed where its parts are, and leaves in the window what stood there.
+use Rattle.std.proofs.Common.{◌≡◌, ℕ, ◌+◌, List, [], ◌∷◌, ◌++◌, length, true, Option, Some, None, refl, sym, subst, arith, length-append}
+use Rattle.ctl_program.specs.declared.types.Ty.{Ty}
+use Rattle.ctl_program.specs.declared.types.Ty.TheVariants.{Integer, Count, Boolean, Address, Handle, Access, Record}
+use Rattle.ctl_program.specs.declared.types.Var.{Var}
+use Rattle.ctl_program.specs.declared.types.RecordType.{RecordType}
+use Rattle.ctl_program.specs.declared.operators.Direction.{Direction}
+use Rattle.ctl_well_typed.specs.Setting as W
+use Rattle.ctl_code_cells.specs.declared.kinds.Kind.{Kind}
+use Rattle.ctl_code_cells.specs.declared.kinds.Kind.TheVariants.{Operand}
+use Rattle.ctl_code_cells.specs.declared.code.Instr.TheVariants as InstrOf
+use Rattle.ctl_code_cells.specs.declared.code.Code.{Code}
+use Rattle.ctl_code_cells.specs.declared.template.TextPart.{TextPart}
+use Rattle.ctl_code_cells.specs.Windows.{depth, variable_at}
+use Rattle.ctl_code_cells.specs.Valid.{IsCellOf, IsDeclarable, Leads}
+use Rattle.ctl_gen_cells.specs.Around.{Line, Around, behind, local_at, local_cell, new_operand, newest_at, newest_cell, out_to}
+use Rattle.ctl_gen_cells.specs.Values.{ValueCode, held, value_type}
+use Rattle.ctl_gen_cells.specs.Layout.{StatementCode, all, assign_code, bounds_code, declaration, for, in_loop, is_declared, leaves_code, loop, scalar_code, test_code, test_held, test_length, tested_code, turns_code, valued_code, with_bounds}
+use Rattle.ctl_gen_cells.proofs.Place.{HasAt}
+use Rattle.ctl_gen_cells.proofs.Place as Place
+use Rattle.ctl_gen_cells.proofs.Formed.{both, both_at, Formed, FormedAt, has_end, leads_at, one}
+use Rattle.ctl_gen_cells.proofs.FormedAround.{Agrees, CanLeave, agrees_under, leave_behind, leaves_formed}
+use Rattle.ctl_gen_cells.proofs.FormedLines.{loop_formed, test_formed, turns_formed}
+use Rattle.ctl_gen_cells.proofs.FormedValues.{Usable, found}
+
+module _ (code : Code) where
+  -- Items ------------------------------------------------------------------------------------------
+
+  -- an elementary variable without a value
+  scalar_formed : (slot at : ℕ) (ty : Ty) (s : List Kind) → variable_at s 0 slot ≡ Some at → IsCellOf ty 0 → Formed code (scalar_code (variable_at s 0 slot) slot ty s) s (Some s)
+  scalar_formed slot at ty s there cell =
+      subst (λ o. Formed code (scalar_code o slot ty s) s (Some s)) (sym there)
+      (both code ((InstrOf.Set 0 ty (newest_cell slot at), s) ∷ []) ((InstrOf.Number, s) ∷ []) s s (Some s)
+      (one code (InstrOf.Set 0 ty (newest_cell slot at)) s (Some s) (λ p next. (cell, (there, next))))
+      (one code InstrOf.Number s (Some s) (λ p next. next)))
+
+  -- and one with a value
+  pub valued_formed : (slot at : ℕ) (ty : Ty) (x : ValueCode) (s : List Kind) → variable_at s 0 slot ≡ Some at → Usable code x ty → Formed code (valued_code (variable_at s 0 slot) slot ty x s) s (Some s)
+  valued_formed slot at ty x s there usable =
+      subst (λ o. Formed code (valued_code o slot ty x s) s (Some s)) (sym there)
+      (both code (x.code (newest_cell slot at) ty s) ((InstrOf.Number, s) ∷ []) s s (Some s)
+      (usable.formed (newest_cell slot at) s there)
+      (one code InstrOf.Number s (Some s) (λ p next. next)))
+
+  -- a declaration without a value, of a type whose operations are in scope if it is a record type
+  abbrev pub MayDeclare : ℕ → Ty → Type 0
+  MayDeclare masters (Record t) = IsDeclarable code masters t
+  MayDeclare masters ty = Unit {0}
+
+  pub declaration_formed : (records : List RecordType) (slot at : ℕ) (ty : Ty) (s : List Kind) → is_declared records ty ≡ true → variable_at s 0 slot ≡ Some at → MayDeclare (depth s) ty → Formed code (declaration slot ty s) s (Some s)
+  declaration_formed records slot at (Record t) s runs there may = one code (InstrOf.Declare slot t) s (Some s) (λ p next. (may, next))
+  declaration_formed records slot at Integer s runs there may = scalar_formed slot at Integer s there tt
+  declaration_formed records slot at Boolean s runs there may = scalar_formed slot at Boolean s there (omega arith)
+  declaration_formed records slot at Count s runs there may = absurd (cc)
+  declaration_formed records slot at Address s runs there may = absurd (cc)
+  declaration_formed records slot at Handle s runs there may = absurd (cc)
+  declaration_formed records slot at (Access a) s runs there may = absurd (cc)
+
+  -- Statements -------------------------------------------------------------------------------------
+
+  -- lines of statements inside these masters, with the texts that they print
+  abbrev pub Stays : W.Frames → List (List TextPart) → (Around → ℕ → List Line) → Type 0
+  Stays env texts lines = (a : Around) (n p : ℕ) → Agrees env a.stack → HasAt code.texts.items n texts → CanLeave code p a → FormedAt code p (lines a n) a.stack (Some a.stack)
+
+  -- the same of lines that may lead to the second place behind them
+  abbrev pub Turns : W.Frames → List (List TextPart) → (Around → ℕ → List Line) → Type 0
+  Turns env texts lines = (a : Around) (n p : ℕ) → Agrees env a.stack → HasAt code.texts.items n texts → CanLeave code p a → Leads code (p + length (lines a n) + 1) a.stack → FormedAt code p (lines a n) a.stack (Some a.stack)
+
+  pub all_stay : (env : W.Frames) (x : StatementCode) (xs : List StatementCode) → Stays env x.texts x.code → Stays env (all xs).texts (all xs).code → Stays env (all (x ∷ xs)).texts (all (x ∷ xs)).code
+  all_stay env x xs h rest a n p agrees texts can =
+      let size = length (x.code a n) in
+      let n1 = n + length x.texts in
+      both_at code p (x.code a n) ((all xs).code (behind size a) n1) a.stack a.stack (Some a.stack)
+      (h a n p agrees (Place.has_front code.texts.items n x.texts (all xs).texts texts) can)
+      (rest (behind size a) n1 (p + size) agrees (Place.has_back code.texts.items n x.texts (all xs).texts texts) (leave_behind code p size (p + size) a refl can))
+
+  pub assign_formed : (o : Option ℕ) (v : Var) (x : ValueCode) (s : List Kind) → local_at s v ≡ o → Usable code x (value_type x) → Formed code (assign_code o v x s) s (Some s)
+  assign_formed (Some at) v x s here usable = usable.formed (local_cell s v at) s here
+  assign_formed None v x s here usable =
+      let h = held x (value_type x) s in
+      let f = found code x (value_type x) s usable in
+      let store = InstrOf.Store h.cell (value_type x) (out_to s v) v.slot in
+      both code h.code ((store, h.after) ∷ []) s h.after (Some s) f.formed
+      (one code store h.after (Some s) (λ p next. (usable.scalar, (s, f.taken, next))))
+
+  -- Conditions -------------------------------------------------------------------------------------
+
+  pub leaves_stay : (env : W.Frames) → Stays env [] (λ a n. leaves_code a)
+  leaves_stay env a n p agrees texts can = leaves_formed code p a can
+
+  pub leaves_when_stay : (env : W.Frames) (x : ValueCode) → Usable code x Boolean → Stays env [] (λ a n. test_code x a.stack 1 ++ leaves_code (behind (test_length x a.stack) a))
+  leaves_when_stay env x usable a n p agrees texts can has =
+      let s = a.stack in
+      let h = held x Boolean s in
+      let test = test_held h 1 in
+      let end = leaves_code (behind (test_length x s) a) in
+      let size : length test ≡ length h.code + 1 = length-append h.code ((InstrOf.Unless h.cell 1, h.after) ∷ []) in
+      let last : p + length (test ++ end) ≡ p + length h.code + 1 + 1 = omega (arith, size, length-append test end) in
+      let skip = leads_at code (p + length (test ++ end)) (p + length h.code + 1 + 1) s last (has_end code p (test ++ end) (Some s) has) in
+      let there : p + test_length x s ≡ p + length test = omega (arith, size) in
+      both_at code p test end s s (Some s)
+      (test_formed code p h 1 s (found code x Boolean s usable) skip)
+      (leaves_formed code (p + length test) (behind (test_length x s) a) (leave_behind code p (test_length x s) (p + length test) a there can))
+      has
+
+  -- statements that are passed over where a condition does not hold
+  pub tested_turns : (env : W.Frames) (x : ValueCode) (body : StatementCode) → Usable code x Boolean → Stays env body.texts body.code → Turns env body.texts (tested_code x 1 body)
+  tested_turns env x body usable g a n p agrees texts can skip =
+      let s = a.stack in
+      let h = held x Boolean s in
+      let size = test_length x s in
+      let b = body.code (behind size a) n in
+      let test = test_held h (length b + 1) in
+      let counted : length test ≡ length h.code + 1 = length-append h.code ((InstrOf.Unless h.cell (length b + 1), h.after) ∷ []) in
+      let there : p + size ≡ p + length test = omega (arith, counted) in
+      let last : p + length (test ++ b) + 1 ≡ p + length h.code + 1 + (length b + 1) = omega (arith, counted, length-append test b) in
+      both_at code p test b s s (Some s)
+      (test_formed code p h (length b + 1) s (found code x Boolean s usable) (leads_at code (p + length (test ++ b) + 1) (p + length h.code + 1 + (length b + 1)) s last skip))
+      (g (behind size a) n (p + length test) agrees texts (leave_behind code p size (p + length test) a there can))
+
+  -- Loops ------------------------------------------------------------------------------------------
+
+  pub loop_stays : (env : W.Frames) (x : StatementCode) → Turns env x.texts x.code → Stays env (loop x).texts (loop x).code
+  loop_stays env x h a n p agrees texts can =
+      loop_formed code p a.stack (x.code (in_loop a.stack) n) (λ lead behind_it. h (in_loop a.stack) n (p + 1 + 1) agrees texts (p + 1, refl, lead) behind_it)
+
+  pub for_stays : (env : W.Frames) (v : Var) (way : Direction) (low high : ValueCode) (body : StatementCode) → ((s : List Kind) → Agrees env s → (at : ℕ) × (newest_at s v ≡ Some at) × (variable_at s 0 v.slot ≡ Some at)) → Usable code low Integer → Usable code high Integer → Stays env body.texts body.code → Stays env (for v way low high body).texts (for v way low high body).code
+  for_stays env v way low high body parameter from to h a n p agrees texts can =
+      let s = a.stack in
+      let one_up = Operand Integer ∷ s in
+      let top = with_bounds s in
+      let first = low.code (new_operand s) Integer s in
+      let second = high.code (new_operand one_up) Integer one_up in
+      let turn = body.code (in_loop top) n in
+      let q = p + length (bounds_code low high s) in
+      let cell = parameter s agrees in
+      both_at code p (bounds_code low high s) (turns_code (newest_at s v) v way turn s) s top (Some s)
+      (both code first second s one_up (Some top) (from.formed (new_operand s) s refl) (to.formed (new_operand one_up) one_up refl) p)
+      (subst (λ o. FormedAt code q (turns_code o v way turn s) top (Some s)) (sym cell.1)
+      (turns_formed code q s v way cell.0 turn cell.2 (λ lead. h (in_loop top) n (q + 1 + 1) (agrees_under env one_up Integer (agrees_under env s Integer agrees)) texts (q + 1, refl, lead))))

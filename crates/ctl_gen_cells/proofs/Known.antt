@@ -1,0 +1,93 @@
+-- The types of the variables of this version: scalar ones, and controlled record types without components.
+use Rattle.std.proofs.Common.{◌≡◌, ℕ, zero, suc, List, [], ◌∷◌, ◌++◌, Option, Some, None, Bool, true, false, refl, ap, ◌∙◌}
+use Rattle.std.specs.Prelude.{slice_get, ◌&&◌}
+use Rattle.ctl_program.specs.declared.types.Ty.{Ty}
+use Rattle.ctl_program.specs.declared.types.Ty.TheVariants.{Integer, Count, Boolean, Address, Handle, Access, Record}
+use Rattle.ctl_program.specs.declared.types.Root.{Root}
+use Rattle.ctl_program.specs.declared.types.Root.TheVariants.{Controlled, Untagged, BlockPool, MarkPool}
+use Rattle.ctl_program.specs.declared.types.Component.{Component}
+use Rattle.ctl_program.specs.declared.types.RecordType.{RecordType}
+use Rattle.ctl_meaning.specs.Types.{Tables, Elementary, category_of, components, with_own, of_parent}
+use Rattle.ctl_gen_cells.specs.Values.{is_run_type}
+use Rattle.ctl_gen_cells.specs.Layout.{extends_bare, has_no_components, has_no_parent, is_bare, is_controlled, is_plain}
+
+-- both hold where their conjunction does
+pub both_true : (a b : Bool) → (a && b) ≡ true → (a ≡ true) × (b ≡ true)
+both_true true true e = (refl, refl)
+both_true true false e = absurd (cc)
+both_true false b e = absurd (cc)
+
+abbrev pub IsScalar : Ty → Type 0
+IsScalar Integer = Unit {0}
+IsScalar Boolean = Unit {0}
+IsScalar _ = ⊥
+
+-- a scalar type is elementary
+pub scalar_elementary : (ty : Ty) → IsScalar ty → category_of ty ≡ Elementary
+unfolding category_of
+scalar_elementary Integer h = refl
+scalar_elementary Boolean h = refl
+scalar_elementary Count h = absurd h
+scalar_elementary Address h = absurd h
+scalar_elementary Handle h = absurd h
+scalar_elementary (Access a) h = absurd h
+scalar_elementary (Record t) h = absurd h
+
+pub scalar_if : (ty : Ty) → is_run_type ty ≡ true → IsScalar ty
+scalar_if Integer e = tt
+scalar_if Boolean e = tt
+scalar_if Count e = absurd (cc)
+scalar_if Address e = absurd (cc)
+scalar_if Handle e = absurd (cc)
+scalar_if (Access a) e = absurd (cc)
+scalar_if (Record t) e = absurd (cc)
+
+-- a type that extends Controlled, or Limited_Controlled, without components (7.6)
+pub record IsPlain (k : Tables) (r : RecordType) : Type 0 where
+  pub controlled : r.root ≡ Controlled
+  pub inherits_none : (n : ℕ) → of_parent [] (components n k.records) r.parent ≡ []
+  pub no_components : r.own ≡ []
+
+abbrev pub IsPlainType : Tables → Ty → Type 0
+IsPlainType k (Record t) = (r : RecordType) × (slice_get k.records t ≡ Some r) × IsPlain k r
+IsPlainType k _ = ⊥
+
+root_if : (r : Root) → is_controlled r ≡ true → r ≡ Controlled
+root_if Controlled e = refl
+root_if Untagged e = absurd (cc)
+root_if BlockPool e = absurd (cc)
+root_if MarkPool e = absurd (cc)
+
+parent_if : (o : Option ℕ) → has_no_parent o ≡ true → o ≡ None
+parent_if None e = refl
+parent_if (Some t) e = absurd (cc)
+
+components_if : (cs : List Component) → has_no_components cs ≡ true → cs ≡ []
+components_if [] e = refl
+components_if (c ∷ cs) e = absurd (cc)
+
+-- a bare type has no components
+bare_has_none : (inherited : ℕ → List Component) (o : Option RecordType) → is_bare o ≡ true → with_own inherited o ≡ []
+unfolding with_own of_parent
+bare_has_none inherited None e = refl
+bare_has_none inherited (Some r) e =
+    let h = both_true (has_no_parent r.parent) (has_no_components r.own) e in
+    ap (λ p. of_parent [] inherited p ++ r.own) (parent_if r.parent h.0) ∙ components_if r.own h.1
+
+bare_components : (records : List RecordType) (p n : ℕ) → is_bare (slice_get records p) ≡ true → components n records p ≡ []
+unfolding components
+bare_components records p zero e = refl
+bare_components records p (suc n) e = bare_has_none (components n records) (slice_get records p) e
+
+-- so nothing is inherited from one
+from_bare : (records : List RecordType) (o : Option ℕ) (n : ℕ) → extends_bare records o ≡ true → of_parent [] (components n records) o ≡ []
+unfolding of_parent
+from_bare records None n e = refl
+from_bare records (Some p) n e = bare_components records p n e
+
+pub plain_if : (k : Tables) (o : Option RecordType) → is_plain k.records o ≡ true → (r : RecordType) × (o ≡ Some r) × IsPlain k r
+plain_if k None e = absurd (cc)
+plain_if k (Some r) e =
+    let h = both_true (is_controlled r.root) (extends_bare k.records r.parent && has_no_components r.own) e in
+    let g = both_true (extends_bare k.records r.parent) (has_no_components r.own) h.1 in
+    (r, refl, record { controlled = root_if r.root h.0; inherits_none = λ n. from_bare k.records r.parent n g.0; no_components = components_if r.own g.1 })

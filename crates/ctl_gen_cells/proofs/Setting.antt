@@ -1,0 +1,83 @@
+-- What the simulation of each construct stands on: the tables agree, and bodies behave when they are called.
+use Rattle.std.proofs.Common.{◌≡◌, ℕ, ◌+◌, ◌<◌, ◌≤◌, List, [], ◌∷◌, length, Option, Some, None, refl, ap}
+use Rattle.std.specs.Prelude.{slice_get}
+use Rattle.ctl_program.specs.declared.program.Subprogram.{Subprogram}
+use Rattle.ctl_tree.specs.declared.event.Event.{Event}
+use Rattle.ctl_meaning.specs.World.{Log, World, Slot}
+use Rattle.ctl_meaning.specs.Lists.{last_of}
+use Rattle.ctl_meaning.specs.Choice.{Ask}
+use Rattle.ctl_meaning.specs.Outcome.{Way, ByExit, ByReturn, ByRaise, Result, Goes, Leaves, Tried, Fine, Raised, tell}
+use Rattle.ctl_meaning.specs.Types.{Tables, operation}
+use Rattle.ctl_meaning.specs.Names.{OfSubprogram, Call, Default, Tools}
+use Rattle.ctl_code_cells.specs.declared.code.Entry.{Entry}
+use Rattle.ctl_code_cells.specs.declared.code.Instr.TheVariants as InstrOf
+use Rattle.ctl_code_cells.specs.declared.code.Code.{Code}
+use Rattle.ctl_code_cells.specs.declared.kinds.Kind.{Kind}
+use Rattle.ctl_code_cells.specs.States.{Handed, Complete, Frame, State}
+use Rattle.ctl_code_cells.specs.Table.{enter_body, operation_of}
+use Rattle.ctl_code_cells.specs.Steps.{moved, step}
+use Rattle.ctl_code_cells.specs.Valid.{IsInScope, IsValid, kinds_at}
+use Rattle.ctl_code_cells.specs.Windows.{depth}
+use Rattle.ctl_gen_cells.specs.Run.{IsBody}
+use Rattle.ctl_gen_cells.proofs.Worlds.{Each, IsSmall, Fits, Keeps, Since, home}
+use Rattle.ctl_gen_cells.proofs.Follow.{Runs, at, gives}
+
+-- the machine's table names the operations of the record types, these are among these subprograms, and the code is well formed
+pub record Setting (k : Tables) (code : Code) : Type 0 where
+  pub subprograms : List Subprogram
+  pub valid : IsValid code
+  pub initialize : (t : ℕ) → operation_of (λ x. x.initialize) code t ≡ operation (λ x. x.initialize) k t
+  pub finalize : (t : ℕ) → operation_of (λ x. x.finalize) code t ≡ operation (λ x. x.finalize) k t
+  pub initialize_body : (t f : ℕ) → operation (λ x. x.initialize) k t ≡ Some f → IsBody subprograms f
+  pub finalize_body : (t f : ℕ) → operation (λ x. x.finalize) k t ≡ Some f → IsBody subprograms f
+
+-- what evaluates with these executions
+abbrev pub tools_with : Ask → Tables → Call → Default → Tools
+tools_with ask k call default = record { ask = ask; tables = k; call = call; default = default }
+
+-- a display is seen: that of its last master, which is older than the next one; it has as many masters as stand around
+pub record Sees (d : List ℕ) (s : List Kind) (w : World) : Type 0 where
+  pub old : last_of d < w.ledger.next_master
+  pub home : home (last_of d) w.activations ≡ d
+  pub long : length d ≡ depth s
+
+-- what an execution gives to the frame that waits for it
+abbrev pub ended : {A : Type 0} → Result A → Tried Handed
+ended (Goes a) = Fine Complete
+ended (Leaves ByExit) = Fine Complete
+ended (Leaves (ByReturn v)) = Fine Complete
+ended (Leaves (ByRaise e)) = Raised e
+
+abbrev pub returns : {A : Type 0} → List Frame → Result A → Log → World → State
+returns ks r l w = gives ks (ended r) l w
+
+-- nothing but an exception leaves a body
+abbrev pub IsTold : Option Way → Type 0
+IsTold None = Unit {0}
+IsTold (Some ByExit) = ⊥
+IsTold (Some (ByReturn v)) = ⊥
+IsTold (Some (ByRaise e)) = Unit {0}
+
+abbrev pub Told : (k : Tables) (code : Code) → World → Option Way → World → Type 0
+Told k code w0 y w = IsTold y × Since k code w0 w
+
+-- nothing leaves a finalization
+abbrev pub IsSure : Option Way → Type 0
+IsSure None = Unit {0}
+IsSure (Some y) = ⊥
+
+abbrev pub Sure : (k : Tables) (code : Code) → World → Option Way → World → Type 0
+Sure k code w0 y w = IsSure y × Since k code w0 w
+
+-- bodies behave, while at most this much is on the clock: from the state whose step enters the body, in so many masters as are around it
+pub record Calls (ask : Ask) (k : Tables) (code : Code) (setting : Setting k code) (bound : ℕ) (call : Call) : Type 0 where
+  pub runs : (f : ℕ) (s : Subprogram) → slice_get setting.subprograms f ≡ Some s → (w0 : World) (v : List ℕ) (actuals : List Slot) (ks : List Frame) (c : ℕ) (l : Log) (w : World) (s0 : State) → c ≤ bound → Since k code w0 w → IsInScope code (length v) (Some f) → Each IsSmall actuals → step ask code s0 ≡ moved l (enter_body (slice_get code.entries.items f) [] v actuals ks w) → Runs ask code (Told k code w0) 2 2 s0 c (returns ks) (call (OfSubprogram f actuals) v c l w)
+
+-- what is shown when a body is entered is shown before
+pub enter_shows : (x : Option Entry) (e : Event) (v : List ℕ) (actuals : List Slot) (k : List Frame) (l : Log) (w : World) → moved l (enter_body x (e ∷ []) v actuals k w) ≡ moved (tell e l) (enter_body x [] v actuals k w)
+enter_shows None e v actuals k l w = refl
+enter_shows (Some x) e v actuals k l w = refl
+
+-- where something stands there is an instruction
+pub never_missing : (code : Code) → IsValid code → (place : ℕ) (s : List Kind) → slice_get code.instructions.items place ≡ Some InstrOf.Missing → kinds_at code place ≡ Some s → ⊥
+never_missing code valid place s here standing = valid.each place InstrOf.Missing s here standing

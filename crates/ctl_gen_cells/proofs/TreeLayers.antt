@@ -1,0 +1,44 @@
+-- What each layer of a tree has, by what its parts have.
+use Rattle.std.proofs.Common.{◌≡◌, Option}
+use Rattle.ctl_program.specs.declared.types.Var.{Var}
+use Rattle.ctl_program.specs.declared.expression.Expr.{Expr, roll-Expr, map-Expr, fold-roll-Expr}
+use Rattle.ctl_program.specs.declared.expression.Name.{Name, roll-Name, map-Name, fold-roll-Name}
+use Rattle.ctl_program.specs.declared.expression.Actual.{Actual, fold-Actual}
+use Rattle.ctl_program.specs.declared.expression.Operand.{Operand, Operand-F, roll-Operand, map-Operand, fold-roll-Operand}
+use Rattle.ctl_program.specs.declared.expression.Actual.TheOpen.{Expr-F, Name-F}
+use Rattle.ctl_program.specs.declared.statement.Stmt.{Stmt, roll-Stmt, map-Stmt, fold-roll-Stmt}
+use Rattle.ctl_program.specs.declared.statement.Stmt.TheOpen.{Stmt-F}
+use Rattle.ctl_program.specs.declared.statement.Arm.{Arm, Arm-F, roll-Arm, map-Arm, fold-roll-Arm}
+use Rattle.ctl_program.specs.declared.statement.Handler.{Handler}
+use Rattle.ctl_program.specs.declared.statement.Master.{Master, Master-F, roll-Master, map-Master, fold-roll-Master}
+use Rattle.ctl_gen_cells.specs.Values.{ValueCode, OperatorCode, NoCode, value_code, variable_of, operator_of, actual_step, value_step, name_step, operator_step}
+use Rattle.ctl_gen_cells.specs.Layout.{StatementCode, ArmCode, MasterCode, statement_code, arm_code, no_code, master_code, statement_step, arm_step, handler_step, master_step}
+use Rattle.ctl_gen_cells.specs.Layout as L
+
+-- an actual has nothing
+abbrev none : Actual → NoCode
+none = fold-Actual NoCode ValueCode (Option Var) OperatorCode actual_step value_step name_step operator_step
+
+pub value_roll : (y : Expr-F Actual Expr Name Operand) → value_code (roll-Expr y) ≡ value_step (map-Expr Actual Expr Name Operand NoCode ValueCode (Option Var) OperatorCode none value_code variable_of operator_of y)
+unfolding value_code variable_of operator_of
+value_roll y = fold-roll-Expr NoCode ValueCode (Option Var) OperatorCode actual_step value_step name_step operator_step y
+
+pub variable_roll : (y : Name-F Actual Expr Name Operand) → variable_of (roll-Name y) ≡ name_step (map-Name Actual Expr Name Operand NoCode ValueCode (Option Var) OperatorCode none value_code variable_of operator_of y)
+unfolding value_code variable_of operator_of
+variable_roll y = fold-roll-Name NoCode ValueCode (Option Var) OperatorCode actual_step value_step name_step operator_step y
+
+pub operator_roll : (y : Operand-F Actual Expr Name Operand) → operator_of (roll-Operand y) ≡ operator_step (map-Operand Actual Expr Name Operand NoCode ValueCode (Option Var) OperatorCode none value_code variable_of operator_of y)
+unfolding value_code variable_of operator_of
+operator_roll y = fold-roll-Operand NoCode ValueCode (Option Var) OperatorCode actual_step value_step name_step operator_step y
+
+pub statement_roll : (y : Stmt-F Stmt Arm Handler Master) → statement_code (roll-Stmt y) ≡ statement_step (map-Stmt Stmt Arm Handler Master StatementCode ArmCode L.NoCode MasterCode statement_code arm_code no_code master_code y)
+unfolding statement_code arm_code no_code master_code
+statement_roll y = fold-roll-Stmt StatementCode ArmCode L.NoCode MasterCode statement_step arm_step handler_step master_step y
+
+pub arm_roll : (y : Arm-F Stmt Arm Handler Master) → arm_code (roll-Arm y) ≡ arm_step (map-Arm Stmt Arm Handler Master StatementCode ArmCode L.NoCode MasterCode statement_code arm_code no_code master_code y)
+unfolding statement_code arm_code no_code master_code
+arm_roll y = fold-roll-Arm StatementCode ArmCode L.NoCode MasterCode statement_step arm_step handler_step master_step y
+
+pub master_roll : (y : Master-F Stmt Arm Handler Master) → master_code (roll-Master y) ≡ master_step (map-Master Stmt Arm Handler Master StatementCode ArmCode L.NoCode MasterCode statement_code arm_code no_code master_code y)
+unfolding statement_code arm_code no_code master_code
+master_roll y = fold-roll-Master StatementCode ArmCode L.NoCode MasterCode statement_step arm_step handler_step master_step y

@@ -1,0 +1,11 @@
+use Rattle.std.proofs.Common.{refl, sym, subst}
+use Rattle.ctl_gen_cells.specs.Correct.{Behaves}
+use Rattle.ctl_gen_cells.proofs.FormedWhole.{is_valid}
+use Rattle.ctl_gen_cells.proofs.generate.generate.Goals as goal
+
+pub returns-in-Some-clause-behaves : goal.returns-in-Some-clause-behaves
+returns-in-Some-clause-behaves c run_it linked = ?
+
+pub returns-in-None-clause-memory : goal.returns-in-None-clause-memory
+returns-in-None-clause-memory c run_it typed =
+    absurd (c.in-None.ensures.refused refl (is_valid c.args.program.now c.in_ok-assemble.field-0 c.in_ok-assemble.ensures.laid_out c.in_ok-assemble.ensures.kinds run_it typed))
