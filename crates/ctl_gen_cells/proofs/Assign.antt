@@ -1,6 +1,6 @@
 -- An elementary variable takes the value of an expression: by an assignment (5.2), or where it is declared (3.3.1).
-use Rattle.std.proofs.Common.{◌≡◌, ℕ, zero, suc, ◌+◌, ◌-◌, ◌<◌, ◌≤◌, List, [], ◌∷◌, ◌++◌, length, reverse, Option, Some, None, refl, sym, ap, ◌∙◌, subst, arith, length-append}
-use Rattle.std.specs.Prelude.{slice_get, get_or}
+use Rattle.std.proofs.Common.{◌≡◌, ℕ, ◌+◌, ◌-◌, ◌<◌, ◌≤◌, List, [], ◌∷◌, ◌++◌, length, reverse, Option, Some, None, refl, sym, ap, ◌∙◌, subst, arith, length-append}
+use Rattle.std.specs.Prelude.{get_or}
 use Rattle.std.proofs.lemmas.Option.{slice_get-get_or}
 use Rattle.std.proofs.lemmas.List.{get_or-reverse, length-reverse}
 use Rattle.ctl_program.specs.declared.types.Ty.{Ty}
@@ -12,31 +12,31 @@ use Rattle.ctl_meaning.specs.Objects.{overwritten}
 use Rattle.ctl_meaning.specs.Activations.{master_of}
 use Rattle.ctl_meaning.specs.Changes.{set_slot, take_object_number, opened_changes}
 use Rattle.ctl_meaning.specs.Choice.{Ask}
-use Rattle.ctl_meaning.specs.Outcome.{ByRaise, Result, Goes, Leaves, Gives, Act, add, bind, on_goes, ◌>>=◌, done, ticked, opened_outcome}
+use Rattle.ctl_meaning.specs.Outcome.{ByRaise, Goes, Leaves, Gives, Act, add, bind, on_goes, ◌>>=◌, done, ticked, opened_outcome}
 use Rattle.ctl_meaning.specs.Types.{Tables, category_of, opened_types}
 use Rattle.ctl_meaning.specs.Names.{Call, Default, Tools, Found, InCopy, copy_in, slot_at, scalar_of, write_found}
 use Rattle.ctl_meaning.specs.Masters.{declare}
 use Rattle.ctl_code_cells.specs.declared.code.Instr.TheVariants as InstrOf
-use Rattle.ctl_code_cells.specs.declared.code.Named.TheVariants.{Operand, Variable}
+use Rattle.ctl_code_cells.specs.declared.code.Named.TheVariants.{Variable}
 use Rattle.ctl_code_cells.specs.declared.code.Code.{Code}
 use Rattle.ctl_code_cells.specs.declared.kinds.Kind.{Kind}
-use Rattle.ctl_code_cells.specs.States.{Frame, State}
-use Rattle.ctl_code_cells.specs.Steps.{moved, step}
+use Rattle.ctl_code_cells.specs.States.{Frame}
+use Rattle.ctl_code_cells.specs.Steps.{moved}
 use Rattle.ctl_code_cells.specs.Table.{out_of, on, with_cell}
 use Rattle.ctl_code_cells.specs.Valid.{IsValid}
 use Rattle.ctl_code_cells.specs.Windows.{variable_at}
-use Rattle.ctl_gen_cells.specs.Around.{Line, Around, local_at, local_cell, newest_cell, out_to}
-use Rattle.ctl_gen_cells.specs.Values.{ValueCode, Held, held, value_type}
+use Rattle.ctl_gen_cells.specs.Around.{Around, local_at, local_cell, newest_cell, out_to}
+use Rattle.ctl_gen_cells.specs.Values.{ValueCode, held, value_type}
 use Rattle.ctl_gen_cells.specs.Layout.{assign_code, store_code, scalar_code, valued_code}
 use Rattle.ctl_gen_cells.proofs.Known.{IsScalar}
 use Rattle.ctl_gen_cells.proofs.Place.{Laid, laid_front, laid_back}
-use Rattle.ctl_gen_cells.proofs.Worlds.{IsSmall, Fits, Since, Kept, since_slot, since_number, written_is}
+use Rattle.ctl_gen_cells.proofs.Worlds.{Fits, Since, Kept, since_slot, since_number, written_is}
 use Rattle.ctl_gen_cells.proofs.Setting.{Sees, tools_with, never_missing}
 use Rattle.ctl_gen_cells.proofs.Cells.{here, by_code, landed, waiting, Stays, taking_is, out_is, Any}
 use Rattle.ctl_gen_cells.proofs.Worth.{both_cell}
 use Rattle.ctl_gen_cells.proofs.Expressions.{Uses, Value, value_runs, held_holds, held_then}
 use Rattle.ctl_gen_cells.proofs.Does.{Does}
-use Rattle.ctl_gen_cells.proofs.Follow.{Runs, Landing, landing_of, at, transferred, arrives, added, within, one_step, last_step, no_step, arriving, bind_bind}
+use Rattle.ctl_gen_cells.proofs.Follow.{Runs, landing_of, at, arrives, added, one_step, last_step, no_step, arriving, bind_bind}
 
 -- the newest master of a display is its last
 last_item : (x : ℕ) (xs : List ℕ) → last_of (x ∷ xs) ≡ get_or (x ∷ xs) (length xs) 0

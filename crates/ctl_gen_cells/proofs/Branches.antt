@@ -5,7 +5,7 @@ use Rattle.ctl_program.specs.declared.types.Ty.TheVariants.{Boolean}
 use Rattle.ctl_meaning.specs.World.{Log, World}
 use Rattle.ctl_meaning.specs.Lists.{opened_lists}
 use Rattle.ctl_meaning.specs.Choice.{Ask}
-use Rattle.ctl_meaning.specs.Outcome.{ByExit, ByReturn, ByRaise, Result, Goes, Leaves, Act, Done, bind, on_goes, either, opened_outcome}
+use Rattle.ctl_meaning.specs.Outcome.{ByExit, ByReturn, ByRaise, Result, Goes, Leaves, Act, Done, on_goes, either, opened_outcome}
 use Rattle.ctl_meaning.specs.Numbers.{is_true}
 use Rattle.ctl_meaning.specs.Types.{Tables}
 use Rattle.ctl_meaning.specs.Names.{scalar_of}
@@ -23,7 +23,7 @@ use Rattle.ctl_gen_cells.proofs.Setting.{Sees}
 use Rattle.ctl_gen_cells.proofs.Expressions.{Value}
 use Rattle.ctl_gen_cells.proofs.Loops.{test_runs}
 use Rattle.ctl_gen_cells.proofs.Does.{Does}
-use Rattle.ctl_gen_cells.proofs.Follow.{IsGoing, Runs, Landing, landing_of, landing_further, at, arrives, within, one_step, no_step, further}
+use Rattle.ctl_gen_cells.proofs.Follow.{Runs, Landing, landing_of, landing_further, at, arrives, one_step, no_step, further}
 
 module _ (ask : Ask) (k : Tables) (code : Code) (bound : ℕ) where
   -- what leads from the end of an arm behind the whole, in two steps at most

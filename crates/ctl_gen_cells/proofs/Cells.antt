@@ -1,5 +1,5 @@
 -- Where values stand on the machine: an operand, or the cell of a variable.
-use Rattle.std.proofs.Common.{◌≡◌, ℕ, zero, suc, ◌+◌, ◌-◌, ◌<◌, ◌≤◌, List, [], ◌∷◌, ◌++◌, length, reverse, Option, Some, None, Bool, true, false, refl, sym, ap, ◌∙◌, arith, subst}
+use Rattle.std.proofs.Common.{◌≡◌, ℕ, ◌+◌, ◌-◌, ◌<◌, ◌≤◌, List, [], ◌∷◌, length, reverse, Some, Bool, true, false, refl, sym, ap, ◌∙◌, arith, subst}
 use Rattle.std.specs.Prelude.{slice_get, nat_lt, if◌then◌else◌, get_or}
 use Rattle.std.proofs.lemmas.Option.{slice_get-get_or, slice_get_past}
 use Rattle.std.proofs.lemmas.List.{get_or-reverse, length-reverse}
@@ -7,10 +7,10 @@ use Rattle.std.proofs.lemmas.Bool.{ltb-true, ltb-false}
 use Rattle.ctl_program.specs.declared.types.Var.{Var}
 use Rattle.ctl_meaning.specs.World.{Log, World}
 use Rattle.ctl_meaning.specs.Lists.{item_or, opened_lists}
-use Rattle.ctl_meaning.specs.Activations.{master_of, opened_activations}
-use Rattle.ctl_meaning.specs.Outcome.{Way, ByExit, ByReturn, ByRaise, Result, Goes, Leaves, Out, Gives, Stops, Cut, add, opened_outcome}
+use Rattle.ctl_meaning.specs.Activations.{master_of}
+use Rattle.ctl_meaning.specs.Outcome.{Way, ByExit, ByReturn, ByRaise, Result, Goes, Leaves, Out, Gives, Stops, Cut}
 use Rattle.ctl_meaning.specs.Choice.{Ask, picked}
-use Rattle.ctl_meaning.specs.Names.{copy_in, slot_at, scalar_of, opened_names}
+use Rattle.ctl_meaning.specs.Names.{copy_in, slot_at, scalar_of}
 use Rattle.ctl_code_cells.specs.declared.code.Named.{Named}
 use Rattle.ctl_code_cells.specs.declared.code.Named.TheVariants.{Operand, Variable}
 use Rattle.ctl_code_cells.specs.declared.code.Instr.{Instr}

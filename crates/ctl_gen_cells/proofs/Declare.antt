@@ -22,18 +22,18 @@ use Rattle.ctl_code_cells.specs.declared.code.Instr.TheVariants as InstrOf
 use Rattle.ctl_code_cells.specs.declared.code.Code.{Code}
 use Rattle.ctl_code_cells.specs.States.{At, Stopped, Point, Frame, Initializing, State, Move}
 use Rattle.ctl_code_cells.specs.declared.kinds.Kind.{Kind}
-use Rattle.ctl_code_cells.specs.Valid.{IsInScope, IsDeclarable, IsValid}
+use Rattle.ctl_code_cells.specs.Valid.{IsDeclarable}
 use Rattle.ctl_code_cells.specs.Table as Table
 use Rattle.ctl_code_cells.specs.Table.{whole_part, showing, birth, come_to_life, operation_of}
 use Rattle.ctl_code_cells.specs.Steps.{moved, step}
 use Rattle.ctl_gen_cells.proofs.Known.{IsPlain}
-use Rattle.ctl_gen_cells.proofs.Worlds.{Each, IfFound, IsSmall, Fits, Keeps, Settled, Since, Kept, home, object_fits, created_ty, since_create, since_slot, since_layer, since_begin, since_end}
+use Rattle.ctl_gen_cells.proofs.Worlds.{IfFound, Settled, Since, Kept, home, object_fits, created_ty, since_create, since_slot, since_layer, since_begin, since_end}
 use Rattle.ctl_gen_cells.proofs.Finalize.{initialize_scope}
 use Rattle.ctl_gen_cells.proofs.Plain.{is_controlled_plain, begin_cells_plain, parts_to_begin_plain, parts_to_finalize_plain}
 use Rattle.ctl_gen_cells.proofs.Setting.{Setting, tools_with, returns, Told, Sees, Calls, enter_shows}
 use Rattle.ctl_gen_cells.proofs.Cells.{by_code}
 use Rattle.ctl_gen_cells.proofs.Place.{Laid}
-use Rattle.ctl_gen_cells.proofs.Follow.{Comes, Runs, within, Landing, landing_of, at, arrives, added, stop_step, then_step, then_stops, more_quits, more_halts}
+use Rattle.ctl_gen_cells.proofs.Follow.{Comes, Runs, within, Landing, at, arrives, stop_step, then_step, then_stops, more_quits, more_halts}
 
 -- the birth of an object that is found, or not
 abbrev life : Option ℕ → Option Object → ℕ → Point → List Frame → World → Move

@@ -12,10 +12,10 @@ use Rattle.ctl_meaning.specs.Choice.{Ask}
 use Rattle.ctl_meaning.specs.Outcome.{◌>>=◌, ticked, opened_outcome}
 use Rattle.ctl_meaning.specs.Types.{Tables, Category, Elementary, cells_of}
 use Rattle.ctl_meaning.specs.Names.{Call, Default, Tools, read_found, walk, begins_as, opened_names}
-use Rattle.ctl_meaning.specs.Expressions.{Applied, Naming, Valued, apply, apply_each, eval, eval_name, eval_step, name_step as name_meaning, operand_step, join_each, var_part}
+use Rattle.ctl_meaning.specs.Expressions.{Applied, Naming, Valued, apply, eval, eval_name, eval_step, name_step as name_meaning, operand_step, var_part}
 use Rattle.ctl_meaning.proofs.Trees.{eval_roll, name_roll, operand_roll}
 use Rattle.ctl_code_cells.specs.declared.code.Code.{Code}
-use Rattle.ctl_gen_cells.specs.Values.{ValueCode, OperatorCode, missing_value, operator_code, operator_of, operators_run, read, value_code, values_run, variable_of}
+use Rattle.ctl_gen_cells.specs.Values.{ValueCode, OperatorCode, missing_value, operator_of, operators_run, read, value_code, values_run, variable_of}
 use Rattle.ctl_gen_cells.proofs.Known.{both_true, scalar_elementary, scalar_if}
 use Rattle.ctl_gen_cells.proofs.TreeLayers.{value_roll, variable_roll, operator_roll}
 use Rattle.ctl_gen_cells.proofs.Setting.{tools_with}

@@ -1,6 +1,6 @@
 -- The code of an expression puts the expression's value where it is wanted, or leaves the statement. An expression is an act that gives one
 -- cell: nothing else is said of what it does.
-use Rattle.std.proofs.Common.{◌≡◌, ℕ, ◌+◌, ◌≤◌, List, [], ◌∷◌, ◌++◌, length, append-nil, Option, Some, None, Bool, true, false, refl, sym, ap, ◌∙◌, subst, arith, length-append}
+use Rattle.std.proofs.Common.{◌≡◌, ℕ, ◌+◌, ◌≤◌, List, [], ◌∷◌, ◌++◌, length, Option, Some, None, Bool, true, false, refl, sym, ap, ◌∙◌, subst, arith, length-append}
 use Rattle.std.specs.Prelude.{slice_get}
 use Rattle.ctl_program.specs.declared.types.Ty.{Ty}
 use Rattle.ctl_program.specs.declared.types.Ty.TheVariants.{Boolean}
@@ -20,26 +20,25 @@ use Rattle.ctl_meaning.specs.Names.{Tools}
 use Rattle.ctl_code_cells.specs.declared.code.Named.{Named}
 use Rattle.ctl_code_cells.specs.declared.code.Named.TheVariants.{Operand, Variable}
 use Rattle.ctl_code_cells.specs.declared.code.Cell.{Cell}
-use Rattle.ctl_code_cells.specs.declared.code.Instr.{Instr}
 use Rattle.ctl_code_cells.specs.declared.code.Instr.TheVariants as InstrOf
 use Rattle.ctl_code_cells.specs.declared.code.Code.{Code}
 use Rattle.ctl_code_cells.specs.declared.kinds.Kind.{Kind}
 use Rattle.ctl_code_cells.specs.declared.kinds.Kind.TheVariants as KindOf
 use Rattle.ctl_code_cells.specs.States.{Frame, State}
-use Rattle.ctl_code_cells.specs.Table.{taking, put, by_result, by_binary, by_decision, cell_at}
-use Rattle.ctl_code_cells.specs.Steps.{moved, step, steps}
+use Rattle.ctl_code_cells.specs.Table.{by_result, by_binary, by_decision, cell_at}
+use Rattle.ctl_code_cells.specs.Steps.{moved, step}
 use Rattle.ctl_code_cells.specs.Windows.{depth, height}
 use Rattle.ctl_gen_cells.specs.declared.right.Right.{Right}
 use Rattle.ctl_gen_cells.specs.declared.right.Right.TheVariants as RightOf
 use Rattle.ctl_gen_cells.specs.Around.{Line, new_operand, local_at, local_cell, out_to}
-use Rattle.ctl_gen_cells.specs.Values.{ValueCode, OperatorCode, Held, held, held_by, evaluated, in_cell, left_held, operator_for, binary_code, operator_by, operator_code, next_target, operators_code, other_code, others_code, moved_to, constant, read, read_from, unary_code, chain, first_type, short}
+use Rattle.ctl_gen_cells.specs.Values.{ValueCode, OperatorCode, Held, held, held_by, evaluated, in_cell, left_held, operator_for, binary_code, operator_by, operator_code, operators_code, other_code, others_code, moved_to, constant, read, read_from, unary_code, chain, first_type, short}
 use Rattle.ctl_gen_cells.specs.Values.{unary as unary_value_code}
 use Rattle.ctl_gen_cells.proofs.Known.{IsScalar}
 use Rattle.ctl_gen_cells.proofs.Values.{one_cell, scalar_cells}
 use Rattle.ctl_gen_cells.proofs.Place.{Laid, laid_front, laid_back}
-use Rattle.ctl_gen_cells.proofs.Cells.{here, by_code, landed, landed_leaves, put_is, put_there, waiting, Stays, held_in, taking_is, value_of, cell_is, IsCell, Any}
+use Rattle.ctl_gen_cells.proofs.Cells.{here, by_code, landed, landed_leaves, put_is, waiting, Stays, held_in, taking_is, value_of, cell_is, IsCell, Any}
 use Rattle.ctl_gen_cells.proofs.Worth.{cell_later, cell_then, cell_always, both_cell, then_paid}
-use Rattle.ctl_gen_cells.proofs.Follow.{Runs, at, transferred, added, within, further, one_step, last_step, no_step, arriving, bind_add}
+use Rattle.ctl_gen_cells.proofs.Follow.{Runs, at, transferred, added, within, one_step, last_step, no_step, arriving, bind_add}
 
 module _ (ask : Ask) (k : Tables) (code : Code) (Fits : World → Type 0) where
   abbrev Kept : Option Way → World → Type 0

@@ -1,5 +1,5 @@
 -- The finalization of a declared object of a plain type.
-use Rattle.std.proofs.Common.{◌≡◌, ℕ, ◌<◌, ◌≤◌, List, [], ◌∷◌, length, Option, Some, None, Bool, true, false, refl, sym, ap, ◌∙◌, subst, arith}
+use Rattle.std.proofs.Common.{◌≡◌, ℕ, ◌≤◌, List, [], ◌∷◌, length, Option, Some, None, Bool, true, false, refl, sym, ap, ◌∙◌, subst, arith}
 use Rattle.std.specs.Prelude.{slice_get, ◌&&◌, ◌||◌, nat_eq}
 use Rattle.ctl_program.specs.declared.types.Ty.{Ty}
 use Rattle.ctl_program.specs.declared.types.Ty.TheVariants.{Record}
@@ -8,12 +8,12 @@ use Rattle.ctl_tree.specs.declared.ending.Stop.TheVariants.{UseAfterFree}
 use Rattle.ctl_tree.specs.declared.event.Event.{Event}
 use Rattle.ctl_tree.specs.declared.event.Event.TheVariants as EventOf
 use Rattle.ctl_tree.specs.declared.event.Cause.TheVariants.{Scope}
-use Rattle.ctl_meaning.specs.World.{Object, Origin, Declared, Allocated, Member, Log, World, Binds}
+use Rattle.ctl_meaning.specs.World.{Object, Member, Log, World, Binds}
 use Rattle.ctl_meaning.specs.Lists.{first_with, opened_lists}
 use Rattle.ctl_meaning.specs.Pools.{opened_pools}
 use Rattle.ctl_meaning.specs.Changes.{object_at, begin_finalization, end_finalization, home_of, home_master, opened_changes}
 use Rattle.ctl_meaning.specs.Choice.{Ask, picked}
-use Rattle.ctl_meaning.specs.Outcome.{Way, ByExit, ByReturn, ByRaise, Result, Goes, Leaves, Out, Gives, Stops, Cut, Act, Done, Tried, Fine, add, bind, on_goes, ◌>>=◌, ◌>>◌, done, nothing, tell, show, look, change, told, either, on_some, opened_outcome}
+use Rattle.ctl_meaning.specs.Outcome.{ByExit, ByReturn, ByRaise, Result, Goes, Leaves, Out, Gives, Stops, Cut, Act, Done, Fine, add, bind, on_goes, ◌>>=◌, ◌>>◌, done, nothing, tell, show, look, change, told, either, on_some, opened_outcome}
 use Rattle.ctl_meaning.specs.Types.{Tables, operation, depth, of_record}
 use Rattle.ctl_meaning.specs.Names.{OfSubprogram, Returned, Call, Default, Tools, gone, opened_names}
 use Rattle.ctl_meaning.specs.Finalization.{whole, Every, component_at, call_operation, after_finalize, own_finalize, in_any_order, finalize_part, finalize, finalize_object, finalize_if_controlled, opened_finalization}
@@ -26,10 +26,10 @@ use Rattle.ctl_code_cells.specs.Table.{whole_part, operation_of, operation_in}
 use Rattle.ctl_code_cells.specs.Steps.{moved, step}
 use Rattle.ctl_code_cells.specs.Valid.{IsInScope, IsDeclarable}
 use Rattle.ctl_gen_cells.proofs.Known.{IsPlain}
-use Rattle.ctl_gen_cells.proofs.Worlds.{Each, IfFound, IsSmall, Fits, Settled, Since, IsInside, home, object_fits, since_begin, since_end}
+use Rattle.ctl_gen_cells.proofs.Worlds.{IfFound, Fits, Settled, Since, IsInside, home, object_fits, since_begin, since_end}
 use Rattle.ctl_gen_cells.proofs.Plain.{is_controlled_plain, has_controlled_plain, parts_to_finalize_plain}
 use Rattle.ctl_gen_cells.proofs.Setting.{Setting, tools_with, returns, Told, Sure, Calls, enter_shows}
-use Rattle.ctl_gen_cells.proofs.Follow.{Runs, gives, way_of, both, no_step, last_step, stop_step, one_step, within, then_step, more_quits, more_halts}
+use Rattle.ctl_gen_cells.proofs.Follow.{Runs, gives, way_of, both, no_step, last_step, stop_step, within, then_step, more_quits, more_halts}
 
 -- whether a finalization failed is what it hands on
 abbrev pub handed : Bool → Handed

@@ -1,5 +1,5 @@
 -- The machine follows a meaning: what holds of one stretch of steps, and how stretches are joined.
-use Rattle.std.proofs.Common.{◌≡◌, ℕ, zero, suc, ◌+◌, ◌-◌, ◌*◌, ◌≤◌, List, [], ◌∷◌, Bool, Option, Some, None, refl, sym, ap, ◌∙◌, subst, arith, ◌⊎◌, inl, inr}
+use Rattle.std.proofs.Common.{◌≡◌, ℕ, zero, suc, ◌+◌, ◌-◌, ◌*◌, ◌≤◌, List, [], ◌∷◌, Option, Some, None, refl, sym, ap, ◌∙◌, subst, arith, ◌⊎◌, inl, inr}
 use Rattle.ctl_tree.specs.declared.ending.Stop.{Stop}
 use Rattle.ctl_meaning.specs.World.{Log, World}
 use Rattle.ctl_meaning.specs.Choice.{Ask}

@@ -1,31 +1,31 @@
 -- A master is left: its layers are finalized, from the newest on, and what it declared is gone.
-use Rattle.std.proofs.Common.{◌≡◌, ℕ, ◌<◌, ◌≤◌, List, [], ◌∷◌, length, Option, Some, None, Bool, true, false, refl, sym, ap, ◌∙◌, subst, arith}
+use Rattle.std.proofs.Common.{◌≡◌, ℕ, ◌≤◌, List, [], ◌∷◌, Option, Some, None, Bool, true, false, refl, sym, ap, ◌∙◌, subst, arith}
 use Rattle.std.specs.Prelude.{◌||◌, if◌then◌else◌, nat_eq}
 use Rattle.ctl_program.specs.declared.types.Ty.{Ty}
 use Rattle.ctl_program.specs.declared.types.Ty.TheVariants.{Integer, Count, Boolean, Address, Handle, Access, Record}
 use Rattle.ctl_tree.specs.declared.ending.Stop.TheVariants.{UseAfterFree}
 use Rattle.ctl_meaning.specs.World.{Object, Layer, Single, Sets, Log, World}
 use Rattle.ctl_meaning.specs.Lists.{first_with, change_each, opened_lists}
-use Rattle.ctl_meaning.specs.Objects.{object_in, change_in, with_begun, opened_objects}
+use Rattle.ctl_meaning.specs.Objects.{object_in, change_in, with_begun}
 use Rattle.ctl_meaning.specs.Ledger.{layers_of, drop_layer}
 use Rattle.ctl_meaning.specs.Activations.{slots_in, activation_at}
 use Rattle.ctl_meaning.specs.Changes.{object_at, take_layer, close_master, begin_finalization, opened_changes}
 use Rattle.ctl_meaning.specs.Choice.{Ask, picked}
-use Rattle.ctl_meaning.specs.Outcome.{program_error, Way, ByRaise, Result, Goes, Leaves, Out, Act, Done, Fine, bind, on_goes, ◌>>◌, ticked, change, on_some, opened_outcome}
+use Rattle.ctl_meaning.specs.Outcome.{program_error, ByRaise, Result, Goes, Leaves, Out, Act, Done, Fine, bind, on_goes, ◌>>◌, ticked, change, on_some, opened_outcome}
 use Rattle.ctl_meaning.specs.Types.{Tables}
 use Rattle.ctl_meaning.specs.Names.{Call, Default, Tools, gone, existing}
 use Rattle.ctl_meaning.specs.Storage.{program_error_if}
 use Rattle.ctl_meaning.specs.Masters as Masters
 use Rattle.ctl_meaning.specs.Masters.{Left, finalize_layer, leave_layers, left}
 use Rattle.ctl_code_cells.specs.declared.code.Code.{Code}
-use Rattle.ctl_code_cells.specs.States.{After, Frame, InMaster, Leaving, State}
+use Rattle.ctl_code_cells.specs.States.{After, Frame, Leaving, State}
 use Rattle.ctl_code_cells.specs.Table.{behind, finalize_declared, next_layer, says_failed}
 use Rattle.ctl_code_cells.specs.Steps.{moved, step}
 use Rattle.ctl_gen_cells.proofs.Known.{IsPlainType}
-use Rattle.ctl_gen_cells.proofs.Worlds.{Each, IfFound, IsSingle, Fits, Settled, Since, object_fits, layers_fit, since_take, since_close}
+use Rattle.ctl_gen_cells.proofs.Worlds.{Each, IfFound, IsSingle, Settled, Since, object_fits, layers_fit, since_take, since_close}
 use Rattle.ctl_gen_cells.proofs.Setting.{Setting, tools_with, Calls, Told, Sure}
 use Rattle.ctl_gen_cells.proofs.Finalize.{finalize_as, declared_runs, handed, tells}
-use Rattle.ctl_gen_cells.proofs.Follow.{Runs, way_of, both, added, one_step, stop_step, end_step, bind_bind}
+use Rattle.ctl_gen_cells.proofs.Follow.{Runs, way_of, both, added, stop_step, end_step, bind_bind}
 
 -- where the end of a master leads
 abbrev pub leaves : After → List Frame → Result Left → Log → World → State

@@ -21,6 +21,10 @@ pub mod Leave
 pub mod Declare
 pub mod Texts
 pub mod Statements
+pub mod Ranges
+pub mod Executed
+pub mod Bodies
+pub mod Whole
 pub mod Formed
 pub mod FormedTypes
 pub mod FormedAround

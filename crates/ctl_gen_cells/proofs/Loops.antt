@@ -1,17 +1,16 @@
 -- Loops (5.5, 5.7): each turn takes one from the clock when its statements begin. An exit statement leads to the landing before the first
 -- turn, and that behind the loop.
-use Rattle.std.proofs.Common.{◌≡◌, ℕ, zero, suc, ◌+◌, ◌-◌, ◌≤◌, List, [], ◌∷◌, ◌++◌, length, Option, Some, None, Bool, true, false, refl, sym, ap, ◌∙◌, subst, arith, length-append, inl}
+use Rattle.std.proofs.Common.{◌≡◌, ℕ, zero, suc, ◌+◌, ◌-◌, ◌≤◌, List, [], ◌∷◌, ◌++◌, length, Some, Bool, true, false, refl, sym, ap, ◌∙◌, subst, arith, length-append, inl}
 use Rattle.std.specs.Prelude.{slice_get, if◌then◌else◌}
 use Rattle.ctl_program.specs.declared.types.Ty.TheVariants.{Boolean}
 use Rattle.ctl_meaning.specs.World.{Log, World}
 use Rattle.ctl_meaning.specs.Lists.{opened_lists}
 use Rattle.ctl_meaning.specs.Choice.{Ask}
-use Rattle.ctl_meaning.specs.Outcome.{Way, ByExit, ByReturn, ByRaise, Result, Goes, Leaves, Act, Done, add, bind, on_goes, ◌>>◌, leave_by, done, nothing, ticked, either, opened_outcome}
+use Rattle.ctl_meaning.specs.Outcome.{Way, ByExit, ByReturn, ByRaise, Result, Goes, Leaves, Act, Done, add, bind, on_goes, leave_by, done, nothing, ticked, either, opened_outcome}
 use Rattle.ctl_meaning.specs.Numbers.{is_true}
 use Rattle.ctl_meaning.specs.Types.{Tables}
 use Rattle.ctl_meaning.specs.Names.{scalar_of}
 use Rattle.ctl_meaning.specs.Statements.{scalar, leaving, turned, turns, loop, one_turn, while}
-use Rattle.ctl_code_cells.specs.declared.code.Instr.{Instr}
 use Rattle.ctl_code_cells.specs.declared.code.Instr.TheVariants as InstrOf
 use Rattle.ctl_code_cells.specs.declared.code.Code.{Code}
 use Rattle.ctl_code_cells.specs.declared.kinds.Kind.{Kind}
@@ -19,24 +18,19 @@ use Rattle.ctl_code_cells.specs.States.{Frame, State}
 use Rattle.ctl_code_cells.specs.Table.{by_unless}
 use Rattle.ctl_code_cells.specs.Steps.{moved, step}
 use Rattle.ctl_gen_cells.specs.Around.{Line, Exits, FromMaster, FromLoop, Around, behind, exit_of}
-use Rattle.ctl_gen_cells.specs.Values.{ValueCode, Held, held}
-use Rattle.ctl_gen_cells.specs.Layout.{in_loop, loop_code, leaves_code, test_held, test_code, test_length}
+use Rattle.ctl_gen_cells.specs.Values.{ValueCode, held}
+use Rattle.ctl_gen_cells.specs.Layout.{in_loop, loop_code, leaves_code, test_code, test_length}
 use Rattle.ctl_gen_cells.proofs.Place.{Laid, laid_front, laid_back}
 use Rattle.ctl_gen_cells.proofs.Worlds.{Since, Kept}
 use Rattle.ctl_gen_cells.proofs.Setting.{Sees}
 use Rattle.ctl_gen_cells.proofs.Cells.{here, by_code, waiting, Stays, taking_is}
-use Rattle.ctl_gen_cells.proofs.Expressions.{Value, Holds, held_holds, held_then}
+use Rattle.ctl_gen_cells.proofs.Expressions.{Value, held_holds, held_then}
 use Rattle.ctl_gen_cells.proofs.Does.{Does}
-use Rattle.ctl_gen_cells.proofs.Follow.{IsGoing, Runs, Landing, OutOf, On, landing_of, landing_further, landed_on, at, transferred, arrives, way_of, added, within, one_step, last_step, no_step, both, arriving, left_behind, bind_add, bind_bind}
+use Rattle.ctl_gen_cells.proofs.Follow.{IsGoing, Runs, Landing, On, landing_of, landing_further, landed_on, at, transferred, arrives, added, within, one_step, last_step, no_step, both, arriving, left_behind, bind_add, bind_bind}
 
 module _ (ask : Ask) (k : Tables) (code : Code) (bound : ℕ) where
-  -- an exit leads there
-  exits_run : (b h : ℕ) (e : Landing) (d : List ℕ) (place : ℕ) (ks : List Frame) (ops : List ℕ) (w0 : World) (y : Way) (c : ℕ) (l : Log) (w : World) → Since k code w0 w → (s : State) → s ≡ arrives e d place ks ops (Leaves y) l w → Runs ask code (Kept k code w0) b h s c (arrives e d place ks ops) (leave_by y c l w)
-  unfolding opened_outcome
-  exits_run b h e d place ks ops w0 y c l w fits s is = no_step ask code (Kept k code w0) b h s c 0 (arrives e d place ks ops) (Leaves y) l w fits is
-
   -- a turn, from the step that begins it, and what follows
-  turn_runs : (m : Act Done) (f : Result Bool → Act Done) (w0 : World) (mid next : Result Done → Log → World → State) (s0 s1 : State) (c : ℕ) (l : Log) (w : World) → step ask code s0 ≡ s1 → IsGoing s0 → s0.log ≡ l → ((c1 : ℕ) → c1 + 1 ≤ c → Runs ask code (Kept k code w0) 0 0 s1 c1 mid (m c1 l w)) → ((c1 : ℕ) (l1 : Log) (w2 : World) → c1 + 1 ≤ c → Since k code w0 w2 → Runs ask code (Kept k code w0) 4 4 (mid (Goes tt) l1 w2) c1 next (f (Goes true) c1 l1 w2)) → ((y : Way) (c1 : ℕ) (l1 : Log) (w2 : World) → c1 + 1 ≤ c → Since k code w0 w2 → Runs ask code (Kept k code w0) 4 4 (mid (Leaves y) l1 w2) c1 next (f (Leaves y) c1 l1 w2)) → Runs ask code (Kept k code w0) 0 1 s0 c next (bind (one_turn m c l w) f)
+  pub turn_runs : (m : Act Done) (f : Result Bool → Act Done) (w0 : World) (mid next : Result Done → Log → World → State) (s0 s1 : State) (c : ℕ) (l : Log) (w : World) → step ask code s0 ≡ s1 → IsGoing s0 → s0.log ≡ l → ((c1 : ℕ) → c1 + 1 ≤ c → Runs ask code (Kept k code w0) 0 0 s1 c1 mid (m c1 l w)) → ((c1 : ℕ) (l1 : Log) (w2 : World) → c1 + 1 ≤ c → Since k code w0 w2 → Runs ask code (Kept k code w0) 4 4 (mid (Goes tt) l1 w2) c1 next (f (Goes true) c1 l1 w2)) → ((y : Way) (c1 : ℕ) (l1 : Log) (w2 : World) → c1 + 1 ≤ c → Since k code w0 w2 → Runs ask code (Kept k code w0) 4 4 (mid (Leaves y) l1 w2) c1 next (f (Leaves y) c1 l1 w2)) → Runs ask code (Kept k code w0) 0 1 s0 c next (bind (one_turn m c l w) f)
   unfolding one_turn opened_outcome
   turn_runs m f w0 mid next s0 s1 zero l w first going logged body again leave = record { n = 0; in_time = omega arith; logged = logged; going = going; why = inl (omega arith) }
   turn_runs m f w0 mid next s0 s1 (suc c) l w first going logged body again leave =

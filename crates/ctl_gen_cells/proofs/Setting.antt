@@ -1,5 +1,5 @@
 -- What the simulation of each construct stands on: the tables agree, and bodies behave when they are called.
-use Rattle.std.proofs.Common.{◌≡◌, ℕ, ◌+◌, ◌<◌, ◌≤◌, List, [], ◌∷◌, length, Option, Some, None, refl, ap}
+use Rattle.std.proofs.Common.{◌≡◌, ℕ, ◌<◌, ◌≤◌, List, [], ◌∷◌, length, Option, Some, None, refl}
 use Rattle.std.specs.Prelude.{slice_get}
 use Rattle.ctl_program.specs.declared.program.Subprogram.{Subprogram}
 use Rattle.ctl_tree.specs.declared.event.Event.{Event}
@@ -19,8 +19,8 @@ use Rattle.ctl_code_cells.specs.Steps.{moved, step}
 use Rattle.ctl_code_cells.specs.Valid.{IsInScope, IsValid, kinds_at}
 use Rattle.ctl_code_cells.specs.Windows.{depth}
 use Rattle.ctl_gen_cells.specs.Run.{IsBody}
-use Rattle.ctl_gen_cells.proofs.Worlds.{Each, IsSmall, Fits, Keeps, Since, home}
-use Rattle.ctl_gen_cells.proofs.Follow.{Runs, at, gives}
+use Rattle.ctl_gen_cells.proofs.Worlds.{Each, IsSmall, Since, home}
+use Rattle.ctl_gen_cells.proofs.Follow.{Runs, gives}
 
 -- the machine's table names the operations of the record types, these are among these subprograms, and the code is well formed
 pub record Setting (k : Tables) (code : Code) : Type 0 where

@@ -1,5 +1,5 @@
 -- The code of each construct does what the construct means, where the code of its parts does.
-use Rattle.std.proofs.Common.{◌≡◌, ℕ, ◌+◌, ◌-◌, ◌<◌, ◌≤◌, List, [], ◌∷◌, ◌++◌, length, map, Option, Some, None, true, false, refl, sym, ap, ◌∙◌, arith, subst, length-append, append_assoc}
+use Rattle.std.proofs.Common.{◌≡◌, ℕ, ◌+◌, ◌-◌, ◌<◌, ◌≤◌, List, [], ◌∷◌, ◌++◌, length, map, Some, None, true, false, refl, sym, ap, ◌∙◌, arith, subst, length-append, append_assoc}
 use Rattle.std.specs.Prelude.{slice_get, replicate, ◌&&◌}
 use Rattle.ctl_program.specs.declared.types.Ty.{Ty}
 use Rattle.ctl_program.specs.declared.types.Ty.TheVariants.{Integer, Count, Boolean, Address, Handle, Access, Record}
@@ -17,7 +17,6 @@ use Rattle.ctl_meaning.specs.Names as Names
 use Rattle.ctl_meaning.specs.Expressions.{Valued, eval, if_given}
 use Rattle.ctl_meaning.specs.Masters.{Elaborating, Left, leave_layers, left, leave, in_master, elaborate_item, elaborate, object, silent}
 use Rattle.ctl_meaning.specs.Statements.{Body, Doing, Guarding, choose_arm, do_block, do_each, do_first, guard, handle, handled, leaving, unset_slots, within}
-use Rattle.ctl_code_cells.specs.declared.code.Instr.{Instr}
 use Rattle.ctl_code_cells.specs.declared.code.Instr.TheVariants as InstrOf
 use Rattle.ctl_code_cells.specs.declared.code.Code.{Code}
 use Rattle.ctl_code_cells.specs.declared.kinds.Kind.{Kind}
@@ -28,10 +27,10 @@ use Rattle.ctl_code_cells.specs.Steps.{moved, step}
 use Rattle.ctl_code_cells.specs.Windows.{depth}
 use Rattle.ctl_gen_cells.specs.Around.{Line, Exits, FromMaster, FromLoop, Around, behind, exit_of, further as further_on}
 use Rattle.ctl_gen_cells.specs.Values.{ValueCode, value_code}
-use Rattle.ctl_gen_cells.specs.Layout.{ArmCode, ItemCode, MasterCode, StatementCode, all, all_items, arm_with, arms_code, arms_run, arms_texts, block, block_code, branches, in_master as in_new, inside, is_declared, item_code, leaves_code, rest_code, turn_code}
+use Rattle.ctl_gen_cells.specs.Layout.{ArmCode, ItemCode, MasterCode, StatementCode, all, all_items, arms_code, arms_run, arms_texts, block, block_code, branches, in_master as in_new, inside, is_declared, item_code, leaves_code, turn_code}
 use Rattle.ctl_gen_cells.proofs.Known.{both_true, plain_if, scalar_if}
 use Rattle.ctl_gen_cells.proofs.Place.{HasAt, has_front, has_back, Laid, laid_front, laid_back}
-use Rattle.ctl_gen_cells.proofs.Worlds.{home, Each, IsSmall, small_unset, Fits, Keeps, Since, Kept, home_new, keeps_itself, keeps_on, keeps_open, fits_open}
+use Rattle.ctl_gen_cells.proofs.Worlds.{home, Each, IsSmall, small_unset, Since, Kept, home_new, keeps_itself, keeps_on, keeps_open, fits_open}
 use Rattle.ctl_gen_cells.proofs.Setting.{Setting, tools_with, Sees, Told, Calls}
 use Rattle.ctl_gen_cells.proofs.Cells.{by_code}
 use Rattle.ctl_gen_cells.proofs.Does.{Does}
@@ -42,7 +41,7 @@ use Rattle.ctl_gen_cells.proofs.Evaluated.{value_means}
 use Rattle.ctl_gen_cells.proofs.Branches.{Ends, arm_runs}
 use Rattle.ctl_gen_cells.proofs.Loops.{leave_step}
 use Rattle.ctl_gen_cells.proofs.Leave.{leaves, leave_runs}
-use Rattle.ctl_gen_cells.proofs.Follow.{Runs, Landing, OutOf, landing_of, landing_further, landed_on, way_of, at, transferred, arrives, added, within as no_more_than, one_step, last_step, no_step, both, step_both_paid, arriving, left_behind, in_row}
+use Rattle.ctl_gen_cells.proofs.Follow.{Runs, Landing, OutOf, landing_of, landing_further, landed_on, way_of, at, arrives, added, within as no_more_than, last_step, no_step, both, step_both_paid, arriving, left_behind, in_row}
 
 last_is : (d : List ℕ) (n : ℕ) → last_of (d ++ n ∷ []) ≡ n
 unfolding opened_lists

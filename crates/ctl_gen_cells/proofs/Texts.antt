@@ -10,7 +10,7 @@ use Rattle.ctl_tree.specs.declared.event.Event.TheVariants.{Print, Newline}
 use Rattle.ctl_meaning.specs.World.{Log, World}
 use Rattle.ctl_meaning.specs.Lists.{opened_lists}
 use Rattle.ctl_meaning.specs.Choice.{Ask}
-use Rattle.ctl_meaning.specs.Outcome.{add, Way, ByRaise, Result, Goes, Leaves, Gives, Act, Done, bind, on_goes, ◌>>=◌, ◌>>◌, done, show, ticked, opened_outcome}
+use Rattle.ctl_meaning.specs.Outcome.{add, ByRaise, Result, Goes, Leaves, Act, Done, bind, on_goes, ◌>>=◌, ◌>>◌, done, show, ticked, opened_outcome}
 use Rattle.ctl_meaning.specs.Numbers.{integer_image, boolean_image}
 use Rattle.ctl_meaning.specs.Types.{Tables}
 use Rattle.ctl_meaning.specs.Names.{Call, Default, Tools, scalar_of}
@@ -41,7 +41,7 @@ use Rattle.ctl_gen_cells.proofs.Cells.{Any, by_code, here, landed}
 use Rattle.ctl_gen_cells.proofs.Worth.{both_cell}
 use Rattle.ctl_gen_cells.proofs.Expressions.{value_runs}
 use Rattle.ctl_gen_cells.proofs.Does.{Does}
-use Rattle.ctl_gen_cells.proofs.Follow.{Runs, Landing, landing_of, at, transferred, arrives, added, last_step, no_step, arriving, bind_add, bind_bind}
+use Rattle.ctl_gen_cells.proofs.Follow.{Runs, Landing, landing_of, at, transferred, arrives, added, last_step, no_step, bind_add, bind_bind}
 
 -- Texts and their values -------------------------------------------------------------------------
 

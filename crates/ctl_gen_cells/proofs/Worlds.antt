@@ -7,7 +7,7 @@ use Rattle.ctl_program.specs.declared.types.Ty.{Ty}
 use Rattle.ctl_program.specs.declared.types.Ty.TheVariants.{Record}
 use Rattle.ctl_meaning.specs.Types.{Tables}
 use Rattle.ctl_meaning.specs.World.{Finalized, Origin, Declared, Allocated, Object, Layer, Single, Sets, Master, Slot, Unset, Holds, Binds, Copies, Gathers, Activation, World, opened_world, empty_world}
-use Rattle.ctl_meaning.specs.Lists.{first_with, change_each, keep, item_or, last_of, opened_lists}
+use Rattle.ctl_meaning.specs.Lists.{first_with, change_each, keep, item_or, opened_lists}
 use Rattle.ctl_meaning.specs.Ledger.{with_layer, without_newest, layers_in, layers_of, opened_ledger}
 use Rattle.ctl_meaning.specs.Activations.{with_slot, slots_in, display_in, activation_at, opened_activations}
 use Rattle.ctl_meaning.specs.Objects.{object_in, with_begun, with_finalized, is_untouched, overwritten, opened_objects}

@@ -1,12 +1,12 @@
 -- What follows an expression, with its one cell or where it leaves. What else it does to the world is not spoken of.
-use Rattle.std.proofs.Common.{◌≡◌, ℕ, ◌+◌, ◌*◌, ◌≤◌, List, [], ◌∷◌, Option, Some, None, sym, ap, ◌∙◌, subst, arith}
+use Rattle.std.proofs.Common.{◌≡◌, ℕ, ◌+◌, ◌≤◌, List, [], ◌∷◌, Option, Some, None, sym, ap, ◌∙◌, subst, arith}
 use Rattle.ctl_meaning.specs.World.{Log, World}
 use Rattle.ctl_meaning.specs.Choice.{Ask}
 use Rattle.ctl_meaning.specs.Outcome.{Way, ByExit, ByReturn, ByRaise, Result, Goes, Leaves, Out, Gives, Stops, Cut, Act, add, bind, on_goes, given}
 use Rattle.ctl_code_cells.specs.declared.code.Code.{Code}
 use Rattle.ctl_code_cells.specs.States.{State}
-use Rattle.ctl_gen_cells.proofs.Cells.{IsCell, Any}
-use Rattle.ctl_gen_cells.proofs.Follow.{Runs, way_of, after_comes, added, bind_add}
+use Rattle.ctl_gen_cells.proofs.Cells.{IsCell}
+use Rattle.ctl_gen_cells.proofs.Follow.{Runs, after_comes, added, bind_add}
 
 -- more ticks leave it one cell
 pub cell_later : (P : ℕ → World → Type 0) (t : ℕ) (o : Out (List ℕ)) → IsCell P o → IsCell P (add t o)

@@ -1,0 +1,127 @@
+-- The execution of a body, and of the main procedure.
+use Rattle.std.proofs.Common.{◌≡◌, ℕ, zero, suc, ◌+◌, ◌≤◌, List, [], ◌∷◌, ◌++◌, length, Some, true, refl, sym, ap, ◌∙◌, subst, arith, inl}
+use Rattle.std.specs.Prelude.{slice_get, take, drop, replicate}
+use Rattle.ctl_program.specs.declared.operators.SubprogramKind.{SubprogramKind}
+use Rattle.ctl_program.specs.declared.operators.SubprogramKind.TheVariants.{Procedure}
+use Rattle.ctl_program.specs.declared.statement.Master.{Master, fold_out-Master}
+use Rattle.ctl_program.specs.declared.program.Subprogram.{Subprogram}
+use Rattle.ctl_meaning.specs.World.{Slot, Unset, Log, World, empty_log, empty_world}
+use Rattle.ctl_meaning.specs.Changes.{open_master}
+use Rattle.ctl_meaning.specs.Choice.{Ask}
+use Rattle.ctl_meaning.specs.Outcome.{ByExit, ByReturn, ByRaise, Result, Goes, Leaves, Done, bind, on_goes, on_some, opened_outcome}
+use Rattle.ctl_meaning.specs.Types.{Tables}
+use Rattle.ctl_meaning.specs.Names.{OfSubprogram, Returned, Tools, gone}
+use Rattle.ctl_meaning.specs.Names as Names
+use Rattle.ctl_meaning.specs.Masters.{Left, in_master}
+use Rattle.ctl_meaning.specs.Statements.{Body, Doing, Guarding, arm_step, body_of, exec_step, handler_step, master_step, unset_slots}
+use Rattle.ctl_meaning.specs.Run.{Meaning, default_in, execute, execution, expression_tools, returned, routine_of, run_meaning, run_number, run_routine, slots_for, tools, tools_with}
+use Rattle.ctl_code_cells.specs.declared.code.Entry.{Entry}
+use Rattle.ctl_code_cells.specs.declared.code.Instr.TheVariants as InstrOf
+use Rattle.ctl_code_cells.specs.declared.code.Code.{Code}
+use Rattle.ctl_code_cells.specs.declared.kinds.Kind.TheVariants as KindOf
+use Rattle.ctl_code_cells.specs.States.{AfterBody, Frame, InMaster, State}
+use Rattle.ctl_code_cells.specs.Table.{behind, enter_body}
+use Rattle.ctl_code_cells.specs.Valid.{IsInScope}
+use Rattle.ctl_code_cells.specs.Steps.{moved, step, start}
+use Rattle.ctl_gen_cells.specs.Layout.{MasterCode, body_code, entry_at, master_code, nowhere}
+use Rattle.ctl_gen_cells.proofs.StatementLayers.{master_is}
+use Rattle.ctl_gen_cells.proofs.Place.{HasAt, Laid}
+use Rattle.ctl_gen_cells.proofs.Worlds.{Each, IsSmall, small_unset, Since, fits_empty, keeps_itself}
+use Rattle.ctl_gen_cells.proofs.Setting.{Setting, returns, Told, Calls}
+use Rattle.ctl_gen_cells.proofs.Cells.{by_code}
+use Rattle.ctl_gen_cells.proofs.Leave.{leaves}
+use Rattle.ctl_gen_cells.proofs.Executed.{master_does}
+use Rattle.ctl_gen_cells.proofs.Follow.{IsGoing, Runs, way_of, at, added, no_step, both}
+
+-- a body has as many slots as it means
+slots_alike : (m : Master) → (master_code m).slots ≡ (body_of m).slots
+unfolding body_of
+slots_alike m = ap (λ (x : MasterCode). x.slots) (master_is m) ∙ sym (ap (λ (b : Body). b.slots) (fold_out-Master Doing Guarding Guarding Body exec_step arm_step handler_step master_step m))
+
+-- a body stands in the code, with its texts, and is of this version
+pub record Stands (k : Tables) (code : Code) (f : ℕ) (s : Subprogram) : Type 0 where
+  pub place : ℕ
+  pub before : ℕ
+  pub entry : slice_get code.entries.items f ≡ Some (entry_at place s)
+  pub instructions : Laid code place ((body_code s).code nowhere before)
+  pub texts : HasAt code.texts.items before (body_code s).texts
+  pub runs : (body_code s).runs k.records ≡ true
+  pub procedure : s.kind ≡ Procedure
+
+-- what is taken of a list is as long as was asked, where it has as many
+taken_length : (n : ℕ) (xs : List ℕ) → n ≤ length xs → length (take n xs) ≡ n
+taken_length zero xs le = refl
+taken_length (suc n) [] le = absurd (omega (arith, le))
+taken_length (suc n) (x ∷ xs) le = let e = taken_length n xs (omega (arith, le)) in omega (arith, e)
+
+small_both : (xs ys : List Slot) → Each IsSmall xs → Each IsSmall ys → Each IsSmall (xs ++ ys)
+small_both [] ys h g = g
+small_both (x ∷ xs) ys h g = (h.0, small_both xs ys h.1 g)
+
+small_rest : (n : ℕ) (xs : List Slot) → Each IsSmall xs → Each IsSmall (drop n xs)
+small_rest zero xs h = h
+small_rest (suc n) [] h = tt
+small_rest (suc n) (x ∷ xs) h = small_rest n xs h.1
+
+module _ (ask : Ask) (p : Meaning) (code : Code) (setting : Setting p.tables code) (bodies : (f : ℕ) (s : Subprogram) → slice_get setting.subprograms f ≡ Some s → Stands p.tables code f s) (meant : (f : ℕ) (s : Subprogram) → slice_get setting.subprograms f ≡ Some s → slice_get p.routines f ≡ Some (routine_of s)) where
+  abbrev k : Tables
+  k = p.tables
+
+  -- the step that enters a body
+  entered : (f : ℕ) (s : Subprogram) (x : Stands k code f s) (env : List ℕ) (actuals : List Slot) (ks : List Frame) (l : Log) (w : World) → moved l (enter_body (slice_get code.entries.items f) [] env actuals ks w) ≡ at (take s.level env ++ w.ledger.next_master ∷ []) x.place (InMaster w.ledger.next_master AfterBody ∷ ks) [] l (open_master (take s.level env) (slots_for (body_of s.body) actuals) w)
+  unfolding slots_for unset_slots
+  entered f s x env actuals ks l w =
+      ap (λ e. moved l (enter_body e [] env actuals ks w)) x.entry
+      ∙ ap (λ n. at (take s.level env ++ w.ledger.next_master ∷ []) x.place (InMaster w.ledger.next_master AfterBody ∷ ks) [] l (open_master (take s.level env) (actuals ++ drop (length actuals) (replicate n Unset)) w)) (slots_alike s.body)
+
+  small_slots : (s : Subprogram) (actuals : List Slot) → Each IsSmall actuals → Each IsSmall (slots_for (body_of s.body) actuals)
+  unfolding slots_for unset_slots
+  small_slots s actuals h = small_both actuals _ h (small_rest (length actuals) (replicate (body_of s.body).slots Unset) (small_unset (body_of s.body).slots))
+
+  -- how a procedure ends for its call
+  behind_call : (w0 : World) (ks : List Frame) (r : Result Left) (c : ℕ) (l : Log) (w : World) → Told k code w0 (way_of r) w → Runs ask code (Told k code w0) 0 0 (leaves AfterBody ks r l w) c (returns ks) (on_goes (λ (x : Left). returned Procedure x.slots x.result) r c l w)
+  unfolding opened_outcome returned
+  behind_call w0 ks (Leaves ByExit) c l w fits = absurd fits.0
+  behind_call w0 ks (Leaves (ByReturn v)) c l w fits = absurd fits.0
+  behind_call w0 ks (Leaves (ByRaise e)) c l w fits = no_step ask code (Told k code w0) 0 0 _ c 0 (returns {A = Returned} ks) (Leaves (ByRaise e)) l w fits refl
+  behind_call w0 ks (Goes x) c l w fits = on x.result
+    where
+      on : (r : Result Done) → Runs ask code (Told k code w0) 0 0 (moved l (behind AfterBody r ks w)) c (returns ks) (returned Procedure x.slots r c l w)
+      on (Goes a) = no_step ask code (Told k code w0) 0 0 _ c 0 (returns {A = Returned} ks) (Goes (record { cells = []; slots = x.slots })) l w fits refl
+      on (Leaves ByExit) = no_step ask code (Told k code w0) 0 0 _ c 0 (returns {A = Returned} ks) (Goes (record { cells = []; slots = x.slots })) l w fits refl
+      on (Leaves (ByReturn v)) = no_step ask code (Told k code w0) 0 0 _ c 0 (returns {A = Returned} ks) (Goes (record { cells = v; slots = x.slots })) l w fits refl
+      on (Leaves (ByRaise e)) = no_step ask code (Told k code w0) 0 0 _ c 0 (returns {A = Returned} ks) (Leaves (ByRaise e)) l w fits refl
+
+  -- a body, from the step that enters it
+  number_runs : (call : Names.Call) (bound : ℕ) → Calls ask k code setting bound call → (f : ℕ) (s : Subprogram) → slice_get setting.subprograms f ≡ Some s → (w0 : World) (env : List ℕ) (actuals : List Slot) (ks : List Frame) (c0 c : ℕ) (l : Log) (w : World) (s0 : State) → c ≤ bound → c ≤ c0 → c0 ≤ c + 1 → Since k code w0 w → IsInScope code (length env) (Some f) → Each IsSmall actuals → step ask code s0 ≡ moved l (enter_body (slice_get code.entries.items f) [] env actuals ks w) → Runs ask code (Told k code w0) 0 1 s0 c0 (returns ks) (run_number p (tools_with ask p call) env actuals f c l w)
+  unfolding run_number run_routine tools_with opened_outcome
+  number_runs call bound calls f s here w0 env actuals ks c0 c l w s0 le lo hi fits scope small first =
+      let x : Stands k code f s = bodies f s here in
+      let inner = λ (display : List ℕ). (body_of s.body).inside (tools_with ask p call) display 0 in
+      let known : scope.0 ≡ entry_at x.place s = cc (sym scope.1 ∙ x.entry) in
+      let level : s.level ≤ length env = subst (λ (e : Entry). e.level ≤ length env) known scope.2 in
+      let long : length (take s.level env) + 1 ≡ s.level + 1 = ap (λ n. n + 1) (taken_length s.level env level) in
+      subst (λ o. Runs ask code (Told k code w0) 0 1 s0 c0 (returns ks) o) (sym (ap (λ y. on_some y gone (run_routine (tools_with ask p call) env actuals) c l w) (meant f s here)))
+      (subst (λ (b : SubprogramKind). Runs ask code (Told k code w0) 0 1 s0 c0 (returns ks) (bind (in_master (tools_with ask p call) (take s.level env) (slots_for (body_of s.body) actuals) inner c l w) (on_goes (λ (y : Left). returned b y.slots y.result)))) (sym x.procedure)
+      (both ask code (Told k code w0) (Told k code w0) 0 1 0 0 0 1 s0 c0 (leaves AfterBody ks) (returns ks) _ (on_goes (λ (y : Left). returned Procedure y.slots y.result)) (omega arith) (omega arith) (omega arith)
+      ((master_does ask k code setting call (default_in p.defaults (expression_tools ask p call)) bound calls s.body).inside x.runs x.before x.texts 0 (KindOf.Body s.level (master_code s.body).slots) [] w0 (take s.level env) (slots_for (body_of s.body) actuals) AfterBody ks c0 c l w s0 x.place le lo hi fits long (small_slots s actuals small) x.instructions (first ∙ entered f s x env actuals ks l w))
+      (λ r c1 l1 w1 lo1 fits1. behind_call w0 ks r c1 l1 w1 fits1)))
+
+  -- an execution takes one from the clock, and is a tick
+  call_runs : (n c : ℕ) → c ≤ n → (f : ℕ) (s : Subprogram) → slice_get setting.subprograms f ≡ Some s → (w0 : World) (v : List ℕ) (actuals : List Slot) (ks : List Frame) (l : Log) (w : World) (s0 : State) → Since k code w0 w → IsInScope code (length v) (Some f) → Each IsSmall actuals → step ask code s0 ≡ moved l (enter_body (slice_get code.entries.items f) [] v actuals ks w) → Runs ask code (Told k code w0) 2 2 s0 c (returns ks) (execution ask p (suc n) (OfSubprogram f actuals) v c l w)
+  unfolding execution execute opened_outcome
+  call_runs n zero le f s here w0 v actuals ks l w s0 fits scope small first =
+      let e = first ∙ entered f s (bodies f s here) v actuals ks l w in
+      record { n = 1; in_time = omega arith; logged = ap (λ (x : State). x.log) e; going = subst IsGoing (sym e) tt; why = inl (omega arith) }
+  call_runs zero (suc c) le f s here w0 v actuals ks l w s0 fits scope small first = absurd (omega (arith, le))
+  call_runs (suc n) (suc c) le f s here w0 v actuals ks l w s0 fits scope small first =
+      added ask code (Told k code w0) 1 0 1 2 2 s0 (suc c) (returns ks) _ (omega arith) (omega arith)
+      (number_runs (execution ask p (suc n)) n (record { runs = λ f1 s1 here1 w1 v1 actuals1 ks1 c1 l1 w2 s2 le1 fits1 scope1 small1 first1. call_runs n c1 le1 f1 s1 here1 w1 v1 actuals1 ks1 l1 w2 s2 fits1 scope1 small1 first1 }) f s here w0 v actuals ks (suc c) c l w s0 (omega (arith, le)) (omega arith) (omega arith) fits scope small first)
+
+  calls_run : (n : ℕ) → Calls ask k code setting n (execution ask p (suc n))
+  calls_run n = record { runs = λ f s here w0 v actuals ks c l w s0 le fits scope small first. call_runs n c le f s here w0 v actuals ks l w s0 fits scope small first }
+
+  -- the main procedure, which is declared in no master
+  pub main_runs : (main : ℕ) (s : Subprogram) → slice_get setting.subprograms main ≡ Some s → IsInScope code 0 (Some main) → slice_get code.instructions.items 0 ≡ Some (InstrOf.Start main) → (clock : ℕ) → Runs ask code (Told k code empty_world) 0 1 start clock (returns []) (run_meaning p main ask clock)
+  unfolding run_meaning tools
+  main_runs main s here scope has clock = number_runs (execution ask p (suc clock)) clock (calls_run clock) main s here empty_world [] [] [] clock clock empty_log empty_world start (omega arith) (omega arith) (omega arith) (fits_empty k code, keeps_itself k code empty_world) scope tt (by_code ask code [] 0 [] [] empty_log empty_world (InstrOf.Start main) has)

@@ -1,0 +1,188 @@
+-- The code of each statement and of each master that this version runs does what it means.
+use Rattle.std.proofs.Common.{◌≡◌, ℕ, ◌+◌, List, [], ◌∷◌, map, Option, Some, None, Bool, true, false, refl, sym, ap, ◌∙◌, subst, arith, option_map}
+use Rattle.std.specs.Prelude.{◌&&◌}
+use Rattle.ctl_program.specs.declared.types.Var.{Var}
+use Rattle.ctl_program.specs.declared.expression.Expr.{Expr}
+use Rattle.ctl_program.specs.declared.statement.Item.{Item}
+use Rattle.ctl_program.specs.declared.statement.Stmt.{Stmt, roll-Stmt, map-Stmt}
+use Rattle.ctl_program.specs.declared.statement.Stmt.TheOpen.{Stmt-F}
+use Rattle.ctl_program.specs.declared.statement.Arm.{Arm, Arm-F, roll-Arm, map-Arm}
+use Rattle.ctl_program.specs.declared.statement.Handler.{Handler}
+use Rattle.ctl_program.specs.declared.statement.Master.{Master, Master-F, roll-Master, map-Master, ind-Master}
+use Rattle.ctl_tree.specs.declared.event.Event.TheVariants.{Newline}
+use Rattle.ctl_meaning.specs.World.{World}
+use Rattle.ctl_meaning.specs.Choice.{Ask}
+use Rattle.ctl_meaning.specs.Outcome.{Goes, tell, opened_outcome}
+use Rattle.ctl_meaning.specs.Types.{Tables, Elementary}
+use Rattle.ctl_meaning.specs.Names.{Default, Tools}
+use Rattle.ctl_meaning.specs.Names as Names
+use Rattle.ctl_meaning.specs.Expressions.{eval, eval_name, Naming}
+use Rattle.ctl_meaning.specs.Masters.{elaborate_item}
+use Rattle.ctl_meaning.specs.Statements.{Doing, arm_of, assign as assign_doing, body_of, do_each, exec, exit as exit_doing, handler_of, loop_for, loop_plainly, loop_while, new_line, null as null_doing, put, put_line, within}
+use Rattle.ctl_meaning.proofs.Trees.{exec_roll, arm_roll as guarding_roll, master_roll as body_roll}
+use Rattle.ctl_code_cells.specs.declared.code.Code.{Code}
+use Rattle.ctl_code_cells.specs.declared.code.Instr.TheVariants as InstrOf
+use Rattle.ctl_gen_cells.specs.Values.{value_code, variable_of}
+use Rattle.ctl_gen_cells.specs.Layout.{StatementCode, all, all_items, arm_code, assign, exit, has_no_handlers, inside, item_code, master_code, missing_statement, no_code, statement_code}
+use Rattle.ctl_gen_cells.proofs.Known.{both_true}
+use Rattle.ctl_gen_cells.proofs.TreeLayers.{arm_roll, master_roll, statement_roll}
+use Rattle.ctl_gen_cells.proofs.Setting.{Setting, Calls, tools_with}
+use Rattle.ctl_gen_cells.proofs.Worlds.{Fits, Since, Kept}
+use Rattle.ctl_gen_cells.proofs.Cells.{by_code}
+use Rattle.ctl_gen_cells.proofs.Expressions.{Uses, Value}
+use Rattle.ctl_gen_cells.proofs.Evaluated.{name_finds, value_means}
+use Rattle.ctl_gen_cells.proofs.Assign.{assign_runs}
+use Rattle.ctl_gen_cells.proofs.Texts.{print_runs}
+use Rattle.ctl_gen_cells.proofs.Loops.{exit_runs, exit_when_runs, loop_runs, while_runs}
+use Rattle.ctl_gen_cells.proofs.Ranges.{for_runs}
+use Rattle.ctl_gen_cells.proofs.Follow.{landing_of, arrives, last_step}
+use Rattle.ctl_gen_cells.proofs.Statements as S
+
+handled_not_run : (a b : Bool) → (a && (b && false)) ≡ true → ⊥
+handled_not_run true true e = absurd (cc)
+handled_not_run true false e = absurd (cc)
+handled_not_run false b e = absurd (cc)
+
+module _ (ask : Ask) (k : Tables) (code : Code) (setting : Setting k code) (call : Names.Call) (default : Default) (bound : ℕ) (calls : Calls ask k code setting bound call) where
+  abbrev K : Tools
+  K = tools_with ask k call default
+
+  abbrev Performs : StatementCode → Doing → Type 0
+  Performs = S.Performs ask k code setting call default bound calls
+
+  abbrev pub Does : Stmt → Type 0
+  Does s = Performs (statement_code s) (exec s)
+
+  abbrev Guards : Arm → Type 0
+  Guards a = S.Guards ask k code setting call default bound calls (arm_code a) (arm_of a)
+
+  abbrev Handles : Handler → Type 0
+  Handles h = Unit {0}
+
+  -- a master of this version, whose code does what it means
+  abbrev pub IsMaster : Master → Type 0
+  IsMaster m = S.Mastered ask k code setting call default bound calls (master_code m) (body_of m)
+
+  abbrev StmtToo : Type 0
+  StmtToo = (s : Stmt) × Does s
+
+  abbrev ArmToo : Type 0
+  ArmToo = (a : Arm) × Guards a
+
+  abbrev HandlerToo : Type 0
+  HandlerToo = (h : Handler) × Handles h
+
+  abbrev MasterToo : Type 0
+  MasterToo = (m : Master) × IsMaster m
+
+  abbrev bare_stmt : Stmt-F StmtToo ArmToo HandlerToo MasterToo → Stmt-F Stmt Arm Handler Master
+  bare_stmt = map-Stmt StmtToo ArmToo HandlerToo MasterToo Stmt Arm Handler Master (λ e. e.0) (λ e. e.0) (λ e. e.0) (λ e. e.0)
+
+  abbrev bare_arm : Arm-F StmtToo ArmToo HandlerToo MasterToo → Arm-F Stmt Arm Handler Master
+  bare_arm = map-Arm StmtToo ArmToo HandlerToo MasterToo Stmt Arm Handler Master (λ e. e.0) (λ e. e.0) (λ e. e.0) (λ e. e.0)
+
+  abbrev bare_master : Master-F StmtToo ArmToo HandlerToo MasterToo → Master-F Stmt Arm Handler Master
+  bare_master = map-Master StmtToo ArmToo HandlerToo MasterToo Stmt Arm Handler Master (λ e. e.0) (λ e. e.0) (λ e. e.0) (λ e. e.0)
+
+  statements_too : (xs : List StmtToo) → S.EachPerforms ask k code setting call default bound calls (map statement_code (map (λ x. x.0) xs)) (map exec (map (λ x. x.0) xs))
+  statements_too [] = tt
+  statements_too (x ∷ xs) = (x.1, statements_too xs)
+
+  arms_too : (xs : List ArmToo) → S.EachGuards ask k code setting call default bound calls (map arm_code (map (λ x. x.0) xs)) (map arm_of (map (λ x. x.0) xs))
+  arms_too [] = tt
+  arms_too (x ∷ xs) = (x.1, arms_too xs)
+
+  -- statements in turn
+  each_does : (xs : List StmtToo) → Performs (all (map statement_code (map (λ x. x.0) xs))) (λ j env caught. do_each j env caught (map exec (map (λ x. x.0) xs)))
+  each_does xs = S.all_run ask k code setting call default bound calls (map statement_code (map (λ x. x.0) xs)) (map exec (map (λ x. x.0) xs)) (statements_too xs)
+
+  -- a value, in the worlds since any
+  means : (e : Expr) → (value_code e).runs ≡ true → (w0 : World) → Value ask k code (Since k code w0) (value_code e) (eval e K)
+  means e runs w0 = value_means ask k code call default (Since k code w0) e runs
+
+  -- One layer ---------------------------------------------------------------------------------------
+
+  does : (y : Stmt-F Stmt Arm Handler Master) (x : StatementCode) (m : Doing) → statement_code (roll-Stmt y) ≡ x → exec (roll-Stmt y) ≡ m → Performs x m → Does (roll-Stmt y)
+  does y x m same means h = subst (λ z. Performs z (exec (roll-Stmt y))) (sym same) (subst (λ z. Performs x z) (sym means) h)
+
+  -- a statement that no instruction exists for is not run
+  missing_does : (y : Stmt-F Stmt Arm Handler Master) → statement_code (roll-Stmt y) ≡ missing_statement → Does (roll-Stmt y)
+  missing_does y same runs = absurd (let e = sym (ap (λ (x : StatementCode). x.runs k.records) same) ∙ runs in cc)
+
+  assign_does : (o : Option Var) (find : Naming) (e : Expr) → ((x : Var) → o ≡ Some x → Uses ask k code (λ w. Fits k code w) x (find Elementary K)) → Performs (assign o (value_code e)) (assign_doing find (eval e))
+  unfolding assign_doing
+  assign_does None find e uses runs n texts caught = absurd (cc)
+  assign_does (Some x) find e uses runs n texts caught = assign_runs ask k code setting.valid bound x (find Elementary K) (uses x refl) (value_code e) (eval e K) (means e runs)
+
+  exit_does : (o : Option Expr) → Performs (exit (option_map value_code o)) (exit_doing (option_map eval o))
+  unfolding exit_doing
+  exit_does None runs n texts caught = exit_runs ask k code bound
+  exit_does (Some e) runs n texts caught = exit_when_runs ask k code bound (value_code e) (eval e K) (means e runs)
+
+  stmt_rolled : (y : Stmt-F StmtToo ArmToo HandlerToo MasterToo) → Does (roll-Stmt (bare_stmt y))
+  unfolding null_doing put put_line new_line loop_plainly loop_while loop_for opened_outcome
+  stmt_rolled Stmt-F.Null = does Stmt-F.Null _ _ (statement_roll Stmt-F.Null) (exec_roll Stmt-F.Null) (λ runs n texts caught a w0 d place ks ops c l w le fits sees has. S.still_there ask k code setting call default bound calls 1 (landing_of a.exits place) w0 d place ks ops c l w fits)
+  stmt_rolled (Stmt-F.Assign x e) = does (Stmt-F.Assign x e) _ _ (statement_roll (Stmt-F.Assign x e)) (exec_roll (Stmt-F.Assign x e)) (assign_does (variable_of x) (eval_name x) e (name_finds ask k code call default (λ w. Fits k code w) x))
+  stmt_rolled (Stmt-F.Put ps) = does (Stmt-F.Put ps) _ _ (statement_roll (Stmt-F.Put ps)) (exec_roll (Stmt-F.Put ps)) (λ runs n texts caught. print_runs ask k code call default bound false ps runs n texts)
+  stmt_rolled (Stmt-F.PutLine ps) = does (Stmt-F.PutLine ps) _ _ (statement_roll (Stmt-F.PutLine ps)) (exec_roll (Stmt-F.PutLine ps)) (λ runs n texts caught. print_runs ask k code call default bound true ps runs n texts)
+  stmt_rolled Stmt-F.NewLine = does Stmt-F.NewLine _ _ (statement_roll Stmt-F.NewLine) (exec_roll Stmt-F.NewLine) (λ runs n texts caught a w0 d place ks ops c l w le fits sees has. last_step ask code (Kept k code w0) 0 0 _ c 1 (arrives (landing_of a.exits place) d (place + 1) ks ops) (Goes tt) (tell Newline l) w (omega arith) fits (by_code ask code d place ks ops l w InstrOf.NewLine has.0))
+  stmt_rolled (Stmt-F.Exit o) = does (Stmt-F.Exit o) _ _ (statement_roll (Stmt-F.Exit o)) (exec_roll (Stmt-F.Exit o)) (exit_does o)
+  stmt_rolled (Stmt-F.If arms others) =
+      let y = Stmt-F.If (map (λ e. e.0) arms) (map (λ e. e.0) others) in
+      does y _ _ (statement_roll y) (exec_roll y) (S.branches_run ask k code setting call default bound calls _ _ _ _ (arms_too arms) (statements_too others))
+  stmt_rolled (Stmt-F.Loop body) =
+      let y = Stmt-F.Loop (map (λ e. e.0) body) in
+      does y _ _ (statement_roll y) (exec_roll y) (λ runs n texts caught. loop_runs ask k code bound (λ a. (all (map statement_code (map (λ e. e.0) body))).code a n) (λ v. do_each K v caught (map exec (map (λ e. e.0) body))) (each_does body runs n texts caught))
+  stmt_rolled (Stmt-F.While e body) =
+      let y = Stmt-F.While e (map (λ x. x.0) body) in
+      does y _ _ (statement_roll y) (exec_roll y)
+      (λ runs n texts caught.
+      let h = both_true _ _ runs in
+      while_runs ask k code bound (value_code e) (eval e K) (means e h.0) (λ a. (all (map statement_code (map (λ x. x.0) body))).code a n) (λ v. do_each K v caught (map exec (map (λ x. x.0) body))) (each_does body h.1 n texts caught))
+  stmt_rolled (Stmt-F.For x way low high body) =
+      let y = Stmt-F.For x way low high (map (λ z. z.0) body) in
+      does y _ _ (statement_roll y) (exec_roll y)
+      (λ runs n texts caught.
+      let h = both_true _ _ runs in
+      let g = both_true _ _ h.1 in
+      for_runs ask k code setting.valid bound x way (value_code low) (value_code high) (eval low K) (eval high K) (means low h.0) (means high g.0) (λ a. (all (map statement_code (map (λ z. z.0) body))).code a n) (λ v. do_each K v caught (map exec (map (λ z. z.0) body))) (each_does body g.1 n texts caught))
+  stmt_rolled (Stmt-F.Block m) = does (Stmt-F.Block m.0) _ _ (statement_roll (Stmt-F.Block m.0)) (exec_roll (Stmt-F.Block m.0)) (S.block_runs ask k code setting call default bound calls (master_code m.0) (body_of m.0) m.1)
+  stmt_rolled (Stmt-F.AssignRecord x t a) = missing_does (Stmt-F.AssignRecord x t a) (statement_roll (Stmt-F.AssignRecord x t a))
+  stmt_rolled (Stmt-F.Call f xs) = missing_does (Stmt-F.Call f xs) (statement_roll (Stmt-F.Call f xs))
+  stmt_rolled (Stmt-F.Nothing x) = missing_does (Stmt-F.Nothing x) (statement_roll (Stmt-F.Nothing x))
+  stmt_rolled (Stmt-F.Dispatch op x) = missing_does (Stmt-F.Dispatch op x) (statement_roll (Stmt-F.Dispatch op x))
+  stmt_rolled (Stmt-F.LibraryAllocate p x size al) = missing_does (Stmt-F.LibraryAllocate p x size al) (statement_roll (Stmt-F.LibraryAllocate p x size al))
+  stmt_rolled (Stmt-F.LibraryDeallocate p x size al) = missing_does (Stmt-F.LibraryDeallocate p x size al) (statement_roll (Stmt-F.LibraryDeallocate p x size al))
+  stmt_rolled (Stmt-F.Return o) = missing_does (Stmt-F.Return o) (statement_roll (Stmt-F.Return o))
+  stmt_rolled (Stmt-F.Raise e) = missing_does (Stmt-F.Raise e) (statement_roll (Stmt-F.Raise e))
+  stmt_rolled Stmt-F.RaiseAgain = missing_does Stmt-F.RaiseAgain (statement_roll Stmt-F.RaiseAgain)
+  stmt_rolled (Stmt-F.Free a x) = missing_does (Stmt-F.Free a x) (statement_roll (Stmt-F.Free a x))
+  stmt_rolled (Stmt-F.Release x) = missing_does (Stmt-F.Release x) (statement_roll (Stmt-F.Release x))
+
+  arm_rolled : (y : Arm-F StmtToo ArmToo HandlerToo MasterToo) → Guards (roll-Arm (bare_arm y))
+  arm_rolled y =
+      subst (λ z. S.Guards ask k code setting call default bound calls z (arm_of (roll-Arm (bare_arm y)))) (sym (arm_roll (bare_arm y)))
+      (subst (λ m. S.Guards ask k code setting call default bound calls (record { test = value_code y.test; body = all (map statement_code (map (λ x. x.0) y.body)) }) m) (sym (guarding_roll (bare_arm y)))
+      (S.guard_runs ask k code setting call default bound calls (value_code y.test) (eval y.test) (map statement_code (map (λ x. x.0) y.body)) (map exec (map (λ x. x.0) y.body)) (means y.test) (statements_too y.body)))
+
+  -- the handlers of a master: this version runs none
+  with_handlers : (items : List Item) (body : List StmtToo) (handlers : List HandlerToo) → S.Masters ask k code setting call default bound calls (inside (all_items (map item_code items)) (all (map statement_code (map (λ x. x.0) body))) (has_no_handlers (map no_code (map (λ x. x.0) handlers)))) (within (map elaborate_item items) (map exec (map (λ x. x.0) body)) (map handler_of (map (λ x. x.0) handlers)))
+  with_handlers items body [] runs = S.master_runs ask k code setting call default bound calls items (map statement_code (map (λ x. x.0) body)) (map exec (map (λ x. x.0) body)) (statements_too body) runs
+  with_handlers items body (h ∷ hs) runs = absurd (handled_not_run ((all_items (map item_code items)).runs k.records) ((all (map statement_code (map (λ x. x.0) body))).runs k.records) runs)
+
+  master_rolled : (y : Master-F StmtToo ArmToo HandlerToo MasterToo) → IsMaster (roll-Master (bare_master y))
+  master_rolled y =
+      let same = master_roll (bare_master y) in
+      let means = body_roll (bare_master y) in
+      subst (λ z. S.Mastered ask k code setting call default bound calls z (body_of (roll-Master (bare_master y)))) (sym same)
+      (subst (λ b. S.Mastered ask k code setting call default bound calls (record { slots = y.slots; inside = inside (all_items (map item_code y.items)) (all (map statement_code (map (λ x. x.0) y.body))) (has_no_handlers (map no_code (map (λ x. x.0) y.handlers))) }) b) (sym means)
+      (record { slots = refl; inside = with_handlers y.items y.body y.handlers }))
+
+  -- Whole trees ---------------------------------------------------------------------------------------
+
+  pub master_does : (m : Master) → IsMaster m
+  master_does = ind-Master Does Guards Handles IsMaster
+      (λ x y is. subst (λ z. Does (roll-Stmt z)) is (stmt_rolled y))
+      (λ x y is. subst (λ z. Guards (roll-Arm z)) is (arm_rolled y))
+      (λ x y is. tt)
+      (λ x y is. subst (λ z. IsMaster (roll-Master z)) is (master_rolled y))

@@ -1,0 +1,314 @@
+-- The whole program: what is shown is the beginning of what it means, and everything comes in time.
+use Rattle.std.proofs.Common.{◌≡◌, ◌≢◌, ℕ, zero, suc, ◌+◌, ◌*◌, ◌≤◌, List, [], ◌∷◌, ◌++◌, length, map, Option, Some, None, true, refl, sym, ap, ◌∙◌, subst, arith, ◌⊎◌, inl, inr, length-append, append-nil}
+use Rattle.std.specs.Prelude.{slice_get}
+use Rattle.ctl_program.specs.declared.types.RecordType.{RecordType}
+use Rattle.ctl_program.specs.declared.operators.SubprogramKind.{SubprogramKind}
+use Rattle.ctl_program.specs.declared.operators.SubprogramKind.TheVariants.{Function, Procedure}
+use Rattle.ctl_program.specs.declared.program.Subprogram.{Subprogram}
+use Rattle.ctl_program.specs.declared.program.Checked.{Checked}
+use Rattle.ctl_tree.specs.declared.ending.End.{End}
+use Rattle.ctl_tree.specs.declared.ending.End as EndOf
+use Rattle.ctl_meaning.specs.World.{Pick, Log, empty_log}
+use Rattle.ctl_meaning.specs.Choice.{Ask, Obeys, replayed}
+use Rattle.ctl_meaning.specs.Outcome.{Goes, Leaves, Out, Gives, Stops, Cut}
+use Rattle.ctl_meaning.specs.Types.{tables_of, operation, operation_in}
+use Rattle.ctl_meaning.specs.Names.{Returned}
+use Rattle.ctl_meaning.specs.Run.{Outcome, end_by, meaning_of, outcome, outcome_of, routine_of, run}
+use Rattle.ctl_code_cells.specs.declared.code.Instr.TheVariants as InstrOf
+use Rattle.ctl_code_cells.specs.declared.template.TextPart.{TextPart}
+use Rattle.ctl_code_cells.specs.declared.code.Entry.{Entry}
+use Rattle.ctl_code_cells.specs.declared.code.Code.{Code}
+use Rattle.ctl_code_cells.specs.States.{Mode, At, Transfers, Giving, Stopped, Stuck, Frame, State}
+use Rattle.ctl_code_cells.specs.Valid.{IsValid}
+use Rattle.ctl_code_cells.specs.Table as Table
+use Rattle.ctl_code_cells.specs.Steps.{step, steps, start, machine, end_at, end_of}
+use Rattle.ctl_code_cells.specs.Laws.{IsPrefix, Grows}
+use Rattle.ctl_code_cells.proofs.Logs.{obeys_none, obeys_itself, no_more_than, Stays, steps_obey, grow, stay, meet, ended_stays, agree}
+use Rattle.ctl_gen_cells.specs.Around.{Line}
+use Rattle.ctl_gen_cells.specs.Layout.{HasKinds, IsLaidOut, bodies, body_code, entries_from, entry_at, instructions_of, kinds_of, nowhere, operations_of, program_code}
+use Rattle.ctl_gen_cells.specs.Run.{AreLinked, IsBody, IsRun, IsWritten, are_procedures, is_procedure}
+use Rattle.ctl_gen_cells.proofs.Known.{both_true}
+use Rattle.ctl_gen_cells.specs.Correct.{HasReached, RunsAs, Behaves}
+use Rattle.ctl_gen_cells.proofs.Place.{HasAt, has_front, has_back, has_all, Laid, laid_front, laid_back}
+use Rattle.ctl_gen_cells.proofs.Setting.{Setting, Told, returns, ended}
+use Rattle.ctl_gen_cells.proofs.Bodies.{Stands, main_runs}
+use Rattle.ctl_gen_cells.proofs.Follow.{GoingBy, Runs, gives}
+use Rattle.ctl_meaning.specs.World.{empty_world}
+use Rattle.ctl_meaning.specs.Outcome.{ByExit, ByReturn, ByRaise}
+
+-- Where everything stands ----------------------------------------------------------------------
+
+-- a body among those that stand from a place on
+record Found (code : Code) (texts : List (List TextPart)) (entries : List Entry) (f : ℕ) (s : Subprogram) : Type 0 where
+  place : ℕ
+  before : ℕ
+  entry : slice_get entries f ≡ Some (entry_at place s)
+  instructions : Laid code place ((body_code s).code nowhere before)
+  printed : HasAt texts before (body_code s).texts
+
+find : (code : Code) (texts : List (List TextPart)) (ss : List Subprogram) (place n : ℕ) → Laid code place ((bodies ss).code nowhere n) → HasAt texts n (bodies ss).texts → (f : ℕ) (s : Subprogram) → slice_get ss f ≡ Some s → Found code texts (entries_from place n ss) f s
+find code texts [] place n has prints f s e = absurd (cc)
+find code texts (x ∷ ss) place n has prints zero s e =
+    let same : x ≡ s = cc e in
+    subst (λ (y : Subprogram). Found code texts (entries_from place n (x ∷ ss)) 0 y) same
+    (record { place = place; before = n; entry = refl; instructions = laid_front code place ((body_code x).code nowhere n) ((bodies ss).code nowhere (n + length (body_code x).texts)) has; printed = has_front texts n (body_code x).texts (bodies ss).texts prints })
+find code texts (x ∷ ss) place n has prints (suc f) s e =
+    let y = find code texts ss (place + length ((body_code x).code nowhere n)) (n + length (body_code x).texts) (laid_back code place ((body_code x).code nowhere n) ((bodies ss).code nowhere (n + length (body_code x).texts)) has) (has_back texts n (body_code x).texts (bodies ss).texts prints) f s e in
+    record { place = y.place; before = y.before; entry = y.entry; instructions = y.instructions; printed = y.printed }
+
+-- lines whose instructions and kinds stand in the code
+laid_by : (code : Code) (place : ℕ) (lines : List Line) → HasAt code.instructions.items place (instructions_of lines) → HasAt code.kinds place (kinds_of lines) → Laid code place lines
+laid_by code place [] h g = tt
+laid_by code place (x ∷ xs) h g = (h.0, g.0, laid_by code (place + 1) xs h.1 g.1)
+
+-- what each of them is
+kind_if : (j : SubprogramKind) → is_procedure j ≡ true → j ≡ Procedure
+kind_if Procedure e = refl
+kind_if Function e = absurd (cc)
+
+is_a_procedure : (ss : List Subprogram) → are_procedures ss ≡ true → (f : ℕ) (s : Subprogram) → slice_get ss f ≡ Some s → s.kind ≡ Procedure
+is_a_procedure [] all f s e = absurd (cc)
+is_a_procedure (x ∷ ss) all zero s e = let same : x ≡ s = cc e in subst (λ (y : Subprogram). y.kind ≡ Procedure) same (kind_if x.kind (both_true _ _ all).0)
+is_a_procedure (x ∷ ss) all (suc f) s e = is_a_procedure ss (both_true _ _ all).1 f s e
+
+pub body_is_run : (records : List RecordType) (ss : List Subprogram) → (bodies ss).runs records ≡ true → (f : ℕ) (s : Subprogram) → slice_get ss f ≡ Some s → (body_code s).runs records ≡ true
+body_is_run records [] runs f s e = absurd (cc)
+body_is_run records (x ∷ ss) runs zero s e = let same : x ≡ s = cc e in subst (λ (y : Subprogram). (body_code y).runs records ≡ true) same (both_true _ _ runs).0
+body_is_run records (x ∷ ss) runs (suc f) s e = body_is_run records ss (both_true _ _ runs).1 f s e
+
+-- what each of them means
+routine_at : (ss : List Subprogram) (f : ℕ) (s : Subprogram) → slice_get ss f ≡ Some s → slice_get (map routine_of ss) f ≡ Some (routine_of s)
+routine_at [] f s e = absurd (cc)
+routine_at (x ∷ ss) zero s e = let same : x ≡ s = cc e in ap (λ (y : Subprogram). Some (routine_of y)) same
+routine_at (x ∷ ss) (suc f) s e = routine_at ss f s e
+
+-- an operation that the user wrote is among them
+initialize_written : (subprograms : List Subprogram) (o : Option RecordType) → ((r : RecordType) → o ≡ Some r → IsWritten subprograms r.operations.initialize) → (f : ℕ) → operation_in (λ x. x.initialize) o ≡ Some f → IsBody subprograms f
+unfolding operation_in
+initialize_written subprograms None h f e = absurd (cc)
+initialize_written subprograms (Some r) h f e = subst (IsWritten subprograms) e (h r refl)
+
+finalize_written : (subprograms : List Subprogram) (o : Option RecordType) → ((r : RecordType) → o ≡ Some r → IsWritten subprograms r.operations.finalize) → (f : ℕ) → operation_in (λ x. x.finalize) o ≡ Some f → IsBody subprograms f
+unfolding operation_in
+finalize_written subprograms None h f e = absurd (cc)
+finalize_written subprograms (Some r) h f e = subst (IsWritten subprograms) e (h r refl)
+
+initialize_in : (rs : List RecordType) (t : ℕ) → Table.operation_in (λ x. x.initialize) (slice_get (operations_of rs) t) ≡ operation_in (λ x. x.initialize) (slice_get rs t)
+unfolding operation_in
+initialize_in [] t = refl
+initialize_in (r ∷ rs) zero = refl
+initialize_in (r ∷ rs) (suc t) = initialize_in rs t
+
+finalize_in : (rs : List RecordType) (t : ℕ) → Table.operation_in (λ x. x.finalize) (slice_get (operations_of rs) t) ≡ operation_in (λ x. x.finalize) (slice_get rs t)
+unfolding operation_in
+finalize_in [] t = refl
+finalize_in (r ∷ rs) zero = refl
+finalize_in (r ∷ rs) (suc t) = finalize_in rs t
+
+-- Ends ------------------------------------------------------------------------------------------
+
+no_rest : (a b rest : List Pick) → a ≡ b ++ rest → length a ≤ length b → a ≡ b
+no_rest a b [] e le = e ∙ append-nil b
+no_rest a b (p ∷ rest) e le = absurd (let n = ap length e in let m = length-append b (p ∷ rest) in omega (arith, n, m, le))
+
+same_prefix : (a b : List _) → a ≡ b → IsPrefix a b
+same_prefix a b e = ([], sym e ∙ sym (append-nil a))
+
+not_ended : (names : List (List ℕ)) (m : Mode) (k : List Frame) → GoingBy m k → end_at names m k ≡ None
+not_ended names (At d place) k h = refl
+not_ended names (Transfers y) k h = refl
+not_ended names (Giving r) [] h = absurd h
+not_ended names (Giving r) (f ∷ k) h = refl
+not_ended names (Stopped s) k h = absurd h
+not_ended names Stuck k h = absurd h
+
+not_stuck : (m : Mode) (k : List Frame) → GoingBy m k → m ≢ Stuck
+not_stuck (At d place) k h e = cc
+not_stuck (Transfers y) k h e = cc
+not_stuck (Giving r) k h e = cc
+not_stuck (Stopped s) k h e = cc
+not_stuck Stuck k h e = absurd h
+
+stopped_end : (names : List (List ℕ)) (m : Mode) (k : List Frame) (s : _) → m ≡ Stopped s → end_at names m k ≡ Some (EndOf.TheVariants.Stopped s)
+stopped_end names (At d place) k s e = absurd (cc)
+stopped_end names (Transfers y) k s e = absurd (cc)
+stopped_end names (Giving r) k s e = absurd (cc)
+stopped_end names (Stopped s1) k s e = let same : s1 ≡ s = cc e in ap (λ x. Some (EndOf.TheVariants.Stopped x)) same
+stopped_end names Stuck k s e = absurd (cc)
+
+-- where a run has come to at some moment, after which nothing happens, or not before its clock is used up
+record Moment (code : Code) (ask : Ask) (clock ticks : ℕ) (o : Outcome) : Type 0 where
+  n : ℕ
+  in_time : n ≤ 64 * ticks
+  trace : o.trace ≡ (steps ask code n start).log.trace
+  taken : o.picks ≡ (steps ask code n start).log.taken
+  end : end_of code (steps ask code n start) ≡ o.end
+  fine : (steps ask code n start).mode ≢ Stuck
+  why : (clock ≤ n) ⊎ (step ask code (steps ask code n start) ≡ steps ask code n start)
+
+module _ (program : Checked) (code : Code) (laid : IsLaidOut program code) (kinds : HasKinds program code) (valid : IsValid code) (run_it : IsRun program) (linked : AreLinked program) where
+  parts : (are_procedures program.subprograms ≡ true) × ((bodies program.subprograms).runs program.records ≡ true)
+  parts = both_true _ _ run_it
+
+  has_whole : Laid code 0 (program_code program)
+  has_whole =
+      laid_by code 0 (program_code program)
+      (subst (λ is. HasAt is 0 (instructions_of (program_code program))) (sym laid.instructions) (has_all (instructions_of (program_code program)) []))
+      (subst (λ ks. HasAt ks 0 (kinds_of (program_code program))) (sym kinds.kinds) (has_all (kinds_of (program_code program)) []))
+
+  has_texts : HasAt code.texts.items 0 (bodies program.subprograms).texts
+  has_texts = subst (λ ts. HasAt ts 0 (bodies program.subprograms).texts) (sym laid.texts) (has_all (bodies program.subprograms).texts [])
+
+  setting : Setting (tables_of program) code
+  unfolding tables_of operation
+  setting = record {
+    subprograms = program.subprograms;
+    valid = valid;
+    initialize = λ t. ap (λ xs. Table.operation_in (λ x. x.initialize) (slice_get xs t)) laid.records ∙ initialize_in program.records t;
+    finalize = λ t. ap (λ xs. Table.operation_in (λ x. x.finalize) (slice_get xs t)) laid.records ∙ finalize_in program.records t;
+    initialize_body = λ t f e. initialize_written program.subprograms (slice_get program.records t) (linked.initialize t) f e;
+    finalize_body = λ t f e. finalize_written program.subprograms (slice_get program.records t) (linked.finalize t) f e;
+  }
+
+  stands : (f : ℕ) (s : Subprogram) → slice_get program.subprograms f ≡ Some s → Stands (tables_of program) code f s
+  unfolding tables_of
+  stands f s here =
+      let x = find code code.texts.items program.subprograms 1 0 has_whole.2 has_texts f s here in
+      record { place = x.place; before = x.before; entry = ap (λ es. slice_get es f) laid.entries ∙ x.entry; instructions = x.instructions; texts = x.printed; runs = body_is_run program.records program.subprograms parts.1 f s here; procedure = is_a_procedure program.subprograms parts.0 f s here }
+
+  whole_runs : (ask : Ask) (clock : ℕ) → Runs ask code (Told (tables_of program) code empty_world) 0 1 start clock (returns []) (run program ask clock)
+  unfolding run meaning_of setting
+  whole_runs ask clock = main_runs ask (meaning_of program) code setting stands (routine_at program.subprograms) program.main linked.main.0 linked.main.1 (valid.each 0 (InstrOf.Start program.main) [] has_whole.0 has_whole.1).1 has_whole.0 clock
+
+  moment_of : (ask : Ask) (clock : ℕ) (o : Out Returned) → Runs ask code (Told (tables_of program) code empty_world) 0 1 start clock (returns []) o → Moment code ask clock (outcome_of program.exceptions o).ticks (outcome_of program.exceptions o)
+  unfolding outcome_of
+  moment_of ask clock (Gives (Goes a) t c l w) z = record {
+    n = z.n;
+    in_time = omega (arith, z.in_time);
+    trace = sym (ap (λ (x : State). x.log.trace) z.comes);
+    taken = sym (ap (λ (x : State). x.log.taken) z.comes);
+    end = ap (end_of code) z.comes;
+    fine = λ h. let bad : Giving (ended (Goes a)) ≡ Stuck = sym (ap (λ (x : State). x.mode) z.comes) ∙ h in cc;
+    why = inr (subst (Stays ask code) (sym z.comes) (ended_stays ask code (gives [] (ended (Goes a)) l w) (inl (λ h. cc))));
+  }
+  moment_of ask clock (Gives (Leaves ByExit) t c l w) z = absurd z.fits.0
+  moment_of ask clock (Gives (Leaves (ByReturn v)) t c l w) z = absurd z.fits.0
+  moment_of ask clock (Gives (Leaves (ByRaise y)) t c l w) z = record {
+    n = z.n;
+    in_time = omega (arith, z.in_time);
+    trace = sym (ap (λ (x : State). x.log.trace) z.comes);
+    taken = sym (ap (λ (x : State). x.log.taken) z.comes);
+    end = ap (end_of code) z.comes ∙ ap (λ names. Some (end_by names (ByRaise y))) laid.exceptions;
+    fine = λ h. let bad : Giving (ended {A = Returned} (Leaves (ByRaise y))) ≡ Stuck = sym (ap (λ (x : State). x.mode) z.comes) ∙ h in cc;
+    why = inr (subst (Stays ask code) (sym z.comes) (ended_stays ask code (gives [] (ended {A = Returned} (Leaves (ByRaise y))) l w) (inl (λ h. cc))));
+  }
+  moment_of ask clock (Stops s t l) z =
+      let x = steps ask code z.n start in
+      let over : end_of code x ≡ Some (EndOf.TheVariants.Stopped s) = stopped_end code.exceptions.items x.mode x.control s z.over in
+      record {
+        n = z.n;
+        in_time = omega (arith, z.in_time);
+        trace = sym (ap (λ (y : Log). y.trace) z.logged);
+        taken = sym (ap (λ (y : Log). y.taken) z.logged);
+        end = over;
+        fine = λ h. let bad : Stopped s ≡ Stuck = sym z.over ∙ h in cc;
+        why = inr (ended_stays ask code x (inl (λ h. let bad : None ≡ Some (EndOf.TheVariants.Stopped s) = sym h ∙ over in cc)));
+      }
+  moment_of ask clock (Cut t c l) z =
+      let x = steps ask code z.n start in
+      record {
+        n = z.n;
+        in_time = omega (arith, z.in_time);
+        trace = sym (ap (λ (y : Log). y.trace) z.logged);
+        taken = sym (ap (λ (y : Log). y.taken) z.logged);
+        end = not_ended code.exceptions.items x.mode x.control z.going;
+        fine = not_stuck x.mode x.control z.going;
+        why = z.why;
+      }
+
+  moment : (ask : Ask) (clock : ℕ) → Moment code ask clock (outcome program ask clock).ticks (outcome program ask clock)
+  unfolding outcome
+  moment ask clock = moment_of ask clock (run program ask clock) (whole_runs ask clock)
+
+  -- the machine that took these picks, and the moment to which the meaning comes with them
+  module _ (ask : Ask) (n : ℕ) where
+    s : State
+    s = machine ask code n
+
+    picks : List Pick
+    picks = (machine ask code n).log.taken
+
+    obeys : Obeys ask (machine ask code n).log.taken
+    unfolding empty_log
+    obeys = steps_obey ask code n start (obeys_none ask)
+
+    same : (i : ℕ) × (i ≤ n) × (steps (replayed (machine ask code n).log.taken) code i start ≡ machine ask code n)
+    same = agree ask (replayed (machine ask code n).log.taken) code n start (obeys_itself ask (machine ask code n).log.taken obeys)
+
+    record Shown (o : Outcome) : Type 0 where
+      so_far : IsPrefix (machine ask code n).log.trace o.trace
+      whole : (e : End) → end_of code (machine ask code n) ≡ Some e → (o.end ≡ Some e) × (o.trace ≡ (machine ask code n).log.trace)
+      no_pick_left : o.picks ≡ (machine ask code n).log.taken
+      not_stuck : (machine ask code n).mode ≢ Stuck
+
+    shown_by : (o : Outcome) (ticks : ℕ) → Moment code (replayed (machine ask code n).log.taken) n ticks o → Shown o
+    unfolding empty_log
+    shown_by o ticks z = by (meet own code same.0 z.n start (when z.why))
+      where
+        own : Ask
+        own = replayed (machine ask code n).log.taken
+
+        x : State
+        x = steps (replayed (machine ask code n).log.taken) code z.n start
+
+        when : (n ≤ z.n) ⊎ (step own code (steps own code z.n start) ≡ steps own code z.n start) → (same.0 ≤ z.n) ⊎ Stays own code (steps own code z.n start)
+        when (inl h) = inl (omega (arith, h, same.1))
+        when (inr h) = inr h
+
+        finish : Grows (machine ask code n).log x.log × (Stays own code (machine ask code n) → x ≡ machine ask code n) → Shown o
+        finish m = record {
+          so_far = (m.0.trace.0, z.trace ∙ m.0.trace.1);
+          whole = λ e h. let t : x ≡ machine ask code n = m.1 (ended_stays own code (machine ask code n) (inl (λ none. let bad : None ≡ Some e = sym none ∙ h in cc))) in (sym z.end ∙ ap (end_of code) t ∙ h, z.trace ∙ ap (λ (y : State). y.log.trace) t);
+          no_pick_left = z.taken ∙ no_rest x.log.taken (machine ask code n).log.taken m.0.taken.0 m.0.taken.1 (no_more_than (machine ask code n).log.taken x.log.taken (steps_obey own code z.n start (obeys_none own)));
+          not_stuck = λ h. let t : x ≡ machine ask code n = m.1 (ended_stays own code (machine ask code n) (inr h)) in z.fine (ap (λ (y : State). y.mode) t ∙ h);
+        }
+
+        by : Grows (steps own code same.0 start).log x.log × (Stays own code (steps own code same.0 start) → x ≡ steps own code same.0 start) → Shown o
+        by m = finish (subst (λ (y : State). Grows y.log x.log × (Stays own code y → x ≡ y)) same.2 m)
+
+    shown : Shown (outcome program (replayed (machine ask code n).log.taken) n)
+    shown = shown_by (outcome program (replayed (machine ask code n).log.taken) n) _ (moment (replayed (machine ask code n).log.taken) n)
+
+    reached_by : (other : Ask) (clock ticks : ℕ) (o : Outcome) → Moment code other clock ticks o → Obeys ask o.picks → 64 * ticks ≤ n → HasReached code (machine ask code n) o
+    reached_by other clock ticks o z ob le = record { end = ends; trace = shows }
+      where
+        a : (i : ℕ) × (i ≤ z.n) × (steps ask code i start ≡ steps other code z.n start)
+        a = agree other ask code z.n start (subst (Obeys ask) z.taken ob)
+
+        later : a.0 ≤ n
+        later = omega (arith, a.1, z.in_time, le)
+
+        log_is : (steps ask code a.0 start).log.trace ≡ o.trace
+        log_is = ap (λ (y : State). y.log.trace) a.2 ∙ sym z.trace
+
+        shows : IsPrefix o.trace (machine ask code n).log.trace
+        shows = let g = grow ask code a.0 n start later in subst (λ t. IsPrefix t (machine ask code n).log.trace) log_is g.trace
+
+        ends : (e : End) → o.end ≡ Some e → (end_of code (machine ask code n) ≡ Some e) × ((machine ask code n).log.trace ≡ o.trace) × ((machine ask code n).log.taken ≡ o.picks)
+        ends e h =
+            let there : end_of code (steps ask code a.0 start) ≡ Some e = ap (end_of code) a.2 ∙ z.end ∙ h in
+            let t : machine ask code n ≡ steps ask code a.0 start = stay ask code a.0 n start later (ended_stays ask code (steps ask code a.0 start) (inl (λ none. let bad : None ≡ Some e = sym none ∙ there in cc))) in
+            (ap (end_of code) t ∙ there, ap (λ (y : State). y.log.trace) t ∙ log_is, ap (λ (y : State). y.log.taken) (t ∙ a.2) ∙ sym z.taken)
+
+    runs_as : RunsAs program code ask n
+    runs_as = record {
+      so_far = shown.so_far;
+      whole = shown.whole;
+      no_pick_left = shown.no_pick_left;
+      obeys = obeys;
+      not_stuck = shown.not_stuck;
+      in_time = λ other clock ob le. reached_by other clock (outcome program other clock).ticks (outcome program other clock) (moment other clock) ob le;
+    }
+
+  pub behaves : Behaves program code
+  behaves = record { after = λ ask n. runs_as ask n }
