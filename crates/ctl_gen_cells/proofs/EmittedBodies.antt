@@ -1,5 +1,5 @@
 -- What the emitter makes of the bodies of a program, one after another, is their layout.
-use Rattle.std.proofs.Common.{◌≡◌, ℕ, ◌+◌, List, [], ◌∷◌, ◌++◌, length, map, None, refl, sym, ap, ◌∙◌, append_assoc}
+use Rattle.std.proofs.Common.{◌≡◌, ℕ, ◌+◌, List, [], ◌∷◌, ◌++◌, length, map, None, refl, ap, ◌∙◌, append_assoc}
 use Rattle.ctl_program.specs.declared.program.Checked.{Checked}
 use Rattle.ctl_program.specs.declared.program.Subprogram.{Subprogram}
 use Rattle.ctl_code_cells.specs.declared.code.Entry.{Entry}
@@ -9,7 +9,7 @@ use Rattle.ctl_code_cells.specs.declared.kinds.Kind.TheVariants.{Body}
 use Rattle.ctl_code_cells.specs.Kinds.{below_newest}
 use Rattle.ctl_gen_cells.specs.Around.{FromMaster}
 use Rattle.ctl_gen_cells.specs.Emitted.{Emitted, appended, around, lined, none_emitted, one, standing, stated}
-use Rattle.ctl_gen_cells.specs.Layout.{StatementCode, bodies, body_code, entries_from, entry_at, instructions_of, kinds_of, master_code, nowhere, program_code}
+use Rattle.ctl_gen_cells.specs.Layout.{bodies, body_code, entries_from, entry_at, instructions_of, kinds_of, master_code, program_code}
 use Rattle.ctl_gen_cells.proofs.Emission.{count_more, nothing, stands, stands_before, stands_behind, standing_is, texts_more}
 use Rattle.ctl_gen_cells.proofs.EmittedStatements.{next_statement}
 

@@ -154,7 +154,11 @@ impl Emitter {
     {
         let depth = self.notes.depth();
         let level = variable.level.saturating_sub(1);
-        if level < depth { depth - 1 - level } else { depth }
+        if level < depth {
+            depth - 1 - level
+        } else {
+            depth
+        }
     }
 
     /// Answers the cell of a variable, where its master belongs to the body.

@@ -169,7 +169,15 @@ impl Emitter {
             None => {
                 let (out, slot) = (self.out_to(variable), variable.slot);
                 let from = self.held(ty, value)?;
-                self.take(Instr::Store { from, ty, out, slot }, from)
+                self.take(
+                    Instr::Store {
+                        from,
+                        ty,
+                        out,
+                        slot,
+                    },
+                    from,
+                )
             }
         }
     }
@@ -234,7 +242,12 @@ impl Emitter {
 
     /// Emits further arms, whose ends lead back to the end of the first one.
     #[cycle(emit)]
-    fn further_arms(&mut self, arms: &[Arm], end: usize, landing: Option<usize>) -> Result<(), AllocError>
+    fn further_arms(
+        &mut self,
+        arms: &[Arm],
+        end: usize,
+        landing: Option<usize>,
+    ) -> Result<(), AllocError>
         requires landing { ForSome landing (λ at. at ≤ length self.old.instructions) }
         requires end { end ≤ length self.old.instructions }
         ensures { OnOk result (self.new ≡ stated (further_arms (length self.old.instructions - end) (map spec.arm_code arms.now)) landing self.old) }
@@ -249,7 +262,12 @@ impl Emitter {
 
     /// Emits statements under a condition, where it does not hold they and one more instruction are passed over.
     #[cycle(emit)]
-    fn tested(&mut self, body: &[Stmt], test: &Expr, landing: Option<usize>) -> Result<(), AllocError>
+    fn tested(
+        &mut self,
+        body: &[Stmt],
+        test: &Expr,
+        landing: Option<usize>,
+    ) -> Result<(), AllocError>
         requires { ForSome landing (λ at. at ≤ length self.old.instructions) }
         ensures { OnOk result (self.new ≡ stated (spec.tested (values.value_code test.now) (spec.all (map spec.statement_code body.now))) landing self.old) }
     {
@@ -308,7 +326,14 @@ impl Emitter {
 
     /// Emits a loop with a parameter.
     #[cycle(emit)]
-    fn for_loop(&mut self, body: &[Stmt], parameter: Var, way: Direction, low: &Expr, high: &Expr) -> Result<(), AllocError>
+    fn for_loop(
+        &mut self,
+        body: &[Stmt],
+        parameter: Var,
+        way: Direction,
+        low: &Expr,
+        high: &Expr,
+    ) -> Result<(), AllocError>
         ensures { OnOk result (self.new ≡ stated (spec.for parameter way (values.value_code low.now) (values.value_code high.now) (spec.all (map spec.statement_code body.now))) None self.old) }
     {
         let at = self.newest_at(parameter);

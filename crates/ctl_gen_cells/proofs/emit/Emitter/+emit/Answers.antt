@@ -1,17 +1,16 @@
-use Rattle.std.proofs.Common.{◌≡◌, ◌+◌, ◌-◌, ◌∷◌, ◌≤◌, ℕ, List, Option, None, Some, ap, sym, ◌∙◌, map, take, drop, length, option_map, arith, false, true}
+use Rattle.std.proofs.Common.{◌+◌, ◌-◌, None, ap, sym, ◌∙◌, map, take, drop, length, option_map, arith, false, true}
 use Rattle.std.proofs.lemmas.List.{drop_all}
-use Rattle.ctl_program.specs.declared.types.Ty.TheVariants.{Boolean}
-use Rattle.ctl_program.specs.declared.statement.Arm.{Arm, out-Arm, size-Arm}
+use Rattle.ctl_program.specs.declared.statement.Arm.{out-Arm, size-Arm}
 use Rattle.ctl_program.specs.declared.statement.Master.{out-Master}
 use Rattle.ctl_code_cells.specs.declared.code.Instr.TheVariants as InstrOf
 use Rattle.ctl_gen_cells.specs.Emitted.{first_end, further_arms, lined, one, open_arms, set_at, stated}
 use Rattle.ctl_gen_cells.specs.Values.{value_code, variable_of}
-use Rattle.ctl_gen_cells.specs.Layout.{ArmCode, MasterCode, all, all_items, arm_code, assign, block, branches, exit, for, for_of, has_no_handlers, item_code, loop, master_code, missing_statement, next_of, no_code, one_statement, print, statement_code, tested, while}
+use Rattle.ctl_gen_cells.specs.Layout.{MasterCode, all, all_items, arm_code, assign, block, branches, exit, for, for_of, has_no_handlers, item_code, loop, master_code, missing_statement, next_of, no_code, one_statement, print, statement_code, tested, while}
 use Rattle.ctl_gen_cells.proofs.Emission.{on_ok, turn_of}
-use Rattle.ctl_gen_cells.proofs.EmittedStatements.{assigned_anywhere, next_statement, no_statement, statement_emitted}
+use Rattle.ctl_gen_cells.proofs.EmittedStatements.{assigned_anywhere, next_statement, no_statement, renamed, statement_emitted}
 use Rattle.ctl_gen_cells.proofs.EmittedLoops.{block_emitted, for_emitted, inside_emitted, landing_within, line_within, loop_emitted, statement_within, test_within, tested_emitted}
-use Rattle.ctl_gen_cells.proofs.EmittedArms.{behind_first, branches_emitted, end_at, end_before, first_end_is, guarded, next_arm, no_arm, no_deeper, none_open, open_emitted}
-use Rattle.ctl_gen_cells.proofs.StatementLayers.{arm_is, master_is, missing_is, statement_assign, statement_block, statement_exit, statement_for, statement_if, statement_loop, statement_new_line, statement_null, statement_put, statement_put_line, statement_while}
+use Rattle.ctl_gen_cells.proofs.EmittedArms.{arm_emitted, behind_first, branches_emitted, end_at, end_before, first_end_is, guarded, next_arm, no_arm, no_deeper, none_open, open_emitted}
+use Rattle.ctl_gen_cells.proofs.StatementLayers.{master_is, missing_is, statement_assign, statement_block, statement_exit, statement_for, statement_if, statement_loop, statement_new_line, statement_null, statement_put, statement_put_line, statement_while}
 use Rattle.ctl_gen_cells.proofs.emit.Emitter.+emit.Goals as goal
 
 -- Statements in turn --------------------------------------------------------------------------------
@@ -86,25 +85,25 @@ pub statement-returns-in-Loop : goal.statement-returns-in-Loop
 statement-returns-in-Loop t c = on_ok _ _ c.endless.result c.endless.ensures (λ e.
     let i = c.in-Loop in
     statement_emitted _ (loop (all (map statement_code i.body))) c.args.landing c.args.self.now c.endless.new.self (ap statement_code i.is ∙ statement_loop i.body)
-    (e ∙ ap (λ xs. stated (loop (all (map statement_code xs))) c.args.landing c.args.self.now) c.as_slice-in-Loop.ensures))
+    (renamed (λ xs. loop (all (map statement_code xs))) c.as_slice-in-Loop.result.now i.body c.args.landing c.args.self.now c.endless.new.self c.as_slice-in-Loop.ensures e))
 
 pub statement-returns-in-While : goal.statement-returns-in-While
 statement-returns-in-While t c = on_ok _ _ c.while_loop.result c.while_loop.ensures (λ e.
     let i = c.in-While in
     statement_emitted _ (while (value_code i.test) (all (map statement_code i.body))) c.args.landing c.args.self.now c.while_loop.new.self (ap statement_code i.is ∙ statement_while i.test i.body)
-    (e ∙ ap (λ xs. stated (while (value_code i.test) (all (map statement_code xs))) c.args.landing c.args.self.now) c.as_slice-in-While.ensures))
+    (renamed (λ xs. while (value_code i.test) (all (map statement_code xs))) c.as_slice-in-While.result.now i.body c.args.landing c.args.self.now c.while_loop.new.self c.as_slice-in-While.ensures e))
 
 pub statement-returns-in-For : goal.statement-returns-in-For
 statement-returns-in-For t c = on_ok _ _ c.for_loop.result c.for_loop.ensures (λ e.
     let i = c.in-For in
     statement_emitted _ (for i.parameter i.way (value_code i.low) (value_code i.high) (all (map statement_code i.body))) c.args.landing c.args.self.now c.for_loop.new.self (ap statement_code i.is ∙ statement_for i.parameter i.way i.low i.high i.body)
-    (e ∙ ap (λ xs. stated (for i.parameter i.way (value_code i.low) (value_code i.high) (all (map statement_code xs))) c.args.landing c.args.self.now) c.as_slice-in-For.ensures))
+    (renamed (λ xs. for i.parameter i.way (value_code i.low) (value_code i.high) (all (map statement_code xs))) c.as_slice-in-For.result.now i.body c.args.landing c.args.self.now c.for_loop.new.self c.as_slice-in-For.ensures e))
 
 pub statement-returns-in-Block : goal.statement-returns-in-Block
 statement-returns-in-Block t c = on_ok _ _ c.block.result c.block.ensures (λ e.
     let i = c.in-Block in
     statement_emitted _ (block (master_code i.master)) c.args.landing c.args.self.now c.block.new.self (ap statement_code i.is ∙ statement_block i.master)
-    (e ∙ ap (λ m. stated (block (master_code m)) c.args.landing c.args.self.now) c.get.ensures))
+    (renamed (λ m. block (master_code m)) c.get.result.now i.master c.args.landing c.args.self.now c.block.new.self c.get.ensures e))
 
 pub statement-returns-in-AssignRecord : goal.statement-returns-in-AssignRecord
 statement-returns-in-AssignRecord t c = on_ok _ _ c.put-in-AssignRecord.result c.put-in-AssignRecord.ensures (
@@ -124,7 +123,7 @@ arms-returns-in_ok-further_arms-in-len1-up-clause-emitted t c =
     let e0 = c.args.self.now in
     let e2 = c.put.new.self in
     open_emitted (arm_code x) (map arm_code (drop 1 whole)) l e0 c.tested.new.self e2 c.further_arms.new.self c.place-end.result c.requires
-    (c.in_ok-tested-in-len1-up.ensures ∙ ap (λ xs. stated (tested (value_code (out-Arm x).test) (all (map statement_code xs))) l e0) c.as_slice.ensures ∙ ap (λ (y : ArmCode). stated (guarded y) l e0) (sym (arm_is x)))
+    (arm_emitted x c.as_slice.result.now l e0 c.tested.new.self c.as_slice.ensures c.in_ok-tested-in-len1-up.ensures)
     c.place-end.ensures c.in_ok-put-in-len1-up.ensures
     (c.in_ok-further_arms-in-len1-up.ensures ∙ ap (λ xs. stated (further_arms (length e2.instructions - c.place-end.result) (map arm_code xs)) l e2) (behind_first whole))
     ∙ turn_of (λ xs. stated (open_arms (map arm_code xs)) l e0) whole 0 x c.in-len1-up.len_at_least c.first-item.is
@@ -136,7 +135,7 @@ arms-returns-in_ok-further_arms-in-len1-up-clause-end t c =
     let l = c.args.landing in
     let e0 = c.args.self.now in
     first_end_is (arm_code x) (map arm_code (drop 1 whole)) l e0 c.tested.new.self c.place-end.result
-    (c.in_ok-tested-in-len1-up.ensures ∙ ap (λ xs. stated (tested (value_code (out-Arm x).test) (all (map statement_code xs))) l e0) c.as_slice.ensures ∙ ap (λ (y : ArmCode). stated (guarded y) l e0) (sym (arm_is x)))
+    (arm_emitted x c.as_slice.result.now l e0 c.tested.new.self c.as_slice.ensures c.in_ok-tested-in-len1-up.ensures)
     c.place-end.ensures
     ∙ turn_of (λ xs. first_end l (map arm_code xs) e0) whole 0 x c.in-len1-up.len_at_least c.first-item.is
 
@@ -147,8 +146,10 @@ arms-further_arms-requires t c =
     let e2 = c.put.new.self in
     let arm = tested (value_code (out-Arm c.first-item.result).test) (all (map statement_code c.as_slice.result.now)) in (
       omega (arith, h, c.decreases),
-      (line_within (InstrOf.Skip 0) c.args.landing e1 e2 (statement_within arm c.args.landing c.args.self.now e1 c.requires c.in_ok-tested-in-len1-up.ensures) c.in_ok-put-in-len1-up.ensures,
-       end_at (InstrOf.Skip 0) e1 e2 c.place-end.result c.place-end.ensures c.in_ok-put-in-len1-up.ensures),
+      (
+        line_within (InstrOf.Skip 0) c.args.landing e1 e2 (statement_within arm c.args.landing c.args.self.now e1 c.requires c.in_ok-tested-in-len1-up.ensures) c.in_ok-put-in-len1-up.ensures,
+        end_at (InstrOf.Skip 0) e1 e2 c.place-end.result c.place-end.ensures c.in_ok-put-in-len1-up.ensures,
+      ),
     )
 
 pub arms-returns-in_ok-further_arms-in-len1-up-clause-landing : goal.arms-returns-in_ok-further_arms-in-len1-up-clause-landing
@@ -174,7 +175,7 @@ further_arms-loop-arm-preserved t c =
     let e2 = c.put.new.self in
     let back = c.since-back.result in
     let within = c.loop-arm.invariant.1 in
-    let first = c.in_ok-tested.ensures ∙ ap (λ xs. stated (tested (value_code (out-Arm x).test) (all (map statement_code xs))) l e0) c.as_slice.ensures ∙ ap (λ (y : ArmCode). stated (guarded y) l e0) (sym (arm_is x)) in (
+    let first = arm_emitted x c.as_slice.result.now l e0 e1 c.as_slice.ensures c.in_ok-tested.ensures in (
       next_arm (arm_code x) (map arm_code (drop (i + 1) whole)) l e0 e1 e2 c.args.end back within c.loop-arm.invariant.2 first c.since-back.ensures c.in_ok-put.ensures
           ∙ turn_of (λ xs. stated (further_arms (length e0.instructions - c.args.end) (map arm_code xs)) l e0) whole i x c.loop-arm-test.true c.arm-item.is
           ∙ c.loop-arm.invariant.0,
@@ -201,9 +202,9 @@ tested-returns t c =
 
 pub tested-statements-requires : goal.tested-statements-requires
 tested-statements-requires t c = (
-      omega (arith, c.decreases),
-      test_within (value_code c.args.test.now) c.in_ok-from.from c.args.landing c.args.self.now c.held.new.self c.take.new.self c.requires c.in_ok-from.ensures.held c.in_ok-from.ensures.cell c.in_ok-take.ensures,
-    )
+  omega (arith, c.decreases),
+  test_within (value_code c.args.test.now) c.in_ok-from.from c.args.landing c.args.self.now c.held.new.self c.take.new.self c.requires c.in_ok-from.ensures.held c.in_ok-from.ensures.cell c.in_ok-take.ensures,
+)
 
 -- Loops ---------------------------------------------------------------------------------------------
 

@@ -1,4 +1,4 @@
-use Rattle.std.proofs.Common.{◌≡◌, ◌∷◌, [], ◌++◌, ◌+◌, ◌-◌, ap, sym, ◌∙◌, map, drop, length, length-drop, None, Some, arith}
+use Rattle.std.proofs.Common.{◌≡◌, ◌∷◌, [], ◌++◌, ◌+◌, ap, sym, ◌∙◌, map, drop, length, length-drop, None, arith}
 use Rattle.std.proofs.lemmas.List.{drop_all, length-map}
 use Rattle.ctl_program.specs.declared.types.Ty.TheVariants.{Boolean}
 use Rattle.ctl_program.specs.declared.expression.Operand.{Operand, out-Operand}

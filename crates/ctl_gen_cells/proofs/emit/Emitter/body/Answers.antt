@@ -1,4 +1,4 @@
-use Rattle.std.proofs.Common.{sym, ap, ◌∙◌}
+use Rattle.std.proofs.Common.{sym, ap}
 use Rattle.ctl_program.specs.declared.statement.Master.{out-Master}
 use Rattle.ctl_gen_cells.specs.Layout.{MasterCode}
 use Rattle.ctl_gen_cells.proofs.EmittedBodies.{body_emitted}
