@@ -1,5 +1,5 @@
 -- What is left is run as what there was.
-use Rattle.std.proofs.Common.{◌≡◌, map, drop}
+use Rattle.std.proofs.Common.{◌≡◌, drop}
 use Rattle.ctl_gen_cells.specs.Run.{are_procedures}
 use Rattle.ctl_gen_cells.proofs.runs.are_procedures.Given as goal
 
