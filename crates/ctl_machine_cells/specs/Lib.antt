@@ -1,0 +1,4 @@
+pub mod Operators
+pub mod Masters
+pub mod Under
+pub mod Shows
