@@ -15,7 +15,7 @@ get_left (x ∷ xs) ys zero v h = h
 get_left (x ∷ xs) ys (suc i) v h = get_left xs ys i v h
 
 pub get_right : {X : Type 0} (xs ys : List X) (i j : ℕ) → j ≡ length xs + i → slice_get (xs ++ ys) j ≡ slice_get ys i
-get_right [] ys i j e = ap (λ n. slice_get ys n) e
+get_right [] ys i j e = let f : j ≡ i = omega arith in ap (λ n. slice_get ys n) f
 get_right (x ∷ xs) ys i zero e = absurd (omega arith)
 get_right (x ∷ xs) ys i (suc j) e = get_right xs ys i j (omega arith)
 
@@ -25,7 +25,7 @@ set_left (x ∷ xs) ys zero v h = refl
 set_left (x ∷ xs) ys (suc i) v h = ap (λ l. x ∷ l) (set_left xs ys i v (omega arith))
 
 pub set_right : {X : Type 0} (xs ys : List X) (i j : ℕ) (v : X) → j ≡ length xs + i → slice_set (xs ++ ys) j v ≡ xs ++ slice_set ys i v
-set_right [] ys i j v e = ap (λ n. slice_set ys n v) e
+set_right [] ys i j v e = let f : j ≡ i = omega arith in ap (λ n. slice_set ys n v) f
 set_right (x ∷ xs) ys i zero v e = absurd (omega arith)
 set_right (x ∷ xs) ys i (suc j) v e = ap (λ l. x ∷ l) (set_right xs ys i j v (omega arith))
 
