@@ -1,3 +1,4 @@
 pub mod Lists
 pub mod Slots
 pub mod Places
+pub mod Values
