@@ -2,3 +2,4 @@ pub mod Lists
 pub mod Slots
 pub mod Places
 pub mod Values
+pub mod Entered
