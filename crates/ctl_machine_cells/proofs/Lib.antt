@@ -3,3 +3,4 @@ pub mod Slots
 pub mod Places
 pub mod Values
 pub mod Entered
+pub mod Closed
