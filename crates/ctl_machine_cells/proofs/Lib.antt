@@ -4,3 +4,4 @@ pub mod Places
 pub mod Values
 pub mod Entered
 pub mod Closed
+pub mod Plain

@@ -2,3 +2,4 @@ pub mod Operators
 pub mod Masters
 pub mod Under
 pub mod Shows
+pub mod Moves
