@@ -5,3 +5,4 @@ pub mod Values
 pub mod Entered
 pub mod Closed
 pub mod Plain
+pub mod Computed
