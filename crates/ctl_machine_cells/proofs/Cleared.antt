@@ -10,9 +10,12 @@ use Rattle.ctl_machine_cells.specs.Moves.{cleared}
 use Rattle.ctl_machine_cells.proofs.Lists.{length_set}
 use Rattle.ctl_machine_cells.proofs.Values.{set_last}
 
-zero_last : (n : ℕ) → replicate n 0 ++ 0 ∷ [] ≡ replicate (suc n) 0
-zero_last zero = refl
-zero_last (suc n) = ap (λ l. 0 ∷ l) (zero_last n)
+item_last : (n x : ℕ) → replicate n x ++ x ∷ [] ≡ replicate (suc n) x
+item_last zero x = refl
+item_last (suc n) x = ap (λ (l : List ℕ). x ∷ l) (item_last n x)
+
+zero_last : (n : ℕ) → ◌++◌ {A = ℕ} (replicate n 0) (0 ∷ []) ≡ replicate (suc n) 0
+zero_last n = item_last n 0
 
 pub length_cleared : (base n : ℕ) (cells : List ℕ) → length (cleared base n cells) ≡ length cells
 length_cleared base zero cells = refl
@@ -24,12 +27,12 @@ cleared_is below rest base zero e within = (rest, ap (λ l. l ++ rest) (sym (app
 cleared_is below rest base (suc n) e within =
     let less : base + n ≤ length (below ++ rest) = omega (arith, within) in
     let ih = cleared_is below rest base n e less in
-    let front = below ++ replicate n 0 in
-    let long : base + n ≡ length front = rw (length-append below (replicate n 0), length-replicate n 0) (omega (arith, e)) in
+    let front : List ℕ = below ++ replicate n 0 in
+    let long : base + n ≡ length front = rw (length-append below (replicate n 0), length-replicate {A = ℕ} n 0) (omega (arith, e)) in
     let same : length (cleared base n (below ++ rest)) ≡ length (below ++ rest) = length_cleared base n (below ++ rest) in
     let there : base + n < length (front ++ ih.0) = subst (λ (l : List ℕ). base + n < length l) ih.1 (omega (arith, same, within)) in
     let last = set_last front ih.0 0 (base + n) long there in
-    (last.0, ap (λ l. slice_set l (base + n) 0) ih.1 ∙ (last.1 ∙ ap (λ l. l ++ last.0) (append_assoc below (replicate n 0) (0 ∷ []) ∙ ap (λ l. below ++ l) (zero_last n))))
+    (last.0, ap (λ l. slice_set l (base + n) 0) ih.1 ∙ (last.1 ∙ ap (λ l. l ++ last.0) (append_assoc below (replicate n 0) (0 ∷ []) ∙ ap (λ (l : List ℕ). below ++ l) (zero_last n))))
 
 pub unset_cells : (n : ℕ) → map cell_in (replicate n Unset) ≡ replicate n 0
 unfolding opened_lists opened_names
