@@ -6,5 +6,7 @@ pub mod Entered
 pub mod Cleared
 pub mod Blocks
 pub mod Closed
+pub mod Left
 pub mod Plain
 pub mod Computed
+pub mod Behind
