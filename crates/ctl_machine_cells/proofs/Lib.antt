@@ -10,3 +10,4 @@ pub mod Left
 pub mod Plain
 pub mod Computed
 pub mod Behind
+pub mod Leaves

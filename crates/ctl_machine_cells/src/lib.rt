@@ -3,5 +3,6 @@
 
 mod engine;
 mod frame;
+mod leaving;
 mod operators;
 pub mod outcome;
