@@ -9,5 +9,6 @@ pub mod Closed
 pub mod Left
 pub mod Plain
 pub mod Computed
+pub mod Leading
 pub mod Behind
 pub mod Leaves

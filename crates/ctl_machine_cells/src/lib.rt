@@ -3,6 +3,7 @@
 
 mod engine;
 mod frame;
+mod jumps;
 mod leaving;
 mod operators;
 pub mod outcome;
