@@ -6,3 +6,8 @@ pub mod Entered
 pub mod Closed
 pub mod Plain
 pub mod Computed
+pub mod Images
+pub mod Printed
+pub mod Ends
+pub mod Started
+pub mod Prints

@@ -3,3 +3,6 @@ pub mod Masters
 pub mod Under
 pub mod Shows
 pub mod Moves
+pub mod Images
+pub mod Machine
+pub mod Prints
