@@ -41,29 +41,72 @@ pub enum Instr {
     Start(usize),
     /// enters a block (RM 5.6) with so many slots, and its length; behind it stand the instruction for an exit statement that leaves the
     /// block, and then what follows
-    Enter { slots: usize, length: usize },
+    Enter {
+        slots: usize,
+        length: usize,
+    },
     /// ends the statements of the newest master
     Leave,
     /// declares an object without a value: its slot in the newest master, and its record type
-    Declare { slot: usize, record: usize },
+    Declare {
+        slot: usize,
+        record: usize,
+    },
     /// takes the next object number for a scalar object (RM 3.3.1)
     Number,
     /// puts a constant of this type
-    Set { value: u64, ty: Ty, to: Cell },
+    Set {
+        value: u64,
+        ty: Ty,
+        to: Cell,
+    },
     /// puts the value of a cell
-    Move { from: Cell, ty: Ty, to: Cell },
+    Move {
+        from: Cell,
+        ty: Ty,
+        to: Cell,
+    },
     /// puts the value of a variable of a body around: of the master so many further out, and its slot
-    Fetch { out: usize, slot: usize, ty: Ty, to: Cell },
+    Fetch {
+        out: usize,
+        slot: usize,
+        ty: Ty,
+        to: Cell,
+    },
     /// gives such a variable the value of a cell
-    Store { from: Cell, ty: Ty, out: usize, slot: usize },
+    Store {
+        from: Cell,
+        ty: Ty,
+        out: usize,
+        slot: usize,
+    },
     /// applies an operator with one operand: the type of both (RM 4.5.4, 4.5.6)
-    Unary { op: UnaryOp, ty: Ty, from: Cell, to: Cell },
+    Unary {
+        op: UnaryOp,
+        ty: Ty,
+        from: Cell,
+        to: Cell,
+    },
     /// applies an operator with two operands (RM 4.5)
-    Binary { op: Operator, left: Cell, right: Cell, to: Cell },
+    Binary {
+        op: Operator,
+        left: Cell,
+        right: Cell,
+        to: Cell,
+    },
     /// applies an operator whose right operand is a constant
-    BinaryConstant { op: Operator, left: Cell, right: u64, to: Cell },
+    BinaryConstant {
+        op: Operator,
+        left: Cell,
+        right: u64,
+        to: Cell,
+    },
     /// keeps the newest operand, in this cell, where it decides a short-circuit form, and passes over so many; else drops it (RM 4.5.1)
-    Decide { form: Shortcut, at: usize, length: usize },
+    Decide {
+        form: Shortcut,
+        at: usize,
+        length: usize,
+    },
     /// passes over so many
     Skip(usize),
     /// goes so many back
@@ -71,19 +114,40 @@ pub enum Instr {
     /// drops the two newest operands, and passes over so many
     Abandon(usize),
     /// passes over so many unless the value is True (RM 5.3)
-    Unless { from: Cell, length: usize },
+    Unless {
+        from: Cell,
+        length: usize,
+    },
     /// enters a loop over the values between the two newest operands, which stay: the low bound's cell, the parameter's slot in the
     /// newest master and its cell, the direction, and its length (RM 5.5). Behind it stand the instruction for an exit statement and the
     /// first turn
-    For { low: usize, slot: usize, parameter: usize, way: Direction, length: usize },
+    For {
+        low: usize,
+        slot: usize,
+        parameter: usize,
+        way: Direction,
+        length: usize,
+    },
     /// begins the next turn of such a loop, so many instructions back; drops its bounds where none is left
-    Next { low: usize, slot: usize, parameter: usize, way: Direction, length: usize },
+    Next {
+        low: usize,
+        slot: usize,
+        parameter: usize,
+        way: Direction,
+        length: usize,
+    },
     /// leaves the newest master, a block, by an exit statement (RM 5.7)
     Exit,
     /// prints the text of this number; its images take their values from the newest operands, the first of them in this cell
-    Put { text: usize, first: usize },
+    Put {
+        text: usize,
+        first: usize,
+    },
     /// prints the text of this number and ends the line
-    PutLine { text: usize, first: usize },
+    PutLine {
+        text: usize,
+        first: usize,
+    },
     /// ends the line
     NewLine,
     /// stands for a construct that no instruction exists for: the machine goes no further

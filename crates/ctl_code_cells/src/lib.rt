@@ -2,9 +2,12 @@
 #![tactic(auto)]
 
 pub mod code;
+mod fine;
 mod images;
 pub mod kinds;
 pub mod laws;
 mod stacks;
 pub mod template;
 mod types;
+pub mod valid;
+mod validate;

@@ -3,7 +3,10 @@ pub mod Slots
 pub mod Places
 pub mod Values
 pub mod Entered
+pub mod Cleared
+pub mod Blocks
 pub mod Closed
+pub mod Left
 pub mod Plain
 pub mod Computed
 pub mod Images
@@ -11,3 +14,6 @@ pub mod Printed
 pub mod Ends
 pub mod Started
 pub mod Prints
+pub mod Leading
+pub mod Behind
+pub mod Leaves

@@ -5,6 +5,8 @@ mod advance;
 mod engine;
 mod frame;
 pub mod machine;
+mod jumps;
+mod leaving;
 mod operators;
 pub mod outcome;
 mod printing;

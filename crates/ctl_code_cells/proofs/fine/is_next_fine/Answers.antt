@@ -1,0 +1,16 @@
+use Rattle.std.proofs.Common.{◌+◌, ◌-◌, refl}
+use Rattle.ctl_code_cells.specs.Kinds.{stack_at}
+use Rattle.ctl_code_cells.specs.Valid.{Leads}
+use Rattle.ctl_code_cells.proofs.Shapes.{bounded, not_bounded}
+use Rattle.ctl_code_cells.proofs.fine.is_next_fine.Goals as goal
+
+pub returns-then-is_bounded : goal.returns-then-is_bounded
+returns-then-is_bounded c =
+    let stack = stack_at c.args.code.now.kinds c.args.place in
+    let step = bounded c.args.low c.args.slot c.args.parameter stack (λ below. Leads c.args.code.now (c.args.place - c.args.length) stack × Leads c.args.code.now (c.args.place + 1) below) (c.if-is_bounded.ensures.0 refl) in
+    (λ t. let r = c.leads_back_to_turn.ensures.0 t in (r.0.0, step.0 (r.0.1, r.1)), λ h. let r = step.1 h.1 in c.leads_back_to_turn.ensures.1 ((h.0, r.0), r.1))
+
+pub returns-else-is_bounded : goal.returns-else-is_bounded
+returns-else-is_bounded c =
+    let stack = stack_at c.args.code.now.kinds c.args.place in
+    (λ t. cc (t, c.if-is_bounded.false), λ h. absurd (not_bounded c.args.low c.args.slot c.args.parameter stack (λ below. Leads c.args.code.now (c.args.place - c.args.length) stack × Leads c.args.code.now (c.args.place + 1) below) (λ b. cc (c.is_bounded.ensures.1 b, c.if-is_bounded.false)) h.1))

@@ -1,0 +1,11 @@
+use Rattle.std.proofs.Common.{refl}
+use Rattle.ctl_code_cells.proofs.Whole.{whole}
+use Rattle.ctl_code_cells.proofs.validate.is_valid.Goals as goal
+
+pub returns-then-are_entries_fine : goal.returns-then-are_entries_fine
+returns-then-are_entries_fine c =
+    let start = c.if-not-is_started.ensures.0 refl in
+    let stacks = c.if-not-are_stacks_fine.ensures.0 refl in
+    let fine = c.if-not-are_instructions_fine.ensures.0 refl in
+    let entries = c.if-are_entries_fine.ensures.0 refl in
+    (λ t. whole c.args.code.now stacks.0 start stacks.1 fine entries (c.are_records_fine.ensures.0 t), λ valid. c.are_records_fine.ensures.1 valid.records)

@@ -1,0 +1,91 @@
+//! Whether code is well formed: each of its instructions, and each entry of its tables.
+
+ghost use Rattle.std.specs.Prelude.{◌≡◌, ◌↔◌, ℕ, ◌≤◌, length, slice_get, IsTrue, List, Some};
+ghost use Rattle.ctl_code_cells.specs.declared.kinds.Kind.{Kind};
+ghost use Rattle.ctl_code_cells.specs.Windows.{height};
+ghost use Rattle.ctl_code_cells.specs.declared.code.Entry.{Entry};
+ghost use Rattle.ctl_code_cells.specs.declared.code.Instr.{Instr};
+ghost use Rattle.ctl_code_cells.specs.declared.code.Operations.{Operations};
+ghost use Rattle.ctl_code_cells.specs.Kinds.{stack_at};
+ghost use Rattle.ctl_code_cells.specs.Valid.{IsBegun, IsFine, IsStarted, IsValid, MayBeEntry};
+
+use crate::code::{Code, Instr};
+use crate::fine::{is_entry, is_fine};
+use crate::kinds::Kind;
+
+/// Tells whether each instruction is well formed where it stands.
+fn are_instructions_fine(code: &Code) -> bool
+    ensures { IsTrue result ↔ ((place : ℕ) (i : Instr) → slice_get code.now.instructions.items place ≡ Some i → IsFine code.now place i (stack_at code.now.kinds place)) }
+{
+    for (place, instr) in code.instructions.iter().enumerate() {
+        if !is_fine(code, place, instr) {
+            return false;
+        }
+    }
+    true
+}
+
+/// Tells whether each body begins at a place of the code where its slots stand.
+fn are_entries_fine(code: &Code) -> bool
+    ensures { IsTrue result ↔ ((f : ℕ) (e : Entry) → slice_get code.now.entries.items f ≡ Some e → IsBegun code.now e) }
+{
+    for entry in &code.entries {
+        let body = Kind::Body {
+            level: entry.level,
+            slots: entry.slots,
+        };
+        if !code.kinds.stands_alone(entry.place, body) {
+            return false;
+        }
+    }
+    true
+}
+
+/// Tells whether there is no operation, or one that has a body.
+fn may_be_entry(code: &Code, number: Option<usize>) -> bool
+    ensures { IsTrue result ↔ MayBeEntry code.now number }
+{
+    match number {
+        Some(number) => is_entry(code, number),
+        None => true,
+    }
+}
+
+/// Tells whether each operation of a record type has a body (RM 7.6).
+fn are_records_fine(code: &Code) -> bool
+    ensures { IsTrue result ↔ ((t : ℕ) (o : Operations) → slice_get code.now.records.items t ≡ Some o → MayBeEntry code.now o.initialize × MayBeEntry code.now o.finalize) }
+{
+    for operations in &code.records {
+        if !may_be_entry(code, operations.initialize) || !may_be_entry(code, operations.finalize) {
+            return false;
+        }
+    }
+    true
+}
+
+/// Tells whether the first instruction executes the main procedure, and nothing stands before it.
+fn is_started(code: &Code) -> bool
+    ensures { IsTrue result ↔ IsStarted code.now }
+{
+    match code.instructions.first() {
+        Some(Instr::Start(_)) => code.kinds.is_bare_at(0),
+        _ => false,
+    }
+}
+
+/// Tells whether each instruction has its stack, for which there is room.
+fn are_stacks_fine(code: &Code) -> bool
+    ensures { IsTrue result ↔ ((length code.now.kinds ≡ length code.now.instructions.items) × ((place : ℕ) (stack : List Kind) → slice_get code.now.kinds place ≡ Some stack → height stack ≤ code.now.room)) }
+{
+    code.kinds.len() == code.instructions.len() && code.kinds.is_room(code.room)
+}
+
+/// Tells whether the code is well formed.
+pub fn is_valid(code: &Code) -> bool
+    ensures { IsTrue result ↔ IsValid code.now }
+{
+    if !is_started(code) || !are_stacks_fine(code) || !are_instructions_fine(code) {
+        return false;
+    }
+    are_entries_fine(code) && are_records_fine(code)
+}
