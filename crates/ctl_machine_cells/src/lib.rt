@@ -4,9 +4,9 @@
 mod advance;
 mod engine;
 mod frame;
-pub mod machine;
 mod jumps;
 mod leaving;
+pub mod machine;
 mod operators;
 pub mod outcome;
 mod printing;
