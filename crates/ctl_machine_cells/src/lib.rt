@@ -11,4 +11,5 @@ mod operators;
 pub mod outcome;
 mod printing;
 mod start;
+mod step;
 mod texts;
