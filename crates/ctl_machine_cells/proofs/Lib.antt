@@ -3,6 +3,8 @@ pub mod Slots
 pub mod Places
 pub mod Values
 pub mod Entered
+pub mod Cleared
+pub mod Blocks
 pub mod Closed
 pub mod Plain
 pub mod Computed
