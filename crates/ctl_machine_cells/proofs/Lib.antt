@@ -8,3 +8,4 @@ pub mod Blocks
 pub mod Closed
 pub mod Plain
 pub mod Computed
+pub mod Declared
