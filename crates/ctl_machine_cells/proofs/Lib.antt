@@ -9,3 +9,4 @@ pub mod Closed
 pub mod Plain
 pub mod Computed
 pub mod Declared
+pub mod Departures
