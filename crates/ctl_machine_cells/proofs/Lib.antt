@@ -10,3 +10,5 @@ pub mod Plain
 pub mod Computed
 pub mod Declared
 pub mod Departures
+pub mod Links
+pub mod Bodies

@@ -3,3 +3,4 @@ pub mod Masters
 pub mod Under
 pub mod Shows
 pub mod Moves
+pub mod Links
