@@ -2,7 +2,7 @@
 use Rattle.std.proofs.Common.{◌≡◌, ℕ, zero, suc, ◌+◌, ◌<◌, ◌≤◌, List, [], ◌∷◌, ◌++◌, length, refl, sym, ap, ◌∙◌, subst, arith, map, replicate}
 use Rattle.std.specs.Prelude.{slice_set}
 use Rattle.std.proofs.lemmas.List.{length-append, append-nil, append_assoc, length-replicate}
-use Rattle.ctl_meaning.specs.World.{Slot, Unset, Binds}
+use Rattle.ctl_meaning.specs.World.{Unset}
 use Rattle.ctl_meaning.specs.Lists.{opened_lists}
 use Rattle.ctl_meaning.specs.Names.{opened_names}
 use Rattle.ctl_machine_cells.specs.Under.{cell_in}

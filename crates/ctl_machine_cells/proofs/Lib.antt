@@ -6,9 +6,11 @@ pub mod Entered
 pub mod Cleared
 pub mod Blocks
 pub mod Closed
+pub mod Left
 pub mod Plain
 pub mod Computed
 pub mod Declared
 pub mod Departures
 pub mod Links
 pub mod Bodies
+pub mod Behind

@@ -1,6 +1,6 @@
 -- Lists that are read and written at a place.
-use Rattle.std.proofs.Common.{◌≡◌, ◌≢◌, ℕ, zero, suc, ◌+◌, ◌<◌, ◌≤◌, List, [], ◌∷◌, ◌++◌, Option, Some, None, Bool, true, false, length, refl, sym, ap, ◌∙◌, subst, arith, map}
-use Rattle.std.specs.Prelude.{slice_get, slice_set, option_map, nat_eq, is_some}
+use Rattle.std.proofs.Common.{◌≡◌, ◌≢◌, ℕ, zero, suc, ◌+◌, ◌<◌, List, [], ◌∷◌, ◌++◌, Some, true, false, length, refl, ap, arith, map}
+use Rattle.std.specs.Prelude.{slice_get, slice_set, option_map, nat_eq}
 use Rattle.std.proofs.lemmas.Bool.Decides.{nat_tests}
 
 pub eq_same : (a b : ℕ) → a ≡ b → nat_eq a b ≡ true
