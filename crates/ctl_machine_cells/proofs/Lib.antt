@@ -14,3 +14,4 @@ pub mod Departures
 pub mod Links
 pub mod Bodies
 pub mod Behind
+pub mod Finalized
