@@ -4,3 +4,4 @@ pub mod Under
 pub mod Shows
 pub mod Moves
 pub mod Links
+pub mod Departing
