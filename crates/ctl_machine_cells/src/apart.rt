@@ -1,7 +1,7 @@
 //! Bodies that are entered for what waits.
 #![tactic(auto)]
 
-ghost use Rattle.std.specs.Prelude.{◌≡◌, ◌+◌, ◌^◌, ◌<◌, ◌≤◌, ◌++◌, List, ℕ, OnErr, OnOk, length, reverse, take};
+ghost use Rattle.std.specs.Prelude.{◌≡◌, ◌+◌, ◌^◌, ◌<◌, ◌≤◌, ◌++◌, List, ℕ, OnErr, OnOk, length, reverse, take, vec_capacity, vec_len};
 ghost use Rattle.ctl_machine_cells.specs.Links.{AreLinked, first_end};
 ghost use Rattle.ctl_machine_cells.specs.Masters.{Head, display_from, first_display};
 ghost use Rattle.ctl_machine_cells.specs.Moves.{GoesOn};
