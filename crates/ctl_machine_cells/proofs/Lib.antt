@@ -15,3 +15,4 @@ pub mod Links
 pub mod Bodies
 pub mod Behind
 pub mod Finalized
+pub mod Tops

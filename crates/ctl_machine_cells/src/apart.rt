@@ -1,13 +1,22 @@
 //! Bodies that are entered for what waits.
 #![tactic(auto)]
 
-ghost use Rattle.std.specs.Prelude.{◌≡◌, ◌+◌, ◌^◌, ◌<◌, ◌≤◌, ◌++◌, List, ℕ, OnErr, OnOk, length, reverse, take, vec_capacity, vec_len};
+ghost use Rattle.std.specs.Prelude.{◌≡◌, ◌+◌, ◌^◌, ◌<◌, ◌≤◌, [], ◌∷◌, ◌++◌, List, ℕ, OnErr, OnOk, Some, drop, length, reverse, slice_get, slice_set, take, vec_capacity, vec_len};
+ghost use Rattle.ctl_tree.specs.declared.event.Cause.TheVariants.{Scope};
+ghost use Rattle.ctl_tree.specs.declared.event.Event.TheVariants.{Finalize};
+ghost use Rattle.ctl_code_cells.specs.Table as Table;
+ghost use Rattle.ctl_machine_cells.specs.declared.frame.Frame.TheVariants as FrameOf;
+ghost use Rattle.ctl_machine_cells.specs.declared.frame.Owned.{Owned};
+ghost use Rattle.ctl_machine_cells.specs.Departing.{begun};
 ghost use Rattle.ctl_machine_cells.specs.Links.{AreLinked, first_end};
 ghost use Rattle.ctl_machine_cells.specs.Masters.{Head, display_from, first_display};
 ghost use Rattle.ctl_machine_cells.specs.Moves.{GoesOn};
 
 use crate::engine::Engine;
-use std::alloc::AllocError;
+use crate::frame::{Frame, Life};
+use ctl_tree::event::{Cause, Event, Part};
+use ctl_tree::text::Path;
+use std::alloc::{AllocError, Global};
 
 /// Makes so many cells, if there are fewer; the new ones are 0.
 fn make_room(cells: &mut Vec<u64>, wanted: usize) -> Result<(), AllocError>
@@ -19,6 +28,27 @@ fn make_room(cells: &mut Vec<u64>, wanted: usize) -> Result<(), AllocError>
         return Ok(());
     }
     cells.resize(wanted, 0)
+}
+
+/// Puts another frame in place of the newest one.
+fn replace_top(control: &mut Vec<Frame>, frame: Frame)
+    requires { 0 < vec_len control.old }
+    ensures items { reverse control.new.items ≡ frame ∷ drop 1 (reverse control.old.items) }
+    ensures len { vec_len control.new ≡ vec_len control.old }
+    ensures capacity { vec_capacity control.new ≡ vec_capacity control.old }
+{
+    let top = control.as_slice().len() - 1;
+    control[top] = frame;
+}
+
+/// Names an object as a whole.
+fn whole(alloc: Global, object: u64) -> Part
+    ensures { result ≡ Table.whole_part object }
+{
+    Part {
+        object,
+        path: Path::new(alloc),
+    }
 }
 
 impl Engine {
@@ -80,5 +110,29 @@ impl Engine {
         self.control.reserve(2)?;
         self.events.reserve(1)?;
         make_room(&mut self.cells, wanted)
+    }
+
+    /// Begins the finalization of an owned object, a layer of the master that this frame leaves (RM 7.6.1).
+    fn begin_layer(&mut self, at: usize, leaving: Frame)
+        ghost o: { Owned }
+        requires found { slice_get self.old.owned.items at ≡ Some o }
+        requires top { 0 < vec_len self.old.control }
+        requires control { vec_len self.old.control < vec_capacity self.old.control }
+        requires events { vec_len self.old.events < vec_capacity self.old.events }
+        ensures control { reverse self.new.control.items ≡ FrameOf.Finalizing at ∷ leaving ∷ drop 1 (reverse self.old.control.items) }
+        ensures room { vec_len self.new.control ≡ vec_len self.old.control + 1 }
+        ensures capacity { vec_capacity self.new.control ≡ vec_capacity self.old.control }
+        ensures owned { self.new.owned.items ≡ slice_set self.old.owned.items at (begun o) }
+        ensures masters { self.new.masters ≡ self.old.masters }
+        ensures cells { self.new.cells ≡ self.old.cells }
+        ensures numbers { (self.new.next_master ≡ self.old.next_master) × (self.new.next_object ≡ self.old.next_object) }
+        ensures events { self.new.events.items ≡ self.old.events.items ++ Finalize (Table.whole_part o.number) Scope ∷ [] }
+        ensures picks { self.new.picks.items ≡ self.old.picks.items }
+    {
+        let object = self.owned[at].number;
+        self.owned[at].life = Life::Finalizing;
+        replace_top(&mut self.control, leaving);
+        self.control.push_reserved(Frame::Finalizing(at));
+        self.events.push_reserved(Event::Finalize(whole(self.alloc, object), Cause::Scope));
     }
 }
