@@ -16,3 +16,4 @@ pub mod Bodies
 pub mod Behind
 pub mod Finalized
 pub mod Tops
+pub mod Called

@@ -7,13 +7,15 @@ ghost use Rattle.ctl_tree.specs.declared.event.Event.TheVariants.{Finalize};
 ghost use Rattle.ctl_code_cells.specs.Table as Table;
 ghost use Rattle.ctl_machine_cells.specs.declared.frame.Frame.TheVariants as FrameOf;
 ghost use Rattle.ctl_machine_cells.specs.declared.frame.Owned.{Owned};
-ghost use Rattle.ctl_machine_cells.specs.Departing.{begun};
+ghost use Rattle.ctl_code_cells.specs.Valid.{IsValid};
+ghost use Rattle.ctl_machine_cells.specs.Departing.{CallsFinalize, Departed, begun};
 ghost use Rattle.ctl_machine_cells.specs.Links.{AreLinked, first_end};
 ghost use Rattle.ctl_machine_cells.specs.Masters.{Head, display_from, first_display};
-ghost use Rattle.ctl_machine_cells.specs.Moves.{GoesOn};
+ghost use Rattle.ctl_machine_cells.specs.Moves.{GoesOn, Makes};
 
 use crate::engine::Engine;
-use crate::frame::{Frame, Life};
+use crate::frame::{After, Completion, Frame, Life, Master};
+use ctl_code_cells::code::{Code, Entry};
 use ctl_tree::event::{Cause, Event, Part};
 use ctl_tree::text::Path;
 use std::alloc::{AllocError, Global};
@@ -28,6 +30,28 @@ fn make_room(cells: &mut Vec<u64>, wanted: usize) -> Result<(), AllocError>
         return Ok(());
     }
     cells.resize(wanted, 0)
+}
+
+/// How a master is left: whether a finalization failed, how its statements were completed, and where its end leads.
+#[derive(Clone, Copy)]
+pub struct Departure {
+    pub failed: bool,
+    pub pending: Completion,
+    pub after: After,
+}
+
+impl Departure {
+    /// Makes the frame of a master that is left so, whose layers lie below this place.
+    fn frame(self, next: usize) -> Frame
+        ensures { result ≡ FrameOf.Leaving self.failed self.pending self.after next }
+    {
+        Frame::Leaving {
+            failed: self.failed,
+            pending: self.pending,
+            after: self.after,
+            next,
+        }
+    }
 }
 
 /// Puts another frame in place of the newest one.
@@ -134,5 +158,40 @@ impl Engine {
         replace_top(&mut self.control, leaving);
         self.control.push_reserved(Frame::Finalizing(at));
         self.events.push_reserved(Event::Finalize(whole(self.alloc, object), Cause::Scope));
+    }
+
+    /// Finalizes the object at this place, the newest layer of the newest master, which is left so, by the body that the user wrote for
+    /// its type (RM 7.6.1); unchanged where memory is refused.
+    fn call_finalize(
+        &mut self,
+        code: &Code,
+        entry: &Entry,
+        departure: Departure,
+        at: usize,
+    ) -> Result<(), AllocError>
+        ghost t: { Departed }
+        ghost o: { Owned }
+        requires valid { IsValid code.now }
+        requires calls { CallsFinalize code.now self.old departure.failed departure.pending departure.after at entry.now t o }
+        requires end { first_end (reverse self.old.masters.items) < 2 ^ 64 }
+        requires number { self.old.next_master + 1 < 2 ^ 64 }
+        ensures ok { OnOk result (Makes code.now self.old self.new (Table.next_layer code.now t.master t.layers t.failed t.pending t.after t.control t.world)) }
+        ensures err { OnErr result (GoesOn self.old self.new self.old.mode self.old.cells.items) }
+    {
+        let base = self.end_of_newest();
+        let link = self.around(entry.level);
+        let master = Master {
+            number: self.next_master,
+            window: base,
+            base,
+            slots: entry.slots,
+            link,
+            depth: self.depth_at(link) + 1,
+            owned: self.count_owned(),
+        };
+        self.prepare(base, code.room)?;
+        self.begin_layer(at, departure.frame(at));
+        self.open(master, After::Body, entry.place);
+        Ok(())
     }
 }
