@@ -169,13 +169,12 @@ impl Engine {
         departure: Departure,
         at: usize,
     ) -> Result<(), AllocError>
-        ghost t: { Departed }
-        ghost o: { Owned }
+        ghost t: { Departed × Owned }
         requires valid { IsValid code.now }
-        requires calls { CallsFinalize code.now self.old departure.failed departure.pending departure.after at entry.now t o }
+        requires calls { CallsFinalize code.now self.old departure.failed departure.pending departure.after at entry.now t.0 t.1 }
         requires end { first_end (reverse self.old.masters.items) < 2 ^ 64 }
         requires number { self.old.next_master + 1 < 2 ^ 64 }
-        ensures ok { OnOk result (Makes code.now self.old self.new (Table.next_layer code.now t.master t.layers t.failed t.pending t.after t.control t.world)) }
+        ensures ok { OnOk result (Makes code.now self.old self.new (Table.next_layer code.now t.0.master t.0.layers t.0.failed t.0.pending t.0.after t.0.control t.0.world)) }
         ensures err { OnErr result (GoesOn self.old self.new self.old.mode self.old.cells.items) }
     {
         let base = self.end_of_newest();
