@@ -128,6 +128,7 @@ impl Engine {
         ensures control { OnOk result (vec_len self.new.control + 2 ≤ vec_capacity self.new.control) }
         ensures events { OnOk result (vec_len self.new.events < vec_capacity self.new.events) }
         ensures number { self.new.next_master ≡ self.old.next_master }
+        ensures waiting { vec_len self.new.control ≡ vec_len self.old.control }
     {
         let wanted = base.checked_add(room).ok_or(AllocError)?;
         self.masters.reserve(1)?;
@@ -172,6 +173,7 @@ impl Engine {
         ghost t: { Departed × Owned }
         requires valid { IsValid code.now }
         requires calls { CallsFinalize code.now self.old departure.failed departure.pending departure.after at entry.now t.0 t.1 }
+        requires waiting { 0 < vec_len self.old.control }
         requires end { first_end (reverse self.old.masters.items) < 2 ^ 64 }
         requires number { self.old.next_master + 1 < 2 ^ 64 }
         ensures ok { OnOk result (Makes code.now self.old self.new (Table.next_layer code.now t.0.master t.0.layers t.0.failed t.0.pending t.0.after t.0.control t.0.world)) }
