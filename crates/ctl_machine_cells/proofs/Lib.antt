@@ -17,3 +17,4 @@ pub mod Behind
 pub mod Finalized
 pub mod Tops
 pub mod Called
+pub mod Frames
