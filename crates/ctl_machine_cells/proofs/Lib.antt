@@ -18,3 +18,4 @@ pub mod Finalized
 pub mod Tops
 pub mod Called
 pub mod Frames
+pub mod Created
