@@ -19,3 +19,5 @@ pub mod Tops
 pub mod Called
 pub mod Frames
 pub mod Created
+pub mod Leading
+pub mod Leaves

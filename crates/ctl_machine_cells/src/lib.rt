@@ -4,5 +4,7 @@
 mod apart;
 mod engine;
 mod frame;
+mod jumps;
+mod leaving;
 mod operators;
 pub mod outcome;
