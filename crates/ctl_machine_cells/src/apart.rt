@@ -158,7 +158,8 @@ impl Engine {
         self.owned[at].life = Life::Finalizing;
         replace_top(&mut self.control, leaving);
         self.control.push_reserved(Frame::Finalizing(at));
-        self.events.push_reserved(Event::Finalize(whole(self.alloc, object), Cause::Scope));
+        self.events
+            .push_reserved(Event::Finalize(whole(self.alloc, object), Cause::Scope));
     }
 
     /// Finalizes the object at this place, the newest layer of the newest master, which is left so, by the body that the user wrote for

@@ -56,8 +56,8 @@ returns-clause-ok g c =
       next_object = c.begin_layer.ensures.numbers.1 ∙ ap (λ (e : Kept). e.next_object) goes.kept;
     } in
     call_makes c.args.code.now old ready c.open.new.self c.args.departure.failed c.args.departure.pending c.args.departure.after c.args.at entry g.t.0 g.t.1 m more c.requires.0 c.requires.1.0 is
-      (subst (λ (l : List ℕ). c.end_of_newest-base.result + c.args.code.now.room ≤ length l) cells c.in_ok-prepare.ensures.cells)
-      has
-      (c.begin_layer.ensures.events ∙ ap (λ (l : List Event). l ++ Finalize (whole_part g.t.1.number) Scope ∷ []) goes.events)
-      (c.begin_layer.ensures.picks ∙ goes.picks)
-      c.open.ensures
+    (subst (λ (l : List ℕ). c.end_of_newest-base.result + c.args.code.now.room ≤ length l) cells c.in_ok-prepare.ensures.cells)
+    has
+    (c.begin_layer.ensures.events ∙ ap (λ (l : List Event). l ++ Finalize (whole_part g.t.1.number) Scope ∷ []) goes.events)
+    (c.begin_layer.ensures.picks ∙ goes.picks)
+    c.open.ensures
