@@ -136,7 +136,7 @@ pub enum Instr {
         way: Direction,
         length: usize,
     },
-    /// leaves the newest master, a block, by an exit statement (RM 5.7)
+    /// leaves the newest master by an exit statement (RM 5.7)
     Exit,
     /// prints the text of this number; its images take their values from the newest operands, the first of them in this cell
     Put {

@@ -11,7 +11,7 @@ use std::marker::Model;
 #[derive(Clone, Copy, Debug, PartialEq, Eq)]
 pub struct MarkNo(pub u64);
 
-/// A mark that stands: its number, and how many words were used when it was made.
+/// A mark that stands: its number, how many words were used when it was made, and how many of those are in Blocks.
 #[derive(Clone, Copy, Default)]
 pub struct StandingMark {
     number: u64,
@@ -129,7 +129,7 @@ impl<A: Allocator> MarkPool<A> {
         self.out == 0
     }
 
-    /// How many words are out, in Blocks, from the newest mark on. Where none is, it can be released.
+    /// Counts the words that are out, in Blocks, from the newest mark on. Where none is, the mark can be released.
     pub fn out_since_top(&self) -> u64
         ensures count { result ≡ out_since_top self.now }
         ensures none { (result ≡ 0) ↔ IsTopBack self.now }
