@@ -1,0 +1,15 @@
+pub mod Operators
+pub mod Masters
+pub mod Under
+pub mod Shows
+pub mod Moves
+pub mod Images
+pub mod Machine
+pub mod Prints
+pub mod Links
+pub mod Departing
+pub mod Instructions
+pub mod Turns
+pub mod Initializing
+pub mod Variables
+pub mod Declaring
