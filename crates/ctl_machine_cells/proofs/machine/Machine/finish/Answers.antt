@@ -1,0 +1,14 @@
+use Rattle.std.proofs.Common.{◌∙◌, refl}
+use Rattle.ctl_machine_cells.proofs.Ends.{reported, reported_end}
+use Rattle.ctl_machine_cells.proofs.machine.Machine.finish.Goals as goal
+
+pub returns : goal.returns
+returns c =
+    let m = c.self.inside in
+    let told = reported m.engine m.end m.code.now m.order m.steps c.self.invariant in
+    rw (← c.self.view_is) (record {
+      steps = refl;
+      events = c.into_parts-events.ensures.events ∙ told.shown;
+      picks = c.into_parts-events.ensures.picks ∙ told.taken;
+      end = rw c.unwrap_or.ensures (reported_end m.engine m.end m.code.now m.order m.steps c.self.invariant);
+    })

@@ -1,0 +1,10 @@
+pub mod Operators
+pub mod Masters
+pub mod Under
+pub mod Shows
+pub mod Moves
+pub mod Images
+pub mod Machine
+pub mod Prints
+pub mod Links
+pub mod Departing

@@ -1,0 +1,98 @@
+//! Where the machine is, what waits on the control stack, the active masters, and the objects that they own.
+
+use ctl_tree::ending::Stop;
+
+/// A transfer of control to the innermost master: an exit statement (RM 5.7), or an exception, by its number in the table of exceptions.
+#[derive(Clone, Copy)]
+pub enum Way {
+    Exit,
+    Raise(usize),
+}
+
+/// How the statements of a master are completed (RM 7.6.1).
+#[derive(Clone, Copy)]
+pub enum Completion {
+    Normal,
+    Transferred(Way),
+}
+
+/// How a body or a finalization has ended: complete, where perhaps a finalization in it failed, or by an exception.
+#[derive(Clone, Copy)]
+pub enum Ended {
+    Complete,
+    FinalizationFailed,
+    Raised(usize),
+}
+
+/// Where a master's end leads: behind a block, to this place, or to what waits for the call of a body.
+#[derive(Clone, Copy)]
+pub enum After {
+    Block(usize),
+    Body,
+}
+
+/// What waits on the control stack.
+#[derive(Clone, Copy)]
+pub enum Frame {
+    /// the statements of a master
+    InMaster(After),
+    /// the layers of a master that are still to be finalized: no owned object from `next` on is one. Whether a finalization failed, and
+    /// how its statements were completed (RM 7.6.1)
+    Leaving {
+        failed: bool,
+        pending: Completion,
+        after: After,
+        next: usize,
+    },
+    /// the Initialize of the newest owned object, and the place where its declaration goes on (RM 7.6)
+    Initializing(usize),
+    /// the Finalize of an owned object, by its place
+    Finalizing(usize),
+}
+
+/// What the machine does next.
+#[derive(Clone, Copy)]
+pub enum Mode {
+    /// the instruction at this place
+    At(usize),
+    /// leave the innermost master
+    Transfers(Way),
+    /// hand this to the frame that waits
+    Giving(Ended),
+    /// nothing: the program is erroneous at this point (RM 13.11.2)
+    Stopped(Stop),
+}
+
+/// An active master. Its slots are so many cells, from `base` on.
+#[derive(Clone, Copy)]
+pub struct Master {
+    pub number: u64,
+    /// the first cell of the window of its body
+    pub window: usize,
+    pub base: usize,
+    pub slots: usize,
+    /// the master around it is the newest of so many; 0 where there is none
+    pub link: usize,
+    /// how many masters a place in it sees, itself included
+    pub depth: usize,
+    /// how many objects were owned when it was entered
+    pub owned: usize,
+}
+
+/// How far the life of an owned object has come. Between its creation and its finalization it is a layer of its master (RM 7.6.1).
+#[derive(Clone, Copy)]
+pub enum Life {
+    Created,
+    Layer,
+    Finalizing,
+    Finalized,
+}
+
+/// A declared object of a record type, and its master.
+#[derive(Clone, Copy)]
+pub struct Owned {
+    pub number: u64,
+    pub record: usize,
+    pub master: u64,
+    pub life: Life,
+}

@@ -1,0 +1,15 @@
+//! The machine that runs the code over windows of cells, a step at a time.
+#![tactic(auto)]
+
+mod advance;
+mod apart;
+mod engine;
+mod frame;
+mod jumps;
+mod leaving;
+pub mod machine;
+mod operators;
+pub mod outcome;
+mod printing;
+mod start;
+mod texts;
