@@ -128,6 +128,7 @@ impl Engine {
         ensures control { OnOk result (vec_len self.new.control + 2 ≤ vec_capacity self.new.control) }
         ensures events { OnOk result (vec_len self.new.events < vec_capacity self.new.events) }
         ensures number { self.new.given_masters ≡ self.old.given_masters }
+        ensures objects { self.new.given_objects ≡ self.old.given_objects }
         ensures waiting { vec_len self.new.control ≡ vec_len self.old.control }
     {
         let wanted = base.checked_add(room).ok_or(AllocError)?;

@@ -12,4 +12,5 @@ mod operators;
 pub mod outcome;
 mod printing;
 mod start;
+mod step;
 mod texts;

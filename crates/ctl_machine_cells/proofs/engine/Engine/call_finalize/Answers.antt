@@ -52,8 +52,8 @@ returns-clause-ok g c =
       owned = c.begin_layer.ensures.owned ∙ ap (λ (e : Kept). slice_set e.owned c.args.at (begun g.t.1)) goes.kept;
       masters = ap (λ v. reverse v.items) c.begin_layer.ensures.masters ∙ ap (λ (e : Kept). e.masters) goes.kept;
       cells = ap (λ v. v.items) c.begin_layer.ensures.cells ∙ cells;
-      next_master = ap (λ n. n + 1) c.begin_layer.ensures.numbers.0 ∙ ap (λ (e : Kept). e.next_master) goes.kept;
-      next_object = ap (λ n. n + 1) c.begin_layer.ensures.numbers.1 ∙ ap (λ (e : Kept). e.next_object) goes.kept;
+      given_masters = c.begin_layer.ensures.numbers.0 ∙ c.in_ok-prepare.ensures.number;
+      given_objects = c.begin_layer.ensures.numbers.1 ∙ c.in_ok-prepare.ensures.objects;
     } in
     call_makes c.args.code.now old ready c.open.new.self c.args.departure.failed c.args.departure.pending c.args.departure.after c.args.at entry g.t.0 g.t.1 m more c.requires.0 c.requires.1.0 is
     (subst (λ (l : List ℕ). c.end_of_newest-base.result + c.args.code.now.room ≤ length l) cells c.in_ok-prepare.ensures.cells)
