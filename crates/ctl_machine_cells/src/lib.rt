@@ -11,6 +11,7 @@ pub mod machine;
 mod operators;
 pub mod outcome;
 mod printing;
+mod standins;
 mod start;
 mod step;
 mod texts;
