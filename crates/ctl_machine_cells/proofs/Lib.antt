@@ -28,3 +28,5 @@ pub mod Created
 pub mod Leaves
 pub mod Operands
 pub mod Branches
+pub mod Bounds
+pub mod Turns
