@@ -27,3 +27,7 @@ pub mod Frames
 pub mod Created
 pub mod Leaves
 pub mod Steps
+pub mod Operands
+pub mod Branches
+pub mod Bounds
+pub mod Turns

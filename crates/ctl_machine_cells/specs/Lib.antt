@@ -9,3 +9,4 @@ pub mod Prints
 pub mod Links
 pub mod Departing
 pub mod Instructions
+pub mod Turns

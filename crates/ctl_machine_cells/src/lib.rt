@@ -7,6 +7,7 @@ mod engine;
 mod frame;
 mod jumps;
 mod leaving;
+mod loops;
 pub mod machine;
 mod operators;
 pub mod outcome;

@@ -1,7 +1,8 @@
-//! The instructions that print a text.
+//! The instructions that print a text or end the line.
 
 ghost use Rattle.std.specs.Prelude.{◌≡◌, ◌+◌, ◌^◌, ◌<◌, ◌≤◌, ◌∷◌, ◌++◌, OnErr, OnOk, Some, vec_capacity, vec_len};
 ghost use Rattle.ctl_tree.specs.declared.event.Event.TheVariants.{Print};
+ghost use Rattle.ctl_code_cells.specs.declared.code.Instr.TheVariants as InstrOf;
 ghost use Rattle.ctl_code_cells.specs.Table as Table;
 ghost use Rattle.ctl_code_cells.specs.States.{State};
 ghost use Rattle.ctl_machine_cells.specs.Moves.{Before, GoesOn, Makes, here_of};
@@ -49,6 +50,22 @@ impl Engine {
         self.events.reserve(2)?;
         let printed = text_from(self.alloc, parts, self.cells.as_slice(), first)?;
         show_text(&mut self.events, printed, ends_line);
+        self.mode = Mode::At(place + 1);
+        Ok(())
+    }
+
+    /// Ends the line; unchanged where memory is refused.
+    #[inline(never)]
+    pub(crate) fn end_line(&mut self, code: &Code, place: usize) -> Result<(), AllocError>
+        ghost s: { State }
+        requires before { Before code.now self.old place InstrOf.NewLine s }
+        requires place { place + 1 < 2 ^ 64 }
+        ensures ok { OnOk result (Makes code.now self.old self.new (Table.by_instr code.now (Some InstrOf.NewLine) s.operands (here_of place s))) }
+        ensures err { OnErr result (GoesOn self.old self.new self.old.mode self.old.cells.items) }
+    {
+        let _ = code;
+        self.events.reserve(1)?;
+        self.events.push_reserved(Event::Newline);
         self.mode = Mode::At(place + 1);
         Ok(())
     }
