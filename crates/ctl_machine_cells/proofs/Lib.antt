@@ -27,3 +27,7 @@ pub mod Frames
 pub mod Created
 pub mod Leaves
 pub mod Resumed
+pub mod NewestLayers
+pub mod LeftOwner
+pub mod AtOnce
+pub mod Leavings
