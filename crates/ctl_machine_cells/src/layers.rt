@@ -12,7 +12,7 @@ ghost use Rattle.ctl_machine_cells.specs.Masters.{layers_from, rising_layers};
 ghost use Rattle.ctl_machine_cells.specs.Moves.{BeforeResuming, Makes};
 ghost use Rattle.ctl_machine_cells.specs.Shows as Shows;
 
-use crate::apart::{replace_top, Departure};
+use crate::apart::{Departure, replace_top};
 use crate::engine::Engine;
 use crate::frame::{Completion, Ended, Life, Master, Mode, Owned, Way};
 use ctl_code_cells::code::{Code, Entry};

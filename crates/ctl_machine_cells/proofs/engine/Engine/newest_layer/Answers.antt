@@ -16,8 +16,8 @@ returns-then-matches-clause-some c =
     let next : suc (c.loop-end.end - 1) ≡ c.loop-end.end = omega (arith, some) in
     let found = got owned (c.loop-end.end - 1) c.index.result.now (omega (arith, some, within)) c.index.ensures in
     elim c.match-matches.branch [
-      in-Layer w ↦ (c.index.result.now, record { is_own = omega (arith, some); found = found; life = w.in-Layer.is; behind = ap (λ j. rising_layers (drop j owned)) next ∙ c.loop-end.invariant.1 })
-    | in_default w ↦ absurd (false≢true (sym w.matches-is ∙ c.if-matches.true))
+      | in-Layer w ↦ (c.index.result.now, record { is_own = omega (arith, some); found = found; life = w.in-Layer.is; behind = ap (λ j. rising_layers (drop j owned)) next ∙ c.loop-end.invariant.1 })
+      | in_default w ↦ absurd (false≢true (sym w.matches-is ∙ c.if-matches.true))
     ]
 
 pub returns-clause-none : goal.returns-clause-none
@@ -31,8 +31,8 @@ loop-end-preserved c =
     let next : suc (c.loop-end.end - 1) ≡ c.loop-end.end = omega (arith, some) in
     let found = got owned (c.loop-end.end - 1) c.index.result.now (omega (arith, some, within)) c.index.ensures in
     elim c.match-matches.branch [
-      in-Layer w ↦ absurd (false≢true (sym c.if-matches.false ∙ w.matches-is))
-    | in_default w ↦ (omega (arith, within), none_there owned (c.loop-end.end - 1) c.index.result.now found (not_a_layer c.index.result.now.life c.index.result.now.number w.in_default.not-Layer) (ap (λ j. rising_layers (drop j owned)) next ∙ c.loop-end.invariant.1))
+      | in-Layer w ↦ absurd (false≢true (sym c.if-matches.false ∙ w.matches-is))
+      | in_default w ↦ (omega (arith, within), none_there owned (c.loop-end.end - 1) c.index.result.now found (not_a_layer c.index.result.now.life c.index.result.now.number w.in_default.not-Layer) (ap (λ j. rising_layers (drop j owned)) next ∙ c.loop-end.invariant.1))
     ]
 
 pub loop-end-init : goal.loop-end-init
