@@ -30,4 +30,8 @@ pub mod Resumed
 pub mod NewestLayers
 pub mod LeftOwner
 pub mod AtOnce
-pub mod Leavings
+pub mod Retargeted
+pub mod LeavesNow
+pub mod LeavesFurther
+pub mod OwnLayers
+pub mod Following
