@@ -83,7 +83,7 @@ impl Engine {
         self.masters[self.masters.as_slice().len() - 1]
     }
 
-    /// Finds the newest layer of a master, the newest one, below this place, from which on no owned object is a layer.
+    /// Finds the newest layer of the newest master (RM 7.6.1): it lies below this place, from which on no owned object is a layer.
     pub(crate) fn newest_layer(&self, master: &Master, next: usize) -> Option<usize>
         requires { rising_layers (drop next self.now.owned.items) ≡ [] }
         ensures some { IfSome result (λ at. (o : Owned) × IsNewestLayer master.now self.now.owned.items at o) }

@@ -1,8 +1,6 @@
-use Rattle.std.proofs.Common.{◌≡◌, ◌≤◌, ◌<◌, ◌-◌, ◌+◌, ◌∙◌, Some, [], suc, length, drop, arith, ap, sym, subst}
-use Rattle.std.specs.Prelude.{slice_get}
+use Rattle.std.proofs.Common.{◌≡◌, ◌-◌, ◌∙◌, suc, drop, arith, ap, sym}
 use Rattle.std.proofs.lemmas.Bool.{false≢true}
-use Rattle.ctl_machine_cells.specs.Departing.{IsNewestLayer}
-use Rattle.ctl_machine_cells.specs.Masters.{layers_from, rising_layers}
+use Rattle.ctl_machine_cells.specs.Masters.{rising_layers}
 use Rattle.ctl_machine_cells.proofs.Links.{got}
 use Rattle.ctl_machine_cells.proofs.NewestLayers.{none_from, none_there, none_below, not_a_layer}
 use Rattle.ctl_machine_cells.proofs.engine.Engine.newest_layer.Goals as goal

@@ -1,4 +1,4 @@
-use Rattle.std.proofs.Common.{◌≡◌, ◌∷◌, ◌∙◌, ◌<◌, List, Some, [], length, refl, ap, sym, reverse}
+use Rattle.std.proofs.Common.{◌≡◌, ◌∷◌, ◌∙◌, List, [], refl, ap, sym, reverse}
 use Rattle.std.specs.Prelude.{slice_get, slice_set}
 use Rattle.std.proofs.lemmas.List.{reverse-append}
 use Rattle.std.proofs.lemmas.Option.{slice_get_within}
