@@ -31,3 +31,12 @@ pub mod Operands
 pub mod Branches
 pub mod Bounds
 pub mod Turns
+pub mod Resumed
+pub mod NewestLayers
+pub mod LeftOwner
+pub mod AtOnce
+pub mod Retargeted
+pub mod LeavesNow
+pub mod LeavesFurther
+pub mod OwnLayers
+pub mod Following

@@ -42,7 +42,7 @@ pub struct Departure {
 
 impl Departure {
     /// Makes the frame of a master that is left so, whose layers lie below this place.
-    fn frame(self, next: usize) -> Frame
+    pub(crate) fn frame(self, next: usize) -> Frame
         ensures { result ≡ FrameOf.Leaving self.failed self.pending self.after next }
     {
         Frame::Leaving {
@@ -55,7 +55,7 @@ impl Departure {
 }
 
 /// Puts another frame in place of the newest one.
-fn replace_top(control: &mut Vec<Frame>, frame: Frame)
+pub(crate) fn replace_top(control: &mut Vec<Frame>, frame: Frame)
     requires { 0 < vec_len control.old }
     ensures items { reverse control.new.items ≡ frame ∷ drop 1 (reverse control.old.items) }
     ensures len { vec_len control.new ≡ vec_len control.old }
@@ -165,7 +165,7 @@ impl Engine {
 
     /// Finalizes the object at this place, the newest layer of the newest master, which is left so, by the body that the user wrote for
     /// its type (RM 7.6.1); unchanged where memory is refused.
-    fn call_finalize(
+    pub(crate) fn call_finalize(
         &mut self,
         code: &Code,
         entry: &Entry,

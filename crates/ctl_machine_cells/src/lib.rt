@@ -6,6 +6,7 @@ mod apart;
 mod engine;
 mod frame;
 mod jumps;
+mod layers;
 mod leaving;
 mod loops;
 pub mod machine;

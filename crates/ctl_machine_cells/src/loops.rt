@@ -1,11 +1,12 @@
 //! Loops with a parameter (RM 5.5). The bounds of a loop are the two newest operands, the high one on top. The one that the loop counts
 //! from is always the value of the present turn.
 
-ghost use Rattle.std.specs.Prelude.{◌≡◌, ◌+◌, ◌^◌, ◌<◌, IsFalse, IsTrue, MatchOption, Some, length, reverse, slice_set};
+ghost use Rattle.std.specs.Prelude.{◌≡◌, ◌+◌, ◌^◌, ◌<◌, MatchOption, Some, length, reverse, slice_set};
 ghost use Rattle.ctl_code_cells.specs.Table as Table;
 ghost use Rattle.ctl_code_cells.specs.States.{State};
 ghost use Rattle.ctl_code_cells.specs.Valid.{IsValid};
 ghost use Rattle.ctl_machine_cells.specs.declared.frame.Mode.TheVariants as ModeOf;
+ghost use Rattle.ctl_machine_cells.specs.Instructions.{Turns};
 ghost use Rattle.ctl_machine_cells.specs.Masters.{first_window};
 ghost use Rattle.ctl_machine_cells.specs.Moves.{Before, GoesOn, Makes, here_of};
 ghost use Rattle.ctl_machine_cells.specs.Turns as Turns;
@@ -85,15 +86,15 @@ impl Engine {
         }
     }
 
-    /// Executes this instruction, which stands at this place, if it is one of a loop with a parameter; tells whether it is (RM 5.5).
+    /// Executes this instruction of a loop with a parameter, which stands at this place (RM 5.5).
     #[inline(always)]
-    pub(crate) fn turn(&mut self, code: &Code, instr: &Instr, place: usize) -> bool
+    pub(crate) fn turn(&mut self, code: &Code, instr: &Instr, place: usize)
         ghost s: { State }
         requires valid { IsValid code.now }
         requires before { Before code.now self.old place instr.now s }
+        requires turns { Turns instr.now }
         requires place { place + 1 < 2 ^ 64 }
-        ensures done { IsTrue result → Makes code.now self.old self.new (Table.by_instr code.now (Some instr.now) s.operands (here_of place s)) }
-        ensures left { IsFalse result → GoesOn self.old self.new self.old.mode self.old.cells.items }
+        ensures { Makes code.now self.old self.new (Table.by_instr code.now (Some instr.now) s.operands (here_of place s)) }
     {
         let _places = code.instructions.as_slice().len();
         match instr {
@@ -123,8 +124,7 @@ impl Engine {
                 let bound = counted(*way, *low);
                 self.begin_turn(value, bound, *parameter, place - *length, place + 1);
             }
-            _ => return false,
+            _ => unreachable!(),
         }
-        true
     }
 }

@@ -7,13 +7,12 @@ ghost use Rattle.ctl_code_cells.specs.States.{State, Giving};
 ghost use Rattle.ctl_code_cells.specs.Valid.{IsValid};
 ghost use Rattle.ctl_machine_cells.specs.declared.frame.Frame.{Frame};
 ghost use Rattle.ctl_machine_cells.specs.declared.frame.Frame.TheVariants as FrameOf;
-ghost use Rattle.ctl_machine_cells.specs.Moves.{Before, BeforeLeaving, BeforeResuming, GoesOn, Makes, Starts, here_of};
-ghost use Rattle.ctl_machine_cells.specs.Instructions.{Jumps, Turns, Reaches};
+ghost use Rattle.ctl_machine_cells.specs.Moves.{Before, BeforeResuming, GoesOn, Makes, Starts, here_of};
+ghost use Rattle.ctl_machine_cells.specs.Instructions.{Reaches};
 ghost use Rattle.ctl_machine_cells.specs.Shows as Shows;
 
-use crate::apart::Departure;
 use crate::engine::Engine;
-use crate::frame::{Completion, Ended};
+use crate::frame::Ended;
 use ctl_code_cells::code::{Code, Instr};
 use std::alloc::AllocError;
 
@@ -57,20 +56,6 @@ impl Engine {
         Err(AllocError)
     }
 
-    /// Leaves.
-    pub(crate) fn leave(&mut self, code: &Code, completion: Completion) -> Result<(), AllocError>
-        ghost s: { State }
-        requires valid { IsValid code.now }
-        requires before { BeforeLeaving code.now self.old s }
-        requires number { self.old.given_masters + 1 < 2 ^ 64 }
-        ensures ok { OnOk result (Makes code.now self.old self.new (Table.leave code.now (Shows.result_of completion) s.control s.world)) }
-        ensures err { OnErr result (GoesOn self.old self.new self.old.mode self.old.cells.items) }
-    {
-        let _ = code;
-        let _ = completion;
-        Err(AllocError)
-    }
-
     /// Resumes.
     pub(crate) fn resume_initializing(
         &mut self,
@@ -89,83 +74,6 @@ impl Engine {
         let _ = ended;
         let _ = place;
         Err(AllocError)
-    }
-
-    /// Resumes.
-    pub(crate) fn resume_leaving(
-        &mut self,
-        code: &Code,
-        ended: Ended,
-        departure: Departure,
-        next: usize,
-    ) -> Result<(), AllocError>
-        ghost s: { State }
-        requires valid { IsValid code.now }
-        requires before { BeforeResuming code.now self.old s }
-        requires top { (fs : List Frame) × (reverse self.old.control.items ≡ FrameOf.Leaving departure.failed departure.pending departure.after next ∷ fs) }
-        requires number { self.old.given_masters + 1 < 2 ^ 64 }
-        ensures ok { OnOk result (Makes code.now self.old self.new (Table.act code.now (Giving (Shows.tried_of ended)) s.control s.operands s.world 0)) }
-        ensures err { OnErr result (GoesOn self.old self.new self.old.mode self.old.cells.items) }
-    {
-        let _ = code;
-        let _ = ended;
-        let _ = departure;
-        let _ = next;
-        Err(AllocError)
-    }
-
-    /// Resumes.
-    pub(crate) fn resume_finalizing(&mut self, code: &Code, ended: Ended, at: usize)
-        ghost s: { State }
-        requires valid { IsValid code.now }
-        requires before { BeforeResuming code.now self.old s }
-        requires top { (fs : List Frame) × (reverse self.old.control.items ≡ FrameOf.Finalizing at ∷ fs) }
-        ensures done { Makes code.now self.old self.new (Table.act code.now (Giving (Shows.tried_of ended)) s.control s.operands s.world 0) }
-    {
-        let _ = code;
-        let _ = ended;
-        let _ = at;
-    }
-
-    /// NewLine.
-    pub(crate) fn end_line(&mut self, code: &Code, place: usize) -> Result<(), AllocError>
-        ghost s: { State }
-        requires before { Before code.now self.old place InstrOf.NewLine s }
-        requires place { place + 1 < 2 ^ 64 }
-        ensures ok { OnOk result (Makes code.now self.old self.new (Table.by_instr code.now (Some (InstrOf.NewLine)) s.operands (here_of place s))) }
-        ensures err { OnErr result (GoesOn self.old self.new self.old.mode self.old.cells.items) }
-    {
-        let _ = code;
-        let _ = place;
-        Err(AllocError)
-    }
-
-    /// Stand-in.
-    pub(crate) fn leap(&mut self, code: &Code, instr: &Instr, place: usize)
-        ghost s: { State }
-        requires valid { IsValid code.now }
-        requires before { Before code.now self.old place instr.now s }
-        requires is { Jumps instr.now }
-        requires place { place + 1 < 2 ^ 64 }
-        ensures { Makes code.now self.old self.new (Table.by_instr code.now (Some instr.now) s.operands (here_of place s)) }
-    {
-        let _ = code;
-        let _ = instr;
-        let _ = place;
-    }
-
-    /// Stand-in.
-    pub(crate) fn turn(&mut self, code: &Code, instr: &Instr, place: usize)
-        ghost s: { State }
-        requires valid { IsValid code.now }
-        requires before { Before code.now self.old place instr.now s }
-        requires is { Turns instr.now }
-        requires place { place + 1 < 2 ^ 64 }
-        ensures { Makes code.now self.old self.new (Table.by_instr code.now (Some instr.now) s.operands (here_of place s)) }
-    {
-        let _ = code;
-        let _ = instr;
-        let _ = place;
     }
 
     /// Stand-in.

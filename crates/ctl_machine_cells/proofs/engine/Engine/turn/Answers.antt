@@ -37,12 +37,12 @@ begin_turn-requires-in-Next-clause-bound g c = let within = counted_within c.arg
 pub begin_turn-requires-in-Next-clause-parameter : goal.begin_turn-requires-in-Next-clause-parameter
 begin_turn-requires-in-Next-clause-parameter g c = parameter_within c.args.code.now _ c.in-Next.low c.in-Next.slot c.in-Next.parameter _ _ _ _ (next_loop c.args.code.now c.args.self.now c.args.place c.in-Next.low c.in-Next.slot c.in-Next.parameter c.in-Next.length c.in-Next.way g.s (subst (λ (i : Instr). Before c.args.code.now c.args.self.now c.args.place i g.s) c.in-Next.is c.requires.1.0))
 
-pub returns-in-For-clause-done : goal.returns-in-For-clause-done
-returns-in-For-clause-done g c t = subst (λ (i : Instr). Makes c.args.code.now c.args.self.now c.begin_turn.new.self (Table.by_instr c.args.code.now (Some i) g.s.operands (here_of c.args.place g.s))) (sym c.in-For.is)
+pub returns-in-For : goal.returns-in-For
+returns-in-For g c = subst (λ (i : Instr). Makes c.args.code.now c.args.self.now c.begin_turn.new.self (Table.by_instr c.args.code.now (Some i) g.s.operands (here_of c.args.place g.s))) (sym c.in-For.is)
     (for_makes c.args.code.now c.args.self.now c.begin_turn.new.self c.args.place c.in-For.low c.in-For.slot c.in-For.parameter c.in-For.length c.in-For.way g.s c.operand-first.result c.operand-last.result c.first_value-value.result (subst (λ (i : Instr). Before c.args.code.now c.args.self.now c.args.place i g.s) c.in-For.is c.requires.1.0) (record { first = c.operand-first.ensures; last = c.operand-last.ensures; first_fits = c.operand-first.type_inv; last_fits = c.operand-last.type_inv }) c.first_value-value.ensures
     (subst (λ cell. BeginsTurn c.args.self.now c.begin_turn.new.self c.first_value-value.result cell c.in-For.parameter (c.args.place + 2) (c.args.place + 1 + c.in-For.length)) c.counted-bound.ensures c.begin_turn.ensures))
 
-pub returns-in-Next-clause-done : goal.returns-in-Next-clause-done
-returns-in-Next-clause-done g c t = subst (λ (i : Instr). Makes c.args.code.now c.args.self.now c.begin_turn-in-Next.new.self (Table.by_instr c.args.code.now (Some i) g.s.operands (here_of c.args.place g.s))) (sym c.in-Next.is)
+pub returns-in-Next : goal.returns-in-Next
+returns-in-Next g c = subst (λ (i : Instr). Makes c.args.code.now c.args.self.now c.begin_turn-in-Next.new.self (Table.by_instr c.args.code.now (Some i) g.s.operands (here_of c.args.place g.s))) (sym c.in-Next.is)
     (next_makes c.args.code.now c.args.self.now c.begin_turn-in-Next.new.self c.args.place c.in-Next.low c.in-Next.slot c.in-Next.parameter c.in-Next.length c.in-Next.way g.s c.operand-first-in-Next.result c.operand-last-in-Next.result c.next_value-value.result (subst (λ (i : Instr). Before c.args.code.now c.args.self.now c.args.place i g.s) c.in-Next.is c.requires.1.0) (record { first = c.operand-first-in-Next.ensures; last = c.operand-last-in-Next.ensures; first_fits = c.operand-first-in-Next.type_inv; last_fits = c.operand-last-in-Next.type_inv }) c.next_value-value.ensures
     (subst (λ cell. BeginsTurn c.args.self.now c.begin_turn-in-Next.new.self c.next_value-value.result cell c.in-Next.parameter (c.args.place - c.in-Next.length) (c.args.place + 1)) c.counted-bound-in-Next.ensures c.begin_turn-in-Next.ensures))
