@@ -26,3 +26,4 @@ pub mod Called
 pub mod Frames
 pub mod Created
 pub mod Leaves
+pub mod Begun
