@@ -40,3 +40,4 @@ pub mod LeavesNow
 pub mod LeavesFurther
 pub mod OwnLayers
 pub mod Following
+pub mod Begun

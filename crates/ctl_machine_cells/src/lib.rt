@@ -3,6 +3,7 @@
 
 mod advance;
 mod apart;
+mod begin;
 mod engine;
 mod frame;
 mod jumps;

@@ -7,7 +7,7 @@ ghost use Rattle.ctl_code_cells.specs.States.{State, Giving};
 ghost use Rattle.ctl_code_cells.specs.Valid.{IsValid};
 ghost use Rattle.ctl_machine_cells.specs.declared.frame.Frame.{Frame};
 ghost use Rattle.ctl_machine_cells.specs.declared.frame.Frame.TheVariants as FrameOf;
-ghost use Rattle.ctl_machine_cells.specs.Moves.{Before, BeforeResuming, GoesOn, Makes, Starts, here_of};
+ghost use Rattle.ctl_machine_cells.specs.Moves.{Before, BeforeResuming, GoesOn, Makes, here_of};
 ghost use Rattle.ctl_machine_cells.specs.Instructions.{Reaches};
 ghost use Rattle.ctl_machine_cells.specs.Shows as Shows;
 
@@ -17,21 +17,6 @@ use ctl_code_cells::code::{Code, Instr};
 use std::alloc::AllocError;
 
 impl Engine {
-    /// Start.
-    pub(crate) fn start(&mut self, code: &Code, body: usize, place: usize) -> Result<(), AllocError>
-        ghost s: { State }
-        requires valid { IsValid code.now }
-        requires before { Starts code.now self.old place body s }
-        requires number { self.old.given_masters + 1 < 2 ^ 64 }
-        ensures ok { OnOk result (Makes code.now self.old self.new (Table.by_instr code.now (Some (InstrOf.Start body)) s.operands (here_of place s))) }
-        ensures err { OnErr result (GoesOn self.old self.new self.old.mode self.old.cells.items) }
-    {
-        let _ = code;
-        let _ = body;
-        let _ = place;
-        Err(AllocError)
-    }
-
     /// Declare.
     pub(crate) fn declare(
         &mut self,
