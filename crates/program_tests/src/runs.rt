@@ -9,66 +9,66 @@ use std::process::Abort;
 use std::test::Fail;
 
 /// Nothing is declared, and nothing shown.
-const EMPTY: &[u8] = b"procedure Main is begin null; end Main;";
+pub(crate) const EMPTY: &[u8] = b"procedure Main is begin null; end Main;";
 
 /// Two objects of a block, of types whose Finalize prints; the second type's Initialize prints too.
-const TWO_OBJECTS: &[u8] =
+pub(crate) const TWO_OBJECTS: &[u8] =
     b"with Ada.Finalization; use Ada.Finalization; with Ada.Text_IO; use Ada.Text_IO; procedure Main is type A is new Controlled with null record; type B is new Controlled with null record; overriding procedure Finalize (X : in out A); overriding procedure Initialize (X : in out B); overriding procedure Finalize (X : in out B); procedure Finalize (X : in out A) is begin Put_Line (\"a\"); end Finalize; procedure Initialize (X : in out B) is begin Put_Line (\"i\"); end Initialize; procedure Finalize (X : in out B) is begin Put_Line (\"b\"); end Finalize; begin declare V : A; W : B; begin Put_Line (\"in\"); end; Put_Line (\"out\"); end Main;";
 
-const TWO_OBJECTS_TRACE: &str =
+pub(crate) const TWO_OBJECTS_TRACE: &str =
     "live 1 m2\ninitialize 2\nprint i\nnewline\nlive 2 m2\nprint in\nnewline\nfinalize 2 scope\nprint b\nnewline\nfinalize 1 scope\nprint a\nnewline\nprint out\nnewline\nend done\n";
 
 /// A Finalize that declares an object of its own type never comes to its end.
-const ENDLESS: &[u8] =
+pub(crate) const ENDLESS: &[u8] =
     b"with Ada.Finalization; use Ada.Finalization; with Ada.Text_IO; use Ada.Text_IO; procedure Main is type A is new Controlled with null record; overriding procedure Finalize (X : in out A); procedure Finalize (X : in out A) is V : A; begin Put (\"x\"); end Finalize; V : A; begin null; end Main;";
 
 /// An exit statement leaves a loop, and two blocks in it (RM 5.7, 7.6.1).
-const EXIT: &[u8] =
+pub(crate) const EXIT: &[u8] =
     b"with Ada.Finalization; use Ada.Finalization; with Ada.Text_IO; use Ada.Text_IO; procedure Main is type A is new Controlled with null record; overriding procedure Finalize (X : in out A); procedure Finalize (X : in out A) is begin Put_Line (\"a\"); end Finalize; begin loop declare V : A; begin declare W : A; begin exit; end; end; end loop; Put_Line (\"out\"); end Main;";
 
-const EXIT_TRACE: &str =
+pub(crate) const EXIT_TRACE: &str =
     "live 1 m2\nlive 2 m3\nfinalize 2 scope\nprint a\nnewline\nfinalize 1 scope\nprint a\nnewline\nprint out\nnewline\nend done\n";
 
 /// A sum beyond Integer'Last raises Constraint_Error, which leaves the main procedure (RM 3.5.4, 4.5.3).
-const OVERFLOW: &[u8] =
+pub(crate) const OVERFLOW: &[u8] =
     b"with Ada.Finalization; use Ada.Finalization; with Ada.Text_IO; use Ada.Text_IO; procedure Main is type A is new Controlled with null record; overriding procedure Finalize (X : in out A); procedure Finalize (X : in out A) is begin Put_Line (\"a\"); end Finalize; V : A; N : Integer := Integer'Last; begin N := N + 1; Put_Line (\"no\"); end Main;";
 
-const OVERFLOW_TRACE: &str =
+pub(crate) const OVERFLOW_TRACE: &str =
     "live 1 m1\nfinalize 1 scope\nprint a\nnewline\nend raised Constraint_Error\n";
 
 /// The bounds of a loop are evaluated once, and `mod` has the sign of the right operand (RM 5.5, 4.5.5).
-const COUNTED: &[u8] =
+pub(crate) const COUNTED: &[u8] =
     b"with Ada.Text_IO; use Ada.Text_IO; procedure Main is N : Integer := 2; begin for I in reverse 1 .. N loop N := 5; Put (Integer'Image (I) & Boolean'Image (I > 1) & Integer'Image ((-7) mod N)); end loop; end Main;";
 
-const COUNTED_TRACE: &str = "print  2TRUE 3\nprint  1FALSE 3\nend done\n";
+pub(crate) const COUNTED_TRACE: &str = "print  2TRUE 3\nprint  1FALSE 3\nend done\n";
 
 /// Division by zero raises Constraint_Error (RM 4.5.5).
-const ZERO_DIVISOR: &[u8] = b"procedure Main is X : Integer := 0; begin X := 1 / X; end Main;";
+pub(crate) const ZERO_DIVISOR: &[u8] = b"procedure Main is X : Integer := 0; begin X := 1 / X; end Main;";
 
 /// Sums under an `if`, and a loop that is left behind it; the signs of `/`, `rem` and `mod`, the image of Integer'First, and at last an
 /// overflow (RM 3.5.4, 4.5.5, 5.7).
-const NUMBERS: &[u8] =
+pub(crate) const NUMBERS: &[u8] =
     b"with Ada.Text_IO; use Ada.Text_IO; procedure Main is S : Integer := 0; begin for I in 1 .. 10 loop if I rem 2 = 0 then S := S + I; end if; exit when S > 11; end loop; Put_Line (\"S\" & Integer'Image (S)); Put_Line (\"q\" & Integer'Image (-7 / 2)); Put_Line (\"r\" & Integer'Image ((-7) rem 2)); Put_Line (\"m\" & Integer'Image ((-7) mod 2)); Put_Line (\"l\" & Integer'Image (-2147483647 - 1)); S := 2147483647 + 1; end Main;";
 
-const NUMBERS_TRACE: &str =
+pub(crate) const NUMBERS_TRACE: &str =
     "print S 12\nnewline\nprint q-3\nnewline\nprint r-1\nnewline\nprint m 1\nnewline\nprint l-2147483648\nnewline\nend raised Constraint_Error\n";
 
 /// An exit statement leaves two blocks, whose objects are of two types: the inner object goes first (RM 5.7, 7.6.1).
-const EXIT_OF_TWO: &[u8] =
+pub(crate) const EXIT_OF_TWO: &[u8] =
     b"with Ada.Finalization; use Ada.Finalization; with Ada.Text_IO; use Ada.Text_IO; procedure Main is type A is new Controlled with null record; type B is new Controlled with null record; overriding procedure Finalize (X : in out A); overriding procedure Initialize (X : in out B); overriding procedure Finalize (X : in out B); procedure Finalize (X : in out A) is begin Put_Line (\"a\"); end Finalize; procedure Initialize (X : in out B) is begin Put_Line (\"i\"); end Initialize; procedure Finalize (X : in out B) is begin Put_Line (\"b\"); end Finalize; begin loop declare V : A; begin declare W : B; begin exit; end; end; end loop; Put_Line (\"out\"); end Main;";
 
-const EXIT_OF_TWO_TRACE: &str =
+pub(crate) const EXIT_OF_TWO_TRACE: &str =
     "live 1 m2\ninitialize 2\nprint i\nnewline\nlive 2 m3\nfinalize 2 scope\nprint b\nnewline\nfinalize 1 scope\nprint a\nnewline\nprint out\nnewline\nend done\n";
 
 /// A type of which there is no object.
-const TYPE_ALONE: &[u8] =
+pub(crate) const TYPE_ALONE: &[u8] =
     b"procedure Main is type R is record N : Integer; end record; begin null; end Main;";
 
 /// A loop without an end.
-const TURNS: &[u8] = b"procedure Main is begin loop null; end loop; end Main;";
+pub(crate) const TURNS: &[u8] = b"procedure Main is begin loop null; end loop; end Main;";
 
 /// A loop without an end that prints a line in each turn.
-const LINES: &[u8] =
+pub(crate) const LINES: &[u8] =
     b"with Ada.Text_IO; use Ada.Text_IO; procedure Main is begin loop Put_Line (\"x\"); end loop; end Main;";
 
 #[test]
