@@ -27,3 +27,7 @@ pub mod Frames
 pub mod Created
 pub mod Leaves
 pub mod Begun
+pub mod Newest
+pub mod Innermost
+pub mod Initialized
+pub mod AfterInitialize
