@@ -41,3 +41,7 @@ pub mod LeavesFurther
 pub mod OwnLayers
 pub mod Following
 pub mod Begun
+pub mod Newest
+pub mod Innermost
+pub mod Initialized
+pub mod AfterInitialize

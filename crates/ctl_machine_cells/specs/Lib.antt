@@ -10,3 +10,4 @@ pub mod Links
 pub mod Departing
 pub mod Instructions
 pub mod Turns
+pub mod Declaring

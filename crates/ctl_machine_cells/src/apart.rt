@@ -66,7 +66,7 @@ pub(crate) fn replace_top(control: &mut Vec<Frame>, frame: Frame)
 }
 
 /// Names an object as a whole.
-fn whole(alloc: Global, object: u64) -> Part
+pub(crate) fn whole(alloc: Global, object: u64) -> Part
     ensures { result ≡ Table.whole_part object }
 {
     Part {

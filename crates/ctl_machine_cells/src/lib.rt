@@ -4,6 +4,7 @@
 mod advance;
 mod apart;
 mod begin;
+mod declare;
 mod engine;
 mod frame;
 mod jumps;

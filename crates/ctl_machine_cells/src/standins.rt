@@ -1,18 +1,14 @@
 //! Stand-ins (development only).
 
-ghost use Rattle.std.specs.Prelude.{◌≡◌, ◌+◌, ◌^◌, ◌<◌, ◌∷◌, List, OnErr, OnOk, Some, reverse};
+ghost use Rattle.std.specs.Prelude.{◌≡◌, ◌+◌, ◌^◌, ◌<◌, OnErr, OnOk, Some};
 ghost use Rattle.ctl_code_cells.specs.declared.code.Instr.TheVariants as InstrOf;
 ghost use Rattle.ctl_code_cells.specs.Table as Table;
-ghost use Rattle.ctl_code_cells.specs.States.{State, Giving};
+ghost use Rattle.ctl_code_cells.specs.States.{State};
 ghost use Rattle.ctl_code_cells.specs.Valid.{IsValid};
-ghost use Rattle.ctl_machine_cells.specs.declared.frame.Frame.{Frame};
-ghost use Rattle.ctl_machine_cells.specs.declared.frame.Frame.TheVariants as FrameOf;
-ghost use Rattle.ctl_machine_cells.specs.Moves.{Before, BeforeResuming, GoesOn, Makes, here_of};
+ghost use Rattle.ctl_machine_cells.specs.Moves.{Before, GoesOn, Makes, here_of};
 ghost use Rattle.ctl_machine_cells.specs.Instructions.{Reaches};
-ghost use Rattle.ctl_machine_cells.specs.Shows as Shows;
 
 use crate::engine::Engine;
-use crate::frame::Ended;
 use ctl_code_cells::code::{Code, Instr};
 use std::alloc::AllocError;
 
@@ -37,26 +33,6 @@ impl Engine {
         let _ = code;
         let _ = slot;
         let _ = record;
-        let _ = place;
-        Err(AllocError)
-    }
-
-    /// Resumes.
-    pub(crate) fn resume_initializing(
-        &mut self,
-        code: &Code,
-        ended: Ended,
-        place: usize,
-    ) -> Result<(), AllocError>
-        ghost s: { State }
-        requires valid { IsValid code.now }
-        requires before { BeforeResuming code.now self.old s }
-        requires top { (fs : List Frame) × (reverse self.old.control.items ≡ FrameOf.Initializing place ∷ fs) }
-        ensures ok { OnOk result (Makes code.now self.old self.new (Table.act code.now (Giving (Shows.tried_of ended)) s.control s.operands s.world 0)) }
-        ensures err { OnErr result (GoesOn self.old self.new self.old.mode self.old.cells.items) }
-    {
-        let _ = code;
-        let _ = ended;
         let _ = place;
         Err(AllocError)
     }
