@@ -26,7 +26,8 @@ use Rattle.ctl_machine_cells.specs.Moves.{Inside, Makes, GoesOn}
 use Rattle.ctl_machine_cells.specs.Turns.{counted}
 use Rattle.ctl_machine_cells.proofs.Lists.{get_left, set_right, length_set}
 use Rattle.ctl_machine_cells.proofs.Slots.{tall_is}
-use Rattle.ctl_machine_cells.proofs.Places.{IsVariable, place_is, variable_is}
+use Rattle.ctl_machine_cells.specs.Variables.{IsVariable}
+use Rattle.ctl_machine_cells.proofs.Places.{place_is, variable_is}
 use Rattle.ctl_machine_cells.proofs.Values.{window_in, variable_read, slot_put}
 use Rattle.ctl_machine_cells.proofs.Plain.{goes_makes}
 use Rattle.ctl_machine_cells.proofs.Operands.{AreNewest, are_newest}

@@ -45,3 +45,4 @@ pub mod Newest
 pub mod Innermost
 pub mod Initialized
 pub mod AfterInitialize
+pub mod Reached

@@ -11,3 +11,4 @@ pub mod Departing
 pub mod Instructions
 pub mod Turns
 pub mod Declaring
+pub mod Variables

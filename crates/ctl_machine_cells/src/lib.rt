@@ -19,3 +19,4 @@ mod standins;
 mod start;
 mod step;
 mod texts;
+mod variables;

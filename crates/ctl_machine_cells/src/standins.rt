@@ -5,8 +5,8 @@ ghost use Rattle.ctl_code_cells.specs.declared.code.Instr.TheVariants as InstrOf
 ghost use Rattle.ctl_code_cells.specs.Table as Table;
 ghost use Rattle.ctl_code_cells.specs.States.{State};
 ghost use Rattle.ctl_code_cells.specs.Valid.{IsValid};
-ghost use Rattle.ctl_machine_cells.specs.Moves.{Before, GoesOn, Makes, here_of};
 ghost use Rattle.ctl_machine_cells.specs.Instructions.{Reaches};
+ghost use Rattle.ctl_machine_cells.specs.Moves.{Before, GoesOn, Makes, here_of};
 
 use crate::engine::Engine;
 use ctl_code_cells::code::{Code, Instr};

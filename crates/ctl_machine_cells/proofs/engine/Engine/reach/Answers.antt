@@ -1,4 +1,0 @@
-use Rattle.ctl_machine_cells.proofs.engine.Engine.reach.Goals as goal
-
-pub returns : goal.returns
-returns g c = ?
