@@ -10,5 +10,5 @@ pub mod Links
 pub mod Departing
 pub mod Instructions
 pub mod Turns
-pub mod Declaring
+pub mod Initializing
 pub mod Variables

@@ -4,7 +4,7 @@
 mod advance;
 mod apart;
 mod begin;
-mod declare;
+mod initialize;
 mod engine;
 mod frame;
 mod jumps;

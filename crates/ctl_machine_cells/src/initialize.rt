@@ -13,7 +13,7 @@ ghost use Rattle.ctl_machine_cells.specs.declared.frame.Master.{Master};
 ghost use Rattle.ctl_machine_cells.specs.declared.frame.Mode.TheVariants as ModeOf;
 ghost use Rattle.ctl_machine_cells.specs.declared.frame.Owned.{Owned};
 ghost use Rattle.ctl_machine_cells.specs.declared.frame.Way.TheVariants as WayOf;
-ghost use Rattle.ctl_machine_cells.specs.Declaring.{IsNewest, Turns, held, new_of};
+ghost use Rattle.ctl_machine_cells.specs.Initializing.{IsNewest, Turns, held, new_of};
 ghost use Rattle.ctl_machine_cells.specs.Moves.{Before, BeforeResuming, GoesOn, Makes, here_of};
 ghost use Rattle.ctl_machine_cells.specs.Shows as Shows;
 
