@@ -26,3 +26,5 @@ pub mod Called
 pub mod Frames
 pub mod Created
 pub mod Leaves
+pub mod Objects
+pub mod Births

@@ -8,3 +8,4 @@ pub mod Machine
 pub mod Prints
 pub mod Links
 pub mod Departing
+pub mod Declaring

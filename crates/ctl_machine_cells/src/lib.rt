@@ -3,6 +3,7 @@
 
 mod advance;
 mod apart;
+mod declare;
 mod engine;
 mod frame;
 mod jumps;

@@ -1,0 +1,113 @@
+//! Objects of record types are declared (RM 3.3.1).
+
+ghost use Rattle.std.specs.Prelude.{◌≡◌, ◌+◌, ◌-◌, ◌^◌, ◌<◌, ◌++◌, List, None, OnErr, OnOk, Some, length, slice_get, vec_capacity, vec_len};
+ghost use Rattle.ctl_code_cells.specs.declared.code.Instr.TheVariants as InstrOf;
+ghost use Rattle.ctl_code_cells.specs.Table as Table;
+ghost use Rattle.ctl_code_cells.specs.States.{State};
+ghost use Rattle.ctl_code_cells.specs.Valid.{IsValid};
+ghost use Rattle.ctl_machine_cells.specs.Moves.{Before, GoesOn, Makes, here_of};
+ghost use Rattle.ctl_machine_cells.specs.Shows.{kept};
+ghost use Rattle.ctl_machine_cells.specs.Declaring.{with_object};
+
+use crate::apart::whole;
+use crate::engine::Engine;
+use crate::frame::{Life, Master, Mode, Owned};
+use ctl_code_cells::code::{Code, Operations};
+use ctl_tree::event::{Event, Owner};
+use std::alloc::{AllocError, Global};
+
+/// Shows that an object of this master has come to life, where the user wrote a Finalize for its type (RM 7.6).
+fn show_life(
+    alloc: Global,
+    events: &mut Vec<Event>,
+    object: u64,
+    master: u64,
+    finalize: Option<usize>,
+)
+    requires { vec_len events.old < vec_capacity events.old }
+    ensures { events.new.items ≡ events.old.items ++ Table.birth finalize object master }
+{
+    if let Some(_) = finalize {
+        events.push_reserved(Event::Live(whole(alloc, object), Owner::Master(master)));
+    }
+}
+
+impl Engine {
+    /// Answers the newest master.
+    fn newest(&self) -> Master
+        requires { 0 < length self.now.masters.items }
+        ensures { slice_get self.now.masters.items (length self.now.masters.items - 1) ≡ Some result }
+    {
+        self.masters[self.masters.as_slice().len() - 1]
+    }
+
+    /// Reserves room for an object and for what is shown of it; nothing else changes.
+    fn reserve_object(&mut self) -> Result<(), AllocError>
+        ensures same { GoesOn self.old self.new self.old.mode self.old.cells.items }
+        ensures owned { OnOk result (vec_len self.new.owned < vec_capacity self.new.owned) }
+        ensures events { OnOk result (vec_len self.new.events < vec_capacity self.new.events) }
+        ensures number { self.new.given_objects ≡ self.old.given_objects }
+    {
+        self.owned.reserve(1)?;
+        self.events.reserve(1)?;
+        Ok(())
+    }
+
+    /// Creates an object of the newest master, for which there is room, and clears the cell of its slot (RM 3.3.1).
+    fn create(&mut self, newest: Master, slot: usize, record: usize, life: Life)
+        requires room { vec_len self.old.owned < vec_capacity self.old.owned }
+        requires number { self.old.given_objects + 1 < 2 ^ 64 }
+        requires cell { slot < newest.slots → newest.base + slot < length self.old.cells.items }
+        ensures kept { kept self.new ≡ with_object newest slot «record» life (kept self.old) }
+        ensures masters { self.new.masters ≡ self.old.masters }
+        ensures control { self.new.control ≡ self.old.control }
+        ensures events { self.new.events ≡ self.old.events }
+        ensures picks { self.new.picks ≡ self.old.picks }
+        ensures number { self.new.given_masters ≡ self.old.given_masters }
+    {
+        self.given_objects += 1;
+        self.owned.push_reserved(Owned {
+            number: self.given_objects,
+            record,
+            master: newest.number,
+            life,
+        });
+        if slot < newest.slots {
+            self.cells[newest.base + slot] = 0;
+        }
+    }
+
+    /// Declares an object of a type for which the user wrote no Initialize: it comes to life at once; unchanged where memory is refused.
+    fn declare_at_once(
+        &mut self,
+        code: &Code,
+        slot: usize,
+        record: usize,
+        operations: Operations,
+        place: usize,
+    ) -> Result<(), AllocError>
+        ghost s: { State }
+        requires valid { IsValid code.now }
+        requires before { Before code.now self.old place (InstrOf.Declare slot «record») s }
+        requires place { place + 1 < 2 ^ 64 }
+        requires objects { self.old.given_objects + 1 < 2 ^ 64 }
+        requires operations { slice_get code.now.records.items «record» ≡ Some operations }
+        requires none { operations.initialize ≡ None }
+        ensures ok { OnOk result (Makes code.now self.old self.new (Table.by_instr code.now (Some (InstrOf.Declare slot «record»)) s.operands (here_of place s))) }
+        ensures err { OnErr result (GoesOn self.old self.new self.old.mode self.old.cells.items) }
+    {
+        let _ = code;
+        let newest = self.newest();
+        self.reserve_object()?;
+        self.create(newest, slot, record, Life::Layer);
+        show_life(
+            self.alloc,
+            &mut self.events,
+            self.given_objects,
+            newest.number,
+            operations.finalize,
+        );
+        self.mode = Mode::At(place + 1);
+        Ok(())
+    }
+}
