@@ -28,3 +28,4 @@ pub mod Created
 pub mod Leaves
 pub mod Objects
 pub mod Births
+pub mod Initialized

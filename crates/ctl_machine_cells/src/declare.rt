@@ -1,18 +1,18 @@
 //! Objects of record types are declared (RM 3.3.1).
 
-ghost use Rattle.std.specs.Prelude.{◌≡◌, ◌+◌, ◌-◌, ◌^◌, ◌<◌, ◌++◌, List, None, OnErr, OnOk, Some, length, slice_get, vec_capacity, vec_len};
+ghost use Rattle.std.specs.Prelude.{◌≡◌, ◌+◌, ◌-◌, ◌^◌, ◌<◌, ◌≤◌, ◌++◌, List, ℕ, None, OnErr, OnOk, Some, length, slice_get, vec_capacity, vec_len};
 ghost use Rattle.ctl_code_cells.specs.declared.code.Instr.TheVariants as InstrOf;
 ghost use Rattle.ctl_code_cells.specs.Table as Table;
 ghost use Rattle.ctl_code_cells.specs.States.{State};
 ghost use Rattle.ctl_code_cells.specs.Valid.{IsValid};
 ghost use Rattle.ctl_machine_cells.specs.Moves.{Before, GoesOn, Makes, here_of};
 ghost use Rattle.ctl_machine_cells.specs.Shows.{kept};
-ghost use Rattle.ctl_machine_cells.specs.Declaring.{with_object};
+ghost use Rattle.ctl_machine_cells.specs.Declaring.{CallsInitialize, with_object};
 
-use crate::apart::whole;
+use crate::apart::{make_room, whole};
 use crate::engine::Engine;
-use crate::frame::{Life, Master, Mode, Owned};
-use ctl_code_cells::code::{Code, Operations};
+use crate::frame::{After, Frame, Life, Master, Mode, Owned};
+use ctl_code_cells::code::{Code, Entry, Operations};
 use ctl_tree::event::{Event, Owner};
 use std::alloc::{AllocError, Global};
 
@@ -109,5 +109,95 @@ impl Engine {
         );
         self.mode = Mode::At(place + 1);
         Ok(())
+    }
+
+    /// Makes room for an object, and for the call of its Initialize, whose window begins with this cell and has so many; nothing else changes.
+    fn reserve_initialize(&mut self, base: usize, room: usize) -> Result<(), AllocError>
+        ensures ok { OnOk result ((more : List ℕ) × GoesOn self.old self.new self.old.mode (self.old.cells.items ++ more)) }
+        ensures err { OnErr result (GoesOn self.old self.new self.old.mode self.old.cells.items) }
+        ensures cells { OnOk result (base + room ≤ length self.new.cells.items) }
+        ensures masters { OnOk result (vec_len self.new.masters < vec_capacity self.new.masters) }
+        ensures control { OnOk result (vec_len self.new.control + 2 ≤ vec_capacity self.new.control) }
+        ensures events { OnOk result (vec_len self.new.events < vec_capacity self.new.events) }
+        ensures owned { OnOk result (vec_len self.new.owned < vec_capacity self.new.owned) }
+        ensures number { self.new.given_masters ≡ self.old.given_masters }
+        ensures objects { self.new.given_objects ≡ self.old.given_objects }
+    {
+        let wanted = base.checked_add(room).ok_or(AllocError)?;
+        self.owned.reserve(1)?;
+        self.masters.reserve(1)?;
+        self.control.reserve(2)?;
+        self.events.reserve(1)?;
+        make_room(&mut self.cells, wanted)
+    }
+
+    /// Declares an object of a type for which the user wrote an Initialize, with this body: it is called (RM 7.6); unchanged where memory
+    /// is refused.
+    fn declare_initialized(
+        &mut self,
+        code: &Code,
+        slot: usize,
+        record: usize,
+        entry: &Entry,
+        place: usize,
+    ) -> Result<(), AllocError>
+        ghost s: { State }
+        requires valid { IsValid code.now }
+        requires before { Before code.now self.old place (InstrOf.Declare slot «record») s }
+        requires place { place + 1 < 2 ^ 64 }
+        requires masters { self.old.given_masters + 1 < 2 ^ 64 }
+        requires objects { self.old.given_objects + 1 < 2 ^ 64 }
+        requires body { CallsInitialize code.now «record» entry.now }
+        ensures ok { OnOk result (Makes code.now self.old self.new (Table.by_instr code.now (Some (InstrOf.Declare slot «record»)) s.operands (here_of place s))) }
+        ensures err { OnErr result (GoesOn self.old self.new self.old.mode self.old.cells.items) }
+    {
+        let newest = self.newest();
+        let base = self.window() + code.kinds.height_at(place, 0);
+        let link = self.around(entry.level);
+        let depth = self.depth_at(link) + 1;
+        self.reserve_initialize(base, code.room)?;
+        self.create(newest, slot, record, Life::Created);
+        self.control
+            .push_reserved(Frame::Initializing(place + 1));
+        self.events
+            .push_reserved(Event::Initialize(whole(self.alloc, self.given_objects)));
+        let master = Master {
+            number: self.given_masters + 1,
+            window: base,
+            base,
+            slots: entry.slots,
+            link,
+            depth,
+            owned: self.count_owned(),
+        };
+        self.open(master, After::Body, entry.place);
+        Ok(())
+    }
+
+    /// Declares an object of a record type without a value (RM 3.3.1): it is created, and its Initialize is called where the user wrote one (RM 7.6); unchanged where memory is refused.
+    #[inline(never)]
+    pub(crate) fn declare(
+        &mut self,
+        code: &Code,
+        slot: usize,
+        record: usize,
+        place: usize,
+    ) -> Result<(), AllocError>
+        ghost s: { State }
+        requires valid { IsValid code.now }
+        requires before { Before code.now self.old place (InstrOf.Declare slot «record») s }
+        requires place { place + 1 < 2 ^ 64 }
+        requires masters { self.old.given_masters + 1 < 2 ^ 64 }
+        requires objects { self.old.given_objects + 1 < 2 ^ 64 }
+        ensures ok { OnOk result (Makes code.now self.old self.new (Table.by_instr code.now (Some (InstrOf.Declare slot «record»)) s.operands (here_of place s))) }
+        ensures err { OnErr result (GoesOn self.old self.new self.old.mode self.old.cells.items) }
+    {
+        let operations = code.records[record];
+        match operations.initialize {
+            Some(body) => {
+                self.declare_initialized(code, slot, record, &code.entries[body], place)
+            }
+            None => self.declare_at_once(code, slot, record, operations, place),
+        }
     }
 }
