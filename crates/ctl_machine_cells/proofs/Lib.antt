@@ -46,3 +46,8 @@ pub mod Innermost
 pub mod Initialized
 pub mod AfterInitialize
 pub mod Reached
+pub mod Objects
+pub mod Births
+pub mod InitializeCalled
+pub mod Given
+pub mod Stored

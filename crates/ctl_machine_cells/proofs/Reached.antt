@@ -82,7 +82,7 @@ bound_rises [] n b = b
 bound_rises (m ∷ ms) n b = let less = b.0 in omega (arith, less)
 
 -- no active master has the number 0
-no_zero : (ms : List Master) (acts : List Activation) (ks : List W.Master) (owned : List Owned) (bound : ℕ) → AreMasters ms (heads_of acts) ks owned → AreBelow ms bound → HaveNo 0 acts
+pub no_zero : (ms : List Master) (acts : List Activation) (ks : List W.Master) (owned : List Owned) (bound : ℕ) → AreMasters ms (heads_of acts) ks owned → AreBelow ms bound → HaveNo 0 acts
 no_zero ms [] ks owned bound a b = tt
 no_zero [] (x ∷ acts) ks owned bound a b = elim a [ ]
 no_zero (m ∷ ms) (x ∷ acts) _ _ bound (newest_master {ks = ks} {owned = owned} h o r) b = ((λ same. let p = bound_rises ms m.number b.1 in let i = h.head in omega (arith, same, i, p)), no_zero ms acts ks _ m.number r b.1)

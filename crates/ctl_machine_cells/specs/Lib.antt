@@ -12,3 +12,4 @@ pub mod Instructions
 pub mod Turns
 pub mod Initializing
 pub mod Variables
+pub mod Declaring

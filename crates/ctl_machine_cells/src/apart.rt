@@ -21,7 +21,7 @@ use ctl_tree::text::Path;
 use std::alloc::{AllocError, Global};
 
 /// Makes so many cells, if there are fewer; the new ones are 0.
-fn make_room(cells: &mut Vec<u64>, wanted: usize) -> Result<(), AllocError>
+pub(crate) fn make_room(cells: &mut Vec<u64>, wanted: usize) -> Result<(), AllocError>
     ensures ok { OnOk result ((more : List ℕ) × (cells.new.items ≡ cells.old.items ++ more)) }
     ensures long { OnOk result (wanted ≤ length cells.new.items) }
     ensures err { OnErr result (cells.new.items ≡ cells.old.items) }

@@ -6,6 +6,7 @@ ghost use Rattle.ctl_program.specs.declared.types.Ty.{Ty};
 ghost use Rattle.ctl_code_cells.specs.Table as Table;
 ghost use Rattle.ctl_code_cells.specs.States.{State};
 ghost use Rattle.ctl_code_cells.specs.Valid.{IsValid};
+ghost use Rattle.ctl_machine_cells.specs.Instructions.{Reaches};
 ghost use Rattle.ctl_machine_cells.specs.Links.{AreLinked};
 ghost use Rattle.ctl_machine_cells.specs.Masters.{Head, first_display, heads_of};
 ghost use Rattle.ctl_machine_cells.specs.Moves.{Before, Makes, here_of};
@@ -14,7 +15,7 @@ ghost use Rattle.ctl_machine_cells.specs.Variables.{IsNoVariable, IsVariable};
 
 use crate::engine::Engine;
 use crate::frame::{Master, Mode};
-use ctl_code_cells::code::{Cell, Code};
+use ctl_code_cells::code::{Cell, Code, Instr};
 
 impl Engine {
     /// Answers the master so many further out than the newest, by the links; None where there is none.
@@ -88,5 +89,46 @@ impl Engine {
         let _ = code;
         self.given_objects += 1;
         self.mode = Mode::At(place + 1);
+    }
+
+    /// Gives a variable of a body around the value of a cell; where there is none, nothing takes it.
+    fn store(&mut self, code: &Code, from: &Cell, out: usize, slot: usize, place: usize)
+        ghost s: { State }
+        requires valid { IsValid code.now }
+        requires before { (ty : Ty) × Before code.now self.old place (InstrOf.Store from.now ty out slot) s }
+        requires place { place + 1 < 2 ^ 64 }
+        ensures { (ty : Ty) → Makes code.now self.old self.new (Table.by_instr code.now (Some (InstrOf.Store from.now ty out slot)) s.operands (here_of place s)) }
+    {
+        let value = self.take(from);
+        match self.variable(code, out, slot) {
+            Some(cell) => {
+                self.cells[cell] = value;
+                self.mode = Mode::At(place + 1);
+            }
+            None => self.mode = Mode::At(place + 1),
+        }
+    }
+
+    /// Executes this instruction, which stands at this place and gives a number or reaches a variable of a body around.
+    pub(crate) fn reach(&mut self, code: &Code, instr: &Instr, place: usize)
+        ghost s: { State }
+        requires valid { IsValid code.now }
+        requires before { Before code.now self.old place instr.now s }
+        requires reaches { Reaches instr.now }
+        requires place { place + 1 < 2 ^ 64 }
+        requires number { self.old.given_objects + 1 < 2 ^ 64 }
+        ensures { Makes code.now self.old self.new (Table.by_instr code.now (Some instr.now) s.operands (here_of place s)) }
+    {
+        match instr {
+            Instr::Number => self.number(code, place),
+            Instr::Fetch { out, slot, to, .. } => self.fetch(code, *out, *slot, to, place),
+            Instr::Store {
+                from,
+                out,
+                slot,
+                ..
+            } => self.store(code, from, *out, *slot, place),
+            _ => unreachable!(),
+        }
     }
 }
