@@ -1,5 +1,4 @@
 //! Bodies that are entered for what waits.
-#![tactic(auto)]
 
 ghost use Rattle.std.specs.Prelude.{◌≡◌, ◌+◌, ◌^◌, ◌<◌, ◌≤◌, [], ◌∷◌, ◌++◌, List, ℕ, OnErr, OnOk, Some, drop, length, reverse, slice_get, slice_set, take, vec_capacity, vec_len};
 ghost use Rattle.ctl_tree.specs.declared.event.Cause.TheVariants.{Scope};

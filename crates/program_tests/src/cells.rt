@@ -15,7 +15,7 @@ fn traces_of_windows(rt: HostRuntime) -> Result<(), Fail> {
         (crate::runs::EMPTY, 1000, "end done\n"),
         (crate::runs::EMPTY, 0, "end limit\n"),
         (crate::runs::TWO_OBJECTS, 1000, crate::runs::TWO_OBJECTS_TRACE),
-        (crate::runs::ENDLESS, 5, "live 1 m1\nend limit\n"),
+        (crate::runs::ENDLESS, 2, "live 1 m1\nend limit\n"),
         (crate::runs::EXIT, 1000, crate::runs::EXIT_TRACE),
         (crate::runs::OVERFLOW, 1000, crate::runs::OVERFLOW_TRACE),
         (crate::runs::COUNTED, 1000, crate::runs::COUNTED_TRACE),
