@@ -2,11 +2,13 @@ pub mod Elements
 pub mod Fitting
 pub mod FittingFrames
 pub mod FittingInstructions
+pub mod FittingSteps
+pub mod FittingWorlds
 pub mod Links
 pub mod Lists
 pub mod Logs
 pub mod Numbers
-pub mod FittingWorlds
+pub mod Shapes
 pub mod Small
 pub mod Texts
 pub mod Whole

@@ -26,6 +26,11 @@ none_by_drop n [] e = refl
 none_by_drop zero (x ∷ xs) e = absurd (cc e)
 none_by_drop (suc n) (x ∷ xs) e = none_by_drop n xs e
 
-pub top_split : {X : Type 0} (xs : List X) (x : X) → slice_get xs 0 ≡ Some x → xs ≡ x ∷ drop 1 xs
-top_split [] x e = absurd (cc e)
-top_split (y ∷ ys) x e = cc
+pub split_at : {X : Type 0} (n : ℕ) (xs : List X) (x : X) → slice_get xs n ≡ Some x → drop n xs ≡ x ∷ drop (n + 1) xs
+split_at n [] x e = absurd (cc e)
+split_at zero (y ∷ ys) x e = cc
+split_at (suc n) (y ∷ ys) x e = let same : suc n + 1 ≡ suc (n + 1) = omega arith in rw same (split_at n ys x e)
+
+pub empty_at_first : {X : Type 0} (xs : List X) → slice_get xs 0 ≡ None → xs ≡ []
+empty_at_first [] e = refl
+empty_at_first (x ∷ xs) e = absurd (cc e)

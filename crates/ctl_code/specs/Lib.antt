@@ -4,5 +4,6 @@ pub mod Table
 pub mod Steps
 pub mod Laws
 pub mod Stacks
+pub mod Windows
 pub mod Valid
 pub mod Fits

@@ -1,19 +1,22 @@
-//! Whether an instruction is well formed: it finds on the stacks what it takes, and leads to places before which there stands what
-//! it leaves.
+//! Whether an instruction is well formed: it finds in the window what it takes, where it says, and leads to places before which there
+//! stands what it leaves.
 
-ghost use Rattle.std.specs.Prelude.{◌≡◌, ◌↔◌, ◌+◌, ◌-◌, ◌<◌, ◌≤◌, ◌^◌, ◌∷◌, [], drop, length, reverse, slice_get, IsTrue, MatchOption, Some};
-ghost use Rattle.ctl_program.specs.declared.types.Ty.{Ty};
-ghost use Rattle.ctl_program.specs.declared.types.Ty.TheVariants.{Integer};
-ghost use Rattle.ctl_code.specs.declared.kinds.Kind.TheVariants.{Operand, Counting};
+ghost use Rattle.std.specs.Prelude.{◌≡◌, ◌↔◌, ℕ, ◌+◌, ◌-◌, ◌<◌, ◌≤◌, ◌^◌, ◌∷◌, [], drop, length, reverse, slice_get, IsTrue, List, MatchOption, Some};
+ghost use Rattle.ctl_program.specs.declared.types.Ty.TheVariants.{Boolean, Integer};
+ghost use Rattle.ctl_code.specs.declared.kinds.Kind.{Kind};
+ghost use Rattle.ctl_code.specs.declared.kinds.Kind.TheVariants.{Block, Operand};
+ghost use Rattle.ctl_program.specs.declared.operators.Direction.{Direction};
+ghost use Rattle.ctl_code.specs.declared.code.Cell.{Cell};
+ghost use Rattle.ctl_code.specs.declared.code.Operator.{Operator};
 ghost use Rattle.ctl_code.specs.declared.code.Instr.TheVariants as I;
-ghost use Rattle.ctl_code.specs.Kinds.{changed, stack_at, with_top};
-ghost use Rattle.ctl_code.specs.Valid.{IsAtEnd, IsEntry, IsFine, IsRecord, IsScalar, IsText, Leads, TakesLeft, Under, UnderScalar};
+ghost use Rattle.ctl_code.specs.Kinds.{changed, stack_at};
+ghost use Rattle.ctl_code.specs.Valid.{Bounded, IsAtEnd, IsDeclarable, IsEntry, IsFine, IsInScope, IsText, Leads, Puts, Taken, Takes, Under};
+ghost use Rattle.ctl_code.specs.Windows.{depth, height, variable_at};
 
-use crate::code::{Code, Instr};
+use crate::code::{Cell, Code, Instr, Named, Operator};
 use crate::images::count_images;
 use crate::kinds::{Kind, is_same_kind};
 use crate::types::{is_binary_of, is_cell_of, is_scalar, is_unary_of};
-use ctl_program::operators::{BinaryOp, UnaryOp};
 use ctl_program::types::Ty;
 
 // Where an instruction leads -------------------------------------------------------------------
@@ -26,13 +29,22 @@ fn leads_on(code: &Code, place: usize, taken: usize, new: Option<Kind>) -> bool
     code.kinds.leads(place, taken, new, place + 1)
 }
 
-/// Tells whether the operands that it takes lead so many instructions further than the next place.
+/// Tells whether what is left leads so many instructions further than the next place.
 fn leads_ahead(code: &Code, place: usize, taken: usize, count: usize) -> bool
     requires { place + 1 < 2 ^ 64 }
     ensures { IsTrue result ↔ Leads code.now (place + 1 + count) (drop taken (stack_at code.now.kinds place)) }
 {
     count < code.kinds.len().saturating_sub(place + 1)
         && code.kinds.leads(place, taken, None, place + 1 + count)
+}
+
+/// Tells whether what is left leads to the place behind that one.
+fn leads_behind(code: &Code, place: usize, taken: usize, count: usize) -> bool
+    requires { place + 1 < 2 ^ 64 }
+    ensures { IsTrue result ↔ Leads code.now (place + 1 + count + 1) (drop taken (stack_at code.now.kinds place)) }
+{
+    count < code.kinds.len().saturating_sub(place + 1).saturating_sub(1)
+        && code.kinds.leads(place, taken, None, place + 1 + count + 1)
 }
 
 /// Tells whether the stack, as it is, leads so many instructions back.
@@ -42,14 +54,16 @@ fn leads_back(code: &Code, place: usize, count: usize) -> bool
     count <= place && code.kinds.leads(place, 0, None, place - count)
 }
 
-/// Tells whether a construct is entered, and left so many instructions further.
-fn enters(code: &Code, place: usize, kind: Kind, count: usize) -> bool
+/// Tells whether what is left leads to the next place, and so many instructions further.
+fn branches(code: &Code, place: usize, taken: usize, count: usize) -> bool
     requires { place + 1 < 2 ^ 64 }
-    ensures { let stack = stack_at code.now.kinds place in
-        IsTrue result ↔ (Leads code.now (place + 1) (kind ∷ stack) × Leads code.now (place + 1 + count) stack) }
+    ensures { let below = drop taken (stack_at code.now.kinds place) in
+        IsTrue result ↔ (Leads code.now (place + 1) below × Leads code.now (place + 1 + count) below) }
 {
-    leads_on(code, place, 0, Some(kind)) && leads_ahead(code, place, 0, count)
+    leads_on(code, place, taken, None) && leads_ahead(code, place, taken, count)
 }
+
+// Tables ---------------------------------------------------------------------------------------
 
 /// Tells whether it is the number of a body.
 pub fn is_entry(code: &Code, number: usize) -> bool
@@ -58,14 +72,33 @@ pub fn is_entry(code: &Code, number: usize) -> bool
     number < code.entries.len()
 }
 
-/// Tells whether it is the number of a record type.
-fn is_record(code: &Code, number: usize) -> bool
-    ensures { IsTrue result ↔ IsRecord code.now number }
+/// Tells whether there is no operation, or one that is declared in one of so many masters around.
+fn is_in_scope(code: &Code, masters: usize, number: Option<usize>) -> bool
+    ensures { IsTrue result ↔ IsInScope code.now masters number }
 {
-    number < code.records.len()
+    let Some(number) = number else {
+        return true;
+    };
+    match code.entries.get(number) {
+        Some(entry) => entry.level <= masters,
+        None => false,
+    }
 }
 
-// What an instruction takes --------------------------------------------------------------------
+/// Tells whether it is the number of a record type whose operations are declared in some of so many masters around (RM 7.6).
+fn is_declarable(code: &Code, masters: usize, number: usize) -> bool
+    ensures { IsTrue result ↔ IsDeclarable code.now masters number }
+{
+    match code.records.get(number) {
+        Some(operations) => {
+            is_in_scope(code, masters, operations.initialize)
+                && is_in_scope(code, masters, operations.finalize)
+        }
+        None => false,
+    }
+}
+
+// Cells ----------------------------------------------------------------------------------------
 
 /// Tells whether this stands on top, under so many newer ones.
 fn has(code: &Code, place: usize, depth: usize, kind: Kind) -> bool
@@ -77,159 +110,269 @@ fn has(code: &Code, place: usize, depth: usize, kind: Kind) -> bool
     }
 }
 
-/// Answers the type of the topmost operand, if one is on top.
-fn top_operand(code: &Code, place: usize) -> Option<Ty>
-    ensures { let top = slice_get (stack_at code.now.kinds place) 0 in
-        MatchOption result ((ty : Ty) → top ≡ Some (Operand ty) → ⊥) (λ ty. top ≡ Some (Operand ty)) }
+/// Tells whether an operand of this type stands in this cell, under so many newer ones.
+fn is_operand(code: &Code, place: usize, before: usize, at: usize, ty: Ty) -> bool
+    requires { before + 1 < 2 ^ 64 }
+    ensures { let stack = stack_at code.now.kinds place in
+        IsTrue result ↔ ((drop before stack ≡ Operand ty ∷ drop (before + 1) stack) × (at ≡ height (drop (before + 1) stack))) }
 {
-    match code.kinds.kind_at(place, 0) {
-        Some(Kind::Operand(ty)) => Some(ty),
-        _ => None,
+    has(code, place, before, Kind::Operand(ty)) && code.kinds.height_at(place, before + 1) == at
+}
+
+/// Tells whether this is the cell of a slot of the master so many further out, under so many newer ones.
+fn is_variable(code: &Code, place: usize, before: usize, at: usize, out: usize, slot: usize) -> bool
+    ensures { IsTrue result ↔ (variable_at (drop before (stack_at code.now.kinds place)) out slot ≡ Some at) }
+{
+    match code.kinds.variable_at(place, before, out, slot) {
+        Some(cell) => cell == at,
+        None => false,
     }
 }
 
-/// Tells whether an operand is taken, and this is put in its place, if any.
-fn takes(code: &Code, place: usize, operand: Ty, new: Option<Kind>) -> bool
-    requires { place + 1 < 2 ^ 64 }
-    ensures { IsTrue result ↔ Under (Operand operand ∷ []) (stack_at code.now.kinds place) (λ below. Leads code.now (place + 1) (with_top new below)) }
+/// Answers how many of the newest are taken with the value of a cell, where so many were taken before; None where the cell has no value
+/// of this type.
+fn taken(code: &Code, place: usize, before: usize, cell: Cell, ty: Ty) -> Option<usize>
+    requires { before + 1 < 2 ^ 64 }
+    ensures { let stack = stack_at code.now.kinds place in
+        MatchOption result ((below : List Kind) → Taken cell ty (drop before stack) below → ⊥) (λ sum. (sum ≤ before + 1) × Taken cell ty (drop before stack) (drop sum stack)) }
 {
-    has(code, place, 0, Kind::Operand(operand)) && leads_on(code, place, 1, new)
+    match cell.named {
+        Named::Operand => {
+            if is_operand(code, place, before, cell.at, ty) {
+                Some(before + 1)
+            } else {
+                None
+            }
+        }
+        Named::Variable { out, slot } => {
+            if is_variable(code, place, before, cell.at, out, slot) {
+                Some(before)
+            } else {
+                None
+            }
+        }
+    }
 }
 
-/// Answers the type of the operand that is new after an instruction, where it changes nothing else.
-fn pushed(code: &Code, place: usize) -> Option<Ty>
+/// Tells whether a new operand stands in this cell, where so many were taken, and the next place finds it.
+fn puts_operand(code: &Code, place: usize, taken: usize, at: usize, ty: Ty) -> bool
     requires { place + 1 < 2 ^ 64 }
-    ensures { let stack = stack_at code.now.kinds place in
-        MatchOption result ((ty : Ty) → Leads code.now (place + 1) (Operand ty ∷ stack) → ⊥) (λ ty. Leads code.now (place + 1) (Operand ty ∷ stack)) }
+    ensures { let stack = drop taken (stack_at code.now.kinds place) in
+        IsTrue result ↔ ((at ≡ height stack) × Leads code.now (place + 1) (Operand ty ∷ stack)) }
 {
-    let ty = top_operand(code, place + 1)?;
-    if leads_on(code, place, 0, Some(Kind::Operand(ty))) {
-        Some(ty)
-    } else {
-        None
+    code.kinds.height_at(place, taken) == at
+        && leads_on(code, place, taken, Some(Kind::Operand(ty)))
+}
+
+/// Tells whether this is the cell of a variable, where so many were taken, and the next place finds what is left.
+fn puts_variable(
+    code: &Code,
+    place: usize,
+    taken: usize,
+    at: usize,
+    out: usize,
+    slot: usize,
+) -> bool
+    requires { place + 1 < 2 ^ 64 }
+    ensures { let stack = drop taken (stack_at code.now.kinds place) in
+        IsTrue result ↔ ((variable_at stack out slot ≡ Some at) × Leads code.now (place + 1) stack) }
+{
+    is_variable(code, place, taken, at, out, slot) && leads_on(code, place, taken, None)
+}
+
+/// Tells whether a value of this type may be put into a cell, where so many were taken.
+fn puts(code: &Code, place: usize, taken: usize, cell: Cell, ty: Ty) -> bool
+    requires { place + 1 < 2 ^ 64 }
+    ensures { IsTrue result ↔ Puts code.now place cell ty (drop taken (stack_at code.now.kinds place)) }
+{
+    match cell.named {
+        Named::Operand => puts_operand(code, place, taken, cell.at, ty),
+        Named::Variable { out, slot } => puts_variable(code, place, taken, cell.at, out, slot),
+    }
+}
+
+/// Tells whether a value is taken from one cell, where so many were taken before, and one is put into another.
+fn passes(
+    code: &Code,
+    place: usize,
+    before: usize,
+    from: Cell,
+    operand: Ty,
+    to: Cell,
+    ty: Ty,
+) -> bool
+    requires { (place + 1 < 2 ^ 64) × (before + 1 < 2 ^ 64) }
+    ensures { IsTrue result ↔ Takes from operand (drop before (stack_at code.now.kinds place)) (Puts code.now place to ty) }
+{
+    match taken(code, place, before, from, operand) {
+        Some(under) => puts(code, place, under, to, ty),
+        None => false,
+    }
+}
+
+/// Tells whether the two operands of an operator are taken, the right one first, and its result is put.
+fn passes_both(code: &Code, place: usize, op: Operator, left: Cell, right: Cell, to: Cell) -> bool
+    requires { place + 1 < 2 ^ 64 }
+    ensures { IsTrue result ↔ Takes right op.operands (stack_at code.now.kinds place) (λ below. Takes left op.operands below (Puts code.now place to op.result)) }
+{
+    match taken(code, place, 0, right, op.operands) {
+        Some(under) => passes(code, place, under, left, op.operands, to, op.result),
+        None => false,
+    }
+}
+
+/// Tells whether a value is taken from a cell, and the next place finds what is left.
+fn drops(code: &Code, place: usize, from: Cell, ty: Ty) -> bool
+    requires { place + 1 < 2 ^ 64 }
+    ensures { IsTrue result ↔ Takes from ty (stack_at code.now.kinds place) (Leads code.now (place + 1)) }
+{
+    match taken(code, place, 0, from, ty) {
+        Some(under) => leads_on(code, place, under, None),
+        None => false,
     }
 }
 
 // Instructions ---------------------------------------------------------------------------------
 
-/// Checks a constant: it is a value of the type that its operand has.
-fn is_push_fine(code: &Code, place: usize, cell: u64) -> bool
+/// Checks the entry of a block (RM 5.6).
+fn is_enter_fine(code: &Code, place: usize, slots: usize, length: usize) -> bool
     requires { place + 1 < 2 ^ 64 }
-    ensures { IsTrue result ↔ IsFine code.now place (I.Push cell) (stack_at code.now.kinds place) }
+    ensures { IsTrue result ↔ IsFine code.now place (I.Enter slots length) (stack_at code.now.kinds place) }
 {
-    match pushed(code, place) {
-        Some(ty) => is_cell_of(ty, cell),
-        None => false,
-    }
+    leads_on(code, place, 0, Some(Kind::Block(slots)))
+        && leads_ahead(code, place, 0, length)
+        && leads_behind(code, place, 0, length)
 }
 
-/// Checks the value of an elementary variable.
-fn is_read_fine(code: &Code, place: usize) -> bool
+/// Checks an operator whose right operand is a constant (RM 4.5).
+fn is_constant_fine(
+    code: &Code,
+    place: usize,
+    op: Operator,
+    left: Cell,
+    right: u64,
+    to: Cell,
+) -> bool
     requires { place + 1 < 2 ^ 64 }
-    ensures { IsTrue result ↔ ((ty : Ty) × IsScalar ty × Leads code.now (place + 1) (Operand ty ∷ stack_at code.now.kinds place)) }
+    ensures { IsTrue result ↔ IsFine code.now place (I.BinaryConstant op left right to) (stack_at code.now.kinds place) }
 {
-    match pushed(code, place) {
-        Some(ty) => is_scalar(ty),
-        None => false,
-    }
+    is_binary_of(op.op, op.operands, op.result)
+        && is_cell_of(op.operands, right)
+        && passes(code, place, 0, left, op.operands, to, op.result)
 }
 
-/// Checks an operator with one operand (RM 4.5.4, 4.5.6).
-fn is_unary_fine(code: &Code, place: usize, op: UnaryOp, ty: Ty) -> bool
+/// Checks the decision of a short-circuit form, and what follows where there is none (RM 4.5.1).
+fn is_undecided(code: &Code, place: usize, at: usize) -> bool
     requires { place + 1 < 2 ^ 64 }
-    ensures { IsTrue result ↔ IsFine code.now place (I.Unary op ty) (stack_at code.now.kinds place) }
+    ensures { IsTrue result ↔ Under (Operand Boolean ∷ []) (stack_at code.now.kinds place) (λ below. (at ≡ height below) × Leads code.now (place + 1) below) }
 {
-    is_unary_of(op, ty) && takes(code, place, ty, Some(Kind::Operand(ty)))
+    is_operand(code, place, 0, at, Ty::Boolean) && leads_on(code, place, 1, None)
 }
 
-/// Checks an operator with two operands of one type (RM 4.5).
-fn is_binary_fine(code: &Code, place: usize, op: BinaryOp, ty: Ty) -> bool
+/// Checks that a loop is given up (RM 5.7).
+fn is_abandon_fine(code: &Code, place: usize, length: usize) -> bool
     requires { place + 1 < 2 ^ 64 }
-    ensures { IsTrue result ↔ IsFine code.now place (I.Binary op ty) (stack_at code.now.kinds place) }
-{
-    match top_operand(code, place) {
-        Some(operand) => {
-            has(code, place, 1, Kind::Operand(operand))
-                && is_binary_of(op, operand, ty)
-                && leads_on(code, place, 2, Some(Kind::Operand(ty)))
-        }
-        None => false,
-    }
-}
-
-/// Checks an operator whose right operand, the value of a variable, is part of the instruction (RM 4.5).
-fn is_binary_variable_fine(code: &Code, place: usize, op: BinaryOp, ty: Ty) -> bool
-    requires { place + 1 < 2 ^ 64 }
-    ensures { IsTrue result ↔ TakesLeft code.now place op ty (stack_at code.now.kinds place) IsScalar }
-{
-    match top_operand(code, place) {
-        Some(operand) => is_binary_of(op, operand, ty)
-            && is_scalar(operand)
-            && leads_on(code, place, 1, Some(Kind::Operand(ty))),
-        None => false,
-    }
-}
-
-/// Checks an operator whose right operand is a constant, a value of the left one's type (RM 4.5).
-fn is_binary_constant_fine(code: &Code, place: usize, op: BinaryOp, ty: Ty, cell: u64) -> bool
-    requires { place + 1 < 2 ^ 64 }
-    ensures { IsTrue result ↔ IsFine code.now place (I.BinaryConstant op ty cell) (stack_at code.now.kinds place) }
-{
-    match top_operand(code, place) {
-        Some(operand) => is_binary_of(op, operand, ty)
-            && is_cell_of(operand, cell)
-            && leads_on(code, place, 1, Some(Kind::Operand(ty))),
-        None => false,
-    }
-}
-
-/// Checks the assignment of an elementary variable (RM 5.2).
-fn is_assign_fine(code: &Code, place: usize) -> bool
-    requires { place + 1 < 2 ^ 64 }
-    ensures { IsTrue result ↔ UnderScalar (stack_at code.now.kinds place) (λ ty below. Leads code.now (place + 1) below) }
-{
-    match top_operand(code, place) {
-        Some(operand) => is_scalar(operand) && leads_on(code, place, 1, None),
-        None => false,
-    }
-}
-
-/// Checks a condition, and where the execution goes on unless it holds (RM 5.3).
-fn is_unless_fine(code: &Code, place: usize, count: usize) -> bool
-    requires { place + 1 < 2 ^ 64 }
-    ensures { IsTrue result ↔ IsFine code.now place (I.Unless count) (stack_at code.now.kinds place) }
-{
-    takes(code, place, Ty::Boolean, None) && leads_ahead(code, place, 1, count)
-}
-
-/// Checks a loop with a parameter (RM 5.5).
-fn is_for_fine(code: &Code, place: usize, count: usize) -> bool
-    requires { place + 1 < 2 ^ 64 }
-    ensures { IsTrue result ↔ Under (Operand Integer ∷ Operand Integer ∷ []) (stack_at code.now.kinds place)
-        (λ below. Leads code.now (place + 1) (Counting ∷ below) × Leads code.now (place + 1 + count) below) }
+    ensures { IsTrue result ↔ IsFine code.now place (I.Abandon length) (stack_at code.now.kinds place) }
 {
     has(code, place, 0, Kind::Operand(Ty::Integer))
         && has(code, place, 1, Kind::Operand(Ty::Integer))
-        && leads_on(code, place, 2, Some(Kind::Counting))
-        && leads_ahead(code, place, 2, count)
+        && leads_ahead(code, place, 2, length)
+}
+
+/// Checks a condition, and where the execution goes on unless it holds (RM 5.3).
+fn is_unless_fine(code: &Code, place: usize, from: Cell, length: usize) -> bool
+    requires { place + 1 < 2 ^ 64 }
+    ensures { IsTrue result ↔ IsFine code.now place (I.Unless from length) (stack_at code.now.kinds place) }
+{
+    match taken(code, place, 0, from, Ty::Boolean) {
+        Some(under) => branches(code, place, under, length),
+        None => false,
+    }
+}
+
+/// Tells whether the bounds of a loop stand on top, the low one in this cell (RM 5.5).
+fn has_bounds(code: &Code, place: usize, low: usize) -> bool
+    ensures { let stack = stack_at code.now.kinds place in
+        IsTrue result ↔ ((stack ≡ Operand Integer ∷ Operand Integer ∷ drop 2 stack) × (low ≡ height (drop 2 stack))) }
+{
+    has(code, place, 0, Kind::Operand(Ty::Integer)) && is_operand(code, place, 1, low, Ty::Integer)
+}
+
+/// Tells whether the bounds of a loop stand on top, and its parameter is this cell (RM 5.5).
+fn is_bounded(code: &Code, place: usize, low: usize, slot: usize, parameter: usize) -> bool
+    ensures { let stack = stack_at code.now.kinds place in IsTrue result ↔ Bounded low slot parameter stack (λ below. below ≡ drop 2 stack) }
+{
+    has_bounds(code, place, low) && is_variable(code, place, 2, parameter, 0, slot)
+}
+
+/// Tells whether the first turn of a loop stands behind the next place, and what follows where the loop's length says (RM 5.5).
+fn leads_to_turn(code: &Code, place: usize, length: usize) -> bool
+    requires { place + 1 < 2 ^ 64 }
+    ensures { let stack = stack_at code.now.kinds place in
+        IsTrue result ↔ (Leads code.now (place + 2) stack × Leads code.now (place + 1 + length) (drop 2 stack)) }
+{
+    leads_behind(code, place, 0, 0) && leads_ahead(code, place, 2, length)
+}
+
+/// Tells whether the next turn of a loop stands so many instructions back, and what follows at the next place (RM 5.5).
+fn leads_back_to_turn(code: &Code, place: usize, length: usize) -> bool
+    requires { place + 1 < 2 ^ 64 }
+    ensures { let stack = stack_at code.now.kinds place in
+        IsTrue result ↔ (((length ≤ place) × Leads code.now (place - length) stack) × Leads code.now (place + 1) (drop 2 stack)) }
+{
+    leads_back(code, place, length) && leads_on(code, place, 2, None)
+}
+
+/// Checks a loop with a parameter: its bounds, its first turn, and what follows (RM 5.5).
+fn is_for_fine(
+    code: &Code,
+    place: usize,
+    low: usize,
+    slot: usize,
+    parameter: usize,
+    length: usize,
+) -> bool
+    requires { place + 1 < 2 ^ 64 }
+    ensures { let stack = stack_at code.now.kinds place in
+        IsTrue result ↔ Bounded low slot parameter stack (λ below. Leads code.now (place + 2) stack × Leads code.now (place + 1 + length) below) }
+{
+    is_bounded(code, place, low, slot, parameter) && leads_to_turn(code, place, length)
 }
 
 /// Checks the next turn of such a loop (RM 5.5).
-fn is_next_fine(code: &Code, place: usize, count: usize) -> bool
-    ensures { IsTrue result ↔ IsFine code.now place (I.Next count) (stack_at code.now.kinds place) }
+fn is_next_fine(
+    code: &Code,
+    place: usize,
+    low: usize,
+    slot: usize,
+    parameter: usize,
+    length: usize,
+) -> bool
+    requires { place + 1 < 2 ^ 64 }
+    ensures { let stack = stack_at code.now.kinds place in
+        IsTrue result ↔ ((length ≤ place) × Bounded low slot parameter stack (λ below. Leads code.now (place - length) stack × Leads code.now (place + 1) below)) }
 {
-    has(code, place, 0, Kind::Counting) && leads_back(code, place, count)
+    is_bounded(code, place, low, slot, parameter) && leads_back_to_turn(code, place, length)
+}
+
+/// Tells whether so many images stand over so many cells, and the next place finds what is left.
+fn drops_images(code: &Code, place: usize, images: usize, first: usize) -> bool
+    requires { place + 1 < 2 ^ 64 }
+    ensures { let below = drop images (stack_at code.now.kinds place) in IsTrue result ↔ ((first ≡ height below) × Leads code.now (place + 1) below) }
+{
+    code.kinds.height_at(place, images) == first && leads_on(code, place, images, None)
 }
 
 /// Checks the text of a number (RM 4.5.3).
-fn is_text_fine(code: &Code, place: usize, number: usize) -> bool
+fn is_text_fine(code: &Code, place: usize, number: usize, first: usize) -> bool
     requires { place + 1 < 2 ^ 64 }
-    ensures { IsTrue result ↔ IsText code.now number (stack_at code.now.kinds place) (Leads code.now (place + 1)) }
+    ensures { IsTrue result ↔ IsText code.now number first (stack_at code.now.kinds place) (Leads code.now (place + 1)) }
 {
     match code.texts.get(number) {
         Some(text) => {
             let parts = text.parts();
-            code.kinds.has_images(place, parts) && leads_on(code, place, count_images(parts), None)
+            code.kinds.has_images(place, parts)
+                && drops_images(code, place, count_images(parts), first)
         }
         None => false,
     }
@@ -239,7 +382,77 @@ fn is_text_fine(code: &Code, place: usize, number: usize) -> bool
 fn is_at_end(code: &Code, place: usize) -> bool
     ensures { IsTrue result ↔ IsAtEnd (stack_at code.now.kinds place) }
 {
-    matches!(code.kinds.kind_at(place, 0), None | Some(Kind::Block))
+    matches!(
+        code.kinds.kind_at(place, 0),
+        Some(Kind::Block(_) | Kind::Body { .. })
+    )
+}
+
+/// Tells whether nothing stands before an instruction.
+fn is_bare(code: &Code, place: usize) -> bool
+    ensures { IsTrue result ↔ (stack_at code.now.kinds place ≡ []) }
+{
+    matches!(code.kinds.kind_at(place, 0), None)
+}
+
+/// Checks the declaration of an object (RM 3.3.1).
+fn is_declare_fine(code: &Code, place: usize, number: usize) -> bool
+    requires { place + 1 < 2 ^ 64 }
+    ensures { let stack = stack_at code.now.kinds place in
+        IsTrue result ↔ (IsDeclarable code.now (depth stack) number × Leads code.now (place + 1) stack) }
+{
+    is_declarable(code, code.kinds.depth_at(place), number) && leads_on(code, place, 0, None)
+}
+
+/// Checks an operator with two operands (RM 4.5).
+fn is_binary_fine(code: &Code, place: usize, instr: &Instr) -> bool
+    requires { place + 1 < 2 ^ 64 }
+    ensures both { (op : Operator) (left right to : Cell) → instr.now ≡ I.Binary op left right to → IsTrue result ↔ IsFine code.now place instr.now (stack_at code.now.kinds place) }
+    ensures constant { (op : Operator) (left : Cell) (right : ℕ) (to : Cell) → instr.now ≡ I.BinaryConstant op left right to → IsTrue result ↔ IsFine code.now place instr.now (stack_at code.now.kinds place) }
+{
+    match *instr {
+        Instr::Binary {
+            op,
+            left,
+            right,
+            to,
+        } => {
+            is_binary_of(op.op, op.operands, op.result)
+                && passes_both(code, place, op, left, right, to)
+        }
+        Instr::BinaryConstant {
+            op,
+            left,
+            right,
+            to,
+        } => is_constant_fine(code, place, op, left, right, to),
+        _ => false,
+    }
+}
+
+/// Checks a loop with a parameter, or its next turn (RM 5.5).
+fn is_loop_fine(code: &Code, place: usize, instr: &Instr) -> bool
+    requires { place + 1 < 2 ^ 64 }
+    ensures first { (low slot parameter : ℕ) (way : Direction) (length : ℕ) → instr.now ≡ I.For low slot parameter way length → IsTrue result ↔ IsFine code.now place instr.now (stack_at code.now.kinds place) }
+    ensures next { (low slot parameter : ℕ) (way : Direction) (length : ℕ) → instr.now ≡ I.Next low slot parameter way length → IsTrue result ↔ IsFine code.now place instr.now (stack_at code.now.kinds place) }
+{
+    match *instr {
+        Instr::For {
+            low,
+            slot,
+            parameter,
+            way: _,
+            length,
+        } => is_for_fine(code, place, low, slot, parameter, length),
+        Instr::Next {
+            low,
+            slot,
+            parameter,
+            way: _,
+            length,
+        } => is_next_fine(code, place, low, slot, parameter, length),
+        _ => false,
+    }
 }
 
 /// Tells whether the instruction is well formed where it stands.
@@ -248,31 +461,28 @@ pub fn is_fine(code: &Code, place: usize, instr: &Instr) -> bool
     ensures { IsTrue result ↔ IsFine code.now place instr.now (stack_at code.now.kinds place) }
 {
     match *instr {
-        Instr::Start(entry) => is_entry(code, entry),
-        Instr::Enter(_, count) => enters(code, place, Kind::Block, count),
-        Instr::Declare(_, record) => is_record(code, record) && leads_on(code, place, 0, None),
-        Instr::DeclareScalar(_, ty) => is_scalar(ty) && leads_on(code, place, 0, None),
-        Instr::DeclareValue(_, ty) => is_scalar(ty) && takes(code, place, ty, None),
-        Instr::Push(cell) => is_push_fine(code, place, cell),
-        Instr::Read(_) => is_read_fine(code, place),
-        Instr::Assign(_) => is_assign_fine(code, place),
-        Instr::Unary(op, ty) => is_unary_fine(code, place, op, ty),
-        Instr::Binary(op, ty) => is_binary_fine(code, place, op, ty),
-        Instr::BinaryVariable(op, ty, _) => is_binary_variable_fine(code, place, op, ty),
-        Instr::BinaryConstant(op, ty, cell) => is_binary_constant_fine(code, place, op, ty, cell),
-        Instr::Decide(_, count) => leads_ahead(code, place, 0, count)
-            && takes(code, place, Ty::Boolean, None),
-        Instr::Skip(count) => leads_ahead(code, place, 0, count),
-        Instr::Unless(count) => is_unless_fine(code, place, count),
-        Instr::Loop(count) => enters(code, place, Kind::Loop, count),
-        Instr::Repeat(count) => leads_back(code, place, count),
-        Instr::For(_, _, count) => is_for_fine(code, place, count),
-        Instr::Next(count) => is_next_fine(code, place, count),
-        Instr::Exit => true,
-        Instr::ExitWhen | Instr::ExitUnless => takes(code, place, Ty::Boolean, None),
-        Instr::Put(text) | Instr::PutLine(text) => is_text_fine(code, place, text),
-        Instr::NewLine => leads_on(code, place, 0, None),
-        Instr::Leave => is_at_end(code, place),
+        Instr::Start(entry) => is_bare(code, place) && is_in_scope(code, 0, Some(entry)),
+        Instr::Enter { slots, length } => is_enter_fine(code, place, slots, length),
+        Instr::Leave | Instr::Exit => is_at_end(code, place),
+        Instr::Declare { slot: _, record } => is_declare_fine(code, place, record),
+        Instr::Number | Instr::NewLine => leads_on(code, place, 0, None),
+        Instr::Set { value, ty, to } => is_cell_of(ty, value) && puts(code, place, 0, to, ty),
+        Instr::Move { from, ty, to } => is_scalar(ty) && passes(code, place, 0, from, ty, to, ty),
+        Instr::Fetch { ty, to, .. } => is_scalar(ty) && puts(code, place, 0, to, ty),
+        Instr::Store { from, ty, .. } => is_scalar(ty) && drops(code, place, from, ty),
+        Instr::Unary { op, ty, from, to } => is_unary_of(op, ty)
+            && passes(code, place, 0, from, ty, to, ty),
+        Instr::Binary { .. } | Instr::BinaryConstant { .. } => is_binary_fine(code, place, instr),
+        Instr::Decide { at, length, .. } => leads_ahead(code, place, 0, length)
+            && is_undecided(code, place, at),
+        Instr::Skip(length) => leads_ahead(code, place, 0, length),
+        Instr::Back(length) => leads_back(code, place, length),
+        Instr::Abandon(length) => is_abandon_fine(code, place, length),
+        Instr::Unless { from, length } => is_unless_fine(code, place, from, length),
+        Instr::For { .. } | Instr::Next { .. } => is_loop_fine(code, place, instr),
+        Instr::Put { text, first } | Instr::PutLine { text, first } => is_text_fine(
+            code, place, text, first,
+        ),
         Instr::Missing => false,
     }
 }

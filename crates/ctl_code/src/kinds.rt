@@ -1,9 +1,10 @@
-//! What stands on the machine's stacks before each instruction.
+//! What stands in the windows of the machine before each instruction.
 
-ghost use Rattle.std.specs.Prelude.{◌≡◌, ◌↔◌, [], ◌∷◌, ◌++◌, drop, length, reverse, slice_get, IsTrue, OnOk, MatchOption, List, Some};
+ghost use Rattle.std.specs.Prelude.{◌≡◌, ◌↔◌, ℕ, ◌≤◌, [], ◌∷◌, ◌++◌, drop, length, reverse, slice_get, IsTrue, OnOk, MatchOption, List, Some};
 ghost use Rattle.ctl_code.specs.declared.kinds.Kind.{Kind};
 ghost use Rattle.ctl_code.specs.Kinds.{below_newest, changed, stack_at, stack_in, stacks_in};
 ghost use Rattle.ctl_code.specs.Valid.{images_of};
+ghost use Rattle.ctl_code.specs.Windows.{depth, height, variable_at};
 
 use crate::images::has_images_on;
 use crate::stacks::Stacks;
@@ -13,17 +14,15 @@ use ctl_program::types::Ty;
 use std::alloc::{AllocError, Global};
 use std::marker::Model;
 
-/// What stands on the stacks: an operand, or a construct that was entered and is not left.
+/// What stands in a window: an operand in one cell, or the cells of the slots of a master that was entered and is not left.
 #[derive(Clone, Copy)]
 pub enum Kind {
     /// an operand of this type
     Operand(Ty),
-    /// a block (RM 5.6)
-    Block,
-    /// a loop without a parameter (RM 5.5)
-    Loop,
-    /// a loop with a parameter (RM 5.5)
-    Counting,
+    /// a block with so many slots (RM 5.6)
+    Block(usize),
+    /// a body: how many masters stand around its declaration, and how many slots it has
+    Body { level: usize, slots: usize },
 }
 
 /// Tells whether both are one kind.
@@ -32,9 +31,10 @@ pub fn is_same_kind(left: Kind, right: Kind) -> bool
 {
     match left {
         Kind::Operand(ty) => matches!(right, Kind::Operand(other) if is_same_type(ty, other)),
-        Kind::Block => matches!(right, Kind::Block),
-        Kind::Loop => matches!(right, Kind::Loop),
-        Kind::Counting => matches!(right, Kind::Counting),
+        Kind::Block(slots) => matches!(right, Kind::Block(other) if other == slots),
+        Kind::Body { level, slots } => {
+            matches!(right, Kind::Body { level: other, slots: others } if other == level && others == slots)
+        }
     }
 }
 
@@ -46,6 +46,36 @@ fn number_at(before: &[usize], place: usize) -> usize
         Some(number) => *number,
         None => 0,
     }
+}
+
+/// Answers the number of what stands before the instruction at a place, under so many newer ones.
+fn number_under(stacks: &Stacks, before: &[usize], place: usize, under: usize) -> usize
+    ensures { stack_in stacks.now result ≡ drop under (stack_at (stacks_in stacks.now before.now) place) }
+{
+    stacks.without(number_at(before, place), under)
+}
+
+/// Answers how many cells the highest of these stacks has.
+fn greatest_height(stacks: &Stacks, before: &[usize]) -> usize
+    ensures { (place number : ℕ) → slice_get before.now place ≡ Some number → height (stack_in stacks.now number) ≤ result }
+{
+    let mut greatest = 0;
+    for number in before {
+        greatest = stacks.height(*number).max(greatest);
+    }
+    greatest
+}
+
+/// Tells whether each of these stacks has at most so many cells.
+fn are_at_most(stacks: &Stacks, before: &[usize], room: usize) -> bool
+    ensures { IsTrue result ↔ ((place number : ℕ) → slice_get before.now place ≡ Some number → height (stack_in stacks.now number) ≤ room) }
+{
+    for number in before {
+        if stacks.height(*number) > room {
+            return false;
+        }
+    }
+    true
 }
 
 /// The table of kinds: what stands on the stacks before each instruction of a body, the newest first.
@@ -79,11 +109,43 @@ impl Kinds {
     pub fn kind_at(&self, place: usize, depth: usize) -> Option<Kind>
         ensures { result ≡ slice_get (stack_at self.now place) depth }
     {
-        let stack = number_at(self.before.as_slice(), place);
-        match self.stacks.top(self.stacks.without(stack, depth)) {
+        let stack = number_under(&self.stacks, self.before.as_slice(), place, depth);
+        match self.stacks.top(stack) {
             Some((kind, _)) => Some(kind),
             None => None,
         }
+    }
+
+    /// Answers how many cells of a window are in use before the instruction at a place, under so many newer ones.
+    pub fn height_at(&self, place: usize, under: usize) -> usize
+        ensures { result ≡ height (drop under (stack_at self.now place)) }
+    {
+        let stack = number_under(&self.stacks, self.before.as_slice(), place, under);
+        self.stacks.height(stack)
+    }
+
+    /// Answers the cell of a slot of the master so many further out, before the instruction at a place, under so many newer ones; None
+    /// where the body has none there.
+    pub fn variable_at(&self, place: usize, under: usize, out: usize, slot: usize) -> Option<usize>
+        ensures { result ≡ variable_at (drop under (stack_at self.now place)) out slot }
+    {
+        let stack = number_under(&self.stacks, self.before.as_slice(), place, under);
+        self.stacks.variable_at(stack, out, slot)
+    }
+
+    /// Answers how many masters stand around the instruction at a place.
+    pub fn depth_at(&self, place: usize) -> usize
+        ensures { result ≡ depth (stack_at self.now place) }
+    {
+        let stack = number_under(&self.stacks, self.before.as_slice(), place, 0);
+        self.stacks.depth(stack)
+    }
+
+    /// Tells whether a window with so many cells is enough before each instruction.
+    pub fn is_room(&self, room: usize) -> bool
+        ensures { IsTrue result ↔ ((place : ℕ) (stack : List Kind) → slice_get self.now place ≡ Some stack → height stack ≤ room) }
+    {
+        are_at_most(&self.stacks, self.before.as_slice(), room)
     }
 
     /// Tells whether what an instruction makes of the stack before one place stands before another: it takes so many of the newest, and
@@ -106,6 +168,16 @@ impl Kinds {
     {
         match self.before.get(place) {
             Some(stack) => self.stacks.top(*stack).is_none(),
+            None => false,
+        }
+    }
+
+    /// Tells whether this alone stands before the instruction at a place of the table.
+    pub fn stands_alone(&self, place: usize, kind: Kind) -> bool
+        ensures { IsTrue result ↔ (slice_get self.now place ≡ Some (kind ∷ [])) }
+    {
+        match self.before.get(place) {
+            Some(stack) => self.stacks.is_with_top(*stack, Some(kind), 0),
             None => false,
         }
     }
@@ -178,6 +250,34 @@ impl KindNotes {
     {
         self.before.push(self.standing)?;
         Ok(())
+    }
+
+    /// Answers how many cells of a window are in use now.
+    pub fn height(&self) -> usize
+        ensures { result ≡ height self.now.standing }
+    {
+        self.stacks.height(self.standing)
+    }
+
+    /// Answers how many masters stand around now.
+    pub fn depth(&self) -> usize
+        ensures { result ≡ depth self.now.standing }
+    {
+        self.stacks.depth(self.standing)
+    }
+
+    /// Answers the cell of a slot of the master so many further out than the newest; None where the body has none there.
+    pub fn variable_at(&self, out: usize, slot: usize) -> Option<usize>
+        ensures { result ≡ variable_at self.now.standing out slot }
+    {
+        self.stacks.variable_at(self.standing, out, slot)
+    }
+
+    /// Answers how many cells a window has at most before the instructions so far.
+    pub fn room(&self) -> usize
+        ensures { (place : ℕ) (stack : List Kind) → slice_get self.now.before place ≡ Some stack → height stack ≤ result }
+    {
+        greatest_height(&self.stacks, self.before.as_slice())
     }
 
     /// Answers the table.

@@ -1,27 +1,35 @@
 //! What holds of every run of every code.
 
-ghost use Rattle.ctl_code.specs.Laws.{IsSmall, IsLogged};
+ghost use Rattle.ctl_code.specs.Laws.{ChoosesByOrder, IsSmall, IsLogged};
 ghost use Rattle.ctl_code.specs.Fits.{KeepsToItsCode};
 
 use crate::code::Code;
 use crate::valid::ValidCode;
 
-/// A step shows at most two events, opens at most one master and takes at most one object number.
+/// Says that a step shows at most two events, opens at most one master and takes at most one object number.
 pub fn every_step_is_small(code: &Code)
     ensures { IsSmall code.now }
 {
     let _ = code;
 }
 
-/// What a run has shown only grows, its picks obey the order, a step takes at most one of them, and another order that these
-/// picks obey gives the same run.
+/// Says that what a run has shown only grows, that its picks obey the order, that a step takes at most one of them, and that another
+/// order that these picks obey gives the same run.
 pub fn every_run_is_logged(code: &Code)
     ensures { IsLogged code.now }
 {
     let _ = code;
 }
 
-/// Valid code is never stuck: each instruction finds the operands, the place and the frame that it needs.
+/// Says that a choice, among however many candidates, is made by the order: its answer is noted with their number, and the step is made
+/// with it.
+pub fn every_choice_is_by_order(code: &Code)
+    ensures { ChoosesByOrder code.now }
+{
+    let _ = code;
+}
+
+/// Says that valid code is never stuck: each instruction finds the operands, the place and the frame that it needs.
 pub fn valid_code_keeps_to_its_code(code: &ValidCode)
     ensures { KeepsToItsCode code.now }
 {

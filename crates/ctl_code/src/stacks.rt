@@ -1,17 +1,55 @@
 //! Stacks that share what is below their newest: a stack is a number, 0 the empty one.
 
-ghost use Rattle.std.specs.Prelude.{◌≡◌, ◌↔◌, ◌<◌, ◌≤◌, [], ◌∷◌, ◌++◌, drop, length, IsTrue, IfSome, MatchOption, OnErr, OnOk};
+ghost use Rattle.std.specs.Prelude.{◌≡◌, ◌↔◌, ◌+◌, ◌-◌, ◌<◌, ◌≤◌, ◌^◌, [], ◌∷◌, ◌++◌, drop, length, List, IsTrue, IfSome, MatchOption, OnErr, OnOk};
+ghost use Rattle.ctl_code.specs.declared.kinds.Kind.{Kind};
 ghost use Rattle.ctl_code.specs.Kinds.{stack_in, with_top};
+ghost use Rattle.ctl_code.specs.Windows.{depth, height, slot_over, variable_at};
 
 use crate::kinds::{Kind, is_same_kind};
 use std::alloc::{AllocError, Global};
 use std::marker::Model;
 
-/// What is newest on a stack, and the stack below it.
+/// What is newest on a stack, the stack below it, and how many cells and masters both have.
 #[derive(Clone, Copy)]
 struct Link {
     kind: Kind,
     below: usize,
+    height: usize,
+    depth: usize,
+}
+
+/// Answers how many cells there are with this above so many; None where no number says it.
+fn height_with(kind: Kind, below: usize) -> Option<usize>
+    ensures { IfSome result (λ sum. (stack : List Kind) → below ≡ height stack → sum ≡ height (kind ∷ stack)) }
+{
+    match kind {
+        Kind::Operand(_) => below.checked_add(1),
+        Kind::Block(slots) => below.checked_add(slots),
+        Kind::Body { level: _, slots } => below.checked_add(slots),
+    }
+}
+
+/// Answers how many masters stand there with this inside so many; None where no number says it.
+fn depth_with(kind: Kind, below: usize) -> Option<usize>
+    ensures { IfSome result (λ sum. (stack : List Kind) → below ≡ depth stack → sum ≡ depth (kind ∷ stack)) }
+{
+    match kind {
+        Kind::Operand(_) => Some(below),
+        Kind::Block(_) => below.checked_add(1),
+        Kind::Body { level, slots: _ } => level.checked_add(1),
+    }
+}
+
+/// Answers the cell of a slot, the newest of whose master is below this height.
+fn slot_below(height: usize, slots: usize, slot: usize) -> Option<usize>
+    requires { slots ≤ height }
+    ensures { result ≡ slot_over (height - slots) slots slot }
+{
+    if slot < slots {
+        Some(height - slots + slot)
+    } else {
+        None
+    }
 }
 
 /// All stacks that were made.
@@ -26,13 +64,13 @@ pub struct Stacks {
 impl Model for Stacks {
     ghost use Rattle.std.specs.Prelude.{List, []};
     ghost use Rattle.ctl_code.specs.declared.kinds.Kind.{Kind};
-    ghost use Rattle.ctl_code.specs.Stacks.{stacks_over, LeadDown};
+    ghost use Rattle.ctl_code.specs.Stacks.{stacks_over, AreMeasured, LeadDown};
 
     ghost Value = { List (List Kind) };
 
     ghost view = { λ s. stacks_over [] s.links.items };
 
-    ghost invariant = { λ s. LeadDown s.links.items };
+    ghost invariant = { λ s. LeadDown s.links.items × AreMeasured s.links.items };
 }
 
 impl Stacks {
@@ -52,14 +90,36 @@ impl Stacks {
         self.links.len()
     }
 
-    /// Adds a stack: this kind on one that was made; unchanged where memory is refused. The numbers of the others stay.
+    /// Adds a stack: this kind on one that was made; unchanged where memory is refused, and where it would be too high for any memory.
+    /// The numbers of the others stay.
     pub fn push(&mut self, kind: Kind, below: usize) -> Result<(), AllocError>
         requires { below ≤ length self.old }
         ensures ok { OnOk result (self.new ≡ self.old ++ (kind ∷ stack_in self.old below) ∷ []) }
         ensures err { OnErr result (self.new ≡ self.old) }
     {
-        self.links.push(Link { kind, below })?;
+        let Some(height) = height_with(kind, self.height(below)) else {
+            return Err(AllocError);
+        };
+        let Some(depth) = depth_with(kind, self.depth(below)) else {
+            return Err(AllocError);
+        };
+        self.links.push(Link {
+            kind,
+            below,
+            height,
+            depth,
+        })?;
         Ok(())
+    }
+
+    /// Answers the link to what is newest on a stack; None where nothing stands on it.
+    fn link(&self, stack: usize) -> Option<Link>
+        ensures top { MatchOption result (stack_in self.now stack ≡ []) (λ link. stack_in self.now stack ≡ link.kind ∷ stack_in self.now link.below) }
+        ensures below { IfSome result (λ link. link.below < stack) }
+        ensures measures { IfSome result (λ link. (link.height ≡ height (stack_in self.now stack)) × (link.depth ≡ depth (stack_in self.now stack))) }
+    {
+        let link = self.links.get(stack.checked_sub(1)?)?;
+        Some(*link)
     }
 
     /// Answers what is newest on a stack, and the stack below it; None where nothing stands on it.
@@ -67,8 +127,47 @@ impl Stacks {
         ensures top { MatchOption result (stack_in self.now stack ≡ []) (λ top. stack_in self.now stack ≡ top.0 ∷ stack_in self.now top.1) }
         ensures below { IfSome result (λ top. top.1 < stack) }
     {
-        let link = self.links.get(stack.checked_sub(1)?)?;
+        let link = self.link(stack)?;
         Some((link.kind, link.below))
+    }
+
+    /// Answers how many cells a stack has.
+    pub fn height(&self, stack: usize) -> usize
+        ensures { result ≡ height (stack_in self.now stack) }
+    {
+        match self.link(stack) {
+            Some(link) => link.height,
+            None => 0,
+        }
+    }
+
+    /// Answers how many masters stand around a place in the newest of a stack, itself included.
+    pub fn depth(&self, stack: usize) -> usize
+        ensures { result ≡ depth (stack_in self.now stack) }
+    {
+        match self.link(stack) {
+            Some(link) => link.depth,
+            None => 0,
+        }
+    }
+
+    /// Answers the cell of a slot of the master so many further out than the newest; None where the body has none there.
+    pub fn variable_at(&self, stack: usize, out: usize, slot: usize) -> Option<usize>
+        ensures { result ≡ variable_at (stack_in self.now stack) out slot }
+    {
+        let (mut left, mut out) = (stack, out);
+        while let Some(link) = self.link(left) {
+            match link.kind {
+                Kind::Block(slots) | Kind::Body { level: _, slots } if out == 0 => {
+                    return slot_below(link.height, slots, slot);
+                }
+                Kind::Operand(_) => {}
+                Kind::Block(_) => out -= 1,
+                Kind::Body { .. } => return None,
+            }
+            left = link.below;
+        }
+        None
     }
 
     /// Answers the stack without so many of its newest.

@@ -39,6 +39,7 @@ impl Code {
     /// Answers the same code, where it is well formed; None where it is not.
     pub fn validate(self) -> Option<ValidCode>
         ensures same { IfSome result (λ valid. valid ≡ self) }
+        ensures valid { IfSome result IsValid }
         ensures refused { IsNone result → IsValid self → ⊥ }
     {
         if is_valid(&self) {

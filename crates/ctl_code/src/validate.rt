@@ -1,14 +1,17 @@
 //! Whether code is well formed: each of its instructions, and each entry of its tables.
 
-ghost use Rattle.std.specs.Prelude.{◌≡◌, ◌↔◌, ℕ, [], length, slice_get, IsTrue, Some};
+ghost use Rattle.std.specs.Prelude.{◌≡◌, ◌↔◌, ℕ, ◌≤◌, length, slice_get, IsTrue, List, Some};
+ghost use Rattle.ctl_code.specs.declared.kinds.Kind.{Kind};
+ghost use Rattle.ctl_code.specs.Windows.{height};
 ghost use Rattle.ctl_code.specs.declared.code.Entry.{Entry};
 ghost use Rattle.ctl_code.specs.declared.code.Instr.{Instr};
 ghost use Rattle.ctl_code.specs.declared.code.Operations.{Operations};
 ghost use Rattle.ctl_code.specs.Kinds.{stack_at};
-ghost use Rattle.ctl_code.specs.Valid.{IsFine, IsValid, Leads, MayBeEntry};
+ghost use Rattle.ctl_code.specs.Valid.{IsBegun, IsFine, IsStarted, IsValid, MayBeEntry, TakesObject};
 
-use crate::code::Code;
+use crate::code::{Code, Instr};
 use crate::fine::{is_entry, is_fine};
+use crate::kinds::Kind;
 
 /// Tells whether each instruction is well formed where it stands.
 fn are_instructions_fine(code: &Code) -> bool
@@ -22,12 +25,16 @@ fn are_instructions_fine(code: &Code) -> bool
     true
 }
 
-/// Tells whether each body begins at a place of the code, with nothing on its stack.
+/// Tells whether each body begins at a place of the code where its slots stand.
 fn are_entries_fine(code: &Code) -> bool
-    ensures { IsTrue result ↔ ((f : ℕ) (e : Entry) → slice_get code.now.entries.items f ≡ Some e → Leads code.now e.place []) }
+    ensures { IsTrue result ↔ ((f : ℕ) (e : Entry) → slice_get code.now.entries.items f ≡ Some e → IsBegun code.now e) }
 {
     for entry in &code.entries {
-        if !code.kinds.is_bare_at(entry.place) {
+        let body = Kind::Body {
+            level: entry.level,
+            slots: entry.slots,
+        };
+        if !code.kinds.stands_alone(entry.place, body) {
             return false;
         }
     }
@@ -56,18 +63,56 @@ fn are_records_fine(code: &Code) -> bool
     true
 }
 
-/// Tells whether each instruction has its stack, and the first one an empty one.
-fn are_stacks_fine(code: &Code) -> bool
-    ensures { IsTrue result ↔ ((length code.now.kinds ≡ length code.now.instructions.items) × Leads code.now 0 []) }
+/// Tells whether there is no operation, or one whose body has a slot for the object that it is called for.
+fn takes_object(code: &Code, number: Option<usize>) -> bool
+    ensures { IsTrue result ↔ TakesObject code.now number }
 {
-    code.kinds.len() == code.instructions.len() && code.kinds.is_bare_at(0)
+    let Some(number) = number else {
+        return true;
+    };
+    match code.entries.get(number) {
+        Some(entry) => entry.slots >= 1,
+        None => false,
+    }
+}
+
+/// Tells whether each operation of a record type has a slot for its object (RM 7.6).
+fn are_formals_fine(code: &Code) -> bool
+    ensures { IsTrue result ↔ ((t : ℕ) (o : Operations) → slice_get code.now.records.items t ≡ Some o → TakesObject code.now o.initialize × TakesObject code.now o.finalize) }
+{
+    for operations in &code.records {
+        if !takes_object(code, operations.initialize) || !takes_object(code, operations.finalize) {
+            return false;
+        }
+    }
+    true
+}
+
+/// Tells whether the first instruction executes the main procedure, and nothing stands before it.
+fn is_started(code: &Code) -> bool
+    ensures { IsTrue result ↔ IsStarted code.now }
+{
+    match code.instructions.first() {
+        Some(Instr::Start(_)) => code.kinds.is_bare_at(0),
+        _ => false,
+    }
+}
+
+/// Tells whether each instruction has its stack, for which there is room.
+fn are_stacks_fine(code: &Code) -> bool
+    ensures { IsTrue result ↔ ((length code.now.kinds ≡ length code.now.instructions.items) × ((place : ℕ) (stack : List Kind) → slice_get code.now.kinds place ≡ Some stack → height stack ≤ code.now.room)) }
+{
+    code.kinds.len() == code.instructions.len() && code.kinds.is_room(code.room)
 }
 
 /// Tells whether the code is well formed.
 pub fn is_valid(code: &Code) -> bool
     ensures { IsTrue result ↔ IsValid code.now }
 {
-    if !are_stacks_fine(code) || !are_instructions_fine(code) {
+    if !is_started(code) || !are_stacks_fine(code) || !are_instructions_fine(code) {
+        return false;
+    }
+    if !are_formals_fine(code) {
         return false;
     }
     are_entries_fine(code) && are_records_fine(code)

@@ -1,76 +1,81 @@
 -- Statements under a condition (5.3).
-use Rattle.std.proofs.Common.{◌≡◌, ℕ, ◌+◌, ◌≤◌, List, [], ◌∷◌, length, Bool, true, false, refl, sym, ap, ◌∙◌, subst, arith, length-append}
+use Rattle.std.proofs.Common.{◌≡◌, ℕ, ◌+◌, ◌≤◌, List, [], ◌∷◌, ◌++◌, length, Bool, true, false, refl, sym, ap, ◌∙◌, subst, arith, length-append}
 use Rattle.std.specs.Prelude.{if◌then◌else◌}
+use Rattle.ctl_program.specs.declared.types.Ty.TheVariants.{Boolean}
 use Rattle.ctl_meaning.specs.World.{Log, World}
 use Rattle.ctl_meaning.specs.Lists.{opened_lists}
 use Rattle.ctl_meaning.specs.Choice.{Ask}
-use Rattle.ctl_meaning.specs.Outcome.{constraint_error, ByRaise, Result, Goes, Leaves, Act, Done, bind, on_goes, either, opened_outcome}
+use Rattle.ctl_meaning.specs.Outcome.{ByExit, ByReturn, ByRaise, Result, Goes, Leaves, Act, Done, on_goes, either, opened_outcome}
 use Rattle.ctl_meaning.specs.Numbers.{is_true}
 use Rattle.ctl_meaning.specs.Types.{Tables}
-use Rattle.ctl_meaning.specs.Names.{Call, Default, Tools, scalar_of}
+use Rattle.ctl_meaning.specs.Names.{scalar_of}
 use Rattle.ctl_meaning.specs.Statements.{scalar}
-use Rattle.ctl_code.specs.declared.code.Instr.{Instr}
 use Rattle.ctl_code.specs.declared.code.Instr.TheVariants as InstrOf
 use Rattle.ctl_code.specs.declared.code.Code.{Code}
-use Rattle.ctl_code.specs.States.{Frame}
+use Rattle.ctl_code.specs.States.{Frame, State}
 use Rattle.ctl_code.specs.Steps.{step, steps}
-use Rattle.ctl_gen.specs.Layout.{guarded_turn}
-use Rattle.ctl_gen.specs.Values.{ValueCode}
-use Rattle.ctl_gen.proofs.Place.{HasAt, has_front, has_back}
-use Rattle.ctl_gen.proofs.Worlds.{Fits}
-use Rattle.ctl_gen.proofs.Setting.{tools_with, by_code}
-use Rattle.ctl_gen.proofs.Operands.{Stands}
-use Rattle.ctl_gen.proofs.Worth.{both_plain}
-use Rattle.ctl_gen.proofs.Expressions.{values, First, Value}
+use Rattle.ctl_gen.specs.Around.{Line, Around, behind}
+use Rattle.ctl_gen.specs.Values.{ValueCode, held}
+use Rattle.ctl_gen.specs.Layout.{test_code, test_length}
+use Rattle.ctl_gen.proofs.Place.{Laid, laid_front, laid_back}
+use Rattle.ctl_gen.proofs.Worlds.{Since, Kept}
+use Rattle.ctl_gen.proofs.Setting.{Sees}
+use Rattle.ctl_gen.proofs.Expressions.{Value}
+use Rattle.ctl_gen.proofs.Loops.{test_runs}
 use Rattle.ctl_gen.proofs.Does.{Does}
-use Rattle.ctl_gen.proofs.Follow.{Runs, at, arrives, added, one_step, no_step, further, bind_add}
+use Rattle.ctl_gen.proofs.Follow.{Runs, Landing, landing_of, landing_further, at, arrives, one_step, no_step, further}
 
-module _ (ask : Ask) (k : Tables) (code : Code) (call : Call) (default : Default) (bound : ℕ) where
-  abbrev K : Tools
-  K = tools_with ask k call default
-
+module _ (ask : Ask) (k : Tables) (code : Code) (bound : ℕ) where
   -- what leads from the end of an arm behind the whole, in two steps at most
   abbrev pub Ends : List ℕ → ℕ → ℕ → List Frame → List ℕ → Type 0
-  Ends v place behind ks ops = (l : Log) (w : World) → (i : ℕ) × (i ≤ 2) × (steps ask code i (at v place ks ops l w) ≡ at v behind ks ops l w)
+  Ends d place place1 ks ops = (l : Log) (w : World) → (i : ℕ) × (i ≤ 2) × (steps ask code i (at d place ks ops l w) ≡ at d place1 ks ops l w)
+
+  -- a condition, and what it guards, where one more instruction stands behind that
+  abbrev pub arm_of : ValueCode → (Around → List Line) → Around → List Line
+  arm_of y x a = test_code y a.stack (length (x (behind (test_length y a.stack) a)) + 1) ++ x (behind (test_length y a.stack) a)
 
   -- an arm, or what stands behind it
-  pub arm_runs : (y : ValueCode) (test : List ℕ → Act (List ℕ)) → Value ask k code call default y test → (body : List Instr) (act : List ℕ → Act Done) → Does ask k code bound body act → (other : Act Done) (v : List ℕ) (place behind : ℕ) (ks : List Frame) (ops : List ℕ) (c : ℕ) (l : Log) (w : World) → c ≤ bound → Stands ks ops → Fits k w → HasAt code.instructions.items place (guarded_turn (y.code) body) → Ends v (place + length (guarded_turn (y.code) body)) behind ks ops → Runs ask code (Fits k) 0 0 (at v (place + length (guarded_turn (y.code) body) + 1) ks ops l w) c (arrives v behind ks ops) (other c l w) → Runs ask code (Fits k) 0 0 (at v place ks ops l w) c (arrives v behind ks ops) (scalar (test v) (λ b. either (is_true b) (act v) other) c l w)
+  pub arm_runs : (y : ValueCode) (test : List ℕ → Act (List ℕ)) → ((w0 : World) → Value ask k code (Since k code w0) y test) → (x : Around → List Line) (act : List ℕ → Act Done) → Does ask k code bound x act → (other : Act Done) (a : Around) (w0 : World) (d : List ℕ) (place place1 : ℕ) (ks : List Frame) (ops : List ℕ) (c : ℕ) (l : Log) (w : World) → c ≤ bound → Since k code w0 w → Sees d a.stack w0 → Laid code place (arm_of y x a) → Ends d (place + length (arm_of y x a)) place1 ks ops → ((c1 : ℕ) (l1 : Log) (w1 : World) → c1 ≤ c → Since k code w0 w1 → Runs ask code (Kept k code w0) 0 0 (at d (place + length (arm_of y x a) + 1) ks ops l1 w1) c1 (arrives (landing_of a.exits place) d place1 ks ops) (other c1 l1 w1)) → Runs ask code (Kept k code w0) 0 0 (at d place ks ops l w) c (arrives (landing_of a.exits place) d place1 ks ops) (scalar (test d) (λ b. either (is_true b) (act d) other) c l w)
   unfolding scalar opened_outcome scalar_of opened_lists
-  arm_runs y test value body act does other v place behind ks ops c l w le stands fits has ends elses =
-      subst (λ o. Runs ask code (Fits k) 0 0 (at v place ks ops l w) c (arrives v behind ks ops) o) (sym (ap (λ o. bind o (on_goes (λ u. either (is_true (scalar_of u)) (act v) other))) x.is ∙ bind_add 1 x.out _))
-      (added ask code (Fits k) 1 5 5 0 0 _ c (arrives v behind ks ops) _ (omega arith) (omega arith)
-      (both_plain ask code (Fits k) 2 2 3 3 5 5 _ c l w (values v q ks ops ops) (arrives v behind ks ops) x.out _ (omega arith) (omega arith) (omega arith) x.plain x.runs
-      (λ n fits1. tested n (is_true n) refl)
-      (λ fits1. no_step ask code (Fits k) 3 3 _ c 0 (arrives v behind ks ops) (Leaves (ByRaise constraint_error)) l w fits1 refl)))
+  arm_runs y test value x act does other a w0 d place place1 ks ops c l w le fits sees has ends elses =
+      test_runs ask k code bound (on_goes (λ u. either (is_true (scalar_of u)) (act d) other)) w0 y test (value w0) a.stack (length b + 1) d place ks ops c l w (arrives e d place1 ks ops) fits sees (laid_front code place (test_code y a.stack (length b + 1)) b has)
+      (λ m c1 l1 w1 s0 lo fits1 first going logged. by m c1 l1 w1 s0 lo fits1 (is_true m) refl first)
+      (λ z c1 l1 w1 lo fits1. no_step ask code (Kept k code w0) 8 8 _ c1 0 (arrives e d place1 ks ops) (Leaves (ByRaise z)) l1 w1 fits1 refl)
     where
-      is : List Instr
-      is = y.code
+      b : List Line
+      b = x (behind (test_length y a.stack) a)
+
+      e : Landing
+      e = landing_of a.exits place
 
       q : ℕ
-      q = place + length (y.code)
+      q = place + test_length y a.stack
 
-      x : First ask k code call default v place (place + length (y.code)) ks ops [] c l w (test v c l w)
-      x = value.begins v place ks ops [] c l w stands fits (has_front code.instructions.items place (y.code) (InstrOf.Unless (length body + 1) ∷ body) has)
+      test_size : length (test_code y a.stack (length (x (behind (test_length y a.stack) a)) + 1)) ≡ test_length y a.stack
+      test_size = omega (arith, length-append (held y Boolean a.stack).code ((InstrOf.Unless (held y Boolean a.stack).cell (length (x (behind (test_length y a.stack) a)) + 1), (held y Boolean a.stack).after) ∷ []))
 
-      tail : HasAt code.instructions.items q (InstrOf.Unless (length body + 1) ∷ body)
-      tail = has_back code.instructions.items place (y.code) (InstrOf.Unless (length body + 1) ∷ body) has
+      size : length (arm_of y x a) ≡ test_length y a.stack + length (x (behind (test_length y a.stack) a))
+      size = omega (arith, test_size, length-append (test_code y a.stack (length (x (behind (test_length y a.stack) a)) + 1)) (x (behind (test_length y a.stack) a)))
 
-      first : (n : ℕ) → step ask code (at v q ks (n ∷ ops) l w) ≡ at v (if is_true n then q + 1 else q + 1 + (length body + 1)) ks ops l w
-      first n = by_code ask code v q ks (n ∷ ops) l w (InstrOf.Unless (length body + 1)) tail.0
+      tail : Laid code (place + test_length y a.stack) (x (behind (test_length y a.stack) a))
+      tail = subst (λ p. Laid code (place + p) b) test_size (laid_back code place (test_code y a.stack (length b + 1)) b has)
 
-      far : q + 1 + length body ≡ place + length (guarded_turn (y.code) body)
-      far = omega (arith, length-append (y.code) (InstrOf.Unless (length body + 1) ∷ body))
+      far : q + length b ≡ place + length (arm_of y x a)
+      far = omega (arith, size)
 
-      farther : q + 1 + (length body + 1) ≡ place + length (guarded_turn (y.code) body) + 1
-      farther = omega (arith, length-append (y.code) (InstrOf.Unless (length body + 1) ∷ body))
+      over : (r : Result Done) (l1 : Log) (w1 : World) → (i : ℕ) × (i ≤ 2) × (steps ask code i (arrives (landing_of (behind (test_length y a.stack) a).exits q) d (q + length b) ks ops r l1 w1) ≡ arrives e d place1 ks ops r l1 w1)
+      over (Goes z) l1 w1 = let v = ends l1 w1 in (v.0, v.1, ap (λ p. steps ask code v.0 (at d p ks ops l1 w1)) far ∙ v.2)
+      over (Leaves ByExit) l1 w1 = (0, omega arith, ap (λ z. arrives z d place1 ks ops (Leaves ByExit) l1 w1) (landing_further a.exits (test_length y a.stack) place))
+      over (Leaves (ByReturn v)) l1 w1 = (0, omega arith, refl)
+      over (Leaves (ByRaise v)) l1 w1 = (0, omega arith, refl)
 
-      over : (r : Result Done) (l1 : Log) (w1 : World) → (i : ℕ) × (i ≤ 2) × (steps ask code i (arrives v (q + 1 + length body) ks ops r l1 w1) ≡ arrives v behind ks ops r l1 w1)
-      over (Goes a) l1 w1 = let z = ends l1 w1 in (z.0, z.1, ap (λ p. steps ask code z.0 (at v p ks ops l1 w1)) far ∙ z.2)
-      over (Leaves y) l1 w1 = (0, omega arith, refl)
-
-      tested : (n : ℕ) (b : Bool) → is_true n ≡ b → Runs ask code (Fits k) 3 3 (at v q ks (n ∷ ops) l w) c (arrives v behind ks ops) (either (is_true n) (act v) other c l w)
-      tested n true t = subst (λ b. Runs ask code (Fits k) 3 3 (at v q ks (n ∷ ops) l w) c (arrives v behind ks ops) (either b (act v) other c l w)) (sym t)
-          (one_step ask code (Fits k) 2 0 3 3 _ _ c c _ _ (omega arith) (omega arith) (omega arith) (omega arith) (first n ∙ ap (λ b. at v (if b then q + 1 else q + 1 + (length body + 1)) ks ops l w) t)
-          (further ask code (Fits k) 0 0 2 0 2 _ c (arrives v (q + 1 + length body) ks ops) (arrives v behind ks ops) _ (omega arith) (omega arith) (does v (q + 1) ks ops c l w le stands fits tail.1) over))
-      tested n false t = subst (λ b. Runs ask code (Fits k) 3 3 (at v q ks (n ∷ ops) l w) c (arrives v behind ks ops) (either b (act v) other c l w)) (sym t)
-          (one_step ask code (Fits k) 0 0 3 3 _ _ c c _ _ (omega arith) (omega arith) (omega arith) (omega arith) (first n ∙ ap (λ b. at v (if b then q + 1 else q + 1 + (length body + 1)) ks ops l w) t ∙ ap (λ p. at v p ks ops l w) farther) elses)
+      by : (m c1 : ℕ) (l1 : Log) (w1 : World) (s0 : State) → c1 ≤ c → Since k code w0 w1 → (t : Bool) → is_true m ≡ t → step ask code s0 ≡ at d (place + test_length y a.stack + (if is_true m then 0 else length (x (behind (test_length y a.stack) a)) + 1)) ks ops l1 w1 → Runs ask code (Kept k code w0) 8 8 s0 c1 (arrives (landing_of a.exits place) d place1 ks ops) (either (is_true m) (act d) other c1 l1 w1)
+      by m c1 l1 w1 s0 lo fits1 true t first =
+          let e0 : q + 0 ≡ q = omega arith in
+          subst (λ z. Runs ask code (Kept k code w0) 8 8 s0 c1 (arrives e d place1 ks ops) (either z (act d) other c1 l1 w1)) (sym t)
+          (one_step ask code (Kept k code w0) 2 0 8 8 s0 (at d q ks ops l1 w1) c1 c1 (arrives e d place1 ks ops) (act d c1 l1 w1) (omega arith) (omega arith) (omega arith) (omega arith) (first ∙ ap (λ z. at d (q + (if z then 0 else length b + 1)) ks ops l1 w1) t ∙ ap (λ p. at d p ks ops l1 w1) e0)
+          (further ask code (Kept k code w0) 0 0 2 0 2 (at d q ks ops l1 w1) c1 (arrives (landing_of (behind (test_length y a.stack) a).exits q) d (q + length b) ks ops) (arrives e d place1 ks ops) (act d c1 l1 w1) (omega arith) (omega arith) (does (behind (test_length y a.stack) a) w0 d q ks ops c1 l1 w1 (omega (arith, lo, le)) fits1 sees tail) over))
+      by m c1 l1 w1 s0 lo fits1 false t first =
+          let e1 : q + (length b + 1) ≡ place + length (arm_of y x a) + 1 = omega (arith, size) in
+          subst (λ z. Runs ask code (Kept k code w0) 8 8 s0 c1 (arrives e d place1 ks ops) (either z (act d) other c1 l1 w1)) (sym t)
+          (one_step ask code (Kept k code w0) 0 0 8 8 s0 (at d (place + length (arm_of y x a) + 1) ks ops l1 w1) c1 c1 (arrives e d place1 ks ops) (other c1 l1 w1) (omega arith) (omega arith) (omega arith) (omega arith) (first ∙ ap (λ z. at d (q + (if z then 0 else length b + 1)) ks ops l1 w1) t ∙ ap (λ p. at d p ks ops l1 w1) e1) (elses c1 l1 w1 lo fits1))

@@ -1,5 +1,5 @@
 -- The declaration of an object of a plain type.
-use Rattle.std.proofs.Common.{◌≡◌, ℕ, ◌+◌, ◌≤◌, List, [], ◌∷◌, length, Option, Some, None, false, refl, sym, ap, ◌∙◌, subst, arith}
+use Rattle.std.proofs.Common.{◌≡◌, ℕ, ◌+◌, ◌<◌, ◌≤◌, List, [], ◌∷◌, length, Option, Some, None, false, refl, sym, ap, ◌∙◌, subst, arith}
 use Rattle.std.specs.Prelude.{slice_get, ◌&&◌, is_some}
 use Rattle.ctl_program.specs.declared.types.Ty.TheVariants.{Record}
 use Rattle.ctl_program.specs.declared.types.RecordType.{RecordType}
@@ -13,31 +13,36 @@ use Rattle.ctl_meaning.specs.Changes.{object_at, create, set_slot, add_layer, be
 use Rattle.ctl_meaning.specs.Choice.{Ask, picked}
 use Rattle.ctl_meaning.specs.Outcome.{ByExit, ByReturn, ByRaise, Goes, Leaves, Out, Gives, Stops, Cut, Act, Done, add, bind, on_goes, ◌>>=◌, ◌>>◌, done, nothing, tell, show, look, change, told, attempt, when, either, on_some, opened_outcome}
 use Rattle.ctl_meaning.specs.Types.{Tables, Composite, operation, depth, of_record}
-use Rattle.ctl_meaning.specs.Names.{OfSubprogram, Call, Default, Tools, gone, must_exist, opened_names}
+use Rattle.ctl_meaning.specs.Names.{OfSubprogram, Call, Default, Tools, gone, must_exist, Returned, opened_names}
 use Rattle.ctl_meaning.specs.Finalization.{whole, These, component_at, call_operation, after_finalize, own_finalize, in_any_order, finalize_part, finalize, opened_finalization}
 use Rattle.ctl_meaning.specs.Adjustment.{birth_of, lives}
 use Rattle.ctl_meaning.specs.Initialization.{begun_with, begin_next, begin_each, begin_component, own_initialize, unless_failed, failed_with, clean_up, begun, initialize_part, initialize, fill, opened_initialization}
 use Rattle.ctl_meaning.specs.Masters.{declare}
 use Rattle.ctl_code.specs.declared.code.Instr.TheVariants as InstrOf
 use Rattle.ctl_code.specs.declared.code.Code.{Code}
-use Rattle.ctl_code.specs.States.{At, Stopped, Frame, Creating, Initializing, State, Move}
+use Rattle.ctl_code.specs.States.{At, Stopped, Point, Frame, Initializing, State, Move}
+use Rattle.ctl_code.specs.declared.kinds.Kind.{Kind}
+use Rattle.ctl_code.specs.Valid.{IsDeclarable}
 use Rattle.ctl_code.specs.Table as Table
 use Rattle.ctl_code.specs.Table.{whole_part, showing, birth, come_to_life, operation_of}
 use Rattle.ctl_code.specs.Steps.{moved, step}
 use Rattle.ctl_gen.proofs.Known.{IsPlain}
-use Rattle.ctl_gen.proofs.Worlds.{Fits, fits_create, fits_slot, fits_layer, fits_begin, fits_end}
+use Rattle.ctl_gen.proofs.Worlds.{IfFound, Settled, Since, Kept, home, object_fits, created_ty, since_create, since_slot, since_layer, since_begin, since_end}
+use Rattle.ctl_gen.proofs.Finalize.{initialize_scope}
 use Rattle.ctl_gen.proofs.Plain.{is_controlled_plain, begin_cells_plain, parts_to_begin_plain, parts_to_finalize_plain}
-use Rattle.ctl_gen.proofs.Setting.{Setting, tools_with, returns, Calls, enter_shows, by_code, done_with}
-use Rattle.ctl_gen.proofs.Follow.{Runs, at, gives, arrives, last_step, stop_step, one_step, then_step, then_stops, more_quits, more_halts}
+use Rattle.ctl_gen.proofs.Setting.{Setting, tools_with, returns, Told, Sees, Calls, enter_shows}
+use Rattle.ctl_gen.proofs.Cells.{by_code}
+use Rattle.ctl_gen.proofs.Place.{Laid}
+use Rattle.ctl_gen.proofs.Follow.{Comes, Runs, within, Landing, at, arrives, stop_step, then_step, then_stops, more_quits, more_halts}
 
--- the move of an object that was initialized, with what the tables say
-abbrev life : Option ℕ → Option Object → ℕ → ℕ → List ℕ → ℕ → List Frame → List ℕ → World → Move
-life g None n t v place ks ops w = showing (birth g n (last_of v)) (Stopped UseAfterFree) ks ops w
-life g (Some o) n t v place ks ops w = showing (birth g n (last_of v)) (At v place) ks ops (add_layer (last_of v) (Single n) w)
+-- the birth of an object that is found, or not
+abbrev life : Option ℕ → Option Object → ℕ → Point → List Frame → World → Move
+life g None n p k w = showing (birth g n (last_of p.display)) (Stopped UseAfterFree) k [] w
+life g (Some o) n p k w = showing (birth g n (last_of p.display)) (At p.display p.place) k p.operands (add_layer (last_of p.display) (Single n) w)
 
-as_life : (code : Code) (n t : ℕ) (y : Option Object) (v : List ℕ) (place : ℕ) (ks : List Frame) (ops : List ℕ) (w : World) (l : Log) → moved l (come_to_life code n t y v place ks ops w) ≡ moved l (life (operation_of (λ x. x.finalize) code t) y n t v place ks ops w)
-as_life code n t None v place ks ops w l = refl
-as_life code n t (Some o) v place ks ops w l = refl
+as_life : (code : Code) (n t : ℕ) (y : Option Object) (p : Point) (k : List Frame) (w : World) (l : Log) → moved l (come_to_life code n t y p k w) ≡ moved l (life (operation_of (λ x. x.finalize) code t) y n p k w)
+as_life code n t None p k w l = refl
+as_life code n t (Some o) p k w l = refl
 
 module _ (ask : Ask) (k : Tables) (code : Code) (setting : Setting k code) (call : Call) (default : Default) (t : ℕ) (r : RecordType) (here : slice_get k.records t ≡ Some r) (plain : IsPlain k r) where
   abbrev K : Tools
@@ -92,74 +97,82 @@ module _ (ask : Ask) (k : Tables) (code : Code) (setting : Setting k code) (call
   abbrev started_with : Out Done → Option ℕ → ℕ → ℕ → Out Done → Out Done
   started_with y g n m x = bind (add 0 (bind (bind x told) (on_goes (begin_next [] begun_with [])))) (on_goes (λ b. on_some b.failure (alive g n m) (λ e c l w. y)))
 
-  -- after its Initialize an object comes to life, or is cleaned up
-  begun_runs : (g : Option ℕ) → operation (λ x. x.finalize) k t ≡ g → (n : ℕ) (v : List ℕ) (place : ℕ) (ks : List Frame) (ops : List ℕ) (s0 : State) (c : ℕ) (x : Out Done) → Runs ask code (Fits k) 2 2 s0 c (returns (Initializing n t v place ∷ ks) ops) x → Runs ask code (Fits k) 3 4 s0 c (arrives v place ks ops) (standing n (last_of v) (started g n (last_of v) x))
+  -- an object comes to life, from the step that looks for it
+  found_runs : (w0 : World) (n : ℕ) (e : Landing) (p : Point) (ks : List Frame) (s0 state : State) (c c1 τ : ℕ) (l : Log) (w : World) (X : Type 0) → Since k code w0 w → Comes ask code 2 s0 c τ c1 state X → (h : Option ℕ) (y : Option Object) → operation (λ x. x.finalize) k t ≡ h → object_at n w ≡ y → step ask code state ≡ moved l (come_to_life code n t (object_at n w) p ks w) → Runs ask code (Kept k code w0) 3 4 s0 c (arrives e p.display p.place ks p.operands) (standing n (last_of p.display) (started h n (last_of p.display) (Gives (Goes tt) τ c1 l w)))
   unfolding picked opened_outcome opened_initialization opened_names
-  begun_runs g eg n v place ks ops s0 c (Gives (Goes u) τ c1 l w) z = found g (object_at n w) eg refl
+  found_runs w0 n e p ks s0 state c c1 τ l w X fits z h y eh ey first = found h y ey after
     where
-      m : ℕ
-      m = last_of v
+      after : step ask code state ≡ moved l (life h y n p ks w)
+      after =
+          first ∙ ap (λ o. moved l (come_to_life code n t o p ks w)) ey
+          ∙ as_life code n t y p ks w l
+          ∙ ap (λ f. moved l (life f y n p ks w)) (setting.finalize t ∙ eh)
 
-      state : State
-      state = gives (Initializing n t v place ∷ ks) ops (Goes false) l w
+      found : (h1 : Option ℕ) (y1 : Option Object) → object_at n w ≡ y1 → step ask code state ≡ moved l (life h1 y1 n p ks w) → Runs ask code (Kept k code w0) 3 4 s0 c (arrives e p.display p.place ks p.operands) (standing n (last_of p.display) (started h1 n (last_of p.display) (Gives (Goes tt) τ c1 l w)))
+      found None None ey1 go = subst (λ x. Runs ask code (Kept k code w0) 3 4 s0 c (arrives e p.display p.place ks p.operands) (standing_at x n (last_of p.display) (started None n (last_of p.display) (Gives (Goes tt) τ c1 l w)))) (sym ey1) (then_stops ask code (Kept k code w0) 2 4 s0 state _ c c1 τ _ l UseAfterFree z go refl refl (omega arith))
+      found None (Some o) ey1 go = subst (λ x. Runs ask code (Kept k code w0) 3 4 s0 c (arrives e p.display p.place ks p.operands) (standing_at x n (last_of p.display) (started None n (last_of p.display) (Gives (Goes tt) τ c1 l w)))) (sym ey1) (then_step ask code (Kept k code w0) 2 3 s0 state _ c c1 τ _ z go (since_layer k code (last_of p.display) n w0 w fits) (omega arith))
+      found (Some f) None ey1 go = subst (λ x. Runs ask code (Kept k code w0) 3 4 s0 c (arrives e p.display p.place ks p.operands) (standing_at x n (last_of p.display) (started (Some f) n (last_of p.display) (Gives (Goes tt) τ c1 l w)))) (sym ey1) (then_stops ask code (Kept k code w0) 2 4 s0 state _ c c1 τ _ _ UseAfterFree z go refl refl (omega arith))
+      found (Some f) (Some o) ey1 go = subst (λ x. Runs ask code (Kept k code w0) 3 4 s0 c (arrives e p.display p.place ks p.operands) (standing_at x n (last_of p.display) (started (Some f) n (last_of p.display) (Gives (Goes tt) τ c1 l w)))) (sym ey1) (then_step ask code (Kept k code w0) 2 3 s0 state _ c c1 τ _ z go (since_layer k code (last_of p.display) n w0 w fits) (omega arith))
 
-      after : (h : Option ℕ) (y : Option Object) → operation (λ x. x.finalize) k t ≡ h → object_at n w ≡ y → step ask code state ≡ moved l (life h y n t v place ks ops w)
-      after h y eh ey =
-          ap (λ o. moved l (come_to_life code n t o v place ks ops w)) ey
-          ∙ as_life code n t y v place ks ops w l
-          ∙ ap (λ f. moved l (life f y n t v place ks ops w)) (setting.finalize t ∙ eh)
-
-      found : (h : Option ℕ) (y : Option Object) → operation (λ x. x.finalize) k t ≡ h → object_at n w ≡ y → Runs ask code (Fits k) 3 4 s0 c (arrives v place ks ops) (standing n (last_of v) (started h n (last_of v) (Gives (Goes u) τ c1 l w)))
-      found None None eh ey = subst (λ y. Runs ask code (Fits k) 3 4 s0 c (arrives v place ks ops) (standing_at y n (last_of v) (started None n (last_of v) (Gives (Goes u) τ c1 l w)))) (sym ey) (then_stops ask code (Fits k) 2 4 s0 state _ c c1 τ _ w l UseAfterFree z (after None None eh ey) refl refl (omega arith))
-      found None (Some o) eh ey = subst (λ y. Runs ask code (Fits k) 3 4 s0 c (arrives v place ks ops) (standing_at y n (last_of v) (started None n (last_of v) (Gives (Goes u) τ c1 l w)))) (sym ey) (then_step ask code (Fits k) 2 3 s0 state _ c c1 τ _ w _ z (after None (Some o) eh ey) (fits_layer k m n w z.fits) (omega arith))
-      found (Some f) None eh ey = subst (λ y. Runs ask code (Fits k) 3 4 s0 c (arrives v place ks ops) (standing_at y n (last_of v) (started (Some f) n (last_of v) (Gives (Goes u) τ c1 l w)))) (sym ey) (then_stops ask code (Fits k) 2 4 s0 state _ c c1 τ _ w _ UseAfterFree z (after (Some f) None eh ey) refl refl (omega arith))
-      found (Some f) (Some o) eh ey = subst (λ y. Runs ask code (Fits k) 3 4 s0 c (arrives v place ks ops) (standing_at y n (last_of v) (started (Some f) n (last_of v) (Gives (Goes u) τ c1 l w)))) (sym ey) (then_step ask code (Fits k) 2 3 s0 state _ c c1 τ _ w _ z (after (Some f) (Some o) eh ey) (fits_layer k m n w z.fits) (omega arith))
-  begun_runs g eg n v place ks ops s0 c (Gives (Leaves ByExit) τ c1 l w) z = then_step ask code (Fits k) 2 3 s0 _ _ c c1 τ _ w _ z refl z.fits (omega arith)
-  begun_runs g eg n v place ks ops s0 c (Gives (Leaves (ByReturn cells)) τ c1 l w) z = then_step ask code (Fits k) 2 3 s0 _ _ c c1 τ _ w _ z refl z.fits (omega arith)
-  begun_runs g eg n v place ks ops s0 c (Gives (Leaves (ByRaise e)) τ c1 l w) z =
-      subst (λ y. Runs ask code (Fits k) 3 4 s0 c (arrives v place ks ops) (standing n (last_of v) (started_with y g n (last_of v) (Gives (Leaves (ByRaise e)) τ c1 l w)))) (sym (clean_up_is n e c1 l w))
-      (then_step ask code (Fits k) 2 3 s0 _ _ c c1 τ _ w _ z refl (fits_end k n (begin_finalization n w) (fits_begin k n w z.fits)) (omega arith))
-  begun_runs g eg n v place ks ops s0 c (Stops why τ l) z = more_quits ask code (Fits k) 2 4 s0 τ _ l why (omega arith) z
-  begun_runs g eg n v place ks ops s0 c (Cut τ c1 l) z = more_halts ask code (Fits k) 2 4 s0 c τ _ l (omega arith) z
+  -- after its Initialize an object comes to life, or is cleaned up
+  begun_runs : (w0 : World) (n : ℕ) (e : Landing) (p : Point) (ks : List Frame) (s0 : State) (c : ℕ) (x : Out Returned) → Runs ask code (Told k code w0) 2 2 s0 c (returns (Initializing n t p ∷ ks)) x → Runs ask code (Kept k code w0) 3 4 s0 c (arrives e p.display p.place ks p.operands) (standing n (last_of p.display) (started (operation (λ z. z.finalize) k t) n (last_of p.display) (bind (add 0 x) (on_goes (λ _. nothing)))))
+  unfolding picked opened_outcome opened_initialization opened_names
+  begun_runs w0 n e p ks s0 c (Gives (Goes u) τ c1 l w) z = found_runs w0 n e p ks s0 _ c c1 _ l w _ z.fits.1 (record { n = z.n; falls = z.falls; enough = z.enough; in_time = omega (arith, z.in_time); comes = z.comes; fits = z.fits }) (operation (λ x. x.finalize) k t) (object_at n w) refl refl refl
+  begun_runs w0 n e p ks s0 c (Gives (Leaves ByExit) τ c1 l w) z = absurd z.fits.0
+  begun_runs w0 n e p ks s0 c (Gives (Leaves (ByReturn cells)) τ c1 l w) z = absurd z.fits.0
+  begun_runs w0 n e p ks s0 c (Gives (Leaves (ByRaise x)) τ c1 l w) z =
+      subst (λ y. Runs ask code (Kept k code w0) 3 4 s0 c (arrives e p.display p.place ks p.operands) (standing n (last_of p.display) (started_with y (operation (λ z1. z1.finalize) k t) n (last_of p.display) (bind {A = Returned} (add 0 (Gives (Leaves (ByRaise x)) τ c1 l w)) (on_goes (λ _. nothing)))))) (sym (clean_up_is n x c1 l w))
+      (then_step ask code (Kept k code w0) 2 3 s0 _ _ c c1 τ _ z refl (since_end k code n w0 (begin_finalization n w) (since_begin k code n w0 w z.fits.1)) (omega arith))
+  begun_runs w0 n e p ks s0 c (Stops why τ l) z = more_quits ask code (Kept k code w0) 2 4 s0 τ _ l why (omega arith) z
+  begun_runs w0 n e p ks s0 c (Cut τ c1 l) z = more_halts ask code (Kept k code w0) 2 4 s0 c τ _ l (omega arith) z
 
   module _ (bound : ℕ) (calls : Calls ask k code setting bound call) where
-    -- an Initialize, from the step that begins it
-    initialize_runs : (g : Option ℕ) → operation (λ x. x.initialize) k t ≡ g → (n : ℕ) (ks : List Frame) (ops : List ℕ) (c : ℕ) (l : Log) (w : World) (s0 : State) → c ≤ bound → Fits k w → step ask code s0 ≡ moved l (Table.call_operation code g (starts n) n (object_at n w) ks ops w) → Runs ask code (Fits k) 2 2 s0 c (returns ks ops) (call_operation K (whole n) g (starts n) c l w)
-    unfolding opened_outcome opened_finalization opened_names
-    initialize_runs g eg n ks ops c l w s0 le fits first = found g (object_at n w) eg refl first
-      where
-        found : (h : Option ℕ) (y : Option Object) → operation (λ x. x.initialize) k t ≡ h → object_at n w ≡ y → step ask code s0 ≡ moved l (Table.call_operation code h (starts n) n (object_at n w) ks ops w) → Runs ask code (Fits k) 2 2 s0 c (returns ks ops) (call_operation K (whole n) h (starts n) c l w)
-        found None None eh ey e = subst (λ o. Runs ask code (Fits k) 2 2 s0 c (returns ks ops) o) (sym (ap (λ y. add 1 (on_some y gone (λ _. nothing) c l w)) ey)) (stop_step ask code (Fits k) 2 2 s0 _ c 1 (returns {A = Done} ks ops) UseAfterFree l (omega arith) (e ∙ ap (λ y. moved l (Table.call_operation code None (starts n) n y ks ops w)) ey) refl refl)
-        found None (Some o) eh ey e = subst (λ o. Runs ask code (Fits k) 2 2 s0 c (returns ks ops) o) (sym (ap (λ y. add 1 (on_some y gone (λ _. nothing) c l w)) ey)) (last_step ask code (Fits k) 2 2 s0 c 1 (returns {A = Done} ks ops) (Goes tt) l w (omega arith) fits (e ∙ ap (λ y. moved l (Table.call_operation code None (starts n) n y ks ops w)) ey))
-        found (Some f) None eh ey e = subst (λ o. Runs ask code (Fits k) 2 2 s0 c (returns ks ops) o) (sym (ap (λ y. on_some y gone (λ o1. look (λ w1. show (starts n) >> call (OfSubprogram f (Binds n 0 [] ∷ [])) (home_of o1.origin w1) >> nothing)) c l w) ey)) (stop_step ask code (Fits k) 2 2 s0 _ c 0 (returns {A = Done} ks ops) UseAfterFree l (omega arith) (e ∙ ap (λ y. moved l (Table.call_operation code (Some f) (starts n) n y ks ops w)) ey) refl refl)
-        found (Some f) (Some o) eh ey e =
-            let body = setting.initialize_body t f eh in
-            subst (λ o1. Runs ask code (Fits k) 2 2 s0 c (returns ks ops) o1) (sym (call_is f n c (starts n) l w o ey))
-            (done_with ask k code 2 2 ks ops s0 c _ (calls.runs f body.0 body.1 (home_of o.origin w) (Binds n 0 [] ∷ []) ks ops c (tell (starts n) l) w s0 le fits (e ∙ ap (λ y. moved l (Table.call_operation code (Some f) (starts n) n y ks ops w)) ey ∙ enter_shows (slice_get code.entries.items f) (starts n) (home_of o.origin w) (Binds n 0 [] ∷ []) ks ops l w)))
+    -- a declaration, from the step that creates its object
+    created_runs : (w0 : World) (n : ℕ) (e : Landing) (p : Point) (ks : List Frame) (s0 : State) (c : ℕ) (l : Log) (w : World) → c ≤ bound → Since k code w0 w → ((o : Object) → object_at n w ≡ Some o → o.ty ≡ Record t) → (g : Option ℕ) (y : Option Object) → operation (λ x. x.initialize) k t ≡ g → object_at n w ≡ y → step ask code s0 ≡ moved l (Table.by_declaration code g n t (object_at n w) p ks w) → Runs ask code (Kept k code w0) 4 5 s0 c (arrives e p.display p.place ks p.operands) (standing n (last_of p.display) (started (operation (λ x. x.finalize) k t) n (last_of p.display) (call_operation K (whole n) g (starts n) c l w)))
+    unfolding opened_outcome opened_finalization opened_names opened_initialization
+    created_runs w0 n e p ks s0 c l w le fits ty None None eg ey first = subst (λ x. Runs ask code (Kept k code w0) 4 5 s0 c (arrives e p.display p.place ks p.operands) (standing n (last_of p.display) (started (operation (λ z. z.finalize) k t) n (last_of p.display) (add 1 (on_some x gone (λ _. nothing) c l w))))) (sym ey) (stop_step ask code (Kept k code w0) 4 5 s0 _ c 1 (arrives e p.display p.place ks p.operands) UseAfterFree l (omega arith) (first ∙ ap (λ x. moved l (Table.by_declaration code None n t x p ks w)) ey) refl refl)
+    created_runs w0 n e p ks s0 c l w le fits ty None (Some o) eg ey first =
+        subst (λ x. Runs ask code (Kept k code w0) 4 5 s0 c (arrives e p.display p.place ks p.operands) (standing n (last_of p.display) (started (operation (λ z. z.finalize) k t) n (last_of p.display) (add 1 (on_some x gone (λ _. nothing) c l w))))) (sym ey)
+        (within ask code (Kept k code w0) 3 4 4 5 s0 c (arrives e p.display p.place ks p.operands) (standing n (last_of p.display) (started (operation (λ z. z.finalize) k t) n (last_of p.display) (Gives (Goes tt) 1 c l w))) (omega arith) (omega arith)
+        (found_runs w0 n e p ks s0 s0 c c 1 l w (Unit {0}) fits (record { n = 0; falls = omega arith; enough = omega arith; in_time = omega arith; comes = refl; fits = tt }) (operation (λ x. x.finalize) k t) (Some o) refl ey (first ∙ ap (λ x. moved l (Table.by_declaration code None n t x p ks w)) ey ∙ ap (λ x. moved l (come_to_life code n t x p ks w)) (sym ey))))
+    created_runs w0 n e p ks s0 c l w le fits ty (Some f) None eg ey first = subst (λ x. Runs ask code (Kept k code w0) 4 5 s0 c (arrives e p.display p.place ks p.operands) (standing n (last_of p.display) (started (operation (λ z. z.finalize) k t) n (last_of p.display) (on_some x gone (λ o1. look (λ w1. show (starts n) >> call (OfSubprogram f (Binds n 0 [] ∷ [])) (home_of o1.origin w1) >> nothing)) c l w)))) (sym ey) (stop_step ask code (Kept k code w0) 4 5 s0 _ c 0 (arrives e p.display p.place ks p.operands) UseAfterFree l (omega arith) (first ∙ ap (λ x. moved l (Table.by_declaration code (Some f) n t x p ks w)) ey) refl refl)
+    created_runs w0 n e p ks s0 c l w le fits ty (Some f) (Some o) eg ey first =
+        let body = setting.initialize_body t f eg in
+        let settled = subst (IfFound (Settled k code w.ledger.next_master w.activations)) ey (object_fits k code n w fits.0) in
+        subst (λ x. Runs ask code (Kept k code w0) 4 5 s0 c (arrives e p.display p.place ks p.operands) (standing n (last_of p.display) (started (operation (λ z. z.finalize) k t) n (last_of p.display) x))) (sym (call_is f n c (starts n) l w o ey))
+        (within ask code (Kept k code w0) 3 4 4 5 s0 c (arrives e p.display p.place ks p.operands) (standing n (last_of p.display) (started (operation (λ z. z.finalize) k t) n (last_of p.display) (bind (add 0 (call (OfSubprogram f (Binds n 0 [] ∷ [])) (home_of o.origin w) c (tell (starts n) l) w)) (on_goes (λ _. nothing))))) (omega arith) (omega arith)
+        (begun_runs w0 n e p ks s0 c (call (OfSubprogram f (Binds n 0 [] ∷ [])) (home_of o.origin w) c (tell (starts n) l) w)
+        (calls.runs f body.0 body.1 w0 (home_of o.origin w) (Binds n 0 [] ∷ []) (Initializing n t p ∷ ks) c (tell (starts n) l) w s0 le fits (initialize_scope k code w o t f (ty o ey) settled (setting.initialize t ∙ eg)) (tt, tt)
+        (first ∙ ap (λ x. moved l (Table.by_declaration code (Some f) n t x p ks w)) ey ∙ enter_shows (slice_get code.entries.items f) (starts n) (home_of o.origin w) (Binds n 0 [] ∷ []) (Initializing n t p ∷ ks) l w))))
 
-    -- a declaration
-    pub declare_runs : (slot : ℕ) (v : List ℕ) (place : ℕ) (ks : List Frame) (ops : List ℕ) (c : ℕ) (l : Log) (w : World) → c ≤ bound → Fits k w → slice_get code.instructions.items place ≡ Some (InstrOf.Declare slot t) → Runs ask code (Fits k) 4 5 (at v place ks ops l w) c (arrives v (place + 1) ks ops) (declare Composite K (last_of v) slot (Record t) None c l w)
-    unfolding picked
-    declare_runs slot v place ks ops c l w le fits has =
-        subst (λ o. Runs ask code (Fits k) 4 5 (at v place ks ops l w) c (arrives v (place + 1) ks ops) o)
-        (sym (declare_is (last_of v) slot c l w ∙ ap (standing n (last_of v)) (initialize_is g1 g2 refl refl n (last_of v) c l w w1)))
-        (one_step ask code (Fits k) 3 4 4 5 (at v place ks ops l w) created c c (arrives v (place + 1) ks ops) _ (omega arith) (omega arith) (omega arith) (omega arith) (by_code ask code v place ks ops l w (InstrOf.Declare slot t) has)
-        (begun_runs g2 refl n v (place + 1) ks ops created c _ (initialize_runs g1 refl n (Initializing n t v (place + 1) ∷ ks) ops c l w1 created le fits1 (ap (λ g. moved l (Table.call_operation code g (starts n) n (object_at n w1) (Initializing n t v (place + 1) ∷ ks) ops w1)) (setting.initialize t)))))
+    -- a declaration: its operations are in scope, as the code is well formed
+    pub declare_runs : (slot : ℕ) (e : Landing) (s : List Kind) (w0 : World) (d : List ℕ) (place : ℕ) (ks : List Frame) (ops : List ℕ) (c : ℕ) (l : Log) (w : World) → c ≤ bound → Since k code w0 w → Sees d s w0 → Laid code place ((InstrOf.Declare slot t, s) ∷ []) → Runs ask code (Kept k code w0) 4 5 (at d place ks ops l w) c (arrives e d (place + 1) ks ops) (declare Composite K (last_of d) slot (Record t) None c l w)
+    declare_runs slot e s w0 d place ks ops c l w le fits sees has =
+        subst (λ o. Runs ask code (Kept k code w0) 4 5 (at d place ks ops l w) c (arrives e d (place + 1) ks ops) o)
+        (sym (declare_is (last_of d) slot c l w ∙ ap (standing n (last_of d)) (initialize_is (operation (λ x. x.initialize) k t) (operation (λ x. x.finalize) k t) refl refl n (last_of d) c l w w1)))
+        (created_runs w0 n e p ks (at d place ks ops l w) c l w1 le fits2 typed (operation (λ x. x.initialize) k t) (object_at n w1) refl refl
+        (by_code ask code d place ks ops l w (InstrOf.Declare slot t) has.0 ∙ ap (λ g. moved l (Table.by_declaration code g n t (object_at n w1) p ks w1)) (setting.initialize t)))
       where
         n : ℕ
         n = w.ledger.next_object
 
+        p : Point
+        p = record { display = d; place = place + 1; operands = ops }
+
         w1 : World
-        w1 = set_slot (last_of v) slot (Holds n) (create (Record t) [] (Declared (last_of v)) w)
+        w1 = set_slot (last_of d) slot (Holds w.ledger.next_object) (create (Record t) [] (Declared (last_of d)) w)
 
-        fits1 : Fits k w1
-        fits1 = fits_slot k (last_of v) slot (Holds n) _ (fits_create k (Record t) [] (Declared (last_of v)) w (r, here, plain) fits)
+        old : last_of d < w.ledger.next_master
+        old = omega (arith, sees.old, fits.1.later)
 
-        g1 : Option ℕ
-        g1 = operation (λ x. x.initialize) k t
+        same : home (last_of d) w.activations ≡ d
+        same = fits.1.homes (last_of d) sees.old ∙ sees.home
 
-        g2 : Option ℕ
-        g2 = operation (λ x. x.finalize) k t
+        inside : IsDeclarable code (length (home (last_of d) w.activations)) t
+        inside = subst (λ x. IsDeclarable code x t) (sym (ap length same ∙ sees.long)) (setting.valid.each place (InstrOf.Declare slot t) s has.0 has.1).0
 
-        created : State
-        created = gives (Creating n t v (place + 1) ∷ ks) ops (Goes false) l w1
+        fits2 : Since k code w0 (set_slot (last_of d) slot (Holds w.ledger.next_object) (create (Record t) [] (Declared (last_of d)) w))
+        fits2 = since_slot k code (last_of d) slot (Holds n) w0 _ tt (since_create k code (Record t) [] (last_of d) w0 w (r, here, plain) old inside fits)
+
+        typed : (o : Object) → object_at w.ledger.next_object (set_slot (last_of d) slot (Holds w.ledger.next_object) (create (Record t) [] (Declared (last_of d)) w)) ≡ Some o → o.ty ≡ Record t
+        typed o at1 = created_ty k code (Record t) [] (last_of d) slot w fits.0 o at1

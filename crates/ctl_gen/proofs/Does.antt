@@ -4,14 +4,14 @@ use Rattle.ctl_meaning.specs.World.{Log, World}
 use Rattle.ctl_meaning.specs.Choice.{Ask}
 use Rattle.ctl_meaning.specs.Outcome.{Act, Done}
 use Rattle.ctl_meaning.specs.Types.{Tables}
-use Rattle.ctl_code.specs.declared.code.Instr.{Instr}
 use Rattle.ctl_code.specs.declared.code.Code.{Code}
 use Rattle.ctl_code.specs.States.{Frame}
-use Rattle.ctl_gen.proofs.Place.{HasAt}
-use Rattle.ctl_gen.proofs.Worlds.{Fits}
-use Rattle.ctl_gen.proofs.Operands.{Stands}
-use Rattle.ctl_gen.proofs.Follow.{Runs, at, arrives}
+use Rattle.ctl_gen.specs.Around.{Line, Around}
+use Rattle.ctl_gen.proofs.Place.{Laid}
+use Rattle.ctl_gen.proofs.Worlds.{Since, Kept}
+use Rattle.ctl_gen.proofs.Setting.{Sees}
+use Rattle.ctl_gen.proofs.Follow.{Runs, at, arrives, landing_of}
 
--- while no more than the bound is on the clock, over the operands of a master or loop
-abbrev pub Does : Ask → Tables → Code → ℕ → List Instr → (List ℕ → Act Done) → Type 0
-Does ask k code bound is act = (v : List ℕ) (place : ℕ) (ks : List Frame) (ops : List ℕ) (c : ℕ) (l : Log) (w : World) → c ≤ bound → Stands ks ops → Fits k w → HasAt code.instructions.items place is → Runs ask code (Fits k) 0 0 (at v place ks ops l w) c (arrives v (place + length is) ks ops) (act v c l w)
+-- while no more than the bound is on the clock, in the worlds since an earlier one in which this display was seen
+abbrev pub Does : Ask → Tables → Code → ℕ → (Around → List Line) → (List ℕ → Act Done) → Type 0
+Does ask k code bound x act = (a : Around) (w0 : World) (d : List ℕ) (place : ℕ) (ks : List Frame) (ops : List ℕ) (c : ℕ) (l : Log) (w : World) → c ≤ bound → Since k code w0 w → Sees d a.stack w0 → Laid code place (x a) → Runs ask code (Kept k code w0) 0 0 (at d place ks ops l w) c (arrives (landing_of a.exits place) d (place + length (x a)) ks ops) (act d c l w)

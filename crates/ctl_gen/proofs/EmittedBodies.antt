@@ -1,48 +1,73 @@
 -- What the emitter makes of the bodies of a program, one after another, is their layout.
-use Rattle.std.proofs.Common.{◌≡◌, ℕ, ◌+◌, List, [], ◌∷◌, ◌++◌, length, map, refl, ap, ◌∙◌, append_assoc, length-append}
+use Rattle.std.proofs.Common.{◌≡◌, ℕ, ◌+◌, List, [], ◌∷◌, ◌++◌, length, map, None, refl, ap, ◌∙◌, append_assoc}
+use Rattle.ctl_program.specs.declared.program.Checked.{Checked}
 use Rattle.ctl_program.specs.declared.program.Subprogram.{Subprogram}
 use Rattle.ctl_code.specs.declared.code.Entry.{Entry}
 use Rattle.ctl_code.specs.declared.code.Instr.TheVariants.{Start}
-use Rattle.ctl_gen.specs.Emitted.{Emitted, appended, as_it_is, followed, none_emitted, one}
-use Rattle.ctl_gen.specs.Layout.{StatementCode, bodies, body_code, entries_from, entry_at, statement}
-use Rattle.ctl_gen.proofs.EmittedStatements.{next_statement, no_statement}
+use Rattle.ctl_code.specs.declared.kinds.Kind.{Kind}
+use Rattle.ctl_code.specs.declared.kinds.Kind.TheVariants.{Body}
+use Rattle.ctl_code.specs.Kinds.{below_newest}
+use Rattle.ctl_gen.specs.Around.{FromMaster}
+use Rattle.ctl_gen.specs.Emitted.{Emitted, appended, around, lined, none_emitted, one, standing, stated}
+use Rattle.ctl_gen.specs.Layout.{bodies, body_code, entries_from, entry_at, instructions_of, kinds_of, master_code, program_code}
+use Rattle.ctl_gen.proofs.Emission.{count_more, nothing, stands, stands_before, stands_behind, standing_is, texts_more}
+use Rattle.ctl_gen.proofs.EmittedStatements.{next_statement}
+
+texts_stand : (s : List Kind) (e0 e1 : Emitted) → e1 ≡ standing s e0 → length e1.texts ≡ length e0.texts
+unfolding standing
+texts_stand s e0 e1 a = ap (λ (e : Emitted). length e.texts) a
+
+-- a body, where nothing stands
+pub body_emitted : (s : Subprogram) (slots : ℕ) (e0 e1 e2 e3 : Emitted) → slots ≡ (master_code s.body).slots → e0.notes.standing ≡ [] → e1 ≡ standing (Body s.level slots ∷ e0.notes.standing) e0 → e2 ≡ stated (master_code s.body).inside None e1 → e3 ≡ standing (below_newest e2.notes.standing) e2 → e3 ≡ stated (body_code s) None e0
+body_emitted s slots e0 e1 e2 e3 same bare a b c =
+    let m = (master_code s.body).inside in
+    let n = length e0.texts in
+    let r = e0.notes.standing in
+    let top = Body s.level slots ∷ r in
+    let lines = m.code (record { stack = top; exits = FromMaster }) n in
+    let inner : e2 ≡ appended lines m.texts top e1 =
+    b ∙ ap (λ x. appended (m.code (record { stack = x; exits = FromMaster }) (length e1.texts)) m.texts x e1) (stands top e0 e1 a)
+    ∙ ap (λ k. appended (m.code (record { stack = top; exits = FromMaster }) k) m.texts top e1) (texts_stand top e0 e1 a) in
+    stands_before lines m.texts r top e0 e1 e3 a
+    (stands_behind lines m.texts top r e1 e2 e3 inner (c ∙ ap (λ x. standing (below_newest x) e2) (standing_is lines m.texts top e1 e2 inner)))
+    ∙ ap (λ k. appended (m.code (record { stack = Body s.level k ∷ r; exits = FromMaster }) n) m.texts r e0) same
+    ∙ ap (λ k. appended (m.code (record { stack = Body s.level (master_code s.body).slots ∷ k; exits = FromMaster }) n) m.texts r e0) bare
 
 -- the instruction that starts the main procedure
 abbrev pub begun : ℕ → Emitted
-begun main = followed (one (Start main) as_it_is) none_emitted
+begun main = lined (one (Start main)) none_emitted
 
 pub begun_place : (main : ℕ) → (length (begun main).instructions ≡ 1) × (length (begun main).texts ≡ 0) × ((begun main).notes.standing ≡ [])
-unfolding followed
+unfolding appended
 begun_place main = (refl, refl, refl)
 
-pub next_body : (s : Subprogram) (ss : List Subprogram) (e0 e1 : Emitted) → e1 ≡ appended (statement (body_code s)) e0 → appended (statement (bodies ss)) e1 ≡ appended (statement (bodies (s ∷ ss))) e0
-next_body s ss e0 e1 a = next_statement (body_code s) (map body_code ss) e0 e1 a
+pub next_body : (s : Subprogram) (ss : List Subprogram) (e0 e1 : Emitted) → e1 ≡ stated (body_code s) None e0 → stated (bodies ss) None e1 ≡ stated (bodies (s ∷ ss)) None e0
+next_body s ss e0 e1 a = next_statement (body_code s) (map body_code ss) None e0 e1 (λ at is. absurd (cc)) a
 
-pub next_entry : (s : Subprogram) (ss : List Subprogram) (done : List Entry) (e0 e1 : Emitted) → e1 ≡ appended (statement (body_code s)) e0 → (done ++ entry_at (length e0.instructions) s ∷ []) ++ entries_from (length e1.instructions) (length e1.texts) ss ≡ done ++ entries_from (length e0.instructions) (length e0.texts) (s ∷ ss)
-unfolding appended
+pub next_entry : (s : Subprogram) (ss : List Subprogram) (done : List Entry) (e0 e1 : Emitted) → e1 ≡ stated (body_code s) None e0 → (done ++ entry_at (length e0.instructions) s ∷ []) ++ entries_from (length e1.instructions) (length e1.texts) ss ≡ done ++ entries_from (length e0.instructions) (length e0.texts) (s ∷ ss)
 next_entry s ss done e0 e1 a =
     let x = body_code s in
+    let lines = x.code (around None e0) (length e0.texts) in
     let here = entry_at (length e0.instructions) s in
     append_assoc done (here ∷ []) (entries_from (length e1.instructions) (length e1.texts) ss)
-    ∙ ap (λ n. done ++ here ∷ entries_from n (length e1.texts) ss) (ap (λ (e : Emitted). length e.instructions) a ∙ length-append e0.instructions (x.code (length e0.texts)))
-    ∙ ap (λ n. done ++ here ∷ entries_from (length e0.instructions + length (x.code (length e0.texts))) n ss) (ap (λ (e : Emitted). length e.texts) a ∙ length-append e0.texts x.texts)
+    ∙ ap (λ n. done ++ here ∷ entries_from n (length e1.texts) ss) (count_more lines x.texts e0.notes.standing e0 e1 a)
+    ∙ ap (λ n. done ++ here ∷ entries_from (length e0.instructions + length lines) n ss) (texts_more lines x.texts e0.notes.standing e0 e1 a)
 
-pub nothing_stands : (x : StatementCode) (e0 e1 : Emitted) → e1 ≡ appended (statement x) e0 → e0.notes.standing ≡ [] → e1.notes.standing ≡ []
-unfolding appended
-nothing_stands x e0 e1 a h = ap (λ (e : Emitted). e.notes.standing) a ∙ h
+pub nothing_stands : (s : Subprogram) (e0 e1 : Emitted) → e1 ≡ stated (body_code s) None e0 → e0.notes.standing ≡ [] → e1.notes.standing ≡ []
+nothing_stands s e0 e1 a h = standing_is ((body_code s).code (around None e0) (length e0.texts)) (body_code s).texts e0.notes.standing e0 e1 a ∙ h
 
 -- all of them
-pub all_emitted : (main : ℕ) (ss : List Subprogram) (e : Emitted) → appended (statement (bodies [])) e ≡ appended (statement (bodies ss)) (begun main) → e ≡ appended (statement (bodies ss)) (begun main)
-all_emitted main ss e h = no_statement e ∙ h
+pub all_emitted : (main : ℕ) (ss : List Subprogram) (e : Emitted) → stated (bodies []) None e ≡ stated (bodies ss) None (begun main) → e ≡ stated (bodies ss) None (begun main)
+all_emitted main ss e h = nothing e ∙ h
 
-pub all_instructions : (main : ℕ) (ss : List Subprogram) (e : Emitted) → e ≡ appended (statement (bodies ss)) (begun main) → e.instructions ≡ Start main ∷ (bodies ss).code 0
-unfolding appended followed
-all_instructions main ss e h = ap (λ (x : Emitted). x.instructions) h
+pub all_instructions : (p : Checked) (e : Emitted) → e ≡ stated (bodies p.subprograms) None (begun p.main) → e.instructions ≡ instructions_of (program_code p)
+unfolding appended
+all_instructions p e h = ap (λ (x : Emitted). x.instructions) h
 
-pub all_texts : (main : ℕ) (ss : List Subprogram) (e : Emitted) → e ≡ appended (statement (bodies ss)) (begun main) → e.texts ≡ (bodies ss).texts
-unfolding appended followed
-all_texts main ss e h = ap (λ (x : Emitted). x.texts) h
+pub all_texts : (p : Checked) (e : Emitted) → e ≡ stated (bodies p.subprograms) None (begun p.main) → e.texts ≡ (bodies p.subprograms).texts
+unfolding appended
+all_texts p e h = ap (λ (x : Emitted). x.texts) h
 
-pub all_kinds : (main : ℕ) (ss : List Subprogram) (e : Emitted) → e ≡ appended (statement (bodies ss)) (begun main) → e.notes.before ≡ [] ∷ (bodies ss).kinds []
-unfolding appended followed
-all_kinds main ss e h = ap (λ (x : Emitted). x.notes.before) h
+pub all_kinds : (p : Checked) (e : Emitted) → e ≡ stated (bodies p.subprograms) None (begun p.main) → e.notes.before ≡ kinds_of (program_code p)
+unfolding appended
+all_kinds p e h = ap (λ (x : Emitted). x.notes.before) h

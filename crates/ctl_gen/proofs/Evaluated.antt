@@ -7,32 +7,33 @@ use Rattle.ctl_program.specs.declared.expression.Name.{Name, roll-Name, map-Name
 use Rattle.ctl_program.specs.declared.expression.Actual.{Actual}
 use Rattle.ctl_program.specs.declared.expression.Operand.{Operand, Operand-F, roll-Operand, map-Operand}
 use Rattle.ctl_program.specs.declared.expression.Actual.TheOpen.{Expr-F, Name-F}
+use Rattle.ctl_meaning.specs.World.{World}
 use Rattle.ctl_meaning.specs.Choice.{Ask}
 use Rattle.ctl_meaning.specs.Outcome.{◌>>=◌, ticked, opened_outcome}
 use Rattle.ctl_meaning.specs.Types.{Tables, Category, Elementary, cells_of}
 use Rattle.ctl_meaning.specs.Names.{Call, Default, Tools, read_found, walk, begins_as, opened_names}
-use Rattle.ctl_meaning.specs.Expressions.{Applied, Naming, Valued, apply, apply_each, eval, eval_name, eval_step, name_step as name_meaning, operand_step, join_each, var_part}
+use Rattle.ctl_meaning.specs.Expressions.{Applied, Naming, Valued, apply, eval, eval_name, eval_step, name_step as name_meaning, operand_step, var_part}
 use Rattle.ctl_meaning.proofs.Trees.{eval_roll, name_roll, operand_roll}
 use Rattle.ctl_code.specs.declared.code.Code.{Code}
-use Rattle.ctl_gen.specs.Values.{ValueCode, OperatorCode, missing_value, operator_code, operator_of, operators_run, read, value_code, values_run, variable_of}
+use Rattle.ctl_gen.specs.Values.{ValueCode, OperatorCode, missing_value, operator_of, operators_run, read, value_code, values_run, variable_of}
 use Rattle.ctl_gen.proofs.Known.{both_true, scalar_elementary, scalar_if}
 use Rattle.ctl_gen.proofs.TreeLayers.{value_roll, variable_roll, operator_roll}
 use Rattle.ctl_gen.proofs.Setting.{tools_with}
 use Rattle.ctl_gen.proofs.Expressions as X
 
-module _ (ask : Ask) (k : Tables) (code : Code) (call : Call) (default : Default) where
+module _ (ask : Ask) (k : Tables) (code : Code) (call : Call) (default : Default) (Fits : World → Type 0) where
   abbrev K : Tools
   K = tools_with ask k call default
 
   abbrev pub IsValue : Expr → Type 0
-  IsValue e = (value_code e).runs ≡ true → X.Value ask k code call default (value_code e) (eval e K)
+  IsValue e = (value_code e).runs ≡ true → X.Value ask k code Fits (value_code e) (eval e K)
 
   -- a name that is a variable alone finds it
   abbrev pub Finds : Name → Type 0
-  Finds n = (x : Var) → variable_of n ≡ Some x → X.Uses ask k code call default x (eval_name n Elementary K)
+  Finds n = (x : Var) → variable_of n ≡ Some x → X.Uses ask k code Fits x (eval_name n Elementary K)
 
   abbrev IsOperator : Operand → Type 0
-  IsOperator o = (operator_of o).right.runs ≡ true → X.Further ask k code call default (operator_code (operator_of o)) (apply o K)
+  IsOperator o = (operator_of o).right.runs ≡ true → X.Further ask k code Fits (operator_of o) (apply o K)
 
   abbrev IsActual : Actual → Type 0
   IsActual a = Unit {0}
@@ -60,11 +61,11 @@ module _ (ask : Ask) (k : Tables) (code : Code) (call : Call) (default : Default
 
   -- Lists of children -------------------------------------------------------------------------------
 
-  operators_too : (os : List OperandToo) → operators_run (map operator_of (map (λ o. o.0) os)) ≡ true → X.Operators ask k code call default (map operator_of (map (λ o. o.0) os)) (map apply (map (λ o. o.0) os))
+  operators_too : (os : List OperandToo) → operators_run (map operator_of (map (λ o. o.0) os)) ≡ true → X.Operators ask k code Fits K (map operator_of (map (λ o. o.0) os)) (map apply (map (λ o. o.0) os))
   operators_too [] h = tt
   operators_too (o ∷ os) h = let g = both_true _ _ h in (o.1 g.0, operators_too os g.1)
 
-  values_too : (xs : List ExprToo) → values_run (map value_code (map (λ x. x.0) xs)) ≡ true → X.EachValue ask k code call default (map value_code (map (λ x. x.0) xs)) (map eval (map (λ x. x.0) xs))
+  values_too : (xs : List ExprToo) → values_run (map value_code (map (λ x. x.0) xs)) ≡ true → X.EachValue ask k code Fits K (map value_code (map (λ x. x.0) xs)) (map eval (map (λ x. x.0) xs))
   values_too [] h = tt
   values_too (x ∷ xs) h = let g = both_true _ _ h in (x.1 g.0, values_too xs g.1)
 
@@ -72,7 +73,7 @@ module _ (ask : Ask) (k : Tables) (code : Code) (call : Call) (default : Default
 
   -- what a construct has, and what it means
   abbrev Meets : ValueCode → Valued → Type 0
-  Meets x m = x.runs ≡ true → X.Value ask k code call default x (m K)
+  Meets x m = x.runs ≡ true → X.Value ask k code Fits x (m K)
 
   meets : (y : Expr-F Actual Expr Name Operand) (x : ValueCode) (m : Valued) → value_code (roll-Expr y) ≡ x → eval (roll-Expr y) ≡ m → Meets x m → IsValue (roll-Expr y)
   meets y x m same means h = subst (λ z. Meets z (eval (roll-Expr y))) (sym same) (subst (Meets x) (sym means) h)
@@ -81,32 +82,32 @@ module _ (ask : Ask) (k : Tables) (code : Code) (call : Call) (default : Default
   missing_rolled : (y : Expr-F Actual Expr Name Operand) → value_code (roll-Expr y) ≡ missing_value None → IsValue (roll-Expr y)
   missing_rolled y same h = absurd (let e = sym (ap (λ (x : ValueCode). x.runs) same) ∙ h in cc)
 
-  reads : (o : Option Var) (ty : Ty) (find : Naming) → ((x : Var) → o ≡ Some x → X.Uses ask k code call default x (find Elementary K)) → Meets (read o ty) (eval_step (Expr-F.Read find ty))
+  reads : (o : Option Var) (ty : Ty) (find : Naming) → ((x : Var) → o ≡ Some x → X.Uses ask k code Fits x (find Elementary K)) → Meets (read o ty) (eval_step (Expr-F.Read find ty))
   unfolding eval_step
   reads None ty find h runs = absurd (cc)
   reads (Some x) ty find h runs =
-      subst (λ (c : Category). X.Value ask k code call default (read (Some x) ty) (λ v. ticked (find c K v >>= read_found (cells_of k ty)))) (sym (scalar_elementary ty (scalar_if ty runs)))
-      (X.read_value ask k code call default x (find Elementary K) (h x refl) ty (scalar_if ty runs))
+      subst (λ (c : Category). X.Value ask k code Fits (read (Some x) ty) (λ v. ticked (find c K v >>= read_found (cells_of k ty)))) (sym (scalar_elementary ty (scalar_if ty runs)))
+      (X.read_value ask k code Fits x (find Elementary K) (h x refl) ty (scalar_if ty runs))
 
   expr_rolled : (y : Expr-F ActualToo ExprToo NameToo OperandToo) → IsValue (roll-Expr (bare_expr y))
   unfolding eval_step
-  expr_rolled (Expr-F.Constant n) = meets (Expr-F.Constant n) _ _ (value_roll (Expr-F.Constant n)) (eval_roll (Expr-F.Constant n)) (λ h. X.constant_value ask k code call default n)
+  expr_rolled (Expr-F.Constant n) = meets (Expr-F.Constant n) _ _ (value_roll (Expr-F.Constant n)) (eval_roll (Expr-F.Constant n)) (λ h. X.constant_value ask k code Fits n)
   expr_rolled (Expr-F.Read n ty) = meets (Expr-F.Read n.0 ty) _ _ (value_roll (Expr-F.Read n.0 ty)) (eval_roll (Expr-F.Read n.0 ty)) (reads (variable_of n.0) ty (eval_name n.0) n.1)
-  expr_rolled (Expr-F.Unary op ty e) = meets (Expr-F.Unary op ty e.0) _ _ (value_roll (Expr-F.Unary op ty e.0)) (eval_roll (Expr-F.Unary op ty e.0)) (λ h. X.unary_value ask k code call default op ty (value_code e.0) (eval e.0 K) (e.1 h))
+  expr_rolled (Expr-F.Unary op ty e) = meets (Expr-F.Unary op ty e.0) _ _ (value_roll (Expr-F.Unary op ty e.0)) (eval_roll (Expr-F.Unary op ty e.0)) (λ h. X.unary_value ask k code Fits op ty (value_code e.0) (eval e.0 K) (e.1 h))
   expr_rolled (Expr-F.Chain e o os) =
       let y = Expr-F.Chain e.0 o.0 (map (λ z. z.0) os) in
       meets y _ _ (value_roll y) (eval_roll y)
       (λ h.
       let g = both_true _ _ h in
       let i = operators_too (o ∷ os) g.1 in
-      X.chain_value ask k code call default (value_code e.0) _ _ _ _ (eval e.0 K) (λ v. apply_each K v (map apply (map (λ z. z.0) (o ∷ os)))) (e.1 g.0) (X.operators_further ask k code call default (map operator_of (map (λ z. z.0) (o ∷ os))) (map apply (map (λ z. z.0) (o ∷ os))) i))
+      X.chain_value ask k code Fits K (value_code e.0) (eval e.0 K) (e.1 g.0) (operator_of o.0) (map operator_of (map (λ z. z.0) os)) (apply o.0) (map apply (map (λ z. z.0) os)) i)
   expr_rolled (Expr-F.Short form e f es) =
       let y = Expr-F.Short form e.0 f.0 (map (λ z. z.0) es) in
       meets y _ _ (value_roll y) (eval_roll y)
       (λ h.
       let g = both_true _ _ h in
       let i = values_too (f ∷ es) g.1 in
-      X.chain_value ask k code call default (value_code e.0) _ _ _ _ (eval e.0 K) (λ v. join_each K v form (map eval (map (λ z. z.0) (f ∷ es)))) (e.1 g.0) (X.others_further ask k code call default form (map value_code (map (λ z. z.0) (f ∷ es))) (map eval (map (λ z. z.0) (f ∷ es))) i))
+      X.short_value ask k code Fits K form (value_code e.0) (eval e.0 K) (e.1 g.0) (value_code f.0) (map value_code (map (λ z. z.0) es)) (eval f.0) (map eval (map (λ z. z.0) es)) i)
   expr_rolled (Expr-F.Call f xs) = let y = Expr-F.Call f (map (λ z. z.0) xs) in missing_rolled y (value_roll y)
   expr_rolled (Expr-F.Convert ty e) = missing_rolled (Expr-F.Convert ty e.0) (value_roll (Expr-F.Convert ty e.0))
   expr_rolled (Expr-F.Access v) = missing_rolled (Expr-F.Access v) (value_roll (Expr-F.Access v))
@@ -118,16 +119,16 @@ module _ (ask : Ask) (k : Tables) (code : Code) (call : Call) (default : Default
   expr_rolled (Expr-F.Discriminant n i) = missing_rolled (Expr-F.Discriminant n.0 i) (value_roll (Expr-F.Discriminant n.0 i))
 
   -- in one tick
-  uses_it : (x : Var) → X.Uses ask k code call default x (λ v. var_part Elementary v x >>= walk K [])
+  uses_it : (x : Var) → X.Uses ask k code Fits x (λ v. var_part Elementary v x >>= walk K [])
   unfolding var_part opened_names opened_outcome
   uses_it x v c l w = refl
 
-  finds : (y : Name-F Actual Expr Name Operand) (o : Option Var) (m : Naming) → variable_of (roll-Name y) ≡ o → eval_name (roll-Name y) ≡ m → ((x : Var) → o ≡ Some x → X.Uses ask k code call default x (m Elementary K)) → Finds (roll-Name y)
-  finds y o m same means h x is = subst (λ (n : Naming). X.Uses ask k code call default x (n Elementary K)) (sym means) (h x (sym same ∙ is))
+  finds : (y : Name-F Actual Expr Name Operand) (o : Option Var) (m : Naming) → variable_of (roll-Name y) ≡ o → eval_name (roll-Name y) ≡ m → ((x : Var) → o ≡ Some x → X.Uses ask k code Fits x (m Elementary K)) → Finds (roll-Name y)
+  finds y o m same means h x is = subst (λ (n : Naming). X.Uses ask k code Fits x (n Elementary K)) (sym means) (h x (sym same ∙ is))
 
   name_rolled : (y : Name-F ActualToo ExprToo NameToo OperandToo) → Finds (roll-Name (bare_name y))
   unfolding name_meaning begins_as
-  name_rolled (Name-F.Variable v []) = finds (Name-F.Variable v []) _ _ (variable_roll (Name-F.Variable v [])) (name_roll (Name-F.Variable v [])) (λ x is. let same : v ≡ x = cc in subst (λ (y : Var). X.Uses ask k code call default y (λ u. var_part Elementary u v >>= walk K [])) same (uses_it v))
+  name_rolled (Name-F.Variable v []) = finds (Name-F.Variable v []) _ _ (variable_roll (Name-F.Variable v [])) (name_roll (Name-F.Variable v [])) (λ x is. let same : v ≡ x = cc in subst (λ (y : Var). X.Uses ask k code Fits y (λ u. var_part Elementary u v >>= walk K [])) same (uses_it v))
   name_rolled (Name-F.Variable v (s ∷ ss)) = finds (Name-F.Variable v (s ∷ ss)) _ _ (variable_roll (Name-F.Variable v (s ∷ ss))) (name_roll (Name-F.Variable v (s ∷ ss))) (λ x is. absurd (cc))
   name_rolled (Name-F.Given e ss) = finds (Name-F.Given e.0 ss) _ _ (variable_roll (Name-F.Given e.0 ss)) (name_roll (Name-F.Given e.0 ss)) (λ x is. absurd (cc))
 
@@ -136,9 +137,9 @@ module _ (ask : Ask) (k : Tables) (code : Code) (call : Call) (default : Default
   operand_rolled y h =
       let is = operator_roll (bare_operand y) in
       let means = operand_roll (bare_operand y) in
-      subst (λ (o : OperatorCode). X.Further ask k code call default (operator_code o) (apply (roll-Operand (bare_operand y)) K)) (sym is)
-      (subst (λ (m : Applied). X.Further ask k code call default (operator_code (record { op = y.op; ty = y.ty; right = value_code y.right.0 })) (m K)) (sym means)
-      (X.operator_further ask k code call default y.op y.ty (value_code y.right.0) (eval y.right.0 K) (y.right.1 (sym (ap (λ (o : OperatorCode). o.right.runs) is) ∙ h))))
+      subst (λ (o : OperatorCode). X.Further ask k code Fits o (apply (roll-Operand (bare_operand y)) K)) (sym is)
+      (subst (λ (m : Applied). X.Further ask k code Fits (record { op = y.op; ty = y.ty; right = value_code y.right.0 }) (m K)) (sym means)
+      (X.operator_further ask k code Fits (record { op = y.op; ty = y.ty; right = value_code y.right.0 }) (eval y.right.0 K) (y.right.1 (sym (ap (λ (o : OperatorCode). o.right.runs) is) ∙ h))))
 
   -- Whole trees ---------------------------------------------------------------------------------------
 

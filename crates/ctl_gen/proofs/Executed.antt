@@ -10,6 +10,7 @@ use Rattle.ctl_program.specs.declared.statement.Arm.{Arm, Arm-F, roll-Arm, map-A
 use Rattle.ctl_program.specs.declared.statement.Handler.{Handler}
 use Rattle.ctl_program.specs.declared.statement.Master.{Master, Master-F, roll-Master, map-Master, ind-Master}
 use Rattle.ctl_tree.specs.declared.event.Event.TheVariants.{Newline}
+use Rattle.ctl_meaning.specs.World.{World}
 use Rattle.ctl_meaning.specs.Choice.{Ask}
 use Rattle.ctl_meaning.specs.Outcome.{Goes, tell, opened_outcome}
 use Rattle.ctl_meaning.specs.Types.{Tables, Elementary}
@@ -25,14 +26,16 @@ use Rattle.ctl_gen.specs.Values.{value_code, variable_of}
 use Rattle.ctl_gen.specs.Layout.{StatementCode, all, all_items, arm_code, assign, exit, has_no_handlers, inside, item_code, master_code, missing_statement, no_code, statement_code}
 use Rattle.ctl_gen.proofs.Known.{both_true}
 use Rattle.ctl_gen.proofs.TreeLayers.{arm_roll, master_roll, statement_roll}
-use Rattle.ctl_gen.proofs.Setting.{Setting, Calls, by_code, tools_with}
-use Rattle.ctl_gen.proofs.Worlds.{Fits}
-use Rattle.ctl_gen.proofs.Expressions.{Uses}
+use Rattle.ctl_gen.proofs.Setting.{Setting, Calls, tools_with}
+use Rattle.ctl_gen.proofs.Worlds.{Fits, Since, Kept}
+use Rattle.ctl_gen.proofs.Cells.{by_code}
+use Rattle.ctl_gen.proofs.Expressions.{Uses, Value}
 use Rattle.ctl_gen.proofs.Evaluated.{name_finds, value_means}
 use Rattle.ctl_gen.proofs.Assign.{assign_runs}
 use Rattle.ctl_gen.proofs.Texts.{print_runs}
-use Rattle.ctl_gen.proofs.Loops.{exit_runs, exit_when_runs, for_runs, loop_runs, while_runs}
-use Rattle.ctl_gen.proofs.Follow.{arrives, last_step}
+use Rattle.ctl_gen.proofs.Loops.{exit_runs, exit_when_runs, loop_runs, while_runs}
+use Rattle.ctl_gen.proofs.Ranges.{for_runs}
+use Rattle.ctl_gen.proofs.Follow.{landing_of, arrives, last_step}
 use Rattle.ctl_gen.proofs.Statements as S
 
 handled_not_run : (a b : Bool) → (a && (b && false)) ≡ true → ⊥
@@ -93,6 +96,10 @@ module _ (ask : Ask) (k : Tables) (code : Code) (setting : Setting k code) (call
   each_does : (xs : List StmtToo) → Performs (all (map statement_code (map (λ x. x.0) xs))) (λ j env caught. do_each j env caught (map exec (map (λ x. x.0) xs)))
   each_does xs = S.all_run ask k code setting call default bound calls (map statement_code (map (λ x. x.0) xs)) (map exec (map (λ x. x.0) xs)) (statements_too xs)
 
+  -- a value, in the worlds since any
+  means : (e : Expr) → (value_code e).runs ≡ true → (w0 : World) → Value ask k code (Since k code w0) (value_code e) (eval e K)
+  means e runs w0 = value_means ask k code call default (Since k code w0) e runs
+
   -- One layer ---------------------------------------------------------------------------------------
 
   does : (y : Stmt-F Stmt Arm Handler Master) (x : StatementCode) (m : Doing) → statement_code (roll-Stmt y) ≡ x → exec (roll-Stmt y) ≡ m → Performs x m → Does (roll-Stmt y)
@@ -102,43 +109,43 @@ module _ (ask : Ask) (k : Tables) (code : Code) (setting : Setting k code) (call
   missing_does : (y : Stmt-F Stmt Arm Handler Master) → statement_code (roll-Stmt y) ≡ missing_statement → Does (roll-Stmt y)
   missing_does y same runs = absurd (let e = sym (ap (λ (x : StatementCode). x.runs k.records) same) ∙ runs in cc)
 
-  assign_does : (o : Option Var) (find : Naming) (e : Expr) → ((x : Var) → o ≡ Some x → Uses ask k code call default x (find Elementary K)) → Performs (assign o (value_code e)) (assign_doing find (eval e))
+  assign_does : (o : Option Var) (find : Naming) (e : Expr) → ((x : Var) → o ≡ Some x → Uses ask k code (λ w. Fits k code w) x (find Elementary K)) → Performs (assign o (value_code e)) (assign_doing find (eval e))
   unfolding assign_doing
   assign_does None find e uses runs n texts caught = absurd (cc)
-  assign_does (Some x) find e uses runs n texts caught = assign_runs ask k code call default bound x (find Elementary K) (uses x refl) (value_code e) (eval e K) (value_means ask k code call default e runs)
+  assign_does (Some x) find e uses runs n texts caught = assign_runs ask k code setting.valid bound x (find Elementary K) (uses x refl) (value_code e) (eval e K) (means e runs)
 
   exit_does : (o : Option Expr) → Performs (exit (option_map value_code o)) (exit_doing (option_map eval o))
   unfolding exit_doing
-  exit_does None runs n texts caught = exit_runs ask k code call default bound
-  exit_does (Some e) runs n texts caught = exit_when_runs ask k code call default bound (value_code e) (eval e K) (value_means ask k code call default e runs)
+  exit_does None runs n texts caught = exit_runs ask k code bound
+  exit_does (Some e) runs n texts caught = exit_when_runs ask k code bound (value_code e) (eval e K) (means e runs)
 
   stmt_rolled : (y : Stmt-F StmtToo ArmToo HandlerToo MasterToo) → Does (roll-Stmt (bare_stmt y))
   unfolding null_doing put put_line new_line loop_plainly loop_while loop_for opened_outcome
-  stmt_rolled Stmt-F.Null = does Stmt-F.Null _ _ (statement_roll Stmt-F.Null) (exec_roll Stmt-F.Null) (λ runs n texts caught v place ks ops c l w le stands fits has. S.still_there ask k code setting call default bound calls 1 v place ks ops c l w fits)
-  stmt_rolled (Stmt-F.Assign x e) = does (Stmt-F.Assign x e) _ _ (statement_roll (Stmt-F.Assign x e)) (exec_roll (Stmt-F.Assign x e)) (assign_does (variable_of x) (eval_name x) e (name_finds ask k code call default x))
+  stmt_rolled Stmt-F.Null = does Stmt-F.Null _ _ (statement_roll Stmt-F.Null) (exec_roll Stmt-F.Null) (λ runs n texts caught a w0 d place ks ops c l w le fits sees has. S.still_there ask k code setting call default bound calls 1 (landing_of a.exits place) w0 d place ks ops c l w fits)
+  stmt_rolled (Stmt-F.Assign x e) = does (Stmt-F.Assign x e) _ _ (statement_roll (Stmt-F.Assign x e)) (exec_roll (Stmt-F.Assign x e)) (assign_does (variable_of x) (eval_name x) e (name_finds ask k code call default (λ w. Fits k code w) x))
   stmt_rolled (Stmt-F.Put ps) = does (Stmt-F.Put ps) _ _ (statement_roll (Stmt-F.Put ps)) (exec_roll (Stmt-F.Put ps)) (λ runs n texts caught. print_runs ask k code call default bound false ps runs n texts)
   stmt_rolled (Stmt-F.PutLine ps) = does (Stmt-F.PutLine ps) _ _ (statement_roll (Stmt-F.PutLine ps)) (exec_roll (Stmt-F.PutLine ps)) (λ runs n texts caught. print_runs ask k code call default bound true ps runs n texts)
-  stmt_rolled Stmt-F.NewLine = does Stmt-F.NewLine _ _ (statement_roll Stmt-F.NewLine) (exec_roll Stmt-F.NewLine) (λ runs n texts caught v place ks ops c l w le stands fits has. last_step ask code (Fits k) 0 0 _ c 1 (arrives v (place + 1) ks ops) (Goes tt) (tell Newline l) w (omega arith) fits (by_code ask code v place ks ops l w InstrOf.NewLine has.0))
+  stmt_rolled Stmt-F.NewLine = does Stmt-F.NewLine _ _ (statement_roll Stmt-F.NewLine) (exec_roll Stmt-F.NewLine) (λ runs n texts caught a w0 d place ks ops c l w le fits sees has. last_step ask code (Kept k code w0) 0 0 _ c 1 (arrives (landing_of a.exits place) d (place + 1) ks ops) (Goes tt) (tell Newline l) w (omega arith) fits (by_code ask code d place ks ops l w InstrOf.NewLine has.0))
   stmt_rolled (Stmt-F.Exit o) = does (Stmt-F.Exit o) _ _ (statement_roll (Stmt-F.Exit o)) (exec_roll (Stmt-F.Exit o)) (exit_does o)
   stmt_rolled (Stmt-F.If arms others) =
       let y = Stmt-F.If (map (λ e. e.0) arms) (map (λ e. e.0) others) in
       does y _ _ (statement_roll y) (exec_roll y) (S.branches_run ask k code setting call default bound calls _ _ _ _ (arms_too arms) (statements_too others))
   stmt_rolled (Stmt-F.Loop body) =
       let y = Stmt-F.Loop (map (λ e. e.0) body) in
-      does y _ _ (statement_roll y) (exec_roll y) (λ runs n texts caught. loop_runs ask k code call default bound _ (λ v. do_each K v caught (map exec (map (λ e. e.0) body))) (each_does body runs n texts caught))
+      does y _ _ (statement_roll y) (exec_roll y) (λ runs n texts caught. loop_runs ask k code bound (λ a. (all (map statement_code (map (λ e. e.0) body))).code a n) (λ v. do_each K v caught (map exec (map (λ e. e.0) body))) (each_does body runs n texts caught))
   stmt_rolled (Stmt-F.While e body) =
       let y = Stmt-F.While e (map (λ x. x.0) body) in
       does y _ _ (statement_roll y) (exec_roll y)
       (λ runs n texts caught.
       let h = both_true _ _ runs in
-      while_runs ask k code call default bound (value_code e) (eval e K) (value_means ask k code call default e h.0) _ (λ v. do_each K v caught (map exec (map (λ x. x.0) body))) (each_does body h.1 n texts caught))
+      while_runs ask k code bound (value_code e) (eval e K) (means e h.0) (λ a. (all (map statement_code (map (λ x. x.0) body))).code a n) (λ v. do_each K v caught (map exec (map (λ x. x.0) body))) (each_does body h.1 n texts caught))
   stmt_rolled (Stmt-F.For x way low high body) =
       let y = Stmt-F.For x way low high (map (λ z. z.0) body) in
       does y _ _ (statement_roll y) (exec_roll y)
       (λ runs n texts caught.
       let h = both_true _ _ runs in
       let g = both_true _ _ h.1 in
-      for_runs ask k code call default bound x way (value_code low) (value_code high) (eval low K) (eval high K) (value_means ask k code call default low h.0) (value_means ask k code call default high g.0) _ (λ v. do_each K v caught (map exec (map (λ z. z.0) body))) (each_does body g.1 n texts caught))
+      for_runs ask k code setting.valid bound x way (value_code low) (value_code high) (eval low K) (eval high K) (means low h.0) (means high g.0) (λ a. (all (map statement_code (map (λ z. z.0) body))).code a n) (λ v. do_each K v caught (map exec (map (λ z. z.0) body))) (each_does body g.1 n texts caught))
   stmt_rolled (Stmt-F.Block m) = does (Stmt-F.Block m.0) _ _ (statement_roll (Stmt-F.Block m.0)) (exec_roll (Stmt-F.Block m.0)) (S.block_runs ask k code setting call default bound calls (master_code m.0) (body_of m.0) m.1)
   stmt_rolled (Stmt-F.AssignRecord x t a) = missing_does (Stmt-F.AssignRecord x t a) (statement_roll (Stmt-F.AssignRecord x t a))
   stmt_rolled (Stmt-F.Call f xs) = missing_does (Stmt-F.Call f xs) (statement_roll (Stmt-F.Call f xs))
@@ -156,7 +163,7 @@ module _ (ask : Ask) (k : Tables) (code : Code) (setting : Setting k code) (call
   arm_rolled y =
       subst (λ z. S.Guards ask k code setting call default bound calls z (arm_of (roll-Arm (bare_arm y)))) (sym (arm_roll (bare_arm y)))
       (subst (λ m. S.Guards ask k code setting call default bound calls (record { test = value_code y.test; body = all (map statement_code (map (λ x. x.0) y.body)) }) m) (sym (guarding_roll (bare_arm y)))
-      (S.guard_runs ask k code setting call default bound calls (value_code y.test) (eval y.test) (map statement_code (map (λ x. x.0) y.body)) (map exec (map (λ x. x.0) y.body)) (value_means ask k code call default y.test) (statements_too y.body)))
+      (S.guard_runs ask k code setting call default bound calls (value_code y.test) (eval y.test) (map statement_code (map (λ x. x.0) y.body)) (map exec (map (λ x. x.0) y.body)) (means y.test) (statements_too y.body)))
 
   -- the handlers of a master: this version runs none
   with_handlers : (items : List Item) (body : List StmtToo) (handlers : List HandlerToo) → S.Masters ask k code setting call default bound calls (inside (all_items (map item_code items)) (all (map statement_code (map (λ x. x.0) body))) (has_no_handlers (map no_code (map (λ x. x.0) handlers)))) (within (map elaborate_item items) (map exec (map (λ x. x.0) body)) (map handler_of (map (λ x. x.0) handlers)))

@@ -11,23 +11,54 @@ use Rattle.ctl_tree.specs.declared.event.Cause.TheVariants.{Scope}
 use Rattle.ctl_meaning.specs.World.{Object, Member, Log, World, Binds}
 use Rattle.ctl_meaning.specs.Lists.{first_with, opened_lists}
 use Rattle.ctl_meaning.specs.Pools.{opened_pools}
-use Rattle.ctl_meaning.specs.Changes.{object_at, begin_finalization, end_finalization, home_of}
+use Rattle.ctl_meaning.specs.Changes.{object_at, begin_finalization, end_finalization, home_of, home_master, opened_changes}
 use Rattle.ctl_meaning.specs.Choice.{Ask, picked}
-use Rattle.ctl_meaning.specs.Outcome.{ByExit, ByReturn, ByRaise, Result, Goes, Leaves, Out, Gives, Stops, Cut, Act, Done, add, bind, on_goes, ◌>>=◌, ◌>>◌, done, nothing, tell, show, look, change, told, either, on_some, opened_outcome}
+use Rattle.ctl_meaning.specs.Outcome.{ByExit, ByReturn, ByRaise, Result, Goes, Leaves, Out, Gives, Stops, Cut, Act, Done, Fine, add, bind, on_goes, ◌>>=◌, ◌>>◌, done, nothing, tell, show, look, change, told, either, on_some, opened_outcome}
 use Rattle.ctl_meaning.specs.Types.{Tables, operation, depth, of_record}
 use Rattle.ctl_meaning.specs.Names.{OfSubprogram, Returned, Call, Default, Tools, gone, opened_names}
 use Rattle.ctl_meaning.specs.Finalization.{whole, Every, component_at, call_operation, after_finalize, own_finalize, in_any_order, finalize_part, finalize, finalize_object, finalize_if_controlled, opened_finalization}
 use Rattle.ctl_meaning.specs.Storage.{close_pool, shut_pool, release_each, opened_storage}
+use Rattle.ctl_code.specs.declared.code.Operations.{Operations}
 use Rattle.ctl_code.specs.declared.code.Code.{Code}
-use Rattle.ctl_code.specs.States.{Frame, Finalizing, State}
+use Rattle.ctl_code.specs.States.{Handed, Complete, FinalizationFailed, Frame, Finalizing, State}
 use Rattle.ctl_code.specs.Table as Table
-use Rattle.ctl_code.specs.Table.{whole_part, operation_of}
+use Rattle.ctl_code.specs.Table.{whole_part, operation_of, operation_in}
 use Rattle.ctl_code.specs.Steps.{moved, step}
+use Rattle.ctl_code.specs.Valid.{IsInScope, IsDeclarable}
 use Rattle.ctl_gen.proofs.Known.{IsPlain}
-use Rattle.ctl_gen.proofs.Worlds.{Fits, fits_begin, fits_end}
+use Rattle.ctl_gen.proofs.Worlds.{IfFound, Fits, Settled, Since, IsInside, home, object_fits, since_begin, since_end}
 use Rattle.ctl_gen.proofs.Plain.{is_controlled_plain, has_controlled_plain, parts_to_finalize_plain}
-use Rattle.ctl_gen.proofs.Setting.{Setting, tools_with, returns, Calls, enter_shows}
-use Rattle.ctl_gen.proofs.Follow.{Runs, gives, both, no_step, last_step, stop_step, one_step, within, then_step, more_quits, more_halts}
+use Rattle.ctl_gen.proofs.Setting.{Setting, tools_with, returns, Told, Sure, Calls, enter_shows}
+use Rattle.ctl_gen.proofs.Follow.{Runs, gives, way_of, both, no_step, last_step, stop_step, within, then_step, more_quits, more_halts}
+
+-- whether a finalization failed is what it hands on
+abbrev pub handed : Bool → Handed
+handed true = FinalizationFailed
+handed false = Complete
+
+abbrev pub tells : List Frame → Result Bool → Log → World → State
+tells ks (Goes b) l w = gives ks (Fine (handed b)) l w
+tells ks (Leaves y) l w = gives ks (Fine Complete) l w
+
+-- Operations are called where their type is declared ------------------------------------------------
+
+-- the display that the operations of a settled object are called with
+home_is : (k : Tables) (code : Code) (w : World) (o : Object) → (h : Settled k code w.ledger.next_master w.activations o) → home_of o.origin w ≡ home h.master w.activations
+unfolding opened_changes
+home_is k code w o h = ap (λ x. home (home_master w x) w.activations) h.origin
+
+-- an operation of its type is in scope there
+pub finalize_scope : (k : Tables) (code : Code) (w : World) (o : Object) (t f : ℕ) → o.ty ≡ Record t → Settled k code w.ledger.next_master w.activations o → operation_of (λ x. x.finalize) code t ≡ Some f → IsInScope code (length (home_of o.origin w)) (Some f)
+finalize_scope k code w o t f ty h op =
+    let inside : IsDeclarable code (length (home h.master w.activations)) t = subst (λ y. IsInside code y (length (home h.master w.activations))) ty h.inside in
+    let same : inside.0.finalize ≡ Some f = sym (ap (λ (x : Option Operations). operation_in (λ y. y.finalize) x) inside.1) ∙ op in
+    subst (λ d. IsInScope code (length d) (Some f)) (sym (home_is k code w o h)) (subst (IsInScope code (length (home h.master w.activations))) same inside.3)
+
+pub initialize_scope : (k : Tables) (code : Code) (w : World) (o : Object) (t f : ℕ) → o.ty ≡ Record t → Settled k code w.ledger.next_master w.activations o → operation_of (λ x. x.initialize) code t ≡ Some f → IsInScope code (length (home_of o.origin w)) (Some f)
+initialize_scope k code w o t f ty h op =
+    let inside : IsDeclarable code (length (home h.master w.activations)) t = subst (λ y. IsInside code y (length (home h.master w.activations))) ty h.inside in
+    let same : inside.0.initialize ≡ Some f = sym (ap (λ (x : Option Operations). operation_in (λ y. y.initialize) x) inside.1) ∙ op in
+    subst (λ d. IsInScope code (length d) (Some f)) (sym (home_is k code w o h)) (subst (IsInScope code (length (home h.master w.activations))) same inside.2)
 
 -- an object that exists is finalized by its own type, and closes then if it is a pool
 abbrev pub finalize_as : Tools → ℕ → Ty → Act Bool
@@ -42,9 +73,9 @@ abbrev unwritten : ℕ → Out Done → Out Bool
 unwritten n o = add 0 (bind (add 1 (bind (bind (bind o told) (on_goes (after_finalize Scope))) (on_goes (λ b. done b)))) (on_goes (λ b. change (end_finalization n) >> done b)))
 
 -- an object that is no pool
-pub pool_closed : (k : Tables) (K : Tools) (n c : ℕ) (l : Log) (w : World) → Fits k w → close_pool K n c l w ≡ Gives (Goes false) 0 c l w
+pub pool_closed : (k : Tables) (code : Code) (K : Tools) (n c : ℕ) (l : Log) (w : World) → Fits k code w → close_pool K n c l w ≡ Gives (Goes false) 0 c l w
 unfolding opened_storage opened_outcome opened_pools opened_lists
-pool_closed k K n c l w fits =
+pool_closed k code K n c l w fits =
     ap (λ ps. on_some (first_with (λ p. nat_eq p.object n) ps) (on_some (first_with (λ p. nat_eq p.object n) w.pools.block_pools) (done false) (λ p. shut_pool n >> done false)) (λ p. release_each K p.marks false >>= (λ b. shut_pool n >> done b)) c l w) fits.mark_pools
     ∙ ap (λ ps. on_some (first_with (λ p. nat_eq p.object n) ps) (done false) (λ p. shut_pool n >> done false) c l w) fits.block_pools
 
@@ -74,53 +105,58 @@ module _ (ask : Ask) (k : Tables) (code : Code) (setting : Setting k code) (call
   call_is f n c l w o at = ap (λ x. on_some x gone (λ o1. look (λ w1. show (ends n) >> call (OfSubprogram f (Binds n 0 [] ∷ [])) (home_of o1.origin w1) >> nothing)) c l w) at
 
   -- after the execution of a Finalize, one that raised is remembered
-  over : (n : ℕ) (ks : List Frame) (ops : List ℕ) (s0 : State) (c : ℕ) (o : Out Returned) → Runs ask code (Fits k) 2 2 s0 c (returns (Finalizing n ∷ ks) ops) o → Runs ask code (Fits k) 3 2 s0 c (gives ks ops) (finalized n o)
+  over : (n : ℕ) (w0 : World) (ks : List Frame) (s0 : State) (c : ℕ) (o : Out Returned) → Runs ask code (Told k code w0) 2 2 s0 c (returns (Finalizing n ∷ ks)) o → Runs ask code (Sure k code w0) 3 2 s0 c (tells ks) (finalized n o)
   unfolding picked opened_outcome opened_finalization
-  over n ks ops s0 c (Gives (Goes x) u c1 l w) z = then_step ask code (Fits k) 2 3 s0 _ _ c c1 u _ w _ z refl (fits_end k n w z.fits) (omega arith)
-  over n ks ops s0 c (Gives (Leaves ByExit) u c1 l w) z = then_step ask code (Fits k) 2 3 s0 _ _ c c1 u _ w _ z refl z.fits (omega arith)
-  over n ks ops s0 c (Gives (Leaves (ByReturn v)) u c1 l w) z = then_step ask code (Fits k) 2 3 s0 _ _ c c1 u _ w _ z refl z.fits (omega arith)
-  over n ks ops s0 c (Gives (Leaves (ByRaise e)) u c1 l w) z = then_step ask code (Fits k) 2 3 s0 _ _ c c1 u _ w _ z refl (fits_end k n w z.fits) (omega arith)
-  over n ks ops s0 c (Stops why u l) z = more_quits ask code (Fits k) 2 2 s0 u _ l why (omega arith) z
-  over n ks ops s0 c (Cut u c1 l) z = more_halts ask code (Fits k) 2 2 s0 c u _ l (omega arith) z
+  over n w0 ks s0 c (Gives (Goes x) u c1 l w) z = then_step ask code (Sure k code w0) 2 3 s0 _ _ c c1 u _ z refl (tt, since_end k code n w0 w z.fits.1) (omega arith)
+  over n w0 ks s0 c (Gives (Leaves ByExit) u c1 l w) z = absurd z.fits.0
+  over n w0 ks s0 c (Gives (Leaves (ByReturn v)) u c1 l w) z = absurd z.fits.0
+  over n w0 ks s0 c (Gives (Leaves (ByRaise e)) u c1 l w) z = then_step ask code (Sure k code w0) 2 3 s0 _ _ c c1 u _ z refl (tt, since_end k code n w0 w z.fits.1) (omega arith)
+  over n w0 ks s0 c (Stops why u l) z = more_quits ask code (Sure k code w0) 2 2 s0 u _ l why (omega arith) z
+  over n w0 ks s0 c (Cut u c1 l) z = more_halts ask code (Sure k code w0) 2 2 s0 c u _ l (omega arith) z
 
   module _ (bound : ℕ) (calls : Calls ask k code setting bound call) where
     -- an object that exists, from the step that begins it
-    object_runs : (n : ℕ) (ks : List Frame) (ops : List ℕ) (c : ℕ) (l : Log) (w : World) (s0 : State) (o : Object) → c ≤ bound → Fits k w → object_at n w ≡ Some o → step ask code s0 ≡ moved l (Table.call_operation code (operation_of (λ x. x.finalize) code t) (ends n) n (object_at n (begin_finalization n w)) (Finalizing n ∷ ks) ops (begin_finalization n w)) → Runs ask code (Fits k) 3 3 s0 c (gives ks ops) (finalize_object K Scope (record { number = n; ty = Record t }) c l w)
+    object_runs : (n : ℕ) (w0 : World) (ks : List Frame) (c : ℕ) (l : Log) (w : World) (s0 : State) (o : Object) → c ≤ bound → Since k code w0 w → object_at n w ≡ Some o → o.ty ≡ Record t → ((p : Object) → object_at n (begin_finalization n w) ≡ Some p → p.ty ≡ Record t) → step ask code s0 ≡ moved l (Table.finalize_by code (operation_of (λ x. x.finalize) code t) n (object_at n (begin_finalization n w)) ks (begin_finalization n w)) → Runs ask code (Sure k code w0) 3 3 s0 c (tells ks) (finalize_object K Scope (record { number = n; ty = Record t }) c l w)
     unfolding picked opened_outcome opened_finalization opened_names of_record
-    object_runs n ks ops c l w s0 o le fits at first = subst goal (sym (object_is (operation (λ x. x.finalize) k t) refl n c l w o at)) (still (operation (λ x. x.finalize) k t) (object_at n w1) refl refl (first ∙ ap (λ g. begun g (object_at n w1)) (setting.finalize t)))
+    object_runs n w0 ks c l w s0 o le fits at ty ty1 first = subst goal (sym (object_is (operation (λ x. x.finalize) k t) refl n c l w o at)) (still (operation (λ x. x.finalize) k t) (object_at n w1) refl refl (first ∙ ap (λ g. begun g (object_at n w1)) (setting.finalize t)))
       where
         w1 : World
         w1 = begin_finalization n w
 
-        fits1 : Fits k w1
-        fits1 = fits_begin k n w fits
+        fits1 : Since k code w0 (begin_finalization n w)
+        fits1 = since_begin k code n w0 w fits
 
         goal : Out Bool → Type 0
-        goal o = Runs ask code (Fits k) 3 3 s0 c (gives ks ops) o
+        goal x = Runs ask code (Sure k code w0) 3 3 s0 c (tells ks) x
 
         begun : Option ℕ → Option Object → State
-        begun g x = moved l (Table.call_operation code g (ends n) n x (Finalizing n ∷ ks) ops w1)
+        begun g x = moved l (Table.finalize_by code g n x ks (begin_finalization n w))
 
-        still : (g : Option ℕ) (x : Option Object) → operation (λ x. x.finalize) k t ≡ g → object_at n w1 ≡ x → step ask code s0 ≡ begun g x → goal (unwritten n (call_operation K (whole n) g (ends n) c l w1))
-        still None None op at1 e = subst goal (sym (ap (λ x. unwritten n (add 1 (on_some x gone (λ _. nothing) c l w1))) at1)) (stop_step ask code (Fits k) 3 3 s0 _ c 2 (gives ks ops) UseAfterFree l (omega arith) e refl refl)
-        still None (Some o) op at1 e = subst goal (sym (ap (λ x. unwritten n (add 1 (on_some x gone (λ _. nothing) c l w1))) at1)) (one_step ask code (Fits k) 1 0 3 3 s0 _ c c (gives ks ops) (Gives (Goes false) 2 c l (end_finalization n w1)) (omega arith) (omega arith) (omega arith) (omega arith) e (last_step ask code (Fits k) 1 0 _ c 2 (gives ks ops) (Goes false) l (end_finalization n w1) (omega arith) (fits_end k n w1 fits1) refl))
-        still (Some f) None op at1 e = subst goal (sym (ap (λ x. unwritten n (on_some x gone (λ o1. look (λ v. show (ends n) >> call (OfSubprogram f (Binds n 0 [] ∷ [])) (home_of o1.origin v) >> nothing)) c l w1)) at1)) (stop_step ask code (Fits k) 3 3 s0 _ c 1 (gives ks ops) UseAfterFree l (omega arith) e refl refl)
-        still (Some f) (Some o) op at1 e = subst goal (sym (ap (unwritten n) (call_is f n c l w1 o at1))) (within ask code (Fits k) 3 2 3 3 s0 c (gives ks ops) _ (omega arith) (omega arith) (over n ks ops s0 c _ (calls.runs f (setting.finalize_body t f op).0 (setting.finalize_body t f op).1 (home_of o.origin w1) (Binds n 0 [] ∷ []) (Finalizing n ∷ ks) ops c (tell (ends n) l) w1 s0 le fits1 (e ∙ enter_shows (slice_get code.entries.items f) (ends n) (home_of o.origin w1) (Binds n 0 [] ∷ []) (Finalizing n ∷ ks) ops l w1))))
+        still : (g : Option ℕ) (x : Option Object) → operation (λ x1. x1.finalize) k t ≡ g → object_at n (begin_finalization n w) ≡ x → step ask code s0 ≡ moved l (Table.finalize_by code g n (object_at n (begin_finalization n w)) ks (begin_finalization n w)) → Runs ask code (Sure k code w0) 3 3 s0 c (tells ks) (unwritten n (call_operation K (whole n) g (ends n) c l (begin_finalization n w)))
+        still None None op at1 e = subst goal (sym (ap (λ x. unwritten n (add 1 (on_some x gone (λ _. nothing) c l w1))) at1)) (stop_step ask code (Sure k code w0) 3 3 s0 _ c 2 (tells ks) UseAfterFree l (omega arith) (e ∙ ap (begun None) at1) refl refl)
+        still None (Some p) op at1 e = subst goal (sym (ap (λ x. unwritten n (add 1 (on_some x gone (λ _. nothing) c l w1))) at1)) (last_step ask code (Sure k code w0) 3 3 s0 c 2 (tells ks) (Goes false) l (end_finalization n w1) (omega arith) (tt, since_end k code n w0 w1 fits1) (e ∙ ap (begun None) at1))
+        still (Some f) None op at1 e = subst goal (sym (ap (λ x. unwritten n (on_some x gone (λ o1. look (λ v. show (ends n) >> call (OfSubprogram f (Binds n 0 [] ∷ [])) (home_of o1.origin v) >> nothing)) c l w1)) at1)) (stop_step ask code (Sure k code w0) 3 3 s0 _ c 1 (tells ks) UseAfterFree l (omega arith) (e ∙ ap (begun (Some f)) at1) refl refl)
+        still (Some f) (Some p) op at1 e =
+            let body = setting.finalize_body t f op in
+            let settled = subst (IfFound (Settled k code w1.ledger.next_master w1.activations)) at1 (object_fits k code n w1 fits1.0) in
+            subst goal (sym (ap (unwritten n) (call_is f n c l w1 p at1)))
+            (within ask code (Sure k code w0) 3 2 3 3 s0 c (tells ks) _ (omega arith) (omega arith)
+            (over n w0 ks s0 c _ (calls.runs f body.0 body.1 w0 (home_of p.origin w1) (Binds n 0 [] ∷ []) (Finalizing n ∷ ks) c (tell (ends n) l) w1 s0 le fits1 (finalize_scope k code w1 p t f (ty1 p at1) settled (setting.finalize t ∙ op)) (tt, tt) (e ∙ ap (begun (Some f)) at1 ∙ enter_shows (slice_get code.entries.items f) (ends n) (home_of p.origin w1) (Binds n 0 [] ∷ []) (Finalizing n ∷ ks) l w1))))
 
     -- such an object, which is no pool
-    pub declared_runs : (n : ℕ) (ks : List Frame) (ops : List ℕ) (c : ℕ) (l : Log) (w : World) (s0 : State) (o : Object) → c ≤ bound → Fits k w → object_at n w ≡ Some o → step ask code s0 ≡ moved l (Table.call_operation code (operation_of (λ x. x.finalize) code t) (ends n) n (object_at n (begin_finalization n w)) (Finalizing n ∷ ks) ops (begin_finalization n w)) → Runs ask code (Fits k) 3 3 s0 c (gives ks ops) (finalize_as K n (Record t) c l w)
+    pub declared_runs : (n : ℕ) (w0 : World) (ks : List Frame) (c : ℕ) (l : Log) (w : World) (s0 : State) (o : Object) → c ≤ bound → Since k code w0 w → object_at n w ≡ Some o → o.ty ≡ Record t → ((p : Object) → object_at n (begin_finalization n w) ≡ Some p → p.ty ≡ Record t) → step ask code s0 ≡ moved l (Table.finalize_by code (operation_of (λ x. x.finalize) code t) n (object_at n (begin_finalization n w)) ks (begin_finalization n w)) → Runs ask code (Sure k code w0) 3 3 s0 c (tells ks) (finalize_as K n (Record t) c l w)
     unfolding opened_outcome opened_finalization
-    declared_runs n ks ops c l w s0 o le fits at first =
-        subst (λ b. Runs ask code (Fits k) 3 3 s0 c (gives ks ops) (bind (either b (finalize_object K Scope m) (done false) c l w) (on_goes (λ a. close_pool K n >>= (λ b1. done (a || b1)))))) (sym (has_controlled_plain k t r here plain))
-        (both ask code (Fits k) 3 3 0 0 3 3 s0 c (gives ks ops) (gives ks ops) _ _ (omega arith) (omega arith) (omega arith) (object_runs n ks ops c l w s0 o le fits at first) after)
+    declared_runs n w0 ks c l w s0 o le fits at ty ty1 first =
+        subst (λ b. Runs ask code (Sure k code w0) 3 3 s0 c (tells ks) (bind (either b (finalize_object K Scope m) (done false) c l w) (on_goes (λ a. close_pool K n >>= (λ b1. done (a || b1)))))) (sym (has_controlled_plain k t r here plain))
+        (both ask code (Sure k code w0) (Sure k code w0) 3 3 0 0 3 3 s0 c (tells ks) (tells ks) _ _ (omega arith) (omega arith) (omega arith) (object_runs n w0 ks c l w s0 o le fits at ty ty1 first) after)
       where
         m : Member
         m = record { number = n; ty = Record t }
 
-        joined : (a : Bool) (c1 : ℕ) (l1 : Log) (w1 : World) → Fits k w1 → Runs ask code (Fits k) 0 0 (gives ks ops (Goes a) l1 w1) c1 (gives ks ops) (bind (Gives (Goes false) 0 c1 l1 w1) (on_goes (λ b1. done (a || b1))))
-        joined true c1 l1 w1 fits1 = no_step ask code (Fits k) 0 0 _ c1 0 (gives ks ops) (Goes true) l1 w1 fits1 refl
-        joined false c1 l1 w1 fits1 = no_step ask code (Fits k) 0 0 _ c1 0 (gives ks ops) (Goes false) l1 w1 fits1 refl
+        joined : (a : Bool) (c1 : ℕ) (l1 : Log) (w1 : World) → Since k code w0 w1 → Runs ask code (Sure k code w0) 0 0 (tells ks (Goes a) l1 w1) c1 (tells ks) (bind (Gives (Goes false) 0 c1 l1 w1) (on_goes (λ b1. done (a || b1))))
+        joined true c1 l1 w1 fits1 = no_step ask code (Sure k code w0) 0 0 _ c1 0 (tells ks) (Goes true) l1 w1 (tt, fits1) refl
+        joined false c1 l1 w1 fits1 = no_step ask code (Sure k code w0) 0 0 _ c1 0 (tells ks) (Goes false) l1 w1 (tt, fits1) refl
 
-        after : (a : Result Bool) (c1 : ℕ) (l1 : Log) (w1 : World) → c1 ≤ c → Fits k w1 → Runs ask code (Fits k) 0 0 (gives ks ops a l1 w1) c1 (gives ks ops) (on_goes (λ a. close_pool K n >>= (λ b1. done (a || b1))) a c1 l1 w1)
-        after (Goes a) c1 l1 w1 lo fits1 = subst (λ o. Runs ask code (Fits k) 0 0 (gives ks ops (Goes a) l1 w1) c1 (gives ks ops) (bind o (on_goes (λ b1. done (a || b1))))) (sym (pool_closed k K n c1 l1 w1 fits1)) (joined a c1 l1 w1 fits1)
-        after (Leaves y) c1 l1 w1 lo fits1 = no_step ask code (Fits k) 0 0 _ c1 0 (gives ks ops) (Leaves y) l1 w1 fits1 refl
+        after : (a : Result Bool) (c1 : ℕ) (l1 : Log) (w1 : World) → c1 ≤ c → Sure k code w0 (way_of a) w1 → Runs ask code (Sure k code w0) 0 0 (tells ks a l1 w1) c1 (tells ks) (on_goes (λ a1. close_pool K n >>= (λ b1. done (a1 || b1))) a c1 l1 w1)
+        after (Goes a) c1 l1 w1 lo fits1 = subst (λ x. Runs ask code (Sure k code w0) 0 0 (tells ks (Goes a) l1 w1) c1 (tells ks) (bind x (on_goes (λ b1. done (a || b1))))) (sym (pool_closed k code K n c1 l1 w1 fits1.1.0)) (joined a c1 l1 w1 fits1.1)
+        after (Leaves y) c1 l1 w1 lo fits1 = absurd fits1.0

@@ -1,18 +1,20 @@
 -- The machine follows a meaning: what holds of one stretch of steps, and how stretches are joined.
-use Rattle.std.proofs.Common.{◌≡◌, ℕ, zero, suc, ◌+◌, ◌*◌, ◌≤◌, List, [], ◌∷◌, Bool, refl, sym, ap, ◌∙◌, subst, arith, ◌⊎◌, inl, inr}
+use Rattle.std.proofs.Common.{◌≡◌, ℕ, zero, suc, ◌+◌, ◌-◌, ◌*◌, ◌≤◌, List, [], ◌∷◌, Option, Some, None, refl, sym, ap, ◌∙◌, subst, arith, ◌⊎◌, inl, inr}
 use Rattle.ctl_tree.specs.declared.ending.Stop.{Stop}
 use Rattle.ctl_meaning.specs.World.{Log, World}
 use Rattle.ctl_meaning.specs.Choice.{Ask}
-use Rattle.ctl_meaning.specs.Outcome.{Result, Goes, Leaves, Out, Gives, Stops, Cut, Act, Done, add, bind, on_goes, given}
+use Rattle.ctl_meaning.specs.Outcome.{Way, ByExit, ByReturn, ByRaise, Result, Goes, Leaves, Out, Gives, Stops, Cut, Act, Done, Tried, add, bind, on_goes, given}
 use Rattle.ctl_code.specs.declared.code.Code.{Code}
-use Rattle.ctl_code.specs.States.{Mode, At, Giving, Stopped, Stuck, Frame, State, goes_to}
+use Rattle.ctl_code.specs.States.{Handed, Mode, At, Transfers, Giving, Stopped, Stuck, Frame, State}
+use Rattle.ctl_gen.specs.Around.{Exits, FromMaster, FromLoop, further as further_on}
 use Rattle.ctl_code.specs.Steps.{step, steps}
 
 -- the machine has neither ended nor come to an ill-formed state
 abbrev pub GoingBy : Mode → List Frame → Type 0
 GoingBy (At d place) k = Unit {0}
-GoingBy (Giving r) [] = ⊥
-GoingBy (Giving r) (f ∷ k) = Unit {0}
+GoingBy (Transfers y) k = Unit {0}
+GoingBy (Giving t) [] = ⊥
+GoingBy (Giving t) (f ∷ k) = Unit {0}
 GoingBy (Stopped s) k = ⊥
 GoingBy Stuck k = ⊥
 
@@ -23,23 +25,53 @@ IsGoing s = GoingBy s.mode s.control
 abbrev pub at : List ℕ → ℕ → List Frame → List ℕ → Log → World → State
 at d place k ops l w = record { mode = At d place; control = k; operands = ops; world = w; log = l }
 
--- a statement's result, at the place behind it or under way to the frames
-abbrev pub arrives : List ℕ → ℕ → List Frame → List ℕ → Result Done → Log → World → State
-arrives d place k ops r l w = record { mode = goes_to d place r; control = k; operands = ops; world = w; log = l }
+-- control is transferred to the innermost master
+abbrev pub transferred : Way → List Frame → Log → World → State
+transferred y k l w = record { mode = Transfers y; control = k; operands = []; world = w; log = l }
 
--- a result for the topmost frame
-abbrev pub gives : List Frame → List ℕ → Result Bool → Log → World → State
-gives k ops r l w = record { mode = Giving r; control = k; operands = ops; world = w; log = l }
+-- a body or a finalization has ended, for the frame that waits
+abbrev pub gives : List Frame → Tried Handed → Log → World → State
+gives k t l w = record { mode = Giving t; control = k; operands = []; world = w; log = l }
 
-module _ (ask : Ask) (code : Code) (Fits : World → Type 0) where
+-- where an exit statement leads: out of the innermost master, or to a loop's landing
+pub data Landing : Type 0 where
+  OutOf : Landing
+  On : (place : ℕ) → Landing
+
+abbrev pub landing_of : Exits → ℕ → Landing
+landing_of FromMaster place = OutOf
+landing_of (FromLoop back) place = On (place - back)
+
+-- it is the same so many instructions further on
+pub landing_further : (e : Exits) (n place : ℕ) → landing_of (further_on n e) (place + n) ≡ landing_of e place
+landing_further FromMaster n place = refl
+landing_further (FromLoop back) n place = let e : place + n - (back + n) ≡ place - back = omega arith in ap On e
+
+abbrev pub landed_on : Landing → List ℕ → List Frame → List ℕ → Log → World → State
+landed_on OutOf d k ops l w = transferred ByExit k l w
+landed_on (On place) d k ops l w = at d place k ops l w
+
+-- a statement's result, at the place behind it, at a landing or under way to the innermost master
+abbrev pub arrives : Landing → List ℕ → ℕ → List Frame → List ℕ → Result Done → Log → World → State
+arrives e d place k ops (Goes a) l w = at d place k ops l w
+arrives e d place k ops (Leaves ByExit) l w = landed_on e d k ops l w
+arrives e d place k ops (Leaves (ByReturn v)) l w = transferred (ByReturn v) k l w
+arrives e d place k ops (Leaves (ByRaise x)) l w = transferred (ByRaise x) k l w
+
+-- how a result leaves, if it does
+abbrev pub way_of : {A : Type 0} → Result A → Option Way
+way_of (Goes a) = None
+way_of (Leaves y) = Some y
+
+module _ (ask : Ask) (code : Code) where
   -- from s to another state in at most 64 steps a tick and b more, and in no fewer than were taken from the clock
-  pub record Comes (b : ℕ) (s : State) (c t c1 : ℕ) (there : State) (w : World) : Type 0 where
+  pub record Comes (b : ℕ) (s : State) (c t c1 : ℕ) (there : State) (Fits : Type 0) : Type 0 where
     pub n : ℕ
     pub falls : c1 ≤ c
     pub enough : c ≤ c1 + n
     pub in_time : n ≤ 64 * t + b
     pub comes : steps ask code n s ≡ there
-    pub fits : Fits w
+    pub fits : Fits
 
   -- a moment when the clock is used up, or a choice is not answered: fewer than 64 steps a tick and h more
   pub record Halts (h : ℕ) (s : State) (c t : ℕ) (l : Log) : Type 0 where
@@ -55,12 +87,6 @@ module _ (ask : Ask) (code : Code) (Fits : World → Type 0) where
     pub in_time : n + 1 ≤ 64 * t + h
     pub logged : (steps ask code n s).log ≡ l
     pub over : (steps ask code n s).mode ≡ Stopped why
-
-  -- the machine does what the meaning gives
-  abbrev pub Runs : {A : Type 0} → ℕ → ℕ → State → ℕ → (Result A → Log → World → State) → Out A → Type 0
-  Runs b h s c next (Gives r t c1 l w) = Comes b s c t c1 (next r l w) w
-  Runs b h s c next (Stops why t l) = Quits h s t l why
-  Runs b h s c next (Cut t c1 l) = Halts h s c t l
 
   pub steps_add : (n m : ℕ) (s : State) → steps ask code (n + m) s ≡ steps ask code n (steps ask code m s)
   steps_add zero m s = let e : 0 + m ≡ m = omega arith in ap (λ k. steps ask code k s) e
@@ -82,8 +108,8 @@ module _ (ask : Ask) (code : Code) (Fits : World → Type 0) where
       let same : steps ask code (z.n + m) s ≡ steps ask code z.n s1 = steps_add z.n m s ∙ ap (steps ask code z.n) there in
       record { n = z.n + m; in_time = omega (arith, z.in_time, time); logged = ap (λ (x : State). x.log) same ∙ z.logged; over = ap (λ (x : State). x.mode) same ∙ z.over }
 
-  later_comes : (m b d : ℕ) (s s1 s2 : State) (c c1 c2 t u : ℕ) (w : World) → steps ask code m s ≡ s1 → c1 ≤ c → c ≤ c1 + m → m + 64 * t + b ≤ 64 * u + d → Comes b s1 c1 t c2 s2 w → Comes d s c u c2 s2 w
-  later_comes m b d s s1 s2 c c1 c2 t u w there lo hi time z =
+  later_comes : {X : Type 0} (m b d : ℕ) (s s1 s2 : State) (c c1 c2 t u : ℕ) → steps ask code m s ≡ s1 → c1 ≤ c → c ≤ c1 + m → m + 64 * t + b ≤ 64 * u + d → Comes b s1 c1 t c2 s2 X → Comes d s c u c2 s2 X
+  later_comes m b d s s1 s2 c c1 c2 t u there lo hi time z =
       record {
         n = z.n + m;
         falls = omega (arith, z.falls, lo);
@@ -93,12 +119,20 @@ module _ (ask : Ask) (code : Code) (Fits : World → Type 0) where
         fits = z.fits;
       }
 
+-- what is true of the worlds that are come to, where a result goes on and where it leaves
+module _ (ask : Ask) (code : Code) (Fits : Option Way → World → Type 0) where
+  -- the machine does what the meaning gives
+  abbrev pub Runs : {A : Type 0} → ℕ → ℕ → State → ℕ → (Result A → Log → World → State) → Out A → Type 0
+  Runs b h s c next (Gives r t c1 l w) = Comes ask code b s c t c1 (next r l w) (Fits (way_of r) w)
+  Runs b h s c next (Stops why t l) = Quits ask code h s t l why
+  Runs b h s c next (Cut t c1 l) = Halts ask code h s c t l
+
   -- after a stretch that has come to its end
-  pub after_comes : {A : Type 0} (b b1 h1 d e : ℕ) (s s1 : State) (c c1 t : ℕ) (w1 : World) (next : Result A → Log → World → State) (o : Out A) → b + b1 ≤ d → b + h1 ≤ e → Comes b s c t c1 s1 w1 → Runs b1 h1 s1 c1 next o → Runs d e s c next (add t o)
+  pub after_comes : {A X : Type 0} (b b1 h1 d e : ℕ) (s s1 : State) (c c1 t : ℕ) (next : Result A → Log → World → State) (o : Out A) → b + b1 ≤ d → b + h1 ≤ e → Comes ask code b s c t c1 s1 X → Runs b1 h1 s1 c1 next o → Runs d e s c next (add t o)
   unfolding add
-  after_comes b b1 h1 d e s s1 c c1 t w1 next (Gives r u c2 l w) le he a z = later_comes a.n b1 d s s1 (next r l w) c c1 c2 u (t + u) w a.comes a.falls a.enough (omega (arith, a.in_time, le)) z
-  after_comes b b1 h1 d e s s1 c c1 t w1 next (Stops why u l) le he a z = later_quits a.n h1 e s s1 u (t + u) l why a.comes (omega (arith, a.in_time, he)) z
-  after_comes b b1 h1 d e s s1 c c1 t w1 next (Cut u c2 l) le he a z = later_halts a.n h1 e s s1 c c1 u (t + u) l a.comes a.enough (omega (arith, a.in_time, he)) z
+  after_comes b b1 h1 d e s s1 c c1 t next (Gives r u c2 l w) le he a z = later_comes ask code a.n b1 d s s1 (next r l w) c c1 c2 u (t + u) a.comes a.falls a.enough (omega (arith, a.in_time, le)) z
+  after_comes b b1 h1 d e s s1 c c1 t next (Stops why u l) le he a z = later_quits ask code a.n h1 e s s1 u (t + u) l why a.comes (omega (arith, a.in_time, he)) z
+  after_comes b b1 h1 d e s s1 c c1 t next (Cut u c2 l) le he a z = later_halts ask code a.n h1 e s s1 c c1 u (t + u) l a.comes a.enough (omega (arith, a.in_time, he)) z
 
   -- greater counts of steps that no tick pays, and more ticks
   pub added : {A : Type 0} (n b h d e : ℕ) (s : State) (c : ℕ) (next : Result A → Log → World → State) (o : Out A) → b ≤ 64 * n + d → h ≤ 64 * n + e → Runs b h s c next o → Runs d e s c next (add n o)
@@ -114,43 +148,21 @@ module _ (ask : Ask) (code : Code) (Fits : World → Type 0) where
 
   -- one step, and at most one from the clock
   pub one_step : {A : Type 0} (b h d e : ℕ) (s s1 : State) (c c1 : ℕ) (next : Result A → Log → World → State) (o : Out A) → b + 1 ≤ d → h + 1 ≤ e → c1 ≤ c → c ≤ c1 + 1 → step ask code s ≡ s1 → Runs b h s1 c1 next o → Runs d e s c next o
-  one_step b h d e s s1 c c1 next (Gives r u c2 l w) le he lo hi there z = later_comes 1 b d s s1 (next r l w) c c1 c2 u u w there lo hi (omega (arith, le)) z
-  one_step b h d e s s1 c c1 next (Stops why u l) le he lo hi there z = later_quits 1 h e s s1 u u l why there (omega (arith, he)) z
-  one_step b h d e s s1 c c1 next (Cut u c2 l) le he lo hi there z = later_halts 1 h e s s1 c c1 u u l there hi (omega (arith, he)) z
+  one_step b h d e s s1 c c1 next (Gives r u c2 l w) le he lo hi there z = later_comes ask code 1 b d s s1 (next r l w) c c1 c2 u u there lo hi (omega (arith, le)) z
+  one_step b h d e s s1 c c1 next (Stops why u l) le he lo hi there z = later_quits ask code 1 h e s s1 u u l why there (omega (arith, he)) z
+  one_step b h d e s s1 c c1 next (Cut u c2 l) le he lo hi there z = later_halts ask code 1 h e s s1 c c1 u u l there hi (omega (arith, he)) z
 
   -- one step, and that is all
-  pub last_step : {A : Type 0} (b h : ℕ) (s : State) (c t : ℕ) (next : Result A → Log → World → State) (r : Result A) (l : Log) (w : World) → 1 ≤ 64 * t + b → Fits w → step ask code s ≡ next r l w → Runs b h s c next (Gives r t c l w)
+  pub last_step : {A : Type 0} (b h : ℕ) (s : State) (c t : ℕ) (next : Result A → Log → World → State) (r : Result A) (l : Log) (w : World) → 1 ≤ 64 * t + b → Fits (way_of r) w → step ask code s ≡ next r l w → Runs b h s c next (Gives r t c l w)
   last_step b h s c t next r l w le fits there = record { n = 1; falls = omega arith; enough = omega arith; in_time = le; comes = there; fits = fits }
 
   -- no step
-  pub no_step : {A : Type 0} (b h : ℕ) (s : State) (c t : ℕ) (next : Result A → Log → World → State) (r : Result A) (l : Log) (w : World) → Fits w → s ≡ next r l w → Runs b h s c next (Gives r t c l w)
+  pub no_step : {A : Type 0} (b h : ℕ) (s : State) (c t : ℕ) (next : Result A → Log → World → State) (r : Result A) (l : Log) (w : World) → Fits (way_of r) w → s ≡ next r l w → Runs b h s c next (Gives r t c l w)
   no_step b h s c t next r l w fits there = record { n = 0; falls = omega arith; enough = omega arith; in_time = omega arith; comes = there; fits = fits }
 
   -- one step to the end of an erroneous program
   pub stop_step : {A : Type 0} (b h : ℕ) (s s1 : State) (c t : ℕ) (next : Result A → Log → World → State) (why : Stop) (l : Log) → 2 ≤ 64 * t + h → step ask code s ≡ s1 → s1.log ≡ l → s1.mode ≡ Stopped why → Runs b h s c next (Stops why t l)
   stop_step b h s s1 c t next why l le there logged over = record { n = 1; in_time = omega (arith, le); logged = ap (λ (x : State). x.log) there ∙ logged; over = ap (λ (x : State). x.mode) there ∙ over }
-
-  -- one construct and then another
-  pub both : {A B : Type 0} (b h b1 h1 d e : ℕ) (s : State) (c : ℕ) (mid : Result A → Log → World → State) (next : Result B → Log → World → State) (o : Out A) (f : Result A → Act B) → b + b1 ≤ d → h ≤ e → b + h1 ≤ e → Runs b h s c mid o → ((r : Result A) (c1 : ℕ) (l : Log) (w : World) → c1 ≤ c → Fits w → Runs b1 h1 (mid r l w) c1 next (f r c1 l w)) → Runs d e s c next (bind o f)
-  unfolding bind
-  both b h b1 h1 d e s c mid next (Gives r t c1 l w) f le he fe a z = after_comes b b1 h1 d e s (mid r l w) c c1 t w next (f r c1 l w) le fe a (z r c1 l w a.falls a.fits)
-  both b h b1 h1 d e s c mid next (Stops why t l) f le he fe a z = record { n = a.n; in_time = omega (arith, a.in_time, he); logged = a.logged; over = a.over }
-  both b h b1 h1 d e s c mid next (Cut t c1 l) f le he fe a z = record { n = a.n; in_time = omega (arith, a.in_time, he); logged = a.logged; going = a.going; why = a.why }
-
-  -- one step, which may take one from the clock, a construct, and then another that is a tick, which pays 64 steps
-  pub step_both_paid : {A B : Type 0} (b h b1 h1 d e : ℕ) (s0 s : State) (c0 c : ℕ) (mid : Result A → Log → World → State) (next : Result B → Log → World → State) (o : Out A) (f : Result A → Act B) → b + 1 + b1 ≤ 64 + d → h + 1 ≤ e → b + 1 + h1 ≤ 64 + e → c ≤ c0 → c0 ≤ c + 1 → step ask code s0 ≡ s → Runs b h s c mid o → ((r : Result A) (c1 : ℕ) (l : Log) (w : World) → c1 ≤ c → Fits w → Runs b1 h1 (mid r l w) c1 next (f r c1 l w)) → Runs d e s0 c0 next (bind o (λ r c1 l w. add 1 (f r c1 l w)))
-  unfolding bind add
-  step_both_paid b h b1 h1 d e s0 s c0 c mid next (Gives r t c1 l w) f le he fe lo hi first a z = paid (f r c1 l w) (z r c1 l w a.falls a.fits)
-    where
-      x : Comes (b + 1) s0 c0 t c1 (mid r l w) w
-      x = later_comes 1 b (b + 1) s0 s (mid r l w) c0 c c1 t t w first lo hi (omega arith) a
-
-      paid : (o1 : Out _) → Runs b1 h1 (mid r l w) c1 next o1 → Runs d e s0 c0 next (add t (add 1 o1))
-      paid (Gives r1 u c2 l1 w1) y = later_comes x.n b1 d s0 (mid r l w) (next r1 l1 w1) c0 c1 c2 u (t + (1 + u)) w1 x.comes x.falls x.enough (omega (arith, x.in_time, le)) y
-      paid (Stops why u l1) y = later_quits x.n h1 e s0 (mid r l w) u (t + (1 + u)) l1 why x.comes (omega (arith, x.in_time, fe)) y
-      paid (Cut u c2 l1) y = later_halts x.n h1 e s0 (mid r l w) c0 c1 u (t + (1 + u)) l1 x.comes x.enough (omega (arith, x.in_time, fe)) y
-  step_both_paid b h b1 h1 d e s0 s c0 c mid next (Stops why t l) f le he fe lo hi first a z = later_quits 1 h e s0 s t t l why first (omega (arith, he)) a
-  step_both_paid b h b1 h1 d e s0 s c0 c mid next (Cut t c1 l) f le he fe lo hi first a z = later_halts 1 h e s0 s c0 c t t l first hi (omega (arith, he)) a
 
   -- the same end under another name
   pub arriving : {A : Type 0} (b h : ℕ) (s : State) (c : ℕ) (mid next : Result A → Log → World → State) (o : Out A) → ((r : Result A) (l : Log) (w : World) → mid r l w ≡ next r l w) → Runs b h s c mid o → Runs b h s c next o
@@ -162,7 +174,7 @@ module _ (ask : Ask) (code : Code) (Fits : World → Type 0) where
   pub further : {A : Type 0} (b h d e j : ℕ) (s : State) (c : ℕ) (mid next : Result A → Log → World → State) (o : Out A) → b + j ≤ d → h ≤ e → Runs b h s c mid o → ((r : Result A) (l : Log) (w : World) → (i : ℕ) × (i ≤ j) × (steps ask code i (mid r l w) ≡ next r l w)) → Runs d e s c next o
   further b h d e j s c mid next (Gives r t c1 l w) le he a z =
       let x = z r l w in
-      record { n = x.0 + a.n; falls = a.falls; enough = omega (arith, a.enough); in_time = omega (arith, a.in_time, x.1, le); comes = steps_add x.0 a.n s ∙ ap (steps ask code x.0) a.comes ∙ x.2; fits = a.fits }
+      record { n = x.0 + a.n; falls = a.falls; enough = omega (arith, a.enough); in_time = omega (arith, a.in_time, x.1, le); comes = steps_add ask code x.0 a.n s ∙ ap (steps ask code x.0) a.comes ∙ x.2; fits = a.fits }
   further b h d e j s c mid next (Stops why t l) le he a z = record { n = a.n; in_time = omega (arith, a.in_time, he); logged = a.logged; over = a.over }
   further b h d e j s c mid next (Cut t c1 l) le he a z = record { n = a.n; in_time = omega (arith, a.in_time, he); logged = a.logged; going = a.going; why = a.why }
 
@@ -173,36 +185,69 @@ module _ (ask : Ask) (code : Code) (Fits : World → Type 0) where
   left_behind b h d e s c next (Stops why t l) le he a = record { n = a.n; in_time = omega (arith, a.in_time, he); logged = a.logged; over = a.over }
   left_behind b h d e s c next (Cut t c1 l) le he a = record { n = a.n; in_time = omega (arith, a.in_time, he); logged = a.logged; going = a.going; why = a.why }
 
-  -- statements one after another, where the first may leave
-  pub in_row : (b h b1 h1 d e : ℕ) (s : State) (c : ℕ) (v : List ℕ) (place place1 : ℕ) (k : List Frame) (ops : List ℕ) (o : Out Done) (f : Act Done) → b + b1 ≤ d → h ≤ e → b + h1 ≤ e → Runs b h s c (arrives v place k ops) o → ((c1 : ℕ) (l : Log) (w : World) → c1 ≤ c → Fits w → Runs b1 h1 (at v place k ops l w) c1 (arrives v place1 k ops) (f c1 l w)) → Runs d e s c (arrives v place1 k ops) (bind o (on_goes (λ _. f)))
-  unfolding on_goes given
-  in_row b h b1 h1 d e s c v place place1 k ops o f le he fe a z = both b h b1 h1 d e s c (arrives v place k ops) (arrives v place1 k ops) o (on_goes (λ _. f)) le he fe a rest
-    where
-      rest : (r : Result Done) (c1 : ℕ) (l : Log) (w : World) → c1 ≤ c → Fits w → Runs b1 h1 (arrives v place k ops r l w) c1 (arrives v place1 k ops) (on_goes (λ _. f) r c1 l w)
-      rest (Goes u) c1 l w le1 fits = z c1 l w le1 fits
-      rest (Leaves y) c1 l w le1 fits = no_step b1 h1 (arrives v place k ops (Leaves y) l w) c1 0 (arrives v place1 k ops) (Leaves y) l w fits refl
-
   -- one step more, which some ticks more pay
-  pub then_step : (b d : ℕ) (s s1 s2 : State) (c c1 t u : ℕ) (w1 w : World) → Comes b s c t c1 s1 w1 → step ask code s1 ≡ s2 → Fits w → 64 * t + b + 1 ≤ 64 * u + d → Comes d s c u c1 s2 w
-  then_step b d s s1 s2 c c1 t u w1 w z next fits time =
+  pub then_step : {X Y : Type 0} (b d : ℕ) (s s1 s2 : State) (c c1 t u : ℕ) → Comes ask code b s c t c1 s1 X → step ask code s1 ≡ s2 → Y → 64 * t + b + 1 ≤ 64 * u + d → Comes ask code d s c u c1 s2 Y
+  then_step b d s s1 s2 c c1 t u z next fits time =
       record { n = suc z.n; falls = z.falls; enough = omega (arith, z.enough); in_time = omega (arith, z.in_time, time); comes = ap (step ask code) z.comes ∙ next; fits = fits }
 
   -- the same with more ticks
-  pub more_quits : (h e : ℕ) (s : State) (t u : ℕ) (l : Log) (why : Stop) → 64 * t + h ≤ 64 * u + e → Quits h s t l why → Quits e s u l why
+  pub more_quits : (h e : ℕ) (s : State) (t u : ℕ) (l : Log) (why : Stop) → 64 * t + h ≤ 64 * u + e → Quits ask code h s t l why → Quits ask code e s u l why
   more_quits h e s t u l why time z = record { n = z.n; in_time = omega (arith, z.in_time, time); logged = z.logged; over = z.over }
 
-  pub more_halts : (h e : ℕ) (s : State) (c t u : ℕ) (l : Log) → 64 * t + h ≤ 64 * u + e → Halts h s c t l → Halts e s c u l
+  pub more_halts : (h e : ℕ) (s : State) (c t u : ℕ) (l : Log) → 64 * t + h ≤ 64 * u + e → Halts ask code h s c t l → Halts ask code e s c u l
   more_halts h e s c t u l time z = record { n = z.n; in_time = omega (arith, z.in_time, time); logged = z.logged; going = z.going; why = z.why }
 
   -- one step that no tick pays, and that is all
-  pub end_step : {A : Type 0} (h : ℕ) (s : State) (c t : ℕ) (next : Result A → Log → World → State) (r : Result A) (l : Log) (w : World) → Fits w → step ask code s ≡ next r l w → Runs 1 h s c next (Gives r t c l w)
+  pub end_step : {A : Type 0} (h : ℕ) (s : State) (c t : ℕ) (next : Result A → Log → World → State) (r : Result A) (l : Log) (w : World) → Fits (way_of r) w → step ask code s ≡ next r l w → Runs 1 h s c next (Gives r t c l w)
   end_step h s c t next r l w fits there = last_step 1 h s c t next r l w (omega arith) fits there
 
   -- one step more to the end of an erroneous program
-  pub then_stops : (b h : ℕ) (s s1 s2 : State) (c c1 t u : ℕ) (w1 : World) (l : Log) (why : Stop) → Comes b s c t c1 s1 w1 → step ask code s1 ≡ s2 → s2.log ≡ l → s2.mode ≡ Stopped why → 64 * t + b + 2 ≤ 64 * u + h → Quits h s u l why
-  then_stops b h s s1 s2 c c1 t u w1 l why z next logged over time =
+  pub then_stops : {X : Type 0} (b h : ℕ) (s s1 s2 : State) (c c1 t u : ℕ) (l : Log) (why : Stop) → Comes ask code b s c t c1 s1 X → step ask code s1 ≡ s2 → s2.log ≡ l → s2.mode ≡ Stopped why → 64 * t + b + 2 ≤ 64 * u + h → Quits ask code h s u l why
+  then_stops b h s s1 s2 c c1 t u l why z next logged over time =
       let e : steps ask code (suc z.n) s ≡ s2 = ap (step ask code) z.comes ∙ next in
       record { n = suc z.n; in_time = omega (arith, z.in_time, time); logged = ap (λ (x : State). x.log) e ∙ logged; over = ap (λ (x : State). x.mode) e ∙ over }
+
+-- and of the worlds between one construct and another
+module _ (ask : Ask) (code : Code) (Before Fits : Option Way → World → Type 0) where
+  -- one construct and then another
+  pub both : {A B : Type 0} (b h b1 h1 d e : ℕ) (s : State) (c : ℕ) (mid : Result A → Log → World → State) (next : Result B → Log → World → State) (o : Out A) (f : Result A → Act B) → b + b1 ≤ d → h ≤ e → b + h1 ≤ e → Runs ask code Before b h s c mid o → ((r : Result A) (c1 : ℕ) (l : Log) (w : World) → c1 ≤ c → Before (way_of r) w → Runs ask code Fits b1 h1 (mid r l w) c1 next (f r c1 l w)) → Runs ask code Fits d e s c next (bind o f)
+  unfolding bind
+  both b h b1 h1 d e s c mid next (Gives r t c1 l w) f le he fe a z = after_comes ask code Fits b b1 h1 d e s (mid r l w) c c1 t next (f r c1 l w) le fe a (z r c1 l w a.falls a.fits)
+  both b h b1 h1 d e s c mid next (Stops why t l) f le he fe a z = record { n = a.n; in_time = omega (arith, a.in_time, he); logged = a.logged; over = a.over }
+  both b h b1 h1 d e s c mid next (Cut t c1 l) f le he fe a z = record { n = a.n; in_time = omega (arith, a.in_time, he); logged = a.logged; going = a.going; why = a.why }
+
+  -- one step, which may take one from the clock, a construct, and then another that is a tick, which pays 64 steps
+  pub step_both_paid : {A B : Type 0} (b h b1 h1 d e : ℕ) (s0 s : State) (c0 c : ℕ) (mid : Result A → Log → World → State) (next : Result B → Log → World → State) (o : Out A) (f : Result A → Act B) → b + 1 + b1 ≤ 64 + d → h + 1 ≤ e → b + 1 + h1 ≤ 64 + e → c ≤ c0 → c0 ≤ c + 1 → step ask code s0 ≡ s → Runs ask code Before b h s c mid o → ((r : Result A) (c1 : ℕ) (l : Log) (w : World) → c1 ≤ c → Before (way_of r) w → Runs ask code Fits b1 h1 (mid r l w) c1 next (f r c1 l w)) → Runs ask code Fits d e s0 c0 next (bind o (λ r c1 l w. add 1 (f r c1 l w)))
+  unfolding bind add
+  step_both_paid b h b1 h1 d e s0 s c0 c mid next (Gives r t c1 l w) f le he fe lo hi first a z = paid (f r c1 l w) (z r c1 l w a.falls a.fits)
+    where
+      x : Comes ask code (b + 1) s0 c0 t c1 (mid r l w) (Before (way_of r) w)
+      x = later_comes ask code 1 b (b + 1) s0 s (mid r l w) c0 c c1 t t first lo hi (omega arith) a
+
+      paid : (o1 : Out _) → Runs ask code Fits b1 h1 (mid r l w) c1 next o1 → Runs ask code Fits d e s0 c0 next (add t (add 1 o1))
+      paid (Gives r1 u c2 l1 w1) y = later_comes ask code x.n b1 d s0 (mid r l w) (next r1 l1 w1) c0 c1 c2 u (t + (1 + u)) x.comes x.falls x.enough (omega (arith, x.in_time, le)) y
+      paid (Stops why u l1) y = later_quits ask code x.n h1 e s0 (mid r l w) u (t + (1 + u)) l1 why x.comes (omega (arith, x.in_time, fe)) y
+      paid (Cut u c2 l1) y = later_halts ask code x.n h1 e s0 (mid r l w) c0 c1 u (t + (1 + u)) l1 x.comes x.enough (omega (arith, x.in_time, fe)) y
+  step_both_paid b h b1 h1 d e s0 s c0 c mid next (Stops why t l) f le he fe lo hi first a z = later_quits ask code 1 h e s0 s t t l why first (omega (arith, he)) a
+  step_both_paid b h b1 h1 d e s0 s c0 c mid next (Cut t c1 l) f le he fe lo hi first a z = later_halts ask code 1 h e s0 s c0 c t t l first hi (omega (arith, he)) a
+
+module _ (ask : Ask) (code : Code) (Fits : Option Way → World → Type 0) where
+  -- statements one after another, where the first may leave
+  pub in_row : (b h b1 h1 d e : ℕ) (s : State) (c : ℕ) (x : Landing) (v : List ℕ) (place place1 : ℕ) (k : List Frame) (ops : List ℕ) (o : Out Done) (f : Act Done) → b + b1 ≤ d → h ≤ e → b + h1 ≤ e → Runs ask code Fits b h s c (arrives x v place k ops) o → ((c1 : ℕ) (l : Log) (w : World) → c1 ≤ c → Fits None w → Runs ask code Fits b1 h1 (at v place k ops l w) c1 (arrives x v place1 k ops) (f c1 l w)) → Runs ask code Fits d e s c (arrives x v place1 k ops) (bind o (on_goes (λ _. f)))
+  unfolding on_goes given
+  in_row b h b1 h1 d e s c x v place place1 k ops o f le he fe a z = both ask code Fits Fits b h b1 h1 d e s c (arrives x v place k ops) (arrives x v place1 k ops) o (on_goes (λ _. f)) le he fe a rest
+    where
+      rest : (r : Result Done) (c1 : ℕ) (l : Log) (w : World) → c1 ≤ c → Fits (way_of r) w → Runs ask code Fits b1 h1 (arrives x v place k ops r l w) c1 (arrives x v place1 k ops) (on_goes (λ _. f) r c1 l w)
+      rest (Goes u) c1 l w le1 fits = z c1 l w le1 fits
+      rest (Leaves ByExit) c1 l w le1 fits = no_step ask code Fits b1 h1 (arrives x v place k ops (Leaves ByExit) l w) c1 0 (arrives x v place1 k ops) (Leaves ByExit) l w fits refl
+      rest (Leaves (ByReturn y)) c1 l w le1 fits = no_step ask code Fits b1 h1 (arrives x v place k ops (Leaves (ByReturn y)) l w) c1 0 (arrives x v place1 k ops) (Leaves (ByReturn y)) l w fits refl
+      rest (Leaves (ByRaise y)) c1 l w le1 fits = no_step ask code Fits b1 h1 (arrives x v place k ops (Leaves (ByRaise y)) l w) c1 0 (arrives x v place1 k ops) (Leaves (ByRaise y)) l w fits refl
+
+  -- worlds of which less is true
+  pub weaker : {A : Type 0} (Less : Option Way → World → Type 0) (b h : ℕ) (s : State) (c : ℕ) (next : Result A → Log → World → State) (o : Out A) → ((y : Option Way) (w : World) → Fits y w → Less y w) → Runs ask code Fits b h s c next o → Runs ask code Less b h s c next o
+  weaker Less b h s c next (Gives r t c1 l w) f z = record { n = z.n; falls = z.falls; enough = z.enough; in_time = z.in_time; comes = z.comes; fits = f (way_of r) w z.fits }
+  weaker Less b h s c next (Stops why t l) f z = z
+  weaker Less b h s c next (Cut t c1 l) f z = z
 
 -- Joined constructs joined again ------------------------------------------------------------------
 

@@ -1,237 +1,72 @@
--- The code of a well-typed expression is well formed, and leaves an operand of its type.
-use Rattle.std.proofs.Common.{◌≡◌, ℕ, ◌+◌, List, [], ◌∷◌, length, map, Option, Some, None, Bool, true, ◌⊎◌, inl, inr, refl, sym, ap, ◌∙◌, subst, arith, length-append}
+-- The code of a well-typed expression is well formed, and puts a value of its type where it is wanted.
+use Rattle.std.proofs.Common.{◌≡◌, ℕ, ◌+◌, List, [], ◌∷◌, ◌++◌, length, map, Option, Some, None, true, ◌⊎◌, inl, inr, refl, sym, ap, ◌∙◌, subst}
 use Rattle.std.specs.Prelude.{◌&&◌, unwrap_or}
 use Rattle.ctl_program.specs.declared.types.Ty.{Ty}
-use Rattle.ctl_program.specs.declared.types.Ty.TheVariants.{Integer, Count, Boolean, Address, Handle, Record}
+use Rattle.ctl_program.specs.declared.types.Ty.TheVariants.{Integer, Boolean}
 use Rattle.ctl_program.specs.declared.types.Ty.TheVariants as TyOf
 use Rattle.ctl_program.specs.declared.types.Var.{Var}
 use Rattle.ctl_program.specs.declared.operators.Shortcut.{Shortcut}
 use Rattle.ctl_program.specs.declared.operators.UnaryOp.{UnaryOp}
 use Rattle.ctl_program.specs.declared.operators.BinaryOp.{BinaryOp}
-use Rattle.ctl_program.specs.declared.operators.BinaryOp.TheVariants.{Add, Subtract, Multiply, Divide, Modulo, Remainder, And, Or, Xor, Equal, Unequal, Less, LessEqual, Greater, GreaterEqual}
 use Rattle.ctl_program.specs.declared.expression.Expr.{Expr}
 use Rattle.ctl_program.specs.declared.expression.Operand.{Operand, roll-Operand}
 use Rattle.ctl_well_typed.specs.Setting as W
-use Rattle.ctl_well_typed.specs.Types.{Takes, Joins, IsCell, is_arithmetic, is_equality, is_logical, is_number, is_ordering, is_scalar}
+use Rattle.ctl_well_typed.specs.Types.{Joins, IsCell}
 use Rattle.ctl_well_typed.specs.Types as J
 use Rattle.ctl_well_typed.specs.Expressions.{Chains, Truths, Typed}
 use Rattle.ctl_well_typed.specs.Expressions as T
-use Rattle.ctl_code.specs.Kinds.{below_newest}
 use Rattle.ctl_code.specs.declared.kinds.Kind.{Kind}
 use Rattle.ctl_code.specs.declared.kinds.Kind.TheVariants as KindOf
-use Rattle.ctl_code.specs.declared.code.Instr.{Instr}
+use Rattle.ctl_code.specs.declared.code.Named.{Named}
+use Rattle.ctl_code.specs.declared.code.Named.TheVariants as NamedOf
+use Rattle.ctl_code.specs.declared.code.Cell.{Cell}
 use Rattle.ctl_code.specs.declared.code.Instr.TheVariants as InstrOf
 use Rattle.ctl_code.specs.declared.code.Code.{Code}
+use Rattle.ctl_code.specs.Windows.{height, variable_at}
 use Rattle.ctl_code.specs.Valid as Valid
-use Rattle.ctl_code.specs.Valid.{BinaryOf, IsCellOf, IsFine, IsNumber, Leads, UnaryOf}
+use Rattle.ctl_code.specs.Valid.{BinaryOf, IsCellOf, IsFine, Leads, Puts, Taken, UnaryOf}
 use Rattle.ctl_gen.specs.declared.right.Right.{Right}
 use Rattle.ctl_gen.specs.declared.right.Right.TheVariants as RightOf
-use Rattle.ctl_gen.specs.Emitted.{becoming}
-use Rattle.ctl_gen.specs.Values.{OperatorCode, ValueCode, chain, code_by_right, common_type, constant, first_type, is_run_type, kinds_by_right, last_type, missing_value, operand_type, operator_code, operator_kinds, operator_of, operators_code, operators_kinds, operators_run, other_code, other_kinds, others_code, others_kinds, read, short, unary, value_code, value_type, values_run, variable_of}
+use Rattle.ctl_gen.specs.Around.{Line, local_at, new_operand}
+use Rattle.ctl_gen.specs.Values.{Held, OperatorCode, ValueCode, binary_code, chain, common_type, constant, evaluated, first_type, held, held_by, in_cell, last_type, left_held, missing_value, moved_to, next_target, operand_type, operator_by, operator_code, operator_for, operator_of, operators_code, operators_run, other_code, others_code, read, read_from, short, unary, value_code, value_type, values_run, variable_of}
 use Rattle.ctl_gen.proofs.Known.{both_true}
 use Rattle.ctl_gen.proofs.Layers.{value_access, value_call, value_chain, value_constant, value_convert, value_discriminant, value_new, value_read, value_short, value_subpool, value_unary}
 use Rattle.ctl_gen.proofs.TreeLayers.{operator_roll}
-use Rattle.ctl_gen.proofs.Formed.{Formed, both, end_of, none, one}
+use Rattle.ctl_gen.proofs.Formed.{Formed, both, has_end, none, one}
+use Rattle.ctl_gen.proofs.FormedTypes.{arithmetic_of, cell_of, equality_relates, is_relation, joins_scalar, logical_of, number_of, number_scalar, of_arithmetic, of_logical, of_relation, ordering_relates, relation_of, run_scalar, takes_unary}
 
--- Types -------------------------------------------------------------------------------------------
+-- Cells -------------------------------------------------------------------------------------------
 
-number_scalar : (t : Ty) → is_number t ≡ true → Valid.IsScalar t
-number_scalar Integer e = tt
-number_scalar Count e = tt
-number_scalar Boolean e = absurd (cc)
-number_scalar Address e = absurd (cc)
-number_scalar Handle e = absurd (cc)
-number_scalar (TyOf.Access a) e = absurd (cc)
-number_scalar (Record t) e = absurd (cc)
+abbrev PlacedAt : Named → ℕ → List Kind → Type 0
+PlacedAt NamedOf.Operand at s = at ≡ height s
+PlacedAt (NamedOf.Variable out slot) at s = variable_at s out slot ≡ Some at
 
-number_of : (t : Ty) → is_number t ≡ true → IsNumber t
-number_of Integer e = tt
-number_of Count e = tt
-number_of Boolean e = absurd (cc)
-number_of Address e = absurd (cc)
-number_of Handle e = absurd (cc)
-number_of (TyOf.Access a) e = absurd (cc)
-number_of (Record t) e = absurd (cc)
+-- a value can be put there, over what stands there
+abbrev pub Placed : Cell → List Kind → Type 0
+Placed cell s = PlacedAt cell.named cell.at s
 
-pub run_scalar : (t : Ty) → is_run_type t ≡ true → Valid.IsScalar t
-run_scalar Integer e = tt
-run_scalar Boolean e = tt
-run_scalar Count e = absurd (cc)
-run_scalar Address e = absurd (cc)
-run_scalar Handle e = absurd (cc)
-run_scalar (TyOf.Access a) e = absurd (cc)
-run_scalar (Record t) e = absurd (cc)
+-- what stands there with it
+abbrev pub with_put : Named → Ty → List Kind → List Kind
+with_put NamedOf.Operand ty s = KindOf.Operand ty ∷ s
+with_put (NamedOf.Variable out slot) ty s = s
 
-cell_of : (t : Ty) (n : ℕ) → Valid.IsScalar t → IsCell t n → IsCellOf t n
-cell_of Integer n s h = tt
-cell_of Count n s h = tt
-cell_of Boolean n s h = h
-cell_of Address n s h = tt
-cell_of Handle n s h = tt
-cell_of (TyOf.Access a) n s h = absurd s
-cell_of (Record t) n s h = absurd s
-
-takes_unary : (o : UnaryOp) (t : Ty) → Takes o t → UnaryOf o t × Valid.IsScalar t
-takes_unary o t (J.plus e) = (number_of t e, number_scalar t e)
-takes_unary o t (J.minus e) = (number_of t e, number_scalar t e)
-takes_unary o t (J.absolute e) = (number_of t e, number_scalar t e)
-takes_unary o t J.negation = (refl, tt)
-
--- what an operator gives
-joins_scalar : (o : BinaryOp) (s t : Ty) → Joins o s t → Valid.IsScalar t
-joins_scalar o s t (J.arithmetic a n) = number_scalar t n
-joins_scalar o s t (J.logical l) = tt
-joins_scalar o s t (J.equality e h) = tt
-joins_scalar o s t (J.ordering e h) = tt
-
-arithmetic_of : (o : BinaryOp) (t : Ty) → is_arithmetic o ≡ true → IsNumber t → BinaryOf o t t
-arithmetic_of Add t e n = (n, refl)
-arithmetic_of Subtract t e n = (n, refl)
-arithmetic_of Multiply t e n = (n, refl)
-arithmetic_of Divide t e n = (n, refl)
-arithmetic_of Modulo t e n = (n, refl)
-arithmetic_of Remainder t e n = (n, refl)
-arithmetic_of And t e n = absurd (cc)
-arithmetic_of Or t e n = absurd (cc)
-arithmetic_of Xor t e n = absurd (cc)
-arithmetic_of Equal t e n = absurd (cc)
-arithmetic_of Unequal t e n = absurd (cc)
-arithmetic_of Less t e n = absurd (cc)
-arithmetic_of LessEqual t e n = absurd (cc)
-arithmetic_of Greater t e n = absurd (cc)
-arithmetic_of GreaterEqual t e n = absurd (cc)
-
-logical_of : (o : BinaryOp) → is_logical o ≡ true → BinaryOf o Boolean Boolean
-logical_of And e = (refl, refl)
-logical_of Or e = (refl, refl)
-logical_of Xor e = (refl, refl)
-logical_of Add e = absurd (cc)
-logical_of Subtract e = absurd (cc)
-logical_of Multiply e = absurd (cc)
-logical_of Divide e = absurd (cc)
-logical_of Modulo e = absurd (cc)
-logical_of Remainder e = absurd (cc)
-logical_of Equal e = absurd (cc)
-logical_of Unequal e = absurd (cc)
-logical_of Less e = absurd (cc)
-logical_of LessEqual e = absurd (cc)
-logical_of Greater e = absurd (cc)
-logical_of GreaterEqual e = absurd (cc)
-
-abbrev is_relation : BinaryOp → Bool
-is_relation Equal = true
-is_relation Unequal = true
-is_relation o = is_ordering o
-
-relation_of : (o : BinaryOp) (t : Ty) → is_relation o ≡ true → Valid.IsScalar t → BinaryOf o t Boolean
-relation_of Equal t e n = (n, refl)
-relation_of Unequal t e n = (n, refl)
-relation_of Less t e n = (n, refl)
-relation_of LessEqual t e n = (n, refl)
-relation_of Greater t e n = (n, refl)
-relation_of GreaterEqual t e n = (n, refl)
-relation_of Add t e n = absurd (cc)
-relation_of Subtract t e n = absurd (cc)
-relation_of Multiply t e n = absurd (cc)
-relation_of Divide t e n = absurd (cc)
-relation_of Modulo t e n = absurd (cc)
-relation_of Remainder t e n = absurd (cc)
-relation_of And t e n = absurd (cc)
-relation_of Or t e n = absurd (cc)
-relation_of Xor t e n = absurd (cc)
-
-equality_relates : (o : BinaryOp) → is_equality o ≡ true → is_relation o ≡ true
-equality_relates Equal e = refl
-equality_relates Unequal e = refl
-equality_relates Less e = absurd (cc)
-equality_relates LessEqual e = absurd (cc)
-equality_relates Greater e = absurd (cc)
-equality_relates GreaterEqual e = absurd (cc)
-equality_relates Add e = absurd (cc)
-equality_relates Subtract e = absurd (cc)
-equality_relates Multiply e = absurd (cc)
-equality_relates Divide e = absurd (cc)
-equality_relates Modulo e = absurd (cc)
-equality_relates Remainder e = absurd (cc)
-equality_relates And e = absurd (cc)
-equality_relates Or e = absurd (cc)
-equality_relates Xor e = absurd (cc)
-
-ordering_relates : (o : BinaryOp) → is_ordering o ≡ true → is_relation o ≡ true
-ordering_relates Less e = refl
-ordering_relates LessEqual e = refl
-ordering_relates Greater e = refl
-ordering_relates GreaterEqual e = refl
-ordering_relates Equal e = absurd (cc)
-ordering_relates Unequal e = absurd (cc)
-ordering_relates Add e = absurd (cc)
-ordering_relates Subtract e = absurd (cc)
-ordering_relates Multiply e = absurd (cc)
-ordering_relates Divide e = absurd (cc)
-ordering_relates Modulo e = absurd (cc)
-ordering_relates Remainder e = absurd (cc)
-ordering_relates And e = absurd (cc)
-ordering_relates Or e = absurd (cc)
-ordering_relates Xor e = absurd (cc)
-
--- the type of the operands
-of_relation : (o : BinaryOp) (ty : Ty) (a b : Option Ty) → is_relation o ≡ true → operand_type o ty a b ≡ common_type a b
-of_relation Equal ty a b e = refl
-of_relation Unequal ty a b e = refl
-of_relation Less ty a b e = refl
-of_relation LessEqual ty a b e = refl
-of_relation Greater ty a b e = refl
-of_relation GreaterEqual ty a b e = refl
-of_relation Add ty a b e = absurd (cc)
-of_relation Subtract ty a b e = absurd (cc)
-of_relation Multiply ty a b e = absurd (cc)
-of_relation Divide ty a b e = absurd (cc)
-of_relation Modulo ty a b e = absurd (cc)
-of_relation Remainder ty a b e = absurd (cc)
-of_relation And ty a b e = absurd (cc)
-of_relation Or ty a b e = absurd (cc)
-of_relation Xor ty a b e = absurd (cc)
-
-of_arithmetic : (o : BinaryOp) (ty : Ty) (a b : Option Ty) → is_arithmetic o ≡ true → operand_type o ty a b ≡ ty
-of_arithmetic Add ty a b e = refl
-of_arithmetic Subtract ty a b e = refl
-of_arithmetic Multiply ty a b e = refl
-of_arithmetic Divide ty a b e = refl
-of_arithmetic Modulo ty a b e = refl
-of_arithmetic Remainder ty a b e = refl
-of_arithmetic And ty a b e = refl
-of_arithmetic Or ty a b e = refl
-of_arithmetic Xor ty a b e = refl
-of_arithmetic Equal ty a b e = absurd (cc)
-of_arithmetic Unequal ty a b e = absurd (cc)
-of_arithmetic Less ty a b e = absurd (cc)
-of_arithmetic LessEqual ty a b e = absurd (cc)
-of_arithmetic Greater ty a b e = absurd (cc)
-of_arithmetic GreaterEqual ty a b e = absurd (cc)
-
-of_logical : (o : BinaryOp) (ty : Ty) (a b : Option Ty) → is_logical o ≡ true → operand_type o ty a b ≡ ty
-of_logical And ty a b e = refl
-of_logical Or ty a b e = refl
-of_logical Xor ty a b e = refl
-of_logical Add ty a b e = refl
-of_logical Subtract ty a b e = refl
-of_logical Multiply ty a b e = refl
-of_logical Divide ty a b e = refl
-of_logical Modulo ty a b e = refl
-of_logical Remainder ty a b e = refl
-of_logical Equal ty a b e = absurd (cc)
-of_logical Unequal ty a b e = absurd (cc)
-of_logical Less ty a b e = absurd (cc)
-of_logical LessEqual ty a b e = absurd (cc)
-of_logical Greater ty a b e = absurd (cc)
-of_logical GreaterEqual ty a b e = absurd (cc)
+-- the last operator of a chain puts where the value is wanted
+target_placed : (os : List OperatorCode) (to : Cell) (s : List Kind) → Placed to s → Placed (next_target os to s) s
+target_placed [] to s at = at
+target_placed (o ∷ os) to s at = refl
 
 module _ (code : Code) where
+  pub puts : (place : ℕ) (to : Cell) (ty : Ty) (s : List Kind) → Placed to s → Leads code (place + 1) (with_put to.named ty s) → Puts code place to ty s
+  puts place to ty s = by to.named to.at
+    where
+      by : (named : Named) (at : ℕ) → PlacedAt named at s → Leads code (place + 1) (with_put named ty s) → Puts code place (record { at = at; named = named }) ty s
+      by NamedOf.Operand at h next = (h, next)
+      by (NamedOf.Variable out slot) at h next = (h, next)
+
   -- a value whose code is well formed where one of this type is expected
   pub record Usable (x : ValueCode) (ty : Ty) : Type 0 where
     pub scalar : Valid.IsScalar ty
-    pub long : (s : List Kind) → length x.code ≡ length (x.kinds ty s)
-    pub formed : (s : List Kind) → Formed code x.code (x.kinds ty s) s (Some (KindOf.Operand ty ∷ s))
+    pub formed : (to : Cell) (s : List Kind) → Placed to s → Formed code (x.code to ty s) s (Some (with_put to.named ty s))
     pub constant : (n : ℕ) → x.right ≡ RightOf.Constant n → IsCellOf ty n
 
   -- a value of this type of its own, or a constant
@@ -245,8 +80,7 @@ module _ (code : Code) where
   usable_constant : (n : ℕ) (ty : Ty) → Valid.IsScalar ty → IsCellOf ty n → Usable (constant n) ty
   usable_constant n ty scalar cell = record {
     scalar = scalar;
-    long = λ s. refl;
-    formed = λ s. one code (InstrOf.Push n) s (Some (KindOf.Operand ty ∷ s)) (λ p next. (ty, cell, next));
+    formed = λ to s at. one code (InstrOf.Set n ty to) s (Some (with_put to.named ty s)) (λ p next. (cell, puts p to ty s at next));
     constant = λ m is. let same : n ≡ m = cc in subst (IsCellOf ty) same cell;
   }
 
@@ -260,61 +94,83 @@ module _ (code : Code) where
   value_usable x ty (inl h) = subst (Usable x) (sym (ap (λ o. unwrap_or o Integer) h.own)) h.usable
   value_usable x ty (inr (n, is, cell)) = subst (λ (y : ValueCode). Usable y (value_type y)) (sym is) (usable_constant n Integer tt tt)
 
+  -- Where an operand is found -----------------------------------------------------------------------
+
+  -- behind its lines a value of this type is taken from its cell
+  pub record Found (h : Held) (ty : Ty) (s : List Kind) : Type 0 where
+    pub formed : Formed code h.code s (Some h.after)
+    pub taken : Taken h.cell ty h.after s
+
+  found_evaluated : (x : ValueCode) (ty : Ty) (s : List Kind) → Usable x ty → Found (evaluated x ty s) ty s
+  found_evaluated x ty s usable = record { formed = usable.formed (new_operand s) s refl; taken = (refl, refl) }
+
+  found_in_cell : (o : Option ℕ) (v : Var) (x : ValueCode) (ty : Ty) (s : List Kind) → local_at s v ≡ o → Usable x ty → Found (in_cell o v x ty s) ty s
+  found_in_cell (Some at) v x ty s here usable = record { formed = none code s; taken = (refl, here) }
+  found_in_cell None v x ty s here usable = found_evaluated x ty s usable
+
+  pub found : (x : ValueCode) (ty : Ty) (s : List Kind) → Usable x ty → Found (held x ty s) ty s
+  found x ty s usable = by x.right
+    where
+      by : (r : Right) → Found (held_by r x ty s) ty s
+      by (RightOf.Constant n) = found_evaluated x ty s usable
+      by (RightOf.Variable v) = found_in_cell (local_at s v) v x ty s refl usable
+      by RightOf.Evaluated = found_evaluated x ty s usable
+
+  found_left : (r : Right) (x : ValueCode) (ty : Ty) (s : List Kind) → Usable x ty → Found (left_held r x ty s) ty s
+  found_left (RightOf.Constant n) x ty s usable = found x ty s usable
+  found_left (RightOf.Variable v) x ty s usable = found x ty s usable
+  found_left RightOf.Evaluated x ty s usable = found_evaluated x ty s usable
+
   -- Operators ---------------------------------------------------------------------------------------
 
-  operator_formed : (r : Right) (op : BinaryOp) (left ty : Ty) (x : ValueCode) → x.right ≡ r → BinaryOf op left ty → Usable x left → (s : List Kind) → Formed code (code_by_right r op ty x.code) (kinds_by_right r left (KindOf.Operand left ∷ s) (x.kinds left (KindOf.Operand left ∷ s))) (KindOf.Operand left ∷ s) (Some (KindOf.Operand ty ∷ s))
-  operator_formed (RightOf.Constant n) op left ty x is has usable s = one code (InstrOf.BinaryConstant op ty n) (KindOf.Operand left ∷ s) (Some (KindOf.Operand ty ∷ s)) (λ p next. (left, has, usable.constant n is, (s, refl, next)))
-  operator_formed (RightOf.Variable v) op left ty x is has usable s = one code (InstrOf.BinaryVariable op ty v) (KindOf.Operand left ∷ s) (Some (KindOf.Operand ty ∷ s)) (λ p next. (left, has, usable.scalar, (s, refl, next)))
-  operator_formed RightOf.Evaluated op left ty x is has usable s =
-      let two = KindOf.Operand left ∷ KindOf.Operand left ∷ s in
-      both code x.code (x.kinds left (KindOf.Operand left ∷ s)) (InstrOf.Binary op ty ∷ []) (two ∷ []) (KindOf.Operand left ∷ s) two (Some (KindOf.Operand ty ∷ s))
-      (usable.formed (KindOf.Operand left ∷ s))
-      (one code (InstrOf.Binary op ty) two (Some (KindOf.Operand ty ∷ s)) (λ p next. (left, has, (s, refl, next))))
+  -- an operator behind its right operand, whose left one is taken from over the base
+  binary_formed : (o : OperatorCode) (left : Cell) (ty : Ty) (to : Cell) (h : Held) (s base : List Kind) → BinaryOf o.op ty o.ty → Found h ty s → Taken left ty s base → Placed to base → Formed code (binary_code o left ty to h) s (Some (with_put to.named o.ty base))
+  binary_formed o left ty to h s base has right taken at =
+      both code h.code ((InstrOf.Binary (operator_for o ty) left h.cell to, h.after) ∷ []) s h.after (Some (with_put to.named o.ty base)) right.formed
+      (one code (InstrOf.Binary (operator_for o ty) left h.cell to) h.after (Some (with_put to.named o.ty base)) (λ p next. (has, (s, right.taken, (base, taken, puts p to o.ty base at next)))))
 
-  operator_long : (r : Right) (op : BinaryOp) (left ty : Ty) (x : ValueCode) → Usable x left → (s : List Kind) → length (code_by_right r op ty x.code) ≡ length (kinds_by_right r left s (x.kinds left s))
-  operator_long (RightOf.Constant n) op left ty x usable s = refl
-  operator_long (RightOf.Variable v) op left ty x usable s = refl
-  operator_long RightOf.Evaluated op left ty x usable s = let e = usable.long s in omega (arith, e, length-append x.code (InstrOf.Binary op ty ∷ []), length-append (x.kinds left s) ((KindOf.Operand left ∷ s) ∷ []))
+  operator_formed : (r : Right) (o : OperatorCode) (left : Cell) (ty : Ty) (to : Cell) (s base : List Kind) → o.right.right ≡ r → BinaryOf o.op ty o.ty → Usable o.right ty → Taken left ty s base → Placed to base → Formed code (operator_by r o left ty to s) s (Some (with_put to.named o.ty base))
+  operator_formed (RightOf.Constant n) o left ty to s base is has usable taken at = one code (InstrOf.BinaryConstant (operator_for o ty) left n to) s (Some (with_put to.named o.ty base)) (λ p next. (has, usable.constant n is, (base, taken, puts p to o.ty base at next)))
+  operator_formed (RightOf.Variable v) o left ty to s base is has usable taken at = binary_formed o left ty to (held o.right ty s) s base has (found o.right ty s usable) taken at
+  operator_formed RightOf.Evaluated o left ty to s base is has usable taken at = binary_formed o left ty to (held o.right ty s) s base has (found o.right ty s usable) taken at
 
   -- operators over a left operand of this type, whose value has that type
   pub record Operating (os : List OperatorCode) (left ty : Ty) : Type 0 where
     pub gives : last_type left os ≡ ty
     pub scalar : Valid.IsScalar ty
-    pub long : (s : List Kind) → length (operators_code os) ≡ length (operators_kinds left os s)
-    pub formed : (s : List Kind) → Formed code (operators_code os) (operators_kinds left os (KindOf.Operand left ∷ s)) (KindOf.Operand left ∷ s) (Some (KindOf.Operand ty ∷ s))
+    pub formed : (to : Cell) (base : List Kind) → Placed to base → Formed code (operators_code base (new_operand base) (KindOf.Operand left ∷ base) left os to) (with_put (next_target os to base).named left base) (Some (with_put to.named ty base))
 
   none_operating : (left : Ty) → Valid.IsScalar left → Operating [] left left
-  none_operating left scalar = record { gives = refl; scalar = scalar; long = λ s. refl; formed = λ s. none code (KindOf.Operand left ∷ s) }
+  none_operating left scalar = record { gives = refl; scalar = scalar; formed = λ to base at. none code (with_put to.named left base) }
+
+  -- an operator whose left operand is in this cell, and further ones
+  first_operating : (o : OperatorCode) (os : List OperatorCode) (cell : Cell) (left ty : Ty) (s base : List Kind) (to : Cell) → BinaryOf o.op left o.ty → Usable o.right left → Operating os o.ty ty → Taken cell left s base → Placed to base → Formed code (operators_code base cell s left (o ∷ os) to) s (Some (with_put to.named ty base))
+  first_operating o os cell left ty s base to has usable rest taken at =
+      let target = next_target os to base in
+      both code (operator_code o cell left target s) (operators_code base (new_operand base) (KindOf.Operand o.ty ∷ base) o.ty os to) s (with_put target.named o.ty base) (Some (with_put to.named ty base))
+      (operator_formed o.right.right o cell left target s base refl has usable taken (target_placed os to base at))
+      (rest.formed to base at)
 
   next_operating : (o : OperatorCode) (os : List OperatorCode) (left ty : Ty) → BinaryOf o.op left o.ty → Usable o.right left → Operating os o.ty ty → Operating (o ∷ os) left ty
   next_operating o os left ty has usable rest = record {
     gives = rest.gives;
     scalar = rest.scalar;
-    long = λ s.
-        let a = operator_long o.right.right o.op left o.ty o.right usable s in
-        let b = rest.long (becoming o.ty s) in
-        omega (arith, a, b, length-append (operator_code o) (operators_code os), length-append (operator_kinds left o s) (operators_kinds o.ty os (becoming o.ty s)));
-    formed = λ s.
-        both code (operator_code o) (operator_kinds left o (KindOf.Operand left ∷ s)) (operators_code os) (operators_kinds o.ty os (KindOf.Operand o.ty ∷ s)) (KindOf.Operand left ∷ s) (KindOf.Operand o.ty ∷ s) (Some (KindOf.Operand ty ∷ s))
-        (operator_formed o.right.right o.op left o.ty o.right refl has usable s)
-        (rest.formed s);
+    formed = λ to base at. first_operating o os (new_operand base) left ty (KindOf.Operand left ∷ base) base to has usable rest (refl, refl) at;
   }
 
   -- a chain, whose first operand and first operator have this type
-  chain_own : (x : ValueCode) (o : OperatorCode) (more : List OperatorCode) (ty : Ty) → Usable x (first_type x o) → Operating (o ∷ more) (first_type x o) ty → Own (chain x o more) ty
-  chain_own x o more ty usable operating =
+  chain_own : (x : ValueCode) (o : OperatorCode) (more : List OperatorCode) (ty : Ty) → Usable x (first_type x o) → BinaryOf o.op (first_type x o) o.ty → Usable o.right (first_type x o) → Operating more o.ty ty → Own (chain x o more) ty
+  chain_own x o more ty usable has right rest =
       let left = first_type x o in
       record {
-        own = ap Some operating.gives;
+        own = ap Some rest.gives;
         usable = record {
-          scalar = operating.scalar;
-          long = λ s.
-              let a = usable.long s in
-              let b = operating.long (KindOf.Operand left ∷ s) in
-              omega (arith, a, b, length-append x.code (operators_code (o ∷ more)), length-append (x.kinds left s) (operators_kinds left (o ∷ more) (KindOf.Operand left ∷ s)));
-          formed = λ s.
-              both code x.code (x.kinds left s) (operators_code (o ∷ more)) (operators_kinds left (o ∷ more) (KindOf.Operand left ∷ s)) s (KindOf.Operand left ∷ s) (Some (KindOf.Operand ty ∷ s))
-              (usable.formed s) (operating.formed s);
+          scalar = rest.scalar;
+          formed = λ to s at.
+              let h = left_held o.right.right x left s in
+              let f = found_left o.right.right x left s usable in
+              both code h.code (operators_code s h.cell h.after left (o ∷ more) to) s h.after (Some (with_put to.named ty s)) f.formed
+              (first_operating o more h.cell left ty h.after s to has right rest f.taken at);
           constant = λ n is. absurd (cc);
         };
       }
@@ -362,43 +218,41 @@ module _ (code : Code) where
 
   -- Short-circuit forms -----------------------------------------------------------------------------
 
-  record Conditions (form : Shortcut) (xs : List ValueCode) : Type 0 where
-    long : (s : List Kind) → length (others_code form xs) ≡ length (others_kinds xs s)
-    formed : (s : List Kind) → Formed code (others_code form xs) (others_kinds xs (KindOf.Operand Boolean ∷ s)) (KindOf.Operand Boolean ∷ s) (Some (KindOf.Operand Boolean ∷ s))
-
-  no_condition : (form : Shortcut) → Conditions form []
-  no_condition form = record { long = λ s. refl; formed = λ s. none code (KindOf.Operand Boolean ∷ s) }
+  abbrev Conditions : Shortcut → List ValueCode → Type 0
+  Conditions form xs = (s : List Kind) → Formed code (others_code form xs s) (KindOf.Operand Boolean ∷ s) (Some (KindOf.Operand Boolean ∷ s))
 
   -- an operand that may be skipped, behind what decides
-  decided : (form : Shortcut) (s : List Kind) (is : List Instr) (ss : List (List Kind)) → Formed code is ss s (Some (KindOf.Operand Boolean ∷ s)) → Formed code (InstrOf.Decide form (length is) ∷ is) ((KindOf.Operand Boolean ∷ s) ∷ ss) (KindOf.Operand Boolean ∷ s) (Some (KindOf.Operand Boolean ∷ s))
-  decided form s is ss inner p h =
+  decided : (form : Shortcut) (s : List Kind) (ls : List Line) → Formed code ls s (Some (KindOf.Operand Boolean ∷ s)) → Formed code ((InstrOf.Decide form (height s) (length ls), KindOf.Operand Boolean ∷ s) ∷ ls) (KindOf.Operand Boolean ∷ s) (Some (KindOf.Operand Boolean ∷ s))
+  decided form s ls inner p h =
       let x = inner (p + 1) h.1 in
-      (h.0, ((end_of code (p + 1) is ss (KindOf.Operand Boolean ∷ s) h.1 x.1, (s, refl, x.0)), x.1))
+      (h.0, ((has_end code (p + 1) ls (Some (KindOf.Operand Boolean ∷ s)) h.1, (s, refl, (refl, x.0))), x.1))
 
   next_condition : (form : Shortcut) (x : ValueCode) (xs : List ValueCode) → Usable x Boolean → Conditions form xs → Conditions form (x ∷ xs)
-  next_condition form x xs usable rest = record {
-    long = λ s.
-        let a = usable.long (below_newest s) in
-        let b = rest.long (becoming Boolean s) in
-        omega (arith, a, b, length-append (other_code form x) (others_code form xs), length-append (other_kinds x s) (others_kinds xs (becoming Boolean s)));
-    formed = λ s.
-        both code (other_code form x) (other_kinds x (KindOf.Operand Boolean ∷ s)) (others_code form xs) (others_kinds xs (KindOf.Operand Boolean ∷ s)) (KindOf.Operand Boolean ∷ s) (KindOf.Operand Boolean ∷ s) (Some (KindOf.Operand Boolean ∷ s))
-        (decided form s x.code (x.kinds Boolean s) (usable.formed s))
-        (rest.formed s);
-  }
+  next_condition form x xs usable rest s =
+      let top = KindOf.Operand Boolean ∷ s in
+      both code (other_code form x s) (others_code form xs s) top top (Some top)
+      (decided form s (x.code (new_operand s) Boolean s) (usable.formed (new_operand s) s refl))
+      (rest s)
+
+  -- the newest operand goes where it is wanted
+  moved_formed : (to : Cell) (s : List Kind) → Placed to s → Formed code (moved_to to s) (KindOf.Operand Boolean ∷ s) (Some (with_put to.named Boolean s))
+  moved_formed to s = by to.named to.at
+    where
+      by : (named : Named) (at : ℕ) → PlacedAt named at s → Formed code (moved_to (record { at = at; named = named }) s) (KindOf.Operand Boolean ∷ s) (Some (with_put named Boolean s))
+      by NamedOf.Operand at h = none code (KindOf.Operand Boolean ∷ s)
+      by (NamedOf.Variable out slot) at h = one code (InstrOf.Move (new_operand s) Boolean (record { at = at; named = NamedOf.Variable out slot })) (KindOf.Operand Boolean ∷ s) (Some s) (λ p next. (tt, (s, (refl, refl), (h, next))))
 
   short_own : (form : Shortcut) (x y : ValueCode) (more : List ValueCode) → Usable x Boolean → Conditions form (y ∷ more) → Own (short form x y more) Boolean
   short_own form x y more usable rest = record {
     own = refl;
     usable = record {
       scalar = tt;
-      long = λ s.
-          let a = usable.long s in
-          let b = rest.long (KindOf.Operand Boolean ∷ s) in
-          omega (arith, a, b, length-append x.code (others_code form (y ∷ more)), length-append (x.kinds Boolean s) (others_kinds (y ∷ more) (KindOf.Operand Boolean ∷ s)));
-      formed = λ s.
-          both code x.code (x.kinds Boolean s) (others_code form (y ∷ more)) (others_kinds (y ∷ more) (KindOf.Operand Boolean ∷ s)) s (KindOf.Operand Boolean ∷ s) (Some (KindOf.Operand Boolean ∷ s))
-          (usable.formed s) (rest.formed s);
+      formed = λ to s at.
+          let top = KindOf.Operand Boolean ∷ s in
+          let first = x.code (new_operand s) Boolean s in
+          both code (first ++ others_code form (y ∷ more) s) (moved_to to s) s top (Some (with_put to.named Boolean s))
+          (both code first (others_code form (y ∷ more) s) s top (Some top) (usable.formed (new_operand s) s refl) (rest s))
+          (moved_formed to s at);
       constant = λ n is. absurd (cc);
     };
   }
@@ -410,14 +264,19 @@ module _ (code : Code) where
     own = refl;
     usable = record {
       scalar = usable.scalar;
-      long = λ s. let a = usable.long s in omega (arith, a, length-append x.code (InstrOf.Unary op ty ∷ []), length-append (x.kinds ty s) ((KindOf.Operand ty ∷ s) ∷ []));
-      formed = λ s.
-          both code x.code (x.kinds ty s) (InstrOf.Unary op ty ∷ []) ((KindOf.Operand ty ∷ s) ∷ []) s (KindOf.Operand ty ∷ s) (Some (KindOf.Operand ty ∷ s))
-          (usable.formed s)
-          (one code (InstrOf.Unary op ty) (KindOf.Operand ty ∷ s) (Some (KindOf.Operand ty ∷ s)) (λ p next. (has, (s, refl, next))));
+      formed = λ to s at.
+          let h = held x ty s in
+          let f = found x ty s usable in
+          let after = Some (with_put to.named ty s) in
+          both code h.code ((InstrOf.Unary op ty h.cell to, h.after) ∷ []) s h.after after f.formed
+          (one code (InstrOf.Unary op ty h.cell to) h.after after (λ p next. (has, (s, f.taken, puts p to ty s at next))));
       constant = λ n is. absurd (cc);
     };
   }
+
+  read_fine : (o : Option ℕ) (v : Var) (ty : Ty) (to : Cell) (s : List Kind) (p : ℕ) → local_at s v ≡ o → Valid.IsScalar ty → Puts code p to ty s → IsFine code p (read_from o v ty to s) s
+  read_fine (Some at) v ty to s p here scalar put = (scalar, (s, (refl, here), put))
+  read_fine None v ty to s p here scalar put = (scalar, put)
 
   read_own : (o : Option Var) (ty : Ty) → (read o ty).runs ≡ true → Own (read o ty) ty
   read_own None ty runs = absurd (cc)
@@ -425,8 +284,7 @@ module _ (code : Code) where
     own = refl;
     usable = record {
       scalar = run_scalar ty runs;
-      long = λ s. refl;
-      formed = λ s. one code (InstrOf.Read v) s (Some (KindOf.Operand ty ∷ s)) (λ p next. (ty, run_scalar ty runs, next));
+      formed = λ to s at. one code (read_from (local_at s v) v ty to s) s (Some (with_put to.named ty s)) (λ p next. read_fine (local_at s v) v ty to s p refl (run_scalar ty runs) (puts p to ty s at next));
       constant = λ n is. absurd (cc);
     };
   }
@@ -467,7 +325,7 @@ module _ (code : Code) where
         let f = both_true (value_code y).runs (operators_run (map operator_of more)) e.1 in
         let joined = first_joins op (value_code x) (value_code y) s u joins (typed_fine h e.0) (typed_fine right f.0) in
         let behind_it = operating rest f.1 (joins_scalar op s u joins) in
-        fine_as _ _ t same (inl (chain_own (value_code x) (record { op = op; ty = u; right = value_code y }) (map operator_of more) t joined.1 (next_operating (record { op = op; ty = u; right = value_code y }) (map operator_of more) _ t joined.0 joined.2 behind_it)))
+        fine_as _ _ t same (inl (chain_own (value_code x) (record { op = op; ty = u; right = value_code y }) (map operator_of more) t joined.1 joined.0 joined.2 behind_it))
     typed_fine (T.short {form = form} {x = x} {y = y} {more = more} h g rest) runs =
         let same = value_short form x y more in
         let e = both_true (value_code x).runs ((value_code y).runs && values_run (map value_code more)) (runs_as _ _ same runs) in
@@ -492,7 +350,7 @@ module _ (code : Code) where
         (next_operating (record { op = op; ty = u; right = value_code y }) (map operator_of more) s t (next_joins op s u joins scalar) (usable_as (value_code y) s scalar (typed_fine right y_runs)) (operating rest e.1 (joins_scalar op s u joins)))
 
     conditions : {k : W.Setting} {env : W.Frames} {xs : List Expr} (form : Shortcut) → Truths k env xs → values_run (map value_code xs) ≡ true → Conditions form (map value_code xs)
-    conditions form T.no_more_truths runs = no_condition form
+    conditions form T.no_more_truths runs = λ s. none code (KindOf.Operand Boolean ∷ s)
     conditions form (T.one_more_truth {x = x} {more = more} h rest) runs =
         let e = both_true (value_code x).runs (values_run (map value_code more)) runs in
         next_condition form (value_code x) (map value_code more) (usable_as (value_code x) Boolean tt (typed_fine h e.0)) (conditions form rest e.1)

@@ -1,26 +1,28 @@
 -- The code of a well-typed program is valid, and the subprograms that such a program names are in its table.
-use Rattle.std.proofs.Common.{◌≡◌, ℕ, zero, suc, ◌+◌, List, [], ◌∷◌, length, Option, Some, None, true, refl, sym, ap, ◌∙◌, subst, arith}
+use Rattle.std.proofs.Common.{◌≡◌, ℕ, zero, suc, ◌+◌, ◌≤◌, List, [], ◌∷◌, ◌++◌, length, map, Option, Some, None, true, refl, sym, ap, ◌∙◌, subst, arith, take}
 use Rattle.std.specs.Prelude.{slice_get}
+use Rattle.std.proofs.lemmas.List.{length-take}
 use Rattle.ctl_program.specs.declared.types.RecordType.{RecordType}
 use Rattle.ctl_program.specs.declared.program.Subprogram.{Subprogram}
 use Rattle.ctl_program.specs.declared.program.Checked.{Checked}
-use Rattle.ctl_meaning.specs.Types.{Tables, tables_of}
 use Rattle.ctl_well_typed.specs.Setting as W
-use Rattle.ctl_well_typed.specs.Programs.{Overrides, WellTyped, operation}
+use Rattle.ctl_well_typed.specs.Programs.{Overrides, SubprogramFine, WellTyped, operation}
 use Rattle.ctl_code.specs.declared.kinds.Kind.{Kind}
+use Rattle.ctl_code.specs.declared.kinds.Kind.TheVariants.{Body}
 use Rattle.ctl_code.specs.declared.code.Instr.{Instr}
-use Rattle.ctl_code.specs.declared.code.Instr.TheVariants as InstrOf
 use Rattle.ctl_code.specs.declared.code.Entry.{Entry}
 use Rattle.ctl_code.specs.declared.code.Operations.{Operations}
 use Rattle.ctl_code.specs.declared.code.Code.{Code}
-use Rattle.ctl_code.specs.Valid.{IsEntry, IsFine, IsRecord, IsValid, Leads, MayBeEntry}
-use Rattle.ctl_gen.specs.Layout.{bodies, body_code, entries_from, entry_at, HasKinds, IsLaidOut, operations_in, operations_of}
+use Rattle.ctl_code.specs.Valid.{IsBegun, IsDeclarable, IsEntry, IsFine, IsInScope, IsValid, Leads, MayBeEntry, TakesObject}
+use Rattle.ctl_gen.specs.Around.{Line, Around, behind}
+use Rattle.ctl_gen.specs.Layout.{bodies, body_code, entries_from, entry_at, HasKinds, in_body, instructions_of, IsLaidOut, kinds_of, master_code, nowhere, operations_in, operations_of, program_code}
 use Rattle.ctl_gen.specs.Run.{AreLinked, IsBody, IsRun, IsWritten, are_procedures}
 use Rattle.ctl_gen.proofs.Known.{both_true}
 use Rattle.ctl_gen.proofs.Place.{HasAt, has_all}
 use Rattle.ctl_gen.proofs.Place as Place
-use Rattle.ctl_gen.proofs.Formed.{AreFine, as_long, fine_both, Has, has_back, has_front}
-use Rattle.ctl_gen.proofs.FormedStatements.{GoodMaster, master_good}
+use Rattle.ctl_gen.proofs.Formed.{AreFine, fine_both, FormedAt, Has, has_back, has_front}
+use Rattle.ctl_gen.proofs.FormedAround.{Agrees, agrees_body}
+use Rattle.ctl_gen.proofs.FormedMasters.{master_good, slots_told}
 
 -- Tables ---------------------------------------------------------------------------------------------
 
@@ -44,78 +46,137 @@ operations_from (x ∷ rs) zero o e = let same : operations_in x ≡ o = cc e in
 operations_from (x ∷ rs) (suc t) o e = operations_from rs t o e
 
 -- each subprogram has its entry
-entry_there : (place n : ℕ) (ss : List Subprogram) (f : ℕ) (s : Subprogram) → slice_get ss f ≡ Some s → (e : Entry) × (slice_get (entries_from place n ss) f ≡ Some e)
+entry_there : (place n : ℕ) (ss : List Subprogram) (f : ℕ) (s : Subprogram) → slice_get ss f ≡ Some s → (at : ℕ) × (slice_get (entries_from place n ss) f ≡ Some (entry_at at s))
 entry_there place n [] f s h = absurd (cc)
-entry_there place n (x ∷ ss) zero s h = (entry_at place x, refl)
-entry_there place n (x ∷ ss) (suc f) s h = entry_there (place + length ((body_code x).code n)) (n + length (body_code x).texts) ss f s h
+entry_there place n (x ∷ ss) zero s h = let same : x ≡ s = cc h in (place, ap (λ (y : Subprogram). Some (entry_at place y)) same)
+entry_there place n (x ∷ ss) (suc f) s h = entry_there (place + length ((body_code x).code nowhere n)) (n + length (body_code x).texts) ss f s h
+
+-- masters that stand around others are not more
+not_more : (home env : W.Frames) → W.Encloses home env → length home ≤ length env
+not_more home env e =
+    let size : length (take (length home) env) ≡ length home = ap length e in
+    let least = length-take (length home) env in
+    omega (arith, size, least)
+
+-- the first formal has a slot
+formal_slot : (formals : List W.Formal) (first : W.Formal) (rest : List W.Formal) (others : W.Frame) → formals ≡ first ∷ rest → 1 ≤ length (map W.OfFormal formals ++ others)
+formal_slot formals first rest others e = subst (λ fs. 1 ≤ length (map W.OfFormal fs ++ others)) (sym e) (omega arith)
 
 -- Subprograms that are named ------------------------------------------------------------------------
 
 module _ (program : Checked) (typed : WellTyped program) where
-  callable : (env : W.Frames) (f : ℕ) (is : W.Signature) → W.Callable typed.k env f is → IsBody program.subprograms f
-  callable env f is c = alike W.Signature Subprogram typed.k.subprograms program.subprograms typed.fits.subprograms f is c.found
+  -- a subprogram of the table
+  record Called (f : ℕ) (is : W.Signature) : Type 0 where
+    body : Subprogram
+    found : slice_get program.subprograms f ≡ Some body
+    fine : SubprogramFine typed.k body is
 
-  written : (home : W.Frames) (n : ℕ) (rest : List W.Formal) (o : Option ℕ) → Overrides typed.k home n rest o → IsWritten program.subprograms o
-  written home n rest None h = tt
-  written home n rest (Some f) (operation {is = is} c gives formals descends) = callable home f is c
+  called : (home : W.Frames) (f : ℕ) (is : W.Signature) → W.Callable typed.k home f is → Called f is
+  called home f is c =
+      let s = alike W.Signature Subprogram typed.k.subprograms program.subprograms typed.fits.subprograms f is c.found in
+      record { body = s.0; found = s.1; fine = typed.each_subprogram f s.0 is s.1 c.found }
+
+  -- an operation of a type: it is declared among the masters around the type, and has a slot for its object
+  record Operation (f : ℕ) (home : W.Frames) : Type 0 where
+    body : Subprogram
+    found : slice_get program.subprograms f ≡ Some body
+    level : body.level ≤ length home
+    slots : 1 ≤ (master_code body.body).slots
+
+  -- no operation, or one such
+  abbrev MayBeOperation : W.Frames → Option ℕ → Type 0
+  MayBeOperation home None = Unit {0}
+  MayBeOperation home (Some f) = Operation f home
+
+  overrides : (home : W.Frames) (n : ℕ) (rest : List W.Formal) (o : Option ℕ) → Overrides typed.k home n rest o → MayBeOperation home o
+  overrides home n rest None h = tt
+  overrides home n rest (Some f) (operation {is = is} c gives formals descends) =
+      let s = called home f is c in
+      let level = s.fine.level in
+      let least = not_more is.home home c.encloses in
+      let slots = slots_told s.fine.body in
+      record {
+        body = s.body;
+        found = s.found;
+        level = omega (arith, level, least);
+        slots = subst (λ m. 1 ≤ m) (sym slots) (formal_slot is.formals _ rest s.fine.others formals);
+      }
+
+  written : (home : W.Frames) (o : Option ℕ) → MayBeOperation home o → IsWritten program.subprograms o
+  written home None h = tt
+  written home (Some f) h = (h.body, h.found)
 
   home_of : (t : ℕ) (r : RecordType) → slice_get program.records t ≡ Some r → (home : W.Frames) × (slice_get typed.k.record_homes t ≡ Some home)
   home_of t r e = alike RecordType W.Frames program.records typed.k.record_homes (sym typed.fits.record_homes) t r e
 
+  initialize_written : (t : ℕ) (r : RecordType) (home : W.Frames) → slice_get program.records t ≡ Some r → slice_get typed.k.record_homes t ≡ Some home → MayBeOperation home r.operations.initialize
+  initialize_written t r home e at = overrides home t [] r.operations.initialize (typed.each_record t r home e at).operations.initialize
+
+  finalize_written : (t : ℕ) (r : RecordType) (home : W.Frames) → slice_get program.records t ≡ Some r → slice_get typed.k.record_homes t ≡ Some home → MayBeOperation home r.operations.finalize
+  finalize_written t r home e at = overrides home t [] r.operations.finalize (typed.each_record t r home e at).operations.finalize
+
   pub linked_of : AreLinked program
   linked_of = record {
-    main = callable [] program.main _ typed.main;
-    initialize = λ t r e. let home = home_of t r e in written home.0 t [] r.operations.initialize (typed.each_record t r home.0 e home.1).operations.initialize;
-    finalize = λ t r e. let home = home_of t r e in written home.0 t [] r.operations.finalize (typed.each_record t r home.0 e home.1).operations.finalize;
+    main = let s = called [] program.main _ typed.main in (s.body, s.found);
+    initialize = λ t r e. let home = home_of t r e in written home.0 r.operations.initialize (initialize_written t r home.0 e home.1);
+    finalize = λ t r e. let home = home_of t r e in written home.0 r.operations.finalize (finalize_written t r home.0 e home.1);
   }
 
 -- Bodies ---------------------------------------------------------------------------------------------
 
-module _ (code : Code) (k : Tables) (records : (t : ℕ) (r : RecordType) → slice_get k.records t ≡ Some r → IsRecord code t) where
-  -- bodies that stand from a place on are fine, and nothing stands before the first instruction of each
-  record BodiesFormed (place n : ℕ) (ss : List Subprogram) : Type 0 where
-    fine : AreFine code place ((bodies ss).code n) ((bodies ss).kinds [])
-    begin : (f : ℕ) (e : Entry) → slice_get (entries_from place n ss) f ≡ Some e → Leads code e.place []
+module _ (code : Code) (records : List RecordType) where
+  -- the body of a subprogram is well formed wherever it stands, and its slots stand before it
+  abbrev GoodBody : Subprogram → Type 0
+  GoodBody s = (body_code s).runs records ≡ true → (a : Around) (n p : ℕ) → HasAt code.texts.items n (body_code s).texts → FormedAt code p ((body_code s).code a n) (in_body s).stack None
 
-  begins : (place : ℕ) (s : Subprogram) (rest : List Entry) → Leads code place [] → ((f : ℕ) (e : Entry) → slice_get rest f ≡ Some e → Leads code e.place []) → (f : ℕ) (e : Entry) → slice_get (entry_at place s ∷ rest) f ≡ Some e → Leads code e.place []
-  begins place s rest here more zero e h = let same : entry_at place s ≡ e = cc h in subst (λ (y : Entry). Leads code y.place []) same here
+  -- bodies that stand from a place on are fine, and before the first instruction of each there stand its slots
+  record BodiesFormed (a : Around) (place n : ℕ) (ss : List Subprogram) : Type 0 where
+    fine : AreFine code place ((bodies ss).code a n)
+    begin : (f : ℕ) (e : Entry) → slice_get (entries_from place n ss) f ≡ Some e → IsBegun code e
+
+  begins : (place : ℕ) (s : Subprogram) (rest : List Entry) → Leads code place (in_body s).stack → ((f : ℕ) (e : Entry) → slice_get rest f ≡ Some e → IsBegun code e) → (f : ℕ) (e : Entry) → slice_get (entry_at place s ∷ rest) f ≡ Some e → IsBegun code e
+  begins place s rest here more zero e h = let same : entry_at place s ≡ e = cc h in subst (λ (y : Entry). IsBegun code y) same here
   begins place s rest here more (suc f) e h = more f e h
 
-  bodies_formed : (ss : List Subprogram) → (bodies ss).runs k.records ≡ true → ((f : ℕ) (s : Subprogram) → slice_get ss f ≡ Some s → GoodMaster code k records (body_code s)) → (place n : ℕ) → HasAt code.texts.items n (bodies ss).texts → Has code place ((bodies ss).kinds []) None → BodiesFormed place n ss
-  bodies_formed [] runs good place n texts h = record { fine = tt; begin = λ f e e1. absurd (cc) }
-  bodies_formed (s ∷ ss) runs good place n texts h =
+  bodies_formed : (ss : List Subprogram) → (bodies ss).runs records ≡ true → ((f : ℕ) (s : Subprogram) → slice_get ss f ≡ Some s → GoodBody s) → (a : Around) (place n : ℕ) → HasAt code.texts.items n (bodies ss).texts → Has code place ((bodies ss).code a n) None → BodiesFormed a place n ss
+  bodies_formed [] runs good a place n texts h = record { fine = tt; begin = λ f e e1. absurd (cc) }
+  bodies_formed (s ∷ ss) runs good a place n texts h =
       let x = body_code s in
+      let first = x.code a n in
+      let size = length first in
       let n1 = n + length x.texts in
-      let both = both_true (x.runs k.records) ((bodies ss).runs k.records) runs in
-      let g = good 0 s refl both.0 n (Place.has_front code.texts.items n x.texts (bodies ss).texts texts) in
-      let first = g.formed [] tt place (has_front code place (x.kinds []) ((bodies ss).kinds []) None None h tt) in
-      let rest = bodies_formed ss both.1 (λ f t e. good (suc f) t e) (place + length (x.kinds [])) n1 (Place.has_back code.texts.items n x.texts (bodies ss).texts texts) (has_back code place (x.kinds []) ((bodies ss).kinds []) None h) in
-      let same : place + length (x.kinds []) ≡ place + length (x.code n) = ap (λ m. place + m) (sym (g.long [])) in
+      let b : Around = behind size a in
+      let more = (bodies ss).code b n1 in
+      let both = both_true (x.runs records) ((bodies ss).runs records) runs in
+      let g = good 0 s refl both.0 a n place (Place.has_front code.texts.items n x.texts (bodies ss).texts texts) (has_front code place first more None None h tt) in
+      let rest = bodies_formed ss both.1 (λ f t e. good (suc f) t e) b (place + size) n1 (Place.has_back code.texts.items n x.texts (bodies ss).texts texts) (has_back code place first more None h) in
       record {
-        fine = fine_both code place (x.code n) (x.kinds []) ((bodies ss).code n1) ((bodies ss).kinds []) first.1 rest.fine;
-        begin = begins place s (entries_from (place + length (x.code n)) n1 ss) first.0 (subst (λ p. (f : ℕ) (e : Entry) → slice_get (entries_from p n1 ss) f ≡ Some e → Leads code e.place []) same rest.begin);
+        fine = fine_both code place first more g.1 rest.fine;
+        begin = begins place s (entries_from (place + size) n1 ss) g.0 rest.begin;
       }
 
 -- Whole code -----------------------------------------------------------------------------------------
 
 -- an instruction of a stretch
-fine_at : (code : Code) (place : ℕ) (is : List Instr) (ss : List (List Kind)) → AreFine code place is ss → (n : ℕ) (i : Instr) (s : List Kind) → slice_get is n ≡ Some i → slice_get ss n ≡ Some s → IsFine code (place + n) i s
-fine_at code place [] [] h n i s e g = absurd (cc)
-fine_at code place [] (t ∷ ss) h n i s e g = absurd h
-fine_at code place (j ∷ is) [] h n i s e g = absurd h
-fine_at code place (j ∷ is) (t ∷ ss) h zero i s e g =
-    let same : j ≡ i = cc e in
-    let same1 : t ≡ s = cc g in
+fine_at : (code : Code) (place : ℕ) (ls : List Line) → AreFine code place ls → (n : ℕ) (i : Instr) (s : List Kind) → slice_get (instructions_of ls) n ≡ Some i → slice_get (kinds_of ls) n ≡ Some s → IsFine code (place + n) i s
+fine_at code place [] h n i s e g = absurd (cc)
+fine_at code place (l ∷ ls) h zero i s e g =
+    let same : l.0 ≡ i = cc e in
+    let same1 : l.1 ≡ s = cc g in
     let here : place ≡ place + 0 = omega arith in
-    subst (λ p. IsFine code p i s) here (subst (λ x. IsFine code place x s) same (subst (λ x. IsFine code place j x) same1 h.0))
-fine_at code place (j ∷ is) (t ∷ ss) h (suc n) i s e g =
+    subst (λ p. IsFine code p i s) here (subst (λ x. IsFine code place x s) same (subst (λ x. IsFine code place l.0 x) same1 h.0))
+fine_at code place (l ∷ ls) h (suc n) i s e g =
     let next : place + 1 + n ≡ place + suc n = omega arith in
-    subst (λ p. IsFine code p i s) next (fine_at code (place + 1) is ss h.1 n i s e g)
+    subst (λ p. IsFine code p i s) next (fine_at code (place + 1) ls h.1 n i s e g)
 
--- stacks that stand in the table
-table_has : (code : Code) (ss : List (List Kind)) (place : ℕ) → HasAt code.kinds place ss → Has code place ss None
+-- what stands in the table before these lines
+table_has : (code : Code) (ls : List Line) (place : ℕ) → HasAt code.kinds place (kinds_of ls) → Has code place ls None
 table_has code [] place h = tt
-table_has code (s ∷ ss) place h = (h.0, table_has code ss (place + 1) h.1)
+table_has code (l ∷ ls) place h = (h.0, table_has code ls (place + 1) h.1)
+
+as_long : (ls : List Line) → length (kinds_of ls) ≡ length (instructions_of ls)
+as_long [] = refl
+as_long (l ∷ ls) = let e = as_long ls in omega (arith, e)
 
 module _ (program : Checked) (code : Code) (laid : IsLaidOut program code) (kinds : HasKinds program code) (run_it : IsRun program) (typed : WellTyped program) where
   parts : (are_procedures program.subprograms ≡ true) × ((bodies program.subprograms).runs program.records ≡ true)
@@ -124,54 +185,99 @@ module _ (program : Checked) (code : Code) (laid : IsLaidOut program code) (kind
   linked : AreLinked program
   linked = linked_of program typed
 
+  -- Tables -------------------------------------------------------------------------------------------
+
+  entry_of : (f : ℕ) (s : Subprogram) → slice_get program.subprograms f ≡ Some s → (at : ℕ) × (slice_get code.entries.items f ≡ Some (entry_at at s))
+  entry_of f s h = subst (λ es. (at : ℕ) × (slice_get es f ≡ Some (entry_at at s))) (sym laid.entries) (entry_there 1 0 program.subprograms f s h)
+
   is_entry : (f : ℕ) → IsBody program.subprograms f → IsEntry code f
-  is_entry f body = subst (λ es. (e : Entry) × (slice_get es f ≡ Some e)) (sym laid.entries) (entry_there 1 0 program.subprograms f body.0 body.1)
+  is_entry f body = let e = entry_of f body.0 body.1 in (entry_at e.0 body.0, e.1)
 
   may_be_entry : (o : Option ℕ) → IsWritten program.subprograms o → MayBeEntry code o
   may_be_entry None h = tt
   may_be_entry (Some f) h = is_entry f h
 
-  is_record : (t : ℕ) (r : RecordType) → slice_get (tables_of program).records t ≡ Some r → IsRecord code t
-  unfolding tables_of
-  is_record t r h = (operations_in r, ap (λ os. slice_get os t) laid.records ∙ operations_at program.records t r h)
-
-  abbrev all_instructions : List Instr
-  all_instructions = InstrOf.Start program.main ∷ (bodies program.subprograms).code 0
-
-  abbrev all_kinds : List (List Kind)
-  all_kinds = [] ∷ (bodies program.subprograms).kinds []
-
-  stacks : Has code 0 all_kinds None
-  stacks = table_has code all_kinds 0 (subst (λ xs. HasAt xs 0 all_kinds) (sym kinds) (has_all all_kinds []))
-
-  printed : HasAt code.texts.items 0 (bodies program.subprograms).texts
-  printed = subst (λ xs. HasAt xs 0 (bodies program.subprograms).texts) (sym laid.texts) (has_all (bodies program.subprograms).texts [])
-
-  good : (f : ℕ) (s : Subprogram) → slice_get program.subprograms f ≡ Some s → GoodMaster code (tables_of program) is_record (body_code s)
-  good f s e =
-      let is = alike Subprogram W.Signature program.subprograms typed.k.subprograms (sym typed.fits.subprograms) f s e in
-      master_good code (tables_of program) is_record (typed.each_subprogram f s is.0 e is.1).body
-
-  formed : BodiesFormed code (tables_of program) is_record 1 0 program.subprograms
-  unfolding tables_of
-  formed = bodies_formed code (tables_of program) is_record program.subprograms parts.1 good 1 0 printed stacks.1
-
-  all_fine : AreFine code 0 all_instructions all_kinds
-  all_fine = (is_entry program.main linked.main, formed.fine)
+  operations_there : (t : ℕ) (r : RecordType) → slice_get program.records t ≡ Some r → slice_get code.records.items t ≡ Some (operations_in r)
+  operations_there t r h = ap (λ os. slice_get os t) laid.records ∙ operations_at program.records t r h
 
   records_of : (t : ℕ) (o : Operations) → slice_get code.records.items t ≡ Some o → MayBeEntry code o.initialize × MayBeEntry code o.finalize
   records_of t o h =
       let x = operations_from program.records t o (sym (ap (λ os. slice_get os t) laid.records) ∙ h) in
       subst (λ (z : Operations). MayBeEntry code z.initialize × MayBeEntry code z.finalize) x.2 (may_be_entry x.0.operations.initialize (linked.initialize t x.0 x.1), may_be_entry x.0.operations.finalize (linked.finalize t x.0 x.1))
 
+  takes_object : (home : W.Frames) (o : Option ℕ) → MayBeOperation program typed home o → TakesObject code o
+  takes_object home None h = tt
+  takes_object home (Some f) h = let x = entry_of f h.body h.found in (entry_at x.0 h.body, x.1, h.slots)
+
+  formals_of : (t : ℕ) (o : Operations) → slice_get code.records.items t ≡ Some o → TakesObject code o.initialize × TakesObject code o.finalize
+  formals_of t o h =
+      let x = operations_from program.records t o (sym (ap (λ os. slice_get os t) laid.records) ∙ h) in
+      let home = home_of program typed t x.0 x.1 in
+      subst (λ (z : Operations). TakesObject code z.initialize × TakesObject code z.finalize) x.2
+      (takes_object home.0 x.0.operations.initialize (initialize_written program typed t x.0 home.0 x.1 home.1), takes_object home.0 x.0.operations.finalize (finalize_written program typed t x.0 home.0 x.1 home.1))
+
+  -- an operation that can be called at its type's home is in scope inside it
+  in_scope : (home env : W.Frames) (o : Option ℕ) → W.Encloses home env → MayBeOperation program typed home o → IsInScope code (length env) o
+  in_scope home env None e h = tt
+  in_scope home env (Some f) e h =
+      let x = entry_of f h.body h.found in
+      let least = not_more home env e in
+      let level = h.level in
+      (entry_at x.0 h.body, x.1, omega (arith, least, level))
+
+  declarable : (env : W.Frames) (t : ℕ) → W.HasRecord typed.k env t → IsDeclarable code (length env) t
+  declarable env t h =
+      let e = sym (ap (λ rs. slice_get rs t) typed.fits.records) ∙ h.found in (
+        operations_in h.is,
+        operations_there t h.is e,
+        in_scope h.home env h.is.operations.initialize h.encloses (initialize_written program typed t h.is h.home e h.at_home),
+        in_scope h.home env h.is.operations.finalize h.encloses (finalize_written program typed t h.is h.home e h.at_home),
+      )
+
+  -- Instructions -------------------------------------------------------------------------------------
+
+  stands : Has code 0 (program_code program) None
+  stands = table_has code (program_code program) 0 (subst (λ xs. HasAt xs 0 (kinds_of (program_code program))) (sym kinds.kinds) (has_all (kinds_of (program_code program)) []))
+
+  printed : HasAt code.texts.items 0 (bodies program.subprograms).texts
+  printed = subst (λ xs. HasAt xs 0 (bodies program.subprograms).texts) (sym laid.texts) (has_all (bodies program.subprograms).texts [])
+
+  good_body : (s : Subprogram) (is : W.Signature) → SubprogramFine typed.k s is → GoodBody code program.records s
+  good_body s is h runs a n p texts =
+      let frame = map W.OfFormal is.formals ++ h.others in
+      let slots = (master_code s.body).slots in
+      let over = subst (λ m. Agrees (is.home ++ frame ∷ []) (Body s.level m ∷ [])) (sym (slots_told h.body)) (agrees_body is.home frame s.level h.level) in
+      master_good code program.records typed.k declarable h.body runs (Body s.level slots) [] n p over texts tt
+
+  good : (f : ℕ) (s : Subprogram) → slice_get program.subprograms f ≡ Some s → GoodBody code program.records s
+  good f s e =
+      let is = alike Subprogram W.Signature program.subprograms typed.k.subprograms (sym typed.fits.subprograms) f s e in
+      good_body s is.0 (typed.each_subprogram f s is.0 e is.1)
+
+  formed : BodiesFormed code program.records nowhere 1 0 program.subprograms
+  formed = bodies_formed code program.records program.subprograms parts.1 good nowhere 1 0 printed stands.1
+
+  -- the main procedure is declared in no master
+  main_in_scope : IsInScope code 0 (Some program.main)
+  main_in_scope =
+      let s = called program typed [] program.main _ typed.main in
+      let x = entry_of program.main s.body s.found in
+      let level = s.fine.level in
+      (entry_at x.0 s.body, x.1, omega (arith, level))
+
+  all_fine : AreFine code 0 (program_code program)
+  all_fine = ((refl, main_in_scope), formed.fine)
+
   pub is_valid : IsValid code
   is_valid = record {
-    long = ap length kinds ∙ sym (as_long code 0 all_instructions all_kinds all_fine) ∙ sym (ap length laid.instructions);
-    start = stacks.0;
+    long = ap length kinds.kinds ∙ as_long (program_code program) ∙ sym (ap length laid.instructions);
+    start = (stands.0, (program.main, ap (λ xs. slice_get xs 0) laid.instructions));
     each = λ place i stack here standing.
         let from_zero : 0 + place ≡ place = omega arith in
         subst (λ p. IsFine code p i stack) from_zero
-        (fine_at code 0 all_instructions all_kinds all_fine place i stack (sym (ap (λ xs. slice_get xs place) laid.instructions) ∙ here) (sym (ap (λ xs. slice_get xs place) kinds) ∙ standing));
+        (fine_at code 0 (program_code program) all_fine place i stack (sym (ap (λ xs. slice_get xs place) laid.instructions) ∙ here) (sym (ap (λ xs. slice_get xs place) kinds.kinds) ∙ standing));
+    room = kinds.room;
     entries = λ f e h. formed.begin f e (sym (ap (λ es. slice_get es f) laid.entries) ∙ h);
     records = records_of;
+    formals = formals_of;
   }

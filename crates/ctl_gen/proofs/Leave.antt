@@ -1,37 +1,53 @@
 -- A master is left: its layers are finalized, from the newest on, and what it declared is gone.
-use Rattle.std.proofs.Common.{◌≡◌, ℕ, ◌-◌, ◌≤◌, List, [], ◌∷◌, length, Option, Some, None, Bool, true, false, refl, sym, ap, subst, arith, drop}
-use Rattle.std.specs.Prelude.{◌||◌}
+use Rattle.std.proofs.Common.{◌≡◌, ℕ, ◌≤◌, List, [], ◌∷◌, Option, Some, None, Bool, true, false, refl, sym, ap, ◌∙◌, subst, arith}
+use Rattle.std.specs.Prelude.{◌||◌, if◌then◌else◌, nat_eq}
 use Rattle.ctl_program.specs.declared.types.Ty.{Ty}
 use Rattle.ctl_program.specs.declared.types.Ty.TheVariants.{Integer, Count, Boolean, Address, Handle, Access, Record}
 use Rattle.ctl_tree.specs.declared.ending.Stop.TheVariants.{UseAfterFree}
 use Rattle.ctl_meaning.specs.World.{Object, Layer, Single, Sets, Log, World}
-use Rattle.ctl_meaning.specs.Ledger.{layers_of}
+use Rattle.ctl_meaning.specs.Lists.{first_with, change_each, opened_lists}
+use Rattle.ctl_meaning.specs.Objects.{object_in, change_in, with_begun}
+use Rattle.ctl_meaning.specs.Ledger.{layers_of, drop_layer}
 use Rattle.ctl_meaning.specs.Activations.{slots_in, activation_at}
-use Rattle.ctl_meaning.specs.Changes.{object_at, take_layer, close_master}
+use Rattle.ctl_meaning.specs.Changes.{object_at, take_layer, close_master, begin_finalization, opened_changes}
 use Rattle.ctl_meaning.specs.Choice.{Ask, picked}
-use Rattle.ctl_meaning.specs.Outcome.{program_error, ByRaise, Result, Goes, Leaves, Out, Act, Done, bind, on_goes, ◌>>◌, ticked, change, on_some, opened_outcome}
+use Rattle.ctl_meaning.specs.Outcome.{program_error, ByRaise, Result, Goes, Leaves, Out, Act, Done, Fine, bind, on_goes, ◌>>◌, ticked, change, on_some, opened_outcome}
 use Rattle.ctl_meaning.specs.Types.{Tables}
 use Rattle.ctl_meaning.specs.Names.{Call, Default, Tools, gone, existing}
 use Rattle.ctl_meaning.specs.Storage.{program_error_if}
 use Rattle.ctl_meaning.specs.Masters as Masters
 use Rattle.ctl_meaning.specs.Masters.{Left, finalize_layer, leave_layers, left}
 use Rattle.ctl_code.specs.declared.code.Code.{Code}
-use Rattle.ctl_code.specs.States.{After, Frame, InMaster, Leaving, State}
-use Rattle.ctl_code.specs.Table.{behind, finalize_declared, next_layer, cut_back}
+use Rattle.ctl_code.specs.States.{After, Frame, Leaving, State}
+use Rattle.ctl_code.specs.Table.{behind, finalize_declared, next_layer, says_failed}
 use Rattle.ctl_code.specs.Steps.{moved, step}
 use Rattle.ctl_gen.proofs.Known.{IsPlainType}
-use Rattle.ctl_gen.proofs.Worlds.{Fits, FoundFits, object_fits, LayersFit, layers_fit, fits_take, fits_close}
-use Rattle.ctl_gen.proofs.Setting.{Setting, tools_with, flagged, Calls}
-use Rattle.ctl_gen.proofs.Finalize.{finalize_as, declared_runs}
-use Rattle.ctl_gen.proofs.Follow.{Runs, gives, both, added, one_step, stop_step, end_step, bind_bind}
+use Rattle.ctl_gen.proofs.Worlds.{Each, IfFound, IsSingle, Settled, Since, object_fits, layers_fit, since_take, since_close}
+use Rattle.ctl_gen.proofs.Setting.{Setting, tools_with, Calls, Told, Sure}
+use Rattle.ctl_gen.proofs.Finalize.{finalize_as, declared_runs, handed, tells}
+use Rattle.ctl_gen.proofs.Follow.{Runs, way_of, both, added, stop_step, end_step, bind_bind}
 
 -- where the end of a master leads
-abbrev pub leaves : After → List Frame → List ℕ → Result Left → Log → World → State
-leaves after ks ops (Goes x) l w = record { mode = behind after x.result; control = ks; operands = ops; world = w; log = l }
-leaves after ks ops (Leaves y) l w = gives ks ops (Leaves y) l w
+abbrev pub leaves : After → List Frame → Result Left → Log → World → State
+leaves after ks (Goes x) l w = moved l (behind after x.result ks w)
+leaves after ks (Leaves y) l w = moved l (behind after (Leaves y) ks w)
 
-cut_same : (ops : List ℕ) → cut_back (length ops) ops ≡ ops
-cut_same ops = let e : length ops - length ops ≡ 0 = omega arith in ap (λ n. drop n ops) e
+-- an object whose finalization begins keeps its type
+begun_ty : (n : ℕ) (os : List Object) (o p : Object) → first_with (λ x. nat_eq x.number n) os ≡ Some o → first_with (λ x. nat_eq x.number n) (change_each (λ x. nat_eq x.number n) with_begun os) ≡ Some p → p.ty ≡ o.ty
+unfolding opened_lists with_begun
+begun_ty n [] o p e g = absurd (cc)
+begun_ty n (x ∷ os) o p e g = by (nat_eq x.number n) refl (begun_ty n os o p) e g
+  where
+    by : (b : Bool) → nat_eq x.number n ≡ b → (first_with (λ y. nat_eq y.number n) os ≡ Some o → first_with (λ y. nat_eq y.number n) (change_each (λ y. nat_eq y.number n) with_begun os) ≡ Some p → p.ty ≡ o.ty) → (if b then Some x else first_with (λ y. nat_eq y.number n) os) ≡ Some o → (if nat_eq (if b then with_begun x else x).number n then Some (if b then with_begun x else x) else first_with (λ y. nat_eq y.number n) (change_each (λ y. nat_eq y.number n) with_begun os)) ≡ Some p → p.ty ≡ o.ty
+    by true is rest e1 g1 =
+        let same : x ≡ o = cc e1 in
+        let here : with_begun x ≡ p = cc (sym (ap (λ b. if b then Some (with_begun x) else first_with (λ y. nat_eq y.number n) (change_each (λ y. nat_eq y.number n) with_begun os)) is) ∙ g1) in
+        sym (ap (λ (y : Object). y.ty) here) ∙ ap (λ (y : Object). y.ty) same
+    by false is rest e1 g1 = rest e1 (sym (ap (λ b. if b then Some x else first_with (λ y. nat_eq y.number n) (change_each (λ y. nat_eq y.number n) with_begun os)) is) ∙ g1)
+
+keeps_ty : (n : ℕ) (w : World) (o p : Object) → object_at n w ≡ Some o → object_at n (begin_finalization n w) ≡ Some p → p.ty ≡ o.ty
+unfolding opened_changes object_in change_in
+keeps_ty n w o p e g = begun_ty n w.objects o p e g
 
 module _ (ask : Ask) (k : Tables) (code : Code) (setting : Setting k code) (call : Call) (default : Default) (bound : ℕ) (calls : Calls ask k code setting bound call) where
   abbrev K : Tools
@@ -41,70 +57,57 @@ module _ (ask : Ask) (k : Tables) (code : Code) (setting : Setting k code) (call
   rest m xs r failed s c l w = bind (on_goes (λ b. leave_layers K m xs (failed || b)) s c l w) (on_goes (left m r))
 
   -- a declared object that is found, or not, from the step that looks for it
-  found_runs : (n : ℕ) (ks : List Frame) (ops : List ℕ) (c : ℕ) (l : Log) (w : World) (s0 : State) → c ≤ bound → Fits k w → (y : Option Object) → object_at n w ≡ y → FoundFits k y → step ask code s0 ≡ moved l (finalize_declared code n y ks ops w) → Runs ask code (Fits k) 3 3 s0 c (gives ks ops) (on_some y gone (λ o. finalize_as K n o.ty) c l w)
+  found_runs : (n : ℕ) (w0 : World) (ks : List Frame) (c : ℕ) (l : Log) (w : World) (s0 : State) → c ≤ bound → Since k code w0 w → (y : Option Object) → object_at n w ≡ y → IfFound (Settled k code w.ledger.next_master w.activations) y → step ask code s0 ≡ moved l (finalize_declared code n y ks w) → Runs ask code (Sure k code w0) 3 3 s0 c (tells ks) (on_some y gone (λ o. finalize_as K n o.ty) c l w)
   unfolding opened_outcome gone
-  found_runs n ks ops c l w s0 le fits None at known first = stop_step ask code (Fits k) 3 3 s0 _ c 0 (gives ks ops) UseAfterFree l (omega arith) first refl refl
-  found_runs n ks ops c l w s0 le fits (Some o) at known first = by o.ty known first
+  found_runs n w0 ks c l w s0 le fits None at known first = stop_step ask code (Sure k code w0) 3 3 s0 _ c 0 (tells ks) UseAfterFree l (omega arith) first refl refl
+  found_runs n w0 ks c l w s0 le fits (Some o) at known first = by o.ty refl known.plain first
     where
-      begins : Ty → State
-      begins ty = moved l (finalize_declared code n (Some (record o { ty = ty })) ks ops w)
-
       goal : Out Bool → Type 0
-      goal x = Runs ask code (Fits k) 3 3 s0 c (gives ks ops) x
+      goal x = Runs ask code (Sure k code w0) 3 3 s0 c (tells ks) x
 
-      by : (ty : Ty) → IsPlainType k ty → step ask code s0 ≡ begins ty → goal (finalize_as K n ty c l w)
-      by (Record t) known1 e = declared_runs ask k code setting call default t known1.0 known1.1 known1.2 bound calls n ks ops c l w s0 o le fits at e
-      by Integer known1 e = absurd known1
-      by Boolean known1 e = absurd known1
-      by Count known1 e = absurd known1
-      by Address known1 e = absurd known1
-      by Handle known1 e = absurd known1
-      by (Access a) known1 e = absurd known1
+      by : (ty : Ty) → o.ty ≡ ty → IsPlainType k ty → step ask code s0 ≡ moved l (finalize_declared code n (Some (record o { ty = ty })) ks w) → Runs ask code (Sure k code w0) 3 3 s0 c (tells ks) (finalize_as K n ty c l w)
+      by (Record t) is known1 e = declared_runs ask k code setting call default t known1.0 known1.1 known1.2 bound calls n w0 ks c l w s0 o le fits at is (λ p at1. keeps_ty n w o p at at1 ∙ is) e
+      by Integer is known1 e = absurd known1
+      by Boolean is known1 e = absurd known1
+      by Count is known1 e = absurd known1
+      by Address is known1 e = absurd known1
+      by Handle is known1 e = absurd known1
+      by (Access a) is known1 e = absurd known1
 
   -- a layer is taken out and finalized
-  layer_runs : (n m : ℕ) (ks : List Frame) (ops : List ℕ) (c : ℕ) (l : Log) (w : World) (s0 : State) → c ≤ bound → Fits k w → step ask code s0 ≡ moved l (finalize_declared code n (object_at n w) ks ops (take_layer m w)) → Runs ask code (Fits k) 0 0 s0 c (gives ks ops) (ticked (change (take_layer m) >> finalize_layer K (Single n)) c l w)
-  unfolding opened_outcome finalize_layer Masters.finalize_declared existing object_at take_layer
-  layer_runs n m ks ops c l w s0 le fits first =
-      added ask code (Fits k) 1 3 3 0 0 s0 c (gives ks ops) _ (omega arith) (omega arith)
-      (added ask code (Fits k) 0 3 3 3 3 s0 c (gives ks ops) _ (omega arith) (omega arith)
-      (found_runs n ks ops c l (take_layer m w) s0 le (fits_take k m w fits) (object_at n w) refl (object_fits k n w fits) first))
+  layer_runs : (n m : ℕ) (w0 : World) (ks : List Frame) (c : ℕ) (l : Log) (w : World) (s0 : State) → c ≤ bound → Since k code w0 w → step ask code s0 ≡ moved l (finalize_declared code n (object_at n w) ks (take_layer m w)) → Runs ask code (Sure k code w0) 0 0 s0 c (tells ks) (ticked (change (take_layer m) >> finalize_layer K (Single n)) c l w)
+  unfolding opened_outcome finalize_layer Masters.finalize_declared existing object_at take_layer drop_layer
+  layer_runs n m w0 ks c l w s0 le fits first =
+      added ask code (Sure k code w0) 1 3 3 0 0 s0 c (tells ks) _ (omega arith) (omega arith)
+      (added ask code (Sure k code w0) 0 3 3 3 3 s0 c (tells ks) _ (omega arith) (omega arith)
+      (found_runs n w0 ks c l (take_layer m w) s0 le (since_take k code m w0 w fits) (object_at n w) refl (object_fits k code n w fits.0) first))
 
   -- the layers that are left, from the step that begins with them
-  layers_run : (xs : List Layer) (failed : Bool) (r : Result Done) (m : ℕ) (after : After) (ks : List Frame) (ops : List ℕ) (c : ℕ) (l : Log) (w : World) (s0 : State) → c ≤ bound → Fits k w → LayersFit xs → step ask code s0 ≡ moved l (next_layer code m xs failed r after ks ops w) → Runs ask code (Fits k) 1 1 s0 c (leaves after ks ops) (bind (leave_layers K m xs failed c l w) (on_goes (left m r)))
+  layers_run : (xs : List Layer) (failed : Bool) (r : Result Done) (m : ℕ) (after : After) (w0 : World) (ks : List Frame) (c : ℕ) (l : Log) (w : World) (s0 : State) → w0.ledger.next_master ≤ m → c ≤ bound → Since k code w0 w → Each IsSingle xs → step ask code s0 ≡ moved l (next_layer code m xs failed r after ks w) → Runs ask code (Told k code w0) 1 1 s0 c (leaves after ks) (bind (leave_layers K m xs failed c l w) (on_goes (left m r)))
   unfolding picked opened_outcome leave_layers left program_error_if
-  layers_run [] true r m after ks ops c l w s0 le fits known first = end_step ask code (Fits k) 1 s0 c _ (leaves after ks ops) (Leaves (ByRaise program_error)) l (close_master m w) (fits_close k m w fits) first
-  layers_run [] false r m after ks ops c l w s0 le fits known first = end_step ask code (Fits k) 1 s0 c _ (leaves after ks ops) (Goes (record { result = r; slots = slots_in (activation_at m w.activations) })) l (close_master m w) (fits_close k m w fits) first
-  layers_run (Sets s ∷ xs) failed r m after ks ops c l w s0 le fits known first = absurd known
-  layers_run (Single n ∷ xs) failed r m after ks ops c l w s0 le fits known first =
+  layers_run [] true r m after w0 ks c l w s0 young le fits known first = end_step ask code (Told k code w0) 1 s0 c _ (leaves after ks) (Leaves (ByRaise program_error)) l (close_master m w) (tt, since_close k code m w0 w young fits) first
+  layers_run [] false r m after w0 ks c l w s0 young le fits known first = end_step ask code (Told k code w0) 1 s0 c _ (leaves after ks) (Goes (record { result = r; slots = slots_in (activation_at m w.activations) })) l (close_master m w) (tt, since_close k code m w0 w young fits) first
+  layers_run (Sets s ∷ xs) failed r m after w0 ks c l w s0 young le fits known first = absurd known.0
+  layers_run (Single n ∷ xs) failed r m after w0 ks c l w s0 young le fits known first =
       subst goal (sym (bind_bind (ticked (change (take_layer m) >> finalize_layer K (Single n)) c l w) (on_goes (λ b. leave_layers K m xs (failed || b))) (on_goes (left m r))))
-      (both ask code (Fits k) 0 0 1 1 1 1 s0 c (gives frames ops) (leaves after ks ops) _ (rest m xs r failed) (omega arith) (omega arith) (omega arith)
-      (layer_runs n m frames ops c l w s0 le fits first)
-      (on (λ b c1 l1 w1 lo fits1. layers_run xs (failed || b) r m after ks ops c1 l1 w1 (gives frames ops (Goes b) l1 w1) (omega (arith, lo, le)) fits1 known refl)))
+      (both ask code (Sure k code w0) (Told k code w0) 0 0 1 1 1 1 s0 c (tells frames) (leaves after ks) _ (rest m xs r failed) (omega arith) (omega arith) (omega arith)
+      (layer_runs n m w0 frames c l w s0 le fits first)
+      (on (λ b c1 l1 w1 lo fits1 next. layers_run xs (failed || b) r m after w0 ks c1 l1 w1 (tells frames (Goes b) l1 w1) young (omega (arith, lo, le)) fits1 known.1 next)))
     where
       frames : List Frame
       frames = Leaving m xs failed r after ∷ ks
 
       goal : Out Left → Type 0
-      goal o = Runs ask code (Fits k) 1 1 s0 c (leaves after ks ops) o
+      goal o = Runs ask code (Told k code w0) 1 1 s0 c (leaves after ks) o
 
-      on : ((b : Bool) (c1 : ℕ) (l1 : Log) (w1 : World) → c1 ≤ c → Fits k w1 → Runs ask code (Fits k) 1 1 (gives (Leaving m xs failed r after ∷ ks) ops (Goes b) l1 w1) c1 (leaves after ks ops) (bind (leave_layers K m xs (failed || b) c1 l1 w1) (on_goes (left m r)))) → (s : Result Bool) (c1 : ℕ) (l1 : Log) (w1 : World) → c1 ≤ c → Fits k w1 → Runs ask code (Fits k) 1 1 (gives (Leaving m xs failed r after ∷ ks) ops s l1 w1) c1 (leaves after ks ops) (rest m xs r failed s c1 l1 w1)
-      on more (Goes b) c1 l1 w1 lo fits1 = more b c1 l1 w1 lo fits1
-      on more (Leaves y) c1 l1 w1 lo fits1 = end_step ask code (Fits k) 1 _ c1 _ (leaves after ks ops) (Leaves y) l1 w1 fits1 refl
+      heard : (b : Bool) → says_failed (Fine (handed b)) ≡ b
+      heard true = refl
+      heard false = refl
 
-  -- a master whose statements have ended so
-  pub leave_runs : (r : Result Done) (m : ℕ) (after : After) (ks : List Frame) (ops : List ℕ) (c : ℕ) (l : Log) (w : World) → c ≤ bound → Fits k w → Runs ask code (Fits k) 2 2 (gives (InMaster m (length ops) after ∷ ks) ops (flagged r) l w) c (leaves after ks ops) (bind (leave_layers K m (layers_of m w.ledger) false c l w) (on_goes (left m r)))
-  unfolding picked opened_outcome
-  leave_runs r m after ks ops c l w le fits = one r
-    where
-      xs : List Layer
-      xs = layers_of m w.ledger
+      on : ((b : Bool) (c1 : ℕ) (l1 : Log) (w1 : World) → c1 ≤ c → Since k code w0 w1 → step ask code (tells (Leaving m xs failed r after ∷ ks) (Goes b) l1 w1) ≡ moved l1 (next_layer code m xs (failed || b) r after ks w1) → Runs ask code (Told k code w0) 1 1 (tells (Leaving m xs failed r after ∷ ks) (Goes b) l1 w1) c1 (leaves after ks) (bind (leave_layers K m xs (failed || b) c1 l1 w1) (on_goes (left m r)))) → (s : Result Bool) (c1 : ℕ) (l1 : Log) (w1 : World) → c1 ≤ c → Sure k code w0 (way_of s) w1 → Runs ask code (Told k code w0) 1 1 (tells (Leaving m xs failed r after ∷ ks) s l1 w1) c1 (leaves after ks) (rest m xs r failed s c1 l1 w1)
+      on more (Goes b) c1 l1 w1 lo fits1 = more b c1 l1 w1 lo fits1.1 (ap (λ z. moved l1 (next_layer code m xs (failed || z) r after ks w1)) (heard b))
+      on more (Leaves y) c1 l1 w1 lo fits1 = absurd fits1.0
 
-      leaving : Result Done → State
-      leaving s = gives (Leaving m xs false s after ∷ ks) ops (Goes false) l w
-
-      last : (s : Result Done) → Runs ask code (Fits k) 1 1 (gives (Leaving m (layers_of m w.ledger) false s after ∷ ks) ops (Goes false) l w) c (leaves after ks ops) (bind (leave_layers K m (layers_of m w.ledger) false c l w) (on_goes (left m s)))
-      last s = layers_run xs false s m after ks ops c l w (leaving s) le fits (layers_fit k m w fits) refl
-
-      one : (s : Result Done) → Runs ask code (Fits k) 2 2 (gives (InMaster m (length ops) after ∷ ks) ops (flagged s) l w) c (leaves after ks ops) (bind (leave_layers K m (layers_of m w.ledger) false c l w) (on_goes (left m s)))
-      one (Goes a) = one_step ask code (Fits k) 1 1 2 2 _ (leaving (Goes a)) c c (leaves after ks ops) _ (omega arith) (omega arith) (omega arith) (omega arith) (ap (λ os. gives (Leaving m xs false (Goes a) after ∷ ks) os (Goes false) l w) (cut_same ops)) (last (Goes a))
-      one (Leaves y) = one_step ask code (Fits k) 1 1 2 2 _ (leaving (Leaves y)) c c (leaves after ks ops) _ (omega arith) (omega arith) (omega arith) (omega arith) (ap (λ os. gives (Leaving m xs false (Leaves y) after ∷ ks) os (Goes false) l w) (cut_same ops)) (last (Leaves y))
+  -- a master whose statements have ended so, from the step that leaves it
+  pub leave_runs : (r : Result Done) (m : ℕ) (after : After) (w0 : World) (ks : List Frame) (c : ℕ) (l : Log) (w : World) (s0 : State) → w0.ledger.next_master ≤ m → c ≤ bound → Since k code w0 w → step ask code s0 ≡ moved l (next_layer code m (layers_of m w.ledger) false r after ks w) → Runs ask code (Told k code w0) 1 1 s0 c (leaves after ks) (bind (leave_layers K m (layers_of m w.ledger) false c l w) (on_goes (left m r)))
+  leave_runs r m after w0 ks c l w s0 young le fits first = layers_run (layers_of m w.ledger) false r m after w0 ks c l w s0 young le fits (layers_fit k code m w fits.0) first

@@ -1,279 +1,244 @@
--- Loops (5.5, 5.7): each turn takes one from the clock when its statements begin.
-use Rattle.std.proofs.Common.{◌≡◌, ℕ, zero, suc, ◌+◌, ◌-◌, ◌≤◌, List, [], ◌∷◌, ◌++◌, length, Bool, true, false, refl, sym, ap, ◌∙◌, subst, arith, length-append, inl}
-use Rattle.std.specs.Prelude.{slice_get, not, ℤ, pos, negsuc, ◌-ℤ◌}
-use Rattle.ctl_program.specs.declared.types.Var.{Var}
+-- Loops (5.5, 5.7): each turn takes one from the clock when its statements begin. An exit statement leads to the landing before the first
+-- turn, and that behind the loop.
+use Rattle.std.proofs.Common.{◌≡◌, ℕ, zero, suc, ◌+◌, ◌-◌, ◌≤◌, List, [], ◌∷◌, ◌++◌, length, Some, Bool, true, false, refl, sym, ap, ◌∙◌, subst, arith, length-append, inl}
+use Rattle.std.specs.Prelude.{slice_get, if◌then◌else◌}
+use Rattle.ctl_program.specs.declared.types.Ty.TheVariants.{Boolean}
 use Rattle.ctl_meaning.specs.World.{Log, World}
 use Rattle.ctl_meaning.specs.Lists.{opened_lists}
-use Rattle.ctl_meaning.specs.Choice.{Ask, picked}
-use Rattle.ctl_meaning.specs.Outcome.{constraint_error, Way, ByExit, ByReturn, ByRaise, Result, Goes, Leaves, Act, Done, add, bind, on_goes, ◌>>◌, given, leave_by, done, nothing, ticked, then_always, either, opened_outcome}
-use Rattle.ctl_meaning.specs.Numbers.{is_true, signed}
+use Rattle.ctl_meaning.specs.Choice.{Ask}
+use Rattle.ctl_meaning.specs.Outcome.{Way, ByExit, ByReturn, ByRaise, Result, Goes, Leaves, Act, Done, add, bind, on_goes, leave_by, done, nothing, ticked, either, opened_outcome}
+use Rattle.ctl_meaning.specs.Numbers.{is_true}
 use Rattle.ctl_meaning.specs.Types.{Tables}
-use Rattle.ctl_meaning.specs.Names.{Call, Default, Tools, scalar_of}
-use Rattle.ctl_meaning.specs.Statements.{scalar, leaving, turned, turns, loop, one_turn, while, for_turns, count_up, for, set_loop}
-use Rattle.ctl_code.specs.declared.code.Instr.{Instr}
+use Rattle.ctl_meaning.specs.Names.{scalar_of}
+use Rattle.ctl_meaning.specs.Statements.{scalar, leaving, turned, turns, loop, one_turn, while}
 use Rattle.ctl_code.specs.declared.code.Instr.TheVariants as InstrOf
 use Rattle.ctl_code.specs.declared.code.Code.{Code}
-use Rattle.ctl_code.specs.States.{Frame, Looping, Counting, State}
-use Rattle.ctl_code.specs.Table.{cut_back, by_exit, by_range, first_value, next_value, with_parameter}
+use Rattle.ctl_code.specs.declared.kinds.Kind.{Kind}
+use Rattle.ctl_code.specs.States.{Frame, State}
+use Rattle.ctl_code.specs.Table.{by_unless}
 use Rattle.ctl_code.specs.Steps.{moved, step}
-use Rattle.ctl_gen.specs.Layout.{loop_code, turns_code}
-use Rattle.ctl_program.specs.declared.operators.Direction.{Direction}
-use Rattle.ctl_program.specs.declared.operators.Direction.TheVariants.{Upward, Downward}
-use Rattle.ctl_gen.specs.Values.{ValueCode}
-use Rattle.ctl_gen.proofs.Place.{HasAt, has_front, has_back}
-use Rattle.ctl_gen.proofs.Worlds.{Fits, fits_slot}
-use Rattle.ctl_gen.proofs.Setting.{tools_with, by_code}
-use Rattle.ctl_gen.proofs.Operands.{Stands, cut_over, looping_stands, counting_stands}
-use Rattle.ctl_gen.proofs.Worth.{both_plain}
-use Rattle.ctl_gen.proofs.Expressions.{values, First, Value, value_runs}
+use Rattle.ctl_gen.specs.Around.{Line, Exits, FromMaster, FromLoop, Around, behind, exit_of}
+use Rattle.ctl_gen.specs.Values.{ValueCode, held}
+use Rattle.ctl_gen.specs.Layout.{in_loop, loop_code, leaves_code, test_code, test_length}
+use Rattle.ctl_gen.proofs.Place.{Laid, laid_front, laid_back}
+use Rattle.ctl_gen.proofs.Worlds.{Since, Kept}
+use Rattle.ctl_gen.proofs.Setting.{Sees}
+use Rattle.ctl_gen.proofs.Cells.{here, by_code, waiting, Stays, taking_is}
+use Rattle.ctl_gen.proofs.Expressions.{Value, held_holds, held_then}
 use Rattle.ctl_gen.proofs.Does.{Does}
-use Rattle.ctl_gen.proofs.Follow.{IsGoing, Runs, at, gives, arrives, added, within, one_step, last_step, no_step, both, arriving, left_behind, bind_add, bind_bind}
+use Rattle.ctl_gen.proofs.Follow.{IsGoing, Runs, Landing, On, landing_of, landing_further, landed_on, at, transferred, arrives, added, within, one_step, last_step, no_step, both, arriving, left_behind, bind_add, bind_bind}
 
-module _ (ask : Ask) (k : Tables) (code : Code) (call : Call) (default : Default) (bound : ℕ) where
-  abbrev K : Tools
-  K = tools_with ask k call default
-
+module _ (ask : Ask) (k : Tables) (code : Code) (bound : ℕ) where
   -- a turn, from the step that begins it, and what follows
-  turn_runs : (m : Act Done) (f : Result Bool → Act Done) (next : Result Done → Log → World → State) (s0 : State) (g : Frame) (v : List ℕ) (place size : ℕ) (ks : List Frame) (ops : List ℕ) (c : ℕ) (l : Log) (w w1 : World) → step ask code s0 ≡ at v place (g ∷ ks) ops l w1 → IsGoing s0 → s0.log ≡ l → ((c1 : ℕ) → c1 + 1 ≤ c → Runs ask code (Fits k) 0 0 (at v place (g ∷ ks) ops l w1) c1 (arrives v (place + size) (g ∷ ks) ops) (m c1 l w)) → ((c1 : ℕ) (l1 : Log) (w2 : World) → c1 + 1 ≤ c → Fits k w2 → Runs ask code (Fits k) 2 2 (at v (place + size) (g ∷ ks) ops l1 w2) c1 next (f (Goes true) c1 l1 w2)) → ((y : Way) (c1 : ℕ) (l1 : Log) (w2 : World) → c1 + 1 ≤ c → Fits k w2 → Runs ask code (Fits k) 2 2 (gives (g ∷ ks) ops (Leaves y) l1 w2) c1 next (f (Leaves y) c1 l1 w2)) → Runs ask code (Fits k) 0 1 s0 c next (bind (one_turn m c l w) f)
+  pub turn_runs : (m : Act Done) (f : Result Bool → Act Done) (w0 : World) (mid next : Result Done → Log → World → State) (s0 s1 : State) (c : ℕ) (l : Log) (w : World) → step ask code s0 ≡ s1 → IsGoing s0 → s0.log ≡ l → ((c1 : ℕ) → c1 + 1 ≤ c → Runs ask code (Kept k code w0) 0 0 s1 c1 mid (m c1 l w)) → ((c1 : ℕ) (l1 : Log) (w2 : World) → c1 + 1 ≤ c → Since k code w0 w2 → Runs ask code (Kept k code w0) 4 4 (mid (Goes tt) l1 w2) c1 next (f (Goes true) c1 l1 w2)) → ((y : Way) (c1 : ℕ) (l1 : Log) (w2 : World) → c1 + 1 ≤ c → Since k code w0 w2 → Runs ask code (Kept k code w0) 4 4 (mid (Leaves y) l1 w2) c1 next (f (Leaves y) c1 l1 w2)) → Runs ask code (Kept k code w0) 0 1 s0 c next (bind (one_turn m c l w) f)
   unfolding one_turn opened_outcome
-  turn_runs m f next s0 g v place size ks ops zero l w w1 first going logged body again leave = record { n = 0; in_time = omega arith; logged = logged; going = going; why = inl (omega arith) }
-  turn_runs m f next s0 g v place size ks ops (suc c) l w w1 first going logged body again leave =
-      subst (λ o. Runs ask code (Fits k) 0 1 s0 (suc c) next o) (sym (bind_add 1 (bind (m c l w) (on_goes (λ _. done true))) f ∙ ap (add 1) (bind_bind (m c l w) (on_goes (λ _. done true)) f)))
-      (added ask code (Fits k) 1 3 3 0 1 s0 (suc c) next _ (omega arith) (omega arith)
-      (one_step ask code (Fits k) 2 2 3 3 s0 _ (suc c) c next _ (omega arith) (omega arith) (omega arith) (omega arith) first
-      (both ask code (Fits k) 0 0 2 2 2 2 _ c (arrives v (place + size) (g ∷ ks) ops) next (m c l w) _ (omega arith) (omega arith) (omega arith) (body c (omega arith)) on)))
+  turn_runs m f w0 mid next s0 s1 zero l w first going logged body again leave = record { n = 0; in_time = omega arith; logged = logged; going = going; why = inl (omega arith) }
+  turn_runs m f w0 mid next s0 s1 (suc c) l w first going logged body again leave =
+      subst (λ o. Runs ask code (Kept k code w0) 0 1 s0 (suc c) next o) (sym (bind_add 1 (bind (m c l w) (on_goes (λ _. done true))) f ∙ ap (add 1) (bind_bind (m c l w) (on_goes (λ _. done true)) f)))
+      (added ask code (Kept k code w0) 1 5 5 0 1 s0 (suc c) next _ (omega arith) (omega arith)
+      (one_step ask code (Kept k code w0) 4 4 5 5 s0 s1 (suc c) c next _ (omega arith) (omega arith) (omega arith) (omega arith) first
+      (both ask code (Kept k code w0) (Kept k code w0) 0 0 4 4 4 4 s1 c mid next (m c l w) _ (omega arith) (omega arith) (omega arith) (body c (omega arith)) on)))
     where
-      on : (r : Result Done) (c1 : ℕ) (l1 : Log) (w2 : World) → c1 ≤ c → Fits k w2 → Runs ask code (Fits k) 2 2 (arrives v (place + size) (g ∷ ks) ops r l1 w2) c1 next (bind (on_goes (λ _. done true) r c1 l1 w2) f)
-      on (Goes a) c1 l1 w2 lo fits = added ask code (Fits k) 0 2 2 2 2 _ c1 next _ (omega arith) (omega arith) (again c1 l1 w2 (omega (arith, lo)) fits)
-      on (Leaves y) c1 l1 w2 lo fits = added ask code (Fits k) 0 2 2 2 2 _ c1 next _ (omega arith) (omega arith) (leave y c1 l1 w2 (omega (arith, lo)) fits)
+      on : (r : Result Done) (c1 : ℕ) (l1 : Log) (w2 : World) → c1 ≤ c → Since k code w0 w2 → Runs ask code (Kept k code w0) 4 4 (mid r l1 w2) c1 next (bind (on_goes (λ _. done true) r c1 l1 w2) f)
+      on (Goes a) c1 l1 w2 lo fits = added ask code (Kept k code w0) 0 4 4 4 4 _ c1 next _ (omega arith) (omega arith) (again c1 l1 w2 (omega (arith, lo)) fits)
+      on (Leaves y) c1 l1 w2 lo fits = added ask code (Kept k code w0) 0 4 4 4 4 _ c1 next _ (omega arith) (omega arith) (leave y c1 l1 w2 (omega (arith, lo)) fits)
+
+  -- a landing leads behind its loop
+  abbrev pub Lands : List ℕ → ℕ → List Frame → List ℕ → ℕ → List ℕ → Type 0
+  Lands d landing ks over place ops = (l : Log) (w : World) → step ask code (at d landing ks over l w) ≡ at d place ks ops l w
 
   -- a loop is left
-  loop_ends : (v : List ℕ) (behind : ℕ) (ks : List Frame) (ops : List ℕ) (again : Act Done) (y : Way) (c : ℕ) (l : Log) (w : World) → Fits k w → Runs ask code (Fits k) 2 2 (gives (Looping (length ops) v behind ∷ ks) ops (Leaves y) l w) c (arrives v behind ks ops) (turned again (Leaves y) c l w)
-  unfolding turned opened_outcome picked
-  loop_ends v behind ks ops again ByExit c l w fits = last_step ask code (Fits k) 2 2 _ c 0 (arrives v behind ks ops) (Goes tt) l w (omega arith) fits (ap (λ os. at v behind ks os l w) (cut_over [] ops))
-  loop_ends v behind ks ops again (ByReturn u) c l w fits = last_step ask code (Fits k) 2 2 _ c 0 (arrives v behind ks ops) (Leaves (ByReturn u)) l w (omega arith) fits (ap (λ os. gives ks os (Leaves (ByReturn u)) l w) (cut_over [] ops))
-  loop_ends v behind ks ops again (ByRaise e) c l w fits = last_step ask code (Fits k) 2 2 _ c 0 (arrives v behind ks ops) (Leaves (ByRaise e)) l w (omega arith) fits (ap (λ os. gives ks os (Leaves (ByRaise e)) l w) (cut_over [] ops))
+  pub loop_ends : (e : Landing) (d : List ℕ) (landing q place : ℕ) (ks : List Frame) (over ops : List ℕ) (w0 : World) (again : Act Done) → Lands d landing ks over place ops → (y : Way) (c : ℕ) (l : Log) (w : World) → Since k code w0 w → Runs ask code (Kept k code w0) 4 4 (arrives (On landing) d q ks over (Leaves y) l w) c (arrives e d place ks ops) (turned again (Leaves y) c l w)
+  unfolding turned opened_outcome
+  loop_ends e d landing q place ks over ops w0 again lands ByExit c l w fits = last_step ask code (Kept k code w0) 4 4 _ c 0 (arrives e d place ks ops) (Goes tt) l w (omega arith) fits (lands l w)
+  loop_ends e d landing q place ks over ops w0 again lands (ByReturn u) c l w fits = no_step ask code (Kept k code w0) 4 4 _ c 0 (arrives e d place ks ops) (Leaves (ByReturn u)) l w fits refl
+  loop_ends e d landing q place ks over ops w0 again lands (ByRaise x) c l w fits = no_step ask code (Kept k code w0) 4 4 _ c 0 (arrives e d place ks ops) (Leaves (ByRaise x)) l w fits refl
 
   -- Without an iteration scheme ---------------------------------------------------------------------
 
   -- the turns of a loop, from the step that begins one of them
-  turns_run : (body : List Instr) (act : List ℕ → Act Done) → Does ask k code bound body act → (n : ℕ) (v : List ℕ) (place behind : ℕ) (ks : List Frame) (ops : List ℕ) (c : ℕ) (l : Log) (w : World) (s0 : State) → c ≤ n → c ≤ bound → Fits k w → HasAt code.instructions.items place (body ++ InstrOf.Repeat (length body) ∷ []) → step ask code s0 ≡ at v place (Looping (length ops) v behind ∷ ks) ops l w → IsGoing s0 → s0.log ≡ l → Runs ask code (Fits k) 1 1 s0 c (arrives v behind ks ops) (turns n (one_turn (act v)) c l w)
-  unfolding turns turned then_always
-  turns_run body act does zero v place behind ks ops c l w s0 fuel le fits has first going logged = record { n = 0; in_time = omega arith; logged = logged; going = going; why = inl (omega (arith, fuel)) }
-  turns_run body act does (suc n) v place behind ks ops c l w s0 fuel le fits has first going logged =
-      within ask code (Fits k) 0 1 1 1 s0 c (arrives v behind ks ops) _ (omega arith) (omega arith)
-      (turn_runs (act v) (turned (turns n (one_turn (act v)))) (arrives v behind ks ops) s0 (Looping (length ops) v behind) v place (length body) ks ops c l w w first going logged
-      (λ c1 lo. does v place (Looping (length ops) v behind ∷ ks) ops c1 l w (omega (arith, lo, le)) (looping_stands v behind ks ops) fits (has_front code.instructions.items place body (InstrOf.Repeat (length body) ∷ []) has))
-      (λ c1 l1 w2 lo fits1. within ask code (Fits k) 1 1 2 2 _ c1 (arrives v behind ks ops) _ (omega arith) (omega arith) (turns_run body act does n v place behind ks ops c1 l1 w2 (at v (place + length body) (Looping (length ops) v behind ∷ ks) ops l1 w2) (omega (arith, lo, fuel)) (omega (arith, lo, le)) fits1 has (back l1 w2) tt refl))
-      (λ y c1 l1 w2 lo fits1. loop_ends v behind ks ops (turns n (one_turn (act v))) y c1 l1 w2 fits1))
+  turns_run : (x : Around → List Line) (act : List ℕ → Act Done) → Does ask k code bound x act → (s : List Kind) (n : ℕ) (e : Landing) (w0 : World) (d : List ℕ) (start place : ℕ) (ks : List Frame) (ops : List ℕ) (c : ℕ) (l : Log) (w : World) (s0 : State) → c ≤ n → c ≤ bound → Since k code w0 w → Sees d s w0 → Laid code start (x (in_loop s) ++ (InstrOf.Back (length (x (in_loop s))), s) ∷ []) → Lands d (start - 1) ks ops place ops → step ask code s0 ≡ at d start ks ops l w → IsGoing s0 → s0.log ≡ l → Runs ask code (Kept k code w0) 1 1 s0 c (arrives e d place ks ops) (turns n (one_turn (act d)) c l w)
+  unfolding turns turned opened_outcome
+  turns_run x act does s zero e w0 d start place ks ops c l w s0 fuel le fits sees has lands first going logged = record { n = 0; in_time = omega arith; logged = logged; going = going; why = inl (omega (arith, fuel)) }
+  turns_run x act does s (suc n) e w0 d start place ks ops c l w s0 fuel le fits sees has lands first going logged =
+      within ask code (Kept k code w0) 0 1 1 1 s0 c (arrives e d place ks ops) _ (omega arith) (omega arith)
+      (turn_runs (act d) (turned (turns n (one_turn (act d)))) w0 (arrives (On (start - 1)) d (start + length b) ks ops) (arrives e d place ks ops) s0 (at d start ks ops l w) c l w first going logged
+      (λ c1 lo. does (in_loop s) w0 d start ks ops c1 l w (omega (arith, lo, le)) fits sees (laid_front code start b ((InstrOf.Back (length b), s) ∷ []) has))
+      (λ c1 l1 w2 lo fits1. within ask code (Kept k code w0) 1 1 4 4 _ c1 (arrives e d place ks ops) _ (omega arith) (omega arith) (turns_run x act does s n e w0 d start place ks ops c1 l1 w2 (at d (start + length b) ks ops l1 w2) (omega (arith, lo, fuel)) (omega (arith, lo, le)) fits1 sees has lands (back l1 w2) tt refl))
+      (λ y c1 l1 w2 lo fits1. loop_ends e d (start - 1) (start + length b) place ks ops ops w0 (turns n (one_turn (act d))) lands y c1 l1 w2 fits1))
     where
-      back : (l1 : Log) (w2 : World) → step ask code (at v (place + length body) (Looping (length ops) v behind ∷ ks) ops l1 w2) ≡ at v place (Looping (length ops) v behind ∷ ks) ops l1 w2
-      back l1 w2 =
-          let e : place + length body - length body ≡ place = omega arith in
-          by_code ask code v (place + length body) (Looping (length ops) v behind ∷ ks) ops l1 w2 (InstrOf.Repeat (length body)) (has_back code.instructions.items place body (InstrOf.Repeat (length body) ∷ []) has).0
-          ∙ ap (λ p. at v p (Looping (length ops) v behind ∷ ks) ops l1 w2) e
+      b : List Line
+      b = x (in_loop s)
 
-  pub loop_runs : (body : List Instr) (act : List ℕ → Act Done) → Does ask k code bound body act → Does ask k code bound (loop_code body) (λ v. ticked (leaving (loop (one_turn (act v)))))
+      back : (l1 : Log) (w2 : World) → step ask code (at d (start + length (x (in_loop s))) ks ops l1 w2) ≡ at d start ks ops l1 w2
+      back l1 w2 =
+          let e1 : start + length b - length b ≡ start = omega arith in
+          by_code ask code d (start + length b) ks ops l1 w2 (InstrOf.Back (length b)) (laid_back code start b ((InstrOf.Back (length b), s) ∷ []) has).0 ∙ ap (λ p. at d p ks ops l1 w2) e1
+
+  pub loop_runs : (x : Around → List Line) (act : List ℕ → Act Done) → Does ask k code bound x act → Does ask k code bound (λ a. loop_code (x (in_loop a.stack)) a.stack) (λ d. ticked (leaving (loop (one_turn (act d)))))
   unfolding leaving loop opened_outcome
-  loop_runs body act does v place ks ops c l w le stands fits has =
-      let e : place + 1 + (length body + 1) ≡ place + length (loop_code body) = omega (arith, length-append body (InstrOf.Repeat (length body) ∷ [])) in
-      arriving ask code (Fits k) 0 0 _ c _ _ _ (λ r l1 w1. ap (λ p. arrives v p ks ops r l1 w1) e)
-      (added ask code (Fits k) 1 1 1 0 0 _ c _ _ (omega arith) (omega arith)
-      (left_behind ask code (Fits k) 1 1 1 1 _ c (arrives v (place + 1 + (length body + 1)) ks ops) _ (omega arith) (omega arith)
-      (turns_run body act does (suc c) v (place + 1) (place + 1 + (length body + 1)) ks ops c l w (at v place ks ops l w) (omega arith) le fits has.1 (by_code ask code v place ks ops l w (InstrOf.Loop (length body + 1)) has.0) tt refl)))
+  loop_runs x act does a w0 d place ks ops c l w le fits sees has =
+      let s = a.stack in
+      let b = x (in_loop s) in
+      let far : place + 1 + 1 + (length b + 1) ≡ place + length (loop_code b s) = omega (arith, length-append b ((InstrOf.Back (length b), s) ∷ [])) in
+      let landing : place + 1 ≡ place + 1 + 1 - 1 = omega arith in
+      arriving ask code (Kept k code w0) 0 0 _ c _ _ _ (λ r l1 w1. ap (λ p. arrives (landing_of a.exits place) d p ks ops r l1 w1) far)
+      (added ask code (Kept k code w0) 1 1 1 0 0 _ c _ _ (omega arith) (omega arith)
+      (left_behind ask code (Kept k code w0) 1 1 1 1 _ c (arrives (landing_of a.exits place) d (place + 1 + 1 + (length b + 1)) ks ops) _ (omega arith) (omega arith)
+      (turns_run x act does s (suc c) (landing_of a.exits place) w0 d (place + 1 + 1) (place + 1 + 1 + (length b + 1)) ks ops c l w (at d place ks ops l w) (omega arith) le fits sees has.2.2
+      (λ l1 w1. subst (λ p. step ask code (at d p ks ops l1 w1) ≡ at d (place + 1 + 1 + (length b + 1)) ks ops l1 w1) landing (by_code ask code d (place + 1) ks ops l1 w1 (InstrOf.Skip (length b + 1)) has.2.0))
+      (by_code ask code d place ks ops l w (InstrOf.Skip 1) has.0) tt refl)))
+
+  -- Conditions --------------------------------------------------------------------------------------
+
+  -- a condition, from where it begins: what it guards, or behind it and so many instructions
+  pub test_runs : (f : Result (List ℕ) → Act Done) (w0 : World) (y : ValueCode) (test : List ℕ → Act (List ℕ)) → Value ask k code (Since k code w0) y test → (s : List Kind) (size : ℕ) (d : List ℕ) (place : ℕ) (ks : List Frame) (ops : List ℕ) (c : ℕ) (l : Log) (w : World) (next : Result Done → Log → World → State) → Since k code w0 w → Sees d s w0 → Laid code place (test_code y s size) → ((m c1 : ℕ) (l1 : Log) (w1 : World) (s0 : State) → c1 ≤ c → Since k code w0 w1 → step ask code s0 ≡ at d (place + test_length y s + (if is_true m then 0 else size)) ks ops l1 w1 → IsGoing s0 → s0.log ≡ l1 → Runs ask code (Kept k code w0) 8 8 s0 c1 next (f (Goes (m ∷ [])) c1 l1 w1)) → ((x c1 : ℕ) (l1 : Log) (w1 : World) → c1 ≤ c → Since k code w0 w1 → Runs ask code (Kept k code w0) 8 8 (transferred (ByRaise x) ks l1 w1) c1 next (f (Leaves (ByRaise x)) c1 l1 w1)) → Runs ask code (Kept k code w0) 0 0 (at d place ks ops l w) c next (bind (test d c l w) f)
+  test_runs f w0 y test value s size d place ks ops c l w next fits sees has goes leaves =
+      let h = held y Boolean s in
+      let i = InstrOf.Unless h.cell size in
+      let there = (laid_back code place h.code ((i, h.after) ∷ []) has).0 in
+      held_then ask k code (Since k code w0) h (λ n w1. Stays h.cell.named n d w1) test d place ks ops c l w next f
+      (held_holds ask k code (Since k code w0) y.right y test refl value Boolean s d place ks ops c l w fits sees.long (laid_front code place h.code ((i, h.after) ∷ []) has))
+      (λ m c1 l1 w1 lo fits1 stays. goes m c1 l1 w1 (at d (place + length h.code) ks (waiting h.cell.named m ops) l1 w1) lo fits1 (unless m l1 w1 stays there) tt refl)
+      (λ x c1 l1 w1 lo fits1. leaves x c1 l1 w1 lo fits1)
+    where
+      unless : (m : ℕ) (l1 : Log) (w1 : World) → Stays (held y Boolean s).cell.named m d w1 → slice_get code.instructions.items (place + length (held y Boolean s).code) ≡ Some (InstrOf.Unless (held y Boolean s).cell size) → step ask code (at d (place + length (held y Boolean s).code) ks (waiting (held y Boolean s).cell.named m ops) l1 w1) ≡ at d (place + test_length y s + (if is_true m then 0 else size)) ks ops l1 w1
+      unless m l1 w1 stays there =
+          let h = held y Boolean s in
+          let e : place + length h.code + 1 + (if is_true m then 0 else size) ≡ place + test_length y s + (if is_true m then 0 else size) = omega arith in
+          by_code ask code d (place + length h.code) ks (waiting h.cell.named m ops) l1 w1 (InstrOf.Unless h.cell size) there
+          ∙ ap (moved l1) (taking_is h.cell.named m (λ x rest. by_unless size x rest (here d (place + length h.code) ks w1)) ops d (place + length h.code) ks w1 stays)
+          ∙ ap (λ p. at d p ks ops l1 w1) e
 
   -- While a condition holds -------------------------------------------------------------------------
 
   -- what a test leads to
-  abbrev tested : Act Done → Act Done → List ℕ → Act Bool
-  tested body again u = either (is_true (scalar_of u)) (one_turn body) (done false)
+  abbrev tested : Act Done → List ℕ → Act Bool
+  tested body u = either (is_true (scalar_of u)) (one_turn body) (done false)
 
-  -- the end of a test, from its last operand on
-  test_runs : (body : List Instr) (act : List ℕ → Act Done) → Does ask k code bound body act → (again : Act Done) (v : List ℕ) (q behind : ℕ) (ks : List Frame) (ops : List ℕ) (c : ℕ) (l : Log) (w : World) → c ≤ bound → Fits k w → HasAt code.instructions.items q (InstrOf.ExitUnless ∷ body) → ((c1 : ℕ) (l1 : Log) (w2 : World) → c1 + 1 ≤ c → Fits k w2 → Runs ask code (Fits k) 2 2 (at v (q + 1 + length body) (Looping (length ops) v behind ∷ ks) ops l1 w2) c1 (arrives v behind ks ops) (again c1 l1 w2)) → (m : ℕ) (b : Bool) → is_true m ≡ b → Runs ask code (Fits k) 3 3 (at v q (Looping (length ops) v behind ∷ ks) (m ∷ ops) l w) c (arrives v behind ks ops) (bind (either b (one_turn (act v)) (done false) c l w) (turned again))
-  unfolding turned opened_outcome picked
-  test_runs body act does again v q behind ks ops c l w le fits has more m true t =
-      within ask code (Fits k) 0 1 3 3 _ c (arrives v behind ks ops) _ (omega arith) (omega arith)
-      (turn_runs (act v) (turned again) (arrives v behind ks ops) (at v q f∷ks (m ∷ ops) l w) f v (q + 1) (length body) ks ops c l w w (first ∙ ap (λ b. moved l (by_exit (not b) v q f∷ks ops w)) t) tt refl
-      (λ c1 lo. does v (q + 1) f∷ks ops c1 l w (omega (arith, lo, le)) (looping_stands v behind ks ops) fits has.1)
-      more
-      (λ y c1 l1 w2 lo fits1. loop_ends v behind ks ops again y c1 l1 w2 fits1))
+  -- a turn with its test, and the instruction that leads back
+  abbrev turn_of : ValueCode → (Around → List Line) → List Kind → List Line
+  turn_of y x s = test_code y s (length (x (behind (test_length y s) (in_loop s))) + 1) ++ x (behind (test_length y s) (in_loop s))
+
+  whiles_run : (y : ValueCode) (test : List ℕ → Act (List ℕ)) → ((w0 : World) → Value ask k code (Since k code w0) y test) → (x : Around → List Line) (act : List ℕ → Act Done) → Does ask k code bound x act → (s : List Kind) (n : ℕ) (e : Landing) (w0 : World) (d : List ℕ) (start place : ℕ) (ks : List Frame) (ops : List ℕ) (c : ℕ) (l : Log) (w : World) → c ≤ n → c ≤ bound → Since k code w0 w → Sees d s w0 → Laid code start (turn_of y x s ++ (InstrOf.Back (length (turn_of y x s)), s) ∷ []) → Lands d (start - 1) ks ops place ops → start + length (turn_of y x s) + 1 ≡ place → Runs ask code (Kept k code w0) 0 1 (at d start ks ops l w) c (arrives e d place ks ops) (turns n (while (test d) (act d)) c l w)
+  unfolding turns while turned opened_outcome scalar_of opened_lists
+  whiles_run y test value x act does s zero e w0 d start place ks ops c l w fuel le fits sees has lands far = record { n = 0; in_time = omega arith; logged = refl; going = tt; why = inl (omega (arith, fuel)) }
+  whiles_run y test value x act does s (suc n) e w0 d start place ks ops c l w fuel le fits sees has lands far =
+      subst (λ o. Runs ask code (Kept k code w0) 0 1 (at d start ks ops l w) c (arrives e d place ks ops) o) (sym (bind_bind (test d c l w) (on_goes (tested (act d))) (turned again)))
+      (within ask code (Kept k code w0) 0 0 0 1 _ c _ _ (omega arith) (omega arith)
+      (test_runs (λ r c1 l1 w1. bind (on_goes (tested (act d)) r c1 l1 w1) (turned again)) w0 y test (value w0) s (length b + 1) d start ks ops c l w (arrives e d place ks ops) fits sees (laid_front code start (test_code y s (length b + 1)) b inside)
+      (λ m c1 l1 w1 s0 lo fits1 first going logged. by m c1 l1 w1 s0 lo fits1 going logged (λ c2 l2 w2 lo2 fits2. whiles_run y test value x act does s n e w0 d start place ks ops c2 l2 w2 (omega (arith, lo, lo2, fuel)) (omega (arith, lo, lo2, le)) fits2 sees has lands far) (is_true m) refl first)
+      (λ z c1 l1 w1 lo fits1. no_step ask code (Kept k code w0) 8 8 (transferred (ByRaise z) ks l1 w1) c1 0 (arrives e d place ks ops) (Leaves (ByRaise z)) l1 w1 fits1 refl)))
     where
-      f : Frame
-      f = Looping (length ops) v behind
-
-      f∷ks : List Frame
-      f∷ks = Looping (length ops) v behind ∷ ks
-
-      first : step ask code (at v q (Looping (length ops) v behind ∷ ks) (m ∷ ops) l w) ≡ moved l (by_exit (not (is_true m)) v q (Looping (length ops) v behind ∷ ks) ops w)
-      first = by_code ask code v q (Looping (length ops) v behind ∷ ks) (m ∷ ops) l w InstrOf.ExitUnless has.0
-  test_runs body act does again v q behind ks ops c l w le fits has more m false t =
-      one_step ask code (Fits k) 2 2 3 3 (at v q (Looping (length ops) v behind ∷ ks) (m ∷ ops) l w) _ c c (arrives v behind ks ops) (turned again (Leaves ByExit) c l w) (omega arith) (omega arith) (omega arith) (omega arith) (first ∙ ap (λ b. moved l (by_exit (not b) v q (Looping (length ops) v behind ∷ ks) ops w)) t ∙ ap (λ os. gives (Looping (length ops) v behind ∷ ks) os (Leaves ByExit) l w) (cut_over [] ops))
-      (loop_ends v behind ks ops again ByExit c l w fits)
-    where
-      first : step ask code (at v q (Looping (length ops) v behind ∷ ks) (m ∷ ops) l w) ≡ moved l (by_exit (not (is_true m)) v q (Looping (length ops) v behind ∷ ks) ops w)
-      first = by_code ask code v q (Looping (length ops) v behind ∷ ks) (m ∷ ops) l w InstrOf.ExitUnless has.0
-
-  whiles_run : (y : ValueCode) (test : List ℕ → Act (List ℕ)) → Value ask k code call default y test → (body : List Instr) (act : List ℕ → Act Done) → Does ask k code bound body act → (n : ℕ) (v : List ℕ) (place behind : ℕ) (ks : List Frame) (ops : List ℕ) (c : ℕ) (l : Log) (w : World) → c ≤ n → c ≤ bound → Fits k w → HasAt code.instructions.items place ((y.code ++ InstrOf.ExitUnless ∷ body) ++ InstrOf.Repeat (length (y.code ++ InstrOf.ExitUnless ∷ body)) ∷ []) → Runs ask code (Fits k) 0 1 (at v place (Looping (length ops) v behind ∷ ks) ops l w) c (arrives v behind ks ops) (turns n (while (test v) (act v)) c l w)
-  unfolding turns while then_always opened_outcome scalar_of opened_lists
-  whiles_run y test value body act does zero v place behind ks ops c l w fuel le fits has = record { n = 0; in_time = omega arith; logged = refl; going = tt; why = inl (omega (arith, fuel)) }
-  whiles_run y test value body act does (suc n) v place behind ks ops c l w fuel le fits has =
-      subst (λ o. Runs ask code (Fits k) 0 1 (at v place (f ∷ ks) ops l w) c (arrives v behind ks ops) o) (sym (ap (λ o. bind (bind o (on_goes (tested (act v) again))) (turned again)) x.is ∙ bind_bind (add 1 x.out) (on_goes (tested (act v) again)) (turned again) ∙ bind_add 1 x.out _))
-      (added ask code (Fits k) 1 5 5 0 1 _ c (arrives v behind ks ops) _ (omega arith) (omega arith)
-      (both_plain ask code (Fits k) 2 2 3 3 5 5 _ c l w (values v q (f ∷ ks) ops ops) (arrives v behind ks ops) x.out _ (omega arith) (omega arith) (omega arith) x.plain x.runs
-      (λ m fits1. test_runs body act does again v q behind ks ops c l w le fits1 tail (λ c1 l1 w2 lo fits2. next_turn c1 l1 w2 (whiles_run y test value body act does n v place behind ks ops c1 l1 w2 (omega (arith, lo, fuel)) (omega (arith, lo, le)) fits2 has)) m (is_true m) refl)
-      (λ fits1. within ask code (Fits k) 2 2 3 3 _ c (arrives v behind ks ops) _ (omega arith) (omega arith) (raised fits1))))
-    where
-      f : Frame
-      f = Looping (length ops) v behind
-
-      turn : List Instr
-      turn = y.code ++ InstrOf.ExitUnless ∷ body
-
-      q : ℕ
-      q = place + length y.code
+      b : List Line
+      b = x (behind (test_length y s) (in_loop s))
 
       again : Act Done
-      again = turns n (while (test v) (act v))
-
-      inside : HasAt code.instructions.items place (y.code ++ InstrOf.ExitUnless ∷ body)
-      inside = has_front code.instructions.items place (y.code ++ InstrOf.ExitUnless ∷ body) (InstrOf.Repeat (length (y.code ++ InstrOf.ExitUnless ∷ body)) ∷ []) has
-
-      tail : HasAt code.instructions.items q (InstrOf.ExitUnless ∷ body)
-      tail = has_back code.instructions.items place y.code (InstrOf.ExitUnless ∷ body) inside
-
-      x : First ask k code call default v place (place + length y.code) (Looping (length ops) v behind ∷ ks) ops [] c l w (test v c l w)
-      x = value.begins v place (Looping (length ops) v behind ∷ ks) ops [] c l w (looping_stands v behind ks ops) fits (has_front code.instructions.items place y.code (InstrOf.ExitUnless ∷ body) inside)
-
-      back : (l1 : Log) (w2 : World) → step ask code (at v (q + 1 + length body) (f ∷ ks) ops l1 w2) ≡ at v place (f ∷ ks) ops l1 w2
-      back l1 w2 =
-          let e1 : place + length turn ≡ q + 1 + length body = omega (arith, length-append y.code (InstrOf.ExitUnless ∷ body)) in
-          let e2 : q + 1 + length body - length turn ≡ place = omega (arith, length-append y.code (InstrOf.ExitUnless ∷ body)) in
-          by_code ask code v (q + 1 + length body) (f ∷ ks) ops l1 w2 (InstrOf.Repeat (length turn)) (ap (slice_get code.instructions.items) (sym e1) ∙ (has_back code.instructions.items place turn (InstrOf.Repeat (length turn) ∷ []) has).0)
-          ∙ ap (λ p. at v p (f ∷ ks) ops l1 w2) e2
-
-      next_turn : (c1 : ℕ) (l1 : Log) (w2 : World) → Runs ask code (Fits k) 0 1 (at v place (Looping (length ops) v behind ∷ ks) ops l1 w2) c1 (arrives v behind ks ops) (turns n (while (test v) (act v)) c1 l1 w2) → Runs ask code (Fits k) 2 2 (at v (q + 1 + length body) (Looping (length ops) v behind ∷ ks) ops l1 w2) c1 (arrives v behind ks ops) (turns n (while (test v) (act v)) c1 l1 w2)
-      next_turn c1 l1 w2 z = one_step ask code (Fits k) 0 1 2 2 _ _ c1 c1 (arrives v behind ks ops) _ (omega arith) (omega arith) (omega arith) (omega arith) (back l1 w2) z
-
-      raised : Fits k w → Runs ask code (Fits k) 2 2 (gives (f ∷ ks) ops (Leaves (ByRaise constraint_error)) l w) c (arrives v behind ks ops) (add 0 (turned again (Leaves (ByRaise constraint_error)) c l w))
-      raised fits1 = added ask code (Fits k) 0 2 2 2 2 _ c (arrives v behind ks ops) _ (omega arith) (omega arith) (loop_ends v behind ks ops again (ByRaise constraint_error) c l w fits1)
-
-  pub while_runs : (y : ValueCode) (test : List ℕ → Act (List ℕ)) → Value ask k code call default y test → (body : List Instr) (act : List ℕ → Act Done) → Does ask k code bound body act → Does ask k code bound (loop_code (y.code ++ InstrOf.ExitUnless ∷ body)) (λ v. ticked (leaving (loop (while (test v) (act v)))))
-  unfolding leaving loop opened_outcome
-  while_runs y test value body act does v place ks ops c l w le stands fits has =
-      let turn = y.code ++ InstrOf.ExitUnless ∷ body in
-      let p : place + 1 + (length turn + 1) ≡ place + length (loop_code (y.code ++ InstrOf.ExitUnless ∷ body)) = omega (arith, length-append turn (InstrOf.Repeat (length turn) ∷ [])) in
-      arriving ask code (Fits k) 0 0 _ c _ _ _ (λ r l1 w1. ap (λ q. arrives v q ks ops r l1 w1) p)
-      (added ask code (Fits k) 1 2 2 0 0 _ c _ _ (omega arith) (omega arith)
-      (left_behind ask code (Fits k) 1 2 2 2 _ c (arrives v (place + 1 + (length turn + 1)) ks ops) _ (omega arith) (omega arith)
-      (one_step ask code (Fits k) 0 1 1 2 _ _ c c _ _ (omega arith) (omega arith) (omega arith) (omega arith) (by_code ask code v place ks ops l w (InstrOf.Loop (length turn + 1)) has.0)
-      (whiles_run y test value body act does (suc c) v (place + 1) (place + 1 + (length turn + 1)) ks ops c l w (omega arith) le fits has.1))))
-
-  -- Over a range ------------------------------------------------------------------------------------
-
-  counting_ends : (v : List ℕ) (behind : ℕ) (x : Var) (way : Direction) (n : ℕ) (z : ℤ) (ks : List Frame) (ops : List ℕ) (again : Act Done) (y : Way) (c : ℕ) (l : Log) (w : World) → Fits k w → Runs ask code (Fits k) 2 2 (gives (Counting (length ops) v behind x way n z ∷ ks) ops (Leaves y) l w) c (arrives v behind ks ops) (turned again (Leaves y) c l w)
-  unfolding turned opened_outcome picked
-  counting_ends v behind x way n z ks ops again ByExit c l w fits = last_step ask code (Fits k) 2 2 _ c 0 (arrives v behind ks ops) (Goes tt) l w (omega arith) fits (ap (λ os. at v behind ks os l w) (cut_over [] ops))
-  counting_ends v behind x way n z ks ops again (ByReturn u) c l w fits = last_step ask code (Fits k) 2 2 _ c 0 (arrives v behind ks ops) (Leaves (ByReturn u)) l w (omega arith) fits (ap (λ os. gives ks os (Leaves (ByReturn u)) l w) (cut_over [] ops))
-  counting_ends v behind x way n z ks ops again (ByRaise e) c l w fits = last_step ask code (Fits k) 2 2 _ c 0 (arrives v behind ks ops) (Leaves (ByRaise e)) l w (omega arith) fits (ap (λ os. gives ks os (Leaves (ByRaise e)) l w) (cut_over [] ops))
-
-  -- one of the turns, from the step that begins it, and what follows
-  counted_turn : (body : List Instr) (act : List ℕ → Act Done) → Does ask k code bound body act → (x : Var) (way : Direction) (n : ℕ) (z : ℤ) (again : Act Done) (v : List ℕ) (place behind : ℕ) (ks : List Frame) (ops : List ℕ) (c : ℕ) (l : Log) (w : World) (s0 : State) → c ≤ bound → Fits k w → HasAt code.instructions.items place (body ++ InstrOf.Next (length body) ∷ []) → step ask code s0 ≡ at v place (Counting (length ops) v behind x way n z ∷ ks) ops l (with_parameter v x z w) → IsGoing s0 → s0.log ≡ l → ((c1 : ℕ) (l1 : Log) (w2 : World) → c1 + 1 ≤ c → Fits k w2 → Runs ask code (Fits k) 2 2 (at v (place + length body) (Counting (length ops) v behind x way n z ∷ ks) ops l1 w2) c1 (arrives v behind ks ops) (again c1 l1 w2)) → Runs ask code (Fits k) 1 1 s0 c (arrives v behind ks ops) (bind (one_turn (set_loop v x z >> act v) c l w) (turned again))
-  unfolding turned set_loop opened_outcome
-  counted_turn body act does x way n z again v place behind ks ops c l w s0 le fits has first going logged more =
-      within ask code (Fits k) 0 1 1 1 s0 c (arrives v behind ks ops) _ (omega arith) (omega arith)
-      (turn_runs (set_loop v x z >> act v) (turned again) (arrives v behind ks ops) s0 (Counting (length ops) v behind x way n z) v place (length body) ks ops c l w (with_parameter v x z w) first going logged
-      (λ c1 lo. added ask code (Fits k) 0 0 0 0 0 _ c1 _ _ (omega arith) (omega arith) (does v place (Counting (length ops) v behind x way n z ∷ ks) ops c1 l (with_parameter v x z w) (omega (arith, lo, le)) (counting_stands v behind x way n z ks ops) (fits_slot k _ _ _ w fits) (has_front code.instructions.items place body (InstrOf.Next (length body) ∷ []) has)))
-      more
-      (λ y c1 l1 w2 lo fits1. counting_ends v behind x way n z ks ops again y c1 l1 w2 fits1))
-
-  -- the turns from one of them on, from the step that begins it
-  counted_run : (body : List Instr) (act : List ℕ → Act Done) → Does ask k code bound body act → (x : Var) (way : Direction) (n : ℕ) (z : ℤ) (v : List ℕ) (place behind : ℕ) (ks : List Frame) (ops : List ℕ) (c : ℕ) (l : Log) (w : World) (s0 : State) → c ≤ bound → Fits k w → HasAt code.instructions.items place (body ++ InstrOf.Next (length body) ∷ []) → step ask code s0 ≡ at v place (Counting (length ops) v behind x way n z ∷ ks) ops l (with_parameter v x z w) → IsGoing s0 → s0.log ≡ l → Runs ask code (Fits k) 1 1 s0 c (arrives v behind ks ops) (for_turns (suc n) (next_value way) (λ z1. set_loop v x z1 >> act v) z c l w)
-  unfolding for_turns then_always nothing given picked
-  counted_run body act does x way zero z v place behind ks ops c l w s0 le fits has first going logged =
-      counted_turn body act does x way 0 z nothing v place behind ks ops c l w s0 le fits has first going logged
-      (λ c1 l1 w2 lo fits1. last_step ask code (Fits k) 2 2 _ c1 0 (arrives v behind ks ops) (Goes tt) l1 w2 (omega arith) fits1
-      (by_code ask code v (place + length body) (Counting (length ops) v behind x way 0 z ∷ ks) ops l1 w2 (InstrOf.Next (length body)) (has_back code.instructions.items place body (InstrOf.Next (length body) ∷ []) has).0 ∙ ap (λ os. at v behind ks os l1 w2) (cut_over [] ops)))
-  counted_run body act does x way (suc n) z v place behind ks ops c l w s0 le fits has first going logged =
-      counted_turn body act does x way (suc n) z (for_turns (suc n) (next_value way) (λ z1. set_loop v x z1 >> act v) (next_value way z)) v place behind ks ops c l w s0 le fits has first going logged
-      (λ c1 l1 w2 lo fits1. within ask code (Fits k) 1 1 2 2 _ c1 (arrives v behind ks ops) _ (omega arith) (omega arith)
-      (counted_run body act does x way n (next_value way z) v place behind ks ops c1 l1 w2 (at v (place + length body) (Counting (length ops) v behind x way (suc n) z ∷ ks) ops l1 w2) (omega (arith, lo, le)) fits1 has (back l1 w2) tt refl))
-    where
-      back : (l1 : Log) (w2 : World) → step ask code (at v (place + length body) (Counting (length ops) v behind x way (suc n) z ∷ ks) ops l1 w2) ≡ at v place (Counting (length ops) v behind x way n (next_value way z) ∷ ks) ops l1 (with_parameter v x (next_value way z) w2)
-      back l1 w2 =
-          let e : place + length body - length body ≡ place = omega arith in
-          by_code ask code v (place + length body) (Counting (length ops) v behind x way (suc n) z ∷ ks) ops l1 w2 (InstrOf.Next (length body)) (has_back code.instructions.items place body (InstrOf.Next (length body) ∷ []) has).0
-          ∙ ap (λ p. at v p (Counting (length ops) v behind x way n (next_value way z) ∷ ks) (cut_back (length ops) ops) l1 (with_parameter v x (next_value way z) w2)) e
-          ∙ ap (λ os. at v place (Counting (length ops) v behind x way n (next_value way z) ∷ ks) os l1 (with_parameter v x (next_value way z) w2)) (cut_over [] ops)
-
-  -- all the turns, from the step that looks at the range
-  ranged : (body : List Instr) (act : List ℕ → Act Done) → Does ask k code bound body act → (x : Var) (way : Direction) (low high : ℤ) (v : List ℕ) (q : ℕ) (ks : List Frame) (ops : List ℕ) (c : ℕ) (l : Log) (w : World) (s0 : State) → c ≤ bound → Fits k w → HasAt code.instructions.items (q + 1) (body ++ InstrOf.Next (length body) ∷ []) → IsGoing s0 → s0.log ≡ l → (size : ℤ) → step ask code s0 ≡ moved l (by_range size x way low high (length body + 1) v q ks ops w) → Runs ask code (Fits k) 1 1 s0 c (arrives v (q + 1 + (length body + 1)) ks ops) (for_turns (count_up size) (next_value way) (λ z. set_loop v x z >> act v) (first_value way low high) c l w)
-  unfolding count_up for_turns nothing given
-  ranged body act does x way low high v q ks ops c l w s0 le fits has going logged (negsuc m) first = last_step ask code (Fits k) 1 1 s0 c 0 (arrives v (q + 1 + (length body + 1)) ks ops) (Goes tt) l w (omega arith) fits first
-  ranged body act does x way low high v q ks ops c l w s0 le fits has going logged (pos m) first =
-      let e : suc m ≡ m + 1 = omega arith in
-      subst (λ n. Runs ask code (Fits k) 1 1 s0 c (arrives v (q + 1 + (length body + 1)) ks ops) (for_turns n (next_value way) (λ z. set_loop v x z >> act v) (first_value way low high) c l w)) e
-      (counted_run body act does x way m (first_value way low high) v (q + 1) (q + 1 + (length body + 1)) ks ops c l w s0 le fits has first going logged)
-
-  for_is : (way : Direction) (body : ℤ → Act Done) (low high : ℤ) (c : ℕ) (l : Log) (w : World) → for way body low high c l w ≡ for_turns (count_up (high -ℤ low)) (next_value way) body (first_value way low high) c l w
-  unfolding for
-  for_is Upward body low high c l w = refl
-  for_is Downward body low high c l w = refl
-
-  pub for_runs : (x : Var) (way : Direction) (low high : ValueCode) (low_of high_of : List ℕ → Act (List ℕ)) → Value ask k code call default low low_of → Value ask k code call default high high_of → (body : List Instr) (act : List ℕ → Act Done) → Does ask k code bound body act → Does ask k code bound ((low.code ++ high.code) ++ turns_code x way body) (λ v. ticked (leaving (scalar (low_of v) (λ a. scalar (high_of v) (λ b. for way (λ z. set_loop v x z >> act v) (signed a) (signed b))))))
-  unfolding leaving scalar opened_outcome scalar_of opened_lists
-  for_runs x way low high low_of high_of low_value high_value body act does v place ks ops c l w le stands fits has =
-      arriving ask code (Fits k) 0 0 _ c _ _ _ (λ r l1 w1. ap (λ p. arrives v p ks ops r l1 w1) far)
-      (added ask code (Fits k) 1 1 1 0 0 _ c _ _ (omega arith) (omega arith)
-      (left_behind ask code (Fits k) 1 1 1 1 _ c (arrives v (q + 1 + (length body + 1)) ks ops) _ (omega arith) (omega arith)
-      (both_plain ask code (Fits k) 0 0 1 1 1 1 _ c l w (values v (place + length is) ks ops ops) (arrives v (q + 1 + (length body + 1)) ks ops) (low_of v c l w) _ (omega arith) (omega arith) (omega arith) (low_value.plain v c l w)
-      (value_runs ask k code call default low low_of low_value v place ks ops [] c l w stands fits (has_front code.instructions.items place is js bounds))
-      (λ a fits1. both_plain ask code (Fits k) 0 0 1 1 1 1 _ c l w (values v q ks ops (a ∷ ops)) (arrives v (q + 1 + (length body + 1)) ks ops) (high_of v c l w) _ (omega arith) (omega arith) (omega arith) (high_value.plain v c l w)
-      (value_runs ask k code call default high high_of high_value v (place + length is) ks ops (a ∷ []) c l w stands fits1 (has_back code.instructions.items place is js bounds))
-      (λ b fits2. subst (λ o. Runs ask code (Fits k) 1 1 (at v q ks (b ∷ a ∷ ops) l w) c (arrives v (q + 1 + (length body + 1)) ks ops) o) (sym (for_is way (λ z. set_loop v x z >> act v) (signed a) (signed b) c l w))
-      (ranged body act does x way (signed a) (signed b) v q ks ops c l w (at v q ks (b ∷ a ∷ ops) l w) le fits2 tail.1 tt refl (signed b -ℤ signed a) (by_code ask code v q ks (b ∷ a ∷ ops) l w (InstrOf.For x way (length body + 1)) tail.0)))
-      (λ fits2. no_step ask code (Fits k) 1 1 _ c 0 (arrives v (q + 1 + (length body + 1)) ks ops) (Leaves (ByRaise constraint_error)) l w fits2 refl))
-      (λ fits1. no_step ask code (Fits k) 1 1 _ c 0 (arrives v (q + 1 + (length body + 1)) ks ops) (Leaves (ByRaise constraint_error)) l w fits1 refl))))
-    where
-      is : List Instr
-      is = low.code
-
-      js : List Instr
-      js = high.code
+      again = turns n (while (test d) (act d))
 
       q : ℕ
-      q = place + length low.code + length high.code
+      q = start + test_length y s
 
-      bounds : HasAt code.instructions.items place (low.code ++ high.code)
-      bounds = has_front code.instructions.items place (low.code ++ high.code) (turns_code x way body) has
+      inside : Laid code start (turn_of y x s)
+      inside = laid_front code start (turn_of y x s) ((InstrOf.Back (length (turn_of y x s)), s) ∷ []) has
 
-      tail : HasAt code.instructions.items (place + length low.code + length high.code) (turns_code x way body)
-      tail =
-          let e : place + length (low.code ++ high.code) ≡ place + length low.code + length high.code = omega (arith, length-append low.code high.code) in
-          subst (λ p. HasAt code.instructions.items p (turns_code x way body)) e (has_back code.instructions.items place (low.code ++ high.code) (turns_code x way body) has)
+      test_size : length (test_code y s (length (x (behind (test_length y s) (in_loop s))) + 1)) ≡ test_length y s
+      test_size = omega (arith, length-append (held y Boolean s).code ((InstrOf.Unless (held y Boolean s).cell (length (x (behind (test_length y s) (in_loop s))) + 1), (held y Boolean s).after) ∷ []))
 
-      far : place + length low.code + length high.code + 1 + (length body + 1) ≡ place + length ((low.code ++ high.code) ++ turns_code x way body)
-      far = omega (arith, length-append (low.code ++ high.code) (turns_code x way body), length-append low.code high.code, length-append body (InstrOf.Next (length body) ∷ []))
+      size : length (turn_of y x s) ≡ test_length y s + length (x (behind (test_length y s) (in_loop s)))
+      size = omega (arith, test_size, length-append (test_code y s (length (x (behind (test_length y s) (in_loop s))) + 1)) (x (behind (test_length y s) (in_loop s))))
 
-  -- Exit statements -----------------------------------------------------------------------------------
+      tail : Laid code (start + test_length y s) (x (behind (test_length y s) (in_loop s)))
+      tail = subst (λ p. Laid code (start + p) b) test_size (laid_back code start (test_code y s (length b + 1)) b inside)
 
-  -- the loop is left, or not
-  exit_by : (b : Bool) (v : List ℕ) (place : ℕ) (ks : List Frame) (ops : List ℕ) (c : ℕ) (l : Log) (w : World) (s0 : State) → Stands ks ops → Fits k w → step ask code s0 ≡ moved l (by_exit b v place ks ops w) → Runs ask code (Fits k) 1 1 s0 c (arrives v (place + 1) ks ops) (either b (leave_by ByExit) nothing c l w)
+      back : (l1 : Log) (w2 : World) → step ask code (at d (start + test_length y s + length (x (behind (test_length y s) (in_loop s)))) ks ops l1 w2) ≡ at d start ks ops l1 w2
+      back l1 w2 =
+          let e1 : start + length (turn_of y x s) ≡ q + length b = omega (arith, size) in
+          let e2 : start + length (turn_of y x s) - length (turn_of y x s) ≡ start = omega arith in
+          subst (λ p. step ask code (at d p ks ops l1 w2) ≡ at d start ks ops l1 w2) e1
+          (by_code ask code d (start + length (turn_of y x s)) ks ops l1 w2 (InstrOf.Back (length (turn_of y x s))) (laid_back code start (turn_of y x s) ((InstrOf.Back (length (turn_of y x s)), s) ∷ []) has).0 ∙ ap (λ p. at d p ks ops l1 w2) e2)
+
+      landing : start + test_length y s - (1 + test_length y s) ≡ start - 1
+      landing = omega arith
+
+      by : (m c1 : ℕ) (l1 : Log) (w1 : World) (s0 : State) → c1 ≤ c → Since k code w0 w1 → IsGoing s0 → s0.log ≡ l1 → ((c2 : ℕ) (l2 : Log) (w2 : World) → c2 + 1 ≤ c1 → Since k code w0 w2 → Runs ask code (Kept k code w0) 0 1 (at d start ks ops l2 w2) c2 (arrives e d place ks ops) (turns n (while (test d) (act d)) c2 l2 w2)) → (t : Bool) → is_true m ≡ t → step ask code s0 ≡ at d (start + test_length y s + (if is_true m then 0 else length (x (behind (test_length y s) (in_loop s))) + 1)) ks ops l1 w1 → Runs ask code (Kept k code w0) 8 8 s0 c1 (arrives e d place ks ops) (bind (either (is_true m) (one_turn (act d)) (done false) c1 l1 w1) (turned again))
+      by m c1 l1 w1 s0 lo fits1 going logged more true t first =
+          let e0 : q + 0 ≡ q = omega arith in
+          subst (λ z. Runs ask code (Kept k code w0) 8 8 s0 c1 (arrives e d place ks ops) (bind (either z (one_turn (act d)) (done false) c1 l1 w1) (turned again))) (sym t)
+          (within ask code (Kept k code w0) 0 1 8 8 s0 c1 (arrives e d place ks ops) (bind (one_turn (act d) c1 l1 w1) (turned (turns n (while (test d) (act d))))) (omega arith) (omega arith)
+          (turn_runs (act d) (turned again) w0 (arrives (On (start - 1)) d (q + length b) ks ops) (arrives e d place ks ops) s0 (at d q ks ops l1 w1) c1 l1 w1 (first ∙ ap (λ z. at d (q + (if z then 0 else length b + 1)) ks ops l1 w1) t ∙ ap (λ p. at d p ks ops l1 w1) e0) going logged
+          (λ c2 lo2. subst (λ p. Runs ask code (Kept k code w0) 0 0 (at d q ks ops l1 w1) c2 (arrives (On p) d (q + length b) ks ops) (act d c2 l1 w1)) landing (does (behind (test_length y s) (in_loop s)) w0 d q ks ops c2 l1 w1 (omega (arith, lo, lo2, le)) fits1 sees tail))
+          (λ c2 l2 w2 lo2 fits2. one_step ask code (Kept k code w0) 0 1 4 4 (at d (q + length b) ks ops l2 w2) (at d start ks ops l2 w2) c2 c2 (arrives e d place ks ops) (turns n (while (test d) (act d)) c2 l2 w2) (omega arith) (omega arith) (omega arith) (omega arith) (back l2 w2) (more c2 l2 w2 lo2 fits2))
+          (λ z c2 l2 w2 lo2 fits2. loop_ends e d (start - 1) (q + length b) place ks ops ops w0 again lands z c2 l2 w2 fits2)))
+      by m c1 l1 w1 s0 lo fits1 going logged more false t first =
+          let e1 : q + (length b + 1) ≡ place = omega (arith, far, size) in
+          subst (λ z. Runs ask code (Kept k code w0) 8 8 s0 c1 (arrives e d place ks ops) (bind (either z (one_turn (act d)) (done false) c1 l1 w1) (turned again))) (sym t)
+          (last_step ask code (Kept k code w0) 8 8 s0 c1 0 (arrives e d place ks ops) (Goes tt) l1 w1 (omega arith) fits1 (first ∙ ap (λ z. at d (q + (if z then 0 else length b + 1)) ks ops l1 w1) t ∙ ap (λ p. at d p ks ops l1 w1) e1))
+
+  -- the turns of such a loop are those of one without a scheme, and a test
+  pub while_runs : (y : ValueCode) (test : List ℕ → Act (List ℕ)) → ((w0 : World) → Value ask k code (Since k code w0) y test) → (x : Around → List Line) (act : List ℕ → Act Done) → Does ask k code bound x act → Does ask k code bound (λ a. loop_code (turn_of y x a.stack) a.stack) (λ d. ticked (leaving (loop (while (test d) (act d)))))
+  unfolding leaving loop opened_outcome
+  while_runs y test value x act does a w0 d place ks ops c l w le fits sees has =
+      let s = a.stack in
+      let b = turn_of y x s in
+      let far : place + 1 + 1 + length b + 1 ≡ place + length (loop_code b s) = omega (arith, length-append b ((InstrOf.Back (length b), s) ∷ [])) in
+      let landing : place + 1 ≡ place + 1 + 1 - 1 = omega arith in
+      let skipped : place + 1 + 1 + (length b + 1) ≡ place + 1 + 1 + length b + 1 = omega arith in
+      arriving ask code (Kept k code w0) 0 0 _ c _ _ _ (λ r l1 w1. ap (λ p. arrives (landing_of a.exits place) d p ks ops r l1 w1) far)
+      (added ask code (Kept k code w0) 1 2 2 0 0 _ c _ _ (omega arith) (omega arith)
+      (left_behind ask code (Kept k code w0) 1 2 2 2 _ c (arrives (landing_of a.exits place) d (place + 1 + 1 + length b + 1) ks ops) _ (omega arith) (omega arith)
+      (one_step ask code (Kept k code w0) 0 1 1 2 _ _ c c _ _ (omega arith) (omega arith) (omega arith) (omega arith) (by_code ask code d place ks ops l w (InstrOf.Skip 1) has.0)
+      (whiles_run y test value x act does s (suc c) (landing_of a.exits place) w0 d (place + 1 + 1) (place + 1 + 1 + length b + 1) ks ops c l w (omega arith) le fits sees has.2.2
+      (λ l1 w1. subst (λ p. step ask code (at d p ks ops l1 w1) ≡ at d (place + 1 + 1 + length b + 1) ks ops l1 w1) landing (by_code ask code d (place + 1) ks ops l1 w1 (InstrOf.Skip (length b + 1)) has.2.0 ∙ ap (λ p. at d p ks ops l1 w1) skipped))
+      refl))))
+
+  -- Exit statements ---------------------------------------------------------------------------------
+
+  -- the instruction of an exit statement
+  pub leave_step : (x : Exits) (d : List ℕ) (place : ℕ) (ks : List Frame) (ops : List ℕ) (l : Log) (w : World) → slice_get code.instructions.items place ≡ Some (exit_of x) → step ask code (at d place ks ops l w) ≡ landed_on (landing_of x place) d ks ops l w
+  leave_step FromMaster d place ks ops l w has = by_code ask code d place ks ops l w InstrOf.Exit has
+  leave_step (FromLoop back) d place ks ops l w has = by_code ask code d place ks ops l w (InstrOf.Back back) has
+
+  pub exit_runs : Does ask k code bound leaves_code (λ d. ticked (leave_by ByExit))
   unfolding opened_outcome
-  exit_by true v place ks ops c l w s0 stands fits first = last_step ask code (Fits k) 1 1 s0 c 0 (arrives v (place + 1) ks ops) (Leaves ByExit) l w (omega arith) fits (first ∙ ap (λ os. gives ks os (Leaves ByExit) l w) (stands []))
-  exit_by false v place ks ops c l w s0 stands fits first = last_step ask code (Fits k) 1 1 s0 c 0 (arrives v (place + 1) ks ops) (Goes tt) l w (omega arith) fits first
+  exit_runs a w0 d place ks ops c l w le fits sees has = last_step ask code (Kept k code w0) 0 0 _ c 1 (arrives (landing_of a.exits place) d (place + 1) ks ops) (Leaves ByExit) l w (omega arith) fits (leave_step a.exits d place ks ops l w has.0)
 
-  pub exit_runs : Does ask k code bound (InstrOf.Exit ∷ []) (λ v. ticked (leave_by ByExit))
-  unfolding opened_outcome
-  exit_runs v place ks ops c l w le stands fits has = added ask code (Fits k) 1 1 1 0 0 (at v place ks ops l w) c (arrives v (place + 1) ks ops) (either true (leave_by {A = Done} ByExit) nothing c l w) (omega arith) (omega arith) (exit_by true v place ks ops c l w (at v place ks ops l w) stands fits (by_code ask code v place ks ops l w InstrOf.Exit has.0))
-
-  pub exit_when_runs : (y : ValueCode) (test : List ℕ → Act (List ℕ)) → Value ask k code call default y test → Does ask k code bound (y.code ++ InstrOf.ExitWhen ∷ []) (λ v. ticked (scalar (test v) (λ b. either (is_true b) (leave_by ByExit) nothing)))
+  pub exit_when_runs : (y : ValueCode) (test : List ℕ → Act (List ℕ)) → ((w0 : World) → Value ask k code (Since k code w0) y test) → Does ask k code bound (λ a. test_code y a.stack 1 ++ leaves_code (behind (test_length y a.stack) a)) (λ d. ticked (scalar (test d) (λ b. either (is_true b) (leave_by ByExit) nothing)))
   unfolding scalar opened_outcome scalar_of opened_lists
-  exit_when_runs y test value v place ks ops c l w le stands fits has =
-      let is = y.code in
-      let p : place + length is + 1 ≡ place + length (is ++ InstrOf.ExitWhen ∷ []) = omega (arith, length-append is (InstrOf.ExitWhen ∷ [])) in
-      arriving ask code (Fits k) 0 0 _ c _ _ _ (λ r l1 w1. ap (λ q. arrives v q ks ops r l1 w1) p)
-      (added ask code (Fits k) 1 1 1 0 0 _ c _ _ (omega arith) (omega arith)
-      (both_plain ask code (Fits k) 0 0 1 1 1 1 _ c l w (values v (place + length is) ks ops ops) (arrives v (place + length is + 1) ks ops) (test v c l w) _ (omega arith) (omega arith) (omega arith) (value.plain v c l w)
-      (value_runs ask k code call default y test value v place ks ops [] c l w stands fits (has_front code.instructions.items place is (InstrOf.ExitWhen ∷ []) has))
-      (λ n fits1. exit_by (is_true n) v (place + length is) ks ops c l w (at v (place + length is) ks (n ∷ ops) l w) stands fits1 (by_code ask code v (place + length is) ks (n ∷ ops) l w InstrOf.ExitWhen (has_back code.instructions.items place is (InstrOf.ExitWhen ∷ []) has).0))
-      (λ fits1. no_step ask code (Fits k) 1 1 _ c 0 (arrives v (place + length is + 1) ks ops) (Leaves (ByRaise constraint_error)) l w fits1 refl)))
+  exit_when_runs y test value a w0 d place ks ops c l w le fits sees has =
+      added ask code (Kept k code w0) 1 0 0 0 0 _ c _ _ (omega arith) (omega arith)
+      (test_runs (on_goes (λ u. either (is_true (scalar_of u)) (leave_by ByExit) nothing)) w0 y test (value w0) s 1 d place ks ops c l w (arrives e d end ks ops) fits sees (laid_front code place (test_code y s 1) (leaves_code a1) has)
+      (λ m c1 l1 w1 s0 lo fits1 first going logged. by m c1 l1 w1 s0 fits1 (is_true m) refl first)
+      (λ z c1 l1 w1 lo fits1. no_step ask code (Kept k code w0) 8 8 _ c1 0 (arrives e d end ks ops) (Leaves (ByRaise z)) l1 w1 fits1 refl))
+    where
+      s : List Kind
+      s = a.stack
+
+      a1 : Around
+      a1 = behind (test_length y a.stack) a
+
+      e : Landing
+      e = landing_of a.exits place
+
+      end : ℕ
+      end = place + length (test_code y a.stack 1 ++ leaves_code (behind (test_length y a.stack) a))
+
+      test_size : length (test_code y a.stack 1) ≡ test_length y a.stack
+      test_size = omega (arith, length-append (held y Boolean a.stack).code ((InstrOf.Unless (held y Boolean a.stack).cell 1, (held y Boolean a.stack).after) ∷ []))
+
+      far : place + test_length y a.stack + 1 ≡ place + length (test_code y a.stack 1 ++ leaves_code (behind (test_length y a.stack) a))
+      far = omega (arith, test_size, length-append (test_code y a.stack 1) (leaves_code (behind (test_length y a.stack) a)))
+
+      there : slice_get code.instructions.items (place + test_length y a.stack) ≡ Some (exit_of (behind (test_length y a.stack) a).exits)
+      there = subst (λ p. slice_get code.instructions.items (place + p) ≡ Some (exit_of a1.exits)) test_size (laid_back code place (test_code y a.stack 1) (leaves_code a1) has).0
+
+      by : (m c1 : ℕ) (l1 : Log) (w1 : World) (s0 : State) → Since k code w0 w1 → (t : Bool) → is_true m ≡ t → step ask code s0 ≡ at d (place + test_length y a.stack + (if is_true m then 0 else 1)) ks ops l1 w1 → Runs ask code (Kept k code w0) 8 8 s0 c1 (arrives (landing_of a.exits place) d (place + length (test_code y a.stack 1 ++ leaves_code (behind (test_length y a.stack) a))) ks ops) (either (is_true m) (leave_by ByExit) nothing c1 l1 w1)
+      by m c1 l1 w1 s0 fits1 true t first =
+          let e0 : place + test_length y s + 0 ≡ place + test_length y s = omega arith in
+          subst (λ z. Runs ask code (Kept k code w0) 8 8 s0 c1 (arrives e d end ks ops) (either z (leave_by ByExit) nothing c1 l1 w1)) (sym t)
+          (one_step ask code (Kept k code w0) 7 7 8 8 s0 (at d (place + test_length y s) ks ops l1 w1) c1 c1 (arrives e d end ks ops) (leave_by ByExit c1 l1 w1) (omega arith) (omega arith) (omega arith) (omega arith) (first ∙ ap (λ z. at d (place + test_length y s + (if z then 0 else 1)) ks ops l1 w1) t ∙ ap (λ p. at d p ks ops l1 w1) e0)
+          (last_step ask code (Kept k code w0) 7 7 (at d (place + test_length y s) ks ops l1 w1) c1 0 (arrives e d end ks ops) (Leaves ByExit) l1 w1 (omega arith) fits1
+          (leave_step a1.exits d (place + test_length y s) ks ops l1 w1 there ∙ ap (λ (x : Landing). landed_on x d ks ops l1 w1) (landing_further a.exits (test_length y s) place))))
+      by m c1 l1 w1 s0 fits1 false t first =
+          subst (λ z. Runs ask code (Kept k code w0) 8 8 s0 c1 (arrives e d end ks ops) (either z (leave_by ByExit) nothing c1 l1 w1)) (sym t)
+          (last_step ask code (Kept k code w0) 8 8 s0 c1 0 (arrives e d end ks ops) (Goes tt) l1 w1 (omega arith) fits1 (first ∙ ap (λ z. at d (place + test_length y s + (if z then 0 else 1)) ks ops l1 w1) t ∙ ap (λ p. at d p ks ops l1 w1) far))

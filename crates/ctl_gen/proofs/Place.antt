@@ -3,6 +3,9 @@ use Rattle.std.proofs.Common.{◌≡◌, ℕ, ◌+◌, ◌<◌, List, [], ◌∷
 use Rattle.std.specs.Prelude.{slice_get}
 use Rattle.std.proofs.Math.Seq.{get_or-append_seam}
 use Rattle.std.proofs.lemmas.Option.{slice_get-get_or}
+use Rattle.ctl_code.specs.declared.code.Code.{Code}
+use Rattle.ctl_code.specs.Valid.{kinds_at}
+use Rattle.ctl_gen.specs.Around.{Line}
 
 -- these items stand in the list from this place on
 abbrev pub HasAt : {A : Type 0} → List A → ℕ → List A → Type 0
@@ -29,3 +32,18 @@ has_all (x ∷ xs) before =
     let rest = has_all xs (before ++ x ∷ []) in
     let rest1 = subst (λ l. HasAt l (length (before ++ x ∷ [])) xs) (append_assoc before (x ∷ []) xs) rest in
     (here, subst (λ m. HasAt (before ++ x ∷ xs) m xs) n rest1)
+
+-- these lines stand in the code from this place on
+abbrev pub Laid : Code → ℕ → List Line → Type 0
+Laid code place [] = Unit {0}
+Laid code place (x ∷ xs) = (slice_get code.instructions.items place ≡ Some x.0) × (kinds_at code place ≡ Some x.1) × Laid code (place + 1) xs
+
+pub laid_front : (code : Code) (place : ℕ) (a b : List Line) → Laid code place (a ++ b) → Laid code place a
+laid_front code place [] b h = tt
+laid_front code place (x ∷ a) b h = (h.0, h.1, laid_front code (place + 1) a b h.2)
+
+pub laid_back : (code : Code) (place : ℕ) (a b : List Line) → Laid code place (a ++ b) → Laid code (place + length a) b
+laid_back code place [] b h = let e : place ≡ place + 0 = omega arith in subst (λ n. Laid code n b) e h
+laid_back code place (x ∷ a) b h =
+    let e : place + 1 + length a ≡ place + length (x ∷ a) = omega arith in
+    subst (λ n. Laid code n b) e (laid_back code (place + 1) a b h.2)

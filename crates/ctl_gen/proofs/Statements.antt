@@ -1,97 +1,130 @@
 -- The code of each construct does what the construct means, where the code of its parts does.
-use Rattle.std.proofs.Common.{◌≡◌, ℕ, ◌+◌, ◌-◌, ◌≤◌, List, [], ◌∷◌, ◌++◌, length, map, Some, None, true, false, refl, sym, ap, ◌∙◌, arith, subst, length-append, append_assoc}
+use Rattle.std.proofs.Common.{◌≡◌, ℕ, ◌+◌, ◌-◌, ◌<◌, ◌≤◌, List, [], ◌∷◌, ◌++◌, length, map, Some, None, true, false, refl, sym, ap, ◌∙◌, arith, subst, length-append, append_assoc}
 use Rattle.std.specs.Prelude.{slice_get, replicate, ◌&&◌}
 use Rattle.ctl_program.specs.declared.types.Ty.{Ty}
 use Rattle.ctl_program.specs.declared.types.Ty.TheVariants.{Integer, Count, Boolean, Address, Handle, Access, Record}
 use Rattle.ctl_program.specs.declared.statement.Item.{Item}
 use Rattle.ctl_program.specs.declared.statement.Item.TheVariants.{Collections, Object, Pool, Silent}
 use Rattle.ctl_meaning.specs.World.{Slot, Unset, Log, World}
-use Rattle.ctl_meaning.specs.Lists.{last_of}
-use Rattle.ctl_meaning.specs.Changes.{open_master}
-use Rattle.ctl_meaning.specs.Ledger.{layers_of}
-use Rattle.ctl_meaning.specs.Choice.{Ask}
-use Rattle.ctl_meaning.specs.Outcome.{ByExit, ByReturn, ByRaise, Result, Goes, Leaves, Gives, Act, Done, bind, on_goes, given, then_always, opened_outcome}
+use Rattle.ctl_meaning.specs.Lists.{last_of, opened_lists}
+use Rattle.ctl_meaning.specs.Changes.{open_master, opened_changes}
+use Rattle.ctl_meaning.specs.Ledger.{layers_of, opened_ledger}
+use Rattle.ctl_meaning.specs.Choice.{Ask, picked}
+use Rattle.ctl_meaning.specs.Outcome.{ByExit, ByReturn, ByRaise, Result, Goes, Leaves, Gives, Act, Done, ◌>>◌, bind, on_goes, given, then_always, opened_outcome}
 use Rattle.ctl_meaning.specs.Types.{Tables, category_of}
 use Rattle.ctl_meaning.specs.Names.{Default, Returned, Tools}
 use Rattle.ctl_meaning.specs.Names as Names
 use Rattle.ctl_meaning.specs.Expressions.{Valued, eval, if_given}
 use Rattle.ctl_meaning.specs.Masters.{Elaborating, Left, leave_layers, left, leave, in_master, elaborate_item, elaborate, object, silent}
 use Rattle.ctl_meaning.specs.Statements.{Body, Doing, Guarding, choose_arm, do_block, do_each, do_first, guard, handle, handled, leaving, unset_slots, within}
-use Rattle.ctl_code.specs.declared.code.Instr.{Instr}
 use Rattle.ctl_code.specs.declared.code.Instr.TheVariants as InstrOf
 use Rattle.ctl_code.specs.declared.code.Code.{Code}
-use Rattle.ctl_code.specs.States.{After, AfterBlock, Frame, InMaster, State}
-use Rattle.ctl_code.specs.Table.{behind as mode_behind}
-use Rattle.ctl_code.specs.Steps.{step}
+use Rattle.ctl_code.specs.declared.kinds.Kind.{Kind}
+use Rattle.ctl_code.specs.declared.kinds.Kind.TheVariants as KindOf
+use Rattle.ctl_code.specs.States.{After, AfterBlock, Point, Frame, InMaster, State}
+use Rattle.ctl_code.specs.Table.{behind as goes_behind}
+use Rattle.ctl_code.specs.Steps.{moved, step}
+use Rattle.ctl_code.specs.Windows.{depth}
+use Rattle.ctl_gen.specs.Around.{Line, Exits, FromMaster, FromLoop, Around, behind, exit_of, further as further_on}
 use Rattle.ctl_gen.specs.Values.{ValueCode, value_code}
-use Rattle.ctl_gen.specs.Layout.{ArmCode, ItemCode, MasterCode, StatementCode, all, all_items, arms_code, arms_run, arms_texts, block, block_code, branches, guarded_turn, inside, is_declared, item_code}
+use Rattle.ctl_gen.specs.Layout.{ArmCode, ItemCode, MasterCode, StatementCode, all, all_items, arms_code, arms_run, arms_texts, block, block_code, branches, in_master as in_new, inside, is_declared, item_code, leaves_code, turn_code}
 use Rattle.ctl_gen.proofs.Known.{both_true, plain_if, scalar_if}
-use Rattle.ctl_gen.proofs.Place.{HasAt, has_front, has_back}
-use Rattle.ctl_gen.proofs.Worlds.{Fits, fits_open}
-use Rattle.ctl_gen.proofs.Setting.{Setting, tools_with, Calls, by_code}
-use Rattle.ctl_gen.proofs.Operands.{Stands, in_master_stands}
+use Rattle.ctl_gen.proofs.Place.{HasAt, has_front, has_back, Laid, laid_front, laid_back}
+use Rattle.ctl_gen.proofs.Worlds.{home, Each, IsSmall, small_unset, Since, Kept, home_new, keeps_itself, keeps_on, keeps_open, fits_open}
+use Rattle.ctl_gen.proofs.Setting.{Setting, tools_with, Sees, Told, Calls}
+use Rattle.ctl_gen.proofs.Cells.{by_code}
 use Rattle.ctl_gen.proofs.Does.{Does}
 use Rattle.ctl_gen.proofs.Declare.{declare_runs}
-use Rattle.ctl_gen.proofs.Scalars.{scalar_runs, valued_runs}
+use Rattle.ctl_gen.proofs.Assign.{scalar_runs, valued_runs}
 use Rattle.ctl_gen.proofs.Expressions.{Value}
 use Rattle.ctl_gen.proofs.Evaluated.{value_means}
 use Rattle.ctl_gen.proofs.Branches.{Ends, arm_runs}
+use Rattle.ctl_gen.proofs.Loops.{leave_step}
 use Rattle.ctl_gen.proofs.Leave.{leaves, leave_runs}
-use Rattle.ctl_gen.proofs.Follow.{Runs, at, arrives, added, within as no_more_than, one_step, no_step, both, step_both_paid, arriving, left_behind, in_row}
+use Rattle.ctl_gen.proofs.Follow.{Runs, Landing, OutOf, landing_of, landing_further, landed_on, way_of, at, arrives, added, within as no_more_than, last_step, no_step, both, step_both_paid, arriving, left_behind, in_row}
+
+last_is : (d : List ℕ) (n : ℕ) → last_of (d ++ n ∷ []) ≡ n
+unfolding opened_lists
+last_is [] n = refl
+last_is (x ∷ []) n = refl
+last_is (x ∷ y ∷ d) n = last_is (y ∷ d) n
+
+behind_both : (m n : ℕ) (a : Around) → behind (m + n) a ≡ behind n (behind m a)
+behind_both m n a = ap (λ e. record { stack = a.stack; exits = e }) (by a.exits)
+  where
+    by : (e : Exits) → further_on (m + n) e ≡ further_on n (further_on m e)
+    by FromMaster = refl
+    by (FromLoop back) = let e : back + (m + n) ≡ back + m + n = omega arith in ap FromLoop e
+
+next_after : (env : List ℕ) (slots : List Slot) (w : World) → (open_master env slots w).ledger.next_master ≡ w.ledger.next_master + 1
+unfolding opened_changes opened_ledger
+next_after env slots w = refl
+
+-- the instructions of a statement behind another one, where an exit leads as before
+pub continues : (e : Exits) (n place : ℕ) (d : List ℕ) (q : ℕ) (ks : List Frame) (ops : List ℕ) (r : Result Done) (l : Log) (w : World) → arrives (landing_of (further_on n e) (place + n)) d q ks ops r l w ≡ arrives (landing_of e place) d q ks ops r l w
+continues e n place d q ks ops r l w = ap (λ x. arrives x d q ks ops r l w) (landing_further e n place)
 
 module _ (ask : Ask) (k : Tables) (code : Code) (setting : Setting k code) (call : Names.Call) (default : Default) (bound : ℕ) (calls : Calls ask k code setting bound call) where
   abbrev K : Tools
   K = tools_with ask k call default
 
   -- no instruction, and a tick or none
-  pub still_there : (t : ℕ) (v : List ℕ) (place : ℕ) (ks : List Frame) (ops : List ℕ) (c : ℕ) (l : Log) (w : World) → Fits k w → Runs ask code (Fits k) 0 0 (at v place ks ops l w) c (arrives v (place + 0) ks ops) (Gives (Goes tt) t c l w)
-  still_there t v place ks ops c l w fits = let e : place ≡ place + 0 = omega arith in no_step ask code (Fits k) 0 0 _ c t (arrives v (place + 0) ks ops) (Goes tt) l w fits (ap (λ p. at v p ks ops l w) e)
+  pub still_there : (t : ℕ) (e : Landing) (w0 : World) (d : List ℕ) (place : ℕ) (ks : List Frame) (ops : List ℕ) (c : ℕ) (l : Log) (w : World) → Since k code w0 w → Runs ask code (Kept k code w0) 0 0 (at d place ks ops l w) c (arrives e d (place + 0) ks ops) (Gives (Goes tt) t c l w)
+  still_there t e w0 d place ks ops c l w fits = let e1 : place ≡ place + 0 = omega arith in no_step ask code (Kept k code w0) 0 0 _ c t (arrives e d (place + 0) ks ops) (Goes tt) l w fits (ap (λ p. at d p ks ops l w) e1)
+
+  -- two stretches, one behind the other
+  pub both_do : (x y : Around → List Line) (m n : List ℕ → Act Done) → Does ask k code bound x m → Does ask k code bound y n → Does ask k code bound (λ a. x a ++ y (behind (length (x a)) a)) (λ d. m d >> n d)
+  unfolding opened_outcome
+  both_do x y m n first second a w0 d place ks ops c l w le fits sees has =
+      let is = x a in
+      let js = y (behind (length (x a)) a) in
+      let e : place + length is + length js ≡ place + length (is ++ js) = omega (arith, length-append is js) in
+      arriving ask code (Kept k code w0) 0 0 _ c _ _ _ (λ r l1 w1. ap (λ p. arrives (landing_of a.exits place) d p ks ops r l1 w1) e)
+      (in_row ask code (Kept k code w0) 0 0 0 0 0 0 _ c (landing_of a.exits place) d (place + length is) (place + length is + length js) ks ops (m d c l w) (n d) (omega arith) (omega arith) (omega arith)
+      (first a w0 d place ks ops c l w le fits sees (laid_front code place is js has))
+      (λ c1 l1 w1 lo fits1.
+      arriving ask code (Kept k code w0) 0 0 (at d (place + length is) ks ops l1 w1) c1 (arrives (landing_of (further_on (length is) a.exits) (place + length is)) d (place + length is + length js) ks ops) (arrives (landing_of a.exits place) d (place + length is + length js) ks ops) (n d c1 l1 w1) (λ r l2 w2. continues a.exits (length is) place d (place + length is + length js) ks ops r l2 w2)
+      (second (behind (length is) a) w0 d (place + length is) ks ops c1 l1 w1 (omega (arith, lo, le)) fits1 sees (laid_back code place is js has))))
 
   -- Items ------------------------------------------------------------------------------------
 
   abbrev Elaborates : ItemCode → Elaborating → Type 0
-  Elaborates x m = x.runs k.records ≡ true → Does ask k code bound x.code (λ v. m K v (last_of v))
+  Elaborates x m = x.runs k.records ≡ true → Does ask k code bound (λ a. x.code a.stack) (λ d. m K d (last_of d))
 
-  bare_object : (slot : ℕ) (ty : Ty) → is_declared k.records ty ≡ true → Does ask k code bound ((item_code (Object slot ty None)).code) (λ v. object slot ty None K v (last_of v))
+  bare_object : (slot : ℕ) (ty : Ty) → is_declared k.records ty ≡ true → Does ask k code bound (λ a. (item_code (Object slot ty None)).code a.stack) (λ d. object slot ty None K d (last_of d))
   unfolding object if_given category_of opened_outcome
-  bare_object slot (Record t) runs v place ks ops c l w le stands fits has =
+  bare_object slot (Record t) runs a w0 d place ks ops c l w le fits sees has =
       let known = plain_if k (slice_get k.records t) runs in
-      added ask code (Fits k) 1 4 5 0 0 _ c (arrives v (place + 1) ks ops) _ (omega arith) (omega arith) (added ask code (Fits k) 0 4 5 4 5 _ c (arrives v (place + 1) ks ops) _ (omega arith) (omega arith) (declare_runs ask k code setting call default t known.0 known.1 known.2 bound calls slot v place ks ops c l w le fits has.0))
-  bare_object slot Integer runs v place ks ops c l w le stands fits has = scalar_runs ask k code call default bound slot Integer tt v place ks ops c l w le stands fits has
-  bare_object slot Boolean runs v place ks ops c l w le stands fits has = scalar_runs ask k code call default bound slot Boolean tt v place ks ops c l w le stands fits has
-  bare_object slot Count runs v place ks ops c l w le stands fits has = absurd (cc)
-  bare_object slot Address runs v place ks ops c l w le stands fits has = absurd (cc)
-  bare_object slot Handle runs v place ks ops c l w le stands fits has = absurd (cc)
-  bare_object slot (Access a) runs v place ks ops c l w le stands fits has = absurd (cc)
+      added ask code (Kept k code w0) 1 4 5 0 0 _ c (arrives (landing_of a.exits place) d (place + 1) ks ops) _ (omega arith) (omega arith) (added ask code (Kept k code w0) 0 4 5 4 5 _ c (arrives (landing_of a.exits place) d (place + 1) ks ops) _ (omega arith) (omega arith) (declare_runs ask k code setting call default t known.0 known.1 known.2 bound calls slot (landing_of a.exits place) a.stack w0 d place ks ops c l w le fits sees has))
+  bare_object slot Integer runs a w0 d place ks ops c l w le fits sees has = scalar_runs ask k code setting.valid bound call default slot Integer tt a w0 d place ks ops c l w le fits sees has
+  bare_object slot Boolean runs a w0 d place ks ops c l w le fits sees has = scalar_runs ask k code setting.valid bound call default slot Boolean tt a w0 d place ks ops c l w le fits sees has
+  bare_object slot Count runs a w0 d place ks ops c l w le fits sees has = absurd (cc)
+  bare_object slot Address runs a w0 d place ks ops c l w le fits sees has = absurd (cc)
+  bare_object slot Handle runs a w0 d place ks ops c l w le fits sees has = absurd (cc)
+  bare_object slot (Access t) runs a w0 d place ks ops c l w le fits sees has = absurd (cc)
 
   item_elaborates : (x : Item) → Elaborates (item_code x) (elaborate_item x)
   unfolding object silent if_given opened_outcome
   item_elaborates (Object slot ty None) runs = bare_object slot ty runs
   item_elaborates (Object slot ty (Some e)) runs =
       let h = both_true _ _ runs in
-      valued_runs ask k code call default bound slot ty (value_code e) (eval e K) (scalar_if ty h.0) (value_means ask k code call default e h.1)
-  item_elaborates Silent runs = λ v place ks ops c l w le stands fits has. still_there 1 v place ks ops c l w fits
+      valued_runs ask k code setting.valid bound call default slot ty (value_code e) (eval e K) (scalar_if ty h.0) (λ w0. value_means ask k code call default (Since k code w0) e h.1)
+  item_elaborates Silent runs = λ a w0 d place ks ops c l w le fits sees has. still_there 1 (landing_of a.exits place) w0 d place ks ops c l w fits
   item_elaborates (Collections accesses) runs = absurd (cc)
   item_elaborates (Pool slot t ds) runs = absurd (cc)
 
-  items_run : (xs : List Item) → (all_items (map item_code xs)).runs k.records ≡ true → Does ask k code bound (all_items (map item_code xs)).code (λ v. elaborate K v (last_of v) (map elaborate_item xs))
+  items_run : (xs : List Item) → (all_items (map item_code xs)).runs k.records ≡ true → Does ask k code bound (λ a. (all_items (map item_code xs)).code a.stack) (λ d. elaborate K d (last_of d) (map elaborate_item xs))
   unfolding elaborate opened_outcome
-  items_run [] runs v place ks ops c l w le stands fits has = still_there 0 v place ks ops c l w fits
-  items_run (x ∷ xs) runs v place ks ops c l w le stands fits has =
-      let is = (item_code x).code in
-      let js = (all_items (map item_code xs)).code in
+  items_run [] runs a w0 d place ks ops c l w le fits sees has = still_there 0 (landing_of a.exits place) w0 d place ks ops c l w fits
+  items_run (x ∷ xs) runs a w0 d place ks ops c l w le fits sees has =
       let h = both_true ((item_code x).runs k.records) ((all_items (map item_code xs)).runs k.records) runs in
-      let e : place + length is + length js ≡ place + length (is ++ js) = omega (arith, length-append is js) in
-      arriving ask code (Fits k) 0 0 _ c _ _ _ (λ r l1 w1. ap (λ p. arrives v p ks ops r l1 w1) e)
-      (in_row ask code (Fits k) 0 0 0 0 0 0 _ c v (place + length is) (place + length is + length js) ks ops _ (elaborate K v (last_of v) (map elaborate_item xs)) (omega arith) (omega arith) (omega arith)
-      (item_elaborates x h.0 v place ks ops c l w le stands fits (has_front code.instructions.items place is js has))
-      (λ c1 l1 w1 lo fits1. items_run xs h.1 v (place + length is) ks ops c1 l1 w1 (omega (arith, lo, le)) stands fits1 (has_back code.instructions.items place is js has)))
+      both_do (λ b. (item_code x).code b.stack) (λ b. (all_items (map item_code xs)).code b.stack) (λ v. elaborate_item x K v (last_of v)) (λ v. elaborate K v (last_of v) (map elaborate_item xs)) (item_elaborates x h.0) (items_run xs h.1) a w0 d place ks ops c l w le fits sees has
 
   -- Statements in turn -----------------------------------------------------------------------
 
   -- the code of a statement, where its texts stand, does what it means
   abbrev pub Performs : StatementCode → Doing → Type 0
-  Performs x m = x.runs k.records ≡ true → (n : ℕ) → HasAt code.texts.items n x.texts → (caught : ℕ) → Does ask k code bound (x.code n) (λ v. m K v caught)
+  Performs x m = x.runs k.records ≡ true → (n : ℕ) → HasAt code.texts.items n x.texts → (caught : ℕ) → Does ask k code bound (λ a. x.code a n) (λ d. m K d caught)
 
   abbrev pub EachPerforms : List StatementCode → List Doing → Type 0
   EachPerforms [] [] = Unit {0}
@@ -100,154 +133,159 @@ module _ (ask : Ask) (k : Tables) (code : Code) (setting : Setting k code) (call
 
   pub all_run : (xs : List StatementCode) (ms : List Doing) → EachPerforms xs ms → Performs (all xs) (λ j env caught. do_each j env caught ms)
   unfolding do_each opened_outcome
-  all_run [] [] each runs n texts caught v place ks ops c l w le stands fits has = still_there 0 v place ks ops c l w fits
-  all_run [] (m ∷ ms) each runs n texts caught v place ks ops c l w le stands fits has = absurd each
-  all_run (x ∷ xs) [] each runs n texts caught v place ks ops c l w le stands fits has = absurd each
-  all_run (x ∷ xs) (m ∷ ms) each runs n texts caught v place ks ops c l w le stands fits has =
-      let first = x.code n in
+  all_run [] [] each runs n texts caught a w0 d place ks ops c l w le fits sees has = still_there 0 (landing_of a.exits place) w0 d place ks ops c l w fits
+  all_run [] (m ∷ ms) each runs n texts caught a w0 d place ks ops c l w le fits sees has = absurd each
+  all_run (x ∷ xs) [] each runs n texts caught a w0 d place ks ops c l w le fits sees has = absurd each
+  all_run (x ∷ xs) (m ∷ ms) each runs n texts caught a w0 d place ks ops c l w le fits sees has =
       let n1 = n + length x.texts in
-      let others = (all xs).code n1 in
       let h = both_true (x.runs k.records) ((all xs).runs k.records) runs in
-      let e : place + length first + length others ≡ place + length (first ++ others) = omega (arith, length-append first others) in
-      arriving ask code (Fits k) 0 0 _ c _ _ _ (λ r l1 w1. ap (λ p. arrives v p ks ops r l1 w1) e)
-      (in_row ask code (Fits k) 0 0 0 0 0 0 _ c v (place + length first) (place + length first + length others) ks ops _ (do_each K v caught ms) (omega arith) (omega arith) (omega arith)
-      (each.0 h.0 n (has_front code.texts.items n x.texts (all xs).texts texts) caught v place ks ops c l w le stands fits (has_front code.instructions.items place first others has))
-      (λ c1 l1 w1 lo fits1. all_run xs ms each.1 h.1 n1 (has_back code.texts.items n x.texts (all xs).texts texts) caught v (place + length first) ks ops c1 l1 w1 (omega (arith, lo, le)) stands fits1 (has_back code.instructions.items place first others has)))
+      both_do (λ b. x.code b n) (λ b. (all xs).code b n1) (λ v. m K v caught) (λ v. do_each K v caught ms) (each.0 h.0 n (has_front code.texts.items n x.texts (all xs).texts texts) caught) (all_run xs ms each.1 h.1 n1 (has_back code.texts.items n x.texts (all xs).texts texts) caught) a w0 d place ks ops c l w le fits sees has
 
   -- Conditional statements -------------------------------------------------------------------
 
   -- an arm, before what is done where it does not apply
   abbrev pub Guards : ArmCode → Guarding → Type 0
-  Guards a m =
-      a.test.runs ≡ true → a.body.runs k.records ≡ true → (n : ℕ) → HasAt code.texts.items n a.body.texts → (caught : ℕ) (other : Act Done) (v : List ℕ) (place behind : ℕ) (ks : List Frame) (ops : List ℕ) (c : ℕ) (l : Log) (w : World) → c ≤ bound → Stands ks ops → Fits k w →
-      HasAt code.instructions.items place (guarded_turn a.test.code (a.body.code n)) → Ends ask k code call default bound v (place + length (guarded_turn a.test.code (a.body.code n))) behind ks ops →
-      Runs ask code (Fits k) 0 0 (at v (place + length (guarded_turn a.test.code (a.body.code n)) + 1) ks ops l w) c (arrives v behind ks ops) (other c l w) →
-      Runs ask code (Fits k) 0 0 (at v place ks ops l w) c (arrives v behind ks ops) (m K v caught other c l w)
+  Guards x m =
+      x.test.runs ≡ true → x.body.runs k.records ≡ true → (n : ℕ) → HasAt code.texts.items n x.body.texts → (caught : ℕ) (other : Act Done) (a : Around) (w0 : World) (d : List ℕ) (place place1 : ℕ) (ks : List Frame) (ops : List ℕ) (c : ℕ) (l : Log) (w : World) → c ≤ bound → Since k code w0 w → Sees d a.stack w0 →
+      Laid code place (turn_code x a n) → Ends ask k code bound d (place + length (turn_code x a n)) place1 ks ops →
+      ((c1 : ℕ) (l1 : Log) (w1 : World) → c1 ≤ c → Since k code w0 w1 → Runs ask code (Kept k code w0) 0 0 (at d (place + length (turn_code x a n) + 1) ks ops l1 w1) c1 (arrives (landing_of a.exits place) d place1 ks ops) (other c1 l1 w1)) →
+      Runs ask code (Kept k code w0) 0 0 (at d place ks ops l w) c (arrives (landing_of a.exits place) d place1 ks ops) (m K d caught other c l w)
 
-  pub guard_runs : (x : ValueCode) (test : Valued) (xs : List StatementCode) (ms : List Doing) → (x.runs ≡ true → Value ask k code call default x (test K)) → EachPerforms xs ms → Guards (record { test = x; body = all xs }) (guard test ms)
+  pub guard_runs : (x : ValueCode) (test : Valued) (xs : List StatementCode) (ms : List Doing) → (x.runs ≡ true → (w0 : World) → Value ask k code (Since k code w0) x (test K)) → EachPerforms xs ms → Guards (record { test = x; body = all xs }) (guard test ms)
   unfolding guard
-  guard_runs x test xs ms value each runs_test runs_body n texts caught other v place behind ks ops c l w le stands fits has ends elses =
-      arm_runs ask k code call default bound x (test K) (value runs_test) ((all xs).code n) (λ u. do_each K u caught ms) (all_run xs ms each runs_body n texts caught) other v place behind ks ops c l w le stands fits has ends elses
+  guard_runs x test xs ms value each runs_test runs_body n texts caught other a w0 d place place1 ks ops c l w le fits sees has ends elses =
+      arm_runs ask k code bound x (test K) (value runs_test) (λ b. (all xs).code b n) (λ u. do_each K u caught ms) (all_run xs ms each runs_body n texts caught) other a w0 d place place1 ks ops c l w le fits sees has ends elses
 
   abbrev pub EachGuards : List ArmCode → List Guarding → Type 0
   EachGuards [] [] = Unit {0}
-  EachGuards (a ∷ as') (m ∷ ms) = Guards a m × EachGuards as' ms
+  EachGuards (x ∷ xs) (m ∷ ms) = Guards x m × EachGuards xs ms
   EachGuards _ _ = ⊥
 
-  -- further arms, behind the end of the first one
-  further_run : (arms : List ArmCode) (ms : List Guarding) → EachGuards arms ms → arms_run arms k.records ≡ true → (n : ℕ) → HasAt code.texts.items n (arms_texts arms) → (caught : ℕ) (others : List Instr) (act : List ℕ → Act Done) → Does ask k code bound others act → (back end behind size : ℕ) (v : List ℕ) (ks : List Frame) (ops : List ℕ) (c : ℕ) (l : Log) (w : World) → c ≤ bound → Stands ks ops → Fits k w → slice_get code.instructions.items end ≡ Some (InstrOf.Skip size) → end + 1 + size ≡ behind → HasAt code.instructions.items (end + back) (arms_code back arms n ++ others) → end + back + length (arms_code back arms n) + length others ≡ behind → Runs ask code (Fits k) 0 0 (at v (end + back) ks ops l w) c (arrives v behind ks ops) (do_first K v caught ms (act v) c l w)
+  -- further arms, behind the end of the first one: an exit leads on from each as from where they begin
+  further_run : (arms : List ArmCode) (ms : List Guarding) → EachGuards arms ms → arms_run arms k.records ≡ true → (n : ℕ) → HasAt code.texts.items n (arms_texts arms) → (caught : ℕ) (others : Around → List Line) (act : List ℕ → Act Done) → Does ask k code bound others act → (back end place1 size : ℕ) (a : Around) (w0 : World) (d : List ℕ) (ks : List Frame) (ops : List ℕ) (c : ℕ) (l : Log) (w : World) → c ≤ bound → Since k code w0 w → Sees d a.stack w0 → slice_get code.instructions.items end ≡ Some (InstrOf.Skip size) → end + 1 + size ≡ place1 → Laid code (end + back) (arms_code back arms a n ++ others (behind (length (arms_code back arms a n)) a)) → end + back + length (arms_code back arms a n) + length (others (behind (length (arms_code back arms a n)) a)) ≡ place1 → Runs ask code (Kept k code w0) 0 0 (at d (end + back) ks ops l w) c (arrives (landing_of a.exits (end + back)) d place1 ks ops) (do_first K d caught ms (act d) c l w)
   unfolding do_first
-  further_run [] [] each runs n texts caught others act does back end behind size v ks ops c l w le stands fits here far has last =
-      let e : end + back + length others ≡ behind = omega (arith, last) in
-      arriving ask code (Fits k) 0 0 _ c _ _ _ (λ r l1 w1. ap (λ p. arrives v p ks ops r l1 w1) e)
-      (does v (end + back) ks ops c l w le stands fits has)
-  further_run [] (m ∷ ms) each runs n texts caught others act does back end behind size v ks ops c l w le stands fits here far has last = absurd each
-  further_run (a ∷ rest) [] each runs n texts caught others act does back end behind size v ks ops c l w le stands fits here far has last = absurd each
-  further_run (a ∷ rest) (m ∷ ms) each runs n texts caught others act does back end behind size v ks ops c l w le stands fits here far has last =
-      let h = both_true a.test.runs (a.body.runs k.records && arms_run rest k.records) runs in
-      let g = both_true (a.body.runs k.records) (arms_run rest k.records) h.1 in
-      let test = a.test.code in
-      let body = a.body.code n in
-      let gt = guarded_turn test body in
-      let n1 = n + length a.body.texts in
-      let more = back + length test + length body + 2 in
-      let further = arms_code more rest n1 in
-      let again = InstrOf.Repeat (back + length test + 1 + length body) in
-      let q = end + back + length gt in
-      let flat : ((gt ++ again ∷ []) ++ further) ++ others ≡ (gt ++ again ∷ []) ++ (further ++ others) = append_assoc (gt ++ again ∷ []) further others in
-      let has1 = subst (HasAt code.instructions.items (end + back)) flat has in
-      let front = has_front code.instructions.items (end + back) (gt ++ again ∷ []) (further ++ others) has1 in
-      let there = (has_back code.instructions.items (end + back) gt (again ∷ []) front).0 in
-      let e0 : length gt ≡ length test + 1 + length body = omega (arith, length-append test (InstrOf.Unless (length body + 1) ∷ body)) in
-      let e1 : q - (back + length test + 1 + length body) ≡ end = omega (arith, e0) in
-      let e2 : end + back + length (gt ++ again ∷ []) ≡ end + more = omega (arith, e0, length-append gt (again ∷ [])) in
-      let e3 : end + more ≡ q + 1 = omega (arith, e0) in
-      let tail = subst (λ p. HasAt code.instructions.items p (further ++ others)) e2 (has_back code.instructions.items (end + back) (gt ++ again ∷ []) (further ++ others) has1) in
-      let last1 : end + more + length further + length others ≡ behind = omega (arith, last, e2, length-append (gt ++ again ∷ []) further) in
-      each.0 h.0 g.0 n (has_front code.texts.items n a.body.texts (arms_texts rest) texts) caught (do_first K v caught ms (act v)) v (end + back) behind ks ops c l w le stands fits (has_front code.instructions.items (end + back) gt (again ∷ []) front)
-      (λ l1 w1. (2, omega arith, ap (step ask code) (by_code ask code v q ks ops l1 w1 again there ∙ ap (λ p. at v p ks ops l1 w1) e1) ∙ by_code ask code v end ks ops l1 w1 (InstrOf.Skip size) here ∙ ap (λ p. at v p ks ops l1 w1) far))
-      (subst (λ p. Runs ask code (Fits k) 0 0 (at v p ks ops l w) c (arrives v behind ks ops) (do_first K v caught ms (act v) c l w)) e3
-      (further_run rest ms each.1 g.1 n1 (has_back code.texts.items n a.body.texts (arms_texts rest) texts) caught others act does more end behind size v ks ops c l w le stands fits here far tail last1))
+  further_run [] [] each runs n texts caught others act does back end place1 size a w0 d ks ops c l w le fits sees here far has last =
+      let e : end + back + length (others (behind 0 a)) ≡ place1 = omega (arith, last) in
+      let e0 : end + back + 0 ≡ end + back = omega arith in
+      arriving ask code (Kept k code w0) 0 0 _ c _ _ _ (λ r l1 w1. continues a.exits 0 (end + back) d place1 ks ops r l1 w1)
+      (subst (λ p. Runs ask code (Kept k code w0) 0 0 (at d (end + back) ks ops l w) c (arrives (landing_of (further_on 0 a.exits) p) d place1 ks ops) (act d c l w)) (sym e0)
+      (arriving ask code (Kept k code w0) 0 0 _ c _ _ _ (λ r l1 w1. ap (λ p. arrives (landing_of (further_on 0 a.exits) (end + back)) d p ks ops r l1 w1) e)
+      (does (behind 0 a) w0 d (end + back) ks ops c l w le fits sees has)))
+  further_run [] (m ∷ ms) each runs n texts caught others act does back end place1 size a w0 d ks ops c l w le fits sees here far has last = absurd each
+  further_run (x ∷ rest) [] each runs n texts caught others act does back end place1 size a w0 d ks ops c l w le fits sees here far has last = absurd each
+  further_run (x ∷ rest) (m ∷ ms) each runs n texts caught others act does back end place1 size a w0 d ks ops c l w le fits sees here far has last =
+      let h = both_true x.test.runs (x.body.runs k.records && arms_run rest k.records) runs in
+      let g = both_true (x.body.runs k.records) (arms_run rest k.records) h.1 in
+      let turn = turn_code x a n in
+      let j = length turn in
+      let n1 = n + length x.body.texts in
+      let more = back + j + 1 in
+      let a1 = behind (j + 1) a in
+      let again = InstrOf.Back (back + j) in
+      let arm = turn ++ (again, a.stack) ∷ [] in
+      let more_arms = arms_code more rest a1 n1 in
+      let tail_size = length (arm ++ more_arms) in
+      let others1 = others (behind tail_size a) in
+      let q = end + back + j in
+      let flat : (arm ++ more_arms) ++ others1 ≡ arm ++ (more_arms ++ others1) = append_assoc arm more_arms others1 in
+      let has1 = subst (Laid code (end + back)) flat has in
+      let front = laid_front code (end + back) arm (more_arms ++ others1) has1 in
+      let there = (laid_back code (end + back) turn ((again, a.stack) ∷ []) front).0 in
+      let e1 : q - (back + j) ≡ end = omega arith in
+      let e2 : end + back + length arm ≡ end + more = omega (arith, length-append turn ((again, a.stack) ∷ [])) in
+      let e3 : end + more ≡ q + 1 = omega arith in
+      let e4 : end + more ≡ end + back + (j + 1) = omega arith in
+      let sizes : tail_size ≡ j + 1 + length more_arms = omega (arith, length-append arm more_arms, length-append turn ((again, a.stack) ∷ [])) in
+      let same : behind tail_size a ≡ behind (length more_arms) a1 = ap (λ z. behind z a) sizes ∙ behind_both (j + 1) (length more_arms) a in
+      let tail = subst (λ z. Laid code (end + more) (more_arms ++ others z)) same (subst (λ p. Laid code p (more_arms ++ others1)) e2 (laid_back code (end + back) arm (more_arms ++ others1) has1)) in
+      let last1 : end + more + length more_arms + length (others1) ≡ place1 = omega (arith, last, sizes) in
+      let last2 = subst (λ z. end + more + length more_arms + length (others z) ≡ place1) same last1 in
+      each.0 h.0 g.0 n (has_front code.texts.items n x.body.texts (arms_texts rest) texts) caught (do_first K d caught ms (act d)) a w0 d (end + back) place1 ks ops c l w le fits sees (laid_front code (end + back) turn ((again, a.stack) ∷ []) front)
+      (λ l1 w1. (2, omega arith, ap (step ask code) (by_code ask code d q ks ops l1 w1 again there ∙ ap (λ p. at d p ks ops l1 w1) e1) ∙ by_code ask code d end ks ops l1 w1 (InstrOf.Skip size) here ∙ ap (λ p. at d p ks ops l1 w1) far))
+      (λ c1 l1 w1 lo fits1.
+      subst (λ p. Runs ask code (Kept k code w0) 0 0 (at d p ks ops l1 w1) c1 (arrives (landing_of a.exits (end + back)) d place1 ks ops) (do_first K d caught ms (act d) c1 l1 w1)) e3
+      (arriving ask code (Kept k code w0) 0 0 (at d (end + more) ks ops l1 w1) c1 (arrives (landing_of a1.exits (end + more)) d place1 ks ops) (arrives (landing_of a.exits (end + back)) d place1 ks ops) (do_first K d caught ms (act d) c1 l1 w1) (λ r l2 w2. ap (λ p. arrives (landing_of a1.exits p) d place1 ks ops r l2 w2) e4 ∙ continues a.exits (j + 1) (end + back) d place1 ks ops r l2 w2)
+      (further_run rest ms each.1 g.1 n1 (has_back code.texts.items n x.body.texts (arms_texts rest) texts) caught others act does more end place1 size a1 w0 d ks ops c1 l1 w1 (omega (arith, lo, le)) fits1 sees here far tail last2)))
 
   -- the arms of an if statement, and what stands behind `else`
-  arms_does : (arms : List ArmCode) (ms : List Guarding) → EachGuards arms ms → arms_run arms k.records ≡ true → (n : ℕ) → HasAt code.texts.items n (arms_texts arms) → (caught : ℕ) (others : StatementCode) (act : List ℕ → Act Done) → ((m : ℕ) → m ≡ n + length (arms_texts arms) → Does ask k code bound (others.code m) act) → Does ask k code bound ((branches arms others).code n) (λ v. do_first K v caught ms (act v))
+  arms_does : (arms : List ArmCode) (ms : List Guarding) → EachGuards arms ms → arms_run arms k.records ≡ true → (n : ℕ) → HasAt code.texts.items n (arms_texts arms) → (caught : ℕ) (others : StatementCode) (act : List ℕ → Act Done) → ((m : ℕ) → m ≡ n + length (arms_texts arms) → Does ask k code bound (λ a. others.code a m) act) → Does ask k code bound (λ a. (branches arms others).code a n) (λ d. do_first K d caught ms (act d))
   unfolding do_first
-  arms_does [] [] each runs n texts caught others act does v place ks ops c l w le stands fits has = does n (omega arith) v place ks ops c l w le stands fits has
-  arms_does [] (m ∷ ms) each runs n texts caught others act does v place ks ops c l w le stands fits has = absurd each
-  arms_does (a ∷ rest) [] each runs n texts caught others act does v place ks ops c l w le stands fits has = absurd each
-  arms_does (a ∷ rest) (m ∷ ms) each runs n texts caught others act does v place ks ops c l w le stands fits has =
-      let h = both_true a.test.runs (a.body.runs k.records && arms_run rest k.records) runs in
-      let g = both_true (a.body.runs k.records) (arms_run rest k.records) h.1 in
-      let gt = guarded_turn a.test.code (a.body.code n) in
-      let n1 = n + length a.body.texts in
+  arms_does [] [] each runs n texts caught others act does a w0 d place ks ops c l w le fits sees has = does n (omega arith) a w0 d place ks ops c l w le fits sees has
+  arms_does [] (m ∷ ms) each runs n texts caught others act does a w0 d place ks ops c l w le fits sees has = absurd each
+  arms_does (x ∷ rest) [] each runs n texts caught others act does a w0 d place ks ops c l w le fits sees has = absurd each
+  arms_does (x ∷ rest) (m ∷ ms) each runs n texts caught others act does a w0 d place ks ops c l w le fits sees has =
+      let h = both_true x.test.runs (x.body.runs k.records && arms_run rest k.records) runs in
+      let g = both_true (x.body.runs k.records) (arms_run rest k.records) h.1 in
+      let turn = turn_code x a n in
+      let j = length turn in
+      let a1 = behind (j + 1) a in
+      let n1 = n + length x.body.texts in
       let n2 = n1 + length (arms_texts rest) in
-      let further = arms_code 1 rest n1 in
-      let behind_all = others.code n2 in
-      let q = place + length gt in
-      let skip = InstrOf.Skip (length (further ++ behind_all)) in
-      let behind1 : q + 1 + length (further ++ behind_all) ≡ place + length ((gt ++ skip ∷ []) ++ (further ++ behind_all)) = omega (arith, length-append (gt ++ skip ∷ []) (further ++ behind_all), length-append gt (skip ∷ [])) in
-      let front = has_front code.instructions.items place (gt ++ skip ∷ []) (further ++ behind_all) has in
-      let here = (has_back code.instructions.items place gt (skip ∷ []) front).0 in
-      let e1 : place + length (gt ++ skip ∷ []) ≡ q + 1 = omega (arith, length-append gt (skip ∷ [])) in
-      let tail = subst (λ p. HasAt code.instructions.items p (further ++ behind_all)) e1 (has_back code.instructions.items place (gt ++ skip ∷ []) (further ++ behind_all) has) in
-      let texts1 : n2 ≡ n + length (arms_texts (a ∷ rest)) = omega (arith, length-append a.body.texts (arms_texts rest)) in
-      arriving ask code (Fits k) 0 0 _ c _ _ _ (λ r l1 w1. ap (λ p. arrives v p ks ops r l1 w1) behind1)
-      (each.0 h.0 g.0 n (has_front code.texts.items n a.body.texts (arms_texts rest) texts) caught (do_first K v caught ms (act v)) v place (q + 1 + length (further ++ behind_all)) ks ops c l w le stands fits (has_front code.instructions.items place gt (skip ∷ []) front)
-      (λ l1 w1. (1, omega arith, by_code ask code v q ks ops l1 w1 skip here))
-      (further_run rest ms each.1 g.1 n1 (has_back code.texts.items n a.body.texts (arms_texts rest) texts) caught behind_all act (does n2 texts1) 1 q (q + 1 + length (further ++ behind_all)) (length (further ++ behind_all)) v ks ops c l w le stands fits here refl tail (omega (arith, length-append further behind_all))))
+      let more_arms = arms_code 1 rest a1 n1 in
+      let all_else = others.code (behind (length more_arms) a1) n2 in
+      let skipped = more_arms ++ all_else in
+      let skip = InstrOf.Skip (length skipped) in
+      let q = place + j in
+      let arm = turn ++ (skip, a.stack) ∷ [] in
+      let behind1 : q + 1 + length skipped ≡ place + length (arm ++ skipped) = omega (arith, length-append arm skipped, length-append turn ((skip, a.stack) ∷ [])) in
+      let front = laid_front code place arm skipped has in
+      let here = (laid_back code place turn ((skip, a.stack) ∷ []) front).0 in
+      let e1 : place + length arm ≡ q + 1 = omega (arith, length-append turn ((skip, a.stack) ∷ [])) in
+      let e2 : q + 1 ≡ place + (j + 1) = omega arith in
+      let tail = subst (λ p. Laid code p skipped) e1 (laid_back code place arm skipped has) in
+      let texts1 : n2 ≡ n + length (arms_texts (x ∷ rest)) = omega (arith, length-append x.body.texts (arms_texts rest)) in
+      arriving ask code (Kept k code w0) 0 0 _ c _ _ _ (λ r l1 w1. ap (λ p. arrives (landing_of a.exits place) d p ks ops r l1 w1) behind1)
+      (each.0 h.0 g.0 n (has_front code.texts.items n x.body.texts (arms_texts rest) texts) caught (do_first K d caught ms (act d)) a w0 d place (q + 1 + length skipped) ks ops c l w le fits sees (laid_front code place turn ((skip, a.stack) ∷ []) front)
+      (λ l1 w1. (1, omega arith, by_code ask code d q ks ops l1 w1 skip here))
+      (λ c1 l1 w1 lo fits1.
+      arriving ask code (Kept k code w0) 0 0 (at d (q + 1) ks ops l1 w1) c1 (arrives (landing_of a1.exits (q + 1)) d (q + 1 + length skipped) ks ops) (arrives (landing_of a.exits place) d (q + 1 + length skipped) ks ops) (do_first K d caught ms (act d) c1 l1 w1) (λ r l2 w2. ap (λ p. arrives (landing_of a1.exits p) d (q + 1 + length skipped) ks ops r l2 w2) e2 ∙ continues a.exits (j + 1) place d (q + 1 + length skipped) ks ops r l2 w2)
+      (further_run rest ms each.1 g.1 n1 (has_back code.texts.items n x.body.texts (arms_texts rest) texts) caught (λ b. others.code b n2) act (does n2 texts1) 1 q (q + 1 + length skipped) (length skipped) a1 w0 d ks ops c1 l1 w1 (omega (arith, lo, le)) fits1 sees here refl tail (omega (arith, length-append more_arms all_else)))))
 
   pub branches_run : (arms : List ArmCode) (ms : List Guarding) (xs : List StatementCode) (others : List Doing) → EachGuards arms ms → EachPerforms xs others → Performs (branches arms (all xs)) (choose_arm ms others)
   unfolding choose_arm leaving opened_outcome
-  branches_run arms ms xs others each each_other runs n texts caught v place ks ops c l w le stands fits has =
+  branches_run arms ms xs others each each_other runs n texts caught a w0 d place ks ops c l w le fits sees has =
       let h = both_true _ _ runs in
-      added ask code (Fits k) 1 1 1 0 0 _ c _ _ (omega arith) (omega arith)
-      (left_behind ask code (Fits k) 0 0 1 1 _ c _ _ (omega arith) (omega arith)
+      added ask code (Kept k code w0) 1 1 1 0 0 _ c _ _ (omega arith) (omega arith)
+      (left_behind ask code (Kept k code w0) 0 0 1 1 _ c _ _ (omega arith) (omega arith)
       (arms_does arms ms each h.0 n (has_front code.texts.items n (arms_texts arms) (all xs).texts texts) caught (all xs) (λ u. do_each K u caught others)
-      (λ m is. all_run xs others each_other h.1 m (subst (λ j. HasAt code.texts.items j (all xs).texts) (sym is) (has_back code.texts.items n (arms_texts arms) (all xs).texts texts)) caught) v place ks ops c l w le stands fits has))
+      (λ m is. all_run xs others each_other h.1 m (subst (λ j. HasAt code.texts.items j (all xs).texts) (sym is) (has_back code.texts.items n (arms_texts arms) (all xs).texts texts)) caught) a w0 d place ks ops c l w le fits sees has))
 
   -- Masters ----------------------------------------------------------------------------------
 
   -- where there is no handler, none changes a result
-  unhandled : (env v : List ℕ) (place : ℕ) (ks : List Frame) (ops : List ℕ) (r : Result Done) (c : ℕ) (l : Log) (w : World) → Fits k w → Runs ask code (Fits k) 0 0 (arrives v place ks ops r l w) c (arrives v place ks ops) (handled (handle K env []) r c l w)
+  unhandled : (env d : List ℕ) (w0 : World) (place : ℕ) (ks : List Frame) (r : Result Done) (c : ℕ) (l : Log) (w : World) → Since k code w0 w → Runs ask code (Kept k code w0) 0 0 (arrives OutOf d place ks [] r l w) c (arrives OutOf d place ks []) (handled (handle K env []) r c l w)
   unfolding handled handle do_first opened_outcome
-  unhandled env v place ks ops (Goes a) c l w fits = no_step ask code (Fits k) 0 0 _ c 0 (arrives v place ks ops) (Goes tt) l w fits refl
-  unhandled env v place ks ops (Leaves ByExit) c l w fits = no_step ask code (Fits k) 0 0 _ c 0 (arrives v place ks ops) (Leaves ByExit) l w fits refl
-  unhandled env v place ks ops (Leaves (ByReturn u)) c l w fits = no_step ask code (Fits k) 0 0 _ c 0 (arrives v place ks ops) (Leaves (ByReturn u)) l w fits refl
-  unhandled env v place ks ops (Leaves (ByRaise e)) c l w fits = no_step ask code (Fits k) 0 0 _ c 0 (arrives v place ks ops) (Leaves (ByRaise e)) l w fits refl
+  unhandled env d w0 place ks (Goes a) c l w fits = no_step ask code (Kept k code w0) 0 0 _ c 0 (arrives OutOf d place ks []) (Goes tt) l w fits refl
+  unhandled env d w0 place ks (Leaves ByExit) c l w fits = no_step ask code (Kept k code w0) 0 0 _ c 0 (arrives OutOf d place ks []) (Leaves ByExit) l w fits refl
+  unhandled env d w0 place ks (Leaves (ByReturn u)) c l w fits = no_step ask code (Kept k code w0) 0 0 _ c 0 (arrives OutOf d place ks []) (Leaves (ByReturn u)) l w fits refl
+  unhandled env d w0 place ks (Leaves (ByRaise e)) c l w fits = no_step ask code (Kept k code w0) 0 0 _ c 0 (arrives OutOf d place ks []) (Leaves (ByRaise e)) l w fits refl
 
   -- a master is left when its statements have ended
-  end_runs : (m : ℕ) (v : List ℕ) (place : ℕ) (after : After) (ks : List Frame) (ops : List ℕ) → slice_get code.instructions.items place ≡ Some InstrOf.Leave → (r : Result Done) (c : ℕ) (l : Log) (w : World) → c ≤ bound → Fits k w → Runs ask code (Fits k) 3 3 (arrives v place (InMaster m (length ops) after ∷ ks) ops r l w) c (leaves after ks ops) (bind (leave_layers K m (layers_of m w.ledger) false c l w) (on_goes (left m r)))
-  end_runs m v place after ks ops here (Goes a) c l w le fits = one_step ask code (Fits k) 2 2 3 3 _ _ c c (leaves after ks ops) _ (omega arith) (omega arith) (omega arith) (omega arith) (by_code ask code v place (InMaster m (length ops) after ∷ ks) ops l w InstrOf.Leave here) (leave_runs ask k code setting call default bound calls (Goes a) m after ks ops c l w le fits)
-  end_runs m v place after ks ops here (Leaves y) c l w le fits = no_more_than ask code (Fits k) 2 2 3 3 _ c (leaves after ks ops) _ (omega arith) (omega arith) (leave_runs ask k code setting call default bound calls (Leaves y) m after ks ops c l w le fits)
-
-  -- a block's result goes on behind it
-  behind_block : (v : List ℕ) (place : ℕ) (ks : List Frame) (ops : List ℕ) (r : Result Left) (c : ℕ) (l : Log) (w : World) → Fits k w → Runs ask code (Fits k) 0 0 (leaves (AfterBlock v place) ks ops r l w) c (arrives v place ks ops) (on_goes (λ (x : Left). given x.result) r c l w)
-  unfolding opened_outcome
-  behind_block v place ks ops (Leaves y) c l w fits = no_step ask code (Fits k) 0 0 _ c 0 (arrives v place ks ops) (Leaves y) l w fits refl
-  behind_block v place ks ops (Goes x) c l w fits = on x.result
-    where
-      on : (r : Result Done) → Runs ask code (Fits k) 0 0 (record { mode = mode_behind (AfterBlock v place) r; control = ks; operands = ops; world = w; log = l }) c (arrives v place ks ops) (Gives r 0 c l w)
-      on (Goes a) = no_step ask code (Fits k) 0 0 _ c 0 (arrives v place ks ops) (Goes a) l w fits refl
-      on (Leaves y) = no_step ask code (Fits k) 0 0 _ c 0 (arrives v place ks ops) (Leaves y) l w fits refl
+  end_runs : (m : ℕ) (w0 : World) (d : List ℕ) (place : ℕ) (after : After) (ks : List Frame) → w0.ledger.next_master ≤ m → slice_get code.instructions.items place ≡ Some InstrOf.Leave → (r : Result Done) (c : ℕ) (l : Log) (w : World) → c ≤ bound → Since k code w0 w → Runs ask code (Told k code w0) 1 1 (arrives OutOf d place (InMaster m after ∷ ks) [] r l w) c (leaves after ks) (bind (leave_layers K m (layers_of m w.ledger) false c l w) (on_goes (left m r)))
+  unfolding picked
+  end_runs m w0 d place after ks young here (Goes tt) c l w le fits = leave_runs ask k code setting call default bound calls (Goes tt) m after w0 ks c l w _ young le fits (by_code ask code d place (InMaster m after ∷ ks) [] l w InstrOf.Leave here)
+  end_runs m w0 d place after ks young here (Leaves ByExit) c l w le fits = leave_runs ask k code setting call default bound calls (Leaves ByExit) m after w0 ks c l w _ young le fits refl
+  end_runs m w0 d place after ks young here (Leaves (ByReturn u)) c l w le fits = leave_runs ask k code setting call default bound calls (Leaves (ByReturn u)) m after w0 ks c l w _ young le fits refl
+  end_runs m w0 d place after ks young here (Leaves (ByRaise e)) c l w le fits = leave_runs ask k code setting call default bound calls (Leaves (ByRaise e)) m after w0 ks c l w _ young le fits refl
 
   -- a master, from the step that enters it
   abbrev pub Masters : StatementCode → Doing → Type 0
   Masters x m =
-      x.runs k.records ≡ true → (n : ℕ) → HasAt code.texts.items n x.texts → (caught : ℕ) (env : List ℕ) (slots : List Slot) (after : After) (ks : List Frame) (ops : List ℕ) (c0 c : ℕ) (l : Log) (w : World) (s0 : State) (place : ℕ) → c ≤ bound → c ≤ c0 → c0 ≤ c + 1 → Fits k w → HasAt code.instructions.items place (x.code n) →
-      step ask code s0 ≡ at (env ++ w.ledger.next_master ∷ []) place (InMaster w.ledger.next_master (length ops) after ∷ ks) ops l (open_master env slots w) →
-      Runs ask code (Fits k) 0 1 s0 c0 (leaves after ks ops) (in_master K env slots (λ inner. m K inner caught) c l w)
+      x.runs k.records ≡ true → (n : ℕ) → HasAt code.texts.items n x.texts → (caught : ℕ) (new : Kind) (s : List Kind) (w0 : World) (env : List ℕ) (slots : List Slot) (after : After) (ks : List Frame) (c0 c : ℕ) (l : Log) (w : World) (s0 : State) (place : ℕ) → c ≤ bound → c ≤ c0 → c0 ≤ c + 1 → Since k code w0 w → length env + 1 ≡ depth (new ∷ s) → Each IsSmall slots → Laid code place (x.code (in_new new s) n) →
+      step ask code s0 ≡ at (env ++ w.ledger.next_master ∷ []) place (InMaster w.ledger.next_master after ∷ ks) [] l (open_master env slots w) →
+      Runs ask code (Told k code w0) 0 1 s0 c0 (leaves after ks) (in_master K env slots (λ inner. m K inner caught) c l w)
 
   pub master_runs : (items : List Item) (xs : List StatementCode) (ms : List Doing) → EachPerforms xs ms → Masters (inside (all_items (map item_code items)) (all xs) true) (within (map elaborate_item items) ms [])
   unfolding in_master leave within opened_outcome
-  master_runs items xs ms each runs n texts caught env slots after ks ops c0 c l w s0 place le lo hi fits has first =
-      added ask code (Fits k) 0 0 1 0 1 s0 c0 (leaves after ks ops) _ (omega arith) (omega arith)
-      (step_both_paid ask code (Fits k) 0 0 3 3 0 1 s0 (at inner place frames ops l (open_master env slots w)) c0 c (arrives inner end frames ops) (leaves after ks ops) _ (λ r c1 l1 w1. bind (leave_layers K m (layers_of m w1.ledger) false c1 l1 w1) (on_goes (left m r))) (omega arith) (omega arith) (omega arith) lo hi first
-      (in_row ask code (Fits k) 0 0 0 0 0 0 _ c inner (place + length is) end frames ops _ (then_always (do_each K inner caught ms) (handled (handle K inner []))) (omega arith) (omega arith) (omega arith)
-      (items_run items (both_true _ _ runs).0 inner place frames ops c l (open_master env slots w) le (in_master_stands m after ks ops) (fits_open k env slots w fits) (has_front code.instructions.items place is js inside_it))
-      (λ c1 l1 w1 lo1 fits1. both ask code (Fits k) 0 0 0 0 0 0 _ c1 (arrives inner end frames ops) (arrives inner end frames ops) _ (handled (handle K inner [])) (omega arith) (omega arith) (omega arith)
-      (all_run xs ms each (both_true _ _ (both_true _ _ runs).1).0 n texts caught inner (place + length is) frames ops c1 l1 w1 (omega (arith, lo1, le)) (in_master_stands m after ks ops) fits1 (has_back code.instructions.items place is js inside_it))
-      (λ r c2 l2 w2 lo2 fits2. unhandled inner inner end frames ops r c2 l2 w2 fits2)))
-      (λ r c1 l1 w1 lo1 fits1. end_runs m inner end after ks ops at_end r c1 l1 w1 (omega (arith, lo1, le)) fits1))
+  master_runs items xs ms each runs n texts caught new s w0 env slots after ks c0 c l w s0 place le lo hi fits long small has first =
+      added ask code (Told k code w0) 0 0 1 0 1 s0 c0 (leaves after ks) _ (omega arith) (omega arith)
+      (step_both_paid ask code (Kept k code w2) (Told k code w0) 0 0 3 3 0 1 s0 (at inner place frames [] l w2) c0 c (arrives OutOf inner end frames []) (leaves after ks) _ (λ r c1 l1 w1. bind (leave_layers K m (layers_of m w1.ledger) false c1 l1 w1) (on_goes (left m r))) (omega arith) (omega arith) (omega arith) lo hi first
+      (in_row ask code (Kept k code w2) 0 0 0 0 0 0 _ c OutOf inner (place + length is) end frames [] _ (then_always (do_each K inner caught ms) (handled (handle K inner []))) (omega arith) (omega arith) (omega arith)
+      (items_run items (both_true _ _ runs).0 a w2 inner place frames [] c l w2 le fits2 sees (laid_front code place is js inside_it))
+      (λ c1 l1 w1 lo1 fits1. both ask code (Kept k code w2) (Kept k code w2) 0 0 0 0 0 0 _ c1 (arrives OutOf inner end frames []) (arrives OutOf inner end frames []) _ (handled (handle K inner [])) (omega arith) (omega arith) (omega arith)
+      (all_run xs ms each (both_true _ _ (both_true _ _ runs).1).0 n texts caught (behind (length is) a) w2 inner (place + length is) frames [] c1 l1 w1 (omega (arith, lo1, le)) fits1 sees (laid_back code place is js inside_it))
+      (λ r c2 l2 w3 lo2 fits3. unhandled inner inner w2 end frames r c2 l2 w3 fits3)))
+      (λ r c1 l1 w1 lo1 fits1. no_more_than ask code (Told k code w0) 1 1 3 3 _ c1 (leaves after ks) _ (omega arith) (omega arith) (end_runs m w0 inner end after ks fits.1.later at_end r c1 l1 w1 (omega (arith, lo1, le)) (since w1 fits1))))
     where
       m : ℕ
       m = w.ledger.next_master
@@ -255,40 +293,81 @@ module _ (ask : Ask) (k : Tables) (code : Code) (setting : Setting k code) (call
       inner : List ℕ
       inner = env ++ w.ledger.next_master ∷ []
 
+      w2 : World
+      w2 = open_master env slots w
+
+      a : Around
+      a = in_new new s
+
       frames : List Frame
-      frames = InMaster w.ledger.next_master (length ops) after ∷ ks
+      frames = InMaster w.ledger.next_master after ∷ ks
 
-      is : List Instr
-      is = (all_items (map item_code items)).code
+      is : List Line
+      is = (all_items (map item_code items)).code (new ∷ s)
 
-      js : List Instr
-      js = (all xs).code n
+      js : List Line
+      js = (all xs).code (behind (length ((all_items (map item_code items)).code (new ∷ s))) (in_new new s)) n
 
       end : ℕ
-      end = place + length (all_items (map item_code items)).code + length ((all xs).code n)
+      end = place + length is + length js
 
-      inside_it : HasAt code.instructions.items place ((all_items (map item_code items)).code ++ (all xs).code n)
-      inside_it = has_front code.instructions.items place ((all_items (map item_code items)).code ++ (all xs).code n) (InstrOf.Leave ∷ []) has
+      fits2 : Since k code (open_master env slots w) (open_master env slots w)
+      fits2 = (fits_open k code env slots w small fits.0, keeps_itself k code w2)
+
+      next : (open_master env slots w).ledger.next_master ≡ w.ledger.next_master + 1
+      next = next_after env slots w
+
+      sees : Sees (env ++ w.ledger.next_master ∷ []) (new ∷ s) (open_master env slots w)
+      sees = record {
+        old = subst (λ z. z < w2.ledger.next_master) (sym (last_is env m)) (omega (arith, next));
+        home = ap (λ z. home z w2.activations) (last_is env m) ∙ home_new k code env slots w;
+        long = length-append env (m ∷ []) ∙ long;
+      }
+
+      since : (w1 : World) → Since k code (open_master env slots w) w1 → Since k code w0 w1
+      since w1 h = (h.0, keeps_on k code w0 w w1 fits.1 (keeps_on k code w w2 w1 (keeps_open k code env slots w) h.1))
+
+      inside_it : Laid code place (is ++ js)
+      inside_it = laid_front code place (is ++ js) ((InstrOf.Leave, new ∷ s) ∷ []) has
 
       at_end : slice_get code.instructions.items end ≡ Some InstrOf.Leave
       at_end =
-          let e : place + length ((all_items (map item_code items)).code ++ (all xs).code n) ≡ place + length (all_items (map item_code items)).code + length ((all xs).code n) = omega (arith, length-append (all_items (map item_code items)).code ((all xs).code n)) in
-          ap (slice_get code.instructions.items) (sym e) ∙ (has_back code.instructions.items place ((all_items (map item_code items)).code ++ (all xs).code n) (InstrOf.Leave ∷ []) has).0
+          let e : place + length (is ++ js) ≡ place + length is + length js = omega (arith, length-append is js) in
+          ap (slice_get code.instructions.items) (sym e) ∙ (laid_back code place (is ++ js) ((InstrOf.Leave, new ∷ s) ∷ []) has).0
 
   -- a master as a body has it
   pub record Mastered (x : MasterCode) (b : Body) : Type 0 where
     pub slots : x.slots ≡ b.slots
     pub inside : Masters x.inside b.inside
 
+  -- a block's result goes on behind it: an exit statement by the instruction for it
+  behind_block : (e : Exits) (n : ℕ) (w0 : World) (d : List ℕ) (place q : ℕ) (ks : List Frame) (ops : List ℕ) → q ≡ place + n → slice_get code.instructions.items q ≡ Some (exit_of (further_on n e)) → (r : Result Left) (c : ℕ) (l : Log) (w : World) → Told k code w0 (way_of r) w → Runs ask code (Kept k code w0) 1 1 (leaves (AfterBlock (record { display = d; place = q; operands = ops })) ks r l w) c (arrives (landing_of e place) d (q + 1) ks ops) (on_goes (λ (x : Left). given x.result) r c l w)
+  unfolding opened_outcome
+  behind_block e n w0 d place q ks ops is here (Leaves ByExit) c l w fits = absurd fits.0
+  behind_block e n w0 d place q ks ops is here (Leaves (ByReturn v)) c l w fits = absurd fits.0
+  behind_block e n w0 d place q ks ops is here (Leaves (ByRaise x)) c l w fits = no_step ask code (Kept k code w0) 1 1 _ c 0 (arrives (landing_of e place) d (q + 1) ks ops) (Leaves (ByRaise x)) l w fits.1 refl
+  behind_block e n w0 d place q ks ops is here (Goes x) c l w fits = on x.result
+    where
+      on : (r : Result Done) → Runs ask code (Kept k code w0) 1 1 (moved l (goes_behind (AfterBlock (record { display = d; place = q; operands = ops })) r ks w)) c (arrives (landing_of e place) d (q + 1) ks ops) (Gives r 0 c l w)
+      on (Goes a) = no_step ask code (Kept k code w0) 1 1 _ c 0 (arrives (landing_of e place) d (q + 1) ks ops) (Goes a) l w fits.1 refl
+      on (Leaves ByExit) =
+          last_step ask code (Kept k code w0) 1 1 _ c 0 (arrives (landing_of e place) d (q + 1) ks ops) (Leaves ByExit) l w (omega arith) fits.1
+          (leave_step ask k code bound (further_on n e) d q ks ops l w here ∙ ap (λ p. landed_on (landing_of (further_on n e) p) d ks ops l w) is ∙ ap (λ (y : Landing). landed_on y d ks ops l w) (landing_further e n place))
+      on (Leaves (ByReturn v)) = no_step ask code (Kept k code w0) 1 1 _ c 0 (arrives (landing_of e place) d (q + 1) ks ops) (Leaves (ByReturn v)) l w fits.1 refl
+      on (Leaves (ByRaise v)) = no_step ask code (Kept k code w0) 1 1 _ c 0 (arrives (landing_of e place) d (q + 1) ks ops) (Leaves (ByRaise v)) l w fits.1 refl
+
   pub block_runs : (x : MasterCode) (b : Body) → Mastered x b → Performs (block x) (do_block b)
   unfolding do_block unset_slots opened_outcome
-  block_runs x b mastered runs n texts caught v place ks ops c l w le stands fits has =
-      let inner = x.inside.code n in
-      let behind_it = place + 1 + length inner in
-      let e : place + 1 + length inner ≡ place + length (block_code x.slots inner) = omega arith in
-      added ask code (Fits k) 1 0 1 0 0 _ c _ _ (omega arith) (omega arith)
-      (arriving ask code (Fits k) 0 1 _ c _ _ _ (λ r l1 w1. ap (λ p. arrives v p ks ops r l1 w1) e)
-      (both ask code (Fits k) 0 1 0 0 0 1 _ c (leaves (AfterBlock v behind_it) ks ops) (arrives v behind_it ks ops) _ (on_goes (λ (y : Left). given y.result)) (omega arith) (omega arith) (omega arith)
-      (mastered.inside runs n texts caught v (replicate b.slots Unset) (AfterBlock v behind_it) ks ops c c l w (at v place ks ops l w) (place + 1) le (omega arith) (omega arith) fits has.1
-      (by_code ask code v place ks ops l w (InstrOf.Enter x.slots (length inner)) has.0 ∙ ap (λ j. at (v ++ w.ledger.next_master ∷ []) (place + 1) (InMaster w.ledger.next_master (length ops) (AfterBlock v behind_it) ∷ ks) ops l (open_master v (replicate j Unset) w)) mastered.slots))
-      (λ r c1 l1 w1 lo fits1. behind_block v behind_it ks ops r c1 l1 w1 fits1)))
+  block_runs x b mastered runs n texts caught a w0 d place ks ops c l w le fits sees has =
+      let inner = x.inside.code (in_new (KindOf.Block x.slots) a.stack) n in
+      let exits = leaves_code (behind (length inner + 1) a) in
+      let q = place + 1 + length inner in
+      let p : Point = record { display = d; place = q; operands = ops } in
+      let e : q + 1 ≡ place + length (block_code x.slots inner a) = omega (arith, length-append inner exits) in
+      let at_exit : q ≡ place + (length inner + 1) = omega arith in
+      added ask code (Kept k code w0) 1 1 2 0 0 _ c _ _ (omega arith) (omega arith)
+      (arriving ask code (Kept k code w0) 1 2 _ c _ _ _ (λ r l1 w1. ap (λ z. arrives (landing_of a.exits place) d z ks ops r l1 w1) e)
+      (both ask code (Told k code w0) (Kept k code w0) 0 1 1 1 1 2 _ c (leaves (AfterBlock p) ks) (arrives (landing_of a.exits place) d (q + 1) ks ops) _ (on_goes (λ (y : Left). given y.result)) (omega arith) (omega arith) (omega arith)
+      (mastered.inside runs n texts caught (KindOf.Block x.slots) a.stack w0 d (replicate b.slots Unset) (AfterBlock p) ks c c l w (at d place ks ops l w) (place + 1) le (omega arith) (omega arith) fits (ap (λ z. z + 1) sees.long) (small_unset b.slots) (laid_front code (place + 1) inner exits has.2)
+      (by_code ask code d place ks ops l w (InstrOf.Enter x.slots (length inner)) has.0 ∙ ap (λ j. at (d ++ w.ledger.next_master ∷ []) (place + 1) (InMaster w.ledger.next_master (AfterBlock p) ∷ ks) [] l (open_master d (replicate j Unset) w)) mastered.slots))
+      (λ r c1 l1 w1 lo fits1. behind_block a.exits (length inner + 1) w0 d place q ks ops at_exit (laid_back code (place + 1) inner exits has.2).0 r c1 l1 w1 fits1)))

@@ -1,5 +1,5 @@
 -- A text is printed behind the values of its images (A.10.7, 4.5.3).
-use Rattle.std.proofs.Common.{◌≡◌, ℕ, ◌+◌, List, [], ◌∷◌, ◌++◌, length, map, Bool, true, false, refl, sym, ap, ◌∙◌, subst, arith, length-append, append_assoc, append-nil}
+use Rattle.std.proofs.Common.{◌≡◌, ℕ, ◌+◌, ◌≤◌, List, [], ◌∷◌, ◌++◌, length, map, Bool, true, false, refl, sym, ap, ◌∙◌, subst, arith, length-append, append_assoc, append-nil}
 use Rattle.std.specs.Prelude.{reverse, take, drop}
 use Rattle.std.proofs.lemmas.List.{length-reverse}
 use Rattle.std.proofs.lemmas.Grind.{reverse_onto}
@@ -10,7 +10,7 @@ use Rattle.ctl_tree.specs.declared.event.Event.TheVariants.{Print, Newline}
 use Rattle.ctl_meaning.specs.World.{Log, World}
 use Rattle.ctl_meaning.specs.Lists.{opened_lists}
 use Rattle.ctl_meaning.specs.Choice.{Ask}
-use Rattle.ctl_meaning.specs.Outcome.{add, constraint_error, ByRaise, Result, Goes, Leaves, Gives, Act, Done, bind, on_goes, ◌>>=◌, ◌>>◌, done, show, ticked, opened_outcome}
+use Rattle.ctl_meaning.specs.Outcome.{add, ByRaise, Result, Goes, Leaves, Act, Done, bind, on_goes, ◌>>=◌, ◌>>◌, done, show, ticked, opened_outcome}
 use Rattle.ctl_meaning.specs.Numbers.{integer_image, boolean_image}
 use Rattle.ctl_meaning.specs.Types.{Tables}
 use Rattle.ctl_meaning.specs.Names.{Call, Default, Tools, scalar_of}
@@ -20,21 +20,28 @@ use Rattle.ctl_code.specs.declared.template.TextPart.{TextPart}
 use Rattle.ctl_code.specs.declared.template.TextPart.TheVariants.{Literal, IntegerImage, BooleanImage}
 use Rattle.ctl_code.specs.declared.code.Instr.TheVariants as InstrOf
 use Rattle.ctl_code.specs.declared.code.Code.{Code}
-use Rattle.ctl_code.specs.States.{At, Frame}
+use Rattle.ctl_code.specs.States.{At, Frame, State}
 use Rattle.ctl_code.specs.Table.{images_in, text_of, showing, by_text}
 use Rattle.ctl_code.specs.Steps.{moved}
+use Rattle.ctl_program.specs.declared.types.Ty.{Ty}
+use Rattle.ctl_program.specs.declared.types.Ty.TheVariants.{Integer, Boolean}
+use Rattle.ctl_program.specs.declared.expression.Expr.{Expr}
+use Rattle.ctl_code.specs.declared.code.Named.TheVariants.{Operand}
+use Rattle.ctl_code.specs.declared.kinds.Kind.{Kind}
+use Rattle.ctl_code.specs.Windows.{depth, height}
+use Rattle.ctl_gen.specs.Around.{Line, new_operand}
 use Rattle.ctl_gen.specs.Values.{value_code}
-use Rattle.ctl_gen.specs.Texts.{part_of, parts_of, piece_code, piece_is_run, pieces_are_run, pieces_code, print_code, print_of}
+use Rattle.ctl_gen.specs.Texts.{part_of, parts_of, piece_code, piece_is_run, pieces_are_run, pieces_code, print_code, print_of, with_piece, with_pieces}
 use Rattle.ctl_gen.proofs.Known.{both_true}
 use Rattle.ctl_gen.proofs.Evaluated.{value_means}
-use Rattle.ctl_gen.proofs.Place.{HasAt, has_front, has_back}
-use Rattle.ctl_gen.proofs.Worlds.{Fits}
-use Rattle.ctl_gen.proofs.Setting.{tools_with, by_code}
-use Rattle.ctl_gen.proofs.Operands.{Stands}
-use Rattle.ctl_gen.proofs.Worth.{both_plain}
-use Rattle.ctl_gen.proofs.Expressions.{values, value_runs}
+use Rattle.ctl_gen.proofs.Place.{HasAt, Laid, laid_front, laid_back}
+use Rattle.ctl_gen.proofs.Worlds.{Since, Kept}
+use Rattle.ctl_gen.proofs.Setting.{tools_with}
+use Rattle.ctl_gen.proofs.Cells.{Any, by_code, here, landed}
+use Rattle.ctl_gen.proofs.Worth.{both_cell}
+use Rattle.ctl_gen.proofs.Expressions.{value_runs}
 use Rattle.ctl_gen.proofs.Does.{Does}
-use Rattle.ctl_gen.proofs.Follow.{Runs, at, arrives, added, last_step, no_step, bind_add, bind_bind}
+use Rattle.ctl_gen.proofs.Follow.{Runs, Landing, landing_of, at, transferred, arrives, added, last_step, no_step, bind_add, bind_bind}
 
 -- Texts and their values -------------------------------------------------------------------------
 
@@ -98,33 +105,34 @@ module _ (ask : Ask) (k : Tables) (code : Code) (call : Call) (default : Default
     text = ap (text_of (qs ++ BooleanImage ∷ [])) (reverse_onto rs n []) ∙ text_both qs (BooleanImage ∷ []) (reverse rs) (n ∷ []) (h.count ∙ sym (length-reverse rs)) ∙ ap (λ x. x ++ (boolean_image n ++ [])) h.text ∙ ap (λ x. u ++ x) (append-nil (boolean_image n));
   }
 
+  piece_depth : (p : Piece) (s : List Kind) → depth (with_piece p s) ≡ depth s
+  piece_depth (PieceOf.Text v) s = refl
+  piece_depth (PieceOf.IntegerImage e) s = refl
+  piece_depth (PieceOf.BooleanImage e) s = refl
+
+  -- the image of a value, and what follows it
+  image_runs : (e : Expr) (ty : Ty) (image : ℕ → List ℕ) → (value_code e).runs ≡ true → (f : Result (List ℕ) → Act Done) (s : List Kind) (w0 : World) (d : List ℕ) (place : ℕ) (ks : List Frame) (ops : List ℕ) (c : ℕ) (l : Log) (w : World) (next : Result Done → Log → World → State) → Since k code w0 w → length d ≡ depth s → Laid code place ((value_code e).code (new_operand s) ty s) → ((y c1 : ℕ) (l1 : Log) (w1 : World) → c1 ≤ c → Since k code w0 w1 → Runs ask code (Kept k code w0) 1 1 (transferred (ByRaise y) ks l1 w1) c1 next (f (Leaves (ByRaise y)) c1 l1 w1)) → ((n c1 : ℕ) (l1 : Log) (w1 : World) → c1 ≤ c → Since k code w0 w1 → Runs ask code (Kept k code w0) 1 1 (at d (place + length ((value_code e).code (new_operand s) ty s)) ks (n ∷ ops) l1 w1) c1 next (f (Goes (image n)) c1 l1 w1)) → Runs ask code (Kept k code w0) 1 1 (at d place ks ops l w) c next (bind (ticked (eval e K d >>= (λ x. done (image (scalar_of x)))) c l w) f)
+  unfolding opened_outcome scalar_of opened_lists
+  image_runs e ty image known f s w0 d place ks ops c l w next fits long has leaves more =
+      let value = value_means ask k code call default (Since k code w0) e known in
+      subst (λ o. Runs ask code (Kept k code w0) 1 1 (at d place ks ops l w) c next o) (sym (bind_add 1 (bind (eval e K d c l w) (on_goes (λ x. done (image (scalar_of x))))) f ∙ ap (add 1) (bind_bind (eval e K d c l w) (on_goes (λ x. done (image (scalar_of x)))) f)))
+      (added ask code (Kept k code w0) 1 1 1 1 1 _ c next _ (omega arith) (omega arith)
+      (both_cell ask code (Kept k code w0) Any 0 0 1 1 1 1 _ c (landed Operand d (place + length ((value_code e).code (new_operand s) ty s)) ks ops) next (eval e K d c l w) _ (omega arith) (omega arith) (omega arith) (value.cell d c l w)
+      (value_runs ask k code (Since k code w0) (value_code e) (eval e K) value (new_operand s) ty s d place ks ops c l w fits long has)
+      (λ n c1 l1 w1 lo fits1 p. added ask code (Kept k code w0) 0 1 1 1 1 (at d (place + length ((value_code e).code (new_operand s) ty s)) ks (n ∷ ops) l1 w1) c1 next (f (Goes (image n)) c1 l1 w1) (omega arith) (omega arith) (more n c1 l1 w1 lo fits1))
+      (λ y c1 l1 w1 lo fits1. added ask code (Kept k code w0) 0 1 1 1 1 (transferred (ByRaise y) ks l1 w1) c1 next (f (Leaves (ByRaise y)) c1 l1 w1) (omega arith) (omega arith) (leaves y c1 l1 w1 lo fits1))))
+
   -- a piece, and what follows it
-  piece_runs : (p : Piece) → piece_is_run p ≡ true → (qs : List TextPart) (rs u : List ℕ) → Holds qs rs u → (f : Result (List ℕ) → Act Done) (v : List ℕ) (place behind : ℕ) (ks : List Frame) (ops : List ℕ) (c : ℕ) (l : Log) (w : World) → Stands ks ops → Fits k w → HasAt code.instructions.items place (piece_code p) → f (Leaves (ByRaise constraint_error)) c l w ≡ Gives (Leaves (ByRaise constraint_error)) 0 c l w → ((rs1 x : List ℕ) → Holds (qs ++ part_of p ∷ []) rs1 (u ++ x) → Fits k w → Runs ask code (Fits k) 1 1 (at v (place + length (piece_code p)) ks (rs1 ++ ops) l w) c (arrives v behind ks ops) (f (Goes x) c l w)) → Runs ask code (Fits k) 1 1 (at v place ks (rs ++ ops) l w) c (arrives v behind ks ops) (bind (eval_piece p K v c l w) f)
-  unfolding literal integer_text boolean_text opened_outcome scalar_of opened_lists
-  piece_runs (PieceOf.Text t) known qs rs u holds f v place behind ks ops c l w stands fits has fails more =
+  piece_runs : (p : Piece) → piece_is_run p ≡ true → (qs : List TextPart) (rs u : List ℕ) → Holds qs rs u → (f : Result (List ℕ) → Act Done) (s : List Kind) (w0 : World) (d : List ℕ) (place : ℕ) (ks : List Frame) (ops : List ℕ) (c : ℕ) (l : Log) (w : World) (next : Result Done → Log → World → State) → Since k code w0 w → length d ≡ depth s → Laid code place (piece_code p s) → ((y c1 : ℕ) (l1 : Log) (w1 : World) → c1 ≤ c → Since k code w0 w1 → Runs ask code (Kept k code w0) 1 1 (transferred (ByRaise y) ks l1 w1) c1 next (f (Leaves (ByRaise y)) c1 l1 w1)) → ((rs1 x : List ℕ) (c1 : ℕ) (l1 : Log) (w1 : World) → c1 ≤ c → Since k code w0 w1 → Holds (qs ++ part_of p ∷ []) rs1 (u ++ x) → Runs ask code (Kept k code w0) 1 1 (at d (place + length (piece_code p s)) ks (rs1 ++ ops) l1 w1) c1 next (f (Goes x) c1 l1 w1)) → Runs ask code (Kept k code w0) 1 1 (at d place ks (rs ++ ops) l w) c next (bind (eval_piece p K d c l w) f)
+  unfolding literal integer_text boolean_text opened_outcome
+  piece_runs (PieceOf.Text t) known qs rs u holds f s w0 d place ks ops c l w next fits long has leaves more =
       let e : place + 0 ≡ place = omega arith in
-      added ask code (Fits k) 1 1 1 1 1 _ c (arrives v behind ks ops) _ (omega arith) (omega arith)
-      (subst (λ p. Runs ask code (Fits k) 1 1 (at v p ks (rs ++ ops) l w) c (arrives v behind ks ops) (f (Goes t) c l w)) e (more rs t (hold_literal qs rs u t holds) fits))
-  piece_runs (PieceOf.IntegerImage e) known qs rs u holds f v place behind ks ops c l w stands fits has fails more =
-      subst (λ o. Runs ask code (Fits k) 1 1 (at v place ks (rs ++ ops) l w) c (arrives v behind ks ops) o) (sym (bind_add 1 (bind (eval e K v c l w) (on_goes (λ x. done (integer_image (scalar_of x))))) f ∙ ap (add 1) (bind_bind (eval e K v c l w) (on_goes (λ x. done (integer_image (scalar_of x)))) f)))
-      (added ask code (Fits k) 1 1 1 1 1 _ c (arrives v behind ks ops) _ (omega arith) (omega arith)
-      (both_plain ask code (Fits k) 0 0 1 1 1 1 _ c l w (values v (place + length (value_code e).code) ks ops (rs ++ ops)) (arrives v behind ks ops) (eval e K v c l w) _ (omega arith) (omega arith) (omega arith) ((value_means ask k code call default e known).plain v c l w)
-      (value_runs ask k code call default (value_code e) (eval e K) (value_means ask k code call default e known) v place ks ops rs c l w stands fits has)
-      (λ n fits1. added ask code (Fits k) 0 1 1 1 1 _ c (arrives v behind ks ops) _ (omega arith) (omega arith) (more (n ∷ rs) (integer_image n) (hold_integer qs rs u n holds) fits1))
-      (λ fits1. failing fits1)))
-    where
-      failing : Fits k w → Runs ask code (Fits k) 1 1 (values v (place + length (value_code e).code) ks ops (rs ++ ops) (Leaves (ByRaise constraint_error)) l w) c (arrives v behind ks ops) (add 0 (f (Leaves (ByRaise constraint_error)) c l w))
-      failing fits1 = subst (λ o. Runs ask code (Fits k) 1 1 (values v (place + length (value_code e).code) ks ops (rs ++ ops) (Leaves (ByRaise constraint_error)) l w) c (arrives v behind ks ops) (add 0 o)) (sym fails) (no_step ask code (Fits k) 1 1 _ c 0 (arrives v behind ks ops) (Leaves (ByRaise constraint_error)) l w fits1 refl)
-  piece_runs (PieceOf.BooleanImage e) known qs rs u holds f v place behind ks ops c l w stands fits has fails more =
-      subst (λ o. Runs ask code (Fits k) 1 1 (at v place ks (rs ++ ops) l w) c (arrives v behind ks ops) o) (sym (bind_add 1 (bind (eval e K v c l w) (on_goes (λ x. done (boolean_image (scalar_of x))))) f ∙ ap (add 1) (bind_bind (eval e K v c l w) (on_goes (λ x. done (boolean_image (scalar_of x)))) f)))
-      (added ask code (Fits k) 1 1 1 1 1 _ c (arrives v behind ks ops) _ (omega arith) (omega arith)
-      (both_plain ask code (Fits k) 0 0 1 1 1 1 _ c l w (values v (place + length (value_code e).code) ks ops (rs ++ ops)) (arrives v behind ks ops) (eval e K v c l w) _ (omega arith) (omega arith) (omega arith) ((value_means ask k code call default e known).plain v c l w)
-      (value_runs ask k code call default (value_code e) (eval e K) (value_means ask k code call default e known) v place ks ops rs c l w stands fits has)
-      (λ n fits1. added ask code (Fits k) 0 1 1 1 1 _ c (arrives v behind ks ops) _ (omega arith) (omega arith) (more (n ∷ rs) (boolean_image n) (hold_boolean qs rs u n holds) fits1))
-      (λ fits1. failing fits1)))
-    where
-      failing : Fits k w → Runs ask code (Fits k) 1 1 (values v (place + length (value_code e).code) ks ops (rs ++ ops) (Leaves (ByRaise constraint_error)) l w) c (arrives v behind ks ops) (add 0 (f (Leaves (ByRaise constraint_error)) c l w))
-      failing fits1 = subst (λ o. Runs ask code (Fits k) 1 1 (values v (place + length (value_code e).code) ks ops (rs ++ ops) (Leaves (ByRaise constraint_error)) l w) c (arrives v behind ks ops) (add 0 o)) (sym fails) (no_step ask code (Fits k) 1 1 _ c 0 (arrives v behind ks ops) (Leaves (ByRaise constraint_error)) l w fits1 refl)
+      added ask code (Kept k code w0) 1 1 1 1 1 _ c next _ (omega arith) (omega arith)
+      (subst (λ p. Runs ask code (Kept k code w0) 1 1 (at d p ks (rs ++ ops) l w) c next (f (Goes t) c l w)) e (more rs t c l w (omega arith) fits (hold_literal qs rs u t holds)))
+  piece_runs (PieceOf.IntegerImage e) known qs rs u holds f s w0 d place ks ops c l w next fits long has leaves more =
+      image_runs e Integer integer_image known f s w0 d place ks (rs ++ ops) c l w next fits long has leaves (λ n c1 l1 w1 lo fits1. more (n ∷ rs) (integer_image n) c1 l1 w1 lo fits1 (hold_integer qs rs u n holds))
+  piece_runs (PieceOf.BooleanImage e) known qs rs u holds f s w0 d place ks ops c l w next fits long has leaves more =
+      image_runs e Boolean boolean_image known f s w0 d place ks (rs ++ ops) c l w next fits long has leaves (λ n c1 l1 w1 lo fits1. more (n ∷ rs) (boolean_image n) c1 l1 w1 lo fits1 (hold_boolean qs rs u n holds))
 
   -- the text that is printed, and the operands that are left
   shown : {X : Type 0} (full : List TextPart) (rs u ops : List ℕ) → Holds full rs u → (f : List ℕ → List ℕ → X) → f (text_of full (reverse (take (images_in full) (rs ++ ops)))) (drop (images_in full) (rs ++ ops)) ≡ f u ops
@@ -134,43 +142,54 @@ module _ (ask : Ask) (k : Tables) (code : Code) (call : Call) (default : Default
       ∙ ap (λ os. f (text_of full (reverse rs)) os) (drop_front rs ops)
       ∙ ap (λ t. f t ops) holds.text
 
-  put_runs : (ends_line : Bool) (n : ℕ) (full : List TextPart) → HasAt code.texts.items n (full ∷ []) → (rs u : List ℕ) → Holds full rs u → (v : List ℕ) (place : ℕ) (ks : List Frame) (ops : List ℕ) (c : ℕ) (l : Log) (w : World) → Fits k w → HasAt code.instructions.items place (print_of ends_line n ∷ []) → Runs ask code (Fits k) 1 1 (at v place ks (rs ++ ops) l w) c (arrives v (place + 1) ks ops) (printed ends_line u c l w)
+  -- the instruction that prints
+  put_runs : (ends_line : Bool) (n first : ℕ) (t : List Kind) (full : List TextPart) → HasAt code.texts.items n (full ∷ []) → (rs u : List ℕ) → Holds full rs u → (e : Landing) (w0 : World) (d : List ℕ) (place : ℕ) (ks : List Frame) (ops : List ℕ) (c : ℕ) (l : Log) (w : World) → Since k code w0 w → Laid code place ((print_of ends_line n first, t) ∷ []) → Runs ask code (Kept k code w0) 1 1 (at d place ks (rs ++ ops) l w) c (arrives e d (place + 1) ks ops) (printed ends_line u c l w)
   unfolding opened_outcome
-  put_runs true n full texts rs u holds v place ks ops c l w fits has =
-      last_step ask code (Fits k) 1 1 _ c 0 (arrives v (place + 1) ks ops) (Goes tt) _ w (omega arith) fits (by_code ask code v place ks (rs ++ ops) l w (InstrOf.PutLine n) has.0 ∙ ap (λ x. moved l (by_text x (Newline ∷ []) v place ks (rs ++ ops) w)) texts.0 ∙ shown full rs u ops holds (λ t os. moved l (showing (Print t ∷ Newline ∷ []) (At v (place + 1)) ks os w)))
-  put_runs false n full texts rs u holds v place ks ops c l w fits has =
-      last_step ask code (Fits k) 1 1 _ c 0 (arrives v (place + 1) ks ops) (Goes tt) _ w (omega arith) fits (by_code ask code v place ks (rs ++ ops) l w (InstrOf.Put n) has.0 ∙ ap (λ x. moved l (by_text x [] v place ks (rs ++ ops) w)) texts.0 ∙ shown full rs u ops holds (λ t os. moved l (showing (Print t ∷ []) (At v (place + 1)) ks os w)))
+  put_runs true n first t full texts rs u holds e w0 d place ks ops c l w fits has =
+      last_step ask code (Kept k code w0) 1 1 _ c 0 (arrives e d (place + 1) ks ops) (Goes tt) _ w (omega arith) fits (by_code ask code d place ks (rs ++ ops) l w (InstrOf.PutLine n first) has.0 ∙ ap (λ x. moved l (by_text x (Newline ∷ []) (rs ++ ops) (here d place ks w))) texts.0 ∙ shown full rs u ops holds (λ v os. moved l (showing (Print v ∷ Newline ∷ []) (At d (place + 1)) ks os w)))
+  put_runs false n first t full texts rs u holds e w0 d place ks ops c l w fits has =
+      last_step ask code (Kept k code w0) 1 1 _ c 0 (arrives e d (place + 1) ks ops) (Goes tt) _ w (omega arith) fits (by_code ask code d place ks (rs ++ ops) l w (InstrOf.Put n first) has.0 ∙ ap (λ x. moved l (by_text x [] (rs ++ ops) (here d place ks w))) texts.0 ∙ shown full rs u ops holds (λ v os. moved l (showing (Print v ∷ []) (At d (place + 1)) ks os w)))
+
+  -- the pieces that are left, and the instruction that prints
+  abbrev printing : Bool → ℕ → ℕ → List Kind → List Piece → List Kind → List Line
+  printing b n first t ps s = pieces_code ps s ++ (print_of b n first, t) ∷ []
 
   -- the rest of the pieces
-  join_runs : (ends_line : Bool) (n : ℕ) (full : List TextPart) → HasAt code.texts.items n (full ∷ []) → (ps : List Piece) → pieces_are_run ps ≡ true → (qs : List TextPart) (rs u : List ℕ) → Holds qs rs u → qs ++ parts_of ps ≡ full → (v : List ℕ) (place : ℕ) (ks : List Frame) (ops : List ℕ) (c : ℕ) (l : Log) (w : World) → Stands ks ops → Fits k w → HasAt code.instructions.items place (print_code ends_line n ps) → Runs ask code (Fits k) 1 1 (at v place ks (rs ++ ops) l w) c (arrives v (place + length (print_code ends_line n ps)) ks ops) (bind (join_pieces K v (map eval_piece ps) u c l w) (on_goes (printed ends_line)))
+  join_runs : (b : Bool) (n first : ℕ) (t : List Kind) (full : List TextPart) → HasAt code.texts.items n (full ∷ []) → (ps : List Piece) → pieces_are_run ps ≡ true → (qs : List TextPart) (rs u : List ℕ) → Holds qs rs u → qs ++ parts_of ps ≡ full → (s : List Kind) (e : Landing) (w0 : World) (d : List ℕ) (place : ℕ) (ks : List Frame) (ops : List ℕ) (c : ℕ) (l : Log) (w : World) → Since k code w0 w → length d ≡ depth s → Laid code place (printing b n first t ps s) → Runs ask code (Kept k code w0) 1 1 (at d place ks (rs ++ ops) l w) c (arrives e d (place + length (printing b n first t ps s)) ks ops) (bind (join_pieces K d (map eval_piece ps) u c l w) (on_goes (printed b)))
   unfolding join_pieces opened_outcome
-  join_runs b n full texts [] known qs rs u holds same v place ks ops c l w stands fits has =
-      added ask code (Fits k) 0 1 1 1 1 _ c _ _ (omega arith) (omega arith)
-      (put_runs b n full texts rs u (subst (λ x. Holds x rs u) (sym (append-nil qs) ∙ same) holds) v place ks ops c l w fits has)
-  join_runs b n full texts (p ∷ ps) known qs rs u holds same v place ks ops c l w stands fits has =
-      let is = pieces_code ps ++ print_of b n ∷ [] in
-      let flat : print_code b n (p ∷ ps) ≡ piece_code p ++ is = append_assoc (piece_code p) (pieces_code ps) (print_of b n ∷ []) in
-      let far : place + length (piece_code p) + length is ≡ place + length (print_code b n (p ∷ ps)) = omega (arith, ap length flat, length-append (piece_code p) is) in
-      let has1 = subst (HasAt code.instructions.items place) flat has in
-      subst (λ o. Runs ask code (Fits k) 1 1 (at v place ks (rs ++ ops) l w) c (arrives v (place + length (print_code b n (p ∷ ps))) ks ops) o) (sym (bind_bind (add 1 (eval_piece p K v c l w)) (on_goes (λ x. join_pieces K v (map eval_piece ps) (u ++ x))) (on_goes (printed b)) ∙ bind_add 1 (eval_piece p K v c l w) _))
-      (added ask code (Fits k) 1 1 1 1 1 _ c _ _ (omega arith) (omega arith)
-      (piece_runs p (both_true _ _ known).0 qs rs u holds (λ r c1 l1 w1. bind (on_goes (λ x. join_pieces K v (map eval_piece ps) (u ++ x)) r c1 l1 w1) (on_goes (printed b))) v place (place + length (print_code b n (p ∷ ps))) ks ops c l w stands fits (has_front code.instructions.items place (piece_code p) is has1) refl
-      (λ rs1 x holds1 fits1. subst (λ q. Runs ask code (Fits k) 1 1 (at v (place + length (piece_code p)) ks (rs1 ++ ops) l w) c (arrives v q ks ops) (bind (join_pieces K v (map eval_piece ps) (u ++ x) c l w) (on_goes (printed b)))) far
-      (join_runs b n full texts ps (both_true _ _ known).1 (qs ++ part_of p ∷ []) rs1 (u ++ x) holds1 (append_assoc qs (part_of p ∷ []) (parts_of ps) ∙ same) v (place + length (piece_code p)) ks ops c l w stands fits1 (has_back code.instructions.items place (piece_code p) is has1)))))
+  join_runs b n first t full texts [] known qs rs u holds same s e w0 d place ks ops c l w fits long has =
+      added ask code (Kept k code w0) 0 1 1 1 1 _ c _ _ (omega arith) (omega arith)
+      (put_runs b n first t full texts rs u (subst (λ x. Holds x rs u) (sym (append-nil qs) ∙ same) holds) e w0 d place ks ops c l w fits has)
+  join_runs b n first t full texts (p ∷ ps) known qs rs u holds same s e w0 d place ks ops c l w fits long has =
+      let is = printing b n first t ps (with_piece p s) in
+      let flat : printing b n first t (p ∷ ps) s ≡ piece_code p s ++ is = append_assoc (piece_code p s) (pieces_code ps (with_piece p s)) ((print_of b n first, t) ∷ []) in
+      let far : place + length (piece_code p s) + length is ≡ place + length (printing b n first t (p ∷ ps) s) = omega (arith, ap length flat, length-append (piece_code p s) is) in
+      let has1 = subst (Laid code place) flat has in
+      subst (λ o. Runs ask code (Kept k code w0) 1 1 (at d place ks (rs ++ ops) l w) c (arrives e d (place + length (printing b n first t (p ∷ ps) s)) ks ops) o) (sym (bind_bind (add 1 (eval_piece p K d c l w)) (on_goes (λ x. join_pieces K d (map eval_piece ps) (u ++ x))) (on_goes (printed b)) ∙ bind_add 1 (eval_piece p K d c l w) _))
+      (added ask code (Kept k code w0) 1 1 1 1 1 _ c _ _ (omega arith) (omega arith)
+      (piece_runs p (both_true _ _ known).0 qs rs u holds (λ r c1 l1 w1. bind (on_goes (λ x. join_pieces K d (map eval_piece ps) (u ++ x)) r c1 l1 w1) (on_goes (printed b))) s w0 d place ks ops c l w (arrives e d (place + length (printing b n first t (p ∷ ps) s)) ks ops) fits long (laid_front code place (piece_code p s) is has1)
+      (λ y c1 l1 w1 lo fits1. no_step ask code (Kept k code w0) 1 1 (transferred (ByRaise y) ks l1 w1) c1 0 (arrives e d (place + length (printing b n first t (p ∷ ps) s)) ks ops) (Leaves (ByRaise y)) l1 w1 fits1 refl)
+      (λ rs1 x c1 l1 w1 lo fits1 holds1. subst (λ q. Runs ask code (Kept k code w0) 1 1 (at d (place + length (piece_code p s)) ks (rs1 ++ ops) l1 w1) c1 (arrives e d q ks ops) (bind (join_pieces K d (map eval_piece ps) (u ++ x) c1 l1 w1) (on_goes (printed b)))) far
+      (join_runs b n first t full texts ps (both_true _ _ known).1 (qs ++ part_of p ∷ []) rs1 (u ++ x) holds1 (append_assoc qs (part_of p ∷ []) (parts_of ps) ∙ same) (with_piece p s) e w0 d (place + length (piece_code p s)) ks ops c1 l1 w1 fits1 (long ∙ sym (piece_depth p s)) (laid_back code place (piece_code p s) is has1)))))
 
   -- the pieces in turn, and then the text
-  pub print_runs : (ends_line : Bool) (ps : List Piece) → pieces_are_run ps ≡ true → (n : ℕ) → HasAt code.texts.items n (parts_of ps ∷ []) → Does ask k code bound (print_code ends_line n ps) (λ v. ticked (eval_text K v (map eval_piece ps) >>= printed ends_line))
+  pub print_runs : (b : Bool) (ps : List Piece) → pieces_are_run ps ≡ true → (n : ℕ) → HasAt code.texts.items n (parts_of ps ∷ []) → Does ask k code bound (λ a. print_code b n ps a.stack) (λ d. ticked (eval_text K d (map eval_piece ps) >>= printed b))
   unfolding eval_text opened_outcome
-  print_runs b [] known n texts v place ks ops c l w le stands fits has =
-      added ask code (Fits k) 1 1 1 0 0 _ c _ _ (omega arith) (omega arith) (added ask code (Fits k) 0 1 1 1 1 _ c _ _ (omega arith) (omega arith)
-      (put_runs b n [] texts [] [] (record { count = refl; text = refl }) v place ks ops c l w fits has))
-  print_runs b (p ∷ ps) known n texts v place ks ops c l w le stands fits has =
-      let is = pieces_code ps ++ print_of b n ∷ [] in
-      let flat : print_code b n (p ∷ ps) ≡ piece_code p ++ is = append_assoc (piece_code p) (pieces_code ps) (print_of b n ∷ []) in
-      let far : place + length (piece_code p) + length is ≡ place + length (print_code b n (p ∷ ps)) = omega (arith, ap length flat, length-append (piece_code p) is) in
-      let has1 = subst (HasAt code.instructions.items place) flat has in
-      added ask code (Fits k) 1 1 1 0 0 _ c _ _ (omega arith) (omega arith)
-      (subst (λ o. Runs ask code (Fits k) 1 1 (at v place ks ops l w) c (arrives v (place + length (print_code b n (p ∷ ps))) ks ops) o) (sym (bind_bind (eval_piece p K v c l w) (on_goes (λ x. join_pieces K v (map eval_piece ps) x)) (on_goes (printed b))))
-      (piece_runs p (both_true _ _ known).0 [] [] [] (record { count = refl; text = refl }) (λ r c1 l1 w1. bind (on_goes (λ x. join_pieces K v (map eval_piece ps) x) r c1 l1 w1) (on_goes (printed b))) v place (place + length (print_code b n (p ∷ ps))) ks ops c l w stands fits (has_front code.instructions.items place (piece_code p) is has1) refl
-      (λ rs1 x holds1 fits1. subst (λ q. Runs ask code (Fits k) 1 1 (at v (place + length (piece_code p)) ks (rs1 ++ ops) l w) c (arrives v q ks ops) (bind (join_pieces K v (map eval_piece ps) x c l w) (on_goes (printed b)))) far
-      (join_runs b n (parts_of (p ∷ ps)) texts ps (both_true _ _ known).1 (part_of p ∷ []) rs1 x holds1 refl v (place + length (piece_code p)) ks ops c l w stands fits1 (has_back code.instructions.items place (piece_code p) is has1)))))
+  print_runs b [] known n texts a w0 d place ks ops c l w le fits sees has =
+      added ask code (Kept k code w0) 1 1 1 0 0 _ c _ _ (omega arith) (omega arith) (added ask code (Kept k code w0) 0 1 1 1 1 _ c _ _ (omega arith) (omega arith)
+      (put_runs b n (height a.stack) a.stack [] texts [] [] (record { count = refl; text = refl }) (landing_of a.exits place) w0 d place ks ops c l w fits has))
+  print_runs b (p ∷ ps) known n texts a w0 d place ks ops c l w le fits sees has =
+      let s = a.stack in
+      let first = height s in
+      let t = with_pieces (p ∷ ps) s in
+      let e = landing_of a.exits place in
+      let is = printing b n first t ps (with_piece p s) in
+      let flat : printing b n first t (p ∷ ps) s ≡ piece_code p s ++ is = append_assoc (piece_code p s) (pieces_code ps (with_piece p s)) ((print_of b n first, t) ∷ []) in
+      let far : place + length (piece_code p s) + length is ≡ place + length (printing b n first t (p ∷ ps) s) = omega (arith, ap length flat, length-append (piece_code p s) is) in
+      let has1 = subst (Laid code place) flat has in
+      added ask code (Kept k code w0) 1 1 1 0 0 _ c _ _ (omega arith) (omega arith)
+      (subst (λ o. Runs ask code (Kept k code w0) 1 1 (at d place ks ops l w) c (arrives e d (place + length (printing b n first t (p ∷ ps) s)) ks ops) o) (sym (bind_bind (eval_piece p K d c l w) (on_goes (λ x. join_pieces K d (map eval_piece ps) x)) (on_goes (printed b))))
+      (piece_runs p (both_true _ _ known).0 [] [] [] (record { count = refl; text = refl }) (λ r c1 l1 w1. bind (on_goes (λ x. join_pieces K d (map eval_piece ps) x) r c1 l1 w1) (on_goes (printed b))) s w0 d place ks ops c l w (arrives e d (place + length (printing b n first t (p ∷ ps) s)) ks ops) fits sees.long (laid_front code place (piece_code p s) is has1)
+      (λ y c1 l1 w1 lo fits1. no_step ask code (Kept k code w0) 1 1 (transferred (ByRaise y) ks l1 w1) c1 0 (arrives e d (place + length (printing b n first t (p ∷ ps) s)) ks ops) (Leaves (ByRaise y)) l1 w1 fits1 refl)
+      (λ rs1 x c1 l1 w1 lo fits1 holds1. subst (λ q. Runs ask code (Kept k code w0) 1 1 (at d (place + length (piece_code p s)) ks (rs1 ++ ops) l1 w1) c1 (arrives e d q ks ops) (bind (join_pieces K d (map eval_piece ps) x c1 l1 w1) (on_goes (printed b)))) far
+      (join_runs b n first t (parts_of (p ∷ ps)) texts ps (both_true _ _ known).1 (part_of p ∷ []) rs1 x holds1 refl (with_piece p s) e w0 d (place + length (piece_code p s)) ks ops c1 l1 w1 fits1 (sees.long ∙ sym (piece_depth p s)) (laid_back code place (piece_code p s) is has1)))))

@@ -8,51 +8,58 @@ use Rattle.ctl_program.specs.declared.program.Subprogram.{Subprogram}
 use Rattle.ctl_program.specs.declared.program.Checked.{Checked}
 use Rattle.ctl_tree.specs.declared.ending.End.{End}
 use Rattle.ctl_tree.specs.declared.ending.End as EndOf
-use Rattle.ctl_meaning.specs.World.{Pick, Log, World, empty_log}
+use Rattle.ctl_meaning.specs.World.{Pick, Log, empty_log}
 use Rattle.ctl_meaning.specs.Choice.{Ask, Obeys, replayed}
-use Rattle.ctl_meaning.specs.Outcome.{Result, Goes, Leaves, Out, Gives, Stops, Cut}
+use Rattle.ctl_meaning.specs.Outcome.{Goes, Leaves, Out, Gives, Stops, Cut}
 use Rattle.ctl_meaning.specs.Types.{tables_of, operation, operation_in}
 use Rattle.ctl_meaning.specs.Names.{Returned}
 use Rattle.ctl_meaning.specs.Run.{Outcome, end_by, meaning_of, outcome, outcome_of, routine_of, run}
-use Rattle.ctl_code.specs.declared.code.Instr.{Instr}
 use Rattle.ctl_code.specs.declared.code.Instr.TheVariants as InstrOf
 use Rattle.ctl_code.specs.declared.template.TextPart.{TextPart}
 use Rattle.ctl_code.specs.declared.code.Entry.{Entry}
 use Rattle.ctl_code.specs.declared.code.Code.{Code}
-use Rattle.ctl_code.specs.States.{Mode, At, Giving, Stopped, Stuck, Frame, State}
+use Rattle.ctl_code.specs.States.{Mode, At, Transfers, Giving, Stopped, Stuck, Frame, State}
+use Rattle.ctl_code.specs.Valid.{IsValid}
 use Rattle.ctl_code.specs.Table as Table
 use Rattle.ctl_code.specs.Steps.{step, steps, start, machine, end_at, end_of}
 use Rattle.ctl_code.specs.Laws.{IsPrefix, Grows}
 use Rattle.ctl_code.proofs.Logs.{obeys_none, obeys_itself, no_more_than, Stays, steps_obey, grow, stay, meet, ended_stays, agree}
-use Rattle.ctl_gen.specs.Layout.{IsLaidOut, bodies, body_code, entries_from, entry_at, operations_of}
+use Rattle.ctl_gen.specs.Around.{Line}
+use Rattle.ctl_gen.specs.Layout.{HasKinds, IsLaidOut, bodies, body_code, entries_from, entry_at, instructions_of, kinds_of, nowhere, operations_of, program_code}
 use Rattle.ctl_gen.specs.Run.{AreLinked, IsBody, IsRun, IsWritten, are_procedures, is_procedure}
 use Rattle.ctl_gen.proofs.Known.{both_true}
 use Rattle.ctl_gen.specs.Correct.{HasReached, RunsAs, Behaves}
-use Rattle.ctl_gen.proofs.Place.{HasAt, has_front, has_back, has_all}
-use Rattle.ctl_gen.proofs.Worlds.{Fits}
-use Rattle.ctl_gen.proofs.Setting.{Setting, returns, flagged}
+use Rattle.ctl_gen.proofs.Place.{HasAt, has_front, has_back, has_all, Laid, laid_front, laid_back}
+use Rattle.ctl_gen.proofs.Setting.{Setting, Told, returns, ended}
 use Rattle.ctl_gen.proofs.Bodies.{Stands, main_runs}
 use Rattle.ctl_gen.proofs.Follow.{GoingBy, Runs, gives}
+use Rattle.ctl_meaning.specs.World.{empty_world}
+use Rattle.ctl_meaning.specs.Outcome.{ByExit, ByReturn, ByRaise}
 
 -- Where everything stands ----------------------------------------------------------------------
 
 -- a body among those that stand from a place on
-record Found (instrs : List Instr) (texts : List (List TextPart)) (entries : List Entry) (f : ℕ) (s : Subprogram) : Type 0 where
+record Found (code : Code) (texts : List (List TextPart)) (entries : List Entry) (f : ℕ) (s : Subprogram) : Type 0 where
   place : ℕ
   before : ℕ
   entry : slice_get entries f ≡ Some (entry_at place s)
-  instructions : HasAt instrs place ((body_code s).code before)
+  instructions : Laid code place ((body_code s).code nowhere before)
   printed : HasAt texts before (body_code s).texts
 
-find : (instrs : List Instr) (texts : List (List TextPart)) (ss : List Subprogram) (place n : ℕ) → HasAt instrs place ((bodies ss).code n) → HasAt texts n (bodies ss).texts → (f : ℕ) (s : Subprogram) → slice_get ss f ≡ Some s → Found instrs texts (entries_from place n ss) f s
-find instrs texts [] place n has prints f s e = absurd (cc)
-find instrs texts (x ∷ ss) place n has prints zero s e =
+find : (code : Code) (texts : List (List TextPart)) (ss : List Subprogram) (place n : ℕ) → Laid code place ((bodies ss).code nowhere n) → HasAt texts n (bodies ss).texts → (f : ℕ) (s : Subprogram) → slice_get ss f ≡ Some s → Found code texts (entries_from place n ss) f s
+find code texts [] place n has prints f s e = absurd (cc)
+find code texts (x ∷ ss) place n has prints zero s e =
     let same : x ≡ s = cc e in
-    subst (λ (y : Subprogram). Found instrs texts (entries_from place n (x ∷ ss)) 0 y) same
-    (record { place = place; before = n; entry = refl; instructions = has_front instrs place ((body_code x).code n) ((bodies ss).code (n + length (body_code x).texts)) has; printed = has_front texts n (body_code x).texts (bodies ss).texts prints })
-find instrs texts (x ∷ ss) place n has prints (suc f) s e =
-    let y = find instrs texts ss (place + length ((body_code x).code n)) (n + length (body_code x).texts) (has_back instrs place ((body_code x).code n) ((bodies ss).code (n + length (body_code x).texts)) has) (has_back texts n (body_code x).texts (bodies ss).texts prints) f s e in
+    subst (λ (y : Subprogram). Found code texts (entries_from place n (x ∷ ss)) 0 y) same
+    (record { place = place; before = n; entry = refl; instructions = laid_front code place ((body_code x).code nowhere n) ((bodies ss).code nowhere (n + length (body_code x).texts)) has; printed = has_front texts n (body_code x).texts (bodies ss).texts prints })
+find code texts (x ∷ ss) place n has prints (suc f) s e =
+    let y = find code texts ss (place + length ((body_code x).code nowhere n)) (n + length (body_code x).texts) (laid_back code place ((body_code x).code nowhere n) ((bodies ss).code nowhere (n + length (body_code x).texts)) has) (has_back texts n (body_code x).texts (bodies ss).texts prints) f s e in
     record { place = y.place; before = y.before; entry = y.entry; instructions = y.instructions; printed = y.printed }
+
+-- lines whose instructions and kinds stand in the code
+laid_by : (code : Code) (place : ℕ) (lines : List Line) → HasAt code.instructions.items place (instructions_of lines) → HasAt code.kinds place (kinds_of lines) → Laid code place lines
+laid_by code place [] h g = tt
+laid_by code place (x ∷ xs) h g = (h.0, g.0, laid_by code (place + 1) xs h.1 g.1)
 
 -- what each of them is
 kind_if : (j : SubprogramKind) → is_procedure j ≡ true → j ≡ Procedure
@@ -109,6 +116,7 @@ same_prefix a b e = ([], sym e ∙ sym (append-nil a))
 
 not_ended : (names : List (List ℕ)) (m : Mode) (k : List Frame) → GoingBy m k → end_at names m k ≡ None
 not_ended names (At d place) k h = refl
+not_ended names (Transfers y) k h = refl
 not_ended names (Giving r) [] h = absurd h
 not_ended names (Giving r) (f ∷ k) h = refl
 not_ended names (Stopped s) k h = absurd h
@@ -116,12 +124,14 @@ not_ended names Stuck k h = absurd h
 
 not_stuck : (m : Mode) (k : List Frame) → GoingBy m k → m ≢ Stuck
 not_stuck (At d place) k h e = cc
+not_stuck (Transfers y) k h e = cc
 not_stuck (Giving r) k h e = cc
 not_stuck (Stopped s) k h e = cc
 not_stuck Stuck k h e = absurd h
 
 stopped_end : (names : List (List ℕ)) (m : Mode) (k : List Frame) (s : _) → m ≡ Stopped s → end_at names m k ≡ Some (EndOf.TheVariants.Stopped s)
 stopped_end names (At d place) k s e = absurd (cc)
+stopped_end names (Transfers y) k s e = absurd (cc)
 stopped_end names (Giving r) k s e = absurd (cc)
 stopped_end names (Stopped s1) k s e = let same : s1 ≡ s = cc e in ap (λ x. Some (EndOf.TheVariants.Stopped x)) same
 stopped_end names Stuck k s e = absurd (cc)
@@ -136,12 +146,15 @@ record Moment (code : Code) (ask : Ask) (clock ticks : ℕ) (o : Outcome) : Type
   fine : (steps ask code n start).mode ≢ Stuck
   why : (clock ≤ n) ⊎ (step ask code (steps ask code n start) ≡ steps ask code n start)
 
-module _ (program : Checked) (code : Code) (laid : IsLaidOut program code) (run_it : IsRun program) (linked : AreLinked program) where
+module _ (program : Checked) (code : Code) (laid : IsLaidOut program code) (kinds : HasKinds program code) (valid : IsValid code) (run_it : IsRun program) (linked : AreLinked program) where
   parts : (are_procedures program.subprograms ≡ true) × ((bodies program.subprograms).runs program.records ≡ true)
   parts = both_true _ _ run_it
 
-  has_whole : HasAt code.instructions.items 0 (InstrOf.Start program.main ∷ (bodies program.subprograms).code 0)
-  has_whole = subst (λ is. HasAt is 0 (InstrOf.Start program.main ∷ (bodies program.subprograms).code 0)) (sym laid.instructions) (has_all (InstrOf.Start program.main ∷ (bodies program.subprograms).code 0) [])
+  has_whole : Laid code 0 (program_code program)
+  has_whole =
+      laid_by code 0 (program_code program)
+      (subst (λ is. HasAt is 0 (instructions_of (program_code program))) (sym laid.instructions) (has_all (instructions_of (program_code program)) []))
+      (subst (λ ks. HasAt ks 0 (kinds_of (program_code program))) (sym kinds.kinds) (has_all (kinds_of (program_code program)) []))
 
   has_texts : HasAt code.texts.items 0 (bodies program.subprograms).texts
   has_texts = subst (λ ts. HasAt ts 0 (bodies program.subprograms).texts) (sym laid.texts) (has_all (bodies program.subprograms).texts [])
@@ -150,6 +163,7 @@ module _ (program : Checked) (code : Code) (laid : IsLaidOut program code) (run_
   unfolding tables_of operation
   setting = record {
     subprograms = program.subprograms;
+    valid = valid;
     initialize = λ t. ap (λ xs. Table.operation_in (λ x. x.initialize) (slice_get xs t)) laid.records ∙ initialize_in program.records t;
     finalize = λ t. ap (λ xs. Table.operation_in (λ x. x.finalize) (slice_get xs t)) laid.records ∙ finalize_in program.records t;
     initialize_body = λ t f e. initialize_written program.subprograms (slice_get program.records t) (linked.initialize t) f e;
@@ -159,19 +173,14 @@ module _ (program : Checked) (code : Code) (laid : IsLaidOut program code) (run_
   stands : (f : ℕ) (s : Subprogram) → slice_get program.subprograms f ≡ Some s → Stands (tables_of program) code f s
   unfolding tables_of
   stands f s here =
-      let x = find code.instructions.items code.texts.items program.subprograms 1 0 has_whole.1 has_texts f s here in
+      let x = find code code.texts.items program.subprograms 1 0 has_whole.2 has_texts f s here in
       record { place = x.place; before = x.before; entry = ap (λ es. slice_get es f) laid.entries ∙ x.entry; instructions = x.instructions; texts = x.printed; runs = body_is_run program.records program.subprograms parts.1 f s here; procedure = is_a_procedure program.subprograms parts.0 f s here }
 
-  whole_runs : (ask : Ask) (clock : ℕ) → Runs ask code (Fits (tables_of program)) 0 1 start clock (returns [] []) (run program ask clock)
+  whole_runs : (ask : Ask) (clock : ℕ) → Runs ask code (Told (tables_of program) code empty_world) 0 1 start clock (returns []) (run program ask clock)
   unfolding run meaning_of setting
-  whole_runs ask clock = main_runs ask (meaning_of program) code setting stands (routine_at program.subprograms) program.main linked.main.0 linked.main.1 has_whole.0 clock
+  whole_runs ask clock = main_runs ask (meaning_of program) code setting stands (routine_at program.subprograms) program.main linked.main.0 linked.main.1 (valid.each 0 (InstrOf.Start program.main) [] has_whole.0 has_whole.1).1 has_whole.0 clock
 
-  ends_alike : (r : Result Returned) (t c : ℕ) (l l1 : Log) (w w1 : World) → end_of code (gives [] [] (flagged r) l w) ≡ (outcome_of program.exceptions (Gives r t c l1 w1)).end
-  unfolding outcome_of
-  ends_alike (Goes a) t c l l1 w w1 = refl
-  ends_alike (Leaves y) t c l l1 w w1 = ap (λ names. Some (end_by names y)) laid.exceptions
-
-  moment_of : (ask : Ask) (clock : ℕ) (o : Out Returned) → Runs ask code (Fits (tables_of program)) 0 1 start clock (returns [] []) o → Moment code ask clock (outcome_of program.exceptions o).ticks (outcome_of program.exceptions o)
+  moment_of : (ask : Ask) (clock : ℕ) (o : Out Returned) → Runs ask code (Told (tables_of program) code empty_world) 0 1 start clock (returns []) o → Moment code ask clock (outcome_of program.exceptions o).ticks (outcome_of program.exceptions o)
   unfolding outcome_of
   moment_of ask clock (Gives (Goes a) t c l w) z = record {
     n = z.n;
@@ -179,17 +188,19 @@ module _ (program : Checked) (code : Code) (laid : IsLaidOut program code) (run_
     trace = sym (ap (λ (x : State). x.log.trace) z.comes);
     taken = sym (ap (λ (x : State). x.log.taken) z.comes);
     end = ap (end_of code) z.comes;
-    fine = λ h. let bad : Giving (flagged (Goes a)) ≡ Stuck = sym (ap (λ (x : State). x.mode) z.comes) ∙ h in cc;
-    why = inr (subst (Stays ask code) (sym z.comes) (ended_stays ask code (gives [] [] (flagged (Goes a)) l w) (inl (λ h. cc))));
+    fine = λ h. let bad : Giving (ended (Goes a)) ≡ Stuck = sym (ap (λ (x : State). x.mode) z.comes) ∙ h in cc;
+    why = inr (subst (Stays ask code) (sym z.comes) (ended_stays ask code (gives [] (ended (Goes a)) l w) (inl (λ h. cc))));
   }
-  moment_of ask clock (Gives (Leaves y) t c l w) z = record {
+  moment_of ask clock (Gives (Leaves ByExit) t c l w) z = absurd z.fits.0
+  moment_of ask clock (Gives (Leaves (ByReturn v)) t c l w) z = absurd z.fits.0
+  moment_of ask clock (Gives (Leaves (ByRaise y)) t c l w) z = record {
     n = z.n;
     in_time = omega (arith, z.in_time);
     trace = sym (ap (λ (x : State). x.log.trace) z.comes);
     taken = sym (ap (λ (x : State). x.log.taken) z.comes);
-    end = ap (end_of code) z.comes ∙ ap (λ names. Some (end_by names y)) laid.exceptions;
-    fine = λ h. let bad : Giving (Leaves y) ≡ Stuck = sym (ap (λ (x : State). x.mode) z.comes) ∙ h in cc;
-    why = inr (subst (Stays ask code) (sym z.comes) (ended_stays ask code (gives [] [] (Leaves y) l w) (inl (λ h. cc))));
+    end = ap (end_of code) z.comes ∙ ap (λ names. Some (end_by names (ByRaise y))) laid.exceptions;
+    fine = λ h. let bad : Giving (ended {A = Returned} (Leaves (ByRaise y))) ≡ Stuck = sym (ap (λ (x : State). x.mode) z.comes) ∙ h in cc;
+    why = inr (subst (Stays ask code) (sym z.comes) (ended_stays ask code (gives [] (ended {A = Returned} (Leaves (ByRaise y))) l w) (inl (λ h. cc))));
   }
   moment_of ask clock (Stops s t l) z =
       let x = steps ask code z.n start in

@@ -1,164 +1,390 @@
--- The worlds of the programs of this version: each object is of a plain record type, each layer is one object, and there is no pool.
-use Rattle.std.proofs.Common.{◌≡◌, ℕ, List, [], ◌∷◌, ◌++◌, Option, Some, None, Bool, true, false, refl, sym, ap, subst}
-use Rattle.std.specs.Prelude.{if◌then◌else◌, nat_eq, not, drop}
+-- The worlds of the programs of this version: each object is of a plain record type, and was declared in an active master, inside those
+-- around the operations of its type; each layer is one object, each copy at most one cell, and there is no pool.
+use Rattle.std.proofs.Common.{◌≡◌, ℕ, zero, suc, ◌+◌, ◌<◌, ◌≤◌, List, [], ◌∷◌, ◌++◌, length, Option, Some, None, Bool, true, false, refl, sym, ap, ◌∙◌, subst, arith}
+use Rattle.std.specs.Prelude.{if◌then◌else◌, nat_eq, not, drop, slice_get, slice_set, replicate}
+use Rattle.std.proofs.lemmas.Bool.{eqb-true, eqb-false, eq-eqb, ne_eqb}
 use Rattle.ctl_program.specs.declared.types.Ty.{Ty}
+use Rattle.ctl_program.specs.declared.types.Ty.TheVariants.{Record}
 use Rattle.ctl_meaning.specs.Types.{Tables}
-use Rattle.ctl_meaning.specs.World.{Finalized, Origin, Object, Layer, Single, Sets, Master, Slot, World, opened_world, empty_world}
-use Rattle.ctl_meaning.specs.Lists.{first_with, change_each, keep, opened_lists}
+use Rattle.ctl_meaning.specs.World.{Finalized, Origin, Declared, Allocated, Object, Layer, Single, Sets, Master, Slot, Unset, Holds, Binds, Copies, Gathers, Activation, World, opened_world, empty_world}
+use Rattle.ctl_meaning.specs.Lists.{first_with, change_each, keep, item_or, opened_lists}
 use Rattle.ctl_meaning.specs.Ledger.{with_layer, without_newest, layers_in, layers_of, opened_ledger}
-use Rattle.ctl_meaning.specs.Objects.{object_in, with_begun, with_finalized, is_untouched, opened_objects}
+use Rattle.ctl_meaning.specs.Activations.{with_slot, slots_in, display_in, activation_at, opened_activations}
+use Rattle.ctl_meaning.specs.Objects.{object_in, with_begun, with_finalized, is_untouched, overwritten, opened_objects}
 use Rattle.ctl_meaning.specs.Pools.{keep_pools}
-use Rattle.ctl_meaning.specs.Changes.{object_at, take_object_number, create, open_master, add_layer, take_layer, set_slot, close_master, begin_finalization, end_finalization, opened_changes}
+use Rattle.ctl_meaning.specs.Names.{copy_in, slot_at, opened_names}
+use Rattle.ctl_meaning.specs.Outcome.{Way}
+use Rattle.ctl_meaning.specs.Changes.{ends_with, object_at, take_object_number, create, open_master, add_layer, take_layer, set_slot, close_master, begin_finalization, end_finalization, opened_changes}
+use Rattle.ctl_code.specs.declared.code.Code.{Code}
+use Rattle.ctl_code.specs.Valid.{IsDeclarable}
 use Rattle.ctl_gen.proofs.Known.{IsPlainType}
 
-abbrev pub ObjectsFit : Tables → List Object → Type 0
-ObjectsFit k [] = Unit {0}
-ObjectsFit k (o ∷ os) = IsPlainType k o.ty × ObjectsFit k os
+-- Lists -------------------------------------------------------------------------------------------
 
--- an object that is found
-abbrev pub FoundFits : Tables → Option Object → Type 0
-FoundFits k None = Unit {0}
-FoundFits k (Some o) = IsPlainType k o.ty
+abbrev pub Each : {A : Type 0} → (A → Type 0) → List A → Type 0
+Each P [] = Unit {0}
+Each P (x ∷ xs) = P x × Each P xs
+
+abbrev pub IfFound : {A : Type 0} → (A → Type 0) → Option A → Type 0
+IfFound P None = Unit {0}
+IfFound P (Some x) = P x
+
+each_found : {A : Type 0} (P : A → Type 0) (p : A → Bool) (xs : List A) → Each P xs → IfFound P (first_with p xs)
+unfolding first_with
+each_found P p [] h = tt
+each_found P p (x ∷ xs) h = one (p x) (each_found P p xs h.1)
+  where
+    one : (b : Bool) → IfFound P (first_with p xs) → IfFound P (if b then Some x else first_with p xs)
+    one true rest = h.0
+    one false rest = rest
+
+each_and : {A : Type 0} (P : A → Type 0) (xs : List A) (x : A) → P x → Each P xs → Each P (xs ++ x ∷ [])
+each_and P [] x known h = (known, tt)
+each_and P (y ∷ xs) x known h = (h.0, each_and P xs x known h.1)
+
+each_changed : {A : Type 0} (P : A → Type 0) (p : A → Bool) (f : A → A) → ((x : A) → P x → P (f x)) → (xs : List A) → Each P xs → Each P (change_each p f xs)
+unfolding change_each
+each_changed P p f same [] h = tt
+each_changed P p f same (x ∷ xs) h = (one (p x), each_changed P p f same xs h.1)
+  where
+    one : (b : Bool) → P (if b then f x else x)
+    one true = same x h.0
+    one false = h.0
+
+-- of those that are kept something else may be true
+each_kept : {A : Type 0} (P Q : A → Type 0) (p : A → Bool) → ((x : A) → p x ≡ true → P x → Q x) → (xs : List A) → Each P xs → Each Q (keep p xs)
+unfolding keep
+each_kept P Q p f [] h = tt
+each_kept P Q p f (x ∷ xs) h = one (p x) refl (each_kept P Q p f xs h.1)
+  where
+    one : (b : Bool) → p x ≡ b → Each Q (keep p xs) → Each Q (if b then x ∷ keep p xs else keep p xs)
+    one true e rest = (f x e h.0, rest)
+    one false e rest = rest
+
+each_all : {A : Type 0} (P Q : A → Type 0) → ((x : A) → P x → Q x) → (xs : List A) → Each P xs → Each Q xs
+each_all P Q f [] h = tt
+each_all P Q f (x ∷ xs) h = (f x h.0, each_all P Q f xs h.1)
+
+-- Masters and their displays ------------------------------------------------------------------------
+
+-- the display of a master
+abbrev pub home : ℕ → List Activation → List ℕ
+home n as' = display_in (activation_at n as')
+
+home_slot : (n m i : ℕ) (x : Slot) (as' : List Activation) → home n (change_each (λ a. nat_eq a.master m) (with_slot i x) as') ≡ home n as'
+unfolding opened_activations opened_lists
+home_slot n m i x [] = refl
+home_slot n m i x (a ∷ as') = one (nat_eq a.master m) (home_slot n m i x as')
+  where
+    rest : Type 0
+    rest = display_in (first_with (λ y. nat_eq y.master n) (change_each (λ y. nat_eq y.master m) (with_slot i x) as')) ≡ display_in (first_with (λ y. nat_eq y.master n) as')
+
+    two : rest → (c : Bool) (b : Activation) → b.display ≡ a.display → display_in (if c then Some b else first_with (λ y. nat_eq y.master n) (change_each (λ y. nat_eq y.master m) (with_slot i x) as')) ≡ display_in (if c then Some a else first_with (λ y. nat_eq y.master n) as')
+    two h true b e = e
+    two h false b e = h
+
+    one : (b : Bool) → rest → display_in (if nat_eq (if b then with_slot i x a else a).master n then Some (if b then with_slot i x a else a) else first_with (λ y. nat_eq y.master n) (change_each (λ y. nat_eq y.master m) (with_slot i x) as')) ≡ display_in (if nat_eq a.master n then Some a else first_with (λ y. nat_eq y.master n) as')
+    one true h = two h (nat_eq a.master n) (with_slot i x a) refl
+    one false h = two h (nat_eq a.master n) a refl
+
+home_kept : (n m : ℕ) → nat_eq m n ≡ false → (as' : List Activation) → home n (keep (λ a. not (nat_eq a.master m)) as') ≡ home n as'
+unfolding opened_activations opened_lists
+home_kept n m e [] = refl
+home_kept n m e (a ∷ as') = one (nat_eq a.master m) refl (home_kept n m e as')
+  where
+    rest : Type 0
+    rest = display_in (first_with (λ y. nat_eq y.master n) (keep (λ y. not (nat_eq y.master m)) as')) ≡ display_in (first_with (λ y. nat_eq y.master n) as')
+
+    two : rest → (c : Bool) → display_in (if c then Some a else first_with (λ y. nat_eq y.master n) (keep (λ y. not (nat_eq y.master m)) as')) ≡ display_in (if c then Some a else first_with (λ y. nat_eq y.master n) as')
+    two h true = refl
+    two h false = h
+
+    one : (b : Bool) → nat_eq a.master m ≡ b → rest → display_in (first_with (λ y. nat_eq y.master n) (if not b then a ∷ keep (λ y. not (nat_eq y.master m)) as' else keep (λ y. not (nat_eq y.master m)) as')) ≡ display_in (if nat_eq a.master n then Some a else first_with (λ y. nat_eq y.master n) as')
+    one true is h =
+        let other : nat_eq a.master n ≡ false = ap (λ z. nat_eq z n) (eqb-true a.master m is) ∙ e in
+        h ∙ ap (λ c. display_in (if c then Some a else first_with (λ y. nat_eq y.master n) as')) (sym other)
+    one false is h = two h (nat_eq a.master n)
+
+-- Slots -----------------------------------------------------------------------------------------------
+
+-- a copy has at most one cell
+abbrev pub IsSmall : Slot → Type 0
+IsSmall (Copies v) = length v ≤ 1
+IsSmall Unset = Unit {0}
+IsSmall (Holds n) = Unit {0}
+IsSmall (Binds n i p) = Unit {0}
+IsSmall (Gathers n) = Unit {0}
+
+abbrev pub AreSmall : Activation → Type 0
+AreSmall a = Each IsSmall a.slots
+
+small_set : (xs : List Slot) (i : ℕ) (x : Slot) → IsSmall x → Each IsSmall xs → Each IsSmall (slice_set xs i x)
+small_set [] i x known h = tt
+small_set (y ∷ xs) zero x known h = (known, h.1)
+small_set (y ∷ xs) (suc i) x known h = (h.0, small_set xs i x known h.1)
+
+pub small_unset : (n : ℕ) → Each IsSmall (replicate n Unset)
+small_unset zero = tt
+small_unset (suc n) = (tt, small_unset n)
+
+small_get : (xs : List Slot) (i : ℕ) → Each IsSmall xs → IsSmall (item_or Unset (slice_get xs i))
+unfolding opened_lists
+small_get [] i h = tt
+small_get (x ∷ xs) zero h = h.0
+small_get (x ∷ xs) (suc i) h = small_get xs i h.1
+
+small_in : (n i : ℕ) (as' : List Activation) → Each AreSmall as' → IsSmall (item_or Unset (slice_get (slots_in (first_with (λ a. nat_eq a.master n) as')) i))
+unfolding slots_in
+small_in n i as' h = by (first_with (λ a. nat_eq a.master n) as') (each_found AreSmall (λ a. nat_eq a.master n) as' h)
+  where
+    by : (o : Option Activation) → IfFound AreSmall o → IsSmall (item_or Unset (slice_get (slots_in o) i))
+    by None h1 = small_get [] i tt
+    by (Some a) h1 = small_get a.slots i h1
+
+-- a cell that is written is all of its copy
+one_written : (x : ℕ) (s : Slot) → IsSmall s → overwritten 0 (x ∷ []) (copy_in s) ≡ x ∷ []
+unfolding opened_objects opened_names
+one_written x Unset h = refl
+one_written x (Holds n) h = refl
+one_written x (Binds n i p) h = refl
+one_written x (Gathers n) h = refl
+one_written x (Copies []) h = refl
+one_written x (Copies (y ∷ [])) h = refl
+one_written x (Copies (y ∷ z ∷ v)) h = absurd (omega (arith, h))
+
+-- Layers ----------------------------------------------------------------------------------------------
 
 -- each layer is one object
-abbrev pub LayersFit : List Layer → Type 0
-LayersFit [] = Unit {0}
-LayersFit (Single n ∷ xs) = LayersFit xs
-LayersFit (Sets s ∷ xs) = ⊥
+abbrev pub IsSingle : Layer → Type 0
+IsSingle (Single n) = Unit {0}
+IsSingle (Sets s) = ⊥
 
-abbrev pub MastersFit : List Master → Type 0
-MastersFit [] = Unit {0}
-MastersFit (m ∷ ms) = LayersFit m.layers × MastersFit ms
+abbrev pub AreSingle : Master → Type 0
+AreSingle m = Each IsSingle m.layers
 
-pub record Fits (k : Tables) (w : World) : Type 0 where
-  pub objects : ObjectsFit k w.objects
-  pub masters : MastersFit w.ledger.masters
-  pub block_pools : w.pools.block_pools ≡ []
-  pub mark_pools : w.pools.mark_pools ≡ []
-
--- Objects ------------------------------------------------------------------------------------------
-
-object_found : (k : Tables) (p : Object → Bool) (os : List Object) → ObjectsFit k os → FoundFits k (first_with p os)
-unfolding first_with
-object_found k p [] h = tt
-object_found k p (o ∷ os) h = one (p o) (object_found k p os h.1)
-  where
-    one : (b : Bool) → FoundFits k (first_with p os) → FoundFits k (if b then Some o else first_with p os)
-    one true rest = h.0
-    one false rest = rest
-
-pub object_fits : (k : Tables) (n : ℕ) (w : World) → Fits k w → FoundFits k (object_at n w)
-unfolding object_at object_in
-object_fits k n w h = object_found k (λ o. nat_eq o.number n) w.objects h.objects
-
-objects_and : (k : Tables) (os : List Object) (o : Object) → IsPlainType k o.ty → ObjectsFit k os → ObjectsFit k (os ++ o ∷ [])
-objects_and k [] o known h = (known, tt)
-objects_and k (p ∷ os) o known h = (h.0, objects_and k os o known h.1)
-
--- a change of objects that leaves their types as they are
-objects_changed : (k : Tables) (p : Object → Bool) (f : Object → Object) → ((o : Object) → (f o).ty ≡ o.ty) → (os : List Object) → ObjectsFit k os → ObjectsFit k (change_each p f os)
-unfolding change_each
-objects_changed k p f same [] h = tt
-objects_changed k p f same (o ∷ os) h = (one (p o), objects_changed k p f same os h.1)
-  where
-    one : (b : Bool) → IsPlainType k (if b then f o else o).ty
-    one true = subst (IsPlainType k) (sym (same o)) h.0
-    one false = h.0
-
-objects_kept : (k : Tables) (p : Object → Bool) (os : List Object) → ObjectsFit k os → ObjectsFit k (keep p os)
-unfolding keep
-objects_kept k p [] h = tt
-objects_kept k p (o ∷ os) h = one (p o) (objects_kept k p os h.1)
-  where
-    one : (b : Bool) → ObjectsFit k (keep p os) → ObjectsFit k (if b then o ∷ keep p os else keep p os)
-    one true rest = (h.0, rest)
-    one false rest = rest
-
-same_finalized : (o : Object) → (with_finalized o).ty ≡ o.ty
-unfolding with_finalized
-same_finalized o = by (is_untouched o.state)
-  where
-    by : (b : Bool) → (if b then o else record o { state = Finalized }).ty ≡ o.ty
-    by true = refl
-    by false = refl
-
--- Layers -------------------------------------------------------------------------------------------
-
--- a change of masters that leaves each layer one object
-masters_changed : (p : Master → Bool) (f : Master → Master) → ((m : Master) → LayersFit m.layers → LayersFit (f m).layers) → (ms : List Master) → MastersFit ms → MastersFit (change_each p f ms)
-unfolding change_each
-masters_changed p f fit [] h = tt
-masters_changed p f fit (m ∷ ms) h = (one (p m), masters_changed p f fit ms h.1)
-  where
-    one : (b : Bool) → LayersFit (if b then f m else m).layers
-    one true = fit m h.0
-    one false = h.0
-
-masters_kept : (p : Master → Bool) (ms : List Master) → MastersFit ms → MastersFit (keep p ms)
-unfolding keep
-masters_kept p [] h = tt
-masters_kept p (m ∷ ms) h = one (p m) (masters_kept p ms h.1)
-  where
-    one : (b : Bool) → MastersFit (keep p ms) → MastersFit (if b then m ∷ keep p ms else keep p ms)
-    one true rest = (h.0, rest)
-    one false rest = rest
-
-all_but_newest : (xs : List Layer) → LayersFit xs → LayersFit (drop 1 xs)
+all_but_newest : (xs : List Layer) → Each IsSingle xs → Each IsSingle (drop 1 xs)
 all_but_newest [] h = tt
-all_but_newest (Single n ∷ xs) h = h
-all_but_newest (Sets s ∷ xs) h = absurd h
+all_but_newest (x ∷ xs) h = h.1
 
-layers_found : (p : Master → Bool) (ms : List Master) → MastersFit ms → LayersFit (layers_in (first_with p ms))
-unfolding first_with layers_in
-layers_found p [] h = tt
-layers_found p (m ∷ ms) h = one (p m) (layers_found p ms h.1)
-  where
-    one : (b : Bool) → LayersFit (layers_in (first_with p ms)) → LayersFit (layers_in (if b then Some m else first_with p ms))
-    one true rest = h.0
-    one false rest = rest
+-- Worlds ----------------------------------------------------------------------------------------------
 
-pub layers_fit : (k : Tables) (n : ℕ) (w : World) → Fits k w → LayersFit (layers_of n w.ledger)
-unfolding opened_ledger
-layers_fit k n w h = layers_found (λ m. nat_eq m.number n) w.ledger.masters h.masters
+-- the operations of a type are declared in so many masters
+abbrev pub IsInside : Code → Ty → ℕ → Type 0
+IsInside code (Record t) n = IsDeclarable code n t
+IsInside code ty n = Unit {0}
 
--- Worlds -------------------------------------------------------------------------------------------
+module _ (k : Tables) (code : Code) where
+  -- where the next master has this number, and these are active
+  pub record Settled (next : ℕ) (as' : List Activation) (o : Object) : Type 0 where
+    pub plain : IsPlainType k o.ty
+    pub master : ℕ
+    pub origin : o.origin ≡ Declared master
+    pub old : master < next
+    pub inside : IsInside code o.ty (length (home master as'))
 
-pub fits_empty : (k : Tables) → Fits k empty_world
-unfolding opened_world
-fits_empty k = record { objects = tt; masters = tt; block_pools = refl; mark_pools = refl }
+  pub record Fits (w : World) : Type 0 where
+    pub objects : Each (Settled w.ledger.next_master w.activations) w.objects
+    pub numbers : Each (λ o. o.number < w.ledger.next_object) w.objects
+    pub masters : Each AreSingle w.ledger.masters
+    pub copies : Each AreSmall w.activations
+    pub block_pools : w.pools.block_pools ≡ []
+    pub mark_pools : w.pools.mark_pools ≡ []
 
-pub fits_open : (k : Tables) (d : List ℕ) (slots : List Slot) (w : World) → Fits k w → Fits k (open_master d slots w)
-unfolding opened_changes opened_ledger
-fits_open k d slots w h = record { objects = h.objects; masters = (tt, h.masters); block_pools = h.block_pools; mark_pools = h.mark_pools }
+  -- since an earlier world each master of that time has kept its display
+  pub record Keeps (w0 w : World) : Type 0 where
+    pub later : w0.ledger.next_master ≤ w.ledger.next_master
+    pub homes : (n : ℕ) → n < w0.ledger.next_master → home n w.activations ≡ home n w0.activations
 
-pub fits_number : (k : Tables) (w : World) → Fits k w → Fits k (take_object_number w)
-unfolding opened_changes opened_ledger
-fits_number k w h = record { objects = h.objects; masters = h.masters; block_pools = h.block_pools; mark_pools = h.mark_pools }
+  abbrev pub Since : World → World → Type 0
+  Since w0 w = Fits w × Keeps w0 w
 
-pub fits_create : (k : Tables) (ty : Ty) (cells : List ℕ) (origin : Origin) (w : World) → IsPlainType k ty → Fits k w → Fits k (create ty cells origin w)
-unfolding opened_changes opened_ledger
-fits_create k ty cells origin w known h = record { objects = objects_and k w.objects _ known h.objects; masters = h.masters; block_pools = h.block_pools; mark_pools = h.mark_pools }
+  abbrev pub Kept : World → Option Way → World → Type 0
+  Kept w0 y w = Since w0 w
 
-pub fits_slot : (k : Tables) (n i : ℕ) (x : Slot) (w : World) → Fits k w → Fits k (set_slot n i x w)
-unfolding opened_changes
-fits_slot k n i x w h = record { objects = h.objects; masters = h.masters; block_pools = h.block_pools; mark_pools = h.mark_pools }
+  pub keeps_itself : (w : World) → Keeps w w
+  keeps_itself w = record { later = omega arith; homes = λ n lt. refl }
 
-pub fits_layer : (k : Tables) (m n : ℕ) (w : World) → Fits k w → Fits k (add_layer m (Single n) w)
-unfolding opened_changes opened_ledger
-fits_layer k m n w h = record { objects = h.objects; masters = masters_changed _ (with_layer (Single n)) (λ x y. y) w.ledger.masters h.masters; block_pools = h.block_pools; mark_pools = h.mark_pools }
+  pub keeps_on : (w0 w w1 : World) → Keeps w0 w → Keeps w w1 → Keeps w0 w1
+  keeps_on w0 w w1 a b = record { later = omega (arith, a.later, b.later); homes = λ n lt. b.homes n (omega (arith, lt, a.later)) ∙ a.homes n lt }
 
-pub fits_take : (k : Tables) (m : ℕ) (w : World) → Fits k w → Fits k (take_layer m w)
-unfolding opened_changes opened_ledger
-fits_take k m w h = record { objects = h.objects; masters = masters_changed _ without_newest (λ x y. all_but_newest x.layers y) w.ledger.masters h.masters; block_pools = h.block_pools; mark_pools = h.mark_pools }
+  settled_in : (next next1 : ℕ) (as' bs : List Activation) → next ≤ next1 → ((n : ℕ) → n < next → home n bs ≡ home n as') → (o : Object) → Settled next as' o → Settled next1 bs o
+  settled_in next next1 as' bs le same o h = record { plain = h.plain; master = h.master; origin = h.origin; old = omega (arith, h.old, le); inside = subst (λ d. IsInside code o.ty (length d)) (sym (same h.master h.old)) h.inside }
 
-pub fits_begin : (k : Tables) (n : ℕ) (w : World) → Fits k w → Fits k (begin_finalization n w)
-unfolding opened_changes opened_ledger opened_objects
-fits_begin k n w h = record { objects = objects_changed k _ with_begun (λ o. refl) w.objects h.objects; masters = h.masters; block_pools = h.block_pools; mark_pools = h.mark_pools }
+  pub object_fits : (n : ℕ) (w : World) → Fits w → IfFound (Settled w.ledger.next_master w.activations) (object_at n w)
+  unfolding object_at object_in
+  object_fits n w h = each_found (Settled w.ledger.next_master w.activations) (λ o. nat_eq o.number n) w.objects h.objects
 
-pub fits_end : (k : Tables) (n : ℕ) (w : World) → Fits k w → Fits k (end_finalization n w)
-unfolding opened_changes opened_objects
-fits_end k n w h = record { objects = objects_changed k _ with_finalized same_finalized w.objects h.objects; masters = h.masters; block_pools = h.block_pools; mark_pools = h.mark_pools }
+  pub layers_fit : (n : ℕ) (w : World) → Fits w → Each IsSingle (layers_of n w.ledger)
+  unfolding opened_ledger
+  layers_fit n w h = by (first_with (λ m. nat_eq m.number n) w.ledger.masters) (each_found AreSingle (λ m. nat_eq m.number n) w.ledger.masters h.masters)
+    where
+      by : (o : Option Master) → IfFound AreSingle o → Each IsSingle (layers_in o)
+      by None h1 = tt
+      by (Some m) h1 = h1
 
-pub fits_close : (k : Tables) (n : ℕ) (w : World) → Fits k w → Fits k (close_master n w)
-unfolding opened_changes opened_ledger keep_pools opened_lists
-fits_close k n w h = record { objects = objects_kept k _ w.objects h.objects; masters = masters_kept (λ m. not (nat_eq m.number n)) w.ledger.masters h.masters; block_pools = ap (keep _) h.block_pools; mark_pools = ap (keep _) h.mark_pools }
+  pub fits_empty : Fits empty_world
+  unfolding opened_world
+  fits_empty = record { objects = tt; numbers = tt; masters = tt; copies = tt; block_pools = refl; mark_pools = refl }
+
+  fits_number : (w : World) → Fits w → Fits (take_object_number w)
+  unfolding opened_changes opened_ledger
+  fits_number w h = record { objects = h.objects; numbers = each_all (λ o. o.number < w.ledger.next_object) (λ o. o.number < w.ledger.next_object + 1) (λ o lt. omega (arith, lt)) w.objects h.numbers; masters = h.masters; copies = h.copies; block_pools = h.block_pools; mark_pools = h.mark_pools }
+
+  pub since_number : (w0 w : World) → Since w0 w → Since w0 (take_object_number w)
+  unfolding opened_changes opened_ledger
+  since_number w0 w h = (fits_number w h.0, record { later = h.1.later; homes = h.1.homes })
+
+  fits_slot : (n i : ℕ) (x : Slot) (w : World) → IsSmall x → Fits w → Fits (set_slot n i x w)
+  unfolding opened_changes opened_activations
+  fits_slot n i x w small h = record {
+    objects = each_all (Settled w.ledger.next_master w.activations) (Settled w.ledger.next_master (change_each (λ a. nat_eq a.master n) (with_slot i x) w.activations)) (settled_in w.ledger.next_master w.ledger.next_master w.activations _ (omega arith) (λ m lt. home_slot m n i x w.activations)) w.objects h.objects;
+    numbers = h.numbers;
+    masters = h.masters;
+    copies = each_changed AreSmall _ (with_slot i x) (λ a y. small_set a.slots i x small y) w.activations h.copies;
+    block_pools = h.block_pools;
+    mark_pools = h.mark_pools;
+  }
+
+  pub since_slot : (n i : ℕ) (x : Slot) (w0 w : World) → IsSmall x → Since w0 w → Since w0 (set_slot n i x w)
+  unfolding opened_changes opened_activations
+  since_slot n i x w0 w small h = (fits_slot n i x w small h.0, record { later = h.1.later; homes = λ m lt. home_slot m n i x w.activations ∙ h.1.homes m lt })
+
+  -- the copy in a slot is written
+  pub written_is : (n i x : ℕ) (w : World) → Fits w → overwritten 0 (x ∷ []) (copy_in (slot_at n i w)) ≡ x ∷ []
+  unfolding slot_at opened_activations
+  written_is n i x w h = one_written x _ (small_in n i w.activations h.copies)
+
+  pub fits_create : (ty : Ty) (cells : List ℕ) (m : ℕ) (w : World) → IsPlainType k ty → m < w.ledger.next_master → IsInside code ty (length (home m w.activations)) → Fits w → Fits (create ty cells (Declared m) w)
+  unfolding opened_changes opened_ledger
+  fits_create ty cells m w known old inside h = record {
+    objects = each_and (Settled w.ledger.next_master w.activations) w.objects _ (record { plain = known; master = m; origin = refl; old = old; inside = inside }) h.objects;
+    numbers = each_and (λ o. o.number < w.ledger.next_object + 1) w.objects _ (omega arith) (each_all (λ o. o.number < w.ledger.next_object) (λ o. o.number < w.ledger.next_object + 1) (λ o lt. omega (arith, lt)) w.objects h.numbers);
+    masters = h.masters;
+    copies = h.copies;
+    block_pools = h.block_pools;
+    mark_pools = h.mark_pools;
+  }
+
+  pub since_create : (ty : Ty) (cells : List ℕ) (m : ℕ) (w0 w : World) → IsPlainType k ty → m < w.ledger.next_master → IsInside code ty (length (home m w.activations)) → Since w0 w → Since w0 (create ty cells (Declared m) w)
+  unfolding opened_changes opened_ledger
+  since_create ty cells m w0 w known old inside h = (fits_create ty cells m w known old inside h.0, record { later = h.1.later; homes = h.1.homes })
+
+  pub since_layer : (m n : ℕ) (w0 w : World) → Since w0 w → Since w0 (add_layer m (Single n) w)
+  unfolding opened_changes opened_ledger
+  since_layer m n w0 w h = (record { objects = h.0.objects; numbers = h.0.numbers; masters = each_changed AreSingle _ (with_layer (Single n)) (λ x y. (tt, y)) w.ledger.masters h.0.masters; copies = h.0.copies; block_pools = h.0.block_pools; mark_pools = h.0.mark_pools }, record { later = h.1.later; homes = h.1.homes })
+
+  pub since_take : (m : ℕ) (w0 w : World) → Since w0 w → Since w0 (take_layer m w)
+  unfolding opened_changes opened_ledger
+  since_take m w0 w h = (record { objects = h.0.objects; numbers = h.0.numbers; masters = each_changed AreSingle _ without_newest (λ x y. all_but_newest x.layers y) w.ledger.masters h.0.masters; copies = h.0.copies; block_pools = h.0.block_pools; mark_pools = h.0.mark_pools }, record { later = h.1.later; homes = h.1.homes })
+
+  same_finalized : (o : Object) → (with_finalized o).ty ≡ o.ty
+  unfolding with_finalized
+  same_finalized o = by (is_untouched o.state)
+    where
+      by : (b : Bool) → (if b then o else record o { state = Finalized }).ty ≡ o.ty
+      by true = refl
+      by false = refl
+
+  same_number : (o : Object) → (with_finalized o).number ≡ o.number
+  unfolding with_finalized
+  same_number o = by (is_untouched o.state)
+    where
+      by : (b : Bool) → (if b then o else record o { state = Finalized }).number ≡ o.number
+      by true = refl
+      by false = refl
+
+  same_origin : (o : Object) → (with_finalized o).origin ≡ o.origin
+  unfolding with_finalized
+  same_origin o = by (is_untouched o.state)
+    where
+      by : (b : Bool) → (if b then o else record o { state = Finalized }).origin ≡ o.origin
+      by true = refl
+      by false = refl
+
+  settled_as : (next : ℕ) (as' : List Activation) (o p : Object) → p.ty ≡ o.ty → p.origin ≡ o.origin → Settled next as' o → Settled next as' p
+  settled_as next as' o p ty origin h = record { plain = subst (IsPlainType k) (sym ty) h.plain; master = h.master; origin = origin ∙ h.origin; old = h.old; inside = subst (λ t. IsInside code t (length (home h.master as'))) (sym ty) h.inside }
+
+  pub since_begin : (n : ℕ) (w0 w : World) → Since w0 w → Since w0 (begin_finalization n w)
+  unfolding opened_changes opened_objects
+  since_begin n w0 w h = (record { objects = each_changed (Settled w.ledger.next_master w.activations) _ with_begun (λ o y. settled_as w.ledger.next_master w.activations o (with_begun o) refl refl y) w.objects h.0.objects; numbers = each_changed (λ o. o.number < w.ledger.next_object) _ with_begun (λ o y. y) w.objects h.0.numbers; masters = h.0.masters; copies = h.0.copies; block_pools = h.0.block_pools; mark_pools = h.0.mark_pools }, record { later = h.1.later; homes = h.1.homes })
+
+  pub since_end : (n : ℕ) (w0 w : World) → Since w0 w → Since w0 (end_finalization n w)
+  unfolding opened_changes opened_objects
+  since_end n w0 w h = (record { objects = each_changed (Settled w.ledger.next_master w.activations) _ with_finalized (λ o y. settled_as w.ledger.next_master w.activations o (with_finalized o) (same_finalized o) (same_origin o) y) w.objects h.0.objects; numbers = each_changed (λ o. o.number < w.ledger.next_object) _ with_finalized (λ o y. subst (λ m. m < w.ledger.next_object) (sym (same_number o)) y) w.objects h.0.numbers; masters = h.0.masters; copies = h.0.copies; block_pools = h.0.block_pools; mark_pools = h.0.mark_pools }, record { later = h.1.later; homes = h.1.homes })
+
+  -- a master is entered ------------------------------------------------------------------------------
+
+  home_open : (n : ℕ) (d : List ℕ) (slots : List Slot) (w : World) → n < w.ledger.next_master → home n (open_master d slots w).activations ≡ home n w.activations
+  unfolding opened_changes opened_activations opened_lists
+  home_open n d slots w lt = by (nat_eq w.ledger.next_master n) refl
+    where
+      by : (b : Bool) → nat_eq w.ledger.next_master n ≡ b → display_in (if b then Some (record { master = w.ledger.next_master; display = d ++ w.ledger.next_master ∷ []; slots = slots }) else first_with (λ a. nat_eq a.master n) w.activations) ≡ home n w.activations
+      by true e = absurd (let same = eqb-true w.ledger.next_master n e in omega (arith, same, lt))
+      by false e = refl
+
+  pub home_new : (d : List ℕ) (slots : List Slot) (w : World) → home w.ledger.next_master (open_master d slots w).activations ≡ d ++ w.ledger.next_master ∷ []
+  unfolding opened_changes opened_activations opened_lists
+  home_new d slots w = ap (λ b. display_in (if b then Some (record { master = w.ledger.next_master; display = d ++ w.ledger.next_master ∷ []; slots = slots }) else first_with (λ a. nat_eq a.master w.ledger.next_master) w.activations)) (eq-eqb w.ledger.next_master w.ledger.next_master refl)
+
+  pub keeps_open : (d : List ℕ) (slots : List Slot) (w : World) → Keeps w (open_master d slots w)
+  unfolding open_master opened_ledger
+  keeps_open d slots w = record { later = omega arith; homes = λ n lt. home_open n d slots w lt }
+
+  pub fits_open : (d : List ℕ) (slots : List Slot) (w : World) → Each IsSmall slots → Fits w → Fits (open_master d slots w)
+  unfolding open_master opened_ledger opened_activations
+  fits_open d slots w small h = record {
+    objects = each_all (Settled w.ledger.next_master w.activations) (Settled (w.ledger.next_master + 1) (open_master d slots w).activations) (settled_in w.ledger.next_master (w.ledger.next_master + 1) w.activations (open_master d slots w).activations (omega arith) (λ n lt. home_open n d slots w lt)) w.objects h.objects;
+    numbers = h.numbers;
+    masters = (tt, h.masters);
+    copies = (small, h.copies);
+    block_pools = h.block_pools;
+    mark_pools = h.mark_pools;
+  }
+
+  -- and left: no object of it is left behind
+  fits_close : (m : ℕ) (w : World) → Fits w → Fits (close_master m w)
+  unfolding opened_changes opened_ledger opened_activations opened_objects keep_pools opened_lists
+  fits_close m w h = record {
+    objects = each_kept (Settled w.ledger.next_master w.activations) (Settled w.ledger.next_master (keep (λ a. not (nat_eq a.master m)) w.activations)) _ left w.objects h.objects;
+    numbers = each_kept (λ o. o.number < w.ledger.next_object) (λ o. o.number < w.ledger.next_object) _ (λ o e y. y) w.objects h.numbers;
+    masters = each_kept AreSingle AreSingle (λ x. not (nat_eq x.number m)) (λ x e y. y) w.ledger.masters h.masters;
+    copies = each_kept AreSmall AreSmall (λ a. not (nat_eq a.master m)) (λ x e y. y) w.activations h.copies;
+    block_pools = ap (keep _) h.block_pools;
+    mark_pools = ap (keep _) h.mark_pools;
+  }
+    where
+      other : (o : Origin) (n : ℕ) → o ≡ Declared n → not (ends_with m w o) ≡ true → nat_eq m n ≡ false
+      other (Declared x) n is e = by (nat_eq x m) refl e
+        where
+          by : (b : Bool) → nat_eq x m ≡ b → not b ≡ true → nat_eq m n ≡ false
+          by true e1 e2 = absurd (cc)
+          by false e1 e2 =
+              let same : x ≡ n = cc is in
+              ne_eqb m n (λ e3. eqb-false x m e1 (same ∙ sym e3))
+      other (Allocated s p) n is e = absurd (cc)
+
+      left : (o : Object) → not (ends_with m w o.origin) ≡ true → Settled w.ledger.next_master w.activations o → Settled w.ledger.next_master (keep (λ a. not (nat_eq a.master m)) w.activations) o
+      left o e y = record { plain = y.plain; master = y.master; origin = y.origin; old = y.old; inside = subst (λ d. IsInside code o.ty (length d)) (sym (home_kept y.master m (other o.origin y.master y.origin e) w.activations)) y.inside }
+
+  -- a master that is younger than a world
+  pub since_close : (m : ℕ) (w0 w : World) → w0.ledger.next_master ≤ m → Since w0 w → Since w0 (close_master m w)
+  unfolding opened_changes opened_ledger opened_activations
+  since_close m w0 w young h = (fits_close m w h.0, record { later = h.1.later; homes = λ n lt. home_kept n m (ne_eqb m n (λ e. absurd (omega (arith, e, lt, young)))) w.activations ∙ h.1.homes n lt })
+
+  -- the object that was created is the one of its number
+  new_found : (n : ℕ) (os : List Object) (x o : Object) → Each (λ p. p.number < n) os → first_with (λ p. nat_eq p.number n) (os ++ x ∷ []) ≡ Some o → o.ty ≡ x.ty
+  unfolding opened_lists
+  new_found n [] x o h e = by (nat_eq x.number n) e
+    where
+      by : (b : Bool) → (if b then Some x else None) ≡ Some o → o.ty ≡ x.ty
+      by true e1 = let same : x ≡ o = cc e1 in sym (ap (λ (y : Object). y.ty) same)
+      by false e1 = absurd (cc e1)
+  new_found n (p ∷ os) x o h e = by (nat_eq p.number n) refl (new_found n os x o h.1) e
+    where
+      by : (b : Bool) → nat_eq p.number n ≡ b → (first_with (λ q. nat_eq q.number n) (os ++ x ∷ []) ≡ Some o → o.ty ≡ x.ty) → (if b then Some p else first_with (λ q. nat_eq q.number n) (os ++ x ∷ [])) ≡ Some o → o.ty ≡ x.ty
+      by true is rest e1 = absurd (let same = eqb-true p.number n is in let lt = h.0 in omega (arith, same, lt))
+      by false is rest e1 = rest e1
+
+  pub created_ty : (ty : Ty) (cells : List ℕ) (m slot : ℕ) (w : World) → Fits w → (o : Object) → object_at w.ledger.next_object (set_slot m slot (Holds w.ledger.next_object) (create ty cells (Declared m) w)) ≡ Some o → o.ty ≡ ty
+  unfolding opened_changes object_in
+  created_ty ty cells m slot w h o e = new_found w.ledger.next_object w.objects _ o h.numbers e

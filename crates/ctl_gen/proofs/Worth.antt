@@ -1,31 +1,57 @@
--- What an expression comes to where it changes nothing, and what follows it.
-use Rattle.std.proofs.Common.{◌≡◌, ℕ, ◌+◌, ◌≤◌, List, [], ◌∷◌, sym, subst}
+-- What follows an expression, with its one cell or where it leaves. What else it does to the world is not spoken of.
+use Rattle.std.proofs.Common.{◌≡◌, ℕ, ◌+◌, ◌≤◌, List, [], ◌∷◌, Option, Some, None, sym, ap, ◌∙◌, subst, arith}
 use Rattle.ctl_meaning.specs.World.{Log, World}
 use Rattle.ctl_meaning.specs.Choice.{Ask}
-use Rattle.ctl_meaning.specs.Outcome.{constraint_error, ByRaise, Result, Goes, Leaves, Out, Gives, Act, bind}
+use Rattle.ctl_meaning.specs.Outcome.{Way, ByExit, ByReturn, ByRaise, Result, Goes, Leaves, Out, Gives, Stops, Cut, Act, add, bind, on_goes, given}
 use Rattle.ctl_code.specs.declared.code.Code.{Code}
 use Rattle.ctl_code.specs.States.{State}
-use Rattle.ctl_gen.proofs.Follow.{Runs, after_comes}
+use Rattle.ctl_gen.proofs.Cells.{IsCell}
+use Rattle.ctl_gen.proofs.Follow.{Runs, after_comes, added, bind_add}
 
--- what an expression comes to, with its ticks
-pub data Worth : Type 0 where
-  Is : (cell ticks : ℕ) → Worth
-  Fails : (ticks : ℕ) → Worth
+-- more ticks leave it one cell
+pub cell_later : (P : ℕ → World → Type 0) (t : ℕ) (o : Out (List ℕ)) → IsCell P o → IsCell P (add t o)
+unfolding add
+cell_later P t (Gives (Goes u) v c l w) h = h
+cell_later P t (Gives (Leaves ByExit) v c l w) h = absurd h
+cell_later P t (Gives (Leaves (ByReturn y)) v c l w) h = absurd h
+cell_later P t (Gives (Leaves (ByRaise y)) v c l w) h = tt
+cell_later P t (Stops s v l) h = tt
+cell_later P t (Cut v c l) h = tt
 
-abbrev pub out_of : Worth → ℕ → Log → World → Out (List ℕ)
-out_of (Is n t) c l w = Gives (Goes (n ∷ [])) t c l w
-out_of (Fails t) c l w = Gives (Leaves (ByRaise constraint_error)) t c l w
+pub cell_then : (P Q : ℕ → World → Type 0) (o : Out (List ℕ)) (f : List ℕ → Act (List ℕ)) → IsCell P o → ((n c : ℕ) (l : Log) (w : World) → P n w → IsCell Q (f (n ∷ []) c l w)) → IsCell Q (bind o (on_goes f))
+unfolding bind on_goes add given
+cell_then P Q (Gives (Goes u) t c l w) f h z = cell_later Q t (f u c l w) (subst (λ v. IsCell Q (f v c l w)) (sym h.1) (z h.0 c l w h.2))
+cell_then P Q (Gives (Leaves ByExit) t c l w) f h z = absurd h
+cell_then P Q (Gives (Leaves (ByReturn y)) t c l w) f h z = absurd h
+cell_then P Q (Gives (Leaves (ByRaise y)) t c l w) f h z = tt
+cell_then P Q (Stops s t l) f h z = tt
+cell_then P Q (Cut t c l) f h z = tt
 
--- one of these, with nothing else changed
-abbrev pub IsPlain : ℕ → Log → World → Out (List ℕ) → Type 0
-IsPlain c l w o = (x : Worth) × (o ≡ out_of x c l w)
+-- whatever was there before
+pub cell_always : (P Q : ℕ → World → Type 0) (o : Out (List ℕ)) (f : List ℕ → Act (List ℕ)) → IsCell P o → ((u : List ℕ) (c : ℕ) (l : Log) (w : World) → IsCell Q (f u c l w)) → IsCell Q (bind o (on_goes f))
+unfolding bind on_goes add given
+cell_always P Q (Gives (Goes u) t c l w) f h z = cell_later Q t (f u c l w) (z u c l w)
+cell_always P Q (Gives (Leaves ByExit) t c l w) f h z = absurd h
+cell_always P Q (Gives (Leaves (ByReturn y)) t c l w) f h z = absurd h
+cell_always P Q (Gives (Leaves (ByRaise y)) t c l w) f h z = tt
+cell_always P Q (Stops s t l) f h z = tt
+cell_always P Q (Cut t c l) f h z = tt
 
--- an expression, and what follows it with its value, or the exception
-module _ (ask : Ask) (code : Code) (Fits : World → Type 0) where
-  pub both_plain : {B : Type 0} (b h b1 h1 d e : ℕ) (s : State) (c : ℕ) (l : Log) (w : World) (mid : Result (List ℕ) → Log → World → State) (next : Result B → Log → World → State) (o : Out (List ℕ)) (f : Result (List ℕ) → Act B) → b + b1 ≤ d → h ≤ e → b + h1 ≤ e → IsPlain c l w o → Runs ask code Fits b h s c mid o → ((n : ℕ) → Fits w → Runs ask code Fits b1 h1 (mid (Goes (n ∷ [])) l w) c next (f (Goes (n ∷ [])) c l w)) → (Fits w → Runs ask code Fits b1 h1 (mid (Leaves (ByRaise constraint_error)) l w) c next (f (Leaves (ByRaise constraint_error)) c l w)) → Runs ask code Fits d e s c next (bind o f)
+module _ (ask : Ask) (code : Code) (Fits : Option Way → World → Type 0) where
+  pub both_cell : {B : Type 0} (P : ℕ → World → Type 0) (b h b1 h1 d e : ℕ) (s : State) (c : ℕ) (mid : Result (List ℕ) → Log → World → State) (next : Result B → Log → World → State) (o : Out (List ℕ)) (f : Result (List ℕ) → Act B) → b + b1 ≤ d → h ≤ e → b + h1 ≤ e → IsCell P o → Runs ask code Fits b h s c mid o → ((n c1 : ℕ) (l : Log) (w : World) → c1 ≤ c → Fits None w → P n w → Runs ask code Fits b1 h1 (mid (Goes (n ∷ [])) l w) c1 next (f (Goes (n ∷ [])) c1 l w)) → ((y c1 : ℕ) (l : Log) (w : World) → c1 ≤ c → Fits (Some (ByRaise y)) w → Runs ask code Fits b1 h1 (mid (Leaves (ByRaise y)) l w) c1 next (f (Leaves (ByRaise y)) c1 l w)) → Runs ask code Fits d e s c next (bind o f)
   unfolding bind
-  both_plain b h b1 h1 d e s c l w mid next o f le he fe (x, is) a z y = subst (λ o1. Runs ask code Fits d e s c next (bind o1 f)) (sym is) (by x (subst (λ o1. Runs ask code Fits b h s c mid o1) is a))
-    where
-      by : (x1 : Worth) → Runs ask code Fits b h s c mid (out_of x1 c l w) → Runs ask code Fits d e s c next (bind (out_of x1 c l w) f)
-      by (Is n t) a1 = after_comes ask code Fits b b1 h1 d e s (mid (Goes (n ∷ [])) l w) c c t w next (f (Goes (n ∷ [])) c l w) le fe a1 (z n a1.fits)
-      by (Fails t) a1 = after_comes ask code Fits b b1 h1 d e s (mid (Leaves (ByRaise constraint_error)) l w) c c t w next (f (Leaves (ByRaise constraint_error)) c l w) le fe a1 (y a1.fits)
+  both_cell P b h b1 h1 d e s c mid next (Gives (Goes u) t c1 l w) f le he fe is a z y =
+      after_comes ask code Fits b b1 h1 d e s (mid (Goes u) l w) c c1 t next (f (Goes u) c1 l w) le fe a
+      (subst (λ v. Runs ask code Fits b1 h1 (mid (Goes v) l w) c1 next (f (Goes v) c1 l w)) (sym is.1) (z is.0 c1 l w a.falls a.fits is.2))
+  both_cell P b h b1 h1 d e s c mid next (Gives (Leaves ByExit) t c1 l w) f le he fe is a z y = absurd is
+  both_cell P b h b1 h1 d e s c mid next (Gives (Leaves (ByReturn x)) t c1 l w) f le he fe is a z y = absurd is
+  both_cell P b h b1 h1 d e s c mid next (Gives (Leaves (ByRaise x)) t c1 l w) f le he fe is a z y = after_comes ask code Fits b b1 h1 d e s (mid (Leaves (ByRaise x)) l w) c c1 t next (f (Leaves (ByRaise x)) c1 l w) le fe a (y x c1 l w a.falls a.fits)
+  both_cell P b h b1 h1 d e s c mid next (Stops why t l) f le he fe is a z y = record { n = a.n; in_time = omega (arith, a.in_time, he); logged = a.logged; over = a.over }
+  both_cell P b h b1 h1 d e s c mid next (Cut t c1 l) f le he fe is a z y = record { n = a.n; in_time = omega (arith, a.in_time, he); logged = a.logged; going = a.going; why = a.why }
+
+  -- an expression whose first tick pays all but eight steps, of its own and of what follows
+  pub then_paid : {B : Type 0} (P : ℕ → World → Type 0) (s : State) (c : ℕ) (mid : Result (List ℕ) → Log → World → State) (next : Result B → Log → World → State) (o out : Out (List ℕ)) (f : Result (List ℕ) → Act B) → o ≡ add 1 out → IsCell P out → Runs ask code Fits 8 8 s c mid out → ((n c1 : ℕ) (l : Log) (w : World) → c1 ≤ c → Fits None w → P n w → Runs ask code Fits 8 8 (mid (Goes (n ∷ [])) l w) c1 next (f (Goes (n ∷ [])) c1 l w)) → ((y c1 : ℕ) (l : Log) (w : World) → c1 ≤ c → Fits (Some (ByRaise y)) w → Runs ask code Fits 8 8 (mid (Leaves (ByRaise y)) l w) c1 next (f (Leaves (ByRaise y)) c1 l w)) → Runs ask code Fits 0 0 s c next (bind o f)
+  then_paid P s c mid next o out f is cells a z y =
+      subst (λ q. Runs ask code Fits 0 0 s c next q) (sym (ap (λ q. bind q f) is ∙ bind_add 1 out f))
+      (added ask code Fits 1 16 16 0 0 s c next (bind out f) (omega arith) (omega arith)
+      (both_cell P 8 8 8 8 16 16 s c mid next out f (omega arith) (omega arith) (omega arith) cells a z y))

@@ -1,3 +1,4 @@
+pub mod Around
 pub mod Emitted
 pub mod Values
 pub mod Texts

@@ -1,8 +1,12 @@
 //! The instructions of masters, items and statements.
+//!
+//! An exit statement leads to the landing of the innermost loop of its master, or out of the master: `landing` is the place of the one, or
+//! None.
 
-ghost use Rattle.std.specs.Prelude.{◌≡◌, ◌<◌, ◌-◌, IfOk, length, map, option_map, OnOk};
+ghost use Rattle.std.specs.Prelude.{◌≡◌, ◌≤◌, ◌-◌, [], IfOk, length, map, option_map, OnOk, None, Some};
 ghost use Rattle.std.specs.Option.{ForSome};
-ghost use Rattle.ctl_gen.specs.Emitted.{appended, followed, over};
+ghost use Rattle.ctl_gen.specs.Around as cells;
+ghost use Rattle.ctl_gen.specs.Emitted.{appended, first_end, further_arms, lined, open_arms, repeated, skipping, standing, stated, without_image, without_images};
 ghost use Rattle.ctl_gen.specs.Values as values;
 ghost use Rattle.ctl_gen.specs.Texts as texts;
 ghost use Rattle.ctl_gen.specs.Layout as spec;
@@ -14,24 +18,37 @@ use ctl_code::code::Instr;
 use ctl_code::kinds::Kind;
 use ctl_program::expression::{Expr, Name};
 use ctl_program::operators::Direction;
+use ctl_program::program::Subprogram;
 use ctl_program::statement::{Arm, Item, Master, Piece, Stmt};
 use ctl_program::types::{Ty, Var};
 use std::alloc::AllocError;
 
 impl Emitter {
+    /// Emits the body of a subprogram, whose window begins with its slots.
+    pub fn body(&mut self, subprogram: &Subprogram) -> Result<(), AllocError>
+        requires { self.old.notes.standing ≡ [] }
+        ensures { OnOk result (self.new ≡ stated (spec.body_code subprogram.now) None self.old) }
+    {
+        let (level, slots) = (subprogram.level, subprogram.body.slots);
+        self.enter(Kind::Body { level, slots })?;
+        self.master(&subprogram.body)?;
+        self.leave();
+        Ok(())
+    }
+
     /// Emits a master's items, its statements, and their end.
     #[cycle(emit)]
     pub fn master(&mut self, master: &Master) -> Result<(), AllocError>
-        ensures { OnOk result (self.new ≡ appended (spec.statement (spec.master_code master.now).inside) self.old) }
+        ensures { OnOk result (self.new ≡ stated (spec.master_code master.now).inside None self.old) }
     {
         self.items(master.items.as_slice())?;
-        self.statements(master.body.as_slice())?;
+        self.statements(master.body.as_slice(), None)?;
         self.put(Instr::Leave)
     }
 
     /// Emits the items of a declarative part.
     fn items(&mut self, items: &[Item]) -> Result<(), AllocError>
-        ensures { OnOk result (self.new ≡ followed (spec.items (spec.all_items (map spec.item_code items.now))) self.old) }
+        ensures { OnOk result (self.new ≡ lined (spec.all_items (map spec.item_code items.now)).code self.old) }
     {
         for item in items {
             self.item(item)?;
@@ -41,7 +58,7 @@ impl Emitter {
 
     /// Emits an item of a declarative part.
     fn item(&mut self, item: &Item) -> Result<(), AllocError>
-        ensures { OnOk result (self.new ≡ followed (spec.items (spec.item_code item.now)) self.old) }
+        ensures { OnOk result (self.new ≡ lined (spec.item_code item.now).code self.old) }
     {
         match item {
             Item::Object(slot, ty, value) => self.object(*slot, *ty, value),
@@ -52,32 +69,59 @@ impl Emitter {
 
     /// Emits the declaration of an object, with its value if it has one.
     fn object(&mut self, slot: usize, ty: Ty, value: &Option<Expr>) -> Result<(), AllocError>
-        ensures { OnOk result (self.new ≡ followed (spec.items (spec.object slot ty (option_map values.value_code value.now))) self.old) }
+        ensures { OnOk result (self.new ≡ lined (spec.object slot ty (option_map values.value_code value.now)).code self.old) }
     {
         match value {
-            None => self.put(declaration(slot, ty)),
-            Some(value) => {
-                self.expression(ty, value)?;
-                self.take(Instr::DeclareValue(slot, ty))
+            None => self.declaration(slot, ty),
+            Some(value) => self.valued(slot, ty, value),
+        }
+    }
+
+    /// Emits the declaration of an object without a value: of a record type, or an elementary one.
+    fn declaration(&mut self, slot: usize, ty: Ty) -> Result<(), AllocError>
+        ensures { OnOk result (self.new ≡ lined (spec.declaration slot ty) self.old) }
+    {
+        match ty {
+            Ty::Record(record) => self.put(Instr::Declare { slot, record }),
+            Ty::Integer | Ty::Count | Ty::Boolean | Ty::Address | Ty::Handle | Ty::Access(_) => {
+                let Some(to) = self.newest_cell(slot) else {
+                    return self.put(Instr::Missing);
+                };
+                let value = 0;
+                self.put(Instr::Set { value, ty, to })?;
+                self.put(Instr::Number)
             }
         }
     }
 
+    /// Emits the declaration of an elementary variable with a value.
+    fn valued(&mut self, slot: usize, ty: Ty, value: &Expr) -> Result<(), AllocError>
+        ensures { OnOk result (self.new ≡ lined (spec.object slot ty (Some (values.value_code value.now))).code self.old) }
+    {
+        let Some(to) = self.newest_cell(slot) else {
+            return self.put(Instr::Missing);
+        };
+        self.expression(to, ty, value)?;
+        self.put(Instr::Number)
+    }
+
     /// Emits statements, each in turn.
     #[cycle(emit)]
-    fn statements(&mut self, statements: &[Stmt]) -> Result<(), AllocError>
-        ensures { OnOk result (self.new ≡ appended (spec.statement (spec.all (map spec.statement_code statements.now))) self.old) }
+    fn statements(&mut self, statements: &[Stmt], landing: Option<usize>) -> Result<(), AllocError>
+        requires { ForSome landing (λ at. at ≤ length self.old.instructions) }
+        ensures { OnOk result (self.new ≡ stated (spec.all (map spec.statement_code statements.now)) landing self.old) }
     {
         for statement in statements {
-            self.statement(statement)?;
+            self.statement(statement, landing)?;
         }
         Ok(())
     }
 
     /// Emits a statement.
     #[cycle(emit)]
-    fn statement(&mut self, statement: &Stmt) -> Result<(), AllocError>
-        ensures { OnOk result (self.new ≡ appended (spec.statement (spec.statement_code statement.now)) self.old) }
+    fn statement(&mut self, statement: &Stmt, landing: Option<usize>) -> Result<(), AllocError>
+        requires { ForSome landing (λ at. at ≤ length self.old.instructions) }
+        ensures { OnOk result (self.new ≡ stated (spec.statement_code statement.now) landing self.old) }
     {
         match statement {
             Stmt::Null => Ok(()),
@@ -85,21 +129,19 @@ impl Emitter {
             Stmt::Put(pieces) => self.print(false, pieces.as_slice()),
             Stmt::PutLine(pieces) => self.print(true, pieces.as_slice()),
             Stmt::NewLine => self.put(Instr::NewLine),
-            Stmt::Exit(condition) => self.exit(condition),
+            Stmt::Exit(condition) => self.exit(condition, landing),
             Stmt::If(arms, others) => {
-                let end = self.arms(arms.as_slice())?;
-                self.statements(others.as_slice())?;
+                let end = self.arms(arms.as_slice(), landing)?;
+                self.statements(others.as_slice(), landing)?;
                 self.skip_from(end);
                 Ok(())
             }
             Stmt::Loop(body) => self.endless(body.as_slice()),
             Stmt::While(test, body) => self.while_loop(body.as_slice(), test),
             Stmt::For(parameter, way, low, high, body) => {
-                self.expression(Ty::Integer, low)?;
-                self.expression(Ty::Integer, high)?;
-                self.for_loop(*parameter, *way, body.as_slice())
+                self.for_loop(body.as_slice(), *parameter, *way, low, high)
             }
-            Stmt::Block(master) => self.block(master.get()),
+            Stmt::Block(master) => self.block(master.get(), landing),
             Stmt::AssignRecord(..)
             | Stmt::Call(..)
             | Stmt::Nothing(_)
@@ -116,43 +158,73 @@ impl Emitter {
 
     /// Emits the assignment of a value to a variable.
     fn assign(&mut self, name: &Name, value: &Expr) -> Result<(), AllocError>
-        ensures { OnOk result (self.new ≡ appended (spec.statement (spec.assign (values.variable_of name.now) (values.value_code value.now))) self.old) }
+        ensures { OnOk result (self.new ≡ stated (spec.assign (values.variable_of name.now) (values.value_code value.now)) None self.old) }
     {
-        match variable_of(name) {
-            Some(variable) => {
-                self.expression(value_type(value), value)?;
-                self.take(Instr::Assign(variable))
+        let Some(variable) = variable_of(name) else {
+            return self.put(Instr::Missing);
+        };
+        let ty = value_type(value);
+        match self.local_cell(variable) {
+            Some(to) => self.expression(to, ty, value),
+            None => {
+                let (out, slot) = (self.out_to(variable), variable.slot);
+                let from = self.held(ty, value)?;
+                self.take(
+                    Instr::Store {
+                        from,
+                        ty,
+                        out,
+                        slot,
+                    },
+                    from,
+                )
             }
-            None => self.put(Instr::Missing),
+        }
+    }
+
+    /// Adds what an exit statement is.
+    fn exit_to(&mut self, landing: Option<usize>) -> Result<(), AllocError>
+        ensures { OnOk result (self.new ≡ stated (spec.exit None) landing self.old) }
+    {
+        match landing {
+            Some(landing) => {
+                let back = self.since(landing);
+                self.put(Instr::Back(back))
+            }
+            None => self.put(Instr::Exit),
         }
     }
 
     /// Emits an exit statement.
-    fn exit(&mut self, condition: &Option<Expr>) -> Result<(), AllocError>
-        ensures { OnOk result (self.new ≡ appended (spec.statement (spec.exit (option_map values.value_code condition.now))) self.old) }
+    fn exit(&mut self, condition: &Option<Expr>, landing: Option<usize>) -> Result<(), AllocError>
+        requires { ForSome landing (λ at. at ≤ length self.old.instructions) }
+        ensures { OnOk result (self.new ≡ stated (spec.exit (option_map values.value_code condition.now)) landing self.old) }
     {
         match condition {
-            None => self.put(Instr::Exit),
+            None => self.exit_to(landing),
             Some(test) => {
-                self.expression(Ty::Boolean, test)?;
-                self.take(Instr::ExitWhen)
+                let (from, length) = (self.held(Ty::Boolean, test)?, 1);
+                self.take(Instr::Unless { from, length }, from)?;
+                self.exit_to(landing)
             }
         }
     }
 
     /// Emits the arms of an `if`. Gives where the end of the first one stands, which does not skip the rest yet.
     #[cycle(emit)]
-    fn arms(&mut self, arms: &[Arm]) -> Result<Option<usize>, AllocError>
-        ensures emitted { OnOk result (self.new ≡ appended (spec.open_arms (map spec.arm_code arms.now)) self.old) }
-        ensures end { IfOk result (λ end. end ≡ spec.first_end (length self.old.instructions) (length self.old.texts) (map spec.arm_code arms.now)) }
+    fn arms(&mut self, arms: &[Arm], landing: Option<usize>) -> Result<Option<usize>, AllocError>
+        requires { ForSome landing (λ at. at ≤ length self.old.instructions) }
+        ensures emitted { OnOk result (self.new ≡ stated (open_arms (map spec.arm_code arms.now)) landing self.old) }
+        ensures end { IfOk result (λ end. end ≡ first_end landing (map spec.arm_code arms.now) self.old) }
+        ensures landing { OnOk result (ForSome landing (λ at. at ≤ length self.new.instructions)) }
     {
         match arms {
             [] => Ok(None),
             [first, more @ ..] => {
-                self.guarded(first)?;
+                self.tested(first.body.as_slice(), &first.test, landing)?;
                 let end = self.place();
                 self.put(Instr::Skip(0))?;
-                self.further(end, more)?;
+                self.further_arms(more, end, landing)?;
                 Ok(Some(end))
             }
         }
@@ -160,123 +232,161 @@ impl Emitter {
 
     /// Has the end of the first arm skip all that follows it.
     fn skip_from(&mut self, end: Option<usize>)
-        requires { ForSome end (λ place. place < length self.old.instructions) }
-        ensures { self.new ≡ spec.skipping end self.old }
+        ensures { self.new ≡ skipping end self.old }
     {
         if let Some(end) = end {
-            let length = self.place() - end - 1;
+            let length = self.behind(end);
             self.set(end, Instr::Skip(length));
         }
     }
 
     /// Emits further arms, whose ends lead back to the end of the first one.
     #[cycle(emit)]
-    fn further(&mut self, end: usize, arms: &[Arm]) -> Result<(), AllocError>
-        requires { end < length self.old.instructions }
-        ensures { OnOk result (self.new ≡ appended (spec.further_arms (length self.old.instructions - end) (map spec.arm_code arms.now)) self.old) }
+    fn further_arms(
+        &mut self,
+        arms: &[Arm],
+        end: usize,
+        landing: Option<usize>,
+    ) -> Result<(), AllocError>
+        requires landing { ForSome landing (λ at. at ≤ length self.old.instructions) }
+        requires end { end ≤ length self.old.instructions }
+        ensures { OnOk result (self.new ≡ stated (further_arms (length self.old.instructions - end) (map spec.arm_code arms.now)) landing self.old) }
     {
         for arm in arms {
-            self.guarded(arm)?;
-            let back = self.place() - end;
-            self.put(Instr::Repeat(back))?;
+            self.tested(arm.body.as_slice(), &arm.test, landing)?;
+            let back = self.since(end);
+            self.put(Instr::Back(back))?;
         }
         Ok(())
     }
 
-    /// Emits statements under a condition; one instruction is to follow at their end.
+    /// Emits statements under a condition, where it does not hold they and one more instruction are passed over.
     #[cycle(emit)]
-    fn guarded(&mut self, arm: &Arm) -> Result<(), AllocError>
-        ensures { OnOk result (self.new ≡ appended (spec.guarded_arm (spec.arm_code arm.now)) self.old) }
+    fn tested(
+        &mut self,
+        body: &[Stmt],
+        test: &Expr,
+        landing: Option<usize>,
+    ) -> Result<(), AllocError>
+        requires { ForSome landing (λ at. at ≤ length self.old.instructions) }
+        ensures { OnOk result (self.new ≡ stated (spec.tested (values.value_code test.now) (spec.all (map spec.statement_code body.now))) landing self.old) }
     {
-        self.expression(Ty::Boolean, &arm.test)?;
+        let (from, length) = (self.held(Ty::Boolean, test)?, 0);
         let head = self.place();
-        self.take(Instr::Unless(0))?;
-        self.statements(arm.body.as_slice())?;
-        let length = self.place() - head;
-        self.set(head, Instr::Unless(length));
+        self.take(Instr::Unless { from, length }, from)?;
+        self.statements(body, landing)?;
+        let length = self.since(head);
+        self.set(head, Instr::Unless { from, length });
         Ok(())
     }
 
     /// Emits a loop without an iteration scheme.
     #[cycle(emit)]
     fn endless(&mut self, body: &[Stmt]) -> Result<(), AllocError>
-        ensures { OnOk result (self.new ≡ appended (spec.statement (spec.loop (spec.all (map spec.statement_code body.now)))) self.old) }
+        ensures { OnOk result (self.new ≡ stated (spec.loop (spec.all (map spec.statement_code body.now))) None self.old) }
     {
-        let head = self.place();
-        self.put(Instr::Loop(0))?;
-        self.enter(Kind::Loop)?;
-        self.statements(body)?;
-        self.repeat(head)
+        self.put(Instr::Skip(1))?;
+        let landing = self.place();
+        self.put(Instr::Skip(0))?;
+        self.statements(body, Some(landing))?;
+        self.repeat(landing)
     }
 
     /// Emits a loop whose turns stand under a condition.
     #[cycle(emit)]
     fn while_loop(&mut self, body: &[Stmt], test: &Expr) -> Result<(), AllocError>
-        ensures { OnOk result (self.new ≡ appended (spec.statement (spec.while (values.value_code test.now) (spec.all (map spec.statement_code body.now)))) self.old) }
+        ensures { OnOk result (self.new ≡ stated (spec.while (values.value_code test.now) (spec.all (map spec.statement_code body.now))) None self.old) }
     {
-        let head = self.place();
-        self.put(Instr::Loop(0))?;
-        self.enter(Kind::Loop)?;
-        self.expression(Ty::Boolean, test)?;
-        self.take(Instr::ExitUnless)?;
-        self.statements(body)?;
-        self.repeat(head)
+        self.put(Instr::Skip(1))?;
+        let landing = self.place();
+        self.put(Instr::Skip(0))?;
+        self.tested(body, test, Some(landing))?;
+        self.repeat(landing)
     }
 
-    /// Emits the end of a loop whose first instruction stands at this place.
-    fn repeat(&mut self, head: usize) -> Result<(), AllocError>
-        requires { head < length self.old.instructions }
-        ensures { OnOk result (self.new ≡ spec.repeated head self.old) }
+    /// Emits the end of a loop with this landing, behind which its turns begin.
+    fn repeat(&mut self, landing: usize) -> Result<(), AllocError>
+        ensures { OnOk result (self.new ≡ repeated landing self.old) }
     {
-        let length = self.place() - head;
-        self.set(head, Instr::Loop(length));
-        self.take(Instr::Repeat(length - 1))
+        let length = self.behind(landing);
+        self.put(Instr::Back(length))?;
+        let length = self.behind(landing);
+        self.set(landing, Instr::Skip(length));
+        Ok(())
     }
 
-    /// Emits the turns of a loop whose bounds are operands.
+    /// Emits the bounds of a loop with a parameter: two new operands.
+    fn bounds(&mut self, low: &Expr, high: &Expr) -> Result<(), AllocError>
+        ensures { OnOk result (self.new ≡ appended (spec.bounds_code (values.value_code low.now) (values.value_code high.now) self.old.notes.standing) [] (spec.with_bounds self.old.notes.standing) self.old) }
+    {
+        let _low = self.evaluated(Ty::Integer, low)?;
+        let _high = self.evaluated(Ty::Integer, high)?;
+        Ok(())
+    }
+
+    /// Emits a loop with a parameter.
     #[cycle(emit)]
-    fn for_loop(&mut self, parameter: Var, way: Direction, body: &[Stmt]) -> Result<(), AllocError>
-        ensures { OnOk result (self.new ≡ appended (spec.turns parameter way (spec.all (map spec.statement_code body.now))) self.old) }
+    fn for_loop(
+        &mut self,
+        body: &[Stmt],
+        parameter: Var,
+        way: Direction,
+        low: &Expr,
+        high: &Expr,
+    ) -> Result<(), AllocError>
+        ensures { OnOk result (self.new ≡ stated (spec.for parameter way (values.value_code low.now) (values.value_code high.now) (spec.all (map spec.statement_code body.now))) None self.old) }
     {
+        let at = self.newest_at(parameter);
+        let base = self.height();
+        self.bounds(low, high)?;
         let head = self.place();
-        self.take(Instr::For(parameter, way, 0))?;
+        self.put(Instr::Missing)?;
+        let landing = self.place();
+        self.put(Instr::Abandon(0))?;
+        self.statements(body, Some(landing))?;
+        let length = self.behind(landing);
+        self.put(next_of(at, base, parameter, way, length))?;
+        let length = self.behind(landing);
+        self.set(landing, Instr::Abandon(length));
+        let length = self.behind(head);
+        self.set(head, for_of(at, base, parameter, way, length));
         self.leave();
-        self.enter(Kind::Counting)?;
-        self.statements(body)?;
-        let length = self.place() - head;
-        self.set(head, Instr::For(parameter, way, length));
-        self.take(Instr::Next(length - 1))
+        self.leave();
+        Ok(())
     }
 
-    /// Emits a block: its entry says how long it is, which is known at its end.
+    /// Emits a block: its entry says how long it is, which is known at its end; behind it stands what an exit statement out of it leads to.
     #[cycle(emit)]
-    fn block(&mut self, master: &Master) -> Result<(), AllocError>
-        ensures { OnOk result (self.new ≡ appended (spec.statement (spec.block (spec.master_code master.now))) self.old) }
+    fn block(&mut self, master: &Master, landing: Option<usize>) -> Result<(), AllocError>
+        requires { ForSome landing (λ at. at ≤ length self.old.instructions) }
+        ensures { OnOk result (self.new ≡ stated (spec.block (spec.master_code master.now)) landing self.old) }
     {
+        let (slots, length) = (master.slots, 0);
         let head = self.place();
-        self.put(Instr::Enter(master.slots, 0))?;
-        self.enter(Kind::Block)?;
+        self.put(Instr::Enter { slots, length })?;
+        self.enter(Kind::Block(slots))?;
         self.master(master)?;
         self.leave();
-        let length = self.place() - head - 1;
-        self.set(head, Instr::Enter(master.slots, length));
-        Ok(())
+        let length = self.behind(head);
+        self.set(head, Instr::Enter { slots, length });
+        self.exit_to(landing)
     }
 
     /// Prints a text, and ends the line where that is asked.
     fn print(&mut self, ends_line: bool, pieces: &[Piece]) -> Result<(), AllocError>
-        ensures { OnOk result (self.new ≡ appended (spec.statement (spec.print ends_line pieces.now)) self.old) }
+        ensures { OnOk result (self.new ≡ stated (spec.print ends_line pieces.now) None self.old) }
     {
+        let first = self.height();
         self.pieces(pieces)?;
         let number = self.text(pieces)?;
-        self.put(print_of(ends_line, number))?;
+        self.put(print_of(ends_line, number, first))?;
         self.leave_images(pieces);
         Ok(())
     }
 
     /// Takes the values of images off.
     fn leave_images(&mut self, pieces: &[Piece])
-        ensures { self.new ≡ texts.left pieces.now self.old }
+        ensures { self.new ≡ standing (without_images pieces.now self.old.notes.standing) self.old }
     {
         for piece in pieces {
             self.leave_image(piece);
@@ -284,9 +394,9 @@ impl Emitter {
     }
 
     /// Takes the value of a piece off, if it is an image.
-    #[tactic(auto, unfolding(crate::specs::Emitted::over))]
+    #[tactic(auto, unfolding(crate::specs::Emitted::standing))]
     fn leave_image(&mut self, piece: &Piece)
-        ensures { self.new ≡ over (texts.without_image piece.now) self.old }
+        ensures { self.new ≡ standing (without_image piece.now self.old.notes.standing) self.old }
     {
         match piece {
             Piece::Text(_) => {}
@@ -295,24 +405,47 @@ impl Emitter {
     }
 }
 
-/// Gives the instruction of a declaration without a value: of an object of a record type, or of an elementary variable.
-fn declaration(slot: usize, ty: Ty) -> Instr
-    ensures { result ≡ spec.declaration slot ty }
+/// Gives the instruction that enters a loop with a parameter, which has this cell.
+fn for_of(at: Option<usize>, low: usize, parameter: Var, way: Direction, length: usize) -> Instr
+    ensures { result ≡ spec.for_of at low parameter way length }
 {
-    match ty {
-        Ty::Record(record) => Instr::Declare(slot, record),
-        Ty::Integer | Ty::Count | Ty::Boolean | Ty::Address | Ty::Handle | Ty::Access(_) =>
-            Instr::DeclareScalar(slot, ty),
+    let slot = parameter.slot;
+    match at {
+        Some(parameter) => Instr::For {
+            low,
+            slot,
+            parameter,
+            way,
+            length,
+        },
+        None => Instr::Missing,
     }
 }
 
-/// Gives the instruction that prints the text of this number, and ends the line where that is asked.
-fn print_of(ends_line: bool, number: usize) -> Instr
-    ensures { result ≡ texts.print_of ends_line number }
+/// Gives the instruction that begins its next turn.
+fn next_of(at: Option<usize>, low: usize, parameter: Var, way: Direction, length: usize) -> Instr
+    ensures { result ≡ spec.next_of at low parameter way length }
+{
+    let slot = parameter.slot;
+    match at {
+        Some(parameter) => Instr::Next {
+            low,
+            slot,
+            parameter,
+            way,
+            length,
+        },
+        None => Instr::Missing,
+    }
+}
+
+/// Gives the instruction that prints the text of this number, whose first image is in this cell, and ends the line where that is asked.
+fn print_of(ends_line: bool, text: usize, first: usize) -> Instr
+    ensures { result ≡ texts.print_of ends_line text first }
 {
     if ends_line {
-        Instr::PutLine(number)
+        Instr::PutLine { text, first }
     } else {
-        Instr::Put(number)
+        Instr::Put { text, first }
     }
 }

@@ -57,14 +57,16 @@ fn assemble(alloc: Global, program: &Checked) -> Result<Code, Fault>
     let mut entries = Vec::new(alloc);
     for subprogram in program.subprograms.as_slice() {
         entries.push(entry_of(&emitter, subprogram))?;
-        emitter.master(&subprogram.body)?;
+        emitter.body(subprogram)?;
     }
     let records = records_of(alloc, program.records.as_slice())?;
     let exceptions = names_of(alloc, program.exceptions.as_slice())?;
+    let room = emitter.room();
     let (instructions, texts, kinds) = emitter.finish();
     Ok(Code {
         instructions,
         kinds,
+        room,
         entries,
         records,
         texts,

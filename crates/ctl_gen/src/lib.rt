@@ -5,6 +5,6 @@ mod emit;
 mod emit_expressions;
 mod emit_statements;
 pub mod generate;
-mod right;
+pub mod right;
 pub mod runs;
 mod typing;

@@ -1,95 +1,98 @@
-//! Where the machine is, and what waits on the control stack for the completion of a construct.
+//! Where the machine is, what waits on the control stack, the active masters, and the objects that they own.
 
-use crate::turns::Turns;
-use ctl_program::types::Var;
 use ctl_tree::ending::Stop;
 
-/// How the statements of a master are completed (RM 7.6.1): normally, or by a transfer of control.
-#[derive(Clone, Copy, Debug, PartialEq, Eq)]
+/// A transfer of control to the innermost master: an exit statement (RM 5.7), or an exception, by its number in the table of exceptions.
+#[derive(Clone, Copy)]
+pub enum Way {
+    Exit,
+    Raise(usize),
+}
+
+/// How the statements of a master are completed (RM 7.6.1).
+#[derive(Clone, Copy)]
 pub enum Completion {
     Normal,
-    /// an exit statement leaves the loop around the master (RM 5.7)
-    Exit,
-    /// an exception, by its number in the table of exceptions, is propagated
-    Raise(usize),
+    Transferred(Way),
 }
 
-/// What a construct hands to the topmost frame.
-#[derive(Clone, Copy, Debug, PartialEq, Eq)]
-pub enum Handed {
-    Normal,
-    /// it is complete, and a finalization in it failed
+/// How a body or a finalization has ended: complete, where perhaps a finalization in it failed, or by an exception.
+#[derive(Clone, Copy)]
+pub enum Ended {
+    Complete,
     FinalizationFailed,
-    /// an exit statement leaves the innermost loop (RM 5.7)
-    Exit,
-    /// an exception, by its number in the table of exceptions, is propagated
-    Raise(usize),
+    Raised(usize),
 }
 
-/// Where the execution goes on when a master has been left.
-#[derive(Clone, Copy, Debug, PartialEq, Eq)]
-pub enum Afterwards {
-    /// at the place `behind` the block where it was completed normally; else its completion is handed on
-    Block { behind: usize },
-    /// behind a body: its completion is handed on
+/// Where a master's end leads: behind a block, to this place, or to what waits for the call of a body.
+#[derive(Clone, Copy)]
+pub enum After {
+    Block(usize),
     Body,
 }
 
-/// A master that is left: whether a finalization failed, and how its statements were completed (RM 7.6.1). The layers that are
-/// still to be finalized are in the finalization lists.
-#[derive(Clone, Copy, Debug, PartialEq, Eq)]
-pub struct Departure {
-    pub has_failed: bool,
-    pub pending: Completion,
-    pub afterwards: Afterwards,
-}
-
-/// A construct that waits for what stands inside it.
+/// What waits on the control stack.
 #[derive(Clone, Copy)]
 pub enum Frame {
-    /// the statements of a master, the newest one but for those of the frames above; it was entered over `height` operands
-    Statements {
-        height: usize,
-        afterwards: Afterwards,
-    },
-    /// such a master is left
-    Leaving(Departure),
-    /// an object of this record type that was declared, and is to be initialized (RM 7.6); then the elaboration goes on at the
-    /// place `next`
-    Creating {
-        object: u64,
-        record_type: usize,
+    /// the statements of a master
+    InMaster(After),
+    /// the layers of a master that are still to be finalized: no owned object from `next` on is one. Whether a finalization failed, and
+    /// how its statements were completed (RM 7.6.1)
+    Leaving {
+        failed: bool,
+        pending: Completion,
+        after: After,
         next: usize,
     },
-    /// the Initialize of such an object
-    Initializing {
-        object: u64,
-        record_type: usize,
-        next: usize,
-    },
-    /// the Finalize of the object of this number (RM 7.6.1)
-    Finalizing(u64),
-    /// the turns of a loop that was entered over `height` operands; `behind` it the execution goes on (RM 5.5)
-    Looping {
-        height: usize,
-        behind: usize,
-    },
-    /// the same of a loop with a parameter
-    Counting {
-        height: usize,
-        behind: usize,
-        parameter: Var,
-        turns: Turns,
-    },
+    /// the Initialize of the newest owned object, and the place where its declaration goes on (RM 7.6)
+    Initializing(usize),
+    /// the Finalize of an owned object, by its place
+    Finalizing(usize),
 }
 
 /// What the machine does next.
-#[derive(Clone, Copy, Debug, PartialEq, Eq)]
+#[derive(Clone, Copy)]
 pub enum Mode {
     /// the instruction at this place
     At(usize),
-    /// hand this to the topmost frame
-    Giving(Handed),
+    /// leave the innermost master
+    Transfers(Way),
+    /// hand this to the frame that waits
+    Giving(Ended),
     /// nothing: the program is erroneous at this point (RM 13.11.2)
     Stopped(Stop),
+}
+
+/// An active master. Its slots are so many cells, from `base` on.
+#[derive(Clone, Copy)]
+pub struct Master {
+    pub number: u64,
+    /// the first cell of the window of its body
+    pub window: usize,
+    pub base: usize,
+    pub slots: usize,
+    /// the master around it is the newest of so many; 0 where there is none
+    pub link: usize,
+    /// how many masters a place in it sees, itself included
+    pub depth: usize,
+    /// how many objects were owned when it was entered
+    pub owned: usize,
+}
+
+/// How far the life of an owned object has come. Between its creation and its finalization it is a layer of its master (RM 7.6.1).
+#[derive(Clone, Copy)]
+pub enum Life {
+    Created,
+    Layer,
+    Finalizing,
+    Finalized,
+}
+
+/// A declared object of a record type, and its master.
+#[derive(Clone, Copy)]
+pub struct Owned {
+    pub number: u64,
+    pub record: usize,
+    pub master: u64,
+    pub life: Life,
 }

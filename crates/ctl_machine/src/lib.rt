@@ -1,21 +1,22 @@
-//! The machine that runs the code, a step at a time.
+//! The machine that runs the code over windows of cells, a step at a time.
 #![tactic(auto)]
 
 mod advance;
-mod calls;
+mod apart;
+mod begin;
+mod declare;
 mod engine;
-mod expressions;
 mod frame;
+mod initialize;
+mod jumps;
+mod layers;
+mod leaving;
 mod loops;
 pub mod machine;
-mod masters;
-mod objects;
-mod operands;
 mod operators;
 pub mod outcome;
-mod resume;
-mod scalars;
+mod printing;
+mod start;
+mod step;
 mod texts;
-mod turns;
 mod variables;
-mod world;

@@ -1,170 +1,130 @@
-//! Instructions that choose what comes next (RM 5.3, 5.5, 5.7).
+//! Loops with a parameter (RM 5.5). The bounds of a loop are the two newest operands, the high one on top. The one that the loop counts
+//! from is always the value of the present turn.
 
-ghost use Rattle.std.specs.Prelude.{◌≡◌, ℕ, List, [], ◌∷◌, ◌++◌, ◌+◌, ◌^◌, ◌<◌, ◌≤◌, Some, OnOk, OnErr, length, not, reverse, true};
+ghost use Rattle.std.specs.Prelude.{◌≡◌, ◌+◌, ◌^◌, ◌<◌, MatchOption, Some, length, reverse, slice_set};
 ghost use Rattle.ctl_code.specs.Table as Table;
-ghost use Rattle.ctl_code.specs.declared.code.Code.{Code};
-ghost use Rattle.ctl_code.specs.declared.code.Instr.TheVariants as InstrOf;
-ghost use Rattle.ctl_program.specs.declared.types.Var.{Var};
-ghost use Rattle.ctl_machine.specs.declared.frame.Frame as FrameOf;
-ghost use Rattle.ctl_machine.specs.declared.frame.Frame.TheVariants.{Counting};
-ghost use Rattle.ctl_machine.specs.declared.turns.Turns.{Turns};
-ghost use Rattle.ctl_machine.specs.Control.{Running};
-ghost use Rattle.ctl_machine.specs.Engine.{Rests, Makes, Stays, made_by};
-ghost use Rattle.ctl_machine.specs.Needs.{IsLoopOnTop};
+ghost use Rattle.ctl_code.specs.States.{State};
+ghost use Rattle.ctl_code.specs.Valid.{IsValid};
+ghost use Rattle.ctl_machine.specs.declared.frame.Mode.TheVariants as ModeOf;
+ghost use Rattle.ctl_machine.specs.Instructions.{Turns};
+ghost use Rattle.ctl_machine.specs.Masters.{first_window};
+ghost use Rattle.ctl_machine.specs.Moves.{Before, GoesOn, Makes, here_of};
+ghost use Rattle.ctl_machine.specs.Turns as Turns;
 
 use crate::engine::Engine;
-use crate::frame::{Frame, Handed, Mode};
-use crate::operators::is_true;
-use crate::turns::{next_turn, turns_between};
-use crate::variables::set_parameter;
+use crate::frame::Mode;
+use crate::operators::{cell_of, signed};
+use ctl_code::code::{Code, Instr};
 use ctl_program::operators::Direction;
-use ctl_program::types::Var;
-use std::alloc::AllocError;
 
-/// The parameter of the topmost frame's loop has this value in its turn; nothing else of the frame is written.
+/// Answers the cell of the bound that a loop counts from, whose low bound is in this cell.
 #[inline(always)]
-fn set_value(control: &mut Vec<Frame>, value: i64)
-    requires { IsLoopOnTop (reverse control.old.items) }
-    ensures { (below : List FrameOf.Frame) (height behind : ℕ) (parameter : Var) (turns : Turns) → control.old.items ≡ below ++ Counting height behind parameter turns ∷ [] → control.new.items ≡ below ++ Counting height behind parameter (record turns { value = value }) ∷ [] }
+fn counted(way: Direction, low: usize) -> usize
+    requires { low + 1 < 2 ^ 64 }
+    ensures { result ≡ Turns.counted way low }
 {
-    let top = control.len() - 1;
-    match &mut control[top] {
-        Frame::Counting { turns, .. } => turns.value = value,
-        _ => unreachable!(),
+    match way {
+        Direction::Upward => low,
+        Direction::Downward => low + 1,
+    }
+}
+
+/// Answers the value of the first turn, by the bounds; none where the range is null (RM 3.5).
+#[inline(always)]
+fn first_value(way: Direction, low: u64, high: u64) -> Option<u64>
+    ensures { result ≡ Turns.first_value way low high }
+{
+    if signed(high) < signed(low) {
+        return None;
+    }
+    match way {
+        Direction::Upward => Some(low),
+        Direction::Downward => Some(high),
+    }
+}
+
+/// Answers the value of the next turn, by the bounds; none where no value is left.
+#[inline(always)]
+fn next_value(way: Direction, low: u64, high: u64) -> Option<u64>
+    ensures { result ≡ Turns.next_value way low high }
+{
+    let first = signed(low);
+    let last = signed(high);
+    if last <= first {
+        return None;
+    }
+    match way {
+        Direction::Upward => Some(cell_of(first + 1)),
+        Direction::Downward => Some(cell_of(last - 1)),
     }
 }
 
 impl Engine {
-    /// Instructions are skipped unless the newest operand is True (RM 5.3).
+    /// Begins the turn of this value, which the bound that the loop counts from and the parameter take, in these cells of the newest
+    /// window, and goes on at the first place; where there is no value, goes on at the second.
     #[inline(always)]
-    pub(crate) fn skip_unless(&mut self, count: usize, place: usize)
-        requires operand { 1 ≤ length self.old.operands }
-        requires rests { Rests Running self.old }
-        requires behind { place + 1 + count < 2 ^ 64 }
-        ensures { Makes self.old self.new (made_by (Table.by_unless count) place self.old) }
+    fn begin_turn(
+        &mut self,
+        value: Option<u64>,
+        bound: usize,
+        parameter: usize,
+        inside: usize,
+        behind: usize,
+    )
+        requires bound { first_window (reverse self.old.masters.items) + bound < length self.old.cells.items }
+        requires parameter { first_window (reverse self.old.masters.items) + parameter < length self.old.cells.items }
+        ensures { MatchOption value (GoesOn self.old self.new (ModeOf.At behind) self.old.cells.items) (λ x. GoesOn self.old self.new (ModeOf.At inside) (slice_set (slice_set self.old.cells.items (first_window (reverse self.old.masters.items) + bound) x) (first_window (reverse self.old.masters.items) + parameter) x)) }
     {
-        let cell = self.operands.take_top();
-        if is_true(cell) {
-            self.mode = Mode::At(place + 1);
-        } else {
-            self.mode = Mode::At(place + 1 + count);
+        match value {
+            Some(value) => {
+                let window = self.window();
+                self.cells[window + bound] = value;
+                self.cells[window + parameter] = value;
+                self.mode = Mode::At(inside);
+            }
+            None => self.go_on(Mode::At(behind)),
         }
     }
 
-    /// A loop is entered (RM 5.5).
-    #[inline(never)]
-    pub(crate) fn enter_loop(&mut self, count: usize, place: usize) -> Result<(), AllocError>
-        requires rests { Rests Running self.old }
-        requires behind { place + 1 + count < 2 ^ 64 }
-        ensures ok { OnOk result ((code : Code) → Makes self.old self.new (made_by (Table.by_instr code (Some (InstrOf.Loop count))) place self.old)) }
-        ensures err { OnErr result (Stays self.old self.new) }
-    {
-        self.control.push(Frame::Looping {
-            height: self.operands.count(),
-            behind: place + 1 + count,
-        })?;
-        self.mode = Mode::At(place + 1);
-        Ok(())
-    }
-
-    /// A loop over the values between the two newest operands is entered, or skipped where there is none (RM 5.5).
-    #[inline(never)]
-    pub(crate) fn enter_for(
-        &mut self,
-        parameter: Var,
-        direction: Direction,
-        count: usize,
-        place: usize,
-    ) -> Result<(), AllocError>
-        requires operands { 2 ≤ length self.old.operands }
-        requires rests { Rests Running self.old }
-        requires behind { place + 1 + count < 2 ^ 64 }
-        ensures ok { OnOk result (Makes self.old self.new (made_by (Table.by_for parameter direction count) place self.old)) }
-        ensures err { OnErr result (Stays self.old self.new) }
-    {
-        let (high, low) = self.operands.top_two();
-        self.control.reserve(1)?;
-        self.operands.drop_newest(2);
-        let Some(turns) = turns_between(low, high, direction) else {
-            self.mode = Mode::At(place + 1 + count);
-            return Ok(());
-        };
-        self.control.push_reserved(Frame::Counting {
-            height: self.operands.count(),
-            behind: place + 1 + count,
-            parameter,
-            turns,
-        });
-        set_parameter(&mut self.world, parameter, turns);
-        self.mode = Mode::At(place + 1);
-        Ok(())
-    }
-
-    /// The next turn of the innermost loop, which has a parameter, or the end of that loop (RM 5.5).
+    /// Executes this instruction of a loop with a parameter, which stands at this place (RM 5.5).
     #[inline(always)]
-    pub(crate) fn next(&mut self, back: usize, place: usize)
-        requires top { IsLoopOnTop (reverse self.old.control.items) }
-        requires rests { Rests Running self.old }
-        requires back { back ≤ place }
-        ensures { Makes self.old self.new (made_by (Table.by_next back) place self.old) }
+    pub(crate) fn turn(&mut self, code: &Code, instr: &Instr, place: usize)
+        ghost s: { State }
+        requires valid { IsValid code.now }
+        requires before { Before code.now self.old place instr.now s }
+        requires turns { Turns instr.now }
+        requires place { place + 1 < 2 ^ 64 }
+        ensures { Makes code.now self.old self.new (Table.by_instr code.now (Some instr.now) s.operands (here_of place s)) }
     {
-        let Some(
-            Frame::Counting {
-                height,
-                behind,
+        let _places = code.instructions.as_slice().len();
+        match instr {
+            Instr::For {
+                low,
                 parameter,
-                turns,
-            },
-        ) = self.control.last().copied()
-        else {
-            unreachable!()
-        };
-        self.operands.cut_back(height);
-        let Some(turns) = next_turn(turns) else {
-            let _ = self.control.pop();
-            self.mode = Mode::At(behind);
-            return;
-        };
-        set_value(&mut self.control, turns.value);
-        set_parameter(&mut self.world, parameter, turns);
-        self.mode = Mode::At(place - back);
-    }
-
-    /// The innermost loop is left if the newest operand is True (RM 5.7).
-    #[inline(always)]
-    pub(crate) fn exit_when(&mut self, place: usize)
-        requires operand { 1 ≤ length self.old.operands }
-        requires rests { Rests Running self.old }
-        requires place { place + 1 < 2 ^ 64 }
-        ensures { (code : Code) → Makes self.old self.new (made_by (Table.by_instr code (Some InstrOf.ExitWhen)) place self.old) }
-    {
-        let cell = self.operands.take_top();
-        self.exit_if(is_true(cell), place);
-    }
-
-    /// The innermost loop is left unless the newest operand is True (RM 5.5).
-    #[inline(always)]
-    pub(crate) fn exit_unless(&mut self, place: usize)
-        requires operand { 1 ≤ length self.old.operands }
-        requires rests { Rests Running self.old }
-        requires place { place + 1 < 2 ^ 64 }
-        ensures { (code : Code) → Makes self.old self.new (made_by (Table.by_instr code (Some InstrOf.ExitUnless)) place self.old) }
-    {
-        let cell = self.operands.take_top();
-        self.exit_if(!is_true(cell), place);
-    }
-
-    /// The innermost loop is left, or not.
-    #[inline(always)]
-    fn exit_if(&mut self, leaves: bool, place: usize)
-        requires rests { Rests Running self.old }
-        requires place { place + 1 < 2 ^ 64 }
-        ensures { Makes self.old self.new (made_by (Table.by_exit leaves) place self.old) }
-    {
-        if leaves {
-            self.leave(Handed::Exit);
-        } else {
-            self.mode = Mode::At(place + 1);
+                way,
+                length,
+                ..
+            } => {
+                let first = self.operand(*low);
+                let last = self.operand(*low + 1);
+                let value = first_value(*way, first, last);
+                let bound = counted(*way, *low);
+                self.begin_turn(value, bound, *parameter, place + 2, place + 1 + *length);
+            }
+            Instr::Next {
+                low,
+                parameter,
+                way,
+                length,
+                ..
+            } => {
+                let first = self.operand(*low);
+                let last = self.operand(*low + 1);
+                let value = next_value(*way, first, last);
+                let bound = counted(*way, *low);
+                self.begin_turn(value, bound, *parameter, place - *length, place + 1);
+            }
+            _ => unreachable!(),
         }
     }
 }

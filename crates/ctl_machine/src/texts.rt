@@ -1,6 +1,6 @@
 //! Texts that the program prints, with the images of values (RM 3.5), and names that the code gives by number.
 
-ghost use Rattle.std.specs.Prelude.{◌≡◌, ◌≤◌, ◌++◌, IfOk, OnOk, length, slice_get};
+ghost use Rattle.std.specs.Prelude.{◌≡◌, ◌+◌, ◌≤◌, ◌++◌, IfOk, OnOk, drop, length, slice_get, take};
 ghost use Rattle.ctl_meaning.specs.Numbers.{integer_image, boolean_image};
 ghost use Rattle.ctl_code.specs.Table.{images_in, text_of};
 ghost use Rattle.ctl_machine.specs.Images as Sign;
@@ -41,36 +41,28 @@ fn push_boolean_image(text: &mut Text, cell: u64) -> Result<(), AllocError>
     }
 }
 
-/// How many operands the parts of a text take.
-pub fn count_images(parts: &[TextPart]) -> usize
-    ensures { result ≡ images_in parts.now }
-{
-    let mut images = 0;
-    for part in parts {
-        if !matches!(part, TextPart::Literal(_)) {
-            images += 1;
-        }
-    }
-    images
-}
-
-/// A text, whose images take these values in turn.
-pub fn text_with(alloc: Global, parts: &[TextPart], values: &[u64]) -> Result<Text, AllocError>
-    requires { images_in parts.now ≤ length values.now }
-    ensures { IfOk result (λ text. text ≡ text_of parts.now values.now) }
+/// A text, whose images take their values in turn from the cells from this one on.
+pub fn text_from(
+    alloc: Global,
+    parts: &[TextPart],
+    cells: &[u64],
+    first: usize,
+) -> Result<Text, AllocError>
+    requires { first + images_in parts.now ≤ length cells.now }
+    ensures { IfOk result (λ text. text ≡ text_of parts.now (take (images_in parts.now) (drop first cells.now))) }
 {
     let mut text = Text::new(alloc);
-    let mut used = 0;
+    let mut next = first;
     for part in parts {
         match part {
             TextPart::Literal(literal) => text.push_all(literal.as_bytes())?,
             TextPart::IntegerImage => {
-                push_integer_image(&mut text, values[used])?;
-                used += 1;
+                push_integer_image(&mut text, cells[next])?;
+                next += 1;
             }
             TextPart::BooleanImage => {
-                push_boolean_image(&mut text, values[used])?;
-                used += 1;
+                push_boolean_image(&mut text, cells[next])?;
+                next += 1;
             }
         }
     }

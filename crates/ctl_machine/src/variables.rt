@@ -1,40 +1,134 @@
-//! Uses of elementary variables (RM 4.1, 5.2).
+//! Instructions that give a number to a scalar object, and that reach a variable of a body around (RM 3.3.1, 8.3).
 
-ghost use Rattle.std.specs.Prelude.{◌≡◌};
-ghost use Rattle.ctl_code.specs.Table.{value_of, with_parameter, with_value};
-ghost use Rattle.ctl_machine.specs.World.{newest_display};
+ghost use Rattle.std.specs.Prelude.{◌≡◌, ◌+◌, ◌^◌, ◌<◌, IfSome, IsNone, List, Some, ℕ, reverse, slice_get};
+ghost use Rattle.ctl_code.specs.declared.code.Instr.TheVariants as InstrOf;
+ghost use Rattle.ctl_program.specs.declared.types.Ty.{Ty};
+ghost use Rattle.ctl_code.specs.Table as Table;
+ghost use Rattle.ctl_code.specs.States.{State};
+ghost use Rattle.ctl_code.specs.Valid.{IsValid};
+ghost use Rattle.ctl_machine.specs.Instructions.{Reaches};
+ghost use Rattle.ctl_machine.specs.Links.{AreLinked};
+ghost use Rattle.ctl_machine.specs.Masters.{Head, first_display, heads_of};
+ghost use Rattle.ctl_machine.specs.Moves.{Before, Makes, here_of};
+ghost use Rattle.ctl_machine.specs.Shows.{Holds, kept};
+ghost use Rattle.ctl_machine.specs.Variables.{IsNoVariable, IsVariable};
 
-use crate::masters::Slot;
-use crate::operators::cell_of;
-use crate::turns::Turns;
-use crate::world::World;
-use ctl_program::types::Var;
+use crate::engine::Engine;
+use crate::frame::{Master, Mode};
+use ctl_code::code::{Cell, Code, Instr};
 
-/// The value of an elementary variable.
-#[inline(always)]
-pub fn read_variable(world: &World, variable: Var) -> u64
-    ensures { result ≡ value_of (newest_display world.now) variable world.now }
-{
-    let master = world.master_of(variable);
-    world.slot(master, variable).cell()
-}
+impl Engine {
+    /// Answers the master so many further out than the newest, by the links; None where there is none.
+    fn master_out(&self, out: usize) -> Option<Master>
+        ghost hs: { List Head }
+        requires { AreLinked self.now.masters.items hs }
+        ensures there { IfSome result (λ m. (i : ℕ) × (slice_get self.now.masters.items i ≡ Some m) × (Table.out_of (first_display hs) out ≡ m.number)) }
+        ensures none { IsNone result → Table.out_of (first_display hs) out ≡ 0 }
+    {
+        let mut count = self.count_masters();
+        let mut left = out;
+        while count > 0 {
+            let master = self.masters[count - 1];
+            if left == 0 {
+                return Some(master);
+            }
+            left -= 1;
+            count = master.link;
+        }
+        None
+    }
 
-/// An elementary variable takes this value.
-#[inline(always)]
-pub fn write_variable(world: &mut World, variable: Var, cell: u64)
-    ensures { world.new ≡ with_value (newest_display world.old) variable cell world.old }
-{
-    let master = world.master_of(variable);
-    world.slots_have_one_cell();
-    world.put(master, variable, Slot::Copies(cell));
-}
+    /// Answers the cell of the variable of this slot in the master so many further out than the newest; None where there is none.
+    fn variable(&self, code: &Code, out: usize, slot: usize) -> Option<usize>
+        ghost s: { State }
+        requires { Holds code.now (kept self.now) s.control s.operands s.world }
+        ensures there { IfSome result (λ at. IsVariable (first_display (heads_of s.world.activations)) out slot at (reverse self.now.masters.items)) }
+        ensures none { IsNone result → IsNoVariable (first_display (heads_of s.world.activations)) out slot (reverse self.now.masters.items) }
+    {
+        let _ = code;
+        let master = self.master_out(out)?;
+        if slot >= master.slots {
+            return None;
+        }
+        Some(master.base + slot)
+    }
 
-/// A loop parameter takes the value of this turn (RM 5.5).
-#[inline(always)]
-pub fn set_parameter(world: &mut World, parameter: Var, turn: Turns)
-    ensures { world.new ≡ with_parameter (newest_display world.old) parameter turn.value world.old }
-{
-    let master = world.master_of(parameter);
-    let cell = cell_of(turn.value);
-    world.put(master, parameter, Slot::Copies(cell));
+    /// Reads such a variable; 0 where there is none.
+    fn read_variable(&self, code: &Code, out: usize, slot: usize) -> u64
+        ghost s: { State }
+        requires { Holds code.now (kept self.now) s.control s.operands s.world }
+        ensures { result ≡ Table.cell_at (first_display (heads_of s.world.activations)) out slot s.world }
+    {
+        match self.variable(code, out, slot) {
+            Some(cell) => self.cells[cell],
+            None => 0,
+        }
+    }
+
+    /// Puts the value of a variable of a body around; 0 where there is none.
+    fn fetch(&mut self, code: &Code, out: usize, slot: usize, to: &Cell, place: usize)
+        ghost s: { State }
+        requires valid { IsValid code.now }
+        requires before { (ty : Ty) × Before code.now self.old place (InstrOf.Fetch out slot ty to.now) s }
+        requires place { place + 1 < 2 ^ 64 }
+        ensures { (ty : Ty) → Makes code.now self.old self.new (Table.by_instr code.now (Some (InstrOf.Fetch out slot ty to.now)) s.operands (here_of place s)) }
+    {
+        let value = self.read_variable(code, out, slot);
+        self.put(value, to, place);
+    }
+
+    /// Takes the next object number for a scalar object (RM 3.3.1).
+    #[inline(always)]
+    fn number(&mut self, code: &Code, place: usize)
+        ghost s: { State }
+        requires before { Before code.now self.old place InstrOf.Number s }
+        requires place { place + 1 < 2 ^ 64 }
+        requires number { self.old.given_objects + 1 < 2 ^ 64 }
+        ensures { Makes code.now self.old self.new (Table.by_instr code.now (Some InstrOf.Number) s.operands (here_of place s)) }
+    {
+        let _ = code;
+        self.given_objects += 1;
+        self.mode = Mode::At(place + 1);
+    }
+
+    /// Gives a variable of a body around the value of a cell; where there is none, nothing takes it.
+    fn store(&mut self, code: &Code, from: &Cell, out: usize, slot: usize, place: usize)
+        ghost s: { State }
+        requires valid { IsValid code.now }
+        requires before { (ty : Ty) × Before code.now self.old place (InstrOf.Store from.now ty out slot) s }
+        requires place { place + 1 < 2 ^ 64 }
+        ensures { (ty : Ty) → Makes code.now self.old self.new (Table.by_instr code.now (Some (InstrOf.Store from.now ty out slot)) s.operands (here_of place s)) }
+    {
+        let value = self.take(from);
+        match self.variable(code, out, slot) {
+            Some(cell) => {
+                self.cells[cell] = value;
+                self.mode = Mode::At(place + 1);
+            }
+            None => self.mode = Mode::At(place + 1),
+        }
+    }
+
+    /// Executes this instruction, which stands at this place and gives a number or reaches a variable of a body around.
+    pub(crate) fn reach(&mut self, code: &Code, instr: &Instr, place: usize)
+        ghost s: { State }
+        requires valid { IsValid code.now }
+        requires before { Before code.now self.old place instr.now s }
+        requires reaches { Reaches instr.now }
+        requires place { place + 1 < 2 ^ 64 }
+        requires number { self.old.given_objects + 1 < 2 ^ 64 }
+        ensures { Makes code.now self.old self.new (Table.by_instr code.now (Some instr.now) s.operands (here_of place s)) }
+    {
+        match instr {
+            Instr::Number => self.number(code, place),
+            Instr::Fetch { out, slot, to, .. } => self.fetch(code, *out, *slot, to, place),
+            Instr::Store {
+                from,
+                out,
+                slot,
+                ..
+            } => self.store(code, from, *out, *slot, place),
+            _ => unreachable!(),
+        }
+    }
 }

@@ -15,7 +15,8 @@ use Rattle.ctl_code.specs.Laws.{IsPrefix}
 use Rattle.ctl_gen.specs.Correct.{Behaves, HasReached}
 use Rattle.ctl_gen.specs.Layout.{IsLaidOut}
 use Rattle.ctl_machine.specs.declared.outcome.Outcome.{Outcome}
-use Rattle.ctl_machine.specs.Machine.{Running, Reports, Ends, after_steps, chosen}
+use Rattle.ctl_machine.specs.Machine.{Running, Reports, Ends, after_steps}
+use Rattle.ctl_machine.specs.Shows.{chosen}
 use Rattle.ctl_run.specs.Headline.{ByItself, Reaches, Headline}
 
 -- A machine that has ended ----------------------------------------------------------------------------
@@ -24,6 +25,7 @@ use Rattle.ctl_run.specs.Headline.{ByItself, Reaches, Headline}
 stays_at : (ask : Ask) (code : Code) (mode : T.Mode) (k : List T.Frame) (ops : List ℕ) (w : World) (l : Log) (e : End) → end_at code.exceptions.items mode k ≡ Some e → step ask code (record { mode = mode; control = k; operands = ops; world = w; log = l }) ≡ record { mode = mode; control = k; operands = ops; world = w; log = l }
 unfolding picked
 stays_at ask code (T.At d place) k ops w l e h = absurd (cc)
+stays_at ask code (T.Transfers way) k ops w l e h = absurd (cc)
 stays_at ask code (T.Giving r) [] ops w l e h = refl
 stays_at ask code (T.Giving r) (f ∷ k) ops w l e h = absurd (cc)
 stays_at ask code (T.Stopped s) k ops w l e h = refl

@@ -1,142 +1,364 @@
 //! Codes that are accepted, and codes with one fault each.
 
-use ctl_code::code::{Code, Entry, Instr, Operations};
-use ctl_code::kinds::{Kind, KindNotes, Kinds};
+use crate::lines::{
+    ADD, AND, BODY_SLOTS, CELL_1, CELL_2, CELL_3, CELL_4, EQUAL, FIRST, Line, MAIN_SLOTS, SECOND,
+    instructions_of, notes_of,
+};
+use ctl_code::code::{Cell, Code, Entry, Instr, Named, Operations};
 use ctl_code::template::{Template, TextPart};
-use ctl_program::operators::{BinaryOp, Direction, Shortcut, UnaryOp};
-use ctl_program::types::{Ty, Var};
+use ctl_program::operators::{Direction, Shortcut, UnaryOp};
+use ctl_program::types::Ty;
 use std::alloc::{AllocError, Global};
 use std::test::Fail;
 
-/// An instruction, and what stands on the stacks before it, the newest last: `i` and `b` are operands, an Integer and a Boolean, `[`
-/// is a block, `(` a loop, `#` a loop with a parameter.
-type Line = (Instr, &'static str);
-
-/// The first slot of the main procedure.
-const FIRST: Var = Var { level: 1, slot: 0 };
+/// The operand in cell 5.
+const CELL_5: Cell = Cell {
+    at: 5,
+    named: Named::Operand,
+};
 
 /// The code of an empty main procedure.
-const EMPTY: &[Line] = &[(Instr::Start(0), ""), (Instr::Leave, "")];
+const EMPTY: &[Line] = &[(Instr::Start(0), ""), (Instr::Leave, "m")];
 
-/// Each construct once, and behind the main procedure the body of a Finalize.
-const EACH_CONSTRUCT: &[Line] = &[
+/// Each instruction at least once, and behind the main procedure the body of a Finalize.
+const EACH_INSTRUCTION: &[Line] = &[
     (Instr::Start(0), ""),
-    (Instr::DeclareScalar(0, Ty::Integer), ""),
-    (Instr::Push(1), ""),
-    (Instr::DeclareValue(1, Ty::Integer), "i"),
-    (Instr::Enter(1, 3), ""),
-    (Instr::Declare(0, 0), "["),
-    (Instr::NewLine, "["),
-    (Instr::Leave, "["),
-    (Instr::Loop(9), ""),
-    (Instr::Read(FIRST), "("),
-    (Instr::Push(3), "(i"),
-    (Instr::Binary(BinaryOp::Equal, Ty::Boolean), "(ii"),
-    (Instr::ExitWhen, "(b"),
-    (Instr::Read(FIRST), "("),
-    (Instr::Unary(UnaryOp::Minus, Ty::Integer), "(i"),
-    (Instr::Assign(FIRST), "(i"),
-    (Instr::Skip(0), "("),
-    (Instr::Repeat(8), "("),
-    (Instr::Read(FIRST), ""),
+    (Instr::Number, "m"),
     (
-        Instr::BinaryVariable(BinaryOp::Add, Ty::Integer, FIRST),
-        "i",
+        Instr::Set {
+            value: 1,
+            ty: Ty::Integer,
+            to: FIRST,
+        },
+        "m",
     ),
     (
-        Instr::BinaryConstant(BinaryOp::Multiply, Ty::Integer, 3),
-        "i",
+        Instr::Set {
+            value: 1,
+            ty: Ty::Integer,
+            to: CELL_2,
+        },
+        "m",
     ),
-    (Instr::Assign(FIRST), "i"),
-    (Instr::Push(1), ""),
-    (Instr::Push(3), "i"),
-    (Instr::For(FIRST, Direction::Downward, 11), "ii"),
-    (Instr::Read(FIRST), "#"),
-    (Instr::Push(0), "#i"),
-    (Instr::Decide(Shortcut::AndThen, 1), "#ib"),
-    (Instr::Push(1), "#i"),
-    (Instr::PutLine(0), "#ib"),
-    (Instr::Push(1), "#"),
-    (Instr::Unless(1), "#b"),
-    (Instr::Exit, "#"),
-    (Instr::Push(0), "#"),
-    (Instr::ExitUnless, "#b"),
-    (Instr::Next(10), "#"),
-    (Instr::Leave, ""),
-    (Instr::NewLine, ""),
-    (Instr::Leave, ""),
+    (
+        Instr::Move {
+            from: CELL_2,
+            ty: Ty::Integer,
+            to: SECOND,
+        },
+        "mi",
+    ),
+    (
+        Instr::Enter {
+            slots: 1,
+            length: 3,
+        },
+        "m",
+    ),
+    (Instr::Declare { slot: 0, record: 0 }, "m["),
+    (Instr::NewLine, "m["),
+    (Instr::Leave, "m["),
+    (Instr::Skip(0), "m"),
+    (
+        Instr::Binary {
+            op: EQUAL,
+            left: FIRST,
+            right: SECOND,
+            to: CELL_2,
+        },
+        "m",
+    ),
+    (
+        Instr::Unless {
+            from: CELL_2,
+            length: 1,
+        },
+        "mb",
+    ),
+    (Instr::Skip(2), "m"),
+    (
+        Instr::Unary {
+            op: UnaryOp::Minus,
+            ty: Ty::Integer,
+            from: FIRST,
+            to: FIRST,
+        },
+        "m",
+    ),
+    (Instr::Back(4), "m"),
+    (
+        Instr::BinaryConstant {
+            op: ADD,
+            left: FIRST,
+            right: 3,
+            to: FIRST,
+        },
+        "m",
+    ),
+    (
+        Instr::Set {
+            value: 1,
+            ty: Ty::Integer,
+            to: CELL_2,
+        },
+        "m",
+    ),
+    (
+        Instr::Set {
+            value: 3,
+            ty: Ty::Integer,
+            to: CELL_3,
+        },
+        "mi",
+    ),
+    (
+        Instr::For {
+            low: 2,
+            slot: 0,
+            parameter: 0,
+            way: Direction::Downward,
+            length: 10,
+        },
+        "mii",
+    ),
+    (Instr::Abandon(9), "mii"),
+    (
+        Instr::Set {
+            value: 1,
+            ty: Ty::Boolean,
+            to: CELL_4,
+        },
+        "mii",
+    ),
+    (
+        Instr::Decide {
+            form: Shortcut::AndThen,
+            at: 4,
+            length: 1,
+        },
+        "miib",
+    ),
+    (
+        Instr::Set {
+            value: 0,
+            ty: Ty::Boolean,
+            to: CELL_4,
+        },
+        "mii",
+    ),
+    (
+        Instr::Unless {
+            from: CELL_4,
+            length: 1,
+        },
+        "miib",
+    ),
+    (Instr::Abandon(4), "mii"),
+    (
+        Instr::Set {
+            value: 5,
+            ty: Ty::Integer,
+            to: CELL_4,
+        },
+        "mii",
+    ),
+    (
+        Instr::Set {
+            value: 1,
+            ty: Ty::Boolean,
+            to: CELL_5,
+        },
+        "miii",
+    ),
+    (Instr::PutLine { text: 0, first: 4 }, "miiib"),
+    (
+        Instr::Next {
+            low: 2,
+            slot: 0,
+            parameter: 0,
+            way: Direction::Downward,
+            length: 8,
+        },
+        "mii",
+    ),
+    (
+        Instr::Enter {
+            slots: 1,
+            length: 1,
+        },
+        "m",
+    ),
+    (Instr::Exit, "m["),
+    (Instr::Skip(0), "m"),
+    (Instr::Leave, "m"),
+    (
+        Instr::Fetch {
+            out: 1,
+            slot: 0,
+            ty: Ty::Integer,
+            to: CELL_1,
+        },
+        "f",
+    ),
+    (
+        Instr::Store {
+            from: CELL_1,
+            ty: Ty::Integer,
+            out: 1,
+            slot: 1,
+        },
+        "fi",
+    ),
+    (Instr::Leave, "f"),
 ];
 
+/// The place of the Finalize there, and one inside a block.
+const FINALIZE: usize = 33;
+
+const INSIDE_A_BLOCK: usize = 7;
+
 /// A branch past the end.
-const BRANCH_PAST_THE_END: &[Line] = &[(Instr::Skip(7), ""), (Instr::Leave, "")];
+const BRANCH_PAST_THE_END: &[Line] = &[
+    (Instr::Start(0), ""),
+    (Instr::Skip(7), "m"),
+    (Instr::Leave, "m"),
+];
 
 /// A Boolean where a number is asked.
 const BOOLEAN_FOR_A_NUMBER: &[Line] = &[
     (Instr::Start(0), ""),
-    (Instr::Push(1), ""),
-    (Instr::Unary(UnaryOp::Minus, Ty::Integer), "b"),
-    (Instr::Assign(FIRST), "i"),
-    (Instr::Leave, ""),
+    (
+        Instr::Set {
+            value: 1,
+            ty: Ty::Boolean,
+            to: CELL_2,
+        },
+        "m",
+    ),
+    (
+        Instr::Unary {
+            op: UnaryOp::Minus,
+            ty: Ty::Integer,
+            from: CELL_2,
+            to: FIRST,
+        },
+        "mb",
+    ),
+    (Instr::Leave, "m"),
 ];
 
 /// An operand is missing.
 const MISSING_OPERAND: &[Line] = &[
     (Instr::Start(0), ""),
-    (Instr::Push(1), ""),
-    (Instr::Binary(BinaryOp::Add, Ty::Integer), "i"),
-    (Instr::Assign(FIRST), "i"),
-    (Instr::Leave, ""),
+    (
+        Instr::Set {
+            value: 1,
+            ty: Ty::Integer,
+            to: CELL_2,
+        },
+        "m",
+    ),
+    (
+        Instr::Binary {
+            op: ADD,
+            left: CELL_2,
+            right: CELL_3,
+            to: FIRST,
+        },
+        "mi",
+    ),
+    (Instr::Leave, "m"),
+];
+
+/// An operand in another cell than the next.
+const ANOTHER_CELL: &[Line] = &[
+    (Instr::Start(0), ""),
+    (
+        Instr::Set {
+            value: 1,
+            ty: Ty::Integer,
+            to: CELL_3,
+        },
+        "m",
+    ),
+    (
+        Instr::Unary {
+            op: UnaryOp::Minus,
+            ty: Ty::Integer,
+            from: CELL_2,
+            to: FIRST,
+        },
+        "mi",
+    ),
+    (Instr::Leave, "m"),
 ];
 
 /// A constant that is no Boolean as the right operand of `and`.
 const NUMBER_FOR_A_BOOLEAN: &[Line] = &[
     (Instr::Start(0), ""),
-    (Instr::Push(1), ""),
-    (Instr::BinaryConstant(BinaryOp::And, Ty::Boolean, 2), "b"),
-    (Instr::Unless(0), "b"),
-    (Instr::Leave, ""),
+    (
+        Instr::Set {
+            value: 1,
+            ty: Ty::Boolean,
+            to: CELL_2,
+        },
+        "m",
+    ),
+    (
+        Instr::BinaryConstant {
+            op: AND,
+            left: CELL_2,
+            right: 2,
+            to: CELL_2,
+        },
+        "mb",
+    ),
+    (
+        Instr::Unless {
+            from: CELL_2,
+            length: 0,
+        },
+        "mb",
+    ),
+    (Instr::Leave, "m"),
 ];
 
-/// The next turn of a loop without a parameter.
+/// The next turn of a loop that has no bounds.
 const NEXT_OUTSIDE: &[Line] = &[
     (Instr::Start(0), ""),
-    (Instr::Loop(1), ""),
-    (Instr::Next(0), "("),
-    (Instr::Leave, ""),
+    (
+        Instr::Next {
+            low: 2,
+            slot: 0,
+            parameter: 0,
+            way: Direction::Upward,
+            length: 0,
+        },
+        "m",
+    ),
+    (Instr::Leave, "m"),
 ];
 
 /// A text that is not in the table.
 const TEXT_PAST_THE_TABLE: &[Line] = &[
     (Instr::Start(0), ""),
-    (Instr::Put(1), ""),
-    (Instr::Leave, ""),
+    (Instr::Put { text: 1, first: 2 }, "m"),
+    (Instr::Leave, "m"),
 ];
 
-/// The table of kinds of these lines.
-fn kinds_of(alloc: Global, lines: &[Line]) -> Result<Kinds, AllocError> {
-    let mut notes = KindNotes::new(alloc);
-    for (_, stack) in lines {
-        for letter in stack.chars() {
-            notes.enter(kind_of(letter))?;
-        }
-        notes.note()?;
-        for _ in stack.chars() {
-            notes.leave();
-        }
-    }
-    Ok(notes.finish())
-}
-
-/// What a letter of a line stands for.
-fn kind_of(letter: char) -> Kind {
-    match letter {
-        'i' => Kind::Operand(Ty::Integer),
-        'b' => Kind::Operand(Ty::Boolean),
-        '[' => Kind::Block,
-        '(' => Kind::Loop,
-        _ => Kind::Counting,
-    }
-}
+/// An operand stands over the master that is left.
+const OPERAND_LEFT_OVER: &[Line] = &[
+    (Instr::Start(0), ""),
+    (
+        Instr::Set {
+            value: 1,
+            ty: Ty::Integer,
+            to: CELL_2,
+        },
+        "m",
+    ),
+    (Instr::Leave, "mi"),
+];
 
 /// A text with an Integer and a Boolean image.
 fn two_images(alloc: Global) -> Result<Template, AllocError> {
@@ -154,22 +376,21 @@ fn code_of(
     finalize: usize,
     place: usize,
 ) -> Result<Code, AllocError> {
-    let mut instructions = Vec::new(alloc);
-    for (instr, _) in lines {
-        instructions.push(*instr)?;
-    }
+    let notes = notes_of(alloc, lines)?;
+    let room = notes.room();
     Ok(Code {
-        instructions,
-        kinds: kinds_of(alloc, lines)?,
+        instructions: instructions_of(alloc, lines)?,
+        kinds: notes.finish(),
+        room,
         entries: vec![in alloc;
             Entry {
                 level: 0,
-                slots: 2,
+                slots: MAIN_SLOTS,
                 place: 1
             },
             Entry {
                 level: 1,
-                slots: 1,
+                slots: BODY_SLOTS,
                 place
             },
         ]?,
@@ -184,67 +405,68 @@ fn code_of(
     })
 }
 
-/// Whether the code of these lines is accepted, with its Finalize at this place.
-fn is_accepted(alloc: Global, lines: &[Line], place: usize) -> Result<bool, AllocError> {
-    Ok(code_of(alloc, lines, 1, place)?.validate().is_some())
+/// Whether these lines and the body of a Finalize behind them are accepted.
+fn is_accepted_with_finalize(alloc: Global, lines: &[Line]) -> Result<bool, AllocError> {
+    let mut all = Vec::new(alloc);
+    all.extend_from_slice(lines)?;
+    all.push((Instr::Leave, "f"))?;
+    Ok(
+        code_of(alloc, all.as_slice(), 1, lines.len())?
+            .validate()
+            .is_some(),
+    )
 }
 
 #[test]
 fn well_formed_code_is_accepted(rt: HostRuntime) -> Result<(), Fail> {
     let alloc = rt.alloc();
-    assert!(rt; is_accepted(alloc, EMPTY, 1)?);
-    assert!(rt; is_accepted(alloc, EACH_CONSTRUCT, 37)?);
+    assert!(rt; is_accepted_with_finalize(alloc, EMPTY)?);
+    assert!(rt;
+        code_of(alloc, EACH_INSTRUCTION, 1, FINALIZE)?
+            .validate()
+            .is_some()
+    );
     Ok(())
 }
 
 #[test]
 fn faults_are_refused(rt: HostRuntime) -> Result<(), Fail> {
     let alloc = rt.alloc();
-    assert!(rt;
-        !is_accepted(alloc, BRANCH_PAST_THE_END, 1)?,
-        "a branch past the end"
-    );
-    assert!(rt;
-        !is_accepted(alloc, BOOLEAN_FOR_A_NUMBER, 1)?,
-        "a Boolean for a number"
-    );
-    assert!(rt;
-        !is_accepted(alloc, NUMBER_FOR_A_BOOLEAN, 1)?,
-        "a number for a Boolean"
-    );
-    assert!(rt;
-        !is_accepted(alloc, MISSING_OPERAND, 1)?,
-        "a missing operand"
-    );
-    assert!(rt;
-        !is_accepted(alloc, NEXT_OUTSIDE, 1)?,
-        "a next turn of another loop"
-    );
-    assert!(rt;
-        !is_accepted(alloc, TEXT_PAST_THE_TABLE, 1)?,
-        "a text past the table"
-    );
-    assert!(rt; !is_accepted(alloc, EMPTY, 2)?, "an entry past the code");
-    assert!(rt;
-        !is_accepted(alloc, EACH_CONSTRUCT, 5)?,
-        "an entry inside a block"
-    );
+    for (lines, fault) in [
+        (BRANCH_PAST_THE_END, "a branch past the end"),
+        (BOOLEAN_FOR_A_NUMBER, "a Boolean for a number"),
+        (NUMBER_FOR_A_BOOLEAN, "a number for a Boolean"),
+        (MISSING_OPERAND, "a missing operand"),
+        (ANOTHER_CELL, "an operand in another cell"),
+        (NEXT_OUTSIDE, "a next turn without bounds"),
+        (TEXT_PAST_THE_TABLE, "a text past the table"),
+        (OPERAND_LEFT_OVER, "an operand that is left over"),
+    ] {
+        assert!(rt; !is_accepted_with_finalize(alloc, lines)?, "{fault}");
+    }
     Ok(())
 }
 
 #[test]
 fn tables_are_looked_at(rt: HostRuntime) -> Result<(), Fail> {
     let alloc = rt.alloc();
-    let without_body = code_of(alloc, EMPTY, 2, 1)?;
+    let without_body = code_of(alloc, EACH_INSTRUCTION, 2, FINALIZE)?;
     assert!(rt;
         without_body.validate().is_none(),
         "an operation without a body"
     );
-    let mut too_short = code_of(alloc, EMPTY, 1, 1)?;
+    let inside = code_of(alloc, EACH_INSTRUCTION, 1, INSIDE_A_BLOCK)?;
+    assert!(rt; inside.validate().is_none(), "an entry inside a block");
+    let past = code_of(alloc, EACH_INSTRUCTION, 1, EACH_INSTRUCTION.len())?;
+    assert!(rt; past.validate().is_none(), "an entry past the code");
+    let mut too_short = code_of(alloc, EACH_INSTRUCTION, 1, FINALIZE)?;
     too_short.instructions.push(Instr::Exit)?;
     assert!(rt;
         too_short.validate().is_none(),
-        "an instruction without a stack"
+        "an instruction of which nothing says what stands before it"
     );
+    let mut narrow = code_of(alloc, EACH_INSTRUCTION, 1, FINALIZE)?;
+    narrow.room = 5;
+    assert!(rt; narrow.validate().is_none(), "a window without room");
     Ok(())
 }

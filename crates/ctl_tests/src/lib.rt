@@ -6,6 +6,8 @@ mod code;
 #[cfg(test)]
 mod lex;
 #[cfg(test)]
+mod lines;
+#[cfg(test)]
 mod machine;
 #[cfg(test)]
 mod parse;

@@ -1,13 +1,16 @@
 //! Small codes, run to their ends and to a limit.
 
-use ctl_code::code::{Code, Entry, Instr, Operations};
-use ctl_code::kinds::{Kind, KindNotes, Kinds};
+use crate::lines::{
+    ADD, BODY_SLOTS, CELL_1, CELL_2, CELL_3, CELL_4, DIVIDE, EQUAL, FIRST, Line, MAIN_SLOTS,
+    MODULO, MULTIPLY, OUTER, REMAINDER, instructions_of, notes_of,
+};
+use ctl_code::code::{Cell, Code, Entry, Instr, Operations};
 use ctl_code::template::{Template, TextPart};
 use ctl_code::valid::ValidCode;
 use ctl_machine::machine::Machine;
 use ctl_machine::outcome::{Outcome, Progress};
-use ctl_program::operators::{BinaryOp, Direction};
-use ctl_program::types::{Ty, Var};
+use ctl_program::operators::Direction;
+use ctl_program::types::Ty;
 use ctl_tree::ending::{End, Stop};
 use ctl_tree::event::{Event, Owner};
 use ctl_tree::request::Order;
@@ -15,285 +18,434 @@ use ctl_tree::text::Text;
 use std::alloc::{AllocError, Global};
 use std::test::Fail;
 
-/// The first slot of the main procedure.
-const FIRST: Var = Var { level: 1, slot: 0 };
-
-/// What stands on the stacks, from the oldest.
-const NONE: &[Kind] = &[];
-
-const NUMBER: &[Kind] = &[Kind::Operand(Ty::Integer)];
-
-const NUMBERS: &[Kind] = &[Kind::Operand(Ty::Integer), Kind::Operand(Ty::Integer)];
-
-const BLOCK: &[Kind] = &[Kind::Block];
-
-const LOOP: &[Kind] = &[Kind::Loop];
-
-const COUNTING: &[Kind] = &[Kind::Counting];
-
 /// A main procedure with a block that declares two objects of one type, whose Finalize prints a line.
-const TWO_OBJECTS: &[Instr] = &[
-    Instr::Start(0),
-    Instr::Enter(2, 3),
-    Instr::Declare(0, 0),
-    Instr::Declare(1, 0),
-    Instr::Leave,
-    Instr::Leave,
-    Instr::PutLine(0),
-    Instr::Leave,
+const TWO_OBJECTS: &[Line] = &[
+    (Instr::Start(0), ""),
+    (
+        Instr::Enter {
+            slots: 2,
+            length: 3,
+        },
+        "m",
+    ),
+    (Instr::Declare { slot: 0, record: 0 }, "m{"),
+    (Instr::Declare { slot: 1, record: 0 }, "m{"),
+    (Instr::Leave, "m{"),
+    (Instr::Skip(0), "m"),
+    (Instr::Leave, "m"),
+    (FAREWELL, "f"),
+    (Instr::Leave, "f"),
 ];
-
-const TWO_OBJECTS_KINDS: &[&[Kind]] = &[NONE, NONE, BLOCK, BLOCK, BLOCK, NONE, NONE, NONE];
 
 /// A variable is counted up to 3 in a loop with an exit statement, and its image is printed.
-const LOOP_WITH_EXIT: &[Instr] = &[
-    Instr::Start(0),
-    Instr::DeclareScalar(0, Ty::Integer),
-    Instr::Loop(9),
-    Instr::Read(FIRST),
-    Instr::Push(3),
-    Instr::Binary(BinaryOp::Equal, Ty::Boolean),
-    Instr::ExitWhen,
-    Instr::Read(FIRST),
-    Instr::Push(1),
-    Instr::Binary(BinaryOp::Add, Ty::Integer),
-    Instr::Assign(FIRST),
-    Instr::Repeat(8),
-    Instr::Read(FIRST),
-    Instr::PutLine(1),
-    Instr::Leave,
-];
-
-const LOOP_WITH_EXIT_KINDS: &[&[Kind]] = &[
-    NONE,
-    NONE,
-    NONE,
-    LOOP,
-    &[Kind::Loop, Kind::Operand(Ty::Integer)],
-    &[
-        Kind::Loop,
-        Kind::Operand(Ty::Integer),
-        Kind::Operand(Ty::Integer),
-    ],
-    &[Kind::Loop, Kind::Operand(Ty::Boolean)],
-    LOOP,
-    &[Kind::Loop, Kind::Operand(Ty::Integer)],
-    &[
-        Kind::Loop,
-        Kind::Operand(Ty::Integer),
-        Kind::Operand(Ty::Integer),
-    ],
-    &[Kind::Loop, Kind::Operand(Ty::Integer)],
-    LOOP,
-    NONE,
-    NUMBER,
-    NONE,
+const LOOP_WITH_EXIT: &[Line] = &[
+    (Instr::Start(0), ""),
+    (Instr::Number, "m"),
+    (
+        Instr::Set {
+            value: 0,
+            ty: Ty::Integer,
+            to: FIRST,
+        },
+        "m",
+    ),
+    (
+        Instr::BinaryConstant {
+            op: EQUAL,
+            left: FIRST,
+            right: 3,
+            to: CELL_2,
+        },
+        "m",
+    ),
+    (
+        Instr::Unless {
+            from: CELL_2,
+            length: 1,
+        },
+        "mb",
+    ),
+    (Instr::Skip(2), "m"),
+    (
+        Instr::BinaryConstant {
+            op: ADD,
+            left: FIRST,
+            right: 1,
+            to: FIRST,
+        },
+        "m",
+    ),
+    (Instr::Back(4), "m"),
+    (
+        Instr::Move {
+            from: FIRST,
+            ty: Ty::Integer,
+            to: CELL_2,
+        },
+        "m",
+    ),
+    (Instr::PutLine { text: 1, first: 2 }, "mi"),
+    (Instr::Leave, "m"),
 ];
 
 /// The values from 1 to 3 are printed in reverse.
-const REVERSE_LOOP: &[Instr] = &[
-    Instr::Start(0),
-    Instr::Push(1),
-    Instr::Push(3),
-    Instr::For(FIRST, Direction::Downward, 3),
-    Instr::Read(FIRST),
-    Instr::Put(1),
-    Instr::Next(2),
-    Instr::NewLine,
-    Instr::Leave,
+const REVERSE_LOOP: &[Line] = &[
+    (Instr::Start(0), ""),
+    (
+        Instr::Set {
+            value: 1,
+            ty: Ty::Integer,
+            to: CELL_2,
+        },
+        "m",
+    ),
+    (
+        Instr::Set {
+            value: 3,
+            ty: Ty::Integer,
+            to: CELL_3,
+        },
+        "mi",
+    ),
+    (
+        Instr::For {
+            low: 2,
+            slot: 0,
+            parameter: 0,
+            way: Direction::Downward,
+            length: 4,
+        },
+        "mii",
+    ),
+    (Instr::Abandon(3), "mii"),
+    (
+        Instr::Move {
+            from: FIRST,
+            ty: Ty::Integer,
+            to: CELL_4,
+        },
+        "mii",
+    ),
+    (Instr::Put { text: 1, first: 4 }, "miii"),
+    (
+        Instr::Next {
+            low: 2,
+            slot: 0,
+            parameter: 0,
+            way: Direction::Downward,
+            length: 2,
+        },
+        "mii",
+    ),
+    (Instr::NewLine, "m"),
+    (Instr::Leave, "m"),
 ];
 
-const REVERSE_LOOP_KINDS: &[&[Kind]] = &[
-    NONE,
-    NONE,
-    NUMBER,
-    NUMBERS,
-    COUNTING,
-    &[Kind::Counting, Kind::Operand(Ty::Integer)],
-    COUNTING,
-    NONE,
-    NONE,
-];
-
-/// The squares of 1 to 3, mod 7: a variable and a constant are right operands.
-const SQUARES: &[Instr] = &[
-    Instr::Start(0),
-    Instr::Push(1),
-    Instr::Push(3),
-    Instr::For(FIRST, Direction::Upward, 5),
-    Instr::Read(FIRST),
-    Instr::BinaryVariable(BinaryOp::Multiply, Ty::Integer, FIRST),
-    Instr::BinaryConstant(BinaryOp::Modulo, Ty::Integer, 7),
-    Instr::Put(1),
-    Instr::Next(4),
-    Instr::NewLine,
-    Instr::Leave,
-];
-
-const SQUARES_KINDS: &[&[Kind]] = &[
-    NONE,
-    NONE,
-    NUMBER,
-    NUMBERS,
-    COUNTING,
-    &[Kind::Counting, Kind::Operand(Ty::Integer)],
-    &[Kind::Counting, Kind::Operand(Ty::Integer)],
-    &[Kind::Counting, Kind::Operand(Ty::Integer)],
-    COUNTING,
-    NONE,
-    NONE,
+/// The squares of 1 to 3, mod 7: a variable and a constant are operands.
+const SQUARES: &[Line] = &[
+    (Instr::Start(0), ""),
+    (
+        Instr::Set {
+            value: 1,
+            ty: Ty::Integer,
+            to: CELL_2,
+        },
+        "m",
+    ),
+    (
+        Instr::Set {
+            value: 3,
+            ty: Ty::Integer,
+            to: CELL_3,
+        },
+        "mi",
+    ),
+    (
+        Instr::For {
+            low: 2,
+            slot: 0,
+            parameter: 0,
+            way: Direction::Upward,
+            length: 5,
+        },
+        "mii",
+    ),
+    (Instr::Abandon(4), "mii"),
+    (
+        Instr::Binary {
+            op: MULTIPLY,
+            left: FIRST,
+            right: FIRST,
+            to: CELL_4,
+        },
+        "mii",
+    ),
+    (
+        Instr::BinaryConstant {
+            op: MODULO,
+            left: CELL_4,
+            right: 7,
+            to: CELL_4,
+        },
+        "miii",
+    ),
+    (Instr::Put { text: 1, first: 4 }, "miii"),
+    (
+        Instr::Next {
+            low: 2,
+            slot: 0,
+            parameter: 0,
+            way: Direction::Upward,
+            length: 3,
+        },
+        "mii",
+    ),
+    (Instr::NewLine, "m"),
+    (Instr::Leave, "m"),
 ];
 
 /// A number over the constant 0, in a block that declares an object, whose Finalize prints a line.
-const ZERO_DIVISOR: &[Instr] = &[
-    Instr::Start(0),
-    Instr::Enter(1, 5),
-    Instr::Declare(0, 0),
-    Instr::Push(2_147_483_647),
-    Instr::BinaryConstant(BinaryOp::Divide, Ty::Integer, 0),
-    Instr::Assign(FIRST),
-    Instr::Leave,
-    Instr::Leave,
-    Instr::PutLine(0),
-    Instr::Leave,
-];
-
-const ZERO_DIVISOR_KINDS: &[&[Kind]] = &[
-    NONE,
-    NONE,
-    BLOCK,
-    BLOCK,
-    &[Kind::Block, Kind::Operand(Ty::Integer)],
-    &[Kind::Block, Kind::Operand(Ty::Integer)],
-    BLOCK,
-    NONE,
-    NONE,
-    NONE,
+const ZERO_DIVISOR: &[Line] = &[
+    (Instr::Start(0), ""),
+    (
+        Instr::Enter {
+            slots: 1,
+            length: 5,
+        },
+        "m",
+    ),
+    (Instr::Declare { slot: 0, record: 0 }, "m["),
+    (
+        Instr::Set {
+            value: 2_147_483_647,
+            ty: Ty::Integer,
+            to: CELL_3,
+        },
+        "m[",
+    ),
+    (
+        Instr::BinaryConstant {
+            op: DIVIDE,
+            left: CELL_3,
+            right: 0,
+            to: CELL_3,
+        },
+        "m[i",
+    ),
+    (
+        Instr::Move {
+            from: CELL_3,
+            ty: Ty::Integer,
+            to: OUTER,
+        },
+        "m[i",
+    ),
+    (Instr::Leave, "m["),
+    (Instr::Skip(0), "m"),
+    (Instr::Leave, "m"),
+    (FAREWELL, "f"),
+    (Instr::Leave, "f"),
 ];
 
 /// An overflow in a block that declares an object, whose Finalize prints a line.
-const OVERFLOW: &[Instr] = &[
-    Instr::Start(0),
-    Instr::Enter(1, 6),
-    Instr::Declare(0, 0),
-    Instr::Push(2_147_483_647),
-    Instr::Push(1),
-    Instr::Binary(BinaryOp::Add, Ty::Integer),
-    Instr::Assign(FIRST),
-    Instr::Leave,
-    Instr::Leave,
-    Instr::PutLine(0),
-    Instr::Leave,
-];
-
-const OVERFLOW_KINDS: &[&[Kind]] = &[
-    NONE,
-    NONE,
-    BLOCK,
-    BLOCK,
-    &[Kind::Block, Kind::Operand(Ty::Integer)],
-    &[
-        Kind::Block,
-        Kind::Operand(Ty::Integer),
-        Kind::Operand(Ty::Integer),
-    ],
-    &[Kind::Block, Kind::Operand(Ty::Integer)],
-    BLOCK,
-    NONE,
-    NONE,
-    NONE,
+const OVERFLOW: &[Line] = &[
+    (Instr::Start(0), ""),
+    (
+        Instr::Enter {
+            slots: 1,
+            length: 5,
+        },
+        "m",
+    ),
+    (Instr::Declare { slot: 0, record: 0 }, "m["),
+    (
+        Instr::Set {
+            value: 2_147_483_647,
+            ty: Ty::Integer,
+            to: CELL_3,
+        },
+        "m[",
+    ),
+    (
+        Instr::Set {
+            value: 1,
+            ty: Ty::Integer,
+            to: CELL_4,
+        },
+        "m[i",
+    ),
+    (
+        Instr::Binary {
+            op: ADD,
+            left: CELL_3,
+            right: CELL_4,
+            to: OUTER,
+        },
+        "m[ii",
+    ),
+    (Instr::Leave, "m["),
+    (Instr::Skip(0), "m"),
+    (Instr::Leave, "m"),
+    (FAREWELL, "f"),
+    (Instr::Leave, "f"),
 ];
 
 /// -7 mod 2, -7 rem 2 and whether they differ.
-const SIGNS: &[Instr] = &[
-    Instr::Start(0),
-    Instr::Push(u64::MAX - 6),
-    Instr::Push(2),
-    Instr::Binary(BinaryOp::Modulo, Ty::Integer),
-    Instr::Push(u64::MAX - 6),
-    Instr::Push(2),
-    Instr::Binary(BinaryOp::Remainder, Ty::Integer),
-    Instr::Push(1),
-    Instr::PutLine(2),
-    Instr::Leave,
-];
-
-const SIGNS_KINDS: &[&[Kind]] = &[
-    NONE,
-    NONE,
-    NUMBER,
-    NUMBERS,
-    NUMBER,
-    NUMBERS,
-    &[
-        Kind::Operand(Ty::Integer),
-        Kind::Operand(Ty::Integer),
-        Kind::Operand(Ty::Integer),
-    ],
-    NUMBERS,
-    &[
-        Kind::Operand(Ty::Integer),
-        Kind::Operand(Ty::Integer),
-        Kind::Operand(Ty::Boolean),
-    ],
-    NONE,
+const SIGNS: &[Line] = &[
+    (Instr::Start(0), ""),
+    (
+        Instr::Set {
+            value: u64::MAX - 6,
+            ty: Ty::Integer,
+            to: CELL_2,
+        },
+        "m",
+    ),
+    (
+        Instr::BinaryConstant {
+            op: MODULO,
+            left: CELL_2,
+            right: 2,
+            to: CELL_2,
+        },
+        "mi",
+    ),
+    (
+        Instr::Set {
+            value: u64::MAX - 6,
+            ty: Ty::Integer,
+            to: CELL_3,
+        },
+        "mi",
+    ),
+    (
+        Instr::BinaryConstant {
+            op: REMAINDER,
+            left: CELL_3,
+            right: 2,
+            to: CELL_3,
+        },
+        "mii",
+    ),
+    (
+        Instr::Set {
+            value: 1,
+            ty: Ty::Boolean,
+            to: CELL_4,
+        },
+        "mii",
+    ),
+    (Instr::PutLine { text: 2, first: 2 }, "miib"),
+    (Instr::Leave, "m"),
 ];
 
 /// A loop without an end.
-const ENDLESS: &[Instr] = &[
-    Instr::Start(0),
-    Instr::Loop(1),
-    Instr::Repeat(0),
-    Instr::Leave,
+const ENDLESS: &[Line] = &[
+    (Instr::Start(0), ""),
+    (Instr::Back(0), "m"),
+    (Instr::Leave, "m"),
 ];
-
-const ENDLESS_KINDS: &[&[Kind]] = &[NONE, NONE, LOOP, NONE];
 
 /// Two blocks one behind the other. Each declares an object of its own type, and each type has its Finalize.
-const TWO_BLOCKS: &[Instr] = &[
-    Instr::Start(0),
-    Instr::Enter(1, 2),
-    Instr::Declare(0, 1),
-    Instr::Leave,
-    Instr::Enter(1, 2),
-    Instr::Declare(0, 0),
-    Instr::Leave,
-    Instr::Leave,
-    Instr::PutLine(0),
-    Instr::Leave,
-    Instr::NewLine,
-    Instr::Leave,
-];
-
-const TWO_BLOCKS_KINDS: &[&[Kind]] = &[
-    NONE, NONE, BLOCK, BLOCK, NONE, BLOCK, BLOCK, NONE, NONE, NONE, NONE, NONE,
+const TWO_BLOCKS: &[Line] = &[
+    (Instr::Start(0), ""),
+    (
+        Instr::Enter {
+            slots: 1,
+            length: 2,
+        },
+        "m",
+    ),
+    (Instr::Declare { slot: 0, record: 1 }, "m["),
+    (Instr::Leave, "m["),
+    (Instr::Skip(0), "m"),
+    (
+        Instr::Enter {
+            slots: 1,
+            length: 2,
+        },
+        "m",
+    ),
+    (Instr::Declare { slot: 0, record: 0 }, "m["),
+    (Instr::Leave, "m["),
+    (Instr::Skip(0), "m"),
+    (Instr::Leave, "m"),
+    (FAREWELL, "f"),
+    (Instr::Leave, "f"),
+    (Instr::NewLine, "f"),
+    (Instr::Leave, "f"),
 ];
 
 /// A variable of the main procedure has the value 5, and a block declares an object. Its Finalize has a block of its own, with an
-/// object of the other type, and prints the variable.
-const BODY_IN_ITS_HOME: &[Instr] = &[
-    Instr::Start(0),
-    Instr::DeclareScalar(0, Ty::Integer),
-    Instr::Push(5),
-    Instr::Assign(FIRST),
-    Instr::Enter(1, 2),
-    Instr::Declare(0, 0),
-    Instr::Leave,
-    Instr::Leave,
-    Instr::Enter(1, 2),
-    Instr::Declare(0, 1),
-    Instr::Leave,
-    Instr::Read(FIRST),
-    Instr::PutLine(1),
-    Instr::Leave,
-    Instr::NewLine,
-    Instr::Leave,
+/// object of the other type, counts the variable up and prints it.
+const BODY_IN_ITS_HOME: &[Line] = &[
+    (Instr::Start(0), ""),
+    (Instr::Number, "m"),
+    (
+        Instr::Set {
+            value: 5,
+            ty: Ty::Integer,
+            to: FIRST,
+        },
+        "m",
+    ),
+    (
+        Instr::Enter {
+            slots: 1,
+            length: 2,
+        },
+        "m",
+    ),
+    (Instr::Declare { slot: 0, record: 0 }, "m["),
+    (Instr::Leave, "m["),
+    (Instr::Skip(0), "m"),
+    (Instr::Leave, "m"),
+    (
+        Instr::Enter {
+            slots: 1,
+            length: 2,
+        },
+        "f",
+    ),
+    (Instr::Declare { slot: 0, record: 1 }, "f["),
+    (Instr::Leave, "f["),
+    (Instr::Skip(0), "f"),
+    (FETCH_OUTER, "f"),
+    (
+        Instr::BinaryConstant {
+            op: ADD,
+            left: CELL_1,
+            right: 1,
+            to: CELL_1,
+        },
+        "fi",
+    ),
+    (
+        Instr::Store {
+            from: CELL_1,
+            ty: Ty::Integer,
+            out: 1,
+            slot: 0,
+        },
+        "fi",
+    ),
+    (FETCH_OUTER, "f"),
+    (Instr::PutLine { text: 1, first: 1 }, "fi"),
+    (Instr::Leave, "f"),
+    (Instr::NewLine, "f"),
+    (Instr::Leave, "f"),
 ];
 
-const BODY_IN_ITS_HOME_KINDS: &[&[Kind]] = &[
-    NONE, NONE, NONE, NUMBER, NONE, BLOCK, BLOCK, NONE, NONE, BLOCK, BLOCK, NONE, NUMBER, NONE,
-    NONE, NONE,
-];
+/// Prints a line, in a body without operands.
+const FAREWELL: Instr = Instr::PutLine { text: 0, first: 1 };
+
+/// Puts the first variable of the main procedure, in the body of another.
+const FETCH_OUTER: Instr = Instr::Fetch {
+    out: 1,
+    slot: 0,
+    ty: Ty::Integer,
+    to: CELL_1,
+};
 
 /// A text of these parts.
 fn template_of(alloc: Global, parts: Vec<TextPart>) -> Result<Template, AllocError> {
@@ -324,33 +476,13 @@ fn texts_of(alloc: Global) -> Result<Vec<Template>, AllocError> {
     Ok(texts)
 }
 
-/// The table of these stacks, one before each instruction.
-fn kinds_of(alloc: Global, stacks: &[&[Kind]]) -> Result<Kinds, AllocError> {
-    let mut notes = KindNotes::new(alloc);
-    for stack in stacks {
-        for kind in *stack {
-            notes.enter(*kind)?;
-        }
-        notes.note()?;
-        for _ in 0..stack.len() {
-            notes.leave();
-        }
-    }
-    Ok(notes.finish())
-}
-
-/// The code of these instructions: the main procedure stands behind the first of them, and at each of these places the Finalize
-/// of a record type.
-fn code_of(
-    alloc: Global,
-    instructions: &[Instr],
-    stacks: &[&[Kind]],
-    finalizers: &[usize],
-) -> Result<Code, AllocError> {
+/// The code of these lines: the main procedure stands behind the first of them, and at each of these places the Finalize of a record
+/// type.
+fn code_of(alloc: Global, lines: &[Line], finalizers: &[usize]) -> Result<Code, AllocError> {
     let mut entries = vec![in alloc;
         Entry {
             level: 0,
-            slots: 1,
+            slots: MAIN_SLOTS,
             place: 1
         },
     ]?;
@@ -362,13 +494,16 @@ fn code_of(
         })?;
         entries.push(Entry {
             level: 1,
-            slots: 1,
+            slots: BODY_SLOTS,
             place: *place,
         })?;
     }
+    let notes = notes_of(alloc, lines)?;
+    let room = notes.room();
     Ok(Code {
-        instructions: Vec::from_slice(alloc, instructions)?,
-        kinds: kinds_of(alloc, stacks)?,
+        instructions: instructions_of(alloc, lines)?,
+        kinds: notes.finish(),
+        room,
         entries,
         records,
         texts: texts_of(alloc)?,
@@ -377,13 +512,8 @@ fn code_of(
 }
 
 /// Such code, which is well formed.
-fn valid_code_of(
-    alloc: Global,
-    instructions: &[Instr],
-    stacks: &[&[Kind]],
-    finalizers: &[usize],
-) -> Result<ValidCode, Fail> {
-    let code = code_of(alloc, instructions, stacks, finalizers)?;
+fn valid_code_of(alloc: Global, lines: &[Line], finalizers: &[usize]) -> Result<ValidCode, Fail> {
+    let code = code_of(alloc, lines, finalizers)?;
     match code.validate() {
         Some(valid) => Ok(valid),
         None => Err(Fail::new("the code is not well formed")),
@@ -438,15 +568,14 @@ fn printed(alloc: Global, outcome: &Outcome) -> Result<Vec<u8>, AllocError> {
     Ok(bytes)
 }
 
-/// A run of these instructions, of at most so many steps.
+/// A run of the code of these lines, of at most so many steps.
 fn outcome_of(
     alloc: Global,
-    instructions: &[Instr],
-    stacks: &[&[Kind]],
+    lines: &[Line],
     finalizers: &[usize],
     steps: u64,
 ) -> Result<Outcome, Fail> {
-    let code = valid_code_of(alloc, instructions, stacks, finalizers)?;
+    let code = valid_code_of(alloc, lines, finalizers)?;
     let mut machine = Machine::new(alloc, &code, Order::Newest)?;
     let _ = machine.run(steps);
     Ok(machine.finish())
@@ -455,7 +584,7 @@ fn outcome_of(
 #[test]
 fn objects_are_finalized_newest_first(rt: HostRuntime) -> Result<(), Fail> {
     let alloc = rt.alloc();
-    let code = valid_code_of(alloc, TWO_OBJECTS, TWO_OBJECTS_KINDS, &[6])?;
+    let code = valid_code_of(alloc, TWO_OBJECTS, &[7])?;
     let mut machine = Machine::new(alloc, &code, Order::Newest)?;
     let progress = machine.run(1000);
     assert_eq!(rt; progress, Progress::Ended);
@@ -464,7 +593,7 @@ fn objects_are_finalized_newest_first(rt: HostRuntime) -> Result<(), Fail> {
     let shown = outcome_shown(alloc, &outcome)?;
     assert_eq!(rt;
         shown.as_str(),
-        "live-1-m2 live-2-m2 finalize-2-scope print newline finalize-1-scope print newline done picks=0 steps=26"
+        "live-1-m2 live-2-m2 finalize-2-scope print newline finalize-1-scope print newline done picks=0 steps=14"
     );
     Ok(())
 }
@@ -472,20 +601,20 @@ fn objects_are_finalized_newest_first(rt: HostRuntime) -> Result<(), Fail> {
 #[test]
 fn a_run_ends_at_its_limit(rt: HostRuntime) -> Result<(), Fail> {
     let alloc = rt.alloc();
-    let code = valid_code_of(alloc, TWO_OBJECTS, TWO_OBJECTS_KINDS, &[6])?;
+    let code = valid_code_of(alloc, TWO_OBJECTS, &[7])?;
     let mut machine = Machine::new(alloc, &code, Order::Oldest)?;
-    assert_eq!(rt; machine.run(7), Progress::Running);
+    assert_eq!(rt; machine.run(3), Progress::Running);
     assert_eq!(rt; machine.step(), Progress::Running);
     let outcome = machine.finish();
     let shown = outcome_shown(alloc, &outcome)?;
-    assert_eq!(rt; shown.as_str(), "live-1-m2 live-2-m2 limit picks=0 steps=8");
+    assert_eq!(rt; shown.as_str(), "live-1-m2 live-2-m2 limit picks=0 steps=4");
     Ok(())
 }
 
 #[test]
 fn a_body_that_is_missing_is_refused(rt: HostRuntime) -> Result<(), Fail> {
     let alloc = rt.alloc();
-    let code = code_of(alloc, &[Instr::Start(7), Instr::Leave], &[NONE, NONE], &[0])?;
+    let code = code_of(alloc, &[(Instr::Start(7), ""), (Instr::Leave, "m")], &[])?;
     assert!(rt; code.validate().is_none());
     Ok(())
 }
@@ -493,7 +622,7 @@ fn a_body_that_is_missing_is_refused(rt: HostRuntime) -> Result<(), Fail> {
 #[test]
 fn an_exit_statement_leaves_its_loop(rt: HostRuntime) -> Result<(), Fail> {
     let alloc = rt.alloc();
-    let outcome = outcome_of(alloc, LOOP_WITH_EXIT, LOOP_WITH_EXIT_KINDS, &[0], 1000)?;
+    let outcome = outcome_of(alloc, LOOP_WITH_EXIT, &[], 1000)?;
     let bytes = printed(alloc, &outcome)?;
     assert_eq!(rt; bytes.as_slice(), b" 3\n".as_slice());
     Ok(())
@@ -502,7 +631,7 @@ fn an_exit_statement_leaves_its_loop(rt: HostRuntime) -> Result<(), Fail> {
 #[test]
 fn a_loop_runs_in_reverse(rt: HostRuntime) -> Result<(), Fail> {
     let alloc = rt.alloc();
-    let outcome = outcome_of(alloc, REVERSE_LOOP, REVERSE_LOOP_KINDS, &[0], 1000)?;
+    let outcome = outcome_of(alloc, REVERSE_LOOP, &[], 1000)?;
     let bytes = printed(alloc, &outcome)?;
     assert_eq!(rt; bytes.as_slice(), b" 3 2 1\n".as_slice());
     Ok(())
@@ -511,7 +640,7 @@ fn a_loop_runs_in_reverse(rt: HostRuntime) -> Result<(), Fail> {
 #[test]
 fn right_operands_are_part_of_instructions(rt: HostRuntime) -> Result<(), Fail> {
     let alloc = rt.alloc();
-    let outcome = outcome_of(alloc, SQUARES, SQUARES_KINDS, &[0], 1000)?;
+    let outcome = outcome_of(alloc, SQUARES, &[], 1000)?;
     let bytes = printed(alloc, &outcome)?;
     assert_eq!(rt; bytes.as_slice(), b" 1 4 2\n".as_slice());
     Ok(())
@@ -520,11 +649,11 @@ fn right_operands_are_part_of_instructions(rt: HostRuntime) -> Result<(), Fail> 
 #[test]
 fn a_zero_divisor_raises_and_finalizes(rt: HostRuntime) -> Result<(), Fail> {
     let alloc = rt.alloc();
-    let outcome = outcome_of(alloc, ZERO_DIVISOR, ZERO_DIVISOR_KINDS, &[8], 1000)?;
+    let outcome = outcome_of(alloc, ZERO_DIVISOR, &[9], 1000)?;
     let shown = outcome_shown(alloc, &outcome)?;
     assert_eq!(rt;
         shown.as_str(),
-        "live-1-m2 finalize-1-scope print newline raised picks=0 steps=17"
+        "live-1-m2 finalize-1-scope print newline raised picks=0 steps=11"
     );
     Ok(())
 }
@@ -532,11 +661,11 @@ fn a_zero_divisor_raises_and_finalizes(rt: HostRuntime) -> Result<(), Fail> {
 #[test]
 fn an_overflow_raises_and_finalizes(rt: HostRuntime) -> Result<(), Fail> {
     let alloc = rt.alloc();
-    let outcome = outcome_of(alloc, OVERFLOW, OVERFLOW_KINDS, &[9], 1000)?;
+    let outcome = outcome_of(alloc, OVERFLOW, &[9], 1000)?;
     let shown = outcome_shown(alloc, &outcome)?;
     assert_eq!(rt;
         shown.as_str(),
-        "live-1-m2 finalize-1-scope print newline raised picks=0 steps=18"
+        "live-1-m2 finalize-1-scope print newline raised picks=0 steps=12"
     );
     Ok(())
 }
@@ -544,7 +673,7 @@ fn an_overflow_raises_and_finalizes(rt: HostRuntime) -> Result<(), Fail> {
 #[test]
 fn a_text_has_images(rt: HostRuntime) -> Result<(), Fail> {
     let alloc = rt.alloc();
-    let outcome = outcome_of(alloc, SIGNS, SIGNS_KINDS, &[0], 1000)?;
+    let outcome = outcome_of(alloc, SIGNS, &[], 1000)?;
     let bytes = printed(alloc, &outcome)?;
     assert_eq!(rt; bytes.as_slice(), b" 1-1 TRUE\n".as_slice());
     Ok(())
@@ -553,7 +682,7 @@ fn a_text_has_images(rt: HostRuntime) -> Result<(), Fail> {
 #[test]
 fn an_endless_loop_ends_at_the_limit(rt: HostRuntime) -> Result<(), Fail> {
     let alloc = rt.alloc();
-    let outcome = outcome_of(alloc, ENDLESS, ENDLESS_KINDS, &[0], 100)?;
+    let outcome = outcome_of(alloc, ENDLESS, &[], 100)?;
     let shown = outcome_shown(alloc, &outcome)?;
     assert_eq!(rt; shown.as_str(), "limit picks=0 steps=100");
     Ok(())
@@ -562,7 +691,7 @@ fn an_endless_loop_ends_at_the_limit(rt: HostRuntime) -> Result<(), Fail> {
 #[test]
 fn a_block_finalizes_what_it_declares(rt: HostRuntime) -> Result<(), Fail> {
     let alloc = rt.alloc();
-    let outcome = outcome_of(alloc, TWO_BLOCKS, TWO_BLOCKS_KINDS, &[8, 10], 1000)?;
+    let outcome = outcome_of(alloc, TWO_BLOCKS, &[10, 12], 1000)?;
     let shown = outcome_shown(alloc, &outcome)?;
     // What the first block declared is gone with it, and the masters between the blocks have had their numbers.
     assert!(rt;
@@ -577,13 +706,7 @@ fn a_block_finalizes_what_it_declares(rt: HostRuntime) -> Result<(), Fail> {
 #[test]
 fn a_body_stands_in_its_home(rt: HostRuntime) -> Result<(), Fail> {
     let alloc = rt.alloc();
-    let outcome = outcome_of(
-        alloc,
-        BODY_IN_ITS_HOME,
-        BODY_IN_ITS_HOME_KINDS,
-        &[8, 14],
-        1000,
-    )?;
+    let outcome = outcome_of(alloc, BODY_IN_ITS_HOME, &[8, 18], 1000)?;
     let shown = outcome_shown(alloc, &outcome)?;
     // Object 1 is the variable; master 3 is the body, whose own block is master 4.
     assert!(rt;
@@ -593,6 +716,6 @@ fn a_body_stands_in_its_home(rt: HostRuntime) -> Result<(), Fail> {
         "{shown}"
     );
     let bytes = printed(alloc, &outcome)?;
-    assert_eq!(rt; bytes.as_slice(), b"\n 5\n".as_slice());
+    assert_eq!(rt; bytes.as_slice(), b"\n 6\n".as_slice());
     Ok(())
 }

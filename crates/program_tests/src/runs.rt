@@ -78,7 +78,7 @@ fn traces_of_runs(rt: HostRuntime) -> Result<(), Fail> {
         (EMPTY, 1000, "end done\n"),
         (EMPTY, 0, "end limit\n"),
         (TWO_OBJECTS, 1000, TWO_OBJECTS_TRACE),
-        (ENDLESS, 5, "live 1 m1\nend limit\n"),
+        (ENDLESS, 2, "live 1 m1\nend limit\n"),
         (EXIT, 1000, EXIT_TRACE),
         (OVERFLOW, 1000, OVERFLOW_TRACE),
         (COUNTED, 1000, COUNTED_TRACE),

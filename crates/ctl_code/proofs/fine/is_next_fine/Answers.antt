@@ -1,14 +1,16 @@
-use Rattle.std.proofs.Common.{ap, drop, refl}
-use Rattle.std.specs.Prelude.{slice_get}
+use Rattle.std.proofs.Common.{◌+◌, ◌-◌, refl}
 use Rattle.ctl_code.specs.Kinds.{stack_at}
-use Rattle.ctl_code.proofs.Lists.{top_split}
+use Rattle.ctl_code.specs.Valid.{Leads}
+use Rattle.ctl_code.proofs.Shapes.{bounded, not_bounded}
 use Rattle.ctl_code.proofs.fine.is_next_fine.Goals as goal
 
-pub returns-then-has : goal.returns-then-has
-returns-then-has c =
+pub returns-then-is_bounded : goal.returns-then-is_bounded
+returns-then-is_bounded c =
     let stack = stack_at c.args.code.now.kinds c.args.place in
-    let top = top_split stack _ (c.if-has.ensures.0 refl) in
-    (λ t. let back = c.leads_back.ensures.0 t in (back.0, (drop 1 stack, top, back.1)), λ fine. c.leads_back.ensures.1 (fine.0, fine.1.2))
+    let step = bounded c.args.low c.args.slot c.args.parameter stack (λ below. Leads c.args.code.now (c.args.place - c.args.length) stack × Leads c.args.code.now (c.args.place + 1) below) (c.if-is_bounded.ensures.0 refl) in
+    (λ t. let r = c.leads_back_to_turn.ensures.0 t in (r.0.0, step.0 (r.0.1, r.1)), λ h. let r = step.1 h.1 in c.leads_back_to_turn.ensures.1 ((h.0, r.0), r.1))
 
-pub returns-else-has : goal.returns-else-has
-returns-else-has c = (λ t. cc (t, c.if-has.false), λ fine. c.has.ensures.1 (ap (λ s. slice_get s 0) fine.1.1))
+pub returns-else-is_bounded : goal.returns-else-is_bounded
+returns-else-is_bounded c =
+    let stack = stack_at c.args.code.now.kinds c.args.place in
+    (λ t. cc (t, c.if-is_bounded.false), λ h. absurd (not_bounded c.args.low c.args.slot c.args.parameter stack (λ below. Leads c.args.code.now (c.args.place - c.args.length) stack × Leads c.args.code.now (c.args.place + 1) below) (λ b. cc (c.is_bounded.ensures.1 b, c.if-is_bounded.false)) h.1))

@@ -1,4 +1,4 @@
-use Rattle.ctl_code.proofs.FittingFrames.{keeps_to_its_code}
+use Rattle.ctl_code.proofs.FittingSteps.{keeps_to_its_code}
 use Rattle.ctl_code.proofs.laws.valid_code_keeps_to_its_code.Goals as goal
 
 pub returns : goal.returns

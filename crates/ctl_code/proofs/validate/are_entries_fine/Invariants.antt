@@ -1,8 +1,8 @@
-use Rattle.std.proofs.Common.{◌≡◌, ℕ, ◌<◌, [], Some}
+use Rattle.std.proofs.Common.{◌≡◌, ℕ, ◌<◌, Some}
 use Rattle.std.specs.Prelude.{slice_get}
 use Rattle.ctl_code.specs.declared.code.Entry.{Entry}
-use Rattle.ctl_code.specs.Valid.{Leads}
+use Rattle.ctl_code.specs.Valid.{IsBegun}
 use Rattle.ctl_code.proofs.validate.are_entries_fine.Given as goal
 
 abbrev pub invariant-loop-entry : goal.invariant-loop-entry
-invariant-loop-entry l = (f : ℕ) (e : Entry) → f < l.entry-index → slice_get l.code.entries.items f ≡ Some e → Leads l.code e.place []
+invariant-loop-entry l = (f : ℕ) (e : Entry) → f < l.entry-index → slice_get l.code.entries.items f ≡ Some e → IsBegun l.code e

@@ -1,8 +1,9 @@
-use Rattle.std.proofs.Common.{◌≡◌, ◌++◌, ◌+◌, ◌<◌, ◌≤◌, [], ◌∷◌, length, drop, sym, ap, ◌∙◌, subst, get_or, append-nil}
+use Rattle.std.proofs.Common.{◌≡◌, ◌++◌, ◌+◌, ◌<◌, ◌≤◌, [], ◌∷◌, None, length, drop, sym, ap, ◌∙◌, subst, get_or, append-nil}
+use Rattle.std.specs.Prelude.{slice_get}
 use Rattle.std.proofs.lemmas.List.{drop_all}
 use Rattle.ctl_code.specs.declared.code.Instr.TheVariants.{Start}
-use Rattle.ctl_gen.specs.Emitted.{Emitted, appended, as_it_is, followed, one}
-use Rattle.ctl_gen.specs.Layout.{bodies, body_code, entries_from, operations_of, statement}
+use Rattle.ctl_gen.specs.Emitted.{Emitted, lined, one, stated}
+use Rattle.ctl_gen.specs.Layout.{bodies, entries_from, operations_of}
 use Rattle.ctl_gen.proofs.Emission.{turn_of}
 use Rattle.ctl_gen.proofs.EmittedBodies.{all_emitted, all_instructions, all_kinds, all_texts, begun, begun_place, next_body, next_entry, nothing_stands}
 use Rattle.ctl_gen.proofs.generate.assemble.Goals as goal
@@ -12,9 +13,9 @@ loop-subprogram-init c =
     let main = c.args.program.now.main in
     let ss = c.args.program.now.subprograms in
     let e = c.put.new.self in
-    let first : e ≡ begun main = c.in_ok-put.ensures ∙ ap (followed (one (Start main) as_it_is)) c.new-emitter.ensures in
+    let first : e ≡ begun main = c.in_ok-put.ensures ∙ ap (lined (one (Start main))) c.new-emitter.ensures in
     let at = begun_place main in (
-      ap (appended (statement (bodies ss))) first,
+      ap (stated (bodies ss) None) first,
       ap (λ es. es ++ entries_from (length e.instructions) (length e.texts) ss) c.new-entries.ensures.items
           ∙ ap (λ n. entries_from n (length e.texts) ss) (ap (λ (x : Emitted). length x.instructions) first ∙ at.0)
           ∙ ap (λ n. entries_from 1 n ss) (ap (λ (x : Emitted). length x.texts) first ∙ at.1),
@@ -27,44 +28,48 @@ loop-subprogram-preserved c =
     let i = c.loop-subprogram.subprogram-index in
     let s = c.subprogram-item.result in
     let e0 = c.loop-subprogram.emitter in
-    let e1 = c.master.new.self in
+    let e1 = c.body.new.self in
     let done = c.loop-subprogram.entries.items in
     let same = c.as_slice-subprogram-items.ensures in
     let within = subst (λ xs. i < length xs) same c.loop-subprogram-test.true in
     let item = subst (λ xs. s ≡ get_or xs i s) same c.subprogram-item.is in
     let more = drop (i + 1) ss in (
-      next_body s more e0 e1 c.in_ok-master.ensures
-          ∙ turn_of (λ xs. appended (statement (bodies xs)) e0) ss i s within item
+      next_body s more e0 e1 c.in_ok-body.ensures
+          ∙ turn_of (λ xs. stated (bodies xs) None e0) ss i s within item
           ∙ c.loop-subprogram.invariant.0,
       ap (λ es. es ++ entries_from (length e1.instructions) (length e1.texts) more) (c.in_ok-push.ensures.items ∙ ap (λ e. done ++ e ∷ []) c.entry_of.ensures)
-          ∙ next_entry s more done e0 e1 c.in_ok-master.ensures
+          ∙ next_entry s more done e0 e1 c.in_ok-body.ensures
           ∙ turn_of (λ xs. done ++ entries_from (length e0.instructions) (length e0.texts) xs) ss i s within item
           ∙ c.loop-subprogram.invariant.1,
-      nothing_stands (body_code s) e0 e1 c.in_ok-master.ensures c.loop-subprogram.invariant.2,
+      nothing_stands s e0 e1 c.in_ok-body.ensures c.loop-subprogram.invariant.2,
     )
 
 pub returns-clause-laid_out : goal.returns-clause-laid_out
 returns-clause-laid_out c =
-    let main = c.args.program.now.main in
-    let ss = c.args.program.now.subprograms in
+    let p = c.args.program.now in
+    let ss = p.subprograms in
     let e = c.loop-subprogram.emitter in
     let done = c.loop-subprogram.entries.items in
     let i = c.loop-subprogram.subprogram-index in
     let end = sym (drop_all i ss (subst (λ xs. length xs ≤ i) c.as_slice-subprogram-items.ensures c.loop-subprogram-test.false)) in
-    let all : e ≡ appended (statement (bodies ss)) (begun main) = all_emitted main ss e (ap (λ xs. appended (statement (bodies xs)) e) end ∙ c.loop-subprogram.invariant.0) in
+    let all : e ≡ stated (bodies ss) None (begun p.main) = all_emitted p.main ss e (ap (λ xs. stated (bodies xs) None e) end ∙ c.loop-subprogram.invariant.0) in
     record {
-      instructions = c.finish-instructions.ensures.instructions ∙ all_instructions main ss e all;
+      instructions = c.finish-instructions.ensures.instructions ∙ all_instructions p e all;
       entries = sym (append-nil done) ∙ ap (λ xs. done ++ entries_from (length e.instructions) (length e.texts) xs) end ∙ c.loop-subprogram.invariant.1;
       records = c.in_ok-records.ensures ∙ ap operations_of c.as_slice.ensures;
-      texts = c.finish-instructions.ensures.texts ∙ all_texts main ss e all;
+      texts = c.finish-instructions.ensures.texts ∙ all_texts p e all;
       exceptions = c.in_ok-exceptions.ensures ∙ c.as_slice-2.ensures;
     }
 
 pub returns-clause-kinds : goal.returns-clause-kinds
 returns-clause-kinds c =
-    let main = c.args.program.now.main in
-    let ss = c.args.program.now.subprograms in
+    let p = c.args.program.now in
+    let ss = p.subprograms in
     let e = c.loop-subprogram.emitter in
     let i = c.loop-subprogram.subprogram-index in
     let end = sym (drop_all i ss (subst (λ xs. length xs ≤ i) c.as_slice-subprogram-items.ensures c.loop-subprogram-test.false)) in
-    c.finish-instructions.ensures.kinds ∙ all_kinds main ss e (all_emitted main ss e (ap (λ xs. appended (statement (bodies xs)) e) end ∙ c.loop-subprogram.invariant.0))
+    let kept = c.finish-instructions.ensures.kinds in
+    record {
+      kinds = kept ∙ all_kinds p e (all_emitted p.main ss e (ap (λ xs. stated (bodies xs) None e) end ∙ c.loop-subprogram.invariant.0));
+      room = λ place stack is. c.room-room.ensures place stack (ap (λ ks. slice_get ks place) (sym kept) ∙ is);
+    }

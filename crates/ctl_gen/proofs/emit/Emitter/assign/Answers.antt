@@ -1,20 +1,15 @@
-use Rattle.std.proofs.Common.{ap, sym, ◌∙◌}
-use Rattle.ctl_code.specs.declared.code.Instr.TheVariants.{Assign, Missing}
-use Rattle.ctl_gen.specs.Emitted.{appended, followed}
-use Rattle.ctl_gen.specs.Values.{value, value_code, value_type}
-use Rattle.ctl_gen.specs.Layout.{assign, statement}
+use Rattle.std.proofs.Common.{None, ap, sym, ◌∙◌}
+use Rattle.ctl_gen.specs.Emitted.{stated}
+use Rattle.ctl_gen.specs.Values.{value_code}
+use Rattle.ctl_gen.specs.Layout.{assign}
 use Rattle.ctl_gen.proofs.Emission.{on_ok}
-use Rattle.ctl_gen.proofs.EmittedStatements.{one_emitted, taken_emitted}
+use Rattle.ctl_gen.proofs.EmittedStatements.{assigned_out}
 use Rattle.ctl_gen.proofs.emit.Emitter.assign.Goals as goal
 
-pub returns-in_ok-expression-in-Some : goal.returns-in_ok-expression-in-Some
-returns-in_ok-expression-in-Some c = on_ok _ _ c.take.result c.take.ensures (λ e.
+pub returns-in_ok-from-in-None : goal.returns-in_ok-from-in-None
+returns-in_ok-from-in-None c = on_ok _ _ c.take.result c.take.ensures (λ e.
     let x = value_code c.args.value.now in
-    taken_emitted (value_type x) x (Assign c.in-Some.variable) c.args.self.now c.expression.new.self c.take.new.self
-    (c.in_ok-expression-in-Some.ensures ∙ ap (λ t. followed (value t x) c.args.self.now) c.value_type.ensures) e
-    ∙ ap (λ v. appended (statement (assign v x)) c.args.self.now) (sym c.in-Some.is ∙ c.variable_of.ensures))
-
-pub returns-in-None : goal.returns-in-None
-returns-in-None c = on_ok _ _ c.put.result c.put.ensures (λ e.
-    one_emitted Missing c.args.self.now c.put.new.self e
-    ∙ ap (λ v. appended (statement (assign v (value_code c.args.value.now))) c.args.self.now) (sym c.in-None.is ∙ c.variable_of.ensures))
+    let e0 = c.args.self.now in
+    assigned_out c.in-Some.variable x c.value_type-ty.result c.out_to-out.result c.in_ok-from-in-None.from e0 c.held.new.self c.take.new.self
+    c.value_type-ty.ensures (sym c.in-None.is ∙ c.local_cell.ensures) c.out_to-out.ensures c.in_ok-from-in-None.ensures.held c.in_ok-from-in-None.ensures.cell e
+    ∙ ap (λ v. stated (assign v x) None e0) (sym c.in-Some.is ∙ c.variable_of.ensures))

@@ -1,8 +1,7 @@
 use Rattle.std.proofs.Common.{◌+◌, ap, sym, ◌∙◌, drop}
 use Rattle.std.proofs.lemmas.List.{drop_all}
-use Rattle.ctl_gen.specs.Texts.{left}
 use Rattle.ctl_gen.proofs.Emission.{turn_of}
-use Rattle.ctl_gen.proofs.EmittedTexts.{next_left, none_left}
+use Rattle.ctl_gen.proofs.EmittedTexts.{left, next_left, none_left}
 use Rattle.ctl_gen.proofs.emit.Emitter.leave_images.Goals as goal
 
 pub loop-piece-preserved : goal.loop-piece-preserved

@@ -1,6 +1,6 @@
 -- What has left, and what is still to leave, make up the whole.
 use Rattle.std.proofs.Common.{◌≡◌, drop}
-use Rattle.ctl_gen.specs.Texts.{left}
+use Rattle.ctl_gen.proofs.EmittedTexts.{left}
 use Rattle.ctl_gen.proofs.emit.Emitter.leave_images.Given as goal
 
 abbrev pub invariant-loop-piece : goal.invariant-loop-piece

@@ -1,6 +1,0 @@
-use Rattle.std.proofs.Common.{arith}
-use Rattle.ctl_code.proofs.Elements.{is_within}
-use Rattle.ctl_code.proofs.fine.is_record.Goals as goal
-
-pub returns : goal.returns
-returns c = is_within c.args.code.now.records.items c.args.number c.len.result (omega arith)

@@ -1,8 +1,0 @@
-use Rattle.std.proofs.Common.{◌≡◌, ℕ, ◌<◌, ◌≤◌, Some}
-use Rattle.std.specs.Prelude.{slice_get}
-use Rattle.ctl_code_cells.specs.Kinds.{stack_in}
-use Rattle.ctl_code_cells.specs.Windows.{height}
-use Rattle.ctl_code_cells.proofs.kinds.greatest_height.Given as goal
-
-abbrev pub invariant-loop-number : goal.invariant-loop-number
-invariant-loop-number l = (place number : ℕ) → place < l.number-index → slice_get l.before place ≡ Some number → height (stack_in l.stacks number) ≤ l.greatest

@@ -1,5 +1,0 @@
-use Rattle.ctl_code_cells.proofs.Logs.{chooses_by_order}
-use Rattle.ctl_code_cells.proofs.laws.every_choice_is_by_order.Goals as goal
-
-pub returns : goal.returns
-returns c = chooses_by_order c.args.code.now

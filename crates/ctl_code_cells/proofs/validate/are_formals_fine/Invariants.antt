@@ -1,8 +1,0 @@
-use Rattle.std.proofs.Common.{◌≡◌, ℕ, ◌<◌, Some}
-use Rattle.std.specs.Prelude.{slice_get}
-use Rattle.ctl_code_cells.specs.declared.code.Operations.{Operations}
-use Rattle.ctl_code_cells.specs.Valid.{TakesObject}
-use Rattle.ctl_code_cells.proofs.validate.are_formals_fine.Given as goal
-
-abbrev pub invariant-loop-operations : goal.invariant-loop-operations
-invariant-loop-operations l = (t : ℕ) (o : Operations) → t < l.operations-index → slice_get l.code.records.items t ≡ Some o → TakesObject l.code o.initialize × TakesObject l.code o.finalize

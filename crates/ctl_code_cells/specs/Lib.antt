@@ -1,9 +1,0 @@
-pub mod Kinds
-pub mod States
-pub mod Table
-pub mod Steps
-pub mod Laws
-pub mod Stacks
-pub mod Windows
-pub mod Valid
-pub mod Fits

@@ -1,0 +1,199 @@
+-- The code of each well-typed statement and master is well formed.
+use Rattle.std.proofs.Common.{◌≡◌, ℕ, ◌+◌, List, [], ◌∷◌, ◌++◌, length, map, Bool, true, false, Option, Some, None, option_map, refl, sym, ap, ◌∙◌, subst, arith}
+use Rattle.std.specs.Prelude.{◌&&◌}
+use Rattle.ctl_program.specs.declared.types.Ty.{Ty}
+use Rattle.ctl_program.specs.declared.types.Ty.TheVariants.{Integer, Count, Boolean, Address, Handle, Access, Record}
+use Rattle.ctl_program.specs.declared.types.Var.{Var}
+use Rattle.ctl_program.specs.declared.types.RecordType.{RecordType}
+use Rattle.ctl_program.specs.declared.expression.Expr.{Expr}
+use Rattle.ctl_program.specs.declared.statement.Item.{Item}
+use Rattle.ctl_program.specs.declared.statement.Item.TheVariants.{Object}
+use Rattle.ctl_program.specs.declared.statement.Stmt.{Stmt}
+use Rattle.ctl_program.specs.declared.statement.Arm.{Arm}
+use Rattle.ctl_program.specs.declared.statement.Master.{Master}
+use Rattle.ctl_well_typed.specs.Setting as W
+use Rattle.ctl_well_typed.specs.Expressions.{Perhaps}
+use Rattle.ctl_well_typed.specs.Expressions as T
+use Rattle.ctl_well_typed.specs.Statements.{Done, DoneEach, Elaborated, ElaboratedEach, Fills, GuardedEach, Mastered}
+use Rattle.ctl_well_typed.specs.Statements as D
+use Rattle.ctl_code.specs.declared.kinds.Kind.{Kind}
+use Rattle.ctl_code.specs.declared.kinds.Kind.TheVariants.{Block}
+use Rattle.ctl_code.specs.declared.code.Instr.TheVariants as InstrOf
+use Rattle.ctl_code.specs.declared.code.Code.{Code}
+use Rattle.ctl_code.specs.Windows.{variable_at}
+use Rattle.ctl_code.specs.Valid.{IsAtEnd, IsDeclarable}
+use Rattle.ctl_gen.specs.Around.{behind, local_at}
+use Rattle.ctl_gen.specs.Values.{ValueCode, is_run_type, value_code, variable_of}
+use Rattle.ctl_gen.specs.Layout.{ArmCode, ItemCode, MasterCode, StatementCode, all, all_items, arm_code, arms_run, assign, block, exit, has_no_handlers, in_master, inside, item_code, master_code, missing_statement, no_code, statement_code, tested}
+use Rattle.ctl_gen.proofs.Known.{both_true}
+use Rattle.ctl_gen.proofs.StatementLayers.{statement_assign, statement_block, statement_exit, statement_for, statement_if, statement_loop, statement_new_line, statement_null, statement_put, statement_put_line, statement_while}
+use Rattle.ctl_gen.proofs.StatementLayers as L
+use Rattle.ctl_gen.proofs.TreeLayers.{arm_roll, master_roll}
+use Rattle.ctl_gen.proofs.Place.{HasAt}
+use Rattle.ctl_gen.proofs.Formed.{both, both_at, Formed, FormedAt, none, one}
+use Rattle.ctl_gen.proofs.FormedAround.{Agrees, agrees_inside, leave_behind, leaves_formed, newest_there}
+use Rattle.ctl_gen.proofs.FormedArms.{GoodArms, branches_stay}
+use Rattle.ctl_gen.proofs.FormedLines.{block_formed}
+use Rattle.ctl_gen.proofs.FormedStatements.{MayDeclare, Stays, all_stay, assign_formed, declaration_formed, for_stays, leaves_stay, leaves_when_stay, loop_stays, tested_turns, valued_formed}
+use Rattle.ctl_gen.proofs.FormedTexts.{print_formed}
+use Rattle.ctl_gen.proofs.FormedTypes.{run_scalar}
+use Rattle.ctl_gen.proofs.FormedValues.{Fine, typed_fine, usable_as, value_usable}
+
+-- a master has as many slots as it is told to
+pub slots_told : {k : W.Setting} {env : W.Frames} {f : W.Frame} {a : D.Around} {m : Master} → Mastered k env f a m → (master_code m).slots ≡ length f
+slots_told (D.master {f = f} {is = items} {body = body} {hs = hs} elaborated done handled) =
+    ap (λ (z : MasterCode). z.slots) (master_roll (record { slots = length f; items = items; body = body; handlers = hs }))
+
+-- the operations of each record type that is declared around a place are declared there too
+module _ (code : Code) (records : List RecordType) (k : W.Setting) (declarable : (env : W.Frames) (t : ℕ) → W.HasRecord k env t → IsDeclarable code (length env) t) where
+  -- Items ------------------------------------------------------------------------------------------
+
+  may_declare : (env : W.Frames) (ty : Ty) → W.InView k env ty → MayDeclare code (length env) ty
+  may_declare env (Record t) view = declarable env t view
+  may_declare env Integer view = tt
+  may_declare env Count view = tt
+  may_declare env Boolean view = tt
+  may_declare env Address view = tt
+  may_declare env Handle view = tt
+  may_declare env (Access a) view = tt
+
+  abbrev GoodItem : W.Frames → ItemCode → Type 0
+  GoodItem env x = x.runs records ≡ true → (s : List Kind) → Agrees env s → Formed code (x.code s) s (Some s)
+
+  -- the cell of a slot that a declaration fills
+  filled : (env : W.Frames) (slot : ℕ) (h : W.Holding) (s : List Kind) → Fills env slot h → Agrees env s → (at : ℕ) × (variable_at s 0 slot ≡ Some at)
+  filled env slot h s (D.fills names) agrees = agrees.slots (record { level = length env; slot = slot }) h names refl
+
+  object_good : (env : W.Frames) (slot : ℕ) (ty : Ty) (o : Option Expr) → Fills env slot (W.Declared ty) → W.InView k env ty → Perhaps k env o ty → GoodItem env (item_code (Object slot ty o))
+  object_good env slot ty None fresh view T.left_out runs s agrees =
+      let cell = filled env slot (W.Declared ty) s fresh agrees in
+      declaration_formed code records slot cell.0 ty s runs cell.1 (subst (λ n. MayDeclare code n ty) (sym agrees.deep) (may_declare env ty view))
+  object_good env slot ty (Some e) fresh view (T.given h) runs s agrees =
+      let g = both_true (is_run_type ty) (value_code e).runs runs in
+      let cell = filled env slot (W.Declared ty) s fresh agrees in
+      valued_formed code slot cell.0 ty (value_code e) s cell.1 (usable_as code (value_code e) ty (run_scalar ty g.0) (typed_fine code h g.1))
+
+  item_good : {env : W.Frames} {x : Item} → Elaborated k env x → GoodItem env (item_code x)
+  item_good {env} (D.object {number = slot} {t = ty} {value = o} fresh view perhaps) = object_good env slot ty o fresh view perhaps
+  item_good D.silent = λ runs s agrees. none code s
+  item_good (D.collections gathers) = λ runs s agrees. absurd (cc)
+  item_good (D.pool fresh view rooted pool long given) = λ runs s agrees. absurd (cc)
+
+  items_good : {env : W.Frames} {xs : List Item} → ElaboratedEach k env xs → GoodItem env (all_items (map item_code xs))
+  items_good D.no_more_items = λ runs s agrees. none code s
+  items_good (D.one_more_item {i = x} {more = xs} h rest) = λ runs s agrees.
+      let g = both_true ((item_code x).runs records) ((all_items (map item_code xs)).runs records) runs in
+      both code ((item_code x).code s) ((all_items (map item_code xs)).code s) s s (Some s) (item_good h g.0 s agrees) (items_good rest g.1 s agrees)
+
+  -- Statements ---------------------------------------------------------------------------------------
+
+  abbrev pub GoodStatement : W.Frames → StatementCode → Type 0
+  GoodStatement env x = x.runs records ≡ true → Stays code env x.texts x.code
+
+  good_as : (env : W.Frames) (x y : StatementCode) → x ≡ y → GoodStatement env y → GoodStatement env x
+  good_as env x y same h = subst (GoodStatement env) (sym same) h
+
+  not_missing : (env : W.Frames) (x : StatementCode) → x ≡ missing_statement → GoodStatement env x
+  not_missing env x same runs = absurd (let e = sym (ap (λ (z : StatementCode). z.runs records) same) ∙ runs in cc)
+
+  assign_good : (env : W.Frames) (o : Option Var) (x : ValueCode) (t : Ty) → (x.runs ≡ true → Fine code x t) → GoodStatement env (assign o x)
+  assign_good env None x t fine runs a n p agrees texts can = absurd (cc)
+  assign_good env (Some v) x t fine runs a n p agrees texts can = assign_formed code (local_at a.stack v) v x a.stack refl (value_usable code x t (fine runs)) p
+
+  leaving_good : {env : W.Frames} (o : Option Expr) → Perhaps k env o Boolean → GoodStatement env (exit (option_map value_code o))
+  leaving_good {env} None T.left_out runs = leaves_stay code env
+  leaving_good {env} (Some e) (T.given h) runs = leaves_when_stay code env (value_code e) (usable_as code (value_code e) Boolean tt (typed_fine code h runs))
+
+  -- Masters ------------------------------------------------------------------------------------------
+
+  abbrev pub GoodMaster : W.Frames → StatementCode → Type 0
+  GoodMaster env x = x.runs records ≡ true → (m : Kind) (below : List Kind) (n p : ℕ) → Agrees env (m ∷ below) → HasAt code.texts.items n x.texts → IsAtEnd (m ∷ below) → FormedAt code p (x.code (in_master m below) n) (m ∷ below) None
+
+  inside_good : (env : W.Frames) (x : ItemCode) (body : StatementCode) (unhandled : Bool) → GoodItem env x → GoodStatement env body → GoodMaster env (inside x body unhandled)
+  inside_good env x body unhandled items h runs m below n p agrees texts top =
+      let e = both_true (x.runs records) (body.runs records && unhandled) runs in
+      let f = both_true (body.runs records) unhandled e.1 in
+      let s = m ∷ below in
+      let a = in_master m below in
+      let first = x.code s in
+      let size = length first in
+      let second = body.code (behind size a) n in
+      both_at code p (first ++ second) ((InstrOf.Leave, s) ∷ []) s s None
+      (both_at code p first second s s (Some s) (items e.0 s agrees p) (h f.0 (behind size a) n (p + size) agrees texts top))
+      (one code InstrOf.Leave s None (λ q next. top) (p + length (first ++ second)))
+
+  block_good : (env : W.Frames) (f : W.Frame) (m : MasterCode) → m.slots ≡ length f → GoodMaster (env ++ f ∷ []) m.inside → GoodStatement env (block m)
+  block_good env f m same h runs a n p agrees texts can =
+      let s = a.stack in
+      let inner = m.inside.code (in_master (Block m.slots) s) n in
+      let size = length inner in
+      let over = subst (λ slots. Agrees (env ++ f ∷ []) (Block slots ∷ s)) (sym same) (agrees_inside env f s agrees) in
+      let there : p + (size + 1) ≡ p + 1 + size = omega arith in
+      block_formed code p m.slots inner (behind (size + 1) a)
+      (h runs (Block m.slots) s n (p + 1) over texts tt)
+      (leaves_formed code (p + 1 + size) (behind (size + 1) a) (leave_behind code p (size + 1) (p + 1 + size) a there can))
+
+  -- Well-typed statements ----------------------------------------------------------------------------
+
+  mutual
+    pub statement_good : {env : W.Frames} {a : D.Around} {y : Stmt} → Done k env a y → GoodStatement env (statement_code y)
+    statement_good {env} D.null = good_as env _ _ statement_null (λ runs a n p agrees texts can. none code a.stack p)
+    statement_good {env} (D.assign {x = x} {v = v} {t = t} scalar denotes h) = good_as env _ _ (statement_assign x v) (assign_good env (variable_of x) (value_code v) t (λ runs. typed_fine code h runs))
+    statement_good {env} (D.put {ps = ps} puts) = good_as env _ _ (statement_put ps) (λ runs a n p agrees texts can. print_formed code false n ps puts runs texts.0 a.stack p)
+    statement_good {env} (D.put_line {ps = ps} puts) = good_as env _ _ (statement_put_line ps) (λ runs a n p agrees texts can. print_formed code true n ps puts runs texts.0 a.stack p)
+    statement_good {env} D.new_line = good_as env _ _ statement_new_line (λ runs a n p agrees texts can. one code InstrOf.NewLine a.stack (Some a.stack) (λ q next. next) p)
+    statement_good {env} (D.exit {x = o} inside_a_loop perhaps) = good_as env _ _ (statement_exit o) (leaving_good o perhaps)
+    statement_good {env} (D.choose {arms = arms} {others = others} each rest) =
+        good_as env _ _ (statement_if arms others) (λ runs.
+        let e = both_true (arms_run (map arm_code arms) records) ((all (map statement_code others)).runs records) runs in
+        branches_stay code env (map arm_code arms) (all (map statement_code others)) (arms_good each e.0) (each_good rest e.1))
+    statement_good {env} (D.loop {body = body} h) =
+        good_as env _ _ (statement_loop body) (λ runs. loop_stays code env (all (map statement_code body)) (λ a n p agrees texts can next. each_good h runs a n p agrees texts can))
+    statement_good {env} (D.while {test = e} {body = body} t h) =
+        good_as env _ _ (statement_while e body) (λ runs.
+        let b = all (map statement_code body) in
+        let g = both_true (value_code e).runs (b.runs records) runs in
+        loop_stays code env (tested (value_code e) b) (tested_turns code env (value_code e) b (usable_as code (value_code e) Boolean tt (typed_fine code t g.0)) (each_good h g.1)))
+    statement_good {env} (D.for {number = number} {way = way} {low = low} {high = high} {body = body} (D.fills names) from to h) =
+        let v : Var = record { level = length env; slot = number } in
+        good_as env _ _ (statement_for v way low high body) (λ runs.
+        let b = all (map statement_code body) in
+        let e = both_true (value_code low).runs ((value_code high).runs && b.runs records) runs in
+        let g = both_true (value_code high).runs (b.runs records) e.1 in
+        for_stays code env v way (value_code low) (value_code high) b (λ s agrees. newest_there env s v W.LoopParameter agrees names refl)
+        (usable_as code (value_code low) Integer tt (typed_fine code from e.0))
+        (usable_as code (value_code high) Integer tt (typed_fine code to g.0))
+        (each_good h g.1))
+    statement_good {env} (D.block {m = m} {f = f} h) = good_as env _ _ (statement_block m) (block_good env f (master_code m) (slots_told h) (master_good h))
+    statement_good {env} (D.assign_record {x = x} {t = t} {v = v} denotes fits) = not_missing env _ (L.statement_assign_record x t v)
+    statement_good {env} (D.call {s = f} {actuals = actuals} callable gives fits) = not_missing env _ (L.statement_call f actuals)
+    statement_good {env} (D.nothing_done {x = x} views) = not_missing env _ (L.statement_nothing x)
+    statement_good {env} (D.dispatch {o = o} {x = x} views) = not_missing env _ (L.statement_dispatch o x)
+    statement_good {env} (D.library_allocate {p = p} {x = x} {size = size} {alignment = alignment} views rooted denotes h g) = not_missing env _ (L.statement_allocate p x size alignment)
+    statement_good {env} (D.library_deallocate {p = p} {x = x} {size = size} {alignment = alignment} views rooted address h g) = not_missing env _ (L.statement_deallocate p x size alignment)
+    statement_good {env} (D.return {x = x} returns) = not_missing env _ (L.statement_return x)
+    statement_good {env} (D.raise {x = x} there) = not_missing env _ (L.statement_raise x)
+    statement_good {env} (D.raise_again handles) = not_missing env _ L.statement_raise_again
+    statement_good {env} (D.free {t = t} {x = x} has denotes) = not_missing env _ (L.statement_free t x)
+    statement_good {env} (D.release {x = x} denotes) = not_missing env _ (L.statement_release x)
+
+    each_good : {env : W.Frames} {a : D.Around} {ys : List Stmt} → DoneEach k env a ys → GoodStatement env (all (map statement_code ys))
+    each_good D.no_more_statements = λ runs a n p agrees texts can. none code a.stack p
+    each_good {env} (D.one_more_statement {s = y} {more = ys} h rest) = λ runs.
+        let g = both_true ((statement_code y).runs records) ((all (map statement_code ys)).runs records) runs in
+        all_stay code env (statement_code y) (map statement_code ys) (statement_good h g.0) (each_good rest g.1)
+
+    arms_good : {env : W.Frames} {a : D.Around} {ys : List Arm} → GuardedEach k env a ys → arms_run (map arm_code ys) records ≡ true → GoodArms code env (map arm_code ys)
+    arms_good D.no_more_arms = λ runs. tt
+    arms_good {env} (D.one_more_arm {test = e} {body = body} {more = more} t h rest) =
+        subst (λ (z : ArmCode). arms_run (z ∷ map arm_code more) records ≡ true → GoodArms code env (z ∷ map arm_code more)) (sym (arm_roll (record { test = e; body = body })))
+        (λ runs.
+        let b = all (map statement_code body) in
+        let f = both_true (value_code e).runs (b.runs records && arms_run (map arm_code more) records) runs in
+        let g = both_true (b.runs records) (arms_run (map arm_code more) records) f.1 in
+        (tested_turns code env (value_code e) b (usable_as code (value_code e) Boolean tt (typed_fine code t f.0)) (each_good h g.0), arms_good rest g.1))
+
+    pub master_good : {env : W.Frames} {f : W.Frame} {a : D.Around} {m : Master} → Mastered k env f a m → GoodMaster (env ++ f ∷ []) (master_code m).inside
+    master_good (D.master {env = env} {f = f} {is = items} {body = body} {hs = hs} elaborated done handled) =
+        subst (λ (z : MasterCode). GoodMaster (env ++ f ∷ []) z.inside) (sym (master_roll (record { slots = length f; items = items; body = body; handlers = hs })))
+        (inside_good (env ++ f ∷ []) (all_items (map item_code items)) (all (map statement_code body)) (has_no_handlers (map no_code hs)) (items_good elaborated) (each_good done))

@@ -1,0 +1,56 @@
+-- A scalar object takes its number.
+use Rattle.std.proofs.Common.{◌≡◌, ℕ, ◌+◌, ◌≤◌, List, [], ◌∷◌, ◌++◌, Some, refl, sym, ap, ◌∙◌, subst, arith}
+use Rattle.std.proofs.lemmas.List.{append-nil}
+use Rattle.ctl_meaning.specs.World.{World}
+use Rattle.ctl_meaning.specs.Ledger.{opened_ledger}
+use Rattle.ctl_meaning.specs.Changes.{take_object_number, opened_changes}
+use Rattle.ctl_code.specs.declared.code.Code.{Code}
+use Rattle.ctl_code.specs.declared.code.Instr.TheVariants.{Number}
+use Rattle.ctl_code.specs.States as T
+use Rattle.ctl_code.specs.States.{State, At}
+use Rattle.ctl_code.specs.Table.{by_instr}
+use Rattle.ctl_machine.specs.declared.engine.Engine.{Engine}
+use Rattle.ctl_machine.specs.declared.frame.Mode.{Mode}
+use Rattle.ctl_machine.specs.declared.frame.Mode.TheVariants as ModeOf
+use Rattle.ctl_machine.specs.declared.frame.Owned.{Owned}
+use Rattle.ctl_machine.specs.Masters.{heads_of, first_display, RiseBelow}
+use Rattle.ctl_machine.specs.Shows.{ShowsMode, Kept, Holds, kept}
+use Rattle.ctl_machine.specs.Moves.{Before, Makes, here_of}
+
+rise_further : (os : List Owned) (low high : ℕ) → RiseBelow low os high → RiseBelow low os (high + 1)
+rise_further [] low high h = omega (arith, h)
+rise_further (o ∷ os) low high h = (h.0, rise_further os (o.number + 1) high h.1)
+
+abbrev pub with_number : Kept → Kept
+with_number e = record e { next_object = e.next_object + 1 }
+
+numbered : (code : Code) (e : Kept) (k : List T.Frame) (ops : List ℕ) (w : World) → Holds code e k ops w → Holds code (with_number e) k ops (take_object_number w)
+unfolding opened_changes opened_ledger
+numbered code e k ops w h = record {
+  cells = h.cells;
+  room = h.room;
+  masters = h.masters;
+  below = h.below;
+  waits = h.waits;
+  objects = h.objects;
+  rise = rise_further e.owned 1 e.next_object h.rise;
+  next_master = h.next_master;
+  next_object = ap (λ n. n + 1) h.next_object;
+}
+
+numbered_heads : (w : World) → heads_of (take_object_number w).activations ≡ heads_of w.activations
+unfolding opened_changes opened_ledger
+numbered_heads w = refl
+
+pub number_makes : (code : Code) (old new : Engine) (place : ℕ) (s : State) → Before code old place Number s → kept new ≡ with_number (kept old) → new.mode ≡ ModeOf.At (place + 1) → new.events.items ≡ old.events.items → new.picks.items ≡ old.picks.items
+    → Makes code old new (by_instr code (Some Number) s.operands (here_of place s))
+number_makes code old new place s b is mode events picks =
+    let d = first_display (heads_of s.world.activations) in
+    let heads = numbered_heads s.world in
+    record {
+      mode = subst (λ (m : Mode). ShowsMode code m (At d (place + 1)) s.control (heads_of (take_object_number s.world).activations)) (sym mode)
+          (subst (λ hs. ShowsMode code (ModeOf.At (place + 1)) (At d (place + 1)) s.control hs) (sym heads) (refl, refl, b.stack, b.fine, b.inside.sized));
+      holds = subst (λ (e : Kept). Holds code e s.control s.operands (take_object_number s.world)) (sym is) (numbered code (kept old) s.control s.operands s.world b.inside.holds);
+      shows = events ∙ sym (append-nil old.events.items);
+      picks = picks;
+    }

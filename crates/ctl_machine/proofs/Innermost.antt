@@ -1,0 +1,69 @@
+-- The innermost master, before an instruction in it.
+use Rattle.std.proofs.Common.{◌≡◌, ℕ, List, [], ◌∷◌, ◌++◌, refl, ap, ◌∙◌, subst}
+use Rattle.ctl_meaning.specs.World as W
+use Rattle.ctl_meaning.specs.World.{World}
+use Rattle.ctl_meaning.specs.Lists.{last_of, opened_lists}
+use Rattle.ctl_code.specs.declared.kinds.Kind.{Kind}
+use Rattle.ctl_code.specs.declared.kinds.Kind.TheVariants.{Operand, Block, Body}
+use Rattle.ctl_code.specs.declared.code.Code.{Code}
+use Rattle.ctl_code.specs.States as T
+use Rattle.ctl_code.specs.States.{InMaster, AfterBlock, AfterBody}
+use Rattle.ctl_code.specs.Fits.{Stands}
+use Rattle.ctl_machine.specs.declared.frame.After.{After}
+use Rattle.ctl_machine.specs.declared.frame.Frame.{Frame}
+use Rattle.ctl_machine.specs.declared.frame.Frame.TheVariants as FrameOf
+use Rattle.ctl_machine.specs.declared.frame.Master.{Master}
+use Rattle.ctl_machine.specs.declared.frame.Owned.{Owned}
+use Rattle.ctl_machine.specs.Masters.{Head, heads_of, first_display, display_from, AreMasters, newest_master}
+use Rattle.ctl_machine.specs.Shows.{Wait, Kept, Holds}
+use Rattle.ctl_machine.proofs.Left.{top_of}
+
+-- where something stands, a master is being executed
+pub inside_master : (code : Code) (stack : List Kind) (k : List T.Frame) (ops : List ℕ) → Stands code stack k ops → (n : ℕ) × (leads : T.After) × (waiting : List T.Frame) × (k ≡ InMaster n leads ∷ waiting)
+inside_master code (Operand ty ∷ stack) k (x ∷ ops) stands = inside_master code stack k ops stands
+inside_master code (Block slots ∷ stack) (InMaster n (AfterBlock p) ∷ k) [] stands = (n, AfterBlock p, k, refl)
+inside_master code (Body level slots ∷ []) (InMaster n AfterBody ∷ k) [] stands = (n, AfterBody, k, refl)
+inside_master code _ _ _ stands = elim stands [ ]
+
+last_is : (d : List ℕ) (n : ℕ) → last_of (d ++ n ∷ []) ≡ n
+unfolding opened_lists
+last_is [] n = refl
+last_is (x ∷ []) n = refl
+last_is (x ∷ y ∷ d) n = last_is (y ∷ d) n
+
+-- the last of what is seen is the newest master
+last_seen : {m : Master} {ms : List Master} {hs : List Head} {ks : List W.Master} {owned : List Owned} → AreMasters (m ∷ ms) hs ks owned → last_of (first_display hs) ≡ m.number
+last_seen (newest_master {m = m} {hs = hs} h o r) = ap (λ (d : List ℕ). last_of d) h.display ∙ last_is (display_from m.link hs) m.number
+
+-- the innermost master, for the table and for the machine
+pub record IsInnermost (e : Kept) (k : List T.Frame) (hs : List Head) : Type 0 where
+  pub number : ℕ
+  pub leads : T.After
+  pub waiting : List T.Frame
+  pub is : k ≡ InMaster number leads ∷ waiting
+  pub after : After
+  pub frames : List Frame
+  pub master : Master
+  pub others : List Master
+  pub control : e.control ≡ FrameOf.InMaster after ∷ frames
+  pub masters : e.masters ≡ master ∷ others
+  pub last : last_of (first_display hs) ≡ master.number
+
+pub innermost : (code : Code) (e : Kept) (stack : List Kind) (k : List T.Frame) (there ops : List ℕ) (w : World) → Stands code stack k there → Holds code e k ops w → IsInnermost e k (heads_of w.activations)
+innermost code e stack k there ops w stands h =
+    let hs = heads_of w.activations in
+    let i = inside_master code stack k there stands in
+    let t = top_of (subst (λ (l : List T.Frame). Wait e.control e.masters hs e.owned l) i.3 h.waits) in
+    record {
+      number = i.0;
+      leads = i.1;
+      waiting = i.2;
+      is = i.3;
+      after = t.after;
+      frames = t.frames;
+      master = t.master;
+      others = t.others;
+      control = t.control;
+      masters = t.masters;
+      last = last_seen (subst (λ (l : List Master). AreMasters l hs w.ledger.masters e.owned) t.masters h.masters);
+    }

@@ -1,7 +1,0 @@
-use Rattle.std.proofs.Common.{rules}
-use Rattle.ctl_meaning.specs.Changes.{owner_of}
-use Rattle.ctl_machine.proofs.resume.show_birth.Goals as goal
-
-pub returns-in-Some : goal.returns-in-Some
-unfolding owner_of
-returns-in-Some c = search rules

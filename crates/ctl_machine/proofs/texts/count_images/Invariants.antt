@@ -1,6 +1,0 @@
-use Rattle.std.proofs.Common.{◌≡◌, ◌+◌, ◌≤◌, drop}
-use Rattle.ctl_code.specs.Table.{images_in}
-use Rattle.ctl_machine.proofs.texts.count_images.Given as goal
-
-abbrev pub invariant-loop-part : goal.invariant-loop-part
-invariant-loop-part l = (l.images + images_in (drop l.part-index l.parts) ≡ images_in l.parts) × (l.images ≤ l.part-index)

@@ -1,8 +1,0 @@
-use Rattle.std.proofs.Common.{refl}
-use Rattle.ctl_meaning.specs.World.{opened_world}
-use Rattle.fin_lists.specs.Lists.{no_lists}
-use Rattle.ctl_machine.proofs.world.World.new.Goals as goal
-
-pub returns : goal.returns
-unfolding opened_world no_lists
-returns c = rw (c.new-3.ensures.items, c.new-4.ensures, c.new-5.ensures.lists) refl

@@ -1,6 +1,0 @@
-use Rattle.ctl_meaning.specs.Changes.{object_at}
-use Rattle.ctl_machine.proofs.world.World.type_of.Goals as goal
-
-pub returns : goal.returns
-unfolding object_at
-returns c = rw (← c.self.view_is) c.type_of.ensures

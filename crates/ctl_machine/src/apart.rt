@@ -1,0 +1,199 @@
+//! Bodies that are entered for what waits.
+
+ghost use Rattle.std.specs.Prelude.{◌≡◌, ◌+◌, ◌^◌, ◌<◌, ◌≤◌, [], ◌∷◌, ◌++◌, List, ℕ, OnErr, OnOk, Some, drop, length, reverse, slice_get, slice_set, take, vec_capacity, vec_len};
+ghost use Rattle.ctl_tree.specs.declared.event.Cause.TheVariants.{Scope};
+ghost use Rattle.ctl_tree.specs.declared.event.Event.TheVariants.{Finalize};
+ghost use Rattle.ctl_code.specs.Table as Table;
+ghost use Rattle.ctl_machine.specs.declared.frame.Frame.TheVariants as FrameOf;
+ghost use Rattle.ctl_machine.specs.declared.frame.Owned.{Owned};
+ghost use Rattle.ctl_code.specs.Valid.{IsValid};
+ghost use Rattle.ctl_machine.specs.Departing.{CallsFinalize, Departed, begun};
+ghost use Rattle.ctl_machine.specs.Links.{AreLinked, first_end};
+ghost use Rattle.ctl_machine.specs.Masters.{Head, display_from, first_display};
+ghost use Rattle.ctl_machine.specs.Moves.{GoesOn, Makes};
+
+use crate::engine::Engine;
+use crate::frame::{After, Completion, Frame, Life, Master};
+use ctl_code::code::{Code, Entry};
+use ctl_tree::event::{Cause, Event, Part};
+use ctl_tree::text::Path;
+use std::alloc::{AllocError, Global};
+
+/// Makes so many cells, if there are fewer; the new ones are 0.
+pub(crate) fn make_room(cells: &mut Vec<u64>, wanted: usize) -> Result<(), AllocError>
+    ensures ok { OnOk result ((more : List ℕ) × (cells.new.items ≡ cells.old.items ++ more)) }
+    ensures long { OnOk result (wanted ≤ length cells.new.items) }
+    ensures err { OnErr result (cells.new.items ≡ cells.old.items) }
+{
+    if wanted <= cells.as_slice().len() {
+        return Ok(());
+    }
+    cells.resize(wanted, 0)
+}
+
+/// How a master is left: whether a finalization failed, how its statements were completed, and where its end leads.
+#[derive(Clone, Copy)]
+pub struct Departure {
+    pub failed: bool,
+    pub pending: Completion,
+    pub after: After,
+}
+
+impl Departure {
+    /// Makes the frame of a master that is left so, whose layers lie below this place.
+    pub(crate) fn frame(self, next: usize) -> Frame
+        ensures { result ≡ FrameOf.Leaving self.failed self.pending self.after next }
+    {
+        Frame::Leaving {
+            failed: self.failed,
+            pending: self.pending,
+            after: self.after,
+            next,
+        }
+    }
+}
+
+/// Puts another frame in place of the newest one.
+pub(crate) fn replace_top(control: &mut Vec<Frame>, frame: Frame)
+    requires { 0 < vec_len control.old }
+    ensures items { reverse control.new.items ≡ frame ∷ drop 1 (reverse control.old.items) }
+    ensures len { vec_len control.new ≡ vec_len control.old }
+    ensures capacity { vec_capacity control.new ≡ vec_capacity control.old }
+{
+    let top = control.as_slice().len() - 1;
+    control[top] = frame;
+}
+
+/// Names an object as a whole.
+pub(crate) fn whole(alloc: Global, object: u64) -> Part
+    ensures { result ≡ Table.whole_part object }
+{
+    Part {
+        object,
+        path: Path::new(alloc),
+    }
+}
+
+impl Engine {
+    /// Answers the cell behind those of the newest master.
+    pub(crate) fn end_of_newest(&self) -> usize
+        requires { first_end (reverse self.now.masters.items) < 2 ^ 64 }
+        ensures { result ≡ first_end (reverse self.now.masters.items) }
+    {
+        match self.masters.as_slice() {
+            [.., newest] => newest.base + newest.slots,
+            [] => 0,
+        }
+    }
+
+    /// Answers the master that a body of this level is declared in, where the newest master sees it: it is the newest of so many.
+    pub(crate) fn around(&self, level: usize) -> usize
+        ghost hs: { List Head }
+        requires { AreLinked self.now.masters.items hs }
+        ensures bound { result ≤ length self.now.masters.items }
+        ensures display { display_from result hs ≡ take level (first_display hs) }
+    {
+        let mut count = self.masters.as_slice().len();
+        while count > 0 {
+            let master = self.masters[count - 1];
+            if master.depth <= level {
+                return count;
+            }
+            count = master.link;
+        }
+        0
+    }
+
+    /// Answers how many masters a place in the newest of so many sees.
+    pub(crate) fn depth_at(&self, count: usize) -> usize
+        ghost hs: { List Head }
+        requires linked { AreLinked self.now.masters.items hs }
+        requires bound { count ≤ length self.now.masters.items }
+        ensures depth { result ≡ length (display_from count hs) }
+        ensures shallow { result ≤ count }
+    {
+        if count == 0 {
+            return 0;
+        }
+        self.masters[count - 1].depth
+    }
+
+    /// Makes room for a body whose window begins with this cell and has so many, and for what is shown of its call; nothing else changes.
+    pub(crate) fn prepare(&mut self, base: usize, room: usize) -> Result<(), AllocError>
+        ensures ok { OnOk result ((more : List ℕ) × GoesOn self.old self.new self.old.mode (self.old.cells.items ++ more)) }
+        ensures err { OnErr result (GoesOn self.old self.new self.old.mode self.old.cells.items) }
+        ensures cells { OnOk result (base + room ≤ length self.new.cells.items) }
+        ensures masters { OnOk result (vec_len self.new.masters < vec_capacity self.new.masters) }
+        ensures control { OnOk result (vec_len self.new.control + 2 ≤ vec_capacity self.new.control) }
+        ensures events { OnOk result (vec_len self.new.events < vec_capacity self.new.events) }
+        ensures number { self.new.given_masters ≡ self.old.given_masters }
+        ensures objects { self.new.given_objects ≡ self.old.given_objects }
+        ensures waiting { vec_len self.new.control ≡ vec_len self.old.control }
+    {
+        let wanted = base.checked_add(room).ok_or(AllocError)?;
+        self.masters.reserve(1)?;
+        self.control.reserve(2)?;
+        self.events.reserve(1)?;
+        make_room(&mut self.cells, wanted)
+    }
+
+    /// Begins the finalization of an owned object, a layer of the master that this frame leaves (RM 7.6.1).
+    fn begin_layer(&mut self, at: usize, leaving: Frame)
+        ghost o: { Owned }
+        requires found { slice_get self.old.owned.items at ≡ Some o }
+        requires top { 0 < vec_len self.old.control }
+        requires control { vec_len self.old.control < vec_capacity self.old.control }
+        requires events { vec_len self.old.events < vec_capacity self.old.events }
+        ensures control { reverse self.new.control.items ≡ FrameOf.Finalizing at ∷ leaving ∷ drop 1 (reverse self.old.control.items) }
+        ensures room { vec_len self.new.control ≡ vec_len self.old.control + 1 }
+        ensures capacity { vec_capacity self.new.control ≡ vec_capacity self.old.control }
+        ensures owned { self.new.owned.items ≡ slice_set self.old.owned.items at (begun o) }
+        ensures masters { self.new.masters ≡ self.old.masters }
+        ensures cells { self.new.cells ≡ self.old.cells }
+        ensures numbers { (self.new.given_masters ≡ self.old.given_masters) × (self.new.given_objects ≡ self.old.given_objects) }
+        ensures events { self.new.events.items ≡ self.old.events.items ++ Finalize (Table.whole_part o.number) Scope ∷ [] }
+        ensures picks { self.new.picks.items ≡ self.old.picks.items }
+    {
+        let object = self.owned[at].number;
+        self.owned[at].life = Life::Finalizing;
+        replace_top(&mut self.control, leaving);
+        self.control.push_reserved(Frame::Finalizing(at));
+        self.events
+            .push_reserved(Event::Finalize(whole(self.alloc, object), Cause::Scope));
+    }
+
+    /// Finalizes the object at this place, the newest layer of the newest master, which is left so, by the body that the user wrote for
+    /// its type (RM 7.6.1); unchanged where memory is refused.
+    pub(crate) fn call_finalize(
+        &mut self,
+        code: &Code,
+        entry: &Entry,
+        departure: Departure,
+        at: usize,
+    ) -> Result<(), AllocError>
+        ghost t: { Departed × Owned }
+        requires valid { IsValid code.now }
+        requires calls { CallsFinalize code.now self.old departure.failed departure.pending departure.after at entry.now t.0 t.1 }
+        requires waiting { 0 < vec_len self.old.control }
+        requires end { first_end (reverse self.old.masters.items) < 2 ^ 64 }
+        requires number { self.old.given_masters + 1 < 2 ^ 64 }
+        ensures ok { OnOk result (Makes code.now self.old self.new (Table.next_layer code.now t.0.master t.0.layers t.0.failed t.0.pending t.0.after t.0.control t.0.world)) }
+        ensures err { OnErr result (GoesOn self.old self.new self.old.mode self.old.cells.items) }
+    {
+        let base = self.end_of_newest();
+        let link = self.around(entry.level);
+        let master = Master {
+            number: self.given_masters + 1,
+            window: base,
+            base,
+            slots: entry.slots,
+            link,
+            depth: self.depth_at(link) + 1,
+            owned: self.count_owned(),
+        };
+        self.prepare(base, code.room)?;
+        self.begin_layer(at, departure.frame(at));
+        self.open(master, After::Body, entry.place);
+        Ok(())
+    }
+}

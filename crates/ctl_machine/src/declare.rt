@@ -1,0 +1,202 @@
+//! Objects of record types are declared (RM 3.3.1).
+
+ghost use Rattle.std.specs.Prelude.{◌≡◌, ◌+◌, ◌-◌, ◌^◌, ◌<◌, ◌≤◌, ◌++◌, List, ℕ, None, OnErr, OnOk, Some, length, slice_get, vec_capacity, vec_len};
+ghost use Rattle.ctl_code.specs.declared.code.Instr.TheVariants as InstrOf;
+ghost use Rattle.ctl_code.specs.Table as Table;
+ghost use Rattle.ctl_code.specs.States.{State};
+ghost use Rattle.ctl_code.specs.Valid.{IsValid};
+ghost use Rattle.ctl_machine.specs.Moves.{Before, GoesOn, Makes, here_of};
+ghost use Rattle.ctl_machine.specs.Shows.{kept};
+ghost use Rattle.ctl_machine.specs.Declaring.{CallsInitialize, with_object};
+
+use crate::apart::{make_room, whole};
+use crate::engine::Engine;
+use crate::frame::{After, Frame, Life, Master, Mode, Owned};
+use ctl_code::code::{Code, Entry, Operations};
+use ctl_tree::event::{Event, Owner};
+use std::alloc::{AllocError, Global};
+
+/// Shows that an object of this master has come to life, where the user wrote a Finalize for its type (RM 7.6).
+fn show_life(
+    alloc: Global,
+    events: &mut Vec<Event>,
+    object: u64,
+    master: u64,
+    finalize: Option<usize>,
+)
+    requires { vec_len events.old < vec_capacity events.old }
+    ensures { events.new.items ≡ events.old.items ++ Table.birth finalize object master }
+{
+    if let Some(_) = finalize {
+        events.push_reserved(Event::Live(whole(alloc, object), Owner::Master(master)));
+    }
+}
+
+impl Engine {
+    /// Answers the newest master.
+    fn newest_master(&self) -> Master
+        requires { 0 < length self.now.masters.items }
+        ensures { slice_get self.now.masters.items (length self.now.masters.items - 1) ≡ Some result }
+    {
+        self.masters[self.masters.as_slice().len() - 1]
+    }
+
+    /// Reserves room for an object and for what is shown of it; nothing else changes.
+    fn reserve_object(&mut self) -> Result<(), AllocError>
+        ensures same { GoesOn self.old self.new self.old.mode self.old.cells.items }
+        ensures owned { OnOk result (vec_len self.new.owned < vec_capacity self.new.owned) }
+        ensures events { OnOk result (vec_len self.new.events < vec_capacity self.new.events) }
+        ensures number { self.new.given_objects ≡ self.old.given_objects }
+    {
+        self.owned.reserve(1)?;
+        self.events.reserve(1)?;
+        Ok(())
+    }
+
+    /// Creates an object of the newest master, for which there is room, and clears the cell of its slot (RM 3.3.1).
+    fn create(&mut self, newest: Master, slot: usize, record: usize, life: Life)
+        requires room { vec_len self.old.owned < vec_capacity self.old.owned }
+        requires number { self.old.given_objects + 1 < 2 ^ 64 }
+        requires cell { slot < newest.slots → newest.base + slot < length self.old.cells.items }
+        ensures kept { kept self.new ≡ with_object newest slot «record» life (kept self.old) }
+        ensures masters { self.new.masters ≡ self.old.masters }
+        ensures control { self.new.control ≡ self.old.control }
+        ensures events { self.new.events ≡ self.old.events }
+        ensures picks { self.new.picks ≡ self.old.picks }
+        ensures number { self.new.given_masters ≡ self.old.given_masters }
+    {
+        self.given_objects += 1;
+        self.owned.push_reserved(Owned {
+            number: self.given_objects,
+            record,
+            master: newest.number,
+            life,
+        });
+        if slot < newest.slots {
+            self.cells[newest.base + slot] = 0;
+        }
+    }
+
+    /// Declares an object of a type for which the user wrote no Initialize: it comes to life at once; unchanged where memory is refused.
+    fn declare_at_once(
+        &mut self,
+        code: &Code,
+        slot: usize,
+        record: usize,
+        operations: Operations,
+        place: usize,
+    ) -> Result<(), AllocError>
+        ghost s: { State }
+        requires valid { IsValid code.now }
+        requires before { Before code.now self.old place (InstrOf.Declare slot «record») s }
+        requires place { place + 1 < 2 ^ 64 }
+        requires objects { self.old.given_objects + 1 < 2 ^ 64 }
+        requires operations { slice_get code.now.records.items «record» ≡ Some operations }
+        requires none { operations.initialize ≡ None }
+        ensures ok { OnOk result (Makes code.now self.old self.new (Table.by_instr code.now (Some (InstrOf.Declare slot «record»)) s.operands (here_of place s))) }
+        ensures err { OnErr result (GoesOn self.old self.new self.old.mode self.old.cells.items) }
+    {
+        let _ = code;
+        let newest = self.newest_master();
+        self.reserve_object()?;
+        self.create(newest, slot, record, Life::Layer);
+        show_life(
+            self.alloc,
+            &mut self.events,
+            self.given_objects,
+            newest.number,
+            operations.finalize,
+        );
+        self.mode = Mode::At(place + 1);
+        Ok(())
+    }
+
+    /// Makes room for an object, and for the call of its Initialize, whose window begins with this cell and has so many; nothing else changes.
+    fn reserve_initialize(&mut self, base: usize, room: usize) -> Result<(), AllocError>
+        ensures ok { OnOk result ((more : List ℕ) × GoesOn self.old self.new self.old.mode (self.old.cells.items ++ more)) }
+        ensures err { OnErr result (GoesOn self.old self.new self.old.mode self.old.cells.items) }
+        ensures cells { OnOk result (base + room ≤ length self.new.cells.items) }
+        ensures masters { OnOk result (vec_len self.new.masters < vec_capacity self.new.masters) }
+        ensures control { OnOk result (vec_len self.new.control + 2 ≤ vec_capacity self.new.control) }
+        ensures events { OnOk result (vec_len self.new.events < vec_capacity self.new.events) }
+        ensures owned { OnOk result (vec_len self.new.owned < vec_capacity self.new.owned) }
+        ensures number { self.new.given_masters ≡ self.old.given_masters }
+        ensures objects { self.new.given_objects ≡ self.old.given_objects }
+    {
+        let wanted = base.checked_add(room).ok_or(AllocError)?;
+        self.owned.reserve(1)?;
+        self.masters.reserve(1)?;
+        self.control.reserve(2)?;
+        self.events.reserve(1)?;
+        make_room(&mut self.cells, wanted)
+    }
+
+    /// Declares an object of a type for which the user wrote an Initialize, with this body: it is called (RM 7.6); unchanged where memory
+    /// is refused.
+    fn declare_initialized(
+        &mut self,
+        code: &Code,
+        slot: usize,
+        record: usize,
+        entry: &Entry,
+        place: usize,
+    ) -> Result<(), AllocError>
+        ghost s: { State }
+        requires valid { IsValid code.now }
+        requires before { Before code.now self.old place (InstrOf.Declare slot «record») s }
+        requires place { place + 1 < 2 ^ 64 }
+        requires masters { self.old.given_masters + 1 < 2 ^ 64 }
+        requires objects { self.old.given_objects + 1 < 2 ^ 64 }
+        requires body { CallsInitialize code.now «record» entry.now }
+        ensures ok { OnOk result (Makes code.now self.old self.new (Table.by_instr code.now (Some (InstrOf.Declare slot «record»)) s.operands (here_of place s))) }
+        ensures err { OnErr result (GoesOn self.old self.new self.old.mode self.old.cells.items) }
+    {
+        let newest = self.newest_master();
+        let base = self.window() + code.kinds.height_at(place, 0);
+        let link = self.around(entry.level);
+        let depth = self.depth_at(link) + 1;
+        self.reserve_initialize(base, code.room)?;
+        self.create(newest, slot, record, Life::Created);
+        self.control.push_reserved(Frame::Initializing(place + 1));
+        self.events
+            .push_reserved(Event::Initialize(whole(self.alloc, self.given_objects)));
+        let master = Master {
+            number: self.given_masters + 1,
+            window: base,
+            base,
+            slots: entry.slots,
+            link,
+            depth,
+            owned: self.count_owned(),
+        };
+        self.open(master, After::Body, entry.place);
+        Ok(())
+    }
+
+    /// Declares an object of a record type without a value (RM 3.3.1): it is created, and its Initialize is called where the user wrote one (RM 7.6); unchanged where memory is refused.
+    #[inline(never)]
+    pub(crate) fn declare(
+        &mut self,
+        code: &Code,
+        slot: usize,
+        record: usize,
+        place: usize,
+    ) -> Result<(), AllocError>
+        ghost s: { State }
+        requires valid { IsValid code.now }
+        requires before { Before code.now self.old place (InstrOf.Declare slot «record») s }
+        requires place { place + 1 < 2 ^ 64 }
+        requires masters { self.old.given_masters + 1 < 2 ^ 64 }
+        requires objects { self.old.given_objects + 1 < 2 ^ 64 }
+        ensures ok { OnOk result (Makes code.now self.old self.new (Table.by_instr code.now (Some (InstrOf.Declare slot «record»)) s.operands (here_of place s))) }
+        ensures err { OnErr result (GoesOn self.old self.new self.old.mode self.old.cells.items) }
+    {
+        let operations = code.records[record];
+        match operations.initialize {
+            Some(body) => {
+                self.declare_initialized(code, slot, record, &code.entries[body], place)
+            }
+            None => self.declare_at_once(code, slot, record, operations, place),
+        }
+    }
+}

@@ -1,0 +1,129 @@
+//! The layers of a master: its owned objects, which are finalized one by one, the newest first (RM 7.6.1).
+
+ghost use Rattle.std.specs.Prelude.{◌≡◌, ◌<◌, [], ◌∷◌, List, IfNone, IfSome, None, Some, drop, reverse, slice_get, vec_len};
+ghost use Rattle.ctl_meaning.specs.Outcome.{Fine};
+ghost use Rattle.ctl_code.specs.States.{Giving, State};
+ghost use Rattle.ctl_code.specs.Table as Table;
+ghost use Rattle.ctl_code.specs.Valid.{IsRecord, IsValid};
+ghost use Rattle.ctl_machine.specs.declared.frame.Frame.{Frame};
+ghost use Rattle.ctl_machine.specs.declared.frame.Frame.TheVariants as FrameOf;
+ghost use Rattle.ctl_machine.specs.Departing.{Finalizes, IsFinalizeOf, IsNewestLayer, ended_life};
+ghost use Rattle.ctl_machine.specs.Masters.{layers_from, rising_layers};
+ghost use Rattle.ctl_machine.specs.Moves.{BeforeResuming, Makes};
+ghost use Rattle.ctl_machine.specs.Shows as Shows;
+
+use crate::apart::{Departure, replace_top};
+use crate::engine::Engine;
+use crate::frame::{Completion, Ended, Life, Master, Mode, Owned, Way};
+use ctl_code::code::{Code, Entry};
+
+/// The number of Program_Error in the table of exceptions (RM 11.1).
+const PROGRAM_ERROR: usize = 1;
+
+impl Life {
+    /// Answers how far the life has come where a finalization has ended.
+    fn ended(self) -> Life
+        ensures { result ≡ ended_life self }
+    {
+        match self {
+            Life::Finalizing => Life::Finalized,
+            other => other,
+        }
+    }
+}
+
+/// Answers what the Finalize of an object hands on: one that raised is remembered, and the exception goes no further (RM 7.6.1).
+fn remembered(ended: Ended) -> Ended
+    ensures { Shows.tried_of result ≡ Fine (Table.finalized (Shows.tried_of ended)) }
+{
+    match ended {
+        Ended::Raised(_) => Ended::FinalizationFailed,
+        _ => Ended::Complete,
+    }
+}
+
+impl Departure {
+    /// Answers how the master is completed: by Program_Error, in place of what was under way, where a finalization failed (RM 7.6.1).
+    #[tactic(auto, unfolding(ctl_meaning::specs::Outcome::program_error))]
+    pub(crate) fn completion(self) -> Completion
+        ensures { Shows.result_of result ≡ Table.pending_with self.failed (Shows.result_of self.pending) }
+    {
+        if self.failed {
+            Completion::Transferred(Way::Raise(PROGRAM_ERROR))
+        } else {
+            self.pending
+        }
+    }
+}
+
+/// Tells whether a finalization has failed in what has ended so (RM 7.6.1).
+pub(crate) fn says_failed(ended: Ended) -> bool
+    ensures { result ≡ Table.says_failed (Shows.tried_of ended) }
+{
+    !matches!(ended, Ended::Complete)
+}
+
+/// Answers the body that the user wrote for the Finalize of a record type, if there is one (RM 7.6).
+pub(crate) fn finalize_of(code: &Code, record_type: usize) -> Option<Entry>
+    requires valid { IsValid code.now }
+    requires known { IsRecord code.now record_type }
+    ensures none { IfNone result (Table.operation_of (λ x. x.finalize) code.now record_type ≡ None) }
+    ensures some { IfSome result (λ entry. IsFinalizeOf code.now record_type entry) }
+{
+    let finalize = code.records[record_type].finalize?;
+    Some(code.entries[finalize])
+}
+
+impl Engine {
+    /// Answers the newest master.
+    pub(crate) fn newest(&self) -> Master
+        requires { 0 < vec_len self.now.masters }
+        ensures { (ms : List Master) × (reverse self.now.masters.items ≡ result ∷ ms) }
+    {
+        self.masters[self.masters.as_slice().len() - 1]
+    }
+
+    /// Finds the newest layer of the newest master (RM 7.6.1): it lies below this place, from which on no owned object is a layer.
+    pub(crate) fn newest_layer(&self, master: &Master, next: usize) -> Option<usize>
+        requires { rising_layers (drop next self.now.owned.items) ≡ [] }
+        ensures some { IfSome result (λ at. (o : Owned) × IsNewestLayer master.now self.now.owned.items at o) }
+        ensures none { IfNone result (layers_from master.now.owned self.now.owned.items ≡ []) }
+    {
+        let mut end = next.min(self.count_owned());
+        while end > master.owned {
+            end -= 1;
+            if matches!(self.owned[end].life, Life::Layer) {
+                return Some(end);
+            }
+        }
+        None
+    }
+
+    /// Finalizes the object at this place at once, the newest layer of the master that is left so: the user wrote no Finalize for its
+    /// type, so nothing is executed (RM 7.6.1).
+    pub(crate) fn finalize_at_once(&mut self, departure: Departure, at: usize)
+        ghost o: { Owned }
+        requires found { slice_get self.old.owned.items at ≡ Some o }
+        requires waiting { 0 < vec_len self.old.control }
+        ensures { Finalizes self.old self.new departure.failed departure.pending departure.after at o }
+    {
+        self.owned[at].life = Life::Finalized;
+        replace_top(&mut self.control, departure.frame(at));
+        self.mode = Mode::Giving(Ended::Complete);
+    }
+
+    /// Notes that the finalization of an owned object has ended, and hands on whether it failed (RM 7.6.1).
+    pub(crate) fn resume_finalizing(&mut self, code: &Code, ended: Ended, at: usize)
+        ghost s: { State }
+        requires valid { IsValid code.now }
+        requires before { BeforeResuming code.now self.old s }
+        requires top { (fs : List Frame) × (reverse self.old.control.items ≡ FrameOf.Finalizing at ∷ fs) }
+        ensures done { Makes code.now self.old self.new (Table.act code.now (Giving (Shows.tried_of ended)) s.control s.operands s.world 0) }
+    {
+        let _ = code;
+        let life = self.owned[at].life;
+        self.owned[at].life = life.ended();
+        let _ = self.control.take_last();
+        self.mode = Mode::Giving(remembered(ended));
+    }
+}

@@ -1,0 +1,53 @@
+//! The engine before its first step, and what it has shown behind its last.
+
+ghost use Rattle.std.specs.Prelude.{◌≡◌, IfOk};
+ghost use Rattle.ctl_code.specs.Steps as Steps;
+ghost use Rattle.ctl_code.specs.Valid.{IsValid};
+ghost use Rattle.ctl_machine.specs.Shows.{Shows};
+
+use crate::engine::Engine;
+use crate::frame::Mode;
+use ctl_code::code::Code;
+use ctl_tree::event::Event;
+use std::alloc::{AllocError, Global};
+
+impl Engine {
+    /// Answers an engine before the first instruction; there is room for a window of this code.
+    pub fn new(alloc: Global, code: &Code) -> Result<Engine, AllocError>
+        requires { IsValid code.now }
+        ensures { IfOk result (λ engine. Shows code.now engine Steps.start) }
+    {
+        Ok(Engine {
+            alloc,
+            mode: Mode::At(0),
+            control: Vec::new(alloc),
+            masters: Vec::new(alloc),
+            cells: vec![in alloc; 0; code.room]?,
+            owned: Vec::new(alloc),
+            given_masters: 0,
+            given_objects: 0,
+            events: Vec::new(alloc),
+            picks: Vec::new(alloc),
+        })
+    }
+
+    /// Answers what was shown, and the choices that were made.
+    pub fn into_parts(self) -> (Vec<Event>, Vec<u64>)
+        ensures events { result.0.items ≡ self.events.items }
+        ensures picks { result.1.items ≡ self.picks.items }
+    {
+        let Engine {
+            alloc: _,
+            mode: _,
+            control: _,
+            masters: _,
+            cells: _,
+            owned: _,
+            given_masters: _,
+            given_objects: _,
+            events,
+            picks,
+        } = self;
+        (events, picks)
+    }
+}

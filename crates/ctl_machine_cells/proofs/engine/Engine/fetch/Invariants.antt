@@ -1,4 +1,0 @@
-use Rattle.ctl_machine_cells.proofs.engine.Engine.fetch.Given as goal
-
-abbrev pub ghost-read_variable : goal.ghost-read_variable
-ghost-read_variable g a = g.s

@@ -1,0 +1,145 @@
+//! What the codes of the tests are written with: cells, operators, and lines of an instruction with what stands before it.
+
+use ctl_code::code::{Cell, Instr, Named, Operator};
+use ctl_code::kinds::{Kind, KindNotes};
+use ctl_program::operators::BinaryOp;
+use ctl_program::types::Ty;
+use std::alloc::{AllocError, Global};
+
+/// An instruction, and what stands in the window before it, the newest last: `m` is the main procedure and `f` another body, `[` a block with
+/// one slot and `{` one with two, `i` and `b` are operands, an Integer and a Boolean.
+pub type Line = (Instr, &'static str);
+
+/// How many slots the main procedure has.
+pub const MAIN_SLOTS: usize = 2;
+
+/// How many slots each other body has.
+pub const BODY_SLOTS: usize = 1;
+
+/// The first slot of the main procedure, in its own statements.
+pub const FIRST: Cell = Cell {
+    at: 0,
+    named: Named::Variable { out: 0, slot: 0 },
+};
+
+/// The second slot of the main procedure.
+pub const SECOND: Cell = Cell {
+    at: 1,
+    named: Named::Variable { out: 0, slot: 1 },
+};
+
+/// The first slot of the main procedure, in a block of its.
+pub const OUTER: Cell = Cell {
+    at: 0,
+    named: Named::Variable { out: 1, slot: 0 },
+};
+
+/// The operand in cell 1, the first of a body with one slot.
+pub const CELL_1: Cell = Cell {
+    at: 1,
+    named: Named::Operand,
+};
+
+/// The operand in cell 2, the first of the main procedure.
+pub const CELL_2: Cell = Cell {
+    at: 2,
+    named: Named::Operand,
+};
+
+/// The operand in cell 3.
+pub const CELL_3: Cell = Cell {
+    at: 3,
+    named: Named::Operand,
+};
+
+/// The operand in cell 4.
+pub const CELL_4: Cell = Cell {
+    at: 4,
+    named: Named::Operand,
+};
+
+pub const ADD: Operator = Operator {
+    op: BinaryOp::Add,
+    operands: Ty::Integer,
+    result: Ty::Integer,
+};
+
+pub const MULTIPLY: Operator = Operator {
+    op: BinaryOp::Multiply,
+    operands: Ty::Integer,
+    result: Ty::Integer,
+};
+
+pub const DIVIDE: Operator = Operator {
+    op: BinaryOp::Divide,
+    operands: Ty::Integer,
+    result: Ty::Integer,
+};
+
+pub const MODULO: Operator = Operator {
+    op: BinaryOp::Modulo,
+    operands: Ty::Integer,
+    result: Ty::Integer,
+};
+
+pub const REMAINDER: Operator = Operator {
+    op: BinaryOp::Remainder,
+    operands: Ty::Integer,
+    result: Ty::Integer,
+};
+
+/// The relation of two numbers.
+pub const EQUAL: Operator = Operator {
+    op: BinaryOp::Equal,
+    operands: Ty::Integer,
+    result: Ty::Boolean,
+};
+
+/// The logical operator.
+pub const AND: Operator = Operator {
+    op: BinaryOp::And,
+    operands: Ty::Boolean,
+    result: Ty::Boolean,
+};
+
+/// What a letter of a line stands for.
+fn kind_of(letter: char) -> Kind {
+    match letter {
+        'm' => Kind::Body {
+            level: 0,
+            slots: MAIN_SLOTS,
+        },
+        'f' => Kind::Body {
+            level: 1,
+            slots: BODY_SLOTS,
+        },
+        '[' => Kind::Block(1),
+        '{' => Kind::Block(2),
+        'b' => Kind::Operand(Ty::Boolean),
+        _ => Kind::Operand(Ty::Integer),
+    }
+}
+
+/// The notes of what stands before each of these lines.
+pub fn notes_of(alloc: Global, lines: &[Line]) -> Result<KindNotes, AllocError> {
+    let mut notes = KindNotes::new(alloc);
+    for (_, stack) in lines {
+        for letter in stack.chars() {
+            notes.enter(kind_of(letter))?;
+        }
+        notes.note()?;
+        for _ in stack.chars() {
+            notes.leave();
+        }
+    }
+    Ok(notes)
+}
+
+/// The instructions of these lines.
+pub fn instructions_of(alloc: Global, lines: &[Line]) -> Result<Vec<Instr>, AllocError> {
+    let mut instructions = Vec::new(alloc);
+    for (instr, _) in lines {
+        instructions.push(*instr)?;
+    }
+    Ok(instructions)
+}
