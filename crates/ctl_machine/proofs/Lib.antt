@@ -51,3 +51,5 @@ pub mod Births
 pub mod InitializeCalled
 pub mod Given
 pub mod Stored
+pub mod InWindow
+pub mod Stretches

@@ -13,3 +13,4 @@ pub mod Turns
 pub mod Initializing
 pub mod Variables
 pub mod Declaring
+pub mod Windows

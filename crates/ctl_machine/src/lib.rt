@@ -4,6 +4,7 @@
 mod advance;
 mod apart;
 mod begin;
+mod computing;
 mod declare;
 mod engine;
 mod frame;
@@ -18,5 +19,7 @@ pub mod outcome;
 mod printing;
 mod start;
 mod step;
+mod stretch;
 mod texts;
 mod variables;
+mod window;

@@ -1,19 +1,18 @@
 //! Loops with a parameter (RM 5.5). The bounds of a loop are the two newest operands, the high one on top. The one that the loop counts
 //! from is always the value of the present turn.
 
-ghost use Rattle.std.specs.Prelude.{◌≡◌, ◌+◌, ◌^◌, ◌<◌, MatchOption, Some, length, reverse, slice_set};
+ghost use Rattle.std.specs.Prelude.{◌≡◌, ◌+◌, ◌^◌, ◌<◌, MatchOption, Some, length, slice_set};
 ghost use Rattle.ctl_code.specs.Table as Table;
-ghost use Rattle.ctl_code.specs.States.{State};
 ghost use Rattle.ctl_code.specs.Valid.{IsValid};
 ghost use Rattle.ctl_machine.specs.declared.frame.Mode.TheVariants as ModeOf;
 ghost use Rattle.ctl_machine.specs.Instructions.{Turns};
-ghost use Rattle.ctl_machine.specs.Masters.{first_window};
-ghost use Rattle.ctl_machine.specs.Moves.{Before, GoesOn, Makes, here_of};
+ghost use Rattle.ctl_machine.specs.Moves.{Before, here_of};
 ghost use Rattle.ctl_machine.specs.Turns as Turns;
+ghost use Rattle.ctl_machine.specs.Windows.{Comes, IsGoing, IsWindow, Moment};
 
-use crate::engine::Engine;
 use crate::frame::Mode;
 use crate::operators::{cell_of, signed};
+use crate::window::read;
 use ctl_code::code::{Code, Instr};
 use ctl_program::operators::Direction;
 
@@ -59,72 +58,90 @@ fn next_value(way: Direction, low: u64, high: u64) -> Option<u64>
     }
 }
 
-impl Engine {
-    /// Begins the turn of this value, which the bound that the loop counts from and the parameter take, in these cells of the newest
-    /// window, and goes on at the first place; where there is no value, goes on at the second.
-    #[inline(always)]
-    fn begin_turn(
-        &mut self,
-        value: Option<u64>,
-        bound: usize,
-        parameter: usize,
-        inside: usize,
-        behind: usize,
-    )
-        requires bound { first_window (reverse self.old.masters.items) + bound < length self.old.cells.items }
-        requires parameter { first_window (reverse self.old.masters.items) + parameter < length self.old.cells.items }
-        ensures { MatchOption value (GoesOn self.old self.new (ModeOf.At behind) self.old.cells.items) (λ x. GoesOn self.old self.new (ModeOf.At inside) (slice_set (slice_set self.old.cells.items (first_window (reverse self.old.masters.items) + bound) x) (first_window (reverse self.old.masters.items) + parameter) x)) }
-    {
-        match value {
-            Some(value) => {
-                let window = self.window();
-                self.cells[window + bound] = value;
-                self.cells[window + parameter] = value;
-                self.mode = Mode::At(inside);
-            }
-            None => self.go_on(Mode::At(behind)),
+/// Begins the turn of this value, which the bound that the loop counts from and the parameter take, in these cells, and goes on at the
+/// first place; where there is no value, goes on at the second.
+#[inline(always)]
+fn begin_turn(
+    cells: &mut [u64],
+    window: usize,
+    value: Option<u64>,
+    bound: usize,
+    parameter: usize,
+    inside: usize,
+    behind: usize,
+) -> Mode
+    requires bound { window + bound < length cells.old }
+    requires parameter { window + parameter < length cells.old }
+    ensures begins { MatchOption value ((result ≡ ModeOf.At behind) × (cells.new ≡ cells.old)) (λ x. (result ≡ ModeOf.At inside) × (cells.new ≡ slice_set (slice_set cells.old (window + bound) x) (window + parameter) x)) }
+    ensures going { IsGoing result }
+{
+    match value {
+        Some(value) => {
+            cells[window + bound] = value;
+            cells[window + parameter] = value;
+            Mode::At(inside)
         }
+        None => Mode::At(behind),
     }
+}
 
-    /// Executes this instruction of a loop with a parameter, which stands at this place (RM 5.5).
-    #[inline(always)]
-    pub(crate) fn turn(&mut self, code: &Code, instr: &Instr, place: usize)
-        ghost s: { State }
-        requires valid { IsValid code.now }
-        requires before { Before code.now self.old place instr.now s }
-        requires turns { Turns instr.now }
-        requires place { place + 1 < 2 ^ 64 }
-        ensures { Makes code.now self.old self.new (Table.by_instr code.now (Some instr.now) s.operands (here_of place s)) }
-    {
-        let _places = code.instructions.as_slice().len();
-        match instr {
-            Instr::For {
-                low,
-                parameter,
-                way,
-                length,
-                ..
-            } => {
-                let first = self.operand(*low);
-                let last = self.operand(*low + 1);
-                let value = first_value(*way, first, last);
-                let bound = counted(*way, *low);
-                self.begin_turn(value, bound, *parameter, place + 2, place + 1 + *length);
-            }
-            Instr::Next {
-                low,
-                parameter,
-                way,
-                length,
-                ..
-            } => {
-                let first = self.operand(*low);
-                let last = self.operand(*low + 1);
-                let value = next_value(*way, first, last);
-                let bound = counted(*way, *low);
-                self.begin_turn(value, bound, *parameter, place - *length, place + 1);
-            }
-            _ => unreachable!(),
+/// Executes this instruction of a loop with a parameter, which stands at this place; answers what comes next (RM 5.5).
+#[inline(always)]
+pub fn turn(cells: &mut [u64], window: usize, code: &Code, instr: &Instr, place: usize) -> Mode
+    ghost at: { Moment }
+    requires valid { IsValid code.now }
+    requires before { Before code.now at.engine place instr.now at.state }
+    requires turns { Turns instr.now }
+    requires place { place + 1 < 2 ^ 64 }
+    requires window { IsWindow at.engine window cells.old }
+    ensures comes { Comes code.now at.engine result cells.new (Table.by_instr code.now (Some instr.now) at.state.operands (here_of place at.state)) }
+    ensures going { IsGoing result }
+    ensures length { length cells.new ≡ length cells.old }
+{
+    let _places = code.instructions.as_slice().len();
+    match instr {
+        Instr::For {
+            low,
+            parameter,
+            way,
+            length,
+            ..
+        } => {
+            let first = read(cells, window, *low);
+            let last = read(cells, window, *low + 1);
+            let value = first_value(*way, first, last);
+            let bound = counted(*way, *low);
+            begin_turn(
+                cells,
+                window,
+                value,
+                bound,
+                *parameter,
+                place + 2,
+                place + 1 + *length,
+            )
         }
+        Instr::Next {
+            low,
+            parameter,
+            way,
+            length,
+            ..
+        } => {
+            let first = read(cells, window, *low);
+            let last = read(cells, window, *low + 1);
+            let value = next_value(*way, first, last);
+            let bound = counted(*way, *low);
+            begin_turn(
+                cells,
+                window,
+                value,
+                bound,
+                *parameter,
+                place - *length,
+                place + 1,
+            )
+        }
+        _ => unreachable!(),
     }
 }
