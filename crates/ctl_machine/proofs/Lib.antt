@@ -9,8 +9,6 @@ pub mod Closed
 pub mod Left
 pub mod Plain
 pub mod Computed
-pub mod Images
-pub mod Printed
 pub mod Ends
 pub mod Started
 pub mod Prints

@@ -1,9 +1,7 @@
-pub mod Operators
 pub mod Masters
 pub mod Under
 pub mod Shows
 pub mod Moves
-pub mod Images
 pub mod Machine
 pub mod Prints
 pub mod Links

@@ -9,38 +9,14 @@ ghost use Rattle.ctl_machine.specs.Moves.{Before, GoesOn, Makes, here_of};
 ghost use Rattle.ctl_machine.specs.Shows.{kept};
 ghost use Rattle.ctl_machine.specs.Declaring.{CallsInitialize, with_object};
 
-use crate::apart::{make_room, whole};
 use crate::engine::Engine;
 use crate::frame::{After, Frame, Life, Master, Mode, Owned};
+use crate::showing::{show_life, whole};
 use ctl_code::code::{Code, Entry, Operations};
-use ctl_tree::event::{Event, Owner};
-use std::alloc::{AllocError, Global};
-
-/// Shows that an object of this master has come to life, where the user wrote a Finalize for its type (RM 7.6).
-fn show_life(
-    alloc: Global,
-    events: &mut Vec<Event>,
-    object: u64,
-    master: u64,
-    finalize: Option<usize>,
-)
-    requires { vec_len events.old < vec_capacity events.old }
-    ensures { events.new.items ≡ events.old.items ++ Table.birth finalize object master }
-{
-    if let Some(_) = finalize {
-        events.push_reserved(Event::Live(whole(alloc, object), Owner::Master(master)));
-    }
-}
+use ctl_tree::event::Event;
+use std::alloc::AllocError;
 
 impl Engine {
-    /// Answers the newest master.
-    fn newest_master(&self) -> Master
-        requires { 0 < length self.now.masters.items }
-        ensures { slice_get self.now.masters.items (length self.now.masters.items - 1) ≡ Some result }
-    {
-        self.masters[self.masters.as_slice().len() - 1]
-    }
-
     /// Reserves room for an object and for what is shown of it; nothing else changes.
     fn reserve_object(&mut self) -> Result<(), AllocError>
         ensures same { GoesOn self.old self.new self.old.mode self.old.cells.items }
@@ -97,7 +73,7 @@ impl Engine {
         ensures err { OnErr result (GoesOn self.old self.new self.old.mode self.old.cells.items) }
     {
         let _ = code;
-        let newest = self.newest_master();
+        let newest = self.newest();
         self.reserve_object()?;
         self.create(newest, slot, record, Life::Layer);
         show_life(
@@ -123,12 +99,8 @@ impl Engine {
         ensures number { self.new.given_masters ≡ self.old.given_masters }
         ensures objects { self.new.given_objects ≡ self.old.given_objects }
     {
-        let wanted = base.checked_add(room).ok_or(AllocError)?;
         self.owned.reserve(1)?;
-        self.masters.reserve(1)?;
-        self.control.reserve(2)?;
-        self.events.reserve(1)?;
-        make_room(&mut self.cells, wanted)
+        self.prepare(base, room)
     }
 
     /// Declares an object of a type for which the user wrote an Initialize, with this body: it is called (RM 7.6); unchanged where memory
@@ -151,7 +123,7 @@ impl Engine {
         ensures ok { OnOk result (Makes code.now self.old self.new (Table.by_instr code.now (Some (InstrOf.Declare slot «record»)) s.operands (here_of place s))) }
         ensures err { OnErr result (GoesOn self.old self.new self.old.mode self.old.cells.items) }
     {
-        let newest = self.newest_master();
+        let newest = self.newest();
         let base = self.window() + code.kinds.height_at(place, 0);
         let link = self.around(entry.level);
         let depth = self.depth_at(link) + 1;

@@ -17,24 +17,11 @@ ghost use Rattle.ctl_machine.specs.Initializing.{IsNewest, Turns, held, new_of};
 ghost use Rattle.ctl_machine.specs.Moves.{Before, BeforeResuming, GoesOn, Makes, here_of};
 ghost use Rattle.ctl_machine.specs.Shows as Shows;
 
-use crate::apart::whole;
 use crate::engine::Engine;
-use crate::frame::{Ended, Life, Mode, Owned, Way};
+use crate::frame::{Ended, Life, Mode, Way};
+use crate::showing::show_life;
 use ctl_code::code::Code;
-use ctl_tree::event::{Event, Owner};
-use std::alloc::{AllocError, Global};
-
-/// Shows that an object of a master has come to life, where the user wrote this Finalize for its type.
-#[tactic(auto, unfolding(ctl_meaning::specs::Changes::owner_of))]
-fn show_life(alloc: Global, events: &mut Vec<Event>, finalize: Option<usize>, object: Owned)
-    requires { vec_len events.old < vec_capacity events.old }
-    ensures { events.new.items ≡ events.old.items ++ Table.birth finalize object.number object.master }
-{
-    if finalize.is_some() {
-        let part = whole(alloc, object.number);
-        events.push_reserved(Event::Live(part, Owner::Master(object.master)));
-    }
-}
+use std::alloc::AllocError;
 
 impl Engine {
     /// Makes the newest owned object a layer of its master, which is shown where the user wrote a Finalize for its type (RM 7.6.1); goes
@@ -51,7 +38,13 @@ impl Engine {
         let object = self.owned[newest];
         self.owned[newest].life = Life::Layer;
         let finalize = code.records[object.record].finalize;
-        show_life(self.alloc, &mut self.events, finalize, object);
+        show_life(
+            self.alloc,
+            &mut self.events,
+            object.number,
+            object.master,
+            finalize,
+        );
         self.mode = Mode::At(place);
     }
 

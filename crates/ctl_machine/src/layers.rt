@@ -12,7 +12,7 @@ ghost use Rattle.ctl_machine.specs.Masters.{layers_from, rising_layers};
 ghost use Rattle.ctl_machine.specs.Moves.{BeforeResuming, Makes};
 ghost use Rattle.ctl_machine.specs.Shows as Shows;
 
-use crate::apart::{Departure, replace_top};
+use crate::calls::{Departure, replace_top};
 use crate::engine::Engine;
 use crate::frame::{Completion, Ended, Life, Master, Mode, Owned, Way};
 use ctl_code::code::{Code, Entry};
@@ -75,14 +75,6 @@ pub(crate) fn finalize_of(code: &Code, record_type: usize) -> Option<Entry>
 }
 
 impl Engine {
-    /// Answers the newest master.
-    pub(crate) fn newest(&self) -> Master
-        requires { 0 < vec_len self.now.masters }
-        ensures { (ms : List Master) × (reverse self.now.masters.items ≡ result ∷ ms) }
-    {
-        self.masters[self.masters.as_slice().len() - 1]
-    }
-
     /// Finds the newest layer of the newest master (RM 7.6.1): it lies below this place, from which on no owned object is a layer.
     pub(crate) fn newest_layer(&self, master: &Master, next: usize) -> Option<usize>
         requires { rising_layers (drop next self.now.owned.items) ≡ [] }

@@ -2,8 +2,8 @@
 #![tactic(auto)]
 
 mod advance;
-mod apart;
 mod begin;
+mod calls;
 mod computing;
 mod declare;
 mod engine;
@@ -14,12 +14,11 @@ mod layers;
 mod leaving;
 mod loops;
 pub mod machine;
-mod operators;
 pub mod outcome;
 mod printing;
+mod showing;
 mod start;
 mod step;
 mod stretch;
-mod texts;
 mod variables;
 mod window;

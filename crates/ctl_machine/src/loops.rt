@@ -11,10 +11,10 @@ ghost use Rattle.ctl_machine.specs.Turns as Turns;
 ghost use Rattle.ctl_machine.specs.Windows.{Comes, IsGoing, IsWindow, Moment};
 
 use crate::frame::Mode;
-use crate::operators::{cell_of, signed};
 use crate::window::read;
 use ctl_code::code::{Code, Instr};
 use ctl_program::operators::Direction;
+use ctl_values::operators::{cell_of, signed};
 
 /// Answers the cell of the bound that a loop counts from, whose low bound is in this cell.
 #[inline(always)]

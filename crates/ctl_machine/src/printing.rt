@@ -10,10 +10,10 @@ ghost use Rattle.ctl_machine.specs.Prints.{line_end, print_of};
 
 use crate::engine::Engine;
 use crate::frame::Mode;
-use crate::texts::text_from;
 use ctl_code::code::Code;
 use ctl_tree::event::Event;
 use ctl_tree::text::Text;
+use ctl_values::texts::text_from;
 use std::alloc::AllocError;
 
 /// A text is printed, and its line ends where that is asked.

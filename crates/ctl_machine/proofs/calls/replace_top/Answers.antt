@@ -1,6 +1,6 @@
 use Rattle.std.proofs.Common.{◌≡◌, ◌-◌, ◌<◌, ap, arith, length, suc}
 use Rattle.ctl_machine.proofs.Tops.{top_replaced_at}
-use Rattle.ctl_machine.proofs.apart.replace_top.Goals as goal
+use Rattle.ctl_machine.proofs.calls.replace_top.Goals as goal
 
 pub returns-clause-items : goal.returns-clause-items
 returns-clause-items c =

@@ -6,9 +6,9 @@ use mir.Syntax.{w64}
 use mir.Val.{to_z, of_z, SFits}
 use Rattle.std.specs.Prelude.{decimal}
 use Rattle.ctl_meaning.specs.Numbers.{image_of, integer_image}
-use Rattle.ctl_machine.specs.Images.{sign_of}
-use Rattle.ctl_machine.proofs.Images.{signed_image}
-use Rattle.ctl_machine.proofs.texts.push_integer_image.Goals as goal
+use Rattle.ctl_values.specs.Images.{sign_of}
+use Rattle.ctl_values.proofs.Images.{signed_image}
+use Rattle.ctl_values.proofs.texts.push_integer_image.Goals as goal
 
 -- the sign, and behind it the digits
 pub returns : goal.returns

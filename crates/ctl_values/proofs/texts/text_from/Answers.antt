@@ -1,8 +1,8 @@
 use Rattle.std.proofs.Common.{◌++◌, ◌∙◌, ap, drop, sym}
 use Rattle.std.proofs.lemmas.List.{append-nil, drop_all}
 use Rattle.ctl_code.specs.Table.{text_of}
-use Rattle.ctl_machine.proofs.Printed.{text_of_taken}
-use Rattle.ctl_machine.proofs.texts.text_from.Goals as goal
+use Rattle.ctl_values.proofs.Printed.{text_of_taken}
+use Rattle.ctl_values.proofs.texts.text_from.Goals as goal
 
 -- no part is left
 pub returns : goal.returns

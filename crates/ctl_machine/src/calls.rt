@@ -1,4 +1,4 @@
-//! Bodies that are entered for what waits.
+//! Calls of the bodies of operations: room is made, and the call of a Finalize.
 
 ghost use Rattle.std.specs.Prelude.{◌≡◌, ◌+◌, ◌^◌, ◌<◌, ◌≤◌, [], ◌∷◌, ◌++◌, List, ℕ, OnErr, OnOk, Some, drop, length, reverse, slice_get, slice_set, take, vec_capacity, vec_len};
 ghost use Rattle.ctl_tree.specs.declared.event.Cause.TheVariants.{Scope};
@@ -14,10 +14,10 @@ ghost use Rattle.ctl_machine.specs.Moves.{GoesOn, Makes};
 
 use crate::engine::Engine;
 use crate::frame::{After, Completion, Frame, Life, Master};
+use crate::showing::whole;
 use ctl_code::code::{Code, Entry};
-use ctl_tree::event::{Cause, Event, Part};
-use ctl_tree::text::Path;
-use std::alloc::{AllocError, Global};
+use ctl_tree::event::{Cause, Event};
+use std::alloc::AllocError;
 
 /// Makes so many cells, if there are fewer; the new ones are 0.
 pub(crate) fn make_room(cells: &mut Vec<u64>, wanted: usize) -> Result<(), AllocError>
@@ -62,16 +62,6 @@ pub(crate) fn replace_top(control: &mut Vec<Frame>, frame: Frame)
 {
     let top = control.as_slice().len() - 1;
     control[top] = frame;
-}
-
-/// Names an object as a whole.
-pub(crate) fn whole(alloc: Global, object: u64) -> Part
-    ensures { result ≡ Table.whole_part object }
-{
-    Part {
-        object,
-        path: Path::new(alloc),
-    }
 }
 
 impl Engine {
@@ -129,6 +119,7 @@ impl Engine {
         ensures number { self.new.given_masters ≡ self.old.given_masters }
         ensures objects { self.new.given_objects ≡ self.old.given_objects }
         ensures waiting { vec_len self.new.control ≡ vec_len self.old.control }
+        ensures owned { self.new.owned ≡ self.old.owned }
     {
         let wanted = base.checked_add(room).ok_or(AllocError)?;
         self.masters.reserve(1)?;

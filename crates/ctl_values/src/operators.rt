@@ -3,7 +3,7 @@
 
 ghost use Rattle.std.specs.Prelude.{◌≡◌, ◌≢◌, pos, ◌+ℤ◌, ◌-ℤ◌, ◌*ℤ◌, int_div, int_rem};
 ghost use Rattle.ctl_meaning.specs.Numbers as Numbers;
-ghost use Rattle.ctl_machine.specs.Operators.{IsDivision};
+ghost use Rattle.ctl_values.specs.Operators.{IsDivision};
 
 use ctl_program::operators::{BinaryOp, UnaryOp};
 use ctl_program::types::Ty;

@@ -1,6 +1,6 @@
 use Rattle.std.proofs.Common.{◌≡◌, ◌+◌, ◌++◌, ◌≤◌, drop, length}
 use Rattle.ctl_code.specs.Table.{images_in, text_of}
-use Rattle.ctl_machine.proofs.texts.text_from.Given as goal
+use Rattle.ctl_values.proofs.texts.text_from.Given as goal
 
 -- what was made, and what is still to be made; the values for it are there
 abbrev pub invariant-loop-part : goal.invariant-loop-part

@@ -3,7 +3,7 @@
 ghost use Rattle.std.specs.Prelude.{◌≡◌, ◌+◌, ◌≤◌, ◌++◌, IfOk, OnOk, drop, length, slice_get, take};
 ghost use Rattle.ctl_meaning.specs.Numbers.{integer_image, boolean_image};
 ghost use Rattle.ctl_code.specs.Table.{images_in, text_of};
-ghost use Rattle.ctl_machine.specs.Images as Sign;
+ghost use Rattle.ctl_values.specs.Images as Sign;
 
 use crate::operators::{is_true, signed};
 use ctl_code::template::TextPart;

@@ -1,0 +1,35 @@
+//! What is shown of objects.
+
+ghost use Rattle.std.specs.Prelude.{◌≡◌, ◌<◌, ◌++◌, vec_capacity, vec_len};
+ghost use Rattle.ctl_code.specs.Table as Table;
+
+use ctl_tree::event::{Event, Owner, Part};
+use ctl_tree::text::Path;
+use std::alloc::Global;
+
+/// Names an object as a whole.
+pub(crate) fn whole(alloc: Global, object: u64) -> Part
+    ensures { result ≡ Table.whole_part object }
+{
+    Part {
+        object,
+        path: Path::new(alloc),
+    }
+}
+
+/// Shows that an object of this master has come to life, where the user wrote a Finalize for its type (RM 7.6).
+#[tactic(auto, unfolding(ctl_meaning::specs::Changes::owner_of))]
+pub(crate) fn show_life(
+    alloc: Global,
+    events: &mut Vec<Event>,
+    object: u64,
+    master: u64,
+    finalize: Option<usize>,
+)
+    requires { vec_len events.old < vec_capacity events.old }
+    ensures { events.new.items ≡ events.old.items ++ Table.birth finalize object master }
+{
+    if finalize.is_some() {
+        events.push_reserved(Event::Live(whole(alloc, object), Owner::Master(master)));
+    }
+}
