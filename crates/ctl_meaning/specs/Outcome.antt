@@ -136,13 +136,15 @@ pub data Tried (A : Type 0) : Type 0 where
   Fine : (a : A) → Tried A
   Raised : (exception : ℕ) → Tried A
 
-unfoldable pub told : {A : Type 0} → Result A → Act (Tried A)
-told (Goes a) = done (Fine a)
-told (Leaves ByExit) = leave_by ByExit
-told (Leaves (ByReturn v)) = leave_by (ByReturn v)
-told (Leaves (ByRaise e)) = done (Raised e)
-
 -- an exception becomes a value
+abbrev pub tried : {A : Type 0} → Result A → Result (Tried A)
+tried (Goes a) = Goes (Fine a)
+tried (Leaves (ByRaise e)) = Goes (Raised e)
+tried (Leaves y) = Leaves y
+
+unfoldable pub told : {A : Type 0} → Result A → Act (Tried A)
+told r = given (tried r)
+
 unfoldable pub attempt : {A : Type 0} → Act A → Act (Tried A)
 attempt m = then_always m told
 
