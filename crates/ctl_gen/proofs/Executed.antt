@@ -12,7 +12,7 @@ use Rattle.ctl_program.specs.declared.statement.Master.{Master, Master-F, roll-M
 use Rattle.ctl_tree.specs.declared.event.Event.TheVariants.{Newline}
 use Rattle.ctl_meaning.specs.World.{World}
 use Rattle.ctl_meaning.specs.Choice.{Ask}
-use Rattle.ctl_meaning.specs.Outcome.{Goes, tell, opened_outcome}
+use Rattle.ctl_meaning.specs.Outcome.{Goes, tell, opened_outcome, ByExit, leave_by}
 use Rattle.ctl_meaning.specs.Types.{Tables, Elementary}
 use Rattle.ctl_meaning.specs.Names.{Default, Tools}
 use Rattle.ctl_meaning.specs.Names as Names
@@ -23,7 +23,7 @@ use Rattle.ctl_meaning.proofs.Trees.{exec_roll, arm_roll as guarding_roll, maste
 use Rattle.ctl_code.specs.declared.code.Code.{Code}
 use Rattle.ctl_code.specs.declared.code.Instr.TheVariants as InstrOf
 use Rattle.ctl_gen.specs.Values.{value_code, variable_of}
-use Rattle.ctl_gen.specs.Layout.{StatementCode, all, all_items, arm_code, assign, exit, has_no_handlers, inside, item_code, master_code, missing_statement, no_code, statement_code}
+use Rattle.ctl_gen.specs.Layout.{StatementCode, all, all_items, arm_code, assign, exit, has_no_handlers, inside, item_code, master_code, missing_statement, no_code, statement_code, leaves_code}
 use Rattle.ctl_gen.proofs.Known.{both_true}
 use Rattle.ctl_gen.proofs.TreeLayers.{arm_roll, master_roll, statement_roll}
 use Rattle.ctl_gen.proofs.Setting.{Setting, Calls, tools_with}
@@ -33,7 +33,8 @@ use Rattle.ctl_gen.proofs.Expressions.{Uses, Value}
 use Rattle.ctl_gen.proofs.Evaluated.{name_finds, value_means}
 use Rattle.ctl_gen.proofs.Assign.{assign_runs}
 use Rattle.ctl_gen.proofs.Texts.{print_runs}
-use Rattle.ctl_gen.proofs.Loops.{exit_runs, exit_when_runs, loop_runs, while_runs}
+use Rattle.ctl_gen.proofs.Branches.{only_if_runs, paid}
+use Rattle.ctl_gen.proofs.Loops.{departs, loop_runs, while_runs}
 use Rattle.ctl_gen.proofs.Ranges.{for_runs}
 use Rattle.ctl_gen.proofs.Follow.{arrives, last_step, lands}
 use Rattle.ctl_gen.proofs.Statements as S
@@ -116,8 +117,8 @@ module _ (ask : Ask) (k : Tables) (code : Code) (setting : Setting k code) (call
 
   exit_does : (o : Option Expr) → Performs (exit (option_map value_code o)) (exit_doing (option_map eval o))
   unfolding exit_doing
-  exit_does None runs n texts caught = exit_runs ask k code bound
-  exit_does (Some e) runs n texts caught = exit_when_runs ask k code bound (value_code e) (eval e K) (means e runs)
+  exit_does None runs n texts caught = paid ask k code bound leaves_code (λ d. leave_by ByExit) (departs ask k code bound)
+  exit_does (Some e) runs n texts caught = only_if_runs ask k code bound (value_code e) (eval e K) (means e runs) leaves_code (λ d. leave_by ByExit) (departs ask k code bound)
 
   stmt_rolled : (y : Stmt-F StmtToo ArmToo HandlerToo MasterToo) → Does (roll-Stmt (bare_stmt y))
   unfolding null_doing put put_line new_line loop_plainly loop_while loop_for opened_outcome

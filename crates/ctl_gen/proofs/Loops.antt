@@ -6,11 +6,11 @@ use Rattle.ctl_program.specs.declared.types.Ty.TheVariants.{Boolean}
 use Rattle.ctl_meaning.specs.World.{Log, World}
 use Rattle.ctl_meaning.specs.Lists.{opened_lists}
 use Rattle.ctl_meaning.specs.Choice.{Ask}
-use Rattle.ctl_meaning.specs.Outcome.{Way, ByExit, ByReturn, ByRaise, Result, Goes, Leaves, Act, Done, add, bind, on_goes, leave_by, done, nothing, ticked, either, opened_outcome}
+use Rattle.ctl_meaning.specs.Outcome.{Way, ByExit, ByReturn, ByRaise, Result, Goes, Leaves, Act, Done, add, bind, on_goes, leave_by, done, ticked, either, opened_outcome}
 use Rattle.ctl_meaning.specs.Numbers.{is_true}
 use Rattle.ctl_meaning.specs.Types.{Tables}
 use Rattle.ctl_meaning.specs.Names.{scalar_of}
-use Rattle.ctl_meaning.specs.Statements.{scalar, leaving, turned, turns, loop, one_turn, while}
+use Rattle.ctl_meaning.specs.Statements.{leaving, turned, turns, loop, one_turn, while}
 use Rattle.ctl_code.specs.declared.code.Instr.TheVariants as InstrOf
 use Rattle.ctl_code.specs.declared.code.Code.{Code}
 use Rattle.ctl_code.specs.declared.kinds.Kind.{Kind}
@@ -25,8 +25,8 @@ use Rattle.ctl_gen.proofs.Worlds.{Since, Kept}
 use Rattle.ctl_gen.proofs.Setting.{Sees}
 use Rattle.ctl_gen.proofs.Cells.{here, by_code, waiting, Stays, taking_is}
 use Rattle.ctl_gen.proofs.Expressions.{Value, held_holds, held_then}
-use Rattle.ctl_gen.proofs.Does.{Does}
-use Rattle.ctl_gen.proofs.Follow.{IsGoing, Runs, Target, On, target_of, landing_further, landed_on, at, transferred, arrives, added, within, one_step, last_step, no_step, both, arriving, left_behind, bind_add, bind_bind, lands}
+use Rattle.ctl_gen.proofs.Does.{Does, DoesIn}
+use Rattle.ctl_gen.proofs.Follow.{IsGoing, Runs, Target, On, target_of, landed_on, at, transferred, arrives, added, within, one_step, last_step, no_step, both, arriving, left_behind, bind_add, bind_bind, lands}
 
 module _ (ask : Ask) (k : Tables) (code : Code) (bound : ℕ) where
   -- a turn, from the step that begins it, and what follows
@@ -192,59 +192,14 @@ module _ (ask : Ask) (k : Tables) (code : Code) (bound : ℕ) where
       (λ l1 w1. subst (λ p. step ask code (at d p ks ops l1 w1) ≡ at d (place + 1 + 1 + length b + 1) ks ops l1 w1) landing (by_code ask code d (place + 1) ks ops l1 w1 (InstrOf.Skip (length b + 1)) has.2.0 ∙ ap (λ p. at d p ks ops l1 w1) skipped))
       refl))))
 
-  -- Exit statements ---------------------------------------------------------------------------------
+  -- Departures ---------------------------------------------------------------------------------------
 
   -- the instruction that leads to a landing
   pub leave_step : (x : Landing) (d : List ℕ) (place : ℕ) (ks : List Frame) (ops : List ℕ) (l : Log) (w : World) → slice_get code.instructions.items place ≡ Some (land x) → step ask code (at d place ks ops l w) ≡ landed_on (target_of x place) d ks ops l w
   leave_step OutOfMaster d place ks ops l w has = by_code ask code d place ks ops l w (land OutOfMaster) has
   leave_step (BeforeLoop back) d place ks ops l w has = by_code ask code d place ks ops l w (land (BeforeLoop back)) has
 
-  pub exit_runs : Does ask k code bound leaves_code (λ d. ticked (leave_by ByExit))
+  -- one step to where control lands
+  pub departs : DoesIn 1 ask k code bound leaves_code (λ d. leave_by ByExit)
   unfolding opened_outcome
-  exit_runs a w0 d place ks ops c l w le fits sees has = last_step ask code (Kept k code w0) 0 0 _ c 1 (arrives (lands a place) d (place + 1) ks ops) (Leaves ByExit) l w (omega arith) fits (leave_step a.landing d place ks ops l w has.0)
-
-  pub exit_when_runs : (y : ValueCode) (test : List ℕ → Act (List ℕ)) → ((w0 : World) → Value ask k code (Since k code w0) y test) → Does ask k code bound (λ a. test_code y a.stack 1 ++ leaves_code (behind (test_length y a.stack) a)) (λ d. ticked (scalar (test d) (λ b. either (is_true b) (leave_by ByExit) nothing)))
-  unfolding scalar opened_outcome scalar_of opened_lists
-  exit_when_runs y test value a w0 d place ks ops c l w le fits sees has =
-      added ask code (Kept k code w0) 1 0 0 0 0 _ c _ _ (omega arith) (omega arith)
-      (test_runs (on_goes (λ u. either (is_true (scalar_of u)) out nothing)) w0 y test (value w0) s 1 d place ks ops c l w (arrives e d end ks ops) fits sees (laid_front code place (test_code y s 1) (leaves_code a1) has)
-      (λ m c1 l1 w1 s0 lo fits1 first going logged. by m c1 l1 w1 s0 fits1 (is_true m) refl first)
-      (λ z c1 l1 w1 lo fits1. no_step ask code (Kept k code w0) 8 8 _ c1 0 (arrives e d end ks ops) (Leaves (ByRaise z)) l1 w1 fits1 refl))
-    where
-      way : Way
-      way = ByExit
-
-      out : Act Done
-      out = leave_by way
-
-      s : List Kind
-      s = a.stack
-
-      a1 : Around
-      a1 = behind (test_length y a.stack) a
-
-      e : Target
-      e = lands a place
-
-      end : ℕ
-      end = place + length (test_code y a.stack 1 ++ leaves_code (behind (test_length y a.stack) a))
-
-      test_size : length (test_code y a.stack 1) ≡ test_length y a.stack
-      test_size = omega (arith, length-append (held y Boolean a.stack).code ((InstrOf.Unless (held y Boolean a.stack).cell 1, (held y Boolean a.stack).after) ∷ []))
-
-      far : place + test_length y a.stack + 1 ≡ place + length (test_code y a.stack 1 ++ leaves_code (behind (test_length y a.stack) a))
-      far = omega (arith, test_size, length-append (test_code y a.stack 1) (leaves_code (behind (test_length y a.stack) a)))
-
-      there : slice_get code.instructions.items (place + test_length y a.stack) ≡ Some (land (behind (test_length y a.stack) a).landing)
-      there = subst (λ p. slice_get code.instructions.items (place + p) ≡ Some (land a1.landing)) test_size (laid_back code place (test_code y a.stack 1) (leaves_code a1) has).0
-
-      by : (m c1 : ℕ) (l1 : Log) (w1 : World) (s0 : State) → Since k code w0 w1 → (t : Bool) → is_true m ≡ t → step ask code s0 ≡ at d (place + test_length y a.stack + (if is_true m then 0 else 1)) ks ops l1 w1 → Runs ask code (Kept k code w0) 8 8 s0 c1 (arrives (lands a place) d (place + length (test_code y a.stack 1 ++ leaves_code (behind (test_length y a.stack) a))) ks ops) (either (is_true m) out nothing c1 l1 w1)
-      by m c1 l1 w1 s0 fits1 true t first =
-          let e0 : place + test_length y s + 0 ≡ place + test_length y s = omega arith in
-          subst (λ z. Runs ask code (Kept k code w0) 8 8 s0 c1 (arrives e d end ks ops) (either z out nothing c1 l1 w1)) (sym t)
-          (one_step ask code (Kept k code w0) 7 7 8 8 s0 (at d (place + test_length y s) ks ops l1 w1) c1 c1 (arrives e d end ks ops) (out c1 l1 w1) (omega arith) (omega arith) (omega arith) (omega arith) (first ∙ ap (λ z. at d (place + test_length y s + (if z then 0 else 1)) ks ops l1 w1) t ∙ ap (λ p. at d p ks ops l1 w1) e0)
-          (last_step ask code (Kept k code w0) 7 7 (at d (place + test_length y s) ks ops l1 w1) c1 0 (arrives e d end ks ops) (Leaves way) l1 w1 (omega arith) fits1
-          (leave_step a1.landing d (place + test_length y s) ks ops l1 w1 there ∙ ap (λ (x : Target). landed_on x d ks ops l1 w1) (landing_further a.landing (test_length y s) place))))
-      by m c1 l1 w1 s0 fits1 false t first =
-          subst (λ z. Runs ask code (Kept k code w0) 8 8 s0 c1 (arrives e d end ks ops) (either z out nothing c1 l1 w1)) (sym t)
-          (last_step ask code (Kept k code w0) 8 8 s0 c1 0 (arrives e d end ks ops) (Goes tt) l1 w1 (omega arith) fits1 (first ∙ ap (λ z. at d (place + test_length y s + (if z then 0 else 1)) ks ops l1 w1) t ∙ ap (λ p. at d p ks ops l1 w1) far))
+  departs a w0 d place ks ops c l w le fits sees has = last_step ask code (Kept k code w0) 1 1 _ c 0 (arrives (lands a place) d (place + 1) ks ops) (Leaves ByExit) l w (omega arith) fits (leave_step a.landing d place ks ops l w has.0)

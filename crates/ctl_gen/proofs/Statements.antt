@@ -154,7 +154,7 @@ module _ (ask : Ask) (k : Tables) (code : Code) (setting : Setting k code) (call
   pub guard_runs : (x : ValueCode) (test : Valued) (xs : List StatementCode) (ms : List Doing) → (x.runs ≡ true → (w0 : World) → Value ask k code (Since k code w0) x (test K)) → EachPerforms xs ms → Guards (record { test = x; body = all xs }) (guard test ms)
   unfolding guard
   guard_runs x test xs ms value each runs_test runs_body n texts caught other a w0 d place place1 ks ops c l w le fits sees has ends elses =
-      arm_runs ask k code bound x (test K) (value runs_test) (λ b. (all xs).code b n) (λ u. do_each K u caught ms) (all_run xs ms each runs_body n texts caught) other a w0 d place place1 ks ops c l w le fits sees has ends elses
+      arm_runs ask k code bound 0 1 (omega arith) x (test K) (value runs_test) (λ b. (all xs).code b n) (λ u. do_each K u caught ms) (all_run xs ms each runs_body n texts caught) other a w0 d place place1 ks ops c l w le fits sees has ends elses
 
   abbrev pub EachGuards : List ArmCode → List Guarding → Type 0
   EachGuards [] [] = Unit {0}
