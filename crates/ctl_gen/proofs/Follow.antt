@@ -1,9 +1,10 @@
 -- The machine follows a meaning: what holds of one stretch of steps, and how stretches are joined.
 use Rattle.std.proofs.Common.{◌≡◌, ℕ, zero, suc, ◌+◌, ◌-◌, ◌*◌, ◌≤◌, List, [], ◌∷◌, Option, Some, None, refl, sym, ap, ◌∙◌, subst, arith, ◌⊎◌, inl, inr}
+use Rattle.std.specs.Prelude.{if◌then◌else◌}
 use Rattle.ctl_tree.specs.declared.ending.Stop.{Stop}
 use Rattle.ctl_meaning.specs.World.{Log, World}
 use Rattle.ctl_meaning.specs.Choice.{Ask}
-use Rattle.ctl_meaning.specs.Outcome.{Way, ByExit, ByReturn, ByRaise, Result, Goes, Leaves, Out, Gives, Stops, Cut, Act, Done, Tried, add, bind, on_goes, given}
+use Rattle.ctl_meaning.specs.Outcome.{completes_loop, raised_by, Way, ByExit, ByReturn, ByRaise, Result, Goes, Leaves, Out, Gives, Stops, Cut, Act, Done, Tried, add, bind, on_goes, given}
 use Rattle.ctl_code.specs.declared.code.Code.{Code}
 use Rattle.ctl_code.specs.States.{Handed, Mode, At, Transfers, Giving, Stopped, Stuck, Frame, State}
 use Rattle.ctl_gen.specs.Around.{Landing, OutOfMaster, BeforeLoop, Around, further as further_on}
@@ -55,10 +56,9 @@ abbrev pub landed_on : Target → List ℕ → List Frame → List ℕ → Log �
 landed_on OutOf d k ops l w = transferred ByExit k l w
 landed_on (On place) d k ops l w = at d place k ops l w
 
--- an exit statement leads to where control lands, and any other transfer of control to the innermost master
+-- what completes a loop leads to where control lands, and any other transfer of control to the innermost master
 abbrev pub leads : Target → Way → List ℕ → List Frame → List ℕ → Log → World → State
-leads e ByExit d k ops l w = landed_on e d k ops l w
-leads e y d k ops l w = transferred y k l w
+leads e y d k ops l w = if completes_loop y then landed_on e d k ops l w else transferred y k l w
 
 pub leads_out : (y : Way) (d : List ℕ) (k : List Frame) (ops : List ℕ) (l : Log) (w : World) → leads OutOf y d k ops l w ≡ transferred y k l w
 leads_out ByExit d k ops l w = refl
@@ -75,16 +75,26 @@ abbrev pub way_of : {A : Type 0} → Result A → Option Way
 way_of (Goes a) = None
 way_of (Leaves y) = Some y
 
+pub raised_is : (y : Way) (e : ℕ) → raised_by y ≡ Some e → y ≡ ByRaise e
+raised_is ByExit e h = absurd (cc)
+raised_is (ByReturn v) e h = absurd (cc)
+raised_is (ByRaise x) e h = let same : x ≡ e = cc h in ap ByRaise same
+
+abbrev IsThere : Option ℕ → Type 0
+IsThere None = ⊥
+IsThere (Some e) = Unit {0}
+
 -- an exception: nothing else leaves an expression, or a body
 abbrev pub IsRaise : Way → Type 0
-IsRaise (ByRaise e) = Unit {0}
-IsRaise y = ⊥
+IsRaise y = IsThere (raised_by y)
 
 -- what holds of each exception holds of each way that is one
 pub by_raise : (P : Way → Type 0) → ((e : ℕ) → P (ByRaise e)) → (y : Way) → IsRaise y → P y
-by_raise P f ByExit h = absurd h
-by_raise P f (ByReturn v) h = absurd h
-by_raise P f (ByRaise e) h = f e
+by_raise P f y h = by (raised_by y) refl h
+  where
+    by : (o : Option ℕ) → raised_by y ≡ o → IsThere o → P y
+    by None is g = absurd g
+    by (Some e) is g = subst P (sym (raised_is y e is)) (f e)
 
 module _ (ask : Ask) (code : Code) where
   -- from s to another state in at most 64 steps a tick and b more, and in no fewer than were taken from the clock

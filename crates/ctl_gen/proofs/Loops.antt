@@ -6,7 +6,7 @@ use Rattle.ctl_program.specs.declared.types.Ty.TheVariants.{Boolean}
 use Rattle.ctl_meaning.specs.World.{Log, World}
 use Rattle.ctl_meaning.specs.Lists.{opened_lists}
 use Rattle.ctl_meaning.specs.Choice.{Ask}
-use Rattle.ctl_meaning.specs.Outcome.{Way, ByExit, ByReturn, ByRaise, Result, Goes, Leaves, Act, Done, add, bind, on_goes, leave_by, done, ticked, either, opened_outcome}
+use Rattle.ctl_meaning.specs.Outcome.{completes_loop, Gives, Way, ByExit, ByRaise, Result, Goes, Leaves, Act, Done, add, bind, on_goes, leave_by, done, ticked, either, opened_outcome}
 use Rattle.ctl_meaning.specs.Numbers.{is_true}
 use Rattle.ctl_meaning.specs.Types.{Tables}
 use Rattle.ctl_meaning.specs.Names.{scalar_of}
@@ -50,9 +50,11 @@ module _ (ask : Ask) (k : Tables) (code : Code) (bound : ℕ) where
   -- a loop is left
   pub loop_ends : (e : Target) (d : List ℕ) (landing q place : ℕ) (ks : List Frame) (over ops : List ℕ) (w0 : World) (again : Act Done) → Lands d landing ks over place ops → (y : Way) (c : ℕ) (l : Log) (w : World) → Since k code w0 w → Runs ask code (Kept k code w0) 4 4 (arrives (On landing) d q ks over (Leaves y) l w) c (arrives e d place ks ops) (turned again (Leaves y) c l w)
   unfolding turned opened_outcome
-  loop_ends e d landing q place ks over ops w0 again lands ByExit c l w fits = last_step ask code (Kept k code w0) 4 4 _ c 0 (arrives e d place ks ops) (Goes tt) l w (omega arith) fits (lands l w)
-  loop_ends e d landing q place ks over ops w0 again lands (ByReturn u) c l w fits = no_step ask code (Kept k code w0) 4 4 _ c 0 (arrives e d place ks ops) (Leaves (ByReturn u)) l w fits refl
-  loop_ends e d landing q place ks over ops w0 again lands (ByRaise x) c l w fits = no_step ask code (Kept k code w0) 4 4 _ c 0 (arrives e d place ks ops) (Leaves (ByRaise x)) l w fits refl
+  loop_ends e d landing q place ks over ops w0 again lands y c l w fits = by (completes_loop y) refl
+    where
+      by : (b : Bool) → completes_loop y ≡ b → Runs ask code (Kept k code w0) 4 4 (if b then at d landing ks over l w else transferred y ks l w) c (arrives e d place ks ops) (Gives (if b then Goes tt else Leaves y) 0 c l w)
+      by true is = last_step ask code (Kept k code w0) 4 4 _ c 0 (arrives e d place ks ops) (Goes tt) l w (omega arith) fits (lands l w)
+      by false is = no_step ask code (Kept k code w0) 4 4 _ c 0 (arrives e d place ks ops) (Leaves y) l w fits (sym (ap (λ b. if b then landed_on e d ks ops l w else transferred y ks l w) is))
 
   -- Without an iteration scheme ---------------------------------------------------------------------
 

@@ -1,5 +1,5 @@
 -- The code of each construct does what the construct means, where the code of its parts does.
-use Rattle.std.proofs.Common.{◌≡◌, ℕ, ◌+◌, ◌-◌, ◌<◌, ◌≤◌, List, [], ◌∷◌, ◌++◌, length, map, Some, None, true, false, refl, sym, ap, ◌∙◌, arith, subst, length-append, append_assoc}
+use Rattle.std.proofs.Common.{◌≡◌, ℕ, ◌+◌, ◌-◌, ◌<◌, ◌≤◌, List, [], ◌∷◌, ◌++◌, length, map, Option, Some, None, true, false, refl, sym, ap, ◌∙◌, arith, subst, length-append, append_assoc}
 use Rattle.std.specs.Prelude.{slice_get, replicate, ◌&&◌}
 use Rattle.ctl_program.specs.declared.types.Ty.{Ty}
 use Rattle.ctl_program.specs.declared.types.Ty.TheVariants.{Integer, Count, Boolean, Address, Handle, Access, Record}
@@ -10,7 +10,7 @@ use Rattle.ctl_meaning.specs.Lists.{last_of, opened_lists}
 use Rattle.ctl_meaning.specs.Changes.{open_master, opened_changes}
 use Rattle.ctl_meaning.specs.Ledger.{layers_of, opened_ledger}
 use Rattle.ctl_meaning.specs.Choice.{Ask, picked}
-use Rattle.ctl_meaning.specs.Outcome.{ByExit, ByReturn, ByRaise, Result, Goes, Leaves, Gives, Act, Done, ◌>>◌, bind, on_goes, given, then_always, opened_outcome}
+use Rattle.ctl_meaning.specs.Outcome.{raised_by, leave_by, on_some, ByExit, ByReturn, ByRaise, Result, Goes, Leaves, Gives, Act, Done, ◌>>◌, bind, on_goes, given, then_always, opened_outcome}
 use Rattle.ctl_meaning.specs.Types.{Tables, category_of}
 use Rattle.ctl_meaning.specs.Names.{Default, Returned, Tools}
 use Rattle.ctl_meaning.specs.Names as Names
@@ -41,7 +41,7 @@ use Rattle.ctl_gen.proofs.Evaluated.{value_means}
 use Rattle.ctl_gen.proofs.Branches.{Ends, arm_runs}
 use Rattle.ctl_gen.proofs.Loops.{leave_step}
 use Rattle.ctl_gen.proofs.Leave.{leaves, leave_runs}
-use Rattle.ctl_gen.proofs.Follow.{by_raise, leads_out, Runs, Target, OutOf, target_of, landing_further, landed_on, way_of, at, arrives, added, within as no_more_than, last_step, no_step, both, step_both_paid, arriving, left_behind, in_row, lands}
+use Rattle.ctl_gen.proofs.Follow.{by_raise, raised_is, leads, leads_out, Runs, Target, OutOf, target_of, landing_further, landed_on, way_of, at, arrives, added, within as no_more_than, last_step, no_step, both, step_both_paid, arriving, left_behind, in_row, lands}
 
 last_is : (d : List ℕ) (n : ℕ) → last_of (d ++ n ∷ []) ≡ n
 unfolding opened_lists
@@ -256,9 +256,13 @@ module _ (ask : Ask) (k : Tables) (code : Code) (setting : Setting k code) (call
   unhandled : (env d : List ℕ) (w0 : World) (place : ℕ) (ks : List Frame) (r : Result Done) (c : ℕ) (l : Log) (w : World) → Since k code w0 w → Runs ask code (Kept k code w0) 0 0 (arrives OutOf d place ks [] r l w) c (arrives OutOf d place ks []) (handled (handle K env []) r c l w)
   unfolding handled handle do_first opened_outcome
   unhandled env d w0 place ks (Goes a) c l w fits = no_step ask code (Kept k code w0) 0 0 _ c 0 (arrives OutOf d place ks []) (Goes tt) l w fits refl
-  unhandled env d w0 place ks (Leaves ByExit) c l w fits = no_step ask code (Kept k code w0) 0 0 _ c 0 (arrives OutOf d place ks []) (Leaves ByExit) l w fits refl
-  unhandled env d w0 place ks (Leaves (ByReturn u)) c l w fits = no_step ask code (Kept k code w0) 0 0 _ c 0 (arrives OutOf d place ks []) (Leaves (ByReturn u)) l w fits refl
-  unhandled env d w0 place ks (Leaves (ByRaise e)) c l w fits = no_step ask code (Kept k code w0) 0 0 _ c 0 (arrives OutOf d place ks []) (Leaves (ByRaise e)) l w fits refl
+  unhandled env d w0 place ks (Leaves y) c l w fits = by (raised_by y) refl
+    where
+      by : (o : Option ℕ) → raised_by y ≡ o → Runs ask code (Kept k code w0) 0 0 (leads OutOf y d ks [] l w) c (arrives OutOf d place ks []) (on_some o (leave_by y) (handle K env []) c l w)
+      by None is = no_step ask code (Kept k code w0) 0 0 _ c 0 (arrives OutOf d place ks []) (Leaves y) l w fits refl
+      by (Some e) is =
+          subst (λ v. Runs ask code (Kept k code w0) 0 0 (leads OutOf v d ks [] l w) c (arrives OutOf d place ks []) (leave_by (ByRaise e) c l w)) (sym (raised_is y e is))
+          (no_step ask code (Kept k code w0) 0 0 _ c 0 (arrives OutOf d place ks []) (Leaves (ByRaise e)) l w fits refl)
 
   -- a master is left when its statements have ended
   end_runs : (m : ℕ) (w0 : World) (d : List ℕ) (place : ℕ) (after : After) (ks : List Frame) → w0.ledger.next_master ≤ m → slice_get code.instructions.items place ≡ Some InstrOf.Leave → (r : Result Done) (c : ℕ) (l : Log) (w : World) → c ≤ bound → Since k code w0 w → Runs ask code (Told k code w0) 1 1 (arrives OutOf d place (InMaster m after ∷ ks) [] r l w) c (leaves after ks) (bind (leave_layers K m (layers_of m w.ledger) false c l w) (on_goes (left m r)))

@@ -29,7 +29,7 @@ use Rattle.ctl_meaning.specs.Lists.{pull_item, pull_rest}
 use Rattle.ctl_meaning.specs.Changes.{object_at}
 use Rattle.ctl_meaning.specs.Members.{Group}
 use Rattle.ctl_meaning.specs.Choice.{Ask}
-use Rattle.ctl_meaning.specs.Outcome.{Way, ByExit, ByReturn, ByRaise, Result, Goes, Leaves, Act, Done, on_goes, ◌>>=◌, ◌>>◌, done, nothing, leave_by, raise, ticked, spend, choose, tried, told, attempt, Tried, Fine, Raised, when, either, on_some}
+use Rattle.ctl_meaning.specs.Outcome.{Way, ByRaise, Result, Goes, Leaves, Act, Done, on_goes, ◌>>=◌, ◌>>◌, done, nothing, leave_by, raise, ticked, spend, choose, raised_by, tried, told, attempt, Tried, Fine, Raised, when, either, on_some}
 use Rattle.ctl_meaning.specs.Types.{Tables, Category, Elementary, Composite, category_of, Placed, depth, of_record}
 use Rattle.ctl_meaning.specs.Names.{OfSubprogram, OfAllocator, Call as Caller, Default, Tools, Found, InObject, InCopy, Alone, gone, existing, must_exist, read_part, write_part, read_found, write_found, find_var, dereferenced, narrowed, one_step, walk, begins_as, or_constraint_error}
 use Rattle.ctl_meaning.specs.Marks.{with_mark_pool, mark, default_subpool, subpool_function, discriminant}
@@ -772,9 +772,7 @@ module _ (t : Tables) (ask other : Ask) (call spare : Caller) (default fallback 
       k_handled : (f g : ℕ → Act Done) → ((e : ℕ) → Same (f e) (g e)) → (r : Result Done) → Same (handled f r) (handled g r)
       unfolding handled
       k_handled f g h (Goes a) = k_nothing
-      k_handled f g h (Leaves ByExit) = k_leave _
-      k_handled f g h (Leaves (ByReturn v)) = k_leave _
-      k_handled f g h (Leaves (ByRaise e)) = h e
+      k_handled f g h (Leaves y) = k_on_some (raised_by y) (k_leave y) h
 
       k_scalar : {m n : Act (List ℕ)} {f g : ℕ → Act Done} → Same m n → ((i : ℕ) → Same (f i) (g i)) → Same (scalar m f) (scalar n g)
       unfolding scalar

@@ -11,6 +11,16 @@ pub data Way : Type 0 where
   ByReturn : (cells : List ℕ) → Way
   ByRaise : (exception : ℕ) → Way
 
+-- whether it completes the loop that is left, and the execution goes on behind that: an exit statement does (5.7)
+abbrev pub completes_loop : Way → Bool
+completes_loop ByExit = true
+completes_loop y = false
+
+-- the exception, if it is one
+abbrev pub raised_by : Way → Option ℕ
+raised_by (ByRaise e) = Some e
+raised_by y = None
+
 -- a construct goes on with a value, or control leaves it
 pub data Result (A : Type 0) : Type 0 where
   Goes : (a : A) → Result A

@@ -22,7 +22,7 @@ use Rattle.ctl_meaning.specs.World.{Slot, Unset, Copies}
 use Rattle.ctl_meaning.specs.Lists.{contains, last_of}
 use Rattle.ctl_meaning.specs.Activations.{master_of}
 use Rattle.ctl_meaning.specs.Changes.{set_slot}
-use Rattle.ctl_meaning.specs.Outcome.{Way, ByExit, ByReturn, ByRaise, Result, Goes, Leaves, Cut, Act, Done, given, ◌>>=◌, ◌>>◌, done, nothing, leave_by, raise, counted, ticked, then_always, spend, change, show, when, either, on_some}
+use Rattle.ctl_meaning.specs.Outcome.{completes_loop, raised_by, ByExit, ByReturn, Result, Goes, Leaves, Cut, Act, Done, given, ◌>>=◌, ◌>>◌, done, nothing, leave_by, raise, counted, ticked, then_always, spend, change, show, when, either, on_some}
 use Rattle.ctl_meaning.specs.Numbers.{signed, cell_of, is_true, integer_image, boolean_image}
 use Rattle.ctl_meaning.specs.Types.{Tables, Elementary, Composite, cells_of, has_controlled, operation, record_of}
 use Rattle.ctl_meaning.specs.Names.{Tools, Found, InObject, existing, scalar_of, read_found, write_found, object_of, same_found}
@@ -93,16 +93,11 @@ assign_record k t target source = read_found (cells_of k.tables (Record t)) sour
 unfoldable pub leaving : Act Done → Act Done
 leaving m = then_always m (λ r. ticked (given r))
 
--- an exit statement completes the loop that it stands in, and any other transfer of control leaves it (5.7)
-abbrev pub out_of_loop : Way → Result Done
-out_of_loop ByExit = Goes tt
-out_of_loop y = Leaves y
-
 -- whether another turn follows
 unfoldable pub turned : Act Done → Result Bool → Act Done
 turned again (Goes true) = again
 turned again (Goes false) = nothing
-turned again (Leaves y) = given (out_of_loop y)
+turned again (Leaves y) = given (if completes_loop y then Goes tt else Leaves y)
 
 unfoldable pub turns : ℕ → Act Bool → Act Done
 turns zero turn c l w = Cut 0 c l
@@ -139,8 +134,7 @@ set_loop env v z = change (set_slot (master_of env v) v.slot (Copies (cell_of z 
 
 unfoldable pub handled : (ℕ → Act Done) → Result Done → Act Done
 handled f (Goes a) = nothing
-handled f (Leaves (ByRaise e)) = f e
-handled f (Leaves y) = leave_by y
+handled f (Leaves y) = on_some (raised_by y) (leave_by y) f
 
 -- whether a handler with these choices handles an exception (11.4)
 unfoldable pub does_handle : Choices → ℕ → Bool
