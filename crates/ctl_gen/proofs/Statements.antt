@@ -1,6 +1,6 @@
 -- The code of each construct does what the construct means, where the code of its parts does.
-use Rattle.std.proofs.Common.{◌≡◌, ℕ, ◌+◌, ◌-◌, ◌<◌, ◌≤◌, List, [], ◌∷◌, ◌++◌, length, map, Option, Some, None, true, false, refl, sym, ap, ◌∙◌, arith, subst, length-append, append_assoc}
-use Rattle.std.specs.Prelude.{slice_get, replicate, ◌&&◌}
+use Rattle.std.proofs.Common.{◌≡◌, ℕ, ◌+◌, ◌-◌, ◌<◌, ◌≤◌, List, [], ◌∷◌, ◌++◌, length, map, Option, Some, None, true, false, refl, sym, ap, ◌∙◌, arith, subst, length-append, append_assoc, Bool}
+use Rattle.std.specs.Prelude.{slice_get, replicate, ◌&&◌, if◌then◌else◌}
 use Rattle.ctl_program.specs.declared.types.Ty.{Ty}
 use Rattle.ctl_program.specs.declared.types.Ty.TheVariants.{Integer, Count, Boolean, Address, Handle, Access, Record}
 use Rattle.ctl_program.specs.declared.statement.Item.{Item}
@@ -10,7 +10,7 @@ use Rattle.ctl_meaning.specs.Lists.{last_of, opened_lists}
 use Rattle.ctl_meaning.specs.Changes.{open_master, opened_changes}
 use Rattle.ctl_meaning.specs.Ledger.{layers_of, opened_ledger}
 use Rattle.ctl_meaning.specs.Choice.{Ask, picked}
-use Rattle.ctl_meaning.specs.Outcome.{raised_by, leave_by, on_some, ByExit, ByReturn, ByRaise, Result, Goes, Leaves, Gives, Act, Done, ◌>>◌, bind, on_goes, given, then_always, opened_outcome}
+use Rattle.ctl_meaning.specs.Outcome.{raised_by, leave_by, on_some, ByRaise, Result, Goes, Leaves, Gives, Act, Done, ◌>>◌, bind, on_goes, given, then_always, opened_outcome, completes_loop, Way}
 use Rattle.ctl_meaning.specs.Types.{Tables, category_of}
 use Rattle.ctl_meaning.specs.Names.{Default, Returned, Tools}
 use Rattle.ctl_meaning.specs.Names as Names
@@ -22,7 +22,7 @@ use Rattle.ctl_code.specs.declared.code.Code.{Code}
 use Rattle.ctl_code.specs.declared.kinds.Kind.{Kind}
 use Rattle.ctl_code.specs.declared.kinds.Kind.TheVariants as KindOf
 use Rattle.ctl_code.specs.States.{After, AfterBlock, Point, Frame, InMaster, State}
-use Rattle.ctl_code.specs.Table.{behind as goes_behind}
+use Rattle.ctl_code.specs.Table.{behind as goes_behind, on_at, transfers}
 use Rattle.ctl_code.specs.Steps.{moved, step}
 use Rattle.ctl_code.specs.Windows.{depth}
 use Rattle.ctl_gen.specs.Around.{Line, Landing, OutOfMaster, BeforeLoop, Around, behind, land, further as further_on}
@@ -41,7 +41,7 @@ use Rattle.ctl_gen.proofs.Evaluated.{value_means}
 use Rattle.ctl_gen.proofs.Branches.{Ends, arm_runs}
 use Rattle.ctl_gen.proofs.Loops.{leave_step}
 use Rattle.ctl_gen.proofs.Leave.{leaves, leave_runs}
-use Rattle.ctl_gen.proofs.Follow.{by_raise, raised_is, leads, leads_out, Runs, Target, OutOf, target_of, landing_further, landed_on, way_of, at, arrives, added, within as no_more_than, last_step, no_step, both, step_both_paid, arriving, left_behind, in_row, lands}
+use Rattle.ctl_gen.proofs.Follow.{by_raise, raised_is, leads, leads_out, Runs, Target, OutOf, target_of, landing_further, landed_on, way_of, at, arrives, added, within as no_more_than, last_step, no_step, both, step_both_paid, arriving, left_behind, in_row, lands, transferred}
 
 last_is : (d : List ℕ) (n : ℕ) → last_of (d ++ n ∷ []) ≡ n
 unfolding opened_lists
@@ -350,12 +350,16 @@ module _ (ask : Ask) (k : Tables) (code : Code) (setting : Setting k code) (call
       (λ x. no_step ask code (Kept k code w0) 1 1 _ c 0 (arrives (target_of e place) d (q + 1) ks ops) (Leaves (ByRaise x)) l w fits.1 refl) y fits.0
   behind_block e n w0 d place q ks ops is here (Goes x) c l w fits = on x.result
     where
+      led : (y : Way) (b : Bool) → completes_loop y ≡ b → Runs ask code (Kept k code w0) 1 1 (moved l (if b then on_at (record { display = d; place = q; operands = ops }) ks w else transfers y ks w)) c (arrives (target_of e place) d (q + 1) ks ops) (Gives (Leaves y) 0 c l w)
+      led y true this =
+          last_step ask code (Kept k code w0) 1 1 _ c 0 (arrives (target_of e place) d (q + 1) ks ops) (Leaves y) l w (omega arith) fits.1
+          (leave_step ask k code bound (further_on n e) d q ks ops l w here ∙ ap (λ p. landed_on (target_of (further_on n e) p) d ks ops l w) is ∙ ap (λ (t : Target). landed_on t d ks ops l w) (landing_further e n place)
+          ∙ sym (ap (λ b. if b then landed_on (target_of e place) d ks ops l w else transferred y ks l w) this))
+      led y false this = no_step ask code (Kept k code w0) 1 1 _ c 0 (arrives (target_of e place) d (q + 1) ks ops) (Leaves y) l w fits.1 (sym (ap (λ b. if b then landed_on (target_of e place) d ks ops l w else transferred y ks l w) this))
+
       on : (r : Result Done) → Runs ask code (Kept k code w0) 1 1 (moved l (goes_behind (AfterBlock (record { display = d; place = q; operands = ops })) r ks w)) c (arrives (target_of e place) d (q + 1) ks ops) (Gives r 0 c l w)
       on (Goes a) = no_step ask code (Kept k code w0) 1 1 _ c 0 (arrives (target_of e place) d (q + 1) ks ops) (Goes a) l w fits.1 refl
-      on (Leaves ByExit) = last_step ask code (Kept k code w0) 1 1 _ c 0 (arrives (target_of e place) d (q + 1) ks ops) (Leaves ByExit) l w (omega arith) fits.1
-          (leave_step ask k code bound (further_on n e) d q ks ops l w here ∙ ap (λ p. landed_on (target_of (further_on n e) p) d ks ops l w) is ∙ ap (λ (y : Target). landed_on y d ks ops l w) (landing_further e n place))
-      on (Leaves (ByReturn v)) = no_step ask code (Kept k code w0) 1 1 _ c 0 (arrives (target_of e place) d (q + 1) ks ops) (Leaves (ByReturn v)) l w fits.1 refl
-      on (Leaves (ByRaise v)) = no_step ask code (Kept k code w0) 1 1 _ c 0 (arrives (target_of e place) d (q + 1) ks ops) (Leaves (ByRaise v)) l w fits.1 refl
+      on (Leaves y) = led y (completes_loop y) refl
 
   pub block_runs : (x : MasterCode) (b : Body) → Mastered x b → Performs (block x) (do_block b)
   unfolding do_block unset_slots opened_outcome
