@@ -12,7 +12,7 @@ use Rattle.ctl_program.specs.declared.statement.Master.{Master, Master-F, roll-M
 use Rattle.ctl_tree.specs.declared.event.Event.TheVariants.{Newline}
 use Rattle.ctl_meaning.specs.World.{World}
 use Rattle.ctl_meaning.specs.Choice.{Ask}
-use Rattle.ctl_meaning.specs.Outcome.{Goes, tell, opened_outcome, ByExit, leave_by}
+use Rattle.ctl_meaning.specs.Outcome.{Goes, tell, opened_outcome, ByExit, leave_by, Leaves}
 use Rattle.ctl_meaning.specs.Types.{Tables, Elementary}
 use Rattle.ctl_meaning.specs.Names.{Default, Tools}
 use Rattle.ctl_meaning.specs.Names as Names
@@ -34,8 +34,9 @@ use Rattle.ctl_gen.proofs.Evaluated.{name_finds, value_means}
 use Rattle.ctl_gen.proofs.Assign.{assign_runs}
 use Rattle.ctl_gen.proofs.Texts.{print_runs}
 use Rattle.ctl_gen.proofs.Branches.{only_if_runs, paid}
-use Rattle.ctl_gen.proofs.Loops.{departs, loop_runs, while_runs}
+use Rattle.ctl_gen.proofs.Loops.{leave_step, loop_runs, while_runs}
 use Rattle.ctl_gen.proofs.Ranges.{for_runs}
+use Rattle.ctl_gen.proofs.Does.{DoesIn}
 use Rattle.ctl_gen.proofs.Follow.{arrives, last_step, lands}
 use Rattle.ctl_gen.proofs.Statements as S
 
@@ -115,10 +116,15 @@ module _ (ask : Ask) (k : Tables) (code : Code) (setting : Setting k code) (call
   assign_does None find e uses runs n texts caught = absurd (cc)
   assign_does (Some x) find e uses runs n texts caught = assign_runs ask k code setting.valid bound x (find Elementary K) (uses x refl) (value_code e) (eval e K) (means e runs)
 
+  -- one step to where control lands
+  exits : DoesIn 1 ask k code bound leaves_code (λ d. leave_by ByExit)
+  unfolding opened_outcome
+  exits a w0 d place ks ops c l w le fits sees has = last_step ask code (Kept k code w0) 1 1 _ c 0 (arrives (lands a place) d (place + 1) ks ops) (Leaves ByExit) l w (omega arith) fits (leave_step ask k code bound a.landing d place ks ops l w has.0)
+
   exit_does : (o : Option Expr) → Performs (exit (option_map value_code o)) (exit_doing (option_map eval o))
   unfolding exit_doing
-  exit_does None runs n texts caught = paid ask k code bound leaves_code (λ d. leave_by ByExit) (departs ask k code bound)
-  exit_does (Some e) runs n texts caught = only_if_runs ask k code bound (value_code e) (eval e K) (means e runs) leaves_code (λ d. leave_by ByExit) (departs ask k code bound)
+  exit_does None runs n texts caught = paid ask k code bound leaves_code (λ d. leave_by ByExit) exits
+  exit_does (Some e) runs n texts caught = only_if_runs ask k code bound (value_code e) (eval e K) (means e runs) leaves_code (λ d. leave_by ByExit) exits
 
   stmt_rolled : (y : Stmt-F StmtToo ArmToo HandlerToo MasterToo) → Does (roll-Stmt (bare_stmt y))
   unfolding null_doing put put_line new_line loop_plainly loop_while loop_for opened_outcome

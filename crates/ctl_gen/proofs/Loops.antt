@@ -6,7 +6,7 @@ use Rattle.ctl_program.specs.declared.types.Ty.TheVariants.{Boolean}
 use Rattle.ctl_meaning.specs.World.{Log, World}
 use Rattle.ctl_meaning.specs.Lists.{opened_lists}
 use Rattle.ctl_meaning.specs.Choice.{Ask}
-use Rattle.ctl_meaning.specs.Outcome.{completes_loop, Gives, Way, ByExit, ByRaise, Result, Goes, Leaves, Act, Done, add, bind, on_goes, leave_by, done, ticked, either, opened_outcome}
+use Rattle.ctl_meaning.specs.Outcome.{completes_loop, Gives, Way, ByRaise, Result, Goes, Leaves, Act, Done, add, bind, on_goes, done, ticked, either, opened_outcome}
 use Rattle.ctl_meaning.specs.Numbers.{is_true}
 use Rattle.ctl_meaning.specs.Types.{Tables}
 use Rattle.ctl_meaning.specs.Names.{scalar_of}
@@ -19,13 +19,13 @@ use Rattle.ctl_code.specs.Table.{by_unless}
 use Rattle.ctl_code.specs.Steps.{moved, step}
 use Rattle.ctl_gen.specs.Around.{Line, Landing, OutOfMaster, BeforeLoop, Around, behind, land}
 use Rattle.ctl_gen.specs.Values.{ValueCode, held}
-use Rattle.ctl_gen.specs.Layout.{in_loop, loop_code, leaves_code, test_code, test_length}
+use Rattle.ctl_gen.specs.Layout.{in_loop, loop_code, test_code, test_length}
 use Rattle.ctl_gen.proofs.Place.{Laid, laid_front, laid_back}
 use Rattle.ctl_gen.proofs.Worlds.{Since, Kept}
 use Rattle.ctl_gen.proofs.Setting.{Sees}
 use Rattle.ctl_gen.proofs.Cells.{here, by_code, waiting, Stays, taking_is}
 use Rattle.ctl_gen.proofs.Expressions.{Value, held_holds, held_then}
-use Rattle.ctl_gen.proofs.Does.{Does, DoesIn}
+use Rattle.ctl_gen.proofs.Does.{Does}
 use Rattle.ctl_gen.proofs.Follow.{IsGoing, Runs, Target, On, target_of, landed_on, at, transferred, arrives, added, within, one_step, last_step, no_step, both, arriving, left_behind, bind_add, bind_bind, lands}
 
 module _ (ask : Ask) (k : Tables) (code : Code) (bound : ℕ) where
@@ -200,8 +200,3 @@ module _ (ask : Ask) (k : Tables) (code : Code) (bound : ℕ) where
   pub leave_step : (x : Landing) (d : List ℕ) (place : ℕ) (ks : List Frame) (ops : List ℕ) (l : Log) (w : World) → slice_get code.instructions.items place ≡ Some (land x) → step ask code (at d place ks ops l w) ≡ landed_on (target_of x place) d ks ops l w
   leave_step OutOfMaster d place ks ops l w has = by_code ask code d place ks ops l w (land OutOfMaster) has
   leave_step (BeforeLoop back) d place ks ops l w has = by_code ask code d place ks ops l w (land (BeforeLoop back)) has
-
-  -- one step to where control lands
-  pub departs : DoesIn 1 ask k code bound leaves_code (λ d. leave_by ByExit)
-  unfolding opened_outcome
-  departs a w0 d place ks ops c l w le fits sees has = last_step ask code (Kept k code w0) 1 1 _ c 0 (arrives (lands a place) d (place + 1) ks ops) (Leaves ByExit) l w (omega arith) fits (leave_step a.landing d place ks ops l w has.0)
