@@ -6,15 +6,15 @@ use Rattle.ctl_tree.specs.declared.event.Event.{Event}
 use Rattle.ctl_meaning.specs.World.{Log, World, Slot}
 use Rattle.ctl_meaning.specs.Lists.{last_of}
 use Rattle.ctl_meaning.specs.Choice.{Ask}
-use Rattle.ctl_meaning.specs.Outcome.{Way, ByRaise, Result, Leaves, Tried, Fine, Raised, tell}
+use Rattle.ctl_meaning.specs.Outcome.{Way, Result, tell}
 use Rattle.ctl_meaning.specs.Types.{Tables, operation}
 use Rattle.ctl_meaning.specs.Names.{OfSubprogram, Call, Default, Tools}
 use Rattle.ctl_code.specs.declared.code.Entry.{Entry}
 use Rattle.ctl_code.specs.declared.code.Instr.TheVariants as InstrOf
 use Rattle.ctl_code.specs.declared.code.Code.{Code}
 use Rattle.ctl_code.specs.declared.kinds.Kind.{Kind}
-use Rattle.ctl_code.specs.States.{Handed, Complete, Frame, State}
-use Rattle.ctl_code.specs.Table.{enter_body, operation_of}
+use Rattle.ctl_code.specs.States.{Frame, State}
+use Rattle.ctl_code.specs.Table.{ended, enter_body, operation_of}
 use Rattle.ctl_code.specs.Steps.{moved, step}
 use Rattle.ctl_code.specs.Valid.{IsInScope, IsValid, kinds_at}
 use Rattle.ctl_code.specs.Windows.{depth}
@@ -42,10 +42,6 @@ pub record Sees (d : List ℕ) (s : List Kind) (w : World) : Type 0 where
   pub long : length d ≡ depth s
 
 -- what an execution gives to the frame that waits for it
-abbrev pub ended : {A : Type 0} → Result A → Tried Handed
-ended (Leaves (ByRaise e)) = Raised e
-ended r = Fine Complete
-
 abbrev pub returns : {A : Type 0} → List Frame → Result A → Log → World → State
 returns ks r l w = gives ks (ended r) l w
 

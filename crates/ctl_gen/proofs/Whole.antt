@@ -30,7 +30,8 @@ use Rattle.ctl_gen.specs.Run.{AreLinked, IsBody, IsRun, IsWritten, are_procedure
 use Rattle.ctl_gen.proofs.Known.{both_true}
 use Rattle.ctl_gen.specs.Correct.{HasReached, RunsAs, Behaves}
 use Rattle.ctl_gen.proofs.Place.{HasAt, has_front, has_back, has_all, Laid, laid_front, laid_back}
-use Rattle.ctl_gen.proofs.Setting.{Setting, Told, returns, ended}
+use Rattle.ctl_code.specs.Table.{ended}
+use Rattle.ctl_gen.proofs.Setting.{Setting, Told, returns}
 use Rattle.ctl_gen.proofs.Bodies.{Stands, main_runs}
 use Rattle.ctl_gen.proofs.Follow.{by_raise, GoingBy, Runs, gives}
 use Rattle.ctl_meaning.specs.World.{empty_world}
