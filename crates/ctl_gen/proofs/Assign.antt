@@ -36,7 +36,7 @@ use Rattle.ctl_gen.proofs.Cells.{here, by_code, landed, waiting, Stays, taking_i
 use Rattle.ctl_gen.proofs.Worth.{both_cell}
 use Rattle.ctl_gen.proofs.Expressions.{Uses, Value, value_runs, held_holds, held_then}
 use Rattle.ctl_gen.proofs.Does.{Does}
-use Rattle.ctl_gen.proofs.Follow.{Runs, landing_of, at, arrives, added, one_step, last_step, no_step, arriving, bind_bind}
+use Rattle.ctl_gen.proofs.Follow.{Runs, at, arrives, added, one_step, last_step, no_step, arriving, bind_bind, lands}
 
 -- the newest master of a display is its last
 last_item : (x : ℕ) (xs : List ℕ) → last_of (x ∷ xs) ≡ get_or (x ∷ xs) (length xs) 0
@@ -69,15 +69,15 @@ module _ (ask : Ask) (k : Tables) (code : Code) (valid : IsValid code) (bound : 
   assigned_is d s x n w w0 sees = ap (λ m. set_slot m x.slot (Copies (overwritten 0 (n ∷ []) (copy_in (slot_at m x.slot w)))) w) (out_is d s x sees.long)
 
   -- into its cell, or the variable of a body around
-  stored : (o : Option ℕ) (x : Var) (y : ValueCode) (act : List ℕ → Act (List ℕ)) → ((w0 : World) → Value ask k code (Since k code w0) y act) → (a : Around) (w0 : World) (d : List ℕ) (place : ℕ) (ks : List Frame) (ops : List ℕ) (c : ℕ) (l : Log) (w : World) → Since k code w0 w → Sees d a.stack w0 → Laid code place (assign_code o x y a.stack) → Runs ask code (Kept k code w0) 0 0 (at d place ks ops l w) c (arrives (landing_of a.exits place) d (place + length (assign_code o x y a.stack)) ks ops) (bind (act d c l w) (on_goes (write_found (InCopy (master_of d x) x.slot 0))))
+  stored : (o : Option ℕ) (x : Var) (y : ValueCode) (act : List ℕ → Act (List ℕ)) → ((w0 : World) → Value ask k code (Since k code w0) y act) → (a : Around) (w0 : World) (d : List ℕ) (place : ℕ) (ks : List Frame) (ops : List ℕ) (c : ℕ) (l : Log) (w : World) → Since k code w0 w → Sees d a.stack w0 → Laid code place (assign_code o x y a.stack) → Runs ask code (Kept k code w0) 0 0 (at d place ks ops l w) c (arrives (lands a place) d (place + length (assign_code o x y a.stack)) ks ops) (bind (act d c l w) (on_goes (write_found (InCopy (master_of d x) x.slot 0))))
   unfolding opened_outcome write_found scalar_of opened_lists
   stored (Some n) x y act value a w0 d place ks ops c l w fits sees has =
       let s = a.stack in
       let end = place + length (y.code (local_cell s x n) (value_type y) s) in
-      both_cell ask code (Kept k code w0) Any 0 0 0 0 0 0 _ c (landed (Variable (out_to s x) x.slot) d end ks ops) (arrives (landing_of a.exits place) d end ks ops) (act d c l w) (on_goes (write_found (InCopy (master_of d x) x.slot 0))) (omega arith) (omega arith) (omega arith) ((value w0).cell d c l w)
+      both_cell ask code (Kept k code w0) Any 0 0 0 0 0 0 _ c (landed (Variable (out_to s x) x.slot) d end ks ops) (arrives (lands a place) d end ks ops) (act d c l w) (on_goes (write_found (InCopy (master_of d x) x.slot 0))) (omega arith) (omega arith) (omega arith) ((value w0).cell d c l w)
       (value_runs ask k code (Since k code w0) y act (value w0) (local_cell s x n) (value_type y) s d place ks ops c l w fits sees.long has)
-      (λ m c1 l1 w1 lo fits1 p. no_step ask code (Kept k code w0) 0 0 _ c1 0 (arrives (landing_of a.exits place) d end ks ops) (Goes tt) l1 (assigned d x m w1) (since_assigned d x m w0 w1 fits1) (ap (at d end ks ops l1) (assigned_is d s x m w1 w0 sees)))
-      (λ z c1 l1 w1 lo fits1. no_step ask code (Kept k code w0) 0 0 _ c1 0 (arrives (landing_of a.exits place) d end ks ops) (Leaves (ByRaise z)) l1 w1 fits1 refl)
+      (λ m c1 l1 w1 lo fits1 p. no_step ask code (Kept k code w0) 0 0 _ c1 0 (arrives (lands a place) d end ks ops) (Goes tt) l1 (assigned d x m w1) (since_assigned d x m w0 w1 fits1) (ap (at d end ks ops l1) (assigned_is d s x m w1 w0 sees)))
+      (λ z c1 l1 w1 lo fits1. no_step ask code (Kept k code w0) 0 0 _ c1 0 (arrives (lands a place) d end ks ops) (Leaves (ByRaise z)) l1 w1 fits1 refl)
   stored None x y act value a w0 d place ks ops c l w fits sees has =
       let s = a.stack in
       let ty = value_type y in
@@ -86,19 +86,19 @@ module _ (ask : Ask) (k : Tables) (code : Code) (valid : IsValid code) (bound : 
       let q = place + length h.code in
       let there = (laid_back code place h.code ((i, h.after) ∷ []) has).0 in
       let e : q + 1 ≡ place + length (store_code x ty s h) = omega (arith, length-append h.code ((i, h.after) ∷ [])) in
-      subst (λ p. Runs ask code (Kept k code w0) 0 0 (at d place ks ops l w) c (arrives (landing_of a.exits place) d p ks ops) (bind (act d c l w) (on_goes (write_found (InCopy (master_of d x) x.slot 0))))) e
-      (held_then ask k code (Since k code w0) h (λ n w1. Stays h.cell.named n d w1) act d place ks ops c l w (arrives (landing_of a.exits place) d (q + 1) ks ops) (on_goes (write_found (InCopy (master_of d x) x.slot 0)))
+      subst (λ p. Runs ask code (Kept k code w0) 0 0 (at d place ks ops l w) c (arrives (lands a place) d p ks ops) (bind (act d c l w) (on_goes (write_found (InCopy (master_of d x) x.slot 0))))) e
+      (held_then ask k code (Since k code w0) h (λ n w1. Stays h.cell.named n d w1) act d place ks ops c l w (arrives (lands a place) d (q + 1) ks ops) (on_goes (write_found (InCopy (master_of d x) x.slot 0)))
       (held_holds ask k code (Since k code w0) y.right y act refl (value w0) ty s d place ks ops c l w fits sees.long (laid_front code place h.code ((i, h.after) ∷ []) has))
-      (λ m c1 l1 w1 lo fits1 stays. last_step ask code (Kept k code w0) 8 8 _ c1 0 (arrives (landing_of a.exits place) d (q + 1) ks ops) (Goes tt) l1 (assigned d x m w1) (omega arith) (since_assigned d x m w0 w1 fits1)
+      (λ m c1 l1 w1 lo fits1 stays. last_step ask code (Kept k code w0) 8 8 _ c1 0 (arrives (lands a place) d (q + 1) ks ops) (Goes tt) l1 (assigned d x m w1) (omega arith) (since_assigned d x m w0 w1 fits1)
       (by_code ask code d q ks (waiting h.cell.named m ops) l1 w1 i there
       ∙ ap (moved l1) (taking_is h.cell.named m (λ z rest. on rest (with_cell d (out_to s x) x.slot z w1) (here d q ks w1)) ops d q ks w1 stays)
       ∙ ap (at d (q + 1) ks ops l1) (assigned_is d s x m w1 w0 sees)))
-      (λ z c1 l1 w1 lo fits1. no_step ask code (Kept k code w0) 8 8 _ c1 0 (arrives (landing_of a.exits place) d (q + 1) ks ops) (Leaves (ByRaise z)) l1 w1 fits1 refl))
+      (λ z c1 l1 w1 lo fits1. no_step ask code (Kept k code w0) 8 8 _ c1 0 (arrives (lands a place) d (q + 1) ks ops) (Leaves (ByRaise z)) l1 w1 fits1 refl))
 
   pub assign_runs : (x : Var) (find : List ℕ → Act Found) → Uses ask k code (λ w. Fits k code w) x find → (y : ValueCode) (act : List ℕ → Act (List ℕ)) → ((w0 : World) → Value ask k code (Since k code w0) y act) → Does ask k code bound (λ a. assign_code (local_at a.stack x) x y a.stack) (λ d. ticked (find d >>= (λ f. act d >>= write_found f)))
   unfolding opened_outcome
   assign_runs x find uses y act value a w0 d place ks ops c l w le fits sees has =
-      subst (λ o. Runs ask code (Kept k code w0) 0 0 (at d place ks ops l w) c (arrives (landing_of a.exits place) d (place + length (assign_code (local_at a.stack x) x y a.stack)) ks ops) (add 1 (bind o (on_goes (λ f. act d >>= write_found f))))) (sym (uses d c l w))
+      subst (λ o. Runs ask code (Kept k code w0) 0 0 (at d place ks ops l w) c (arrives (lands a place) d (place + length (assign_code (local_at a.stack x) x y a.stack)) ks ops) (add 1 (bind o (on_goes (λ f. act d >>= write_found f))))) (sym (uses d c l w))
       (added ask code (Kept k code w0) 1 0 0 0 0 _ c _ _ (omega arith) (omega arith) (added ask code (Kept k code w0) 1 0 0 0 0 _ c _ _ (omega arith) (omega arith)
       (stored (local_at a.stack x) x y act value a w0 d place ks ops c l w fits sees has)))
 
@@ -145,10 +145,10 @@ module _ (ask : Ask) (k : Tables) (code : Code) (valid : IsValid code) (bound : 
     by_slot None slot ty known a w0 d place ks ops c l w le fits sees has = absurd (never_missing code valid place a.stack has.0 has.1)
     by_slot (Some n) slot ty known a w0 d place ks ops c l w le fits sees has =
         let e : place + 1 + 1 ≡ place + 2 = omega arith in
-        subst (λ o. Runs ask code (Kept k code w0) 0 0 (at d place ks ops l w) c (arrives (landing_of a.exits place) d (place + 2) ks ops) (add 1 (add 0 o))) (sym (default_is ty known d slot c l w))
-        (added ask code (Kept k code w0) 1 2 2 0 0 (at d place ks ops l w) c (arrives (landing_of a.exits place) d (place + 2) ks ops) (Gives (Goes tt) 0 c l (declared d slot 0 w)) (omega arith) (omega arith)
-        (one_step ask code (Kept k code w0) 1 1 2 2 (at d place ks ops l w) (at d (place + 1) ks ops l (with_cell d 0 slot 0 w)) c c (arrives (landing_of a.exits place) d (place + 2) ks ops) (Gives (Goes tt) 0 c l (declared d slot 0 w)) (omega arith) (omega arith) (omega arith) (omega arith) (by_code ask code d place ks ops l w (InstrOf.Set 0 ty (newest_cell slot n)) has.0)
-        (last_step ask code (Kept k code w0) 1 1 (at d (place + 1) ks ops l (with_cell d 0 slot 0 w)) c 0 (arrives (landing_of a.exits place) d (place + 2) ks ops) (Goes tt) l (declared d slot 0 w) (omega arith) (since_declared d slot 0 w0 w fits)
+        subst (λ o. Runs ask code (Kept k code w0) 0 0 (at d place ks ops l w) c (arrives (lands a place) d (place + 2) ks ops) (add 1 (add 0 o))) (sym (default_is ty known d slot c l w))
+        (added ask code (Kept k code w0) 1 2 2 0 0 (at d place ks ops l w) c (arrives (lands a place) d (place + 2) ks ops) (Gives (Goes tt) 0 c l (declared d slot 0 w)) (omega arith) (omega arith)
+        (one_step ask code (Kept k code w0) 1 1 2 2 (at d place ks ops l w) (at d (place + 1) ks ops l (with_cell d 0 slot 0 w)) c c (arrives (lands a place) d (place + 2) ks ops) (Gives (Goes tt) 0 c l (declared d slot 0 w)) (omega arith) (omega arith) (omega arith) (omega arith) (by_code ask code d place ks ops l w (InstrOf.Set 0 ty (newest_cell slot n)) has.0)
+        (last_step ask code (Kept k code w0) 1 1 (at d (place + 1) ks ops l (with_cell d 0 slot 0 w)) c 0 (arrives (lands a place) d (place + 2) ks ops) (Goes tt) l (declared d slot 0 w) (omega arith) (since_declared d slot 0 w0 w fits)
         (by_code ask code d (place + 1) ks ops l (with_cell d 0 slot 0 w) InstrOf.Number has.2.0 ∙ ap (λ p. at d p ks ops l (take_object_number (with_cell d 0 slot 0 w))) e ∙ ap (at d (place + 2) ks ops l) (declared_is d slot 0 w fits.0)))))
 
     pub scalar_runs : (slot : ℕ) (ty : Ty) → IsScalar ty → Does ask k code bound (λ a. scalar_code (variable_at a.stack 0 slot) slot ty a.stack) (λ d. ticked (done None >>= declare (category_of ty) K (last_of d) slot ty))
@@ -164,16 +164,16 @@ module _ (ask : Ask) (k : Tables) (code : Code) (valid : IsValid code) (bound : 
         let q = place + length is in
         let e : q + 1 ≡ place + length (is ++ (InstrOf.Number, s) ∷ []) = omega (arith, length-append is ((InstrOf.Number, s) ∷ [])) in
         let there = (laid_back code place is ((InstrOf.Number, s) ∷ []) has).0 in
-        arriving ask code (Kept k code w0) 0 0 _ c _ _ _ (λ r l1 w1. ap (λ p. arrives (landing_of a.exits place) d p ks ops r l1 w1) e)
+        arriving ask code (Kept k code w0) 0 0 _ c _ _ _ (λ r l1 w1. ap (λ p. arrives (lands a place) d p ks ops r l1 w1) e)
         (added ask code (Kept k code w0) 1 1 1 0 0 _ c _ _ (omega arith) (omega arith)
-        (subst (λ o. Runs ask code (Kept k code w0) 1 1 (at d place ks ops l w) c (arrives (landing_of a.exits place) d (q + 1) ks ops) o) (sym (bind_bind (act d c l w) (on_goes (λ u. done (Some u))) (on_goes (declare (category_of ty) K (last_of d) slot ty))))
-        (both_cell ask code (Kept k code w0) Any 0 0 1 1 1 1 _ c (landed (Variable 0 slot) d q ks ops) (arrives (landing_of a.exits place) d (q + 1) ks ops) (act d c l w) _ (omega arith) (omega arith) (omega arith) ((value w0).cell d c l w)
+        (subst (λ o. Runs ask code (Kept k code w0) 1 1 (at d place ks ops l w) c (arrives (lands a place) d (q + 1) ks ops) o) (sym (bind_bind (act d c l w) (on_goes (λ u. done (Some u))) (on_goes (declare (category_of ty) K (last_of d) slot ty))))
+        (both_cell ask code (Kept k code w0) Any 0 0 1 1 1 1 _ c (landed (Variable 0 slot) d q ks ops) (arrives (lands a place) d (q + 1) ks ops) (act d c l w) _ (omega arith) (omega arith) (omega arith) ((value w0).cell d c l w)
         (value_runs ask k code (Since k code w0) x act (value w0) (newest_cell slot n) ty s d place ks ops c l w fits sees.long (laid_front code place is ((InstrOf.Number, s) ∷ []) has))
         (λ m c1 l1 w1 lo fits1 p.
-        subst (λ o. Runs ask code (Kept k code w0) 1 1 (at d q ks ops l1 (with_cell d 0 slot m w1)) c1 (arrives (landing_of a.exits place) d (q + 1) ks ops) (add 0 o)) (sym (value_is ty known d slot m c1 l1 w1))
-        (last_step ask code (Kept k code w0) 1 1 _ c1 0 (arrives (landing_of a.exits place) d (q + 1) ks ops) (Goes tt) l1 (declared d slot m w1) (omega arith) (since_declared d slot m w0 w1 fits1)
+        subst (λ o. Runs ask code (Kept k code w0) 1 1 (at d q ks ops l1 (with_cell d 0 slot m w1)) c1 (arrives (lands a place) d (q + 1) ks ops) (add 0 o)) (sym (value_is ty known d slot m c1 l1 w1))
+        (last_step ask code (Kept k code w0) 1 1 _ c1 0 (arrives (lands a place) d (q + 1) ks ops) (Goes tt) l1 (declared d slot m w1) (omega arith) (since_declared d slot m w0 w1 fits1)
         (by_code ask code d q ks ops l1 (with_cell d 0 slot m w1) InstrOf.Number there ∙ ap (at d (q + 1) ks ops l1) (declared_is d slot m w1 fits1.0))))
-        (λ z c1 l1 w1 lo fits1. no_step ask code (Kept k code w0) 1 1 _ c1 0 (arrives (landing_of a.exits place) d (q + 1) ks ops) (Leaves (ByRaise z)) l1 w1 fits1 refl))))
+        (λ z c1 l1 w1 lo fits1. no_step ask code (Kept k code w0) 1 1 _ c1 0 (arrives (lands a place) d (q + 1) ks ops) (Leaves (ByRaise z)) l1 w1 fits1 refl))))
 
     pub valued_runs : (slot : ℕ) (ty : Ty) (x : ValueCode) (act : List ℕ → Act (List ℕ)) → IsScalar ty → ((w0 : World) → Value ask k code (Since k code w0) x act) → Does ask k code bound (λ a. valued_code (variable_at a.stack 0 slot) slot ty x a.stack) (λ d. ticked ((act d >>= (λ u. done (Some u))) >>= declare (category_of ty) K (last_of d) slot ty))
     valued_runs slot ty x act known value a w0 d place ks ops c l w le fits sees has = valued_by (variable_at a.stack 0 slot) slot ty x act known value a w0 d place ks ops c l w le fits sees has

@@ -8,7 +8,7 @@ use Rattle.ctl_program.specs.declared.program.Subprogram.{Subprogram}
 use Rattle.ctl_meaning.specs.World.{Slot, Unset, Log, World, empty_log, empty_world}
 use Rattle.ctl_meaning.specs.Changes.{open_master}
 use Rattle.ctl_meaning.specs.Choice.{Ask}
-use Rattle.ctl_meaning.specs.Outcome.{ByExit, ByReturn, ByRaise, Result, Goes, Leaves, Done, bind, on_goes, on_some, opened_outcome}
+use Rattle.ctl_meaning.specs.Outcome.{ByExit, ByReturn, ByRaise, Result, Goes, Leaves, Gives, Done, bind, on_goes, on_some, opened_outcome}
 use Rattle.ctl_meaning.specs.Types.{Tables}
 use Rattle.ctl_meaning.specs.Names.{OfSubprogram, Returned, Tools, gone}
 use Rattle.ctl_meaning.specs.Names as Names
@@ -31,7 +31,7 @@ use Rattle.ctl_gen.proofs.Setting.{Setting, returns, Told, Calls}
 use Rattle.ctl_gen.proofs.Cells.{by_code}
 use Rattle.ctl_gen.proofs.Leave.{leaves}
 use Rattle.ctl_gen.proofs.Executed.{master_does}
-use Rattle.ctl_gen.proofs.Follow.{IsGoing, Runs, way_of, at, added, no_step, both}
+use Rattle.ctl_gen.proofs.Follow.{by_raise, IsGoing, Runs, way_of, at, added, no_step, both}
 
 -- a body has as many slots as it means
 slots_alike : (m : Master) → (master_code m).slots ≡ (body_of m).slots
@@ -81,9 +81,9 @@ module _ (ask : Ask) (p : Meaning) (code : Code) (setting : Setting p.tables cod
   -- how a procedure ends for its call
   behind_call : (w0 : World) (ks : List Frame) (r : Result Left) (c : ℕ) (l : Log) (w : World) → Told k code w0 (way_of r) w → Runs ask code (Told k code w0) 0 0 (leaves AfterBody ks r l w) c (returns ks) (on_goes (λ (x : Left). returned Procedure x.slots x.result) r c l w)
   unfolding opened_outcome returned
-  behind_call w0 ks (Leaves ByExit) c l w fits = absurd fits.0
-  behind_call w0 ks (Leaves (ByReturn v)) c l w fits = absurd fits.0
-  behind_call w0 ks (Leaves (ByRaise e)) c l w fits = no_step ask code (Told k code w0) 0 0 _ c 0 (returns {A = Returned} ks) (Leaves (ByRaise e)) l w fits refl
+  behind_call w0 ks (Leaves y) c l w fits =
+      by_raise (λ v. Told k code w0 (Some v) w → Runs ask code (Told k code w0) 0 0 (leaves AfterBody ks (Leaves v) l w) c (returns {A = Returned} ks) (Gives (Leaves v) 0 c l w))
+      (λ e told. no_step ask code (Told k code w0) 0 0 _ c 0 (returns {A = Returned} ks) (Leaves (ByRaise e)) l w told refl) y fits.0 fits
   behind_call w0 ks (Goes x) c l w fits = on x.result
     where
       on : (r : Result Done) → Runs ask code (Told k code w0) 0 0 (moved l (behind AfterBody r ks w)) c (returns ks) (returned Procedure x.slots r c l w)

@@ -8,7 +8,7 @@ use Rattle.ctl_program.specs.declared.types.Var.{Var}
 use Rattle.ctl_meaning.specs.World.{Log, World}
 use Rattle.ctl_meaning.specs.Lists.{item_or, opened_lists}
 use Rattle.ctl_meaning.specs.Activations.{master_of}
-use Rattle.ctl_meaning.specs.Outcome.{Way, ByExit, ByReturn, ByRaise, Result, Goes, Leaves, Out, Gives, Stops, Cut}
+use Rattle.ctl_meaning.specs.Outcome.{Way, Result, Goes, Leaves, Out, Gives, Stops, Cut}
 use Rattle.ctl_meaning.specs.Choice.{Ask, picked}
 use Rattle.ctl_meaning.specs.Names.{copy_in, slot_at, scalar_of}
 use Rattle.ctl_code.specs.declared.code.Named.{Named}
@@ -22,7 +22,7 @@ use Rattle.ctl_code.specs.Table.{Here, cell_at, with_cell, out_of, taking, put, 
 use Rattle.ctl_code.specs.Steps.{moved, step}
 use Rattle.ctl_code.specs.Windows.{depth}
 use Rattle.ctl_gen.specs.Around.{out_to}
-use Rattle.ctl_gen.proofs.Follow.{at, transferred}
+use Rattle.ctl_gen.proofs.Follow.{IsRaise, at, transferred}
 
 abbrev pub here : List ℕ → ℕ → List Frame → World → Here
 here d place k w = record { display = d; place = place; control = k; world = w }
@@ -114,9 +114,7 @@ cell_is d s v w long = ap (λ m. scalar_of (copy_in (slot_at m v.slot w))) (out_
 -- one cell, of which something is true in the world that is left; nothing but an exception leaves an expression
 abbrev pub IsCell : (ℕ → World → Type 0) → Out (List ℕ) → Type 0
 IsCell P (Gives (Goes u) t c l w) = (n : ℕ) × (u ≡ n ∷ []) × P n w
-IsCell P (Gives (Leaves ByExit) t c l w) = ⊥
-IsCell P (Gives (Leaves (ByReturn v)) t c l w) = ⊥
-IsCell P (Gives (Leaves (ByRaise e)) t c l w) = Unit {0}
+IsCell P (Gives (Leaves y) t c l w) = IsRaise y
 IsCell P (Stops s t l) = Unit {0}
 IsCell P (Cut t c l) = Unit {0}
 

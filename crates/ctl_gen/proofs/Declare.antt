@@ -11,7 +11,7 @@ use Rattle.ctl_meaning.specs.World.{Object, Declared, Single, Holds, Binds, Log,
 use Rattle.ctl_meaning.specs.Lists.{last_of, opened_lists}
 use Rattle.ctl_meaning.specs.Changes.{object_at, create, set_slot, add_layer, begin_finalization, end_finalization, home_of, owner_of}
 use Rattle.ctl_meaning.specs.Choice.{Ask, picked}
-use Rattle.ctl_meaning.specs.Outcome.{ByExit, ByReturn, ByRaise, Goes, Leaves, Out, Gives, Stops, Cut, Act, Done, add, bind, on_goes, ◌>>=◌, ◌>>◌, done, nothing, tell, show, look, change, told, attempt, when, either, on_some, opened_outcome}
+use Rattle.ctl_meaning.specs.Outcome.{ByRaise, Goes, Leaves, Out, Gives, Stops, Cut, Act, Done, add, bind, on_goes, ◌>>=◌, ◌>>◌, done, nothing, tell, show, look, change, told, attempt, when, either, on_some, opened_outcome}
 use Rattle.ctl_meaning.specs.Types.{Tables, Composite, operation, depth, of_record}
 use Rattle.ctl_meaning.specs.Names.{OfSubprogram, Call, Default, Tools, gone, must_exist, Returned, opened_names}
 use Rattle.ctl_meaning.specs.Finalization.{whole, These, component_at, call_operation, after_finalize, own_finalize, in_any_order, finalize_part, finalize, opened_finalization}
@@ -33,7 +33,7 @@ use Rattle.ctl_gen.proofs.Plain.{is_controlled_plain, begin_cells_plain, parts_t
 use Rattle.ctl_gen.proofs.Setting.{Setting, tools_with, returns, Told, Sees, Calls, enter_shows}
 use Rattle.ctl_gen.proofs.Cells.{by_code}
 use Rattle.ctl_gen.proofs.Place.{Laid}
-use Rattle.ctl_gen.proofs.Follow.{Comes, Runs, within, Landing, at, arrives, stop_step, then_step, then_stops, more_quits, more_halts}
+use Rattle.ctl_gen.proofs.Follow.{by_raise, Comes, Runs, within, Target, at, arrives, stop_step, then_step, then_stops, more_quits, more_halts}
 
 -- the birth of an object that is found, or not
 abbrev life : Option ℕ → Option Object → ℕ → Point → List Frame → World → Move
@@ -98,7 +98,7 @@ module _ (ask : Ask) (k : Tables) (code : Code) (setting : Setting k code) (call
   started_with y g n m x = bind (add 0 (bind (bind x told) (on_goes (begin_next [] begun_with [])))) (on_goes (λ b. on_some b.failure (alive g n m) (λ e c l w. y)))
 
   -- an object comes to life, from the step that looks for it
-  found_runs : (w0 : World) (n : ℕ) (e : Landing) (p : Point) (ks : List Frame) (s0 state : State) (c c1 τ : ℕ) (l : Log) (w : World) (X : Type 0) → Since k code w0 w → Comes ask code 2 s0 c τ c1 state X → (h : Option ℕ) (y : Option Object) → operation (λ x. x.finalize) k t ≡ h → object_at n w ≡ y → step ask code state ≡ moved l (come_to_life code n t (object_at n w) p ks w) → Runs ask code (Kept k code w0) 3 4 s0 c (arrives e p.display p.place ks p.operands) (standing n (last_of p.display) (started h n (last_of p.display) (Gives (Goes tt) τ c1 l w)))
+  found_runs : (w0 : World) (n : ℕ) (e : Target) (p : Point) (ks : List Frame) (s0 state : State) (c c1 τ : ℕ) (l : Log) (w : World) (X : Type 0) → Since k code w0 w → Comes ask code 2 s0 c τ c1 state X → (h : Option ℕ) (y : Option Object) → operation (λ x. x.finalize) k t ≡ h → object_at n w ≡ y → step ask code state ≡ moved l (come_to_life code n t (object_at n w) p ks w) → Runs ask code (Kept k code w0) 3 4 s0 c (arrives e p.display p.place ks p.operands) (standing n (last_of p.display) (started h n (last_of p.display) (Gives (Goes tt) τ c1 l w)))
   unfolding picked opened_outcome opened_initialization opened_names
   found_runs w0 n e p ks s0 state c c1 τ l w X fits z h y eh ey first = found h y ey after
     where
@@ -115,20 +115,24 @@ module _ (ask : Ask) (k : Tables) (code : Code) (setting : Setting k code) (call
       found (Some f) (Some o) ey1 go = subst (λ x. Runs ask code (Kept k code w0) 3 4 s0 c (arrives e p.display p.place ks p.operands) (standing_at x n (last_of p.display) (started (Some f) n (last_of p.display) (Gives (Goes tt) τ c1 l w)))) (sym ey1) (then_step ask code (Kept k code w0) 2 3 s0 state _ c c1 τ _ z go (since_layer k code (last_of p.display) n w0 w fits) (omega arith))
 
   -- after its Initialize an object comes to life, or is cleaned up
-  begun_runs : (w0 : World) (n : ℕ) (e : Landing) (p : Point) (ks : List Frame) (s0 : State) (c : ℕ) (x : Out Returned) → Runs ask code (Told k code w0) 2 2 s0 c (returns (Initializing n t p ∷ ks)) x → Runs ask code (Kept k code w0) 3 4 s0 c (arrives e p.display p.place ks p.operands) (standing n (last_of p.display) (started (operation (λ z. z.finalize) k t) n (last_of p.display) (bind (add 0 x) (on_goes (λ _. nothing)))))
+  begun_runs : (w0 : World) (n : ℕ) (e : Target) (p : Point) (ks : List Frame) (s0 : State) (c : ℕ) (x : Out Returned) → Runs ask code (Told k code w0) 2 2 s0 c (returns (Initializing n t p ∷ ks)) x → Runs ask code (Kept k code w0) 3 4 s0 c (arrives e p.display p.place ks p.operands) (standing n (last_of p.display) (started (operation (λ z. z.finalize) k t) n (last_of p.display) (bind (add 0 x) (on_goes (λ _. nothing)))))
   unfolding picked opened_outcome opened_initialization opened_names
   begun_runs w0 n e p ks s0 c (Gives (Goes u) τ c1 l w) z = found_runs w0 n e p ks s0 _ c c1 _ l w _ z.fits.1 (record { n = z.n; falls = z.falls; enough = z.enough; in_time = omega (arith, z.in_time); comes = z.comes; fits = z.fits }) (operation (λ x. x.finalize) k t) (object_at n w) refl refl refl
-  begun_runs w0 n e p ks s0 c (Gives (Leaves ByExit) τ c1 l w) z = absurd z.fits.0
-  begun_runs w0 n e p ks s0 c (Gives (Leaves (ByReturn cells)) τ c1 l w) z = absurd z.fits.0
-  begun_runs w0 n e p ks s0 c (Gives (Leaves (ByRaise x)) τ c1 l w) z =
-      subst (λ y. Runs ask code (Kept k code w0) 3 4 s0 c (arrives e p.display p.place ks p.operands) (standing n (last_of p.display) (started_with y (operation (λ z1. z1.finalize) k t) n (last_of p.display) (bind {A = Returned} (add 0 (Gives (Leaves (ByRaise x)) τ c1 l w)) (on_goes (λ _. nothing)))))) (sym (clean_up_is n x c1 l w))
-      (then_step ask code (Kept k code w0) 2 3 s0 _ _ c c1 τ _ z refl (since_end k code n w0 (begin_finalization n w) (since_begin k code n w0 w z.fits.1)) (omega arith))
+  begun_runs w0 n e p ks s0 c (Gives (Leaves y) τ c1 l w) z = by_raise (λ v. Runs ask code (Told k code w0) 2 2 s0 c (returns {A = Returned} (Initializing n t p ∷ ks)) (Gives (Leaves v) τ c1 l w) → goal (bind {A = Returned} (add 0 (Gives (Leaves v) τ c1 l w)) (on_goes (λ _. nothing)))) raised y z.fits.0 z
+    where
+      goal : Out Done → Type 0
+      goal o = Runs ask code (Kept k code w0) 3 4 s0 c (arrives e p.display p.place ks p.operands) (standing n (last_of p.display) (started (operation (λ x. x.finalize) k t) n (last_of p.display) o))
+
+      raised : (x : ℕ) → Runs ask code (Told k code w0) 2 2 s0 c (returns {A = Returned} (Initializing n t p ∷ ks)) (Gives (Leaves (ByRaise x)) τ c1 l w) → goal (bind {A = Returned} (add 0 (Gives (Leaves (ByRaise x)) τ c1 l w)) (on_goes (λ _. nothing)))
+      raised x z1 =
+          subst (λ y1. Runs ask code (Kept k code w0) 3 4 s0 c (arrives e p.display p.place ks p.operands) (standing n (last_of p.display) (started_with y1 (operation (λ z2. z2.finalize) k t) n (last_of p.display) (bind {A = Returned} (add 0 (Gives (Leaves (ByRaise x)) τ c1 l w)) (on_goes (λ _. nothing)))))) (sym (clean_up_is n x c1 l w))
+          (then_step ask code (Kept k code w0) 2 3 s0 _ _ c c1 τ _ z1 refl (since_end k code n w0 (begin_finalization n w) (since_begin k code n w0 w z1.fits.1)) (omega arith))
   begun_runs w0 n e p ks s0 c (Stops why τ l) z = more_quits ask code (Kept k code w0) 2 4 s0 τ _ l why (omega arith) z
   begun_runs w0 n e p ks s0 c (Cut τ c1 l) z = more_halts ask code (Kept k code w0) 2 4 s0 c τ _ l (omega arith) z
 
   module _ (bound : ℕ) (calls : Calls ask k code setting bound call) where
     -- a declaration, from the step that creates its object
-    created_runs : (w0 : World) (n : ℕ) (e : Landing) (p : Point) (ks : List Frame) (s0 : State) (c : ℕ) (l : Log) (w : World) → c ≤ bound → Since k code w0 w → ((o : Object) → object_at n w ≡ Some o → o.ty ≡ Record t) → (g : Option ℕ) (y : Option Object) → operation (λ x. x.initialize) k t ≡ g → object_at n w ≡ y → step ask code s0 ≡ moved l (Table.by_declaration code g n t (object_at n w) p ks w) → Runs ask code (Kept k code w0) 4 5 s0 c (arrives e p.display p.place ks p.operands) (standing n (last_of p.display) (started (operation (λ x. x.finalize) k t) n (last_of p.display) (call_operation K (whole n) g (starts n) c l w)))
+    created_runs : (w0 : World) (n : ℕ) (e : Target) (p : Point) (ks : List Frame) (s0 : State) (c : ℕ) (l : Log) (w : World) → c ≤ bound → Since k code w0 w → ((o : Object) → object_at n w ≡ Some o → o.ty ≡ Record t) → (g : Option ℕ) (y : Option Object) → operation (λ x. x.initialize) k t ≡ g → object_at n w ≡ y → step ask code s0 ≡ moved l (Table.by_declaration code g n t (object_at n w) p ks w) → Runs ask code (Kept k code w0) 4 5 s0 c (arrives e p.display p.place ks p.operands) (standing n (last_of p.display) (started (operation (λ x. x.finalize) k t) n (last_of p.display) (call_operation K (whole n) g (starts n) c l w)))
     unfolding opened_outcome opened_finalization opened_names opened_initialization
     created_runs w0 n e p ks s0 c l w le fits ty None None eg ey first = subst (λ x. Runs ask code (Kept k code w0) 4 5 s0 c (arrives e p.display p.place ks p.operands) (standing n (last_of p.display) (started (operation (λ z. z.finalize) k t) n (last_of p.display) (add 1 (on_some x gone (λ _. nothing) c l w))))) (sym ey) (stop_step ask code (Kept k code w0) 4 5 s0 _ c 1 (arrives e p.display p.place ks p.operands) UseAfterFree l (omega arith) (first ∙ ap (λ x. moved l (Table.by_declaration code None n t x p ks w)) ey) refl refl)
     created_runs w0 n e p ks s0 c l w le fits ty None (Some o) eg ey first =
@@ -146,7 +150,7 @@ module _ (ask : Ask) (k : Tables) (code : Code) (setting : Setting k code) (call
         (first ∙ ap (λ x. moved l (Table.by_declaration code (Some f) n t x p ks w)) ey ∙ enter_shows (slice_get code.entries.items f) (starts n) (home_of o.origin w) (Binds n 0 [] ∷ []) (Initializing n t p ∷ ks) l w))))
 
     -- a declaration: its operations are in scope, as the code is well formed
-    pub declare_runs : (slot : ℕ) (e : Landing) (s : List Kind) (w0 : World) (d : List ℕ) (place : ℕ) (ks : List Frame) (ops : List ℕ) (c : ℕ) (l : Log) (w : World) → c ≤ bound → Since k code w0 w → Sees d s w0 → Laid code place ((InstrOf.Declare slot t, s) ∷ []) → Runs ask code (Kept k code w0) 4 5 (at d place ks ops l w) c (arrives e d (place + 1) ks ops) (declare Composite K (last_of d) slot (Record t) None c l w)
+    pub declare_runs : (slot : ℕ) (e : Target) (s : List Kind) (w0 : World) (d : List ℕ) (place : ℕ) (ks : List Frame) (ops : List ℕ) (c : ℕ) (l : Log) (w : World) → c ≤ bound → Since k code w0 w → Sees d s w0 → Laid code place ((InstrOf.Declare slot t, s) ∷ []) → Runs ask code (Kept k code w0) 4 5 (at d place ks ops l w) c (arrives e d (place + 1) ks ops) (declare Composite K (last_of d) slot (Record t) None c l w)
     declare_runs slot e s w0 d place ks ops c l w le fits sees has =
         subst (λ o. Runs ask code (Kept k code w0) 4 5 (at d place ks ops l w) c (arrives e d (place + 1) ks ops) o)
         (sym (declare_is (last_of d) slot c l w ∙ ap (standing n (last_of d)) (initialize_is (operation (λ x. x.initialize) k t) (operation (λ x. x.finalize) k t) refl refl n (last_of d) c l w w1)))

@@ -10,8 +10,12 @@ use Rattle.ctl_gen.specs.Around.{Line, Around}
 use Rattle.ctl_gen.proofs.Place.{Laid}
 use Rattle.ctl_gen.proofs.Worlds.{Since, Kept}
 use Rattle.ctl_gen.proofs.Setting.{Sees}
-use Rattle.ctl_gen.proofs.Follow.{Runs, at, arrives, landing_of}
+use Rattle.ctl_gen.proofs.Follow.{Runs, at, arrives, lands}
 
--- while no more than the bound is on the clock, in the worlds since an earlier one in which this display was seen
+-- while no more than the bound is on the clock, in the worlds since an earlier one in which this display was seen; with at most so many steps
+-- that no tick pays
+abbrev pub DoesIn : ℕ → Ask → Tables → Code → ℕ → (Around → List Line) → (List ℕ → Act Done) → Type 0
+DoesIn b ask k code bound x act = (a : Around) (w0 : World) (d : List ℕ) (place : ℕ) (ks : List Frame) (ops : List ℕ) (c : ℕ) (l : Log) (w : World) → c ≤ bound → Since k code w0 w → Sees d a.stack w0 → Laid code place (x a) → Runs ask code (Kept k code w0) b b (at d place ks ops l w) c (arrives (lands a place) d (place + length (x a)) ks ops) (act d c l w)
+
 abbrev pub Does : Ask → Tables → Code → ℕ → (Around → List Line) → (List ℕ → Act Done) → Type 0
-Does ask k code bound x act = (a : Around) (w0 : World) (d : List ℕ) (place : ℕ) (ks : List Frame) (ops : List ℕ) (c : ℕ) (l : Log) (w : World) → c ≤ bound → Since k code w0 w → Sees d a.stack w0 → Laid code place (x a) → Runs ask code (Kept k code w0) 0 0 (at d place ks ops l w) c (arrives (landing_of a.exits place) d (place + length (x a)) ks ops) (act d c l w)
+Does = DoesIn 0

@@ -7,7 +7,7 @@ use Rattle.ctl_code.specs.declared.code.Instr.TheVariants.{Start}
 use Rattle.ctl_code.specs.declared.kinds.Kind.{Kind}
 use Rattle.ctl_code.specs.declared.kinds.Kind.TheVariants.{Body}
 use Rattle.ctl_code.specs.Kinds.{below_newest}
-use Rattle.ctl_gen.specs.Around.{FromMaster}
+use Rattle.ctl_gen.specs.Around.{OutOfMaster}
 use Rattle.ctl_gen.specs.Emitted.{Emitted, appended, around, lined, none_emitted, one, standing, stated}
 use Rattle.ctl_gen.specs.Layout.{bodies, body_code, entries_from, entry_at, instructions_of, kinds_of, master_code, program_code}
 use Rattle.ctl_gen.proofs.Emission.{count_more, nothing, stands, stands_before, stands_behind, standing_is, texts_more}
@@ -24,14 +24,14 @@ body_emitted s slots e0 e1 e2 e3 same bare a b c =
     let n = length e0.texts in
     let r = e0.notes.standing in
     let top = Body s.level slots ∷ r in
-    let lines = m.code (record { stack = top; exits = FromMaster }) n in
+    let lines = m.code (record { stack = top; landing = OutOfMaster }) n in
     let inner : e2 ≡ appended lines m.texts top e1 =
-    b ∙ ap (λ x. appended (m.code (record { stack = x; exits = FromMaster }) (length e1.texts)) m.texts x e1) (stands top e0 e1 a)
-    ∙ ap (λ k. appended (m.code (record { stack = top; exits = FromMaster }) k) m.texts top e1) (texts_stand top e0 e1 a) in
+    b ∙ ap (λ x. appended (m.code (record { stack = x; landing = OutOfMaster }) (length e1.texts)) m.texts x e1) (stands top e0 e1 a)
+    ∙ ap (λ k. appended (m.code (record { stack = top; landing = OutOfMaster }) k) m.texts top e1) (texts_stand top e0 e1 a) in
     stands_before lines m.texts r top e0 e1 e3 a
     (stands_behind lines m.texts top r e1 e2 e3 inner (c ∙ ap (λ x. standing (below_newest x) e2) (standing_is lines m.texts top e1 e2 inner)))
-    ∙ ap (λ k. appended (m.code (record { stack = Body s.level k ∷ r; exits = FromMaster }) n) m.texts r e0) same
-    ∙ ap (λ k. appended (m.code (record { stack = Body s.level (master_code s.body).slots ∷ k; exits = FromMaster }) n) m.texts r e0) bare
+    ∙ ap (λ k. appended (m.code (record { stack = Body s.level k ∷ r; landing = OutOfMaster }) n) m.texts r e0) same
+    ∙ ap (λ k. appended (m.code (record { stack = Body s.level (master_code s.body).slots ∷ k; landing = OutOfMaster }) n) m.texts r e0) bare
 
 -- the instruction that starts the main procedure
 abbrev pub begun : ℕ → Emitted

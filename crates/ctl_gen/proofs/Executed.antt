@@ -12,7 +12,7 @@ use Rattle.ctl_program.specs.declared.statement.Master.{Master, Master-F, roll-M
 use Rattle.ctl_tree.specs.declared.event.Event.TheVariants.{Newline}
 use Rattle.ctl_meaning.specs.World.{World}
 use Rattle.ctl_meaning.specs.Choice.{Ask}
-use Rattle.ctl_meaning.specs.Outcome.{Goes, tell, opened_outcome}
+use Rattle.ctl_meaning.specs.Outcome.{Goes, tell, opened_outcome, ByExit, leave_by, Leaves}
 use Rattle.ctl_meaning.specs.Types.{Tables, Elementary}
 use Rattle.ctl_meaning.specs.Names.{Default, Tools}
 use Rattle.ctl_meaning.specs.Names as Names
@@ -23,7 +23,7 @@ use Rattle.ctl_meaning.proofs.Trees.{exec_roll, arm_roll as guarding_roll, maste
 use Rattle.ctl_code.specs.declared.code.Code.{Code}
 use Rattle.ctl_code.specs.declared.code.Instr.TheVariants as InstrOf
 use Rattle.ctl_gen.specs.Values.{value_code, variable_of}
-use Rattle.ctl_gen.specs.Layout.{StatementCode, all, all_items, arm_code, assign, exit, has_no_handlers, inside, item_code, master_code, missing_statement, no_code, statement_code}
+use Rattle.ctl_gen.specs.Layout.{StatementCode, all, all_items, arm_code, assign, exit, has_no_handlers, inside, item_code, master_code, missing_statement, no_code, statement_code, leaves_code}
 use Rattle.ctl_gen.proofs.Known.{both_true}
 use Rattle.ctl_gen.proofs.TreeLayers.{arm_roll, master_roll, statement_roll}
 use Rattle.ctl_gen.proofs.Setting.{Setting, Calls, tools_with}
@@ -33,9 +33,11 @@ use Rattle.ctl_gen.proofs.Expressions.{Uses, Value}
 use Rattle.ctl_gen.proofs.Evaluated.{name_finds, value_means}
 use Rattle.ctl_gen.proofs.Assign.{assign_runs}
 use Rattle.ctl_gen.proofs.Texts.{print_runs}
-use Rattle.ctl_gen.proofs.Loops.{exit_runs, exit_when_runs, loop_runs, while_runs}
+use Rattle.ctl_gen.proofs.Branches.{only_if_runs, paid}
+use Rattle.ctl_gen.proofs.Loops.{leave_step, loop_runs, while_runs}
 use Rattle.ctl_gen.proofs.Ranges.{for_runs}
-use Rattle.ctl_gen.proofs.Follow.{landing_of, arrives, last_step}
+use Rattle.ctl_gen.proofs.Does.{DoesIn}
+use Rattle.ctl_gen.proofs.Follow.{arrives, last_step, lands}
 use Rattle.ctl_gen.proofs.Statements as S
 
 handled_not_run : (a b : Bool) → (a && (b && false)) ≡ true → ⊥
@@ -114,18 +116,23 @@ module _ (ask : Ask) (k : Tables) (code : Code) (setting : Setting k code) (call
   assign_does None find e uses runs n texts caught = absurd (cc)
   assign_does (Some x) find e uses runs n texts caught = assign_runs ask k code setting.valid bound x (find Elementary K) (uses x refl) (value_code e) (eval e K) (means e runs)
 
+  -- one step to where control lands
+  exits : DoesIn 1 ask k code bound leaves_code (λ d. leave_by ByExit)
+  unfolding opened_outcome
+  exits a w0 d place ks ops c l w le fits sees has = last_step ask code (Kept k code w0) 1 1 _ c 0 (arrives (lands a place) d (place + 1) ks ops) (Leaves ByExit) l w (omega arith) fits (leave_step ask k code bound a.landing d place ks ops l w has.0)
+
   exit_does : (o : Option Expr) → Performs (exit (option_map value_code o)) (exit_doing (option_map eval o))
   unfolding exit_doing
-  exit_does None runs n texts caught = exit_runs ask k code bound
-  exit_does (Some e) runs n texts caught = exit_when_runs ask k code bound (value_code e) (eval e K) (means e runs)
+  exit_does None runs n texts caught = paid ask k code bound leaves_code (λ d. leave_by ByExit) exits
+  exit_does (Some e) runs n texts caught = only_if_runs ask k code bound (value_code e) (eval e K) (means e runs) leaves_code (λ d. leave_by ByExit) exits
 
   stmt_rolled : (y : Stmt-F StmtToo ArmToo HandlerToo MasterToo) → Does (roll-Stmt (bare_stmt y))
   unfolding null_doing put put_line new_line loop_plainly loop_while loop_for opened_outcome
-  stmt_rolled Stmt-F.Null = does Stmt-F.Null _ _ (statement_roll Stmt-F.Null) (exec_roll Stmt-F.Null) (λ runs n texts caught a w0 d place ks ops c l w le fits sees has. S.still_there ask k code setting call default bound calls 1 (landing_of a.exits place) w0 d place ks ops c l w fits)
+  stmt_rolled Stmt-F.Null = does Stmt-F.Null _ _ (statement_roll Stmt-F.Null) (exec_roll Stmt-F.Null) (λ runs n texts caught a w0 d place ks ops c l w le fits sees has. S.still_there ask k code setting call default bound calls 1 (lands a place) w0 d place ks ops c l w fits)
   stmt_rolled (Stmt-F.Assign x e) = does (Stmt-F.Assign x e) _ _ (statement_roll (Stmt-F.Assign x e)) (exec_roll (Stmt-F.Assign x e)) (assign_does (variable_of x) (eval_name x) e (name_finds ask k code call default (λ w. Fits k code w) x))
   stmt_rolled (Stmt-F.Put ps) = does (Stmt-F.Put ps) _ _ (statement_roll (Stmt-F.Put ps)) (exec_roll (Stmt-F.Put ps)) (λ runs n texts caught. print_runs ask k code call default bound false ps runs n texts)
   stmt_rolled (Stmt-F.PutLine ps) = does (Stmt-F.PutLine ps) _ _ (statement_roll (Stmt-F.PutLine ps)) (exec_roll (Stmt-F.PutLine ps)) (λ runs n texts caught. print_runs ask k code call default bound true ps runs n texts)
-  stmt_rolled Stmt-F.NewLine = does Stmt-F.NewLine _ _ (statement_roll Stmt-F.NewLine) (exec_roll Stmt-F.NewLine) (λ runs n texts caught a w0 d place ks ops c l w le fits sees has. last_step ask code (Kept k code w0) 0 0 _ c 1 (arrives (landing_of a.exits place) d (place + 1) ks ops) (Goes tt) (tell Newline l) w (omega arith) fits (by_code ask code d place ks ops l w InstrOf.NewLine has.0))
+  stmt_rolled Stmt-F.NewLine = does Stmt-F.NewLine _ _ (statement_roll Stmt-F.NewLine) (exec_roll Stmt-F.NewLine) (λ runs n texts caught a w0 d place ks ops c l w le fits sees has. last_step ask code (Kept k code w0) 0 0 _ c 1 (arrives (lands a place) d (place + 1) ks ops) (Goes tt) (tell Newline l) w (omega arith) fits (by_code ask code d place ks ops l w InstrOf.NewLine has.0))
   stmt_rolled (Stmt-F.Exit o) = does (Stmt-F.Exit o) _ _ (statement_roll (Stmt-F.Exit o)) (exec_roll (Stmt-F.Exit o)) (exit_does o)
   stmt_rolled (Stmt-F.If arms others) =
       let y = Stmt-F.If (map (λ e. e.0) arms) (map (λ e. e.0) others) in

@@ -11,7 +11,7 @@ use Rattle.ctl_meaning.specs.World.{Log, World}
 use Rattle.ctl_meaning.specs.Lists.{opened_lists}
 use Rattle.ctl_meaning.specs.Activations.{master_of}
 use Rattle.ctl_meaning.specs.Choice.{Ask}
-use Rattle.ctl_meaning.specs.Outcome.{constraint_error, Way, ByExit, ByReturn, ByRaise, Result, Goes, Leaves, Out, Gives, Stops, Cut, Act, add, bind, on_goes, ◌>>=◌, done, ticked, either, opened_outcome}
+use Rattle.ctl_meaning.specs.Outcome.{constraint_error, Way, ByRaise, Result, Goes, Leaves, Out, Gives, Stops, Cut, Act, add, bind, on_goes, ◌>>=◌, done, ticked, either, opened_outcome}
 use Rattle.ctl_meaning.specs.Numbers.{unary, binary}
 use Rattle.ctl_meaning.specs.Types.{Tables, cells_of}
 use Rattle.ctl_meaning.specs.Names.{Found, InCopy, copy_in, slot_at, scalar_of, read_found, or_constraint_error, opened_names}
@@ -37,7 +37,7 @@ use Rattle.ctl_gen.proofs.Known.{IsScalar}
 use Rattle.ctl_gen.proofs.Values.{one_cell, scalar_cells}
 use Rattle.ctl_gen.proofs.Place.{Laid, laid_front, laid_back}
 use Rattle.ctl_gen.proofs.Cells.{here, by_code, landed, landed_leaves, put_is, waiting, Stays, held_in, taking_is, value_of, cell_is, IsCell, Any}
-use Rattle.ctl_gen.proofs.Worth.{cell_later, cell_then, cell_always, both_cell, then_paid}
+use Rattle.ctl_gen.proofs.Worth.{cell_less, cell_later, cell_then, cell_always, both_cell, then_paid}
 use Rattle.ctl_gen.proofs.Follow.{Runs, at, transferred, added, within, one_step, last_step, no_step, arriving, bind_add}
 
 module _ (ask : Ask) (k : Tables) (code : Code) (Fits : World → Type 0) where
@@ -173,15 +173,7 @@ module _ (ask : Ask) (k : Tables) (code : Code) (Fits : World → Type 0) where
   held_holds RightOf.Evaluated x act is value ty s d place ks ops c l w fits long has = evaluated_holds x act value ty s d place ks ops c l w fits long has
   held_holds (RightOf.Variable v) x act is value ty s d place ks ops c l w fits long has =
       let y = variable_holds x act value v is (λ w1. Unit {0}) (local_at s v) ty s d place ks ops c l w fits tt long has in
-      record { out = y.out; is = y.is; cells = cell_less (λ n w1. Stays (in_cell (local_at s v) v x ty s).cell.named n d w1) (λ n w1. Unit {0}) y.out y.cells; runs = y.runs }
-    where
-      cell_less : (P Q : ℕ → World → Type 0) (o : Out (List ℕ)) → IsCell (λ n w1. P n w1 × Q n w1) o → IsCell P o
-      cell_less P Q (Gives (Goes u) t c1 l1 w1) h = (h.0, h.1, h.2.0)
-      cell_less P Q (Gives (Leaves ByExit) t c1 l1 w1) h = absurd h
-      cell_less P Q (Gives (Leaves (ByReturn y)) t c1 l1 w1) h = absurd h
-      cell_less P Q (Gives (Leaves (ByRaise y)) t c1 l1 w1) h = tt
-      cell_less P Q (Stops s1 t l1) h = tt
-      cell_less P Q (Cut t c1 l1) h = tt
+      record { out = y.out; is = y.is; cells = cell_less (λ n w1. Stays (in_cell (local_at s v) v x ty s).cell.named n d w1 × Unit {0}) (λ n w1. Stays (in_cell (local_at s v) v x ty s).cell.named n d w1) (λ n w1 h. h.0) y.out y.cells; runs = y.runs }
 
   -- what follows an operand that is held
   pub held_then : {B : Type 0} (h : Held) (P : ℕ → World → Type 0) (act : List ℕ → Act (List ℕ)) (d : List ℕ) (place : ℕ) (ks : List Frame) (ops : List ℕ) (c : ℕ) (l : Log) (w : World) (next : Result B → Log → World → State) (f : Result (List ℕ) → Act B) → Holds h P act d place ks ops c l w → ((n c1 : ℕ) (l1 : Log) (w1 : World) → c1 ≤ c → Fits w1 → P n w1 → Runs ask code Kept 8 8 (at d (place + length h.code) ks (waiting h.cell.named n ops) l1 w1) c1 next (f (Goes (n ∷ [])) c1 l1 w1)) → ((y c1 : ℕ) (l1 : Log) (w1 : World) → c1 ≤ c → Fits w1 → Runs ask code Kept 8 8 (transferred (ByRaise y) ks l1 w1) c1 next (f (Leaves (ByRaise y)) c1 l1 w1)) → Runs ask code Kept 0 0 (at d place ks ops l w) c next (bind (act d c l w) f)
@@ -256,15 +248,7 @@ module _ (ask : Ask) (k : Tables) (code : Code) (Fits : World → Type 0) where
   both_hold : (x : ValueCode) (act : List ℕ → Act (List ℕ)) → Value x act → (left : Named) → MayStay left RightOf.Evaluated → (n : ℕ) (ty : Ty) (s : List Kind) (d : List ℕ) (place : ℕ) (ks : List Frame) (ops : List ℕ) (c : ℕ) (l : Log) (w : World) → Fits w → length d ≡ depth s → Laid code place (evaluated x ty s).code → Holds (evaluated x ty s) (λ m w1. Stays Operand m d w1 × Stays left n d w1) act d place ks ops c l w
   both_hold x act value Operand stay n ty s d place ks ops c l w fits long has =
       let y = evaluated_holds x act value ty s d place ks ops c l w fits long has in
-      record { out = y.out; is = y.is; cells = twice y.out y.cells; runs = y.runs }
-    where
-      twice : (o : Out (List ℕ)) → IsCell Any o → IsCell (λ m w1. Unit {0} × Unit {0}) o
-      twice (Gives (Goes u) t c1 l1 w1) h = (h.0, h.1, (tt, tt))
-      twice (Gives (Leaves ByExit) t c1 l1 w1) h = absurd h
-      twice (Gives (Leaves (ByReturn y)) t c1 l1 w1) h = absurd h
-      twice (Gives (Leaves (ByRaise y)) t c1 l1 w1) h = tt
-      twice (Stops s1 t l1) h = tt
-      twice (Cut t c1 l1) h = tt
+      record { out = y.out; is = y.is; cells = cell_less Any (λ m w1. Unit {0} × Unit {0}) (λ m w1 h. (tt, tt)) y.out y.cells; runs = y.runs }
   both_hold x act value (Variable out slot) stay n ty s d place ks ops c l w fits long has = absurd stay
 
   operator_runs : (r : Right) (o : OperatorCode) (act : List ℕ → Act (List ℕ)) → o.right.right ≡ r → Value o.right act → (left : Cell) (ty : Ty) (to : Cell) (s : List Kind) → MayStay left.named r → (n : ℕ) (d : List ℕ) (place : ℕ) (ks : List Frame) (ops : List ℕ) (c : ℕ) (l : Log) (w : World) → Fits w → length d ≡ depth s → Stays left.named n d w → Laid code place (operator_by r o left ty to s) → Runs ask code Kept 0 0 (at d place ks (waiting left.named n ops) l w) c (landed to.named d (place + length (operator_by r o left ty to s)) ks ops) (combined o act d (n ∷ []) c l w)

@@ -13,7 +13,7 @@ use Rattle.ctl_meaning.specs.Lists.{first_with, opened_lists}
 use Rattle.ctl_meaning.specs.Pools.{opened_pools}
 use Rattle.ctl_meaning.specs.Changes.{object_at, begin_finalization, end_finalization, home_of, home_master, opened_changes}
 use Rattle.ctl_meaning.specs.Choice.{Ask, picked}
-use Rattle.ctl_meaning.specs.Outcome.{ByExit, ByReturn, ByRaise, Result, Goes, Leaves, Out, Gives, Stops, Cut, Act, Done, Fine, add, bind, on_goes, ◌>>=◌, ◌>>◌, done, nothing, tell, show, look, change, told, either, on_some, opened_outcome}
+use Rattle.ctl_meaning.specs.Outcome.{Result, Goes, Leaves, Out, Gives, Stops, Cut, Act, Done, Fine, add, bind, on_goes, ◌>>=◌, ◌>>◌, done, nothing, tell, show, look, change, told, either, on_some, opened_outcome}
 use Rattle.ctl_meaning.specs.Types.{Tables, operation, depth, of_record}
 use Rattle.ctl_meaning.specs.Names.{OfSubprogram, Returned, Call, Default, Tools, gone, opened_names}
 use Rattle.ctl_meaning.specs.Finalization.{whole, Every, component_at, call_operation, after_finalize, own_finalize, in_any_order, finalize_part, finalize, finalize_object, finalize_if_controlled, opened_finalization}
@@ -29,7 +29,7 @@ use Rattle.ctl_gen.proofs.Known.{IsPlain}
 use Rattle.ctl_gen.proofs.Worlds.{IfFound, Fits, Settled, Since, IsInside, home, object_fits, since_begin, since_end}
 use Rattle.ctl_gen.proofs.Plain.{is_controlled_plain, has_controlled_plain, parts_to_finalize_plain}
 use Rattle.ctl_gen.proofs.Setting.{Setting, tools_with, returns, Told, Sure, Calls, enter_shows}
-use Rattle.ctl_gen.proofs.Follow.{Runs, gives, way_of, both, no_step, last_step, stop_step, within, then_step, more_quits, more_halts}
+use Rattle.ctl_gen.proofs.Follow.{by_raise, Runs, gives, way_of, both, no_step, last_step, stop_step, within, then_step, more_quits, more_halts}
 
 -- whether a finalization failed is what it hands on
 abbrev pub handed : Bool → Handed
@@ -108,9 +108,9 @@ module _ (ask : Ask) (k : Tables) (code : Code) (setting : Setting k code) (call
   over : (n : ℕ) (w0 : World) (ks : List Frame) (s0 : State) (c : ℕ) (o : Out Returned) → Runs ask code (Told k code w0) 2 2 s0 c (returns (Finalizing n ∷ ks)) o → Runs ask code (Sure k code w0) 3 2 s0 c (tells ks) (finalized n o)
   unfolding picked opened_outcome opened_finalization
   over n w0 ks s0 c (Gives (Goes x) u c1 l w) z = then_step ask code (Sure k code w0) 2 3 s0 _ _ c c1 u _ z refl (tt, since_end k code n w0 w z.fits.1) (omega arith)
-  over n w0 ks s0 c (Gives (Leaves ByExit) u c1 l w) z = absurd z.fits.0
-  over n w0 ks s0 c (Gives (Leaves (ByReturn v)) u c1 l w) z = absurd z.fits.0
-  over n w0 ks s0 c (Gives (Leaves (ByRaise e)) u c1 l w) z = then_step ask code (Sure k code w0) 2 3 s0 _ _ c c1 u _ z refl (tt, since_end k code n w0 w z.fits.1) (omega arith)
+  over n w0 ks s0 c (Gives (Leaves y) u c1 l w) z =
+      by_raise (λ x. Runs ask code (Told k code w0) 2 2 s0 c (returns {A = Returned} (Finalizing n ∷ ks)) (Gives (Leaves x) u c1 l w) → Runs ask code (Sure k code w0) 3 2 s0 c (tells ks) (finalized n (Gives (Leaves x) u c1 l w)))
+      (λ e z1. then_step ask code (Sure k code w0) 2 3 s0 _ _ c c1 u _ z1 refl (tt, since_end k code n w0 w z1.fits.1) (omega arith)) y z.fits.0 z
   over n w0 ks s0 c (Stops why u l) z = more_quits ask code (Sure k code w0) 2 2 s0 u _ l why (omega arith) z
   over n w0 ks s0 c (Cut u c1 l) z = more_halts ask code (Sure k code w0) 2 2 s0 c u _ l (omega arith) z
 

@@ -1,12 +1,13 @@
 -- The machine follows a meaning: what holds of one stretch of steps, and how stretches are joined.
 use Rattle.std.proofs.Common.{◌≡◌, ℕ, zero, suc, ◌+◌, ◌-◌, ◌*◌, ◌≤◌, List, [], ◌∷◌, Option, Some, None, refl, sym, ap, ◌∙◌, subst, arith, ◌⊎◌, inl, inr}
+use Rattle.std.specs.Prelude.{if◌then◌else◌}
 use Rattle.ctl_tree.specs.declared.ending.Stop.{Stop}
 use Rattle.ctl_meaning.specs.World.{Log, World}
 use Rattle.ctl_meaning.specs.Choice.{Ask}
-use Rattle.ctl_meaning.specs.Outcome.{Way, ByExit, ByReturn, ByRaise, Result, Goes, Leaves, Out, Gives, Stops, Cut, Act, Done, Tried, add, bind, on_goes, given}
+use Rattle.ctl_meaning.specs.Outcome.{completes_loop, raised_by, Way, ByExit, ByReturn, ByRaise, Result, Goes, Leaves, Out, Gives, Stops, Cut, Act, Done, Tried, add, bind, on_goes, given}
 use Rattle.ctl_code.specs.declared.code.Code.{Code}
 use Rattle.ctl_code.specs.States.{Handed, Mode, At, Transfers, Giving, Stopped, Stuck, Frame, State}
-use Rattle.ctl_gen.specs.Around.{Exits, FromMaster, FromLoop, further as further_on}
+use Rattle.ctl_gen.specs.Around.{Landing, OutOfMaster, BeforeLoop, Around, further as further_on}
 use Rattle.ctl_code.specs.Steps.{step, steps}
 
 -- the machine has neither ended nor come to an ill-formed state
@@ -33,35 +34,67 @@ transferred y k l w = record { mode = Transfers y; control = k; operands = []; w
 abbrev pub gives : List Frame → Tried Handed → Log → World → State
 gives k t l w = record { mode = Giving t; control = k; operands = []; world = w; log = l }
 
--- where an exit statement leads: out of the innermost master, or to a loop's landing
-pub data Landing : Type 0 where
-  OutOf : Landing
-  On : (place : ℕ) → Landing
+-- what a landing is at a place of the code: out of the innermost master, or another place
+pub data Target : Type 0 where
+  OutOf : Target
+  On : (place : ℕ) → Target
 
-abbrev pub landing_of : Exits → ℕ → Landing
-landing_of FromMaster place = OutOf
-landing_of (FromLoop back) place = On (place - back)
+abbrev pub target_of : Landing → ℕ → Target
+target_of OutOfMaster place = OutOf
+target_of (BeforeLoop back) place = On (place - back)
+
+-- where control lands that leaves the innermost loop from this place
+abbrev pub lands : Around → ℕ → Target
+lands a place = target_of a.landing place
 
 -- it is the same so many instructions further on
-pub landing_further : (e : Exits) (n place : ℕ) → landing_of (further_on n e) (place + n) ≡ landing_of e place
-landing_further FromMaster n place = refl
-landing_further (FromLoop back) n place = let e : place + n - (back + n) ≡ place - back = omega arith in ap On e
+pub landing_further : (e : Landing) (n place : ℕ) → target_of (further_on n e) (place + n) ≡ target_of e place
+landing_further OutOfMaster n place = refl
+landing_further (BeforeLoop back) n place = let e : place + n - (back + n) ≡ place - back = omega arith in ap On e
 
-abbrev pub landed_on : Landing → List ℕ → List Frame → List ℕ → Log → World → State
+abbrev pub landed_on : Target → List ℕ → List Frame → List ℕ → Log → World → State
 landed_on OutOf d k ops l w = transferred ByExit k l w
 landed_on (On place) d k ops l w = at d place k ops l w
 
+-- what completes a loop leads to where control lands, and any other transfer of control to the innermost master
+abbrev pub leads : Target → Way → List ℕ → List Frame → List ℕ → Log → World → State
+leads e y d k ops l w = if completes_loop y then landed_on e d k ops l w else transferred y k l w
+
+pub leads_out : (y : Way) (d : List ℕ) (k : List Frame) (ops : List ℕ) (l : Log) (w : World) → leads OutOf y d k ops l w ≡ transferred y k l w
+leads_out ByExit d k ops l w = refl
+leads_out (ByReturn v) d k ops l w = refl
+leads_out (ByRaise x) d k ops l w = refl
+
 -- a statement's result, at the place behind it, at a landing or under way to the innermost master
-abbrev pub arrives : Landing → List ℕ → ℕ → List Frame → List ℕ → Result Done → Log → World → State
+abbrev pub arrives : Target → List ℕ → ℕ → List Frame → List ℕ → Result Done → Log → World → State
 arrives e d place k ops (Goes a) l w = at d place k ops l w
-arrives e d place k ops (Leaves ByExit) l w = landed_on e d k ops l w
-arrives e d place k ops (Leaves (ByReturn v)) l w = transferred (ByReturn v) k l w
-arrives e d place k ops (Leaves (ByRaise x)) l w = transferred (ByRaise x) k l w
+arrives e d place k ops (Leaves y) l w = leads e y d k ops l w
 
 -- how a result leaves, if it does
 abbrev pub way_of : {A : Type 0} → Result A → Option Way
 way_of (Goes a) = None
 way_of (Leaves y) = Some y
+
+pub raised_is : (y : Way) (e : ℕ) → raised_by y ≡ Some e → y ≡ ByRaise e
+raised_is ByExit e h = absurd (cc)
+raised_is (ByReturn v) e h = absurd (cc)
+raised_is (ByRaise x) e h = let same : x ≡ e = cc h in ap ByRaise same
+
+abbrev IsThere : Option ℕ → Type 0
+IsThere None = ⊥
+IsThere (Some e) = Unit {0}
+
+-- an exception: nothing else leaves an expression, or a body
+abbrev pub IsRaise : Way → Type 0
+IsRaise y = IsThere (raised_by y)
+
+-- what holds of each exception holds of each way that is one
+pub by_raise : (P : Way → Type 0) → ((e : ℕ) → P (ByRaise e)) → (y : Way) → IsRaise y → P y
+by_raise P f y h = by (raised_by y) refl h
+  where
+    by : (o : Option ℕ) → raised_by y ≡ o → IsThere o → P y
+    by None is g = absurd g
+    by (Some e) is g = subst P (sym (raised_is y e is)) (f e)
 
 module _ (ask : Ask) (code : Code) where
   -- from s to another state in at most 64 steps a tick and b more, and in no fewer than were taken from the clock
@@ -233,15 +266,13 @@ module _ (ask : Ask) (code : Code) (Before Fits : Option Way → World → Type 
 
 module _ (ask : Ask) (code : Code) (Fits : Option Way → World → Type 0) where
   -- statements one after another, where the first may leave
-  pub in_row : (b h b1 h1 d e : ℕ) (s : State) (c : ℕ) (x : Landing) (v : List ℕ) (place place1 : ℕ) (k : List Frame) (ops : List ℕ) (o : Out Done) (f : Act Done) → b + b1 ≤ d → h ≤ e → b + h1 ≤ e → Runs ask code Fits b h s c (arrives x v place k ops) o → ((c1 : ℕ) (l : Log) (w : World) → c1 ≤ c → Fits None w → Runs ask code Fits b1 h1 (at v place k ops l w) c1 (arrives x v place1 k ops) (f c1 l w)) → Runs ask code Fits d e s c (arrives x v place1 k ops) (bind o (on_goes (λ _. f)))
+  pub in_row : (b h b1 h1 d e : ℕ) (s : State) (c : ℕ) (x : Target) (v : List ℕ) (place place1 : ℕ) (k : List Frame) (ops : List ℕ) (o : Out Done) (f : Act Done) → b + b1 ≤ d → h ≤ e → b + h1 ≤ e → Runs ask code Fits b h s c (arrives x v place k ops) o → ((c1 : ℕ) (l : Log) (w : World) → c1 ≤ c → Fits None w → Runs ask code Fits b1 h1 (at v place k ops l w) c1 (arrives x v place1 k ops) (f c1 l w)) → Runs ask code Fits d e s c (arrives x v place1 k ops) (bind o (on_goes (λ _. f)))
   unfolding on_goes given
   in_row b h b1 h1 d e s c x v place place1 k ops o f le he fe a z = both ask code Fits Fits b h b1 h1 d e s c (arrives x v place k ops) (arrives x v place1 k ops) o (on_goes (λ _. f)) le he fe a rest
     where
       rest : (r : Result Done) (c1 : ℕ) (l : Log) (w : World) → c1 ≤ c → Fits (way_of r) w → Runs ask code Fits b1 h1 (arrives x v place k ops r l w) c1 (arrives x v place1 k ops) (on_goes (λ _. f) r c1 l w)
       rest (Goes u) c1 l w le1 fits = z c1 l w le1 fits
-      rest (Leaves ByExit) c1 l w le1 fits = no_step ask code Fits b1 h1 (arrives x v place k ops (Leaves ByExit) l w) c1 0 (arrives x v place1 k ops) (Leaves ByExit) l w fits refl
-      rest (Leaves (ByReturn y)) c1 l w le1 fits = no_step ask code Fits b1 h1 (arrives x v place k ops (Leaves (ByReturn y)) l w) c1 0 (arrives x v place1 k ops) (Leaves (ByReturn y)) l w fits refl
-      rest (Leaves (ByRaise y)) c1 l w le1 fits = no_step ask code Fits b1 h1 (arrives x v place k ops (Leaves (ByRaise y)) l w) c1 0 (arrives x v place1 k ops) (Leaves (ByRaise y)) l w fits refl
+      rest (Leaves y) c1 l w le1 fits = no_step ask code Fits b1 h1 (leads x y v k ops l w) c1 0 (arrives x v place1 k ops) (Leaves y) l w fits refl
 
   -- worlds of which less is true
   pub weaker : {A : Type 0} (Less : Option Way → World → Type 0) (b h : ℕ) (s : State) (c : ℕ) (next : Result A → Log → World → State) (o : Out A) → ((y : Option Way) (w : World) → Fits y w → Less y w) → Runs ask code Fits b h s c next o → Runs ask code Less b h s c next o

@@ -12,7 +12,7 @@ use Rattle.ctl_code.specs.declared.kinds.Kind.TheVariants.{Operand, Block, Body}
 use Rattle.ctl_code.specs.declared.code.Code.{Code}
 use Rattle.ctl_code.specs.Windows.{depth, height, slot_over, variable_at}
 use Rattle.ctl_code.specs.Valid.{IsAtEnd, IsFine, Leads}
-use Rattle.ctl_gen.specs.Around.{Exits, FromMaster, FromLoop, Around, behind, exit_of, further, newest_at, out_to}
+use Rattle.ctl_gen.specs.Around.{Landing, OutOfMaster, BeforeLoop, Around, behind, land, further, newest_at, out_to}
 use Rattle.ctl_gen.specs.Layout.{leaves_code}
 use Rattle.ctl_gen.proofs.Place.{has_all}
 use Rattle.ctl_gen.proofs.Formed.{FormedAt, leads_at}
@@ -84,28 +84,28 @@ newest_there env s v h a names newest =
 -- Where a stretch can be left ----------------------------------------------------------------------
 
 module _ (code : Code) where
-  abbrev LeavesBy : ℕ → Exits → List Kind → Type 0
-  LeavesBy p FromMaster s = IsAtEnd s
-  LeavesBy p (FromLoop back) s = (landing : ℕ) × (landing + back ≡ p) × Leads code landing s
+  abbrev LeavesBy : ℕ → Landing → List Kind → Type 0
+  LeavesBy p OutOfMaster s = IsAtEnd s
+  LeavesBy p (BeforeLoop back) s = (landing : ℕ) × (landing + back ≡ p) × Leads code landing s
 
-  -- an exit statement at a place leaves the newest master, or leads back to a landing, before which the same stands
+  -- control at a place leaves the newest master, or goes back to a landing, before which the same stands
   abbrev pub CanLeave : ℕ → Around → Type 0
-  CanLeave p a = LeavesBy p a.exits a.stack
+  CanLeave p a = LeavesBy p a.landing a.stack
 
-  left_fine : (p : ℕ) (e : Exits) (s : List Kind) → LeavesBy p e s → IsFine code p (exit_of e) s
-  left_fine p FromMaster s h = h
-  left_fine p (FromLoop back) s (landing, from, lead) =
+  left_fine : (p : ℕ) (e : Landing) (s : List Kind) → LeavesBy p e s → IsFine code p (land e) s
+  left_fine p OutOfMaster s h = h
+  left_fine p (BeforeLoop back) s (landing, from, lead) =
       let count : back ≤ p = omega (arith, from) in
       let there : landing ≡ p - back = omega (arith, from) in
       (count, leads_at code landing (p - back) s there lead)
 
   pub leaves_formed : (p : ℕ) (a : Around) → CanLeave p a → FormedAt code p (leaves_code a) a.stack (Some a.stack)
-  leaves_formed p a can h = (h.0, (left_fine p a.exits a.stack can, tt))
+  leaves_formed p a can h = (h.0, (left_fine p a.landing a.stack can, tt))
 
-  left_further : (p n q : ℕ) (e : Exits) (s : List Kind) → p + n ≡ q → LeavesBy p e s → LeavesBy q (further n e) s
-  left_further p n q FromMaster s same h = h
-  left_further p n q (FromLoop back) s same (landing, from, lead) = (landing, omega (arith, from, same), lead)
+  left_further : (p n q : ℕ) (e : Landing) (s : List Kind) → p + n ≡ q → LeavesBy p e s → LeavesBy q (further n e) s
+  left_further p n q OutOfMaster s same h = h
+  left_further p n q (BeforeLoop back) s same (landing, from, lead) = (landing, omega (arith, from, same), lead)
 
   -- so many instructions further on
   pub leave_behind : (p n q : ℕ) (a : Around) → p + n ≡ q → CanLeave p a → CanLeave q (behind n a)
-  leave_behind p n q a same h = left_further p n q a.exits a.stack same h
+  leave_behind p n q a same h = left_further p n q a.landing a.stack same h

@@ -1,32 +1,32 @@
--- Loops (5.5, 5.7): each turn takes one from the clock when its statements begin. An exit statement leads to the landing before the first
--- turn, and that behind the loop.
+-- Loops (5.5, 5.7): each turn takes one from the clock when its statements begin. Control that leaves a loop lands before the first turn,
+-- and that leads behind the loop.
 use Rattle.std.proofs.Common.{◌≡◌, ℕ, zero, suc, ◌+◌, ◌-◌, ◌≤◌, List, [], ◌∷◌, ◌++◌, length, Some, Bool, true, false, refl, sym, ap, ◌∙◌, subst, arith, length-append, inl}
 use Rattle.std.specs.Prelude.{slice_get, if◌then◌else◌}
 use Rattle.ctl_program.specs.declared.types.Ty.TheVariants.{Boolean}
 use Rattle.ctl_meaning.specs.World.{Log, World}
 use Rattle.ctl_meaning.specs.Lists.{opened_lists}
 use Rattle.ctl_meaning.specs.Choice.{Ask}
-use Rattle.ctl_meaning.specs.Outcome.{Way, ByExit, ByReturn, ByRaise, Result, Goes, Leaves, Act, Done, add, bind, on_goes, leave_by, done, nothing, ticked, either, opened_outcome}
+use Rattle.ctl_meaning.specs.Outcome.{completes_loop, Gives, Way, ByRaise, Result, Goes, Leaves, Act, Done, add, bind, on_goes, done, ticked, either, opened_outcome}
 use Rattle.ctl_meaning.specs.Numbers.{is_true}
 use Rattle.ctl_meaning.specs.Types.{Tables}
 use Rattle.ctl_meaning.specs.Names.{scalar_of}
-use Rattle.ctl_meaning.specs.Statements.{scalar, leaving, turned, turns, loop, one_turn, while}
+use Rattle.ctl_meaning.specs.Statements.{leaving, turned, turns, loop, one_turn, while}
 use Rattle.ctl_code.specs.declared.code.Instr.TheVariants as InstrOf
 use Rattle.ctl_code.specs.declared.code.Code.{Code}
 use Rattle.ctl_code.specs.declared.kinds.Kind.{Kind}
 use Rattle.ctl_code.specs.States.{Frame, State}
 use Rattle.ctl_code.specs.Table.{by_unless}
 use Rattle.ctl_code.specs.Steps.{moved, step}
-use Rattle.ctl_gen.specs.Around.{Line, Exits, FromMaster, FromLoop, Around, behind, exit_of}
+use Rattle.ctl_gen.specs.Around.{Line, Landing, OutOfMaster, BeforeLoop, Around, behind, land}
 use Rattle.ctl_gen.specs.Values.{ValueCode, held}
-use Rattle.ctl_gen.specs.Layout.{in_loop, loop_code, leaves_code, test_code, test_length}
+use Rattle.ctl_gen.specs.Layout.{in_loop, loop_code, test_code, test_length}
 use Rattle.ctl_gen.proofs.Place.{Laid, laid_front, laid_back}
 use Rattle.ctl_gen.proofs.Worlds.{Since, Kept}
 use Rattle.ctl_gen.proofs.Setting.{Sees}
 use Rattle.ctl_gen.proofs.Cells.{here, by_code, waiting, Stays, taking_is}
 use Rattle.ctl_gen.proofs.Expressions.{Value, held_holds, held_then}
 use Rattle.ctl_gen.proofs.Does.{Does}
-use Rattle.ctl_gen.proofs.Follow.{IsGoing, Runs, Landing, On, landing_of, landing_further, landed_on, at, transferred, arrives, added, within, one_step, last_step, no_step, both, arriving, left_behind, bind_add, bind_bind}
+use Rattle.ctl_gen.proofs.Follow.{IsGoing, Runs, Target, On, target_of, landed_on, at, transferred, arrives, added, within, one_step, last_step, no_step, both, arriving, left_behind, bind_add, bind_bind, lands}
 
 module _ (ask : Ask) (k : Tables) (code : Code) (bound : ℕ) where
   -- a turn, from the step that begins it, and what follows
@@ -48,16 +48,18 @@ module _ (ask : Ask) (k : Tables) (code : Code) (bound : ℕ) where
   Lands d landing ks over place ops = (l : Log) (w : World) → step ask code (at d landing ks over l w) ≡ at d place ks ops l w
 
   -- a loop is left
-  pub loop_ends : (e : Landing) (d : List ℕ) (landing q place : ℕ) (ks : List Frame) (over ops : List ℕ) (w0 : World) (again : Act Done) → Lands d landing ks over place ops → (y : Way) (c : ℕ) (l : Log) (w : World) → Since k code w0 w → Runs ask code (Kept k code w0) 4 4 (arrives (On landing) d q ks over (Leaves y) l w) c (arrives e d place ks ops) (turned again (Leaves y) c l w)
+  pub loop_ends : (e : Target) (d : List ℕ) (landing q place : ℕ) (ks : List Frame) (over ops : List ℕ) (w0 : World) (again : Act Done) → Lands d landing ks over place ops → (y : Way) (c : ℕ) (l : Log) (w : World) → Since k code w0 w → Runs ask code (Kept k code w0) 4 4 (arrives (On landing) d q ks over (Leaves y) l w) c (arrives e d place ks ops) (turned again (Leaves y) c l w)
   unfolding turned opened_outcome
-  loop_ends e d landing q place ks over ops w0 again lands ByExit c l w fits = last_step ask code (Kept k code w0) 4 4 _ c 0 (arrives e d place ks ops) (Goes tt) l w (omega arith) fits (lands l w)
-  loop_ends e d landing q place ks over ops w0 again lands (ByReturn u) c l w fits = no_step ask code (Kept k code w0) 4 4 _ c 0 (arrives e d place ks ops) (Leaves (ByReturn u)) l w fits refl
-  loop_ends e d landing q place ks over ops w0 again lands (ByRaise x) c l w fits = no_step ask code (Kept k code w0) 4 4 _ c 0 (arrives e d place ks ops) (Leaves (ByRaise x)) l w fits refl
+  loop_ends e d landing q place ks over ops w0 again lands y c l w fits = by (completes_loop y) refl
+    where
+      by : (b : Bool) → completes_loop y ≡ b → Runs ask code (Kept k code w0) 4 4 (if b then at d landing ks over l w else transferred y ks l w) c (arrives e d place ks ops) (Gives (if b then Goes tt else Leaves y) 0 c l w)
+      by true is = last_step ask code (Kept k code w0) 4 4 _ c 0 (arrives e d place ks ops) (Goes tt) l w (omega arith) fits (lands l w)
+      by false is = no_step ask code (Kept k code w0) 4 4 _ c 0 (arrives e d place ks ops) (Leaves y) l w fits (sym (ap (λ b. if b then landed_on e d ks ops l w else transferred y ks l w) is))
 
   -- Without an iteration scheme ---------------------------------------------------------------------
 
   -- the turns of a loop, from the step that begins one of them
-  turns_run : (x : Around → List Line) (act : List ℕ → Act Done) → Does ask k code bound x act → (s : List Kind) (n : ℕ) (e : Landing) (w0 : World) (d : List ℕ) (start place : ℕ) (ks : List Frame) (ops : List ℕ) (c : ℕ) (l : Log) (w : World) (s0 : State) → c ≤ n → c ≤ bound → Since k code w0 w → Sees d s w0 → Laid code start (x (in_loop s) ++ (InstrOf.Back (length (x (in_loop s))), s) ∷ []) → Lands d (start - 1) ks ops place ops → step ask code s0 ≡ at d start ks ops l w → IsGoing s0 → s0.log ≡ l → Runs ask code (Kept k code w0) 1 1 s0 c (arrives e d place ks ops) (turns n (one_turn (act d)) c l w)
+  turns_run : (x : Around → List Line) (act : List ℕ → Act Done) → Does ask k code bound x act → (s : List Kind) (n : ℕ) (e : Target) (w0 : World) (d : List ℕ) (start place : ℕ) (ks : List Frame) (ops : List ℕ) (c : ℕ) (l : Log) (w : World) (s0 : State) → c ≤ n → c ≤ bound → Since k code w0 w → Sees d s w0 → Laid code start (x (in_loop s) ++ (InstrOf.Back (length (x (in_loop s))), s) ∷ []) → Lands d (start - 1) ks ops place ops → step ask code s0 ≡ at d start ks ops l w → IsGoing s0 → s0.log ≡ l → Runs ask code (Kept k code w0) 1 1 s0 c (arrives e d place ks ops) (turns n (one_turn (act d)) c l w)
   unfolding turns turned opened_outcome
   turns_run x act does s zero e w0 d start place ks ops c l w s0 fuel le fits sees has lands first going logged = record { n = 0; in_time = omega arith; logged = logged; going = going; why = inl (omega (arith, fuel)) }
   turns_run x act does s (suc n) e w0 d start place ks ops c l w s0 fuel le fits sees has lands first going logged =
@@ -82,10 +84,10 @@ module _ (ask : Ask) (k : Tables) (code : Code) (bound : ℕ) where
       let b = x (in_loop s) in
       let far : place + 1 + 1 + (length b + 1) ≡ place + length (loop_code b s) = omega (arith, length-append b ((InstrOf.Back (length b), s) ∷ [])) in
       let landing : place + 1 ≡ place + 1 + 1 - 1 = omega arith in
-      arriving ask code (Kept k code w0) 0 0 _ c _ _ _ (λ r l1 w1. ap (λ p. arrives (landing_of a.exits place) d p ks ops r l1 w1) far)
+      arriving ask code (Kept k code w0) 0 0 _ c _ _ _ (λ r l1 w1. ap (λ p. arrives (lands a place) d p ks ops r l1 w1) far)
       (added ask code (Kept k code w0) 1 1 1 0 0 _ c _ _ (omega arith) (omega arith)
-      (left_behind ask code (Kept k code w0) 1 1 1 1 _ c (arrives (landing_of a.exits place) d (place + 1 + 1 + (length b + 1)) ks ops) _ (omega arith) (omega arith)
-      (turns_run x act does s (suc c) (landing_of a.exits place) w0 d (place + 1 + 1) (place + 1 + 1 + (length b + 1)) ks ops c l w (at d place ks ops l w) (omega arith) le fits sees has.2.2
+      (left_behind ask code (Kept k code w0) 1 1 1 1 _ c (arrives (lands a place) d (place + 1 + 1 + (length b + 1)) ks ops) _ (omega arith) (omega arith)
+      (turns_run x act does s (suc c) (lands a place) w0 d (place + 1 + 1) (place + 1 + 1 + (length b + 1)) ks ops c l w (at d place ks ops l w) (omega arith) le fits sees has.2.2
       (λ l1 w1. subst (λ p. step ask code (at d p ks ops l1 w1) ≡ at d (place + 1 + 1 + (length b + 1)) ks ops l1 w1) landing (by_code ask code d (place + 1) ks ops l1 w1 (InstrOf.Skip (length b + 1)) has.2.0))
       (by_code ask code d place ks ops l w (InstrOf.Skip 1) has.0) tt refl)))
 
@@ -120,7 +122,7 @@ module _ (ask : Ask) (k : Tables) (code : Code) (bound : ℕ) where
   abbrev turn_of : ValueCode → (Around → List Line) → List Kind → List Line
   turn_of y x s = test_code y s (length (x (behind (test_length y s) (in_loop s))) + 1) ++ x (behind (test_length y s) (in_loop s))
 
-  whiles_run : (y : ValueCode) (test : List ℕ → Act (List ℕ)) → ((w0 : World) → Value ask k code (Since k code w0) y test) → (x : Around → List Line) (act : List ℕ → Act Done) → Does ask k code bound x act → (s : List Kind) (n : ℕ) (e : Landing) (w0 : World) (d : List ℕ) (start place : ℕ) (ks : List Frame) (ops : List ℕ) (c : ℕ) (l : Log) (w : World) → c ≤ n → c ≤ bound → Since k code w0 w → Sees d s w0 → Laid code start (turn_of y x s ++ (InstrOf.Back (length (turn_of y x s)), s) ∷ []) → Lands d (start - 1) ks ops place ops → start + length (turn_of y x s) + 1 ≡ place → Runs ask code (Kept k code w0) 0 1 (at d start ks ops l w) c (arrives e d place ks ops) (turns n (while (test d) (act d)) c l w)
+  whiles_run : (y : ValueCode) (test : List ℕ → Act (List ℕ)) → ((w0 : World) → Value ask k code (Since k code w0) y test) → (x : Around → List Line) (act : List ℕ → Act Done) → Does ask k code bound x act → (s : List Kind) (n : ℕ) (e : Target) (w0 : World) (d : List ℕ) (start place : ℕ) (ks : List Frame) (ops : List ℕ) (c : ℕ) (l : Log) (w : World) → c ≤ n → c ≤ bound → Since k code w0 w → Sees d s w0 → Laid code start (turn_of y x s ++ (InstrOf.Back (length (turn_of y x s)), s) ∷ []) → Lands d (start - 1) ks ops place ops → start + length (turn_of y x s) + 1 ≡ place → Runs ask code (Kept k code w0) 0 1 (at d start ks ops l w) c (arrives e d place ks ops) (turns n (while (test d) (act d)) c l w)
   unfolding turns while turned opened_outcome scalar_of opened_lists
   whiles_run y test value x act does s zero e w0 d start place ks ops c l w fuel le fits sees has lands far = record { n = 0; in_time = omega arith; logged = refl; going = tt; why = inl (omega (arith, fuel)) }
   whiles_run y test value x act does s (suc n) e w0 d start place ks ops c l w fuel le fits sees has lands far =
@@ -184,61 +186,17 @@ module _ (ask : Ask) (k : Tables) (code : Code) (bound : ℕ) where
       let far : place + 1 + 1 + length b + 1 ≡ place + length (loop_code b s) = omega (arith, length-append b ((InstrOf.Back (length b), s) ∷ [])) in
       let landing : place + 1 ≡ place + 1 + 1 - 1 = omega arith in
       let skipped : place + 1 + 1 + (length b + 1) ≡ place + 1 + 1 + length b + 1 = omega arith in
-      arriving ask code (Kept k code w0) 0 0 _ c _ _ _ (λ r l1 w1. ap (λ p. arrives (landing_of a.exits place) d p ks ops r l1 w1) far)
+      arriving ask code (Kept k code w0) 0 0 _ c _ _ _ (λ r l1 w1. ap (λ p. arrives (lands a place) d p ks ops r l1 w1) far)
       (added ask code (Kept k code w0) 1 2 2 0 0 _ c _ _ (omega arith) (omega arith)
-      (left_behind ask code (Kept k code w0) 1 2 2 2 _ c (arrives (landing_of a.exits place) d (place + 1 + 1 + length b + 1) ks ops) _ (omega arith) (omega arith)
+      (left_behind ask code (Kept k code w0) 1 2 2 2 _ c (arrives (lands a place) d (place + 1 + 1 + length b + 1) ks ops) _ (omega arith) (omega arith)
       (one_step ask code (Kept k code w0) 0 1 1 2 _ _ c c _ _ (omega arith) (omega arith) (omega arith) (omega arith) (by_code ask code d place ks ops l w (InstrOf.Skip 1) has.0)
-      (whiles_run y test value x act does s (suc c) (landing_of a.exits place) w0 d (place + 1 + 1) (place + 1 + 1 + length b + 1) ks ops c l w (omega arith) le fits sees has.2.2
+      (whiles_run y test value x act does s (suc c) (lands a place) w0 d (place + 1 + 1) (place + 1 + 1 + length b + 1) ks ops c l w (omega arith) le fits sees has.2.2
       (λ l1 w1. subst (λ p. step ask code (at d p ks ops l1 w1) ≡ at d (place + 1 + 1 + length b + 1) ks ops l1 w1) landing (by_code ask code d (place + 1) ks ops l1 w1 (InstrOf.Skip (length b + 1)) has.2.0 ∙ ap (λ p. at d p ks ops l1 w1) skipped))
       refl))))
 
-  -- Exit statements ---------------------------------------------------------------------------------
+  -- Departures ---------------------------------------------------------------------------------------
 
-  -- the instruction of an exit statement
-  pub leave_step : (x : Exits) (d : List ℕ) (place : ℕ) (ks : List Frame) (ops : List ℕ) (l : Log) (w : World) → slice_get code.instructions.items place ≡ Some (exit_of x) → step ask code (at d place ks ops l w) ≡ landed_on (landing_of x place) d ks ops l w
-  leave_step FromMaster d place ks ops l w has = by_code ask code d place ks ops l w InstrOf.Exit has
-  leave_step (FromLoop back) d place ks ops l w has = by_code ask code d place ks ops l w (InstrOf.Back back) has
-
-  pub exit_runs : Does ask k code bound leaves_code (λ d. ticked (leave_by ByExit))
-  unfolding opened_outcome
-  exit_runs a w0 d place ks ops c l w le fits sees has = last_step ask code (Kept k code w0) 0 0 _ c 1 (arrives (landing_of a.exits place) d (place + 1) ks ops) (Leaves ByExit) l w (omega arith) fits (leave_step a.exits d place ks ops l w has.0)
-
-  pub exit_when_runs : (y : ValueCode) (test : List ℕ → Act (List ℕ)) → ((w0 : World) → Value ask k code (Since k code w0) y test) → Does ask k code bound (λ a. test_code y a.stack 1 ++ leaves_code (behind (test_length y a.stack) a)) (λ d. ticked (scalar (test d) (λ b. either (is_true b) (leave_by ByExit) nothing)))
-  unfolding scalar opened_outcome scalar_of opened_lists
-  exit_when_runs y test value a w0 d place ks ops c l w le fits sees has =
-      added ask code (Kept k code w0) 1 0 0 0 0 _ c _ _ (omega arith) (omega arith)
-      (test_runs (on_goes (λ u. either (is_true (scalar_of u)) (leave_by ByExit) nothing)) w0 y test (value w0) s 1 d place ks ops c l w (arrives e d end ks ops) fits sees (laid_front code place (test_code y s 1) (leaves_code a1) has)
-      (λ m c1 l1 w1 s0 lo fits1 first going logged. by m c1 l1 w1 s0 fits1 (is_true m) refl first)
-      (λ z c1 l1 w1 lo fits1. no_step ask code (Kept k code w0) 8 8 _ c1 0 (arrives e d end ks ops) (Leaves (ByRaise z)) l1 w1 fits1 refl))
-    where
-      s : List Kind
-      s = a.stack
-
-      a1 : Around
-      a1 = behind (test_length y a.stack) a
-
-      e : Landing
-      e = landing_of a.exits place
-
-      end : ℕ
-      end = place + length (test_code y a.stack 1 ++ leaves_code (behind (test_length y a.stack) a))
-
-      test_size : length (test_code y a.stack 1) ≡ test_length y a.stack
-      test_size = omega (arith, length-append (held y Boolean a.stack).code ((InstrOf.Unless (held y Boolean a.stack).cell 1, (held y Boolean a.stack).after) ∷ []))
-
-      far : place + test_length y a.stack + 1 ≡ place + length (test_code y a.stack 1 ++ leaves_code (behind (test_length y a.stack) a))
-      far = omega (arith, test_size, length-append (test_code y a.stack 1) (leaves_code (behind (test_length y a.stack) a)))
-
-      there : slice_get code.instructions.items (place + test_length y a.stack) ≡ Some (exit_of (behind (test_length y a.stack) a).exits)
-      there = subst (λ p. slice_get code.instructions.items (place + p) ≡ Some (exit_of a1.exits)) test_size (laid_back code place (test_code y a.stack 1) (leaves_code a1) has).0
-
-      by : (m c1 : ℕ) (l1 : Log) (w1 : World) (s0 : State) → Since k code w0 w1 → (t : Bool) → is_true m ≡ t → step ask code s0 ≡ at d (place + test_length y a.stack + (if is_true m then 0 else 1)) ks ops l1 w1 → Runs ask code (Kept k code w0) 8 8 s0 c1 (arrives (landing_of a.exits place) d (place + length (test_code y a.stack 1 ++ leaves_code (behind (test_length y a.stack) a))) ks ops) (either (is_true m) (leave_by ByExit) nothing c1 l1 w1)
-      by m c1 l1 w1 s0 fits1 true t first =
-          let e0 : place + test_length y s + 0 ≡ place + test_length y s = omega arith in
-          subst (λ z. Runs ask code (Kept k code w0) 8 8 s0 c1 (arrives e d end ks ops) (either z (leave_by ByExit) nothing c1 l1 w1)) (sym t)
-          (one_step ask code (Kept k code w0) 7 7 8 8 s0 (at d (place + test_length y s) ks ops l1 w1) c1 c1 (arrives e d end ks ops) (leave_by ByExit c1 l1 w1) (omega arith) (omega arith) (omega arith) (omega arith) (first ∙ ap (λ z. at d (place + test_length y s + (if z then 0 else 1)) ks ops l1 w1) t ∙ ap (λ p. at d p ks ops l1 w1) e0)
-          (last_step ask code (Kept k code w0) 7 7 (at d (place + test_length y s) ks ops l1 w1) c1 0 (arrives e d end ks ops) (Leaves ByExit) l1 w1 (omega arith) fits1
-          (leave_step a1.exits d (place + test_length y s) ks ops l1 w1 there ∙ ap (λ (x : Landing). landed_on x d ks ops l1 w1) (landing_further a.exits (test_length y s) place))))
-      by m c1 l1 w1 s0 fits1 false t first =
-          subst (λ z. Runs ask code (Kept k code w0) 8 8 s0 c1 (arrives e d end ks ops) (either z (leave_by ByExit) nothing c1 l1 w1)) (sym t)
-          (last_step ask code (Kept k code w0) 8 8 s0 c1 0 (arrives e d end ks ops) (Goes tt) l1 w1 (omega arith) fits1 (first ∙ ap (λ z. at d (place + test_length y s + (if z then 0 else 1)) ks ops l1 w1) t ∙ ap (λ p. at d p ks ops l1 w1) far))
+  -- the instruction that leads to a landing
+  pub leave_step : (x : Landing) (d : List ℕ) (place : ℕ) (ks : List Frame) (ops : List ℕ) (l : Log) (w : World) → slice_get code.instructions.items place ≡ Some (land x) → step ask code (at d place ks ops l w) ≡ landed_on (target_of x place) d ks ops l w
+  leave_step OutOfMaster d place ks ops l w has = by_code ask code d place ks ops l w (land OutOfMaster) has
+  leave_step (BeforeLoop back) d place ks ops l w has = by_code ask code d place ks ops l w (land (BeforeLoop back)) has

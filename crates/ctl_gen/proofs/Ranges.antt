@@ -40,7 +40,7 @@ use Rattle.ctl_gen.proofs.Assign.{newest_is}
 use Rattle.ctl_gen.proofs.Expressions.{Value, value_runs}
 use Rattle.ctl_gen.proofs.Loops.{Lands, loop_ends, turn_runs}
 use Rattle.ctl_gen.proofs.Does.{Does}
-use Rattle.ctl_gen.proofs.Follow.{IsGoing, Runs, Landing, On, landing_of, at, arrives, added, within, last_step, no_step, arriving, left_behind}
+use Rattle.ctl_gen.proofs.Follow.{IsGoing, Runs, Target, On, at, arrives, added, within, last_step, no_step, arriving, left_behind, lands}
 
 -- Numbers and their cells ---------------------------------------------------------------------------
 
@@ -141,7 +141,7 @@ is_newest s v d parameter long known = by (out_to s v) (out_is d s v long) known
 
 module _ (ask : Ask) (k : Tables) (code : Code) (valid : IsValid code) (bound : ℕ) where
   -- one of the turns, from the step that begins it, and what follows
-  counted_turn : (x : Around → List Line) (act : List ℕ → Act Done) → Does ask k code bound x act → (s : List Kind) (v : Var) (z : ℤ) (again : Act Done) (e : Landing) (w0 : World) (d : List ℕ) (start place : ℕ) (ks : List Frame) (over ops : List ℕ) (c : ℕ) (l : Log) (w : World) (s0 : State) → c ≤ bound → Since k code w0 w → Sees d s w0 → Laid code start (x (in_loop (with_bounds s))) → Lands ask k code bound d (start - 1) ks over place ops → step ask code s0 ≡ at d start ks over l (set_slot (master_of d v) v.slot (Copies (cell_of z ∷ [])) w) → IsGoing s0 → s0.log ≡ l → ((c1 : ℕ) (l1 : Log) (w2 : World) → c1 + 1 ≤ c → Since k code w0 w2 → Runs ask code (Kept k code w0) 4 4 (at d (start + length (x (in_loop (with_bounds s)))) ks over l1 w2) c1 (arrives e d place ks ops) (again c1 l1 w2)) → Runs ask code (Kept k code w0) 1 1 s0 c (arrives e d place ks ops) (bind (one_turn (set_loop d v z >> act d) c l w) (turned again))
+  counted_turn : (x : Around → List Line) (act : List ℕ → Act Done) → Does ask k code bound x act → (s : List Kind) (v : Var) (z : ℤ) (again : Act Done) (e : Target) (w0 : World) (d : List ℕ) (start place : ℕ) (ks : List Frame) (over ops : List ℕ) (c : ℕ) (l : Log) (w : World) (s0 : State) → c ≤ bound → Since k code w0 w → Sees d s w0 → Laid code start (x (in_loop (with_bounds s))) → Lands ask k code bound d (start - 1) ks over place ops → step ask code s0 ≡ at d start ks over l (set_slot (master_of d v) v.slot (Copies (cell_of z ∷ [])) w) → IsGoing s0 → s0.log ≡ l → ((c1 : ℕ) (l1 : Log) (w2 : World) → c1 + 1 ≤ c → Since k code w0 w2 → Runs ask code (Kept k code w0) 4 4 (at d (start + length (x (in_loop (with_bounds s)))) ks over l1 w2) c1 (arrives e d place ks ops) (again c1 l1 w2)) → Runs ask code (Kept k code w0) 1 1 s0 c (arrives e d place ks ops) (bind (one_turn (set_loop d v z >> act d) c l w) (turned again))
   unfolding turned set_loop opened_outcome
   counted_turn x act does s v z again e w0 d start place ks over ops c l w s0 le fits sees has lands first going logged more =
       let b = x (in_loop (with_bounds s)) in
@@ -154,7 +154,7 @@ module _ (ask : Ask) (k : Tables) (code : Code) (valid : IsValid code) (bound : 
       (λ y c1 l1 w2 lo fits1. loop_ends ask k code bound e d (start - 1) (start + length b) place ks over ops w0 again lands y c1 l1 w2 fits1))
 
   -- the turns from one of them on, from the step that begins it
-  counted_run : (x : Around → List Line) (act : List ℕ → Act Done) → Does ask k code bound x act → (s : List Kind) (v : Var) (low parameter : ℕ) (way : Direction) (n a b : ℕ) (e : Landing) (w0 : World) (d : List ℕ) (start place : ℕ) (ks : List Frame) (ops : List ℕ) (c : ℕ) (l : Log) (w : World) (s0 : State) → signed b -ℤ signed a ≡ pos n → master_of d v ≡ last_of d → c ≤ bound → Since k code w0 w → Sees d s w0 → Laid code start (x (in_loop (with_bounds s))) → slice_get code.instructions.items (start + length (x (in_loop (with_bounds s)))) ≡ Some (InstrOf.Next low v.slot parameter way (length (x (in_loop (with_bounds s))))) → start + length (x (in_loop (with_bounds s))) + 1 ≡ place → ((b1 a1 : ℕ) → Lands ask k code bound d (start - 1) ks (b1 ∷ a1 ∷ ops) place ops) → step ask code s0 ≡ at d start ks (b ∷ a ∷ ops) l (with_parameter d v.slot (present way a b) w) → IsGoing s0 → s0.log ≡ l → Runs ask code (Kept k code w0) 1 1 s0 c (arrives e d place ks ops) (for_turns (suc n) (next_value way) (λ z. set_loop d v z >> act d) (value_at way a b) c l w)
+  counted_run : (x : Around → List Line) (act : List ℕ → Act Done) → Does ask k code bound x act → (s : List Kind) (v : Var) (low parameter : ℕ) (way : Direction) (n a b : ℕ) (e : Target) (w0 : World) (d : List ℕ) (start place : ℕ) (ks : List Frame) (ops : List ℕ) (c : ℕ) (l : Log) (w : World) (s0 : State) → signed b -ℤ signed a ≡ pos n → master_of d v ≡ last_of d → c ≤ bound → Since k code w0 w → Sees d s w0 → Laid code start (x (in_loop (with_bounds s))) → slice_get code.instructions.items (start + length (x (in_loop (with_bounds s)))) ≡ Some (InstrOf.Next low v.slot parameter way (length (x (in_loop (with_bounds s))))) → start + length (x (in_loop (with_bounds s))) + 1 ≡ place → ((b1 a1 : ℕ) → Lands ask k code bound d (start - 1) ks (b1 ∷ a1 ∷ ops) place ops) → step ask code s0 ≡ at d start ks (b ∷ a ∷ ops) l (with_parameter d v.slot (present way a b) w) → IsGoing s0 → s0.log ≡ l → Runs ask code (Kept k code w0) 1 1 s0 c (arrives e d place ks ops) (for_turns (suc n) (next_value way) (λ z. set_loop d v z >> act d) (value_at way a b) c l w)
   unfolding for_turns then_always nothing given
   counted_run x act does s v low parameter way zero a b e w0 d start place ks ops c l w s0 left newest le fits sees has next far lands first going logged =
       counted_turn x act does s v (value_at way a b) nothing e w0 d start place ks (b ∷ a ∷ ops) ops c l w s0 le fits sees has (lands b a) (first ∙ ap (at d start ks (b ∷ a ∷ ops) l) (parameter_is a b w)) going logged
@@ -189,7 +189,7 @@ module _ (ask : Ask) (k : Tables) (code : Code) (valid : IsValid code) (bound : 
           ∙ ap (λ p. at d p ks (high_after way a b ∷ low_after way a b ∷ ops) l1 (with_parameter d v.slot (present way (low_after way a b) (high_after way a b)) w2)) e1
 
   -- all the turns, from the instruction that looks at the bounds
-  ranged : (x : Around → List Line) (act : List ℕ → Act Done) → Does ask k code bound x act → (s : List Kind) (v : Var) (way : Direction) (o : Option ℕ) (a b : ℕ) (e : Landing) (w0 : World) (d : List ℕ) (q : ℕ) (ks : List Frame) (ops : List ℕ) (c : ℕ) (l : Log) (w : World) → newest_at s v ≡ o → c ≤ bound → Since k code w0 w → Sees d s w0 → Laid code q (turns_code o v way (x (in_loop (with_bounds s))) s) → Runs ask code (Kept k code w0) 1 1 (at d q ks (b ∷ a ∷ ops) l w) c (arrives e d (q + 1 + (length (x (in_loop (with_bounds s))) + 2)) ks ops) (for way (λ z. set_loop d v z >> act d) (signed a) (signed b) c l w)
+  ranged : (x : Around → List Line) (act : List ℕ → Act Done) → Does ask k code bound x act → (s : List Kind) (v : Var) (way : Direction) (o : Option ℕ) (a b : ℕ) (e : Target) (w0 : World) (d : List ℕ) (q : ℕ) (ks : List Frame) (ops : List ℕ) (c : ℕ) (l : Log) (w : World) → newest_at s v ≡ o → c ≤ bound → Since k code w0 w → Sees d s w0 → Laid code q (turns_code o v way (x (in_loop (with_bounds s))) s) → Runs ask code (Kept k code w0) 1 1 (at d q ks (b ∷ a ∷ ops) l w) c (arrives e d (q + 1 + (length (x (in_loop (with_bounds s))) + 2)) ks ops) (for way (λ z. set_loop d v z >> act d) (signed a) (signed b) c l w)
   unfolding count_up for_turns nothing given
   ranged x act does s v way None a b e w0 d q ks ops c l w known le fits sees has = absurd (never_missing code valid q (with_bounds s) has.0 has.1)
   ranged x act does s v way (Some parameter) a b e w0 d q ks ops c l w known le fits sees has =
@@ -246,8 +246,8 @@ module _ (ask : Ask) (k : Tables) (code : Code) (valid : IsValid code) (bound : 
       s : List Kind
       s = ar.stack
 
-      e : Landing
-      e = landing_of ar.exits place
+      e : Target
+      e = lands ar place
 
       is : List Line
       is = low.code (new_operand ar.stack) Integer ar.stack

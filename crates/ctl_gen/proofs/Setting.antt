@@ -6,21 +6,21 @@ use Rattle.ctl_tree.specs.declared.event.Event.{Event}
 use Rattle.ctl_meaning.specs.World.{Log, World, Slot}
 use Rattle.ctl_meaning.specs.Lists.{last_of}
 use Rattle.ctl_meaning.specs.Choice.{Ask}
-use Rattle.ctl_meaning.specs.Outcome.{Way, ByExit, ByReturn, ByRaise, Result, Goes, Leaves, Tried, Fine, Raised, tell}
+use Rattle.ctl_meaning.specs.Outcome.{Way, Result, tell}
 use Rattle.ctl_meaning.specs.Types.{Tables, operation}
 use Rattle.ctl_meaning.specs.Names.{OfSubprogram, Call, Default, Tools}
 use Rattle.ctl_code.specs.declared.code.Entry.{Entry}
 use Rattle.ctl_code.specs.declared.code.Instr.TheVariants as InstrOf
 use Rattle.ctl_code.specs.declared.code.Code.{Code}
 use Rattle.ctl_code.specs.declared.kinds.Kind.{Kind}
-use Rattle.ctl_code.specs.States.{Handed, Complete, Frame, State}
-use Rattle.ctl_code.specs.Table.{enter_body, operation_of}
+use Rattle.ctl_code.specs.States.{Frame, State}
+use Rattle.ctl_code.specs.Table.{ended, enter_body, operation_of}
 use Rattle.ctl_code.specs.Steps.{moved, step}
 use Rattle.ctl_code.specs.Valid.{IsInScope, IsValid, kinds_at}
 use Rattle.ctl_code.specs.Windows.{depth}
 use Rattle.ctl_gen.specs.Run.{IsBody}
 use Rattle.ctl_gen.proofs.Worlds.{Each, IsSmall, Since, home}
-use Rattle.ctl_gen.proofs.Follow.{Runs, gives}
+use Rattle.ctl_gen.proofs.Follow.{IsRaise, Runs, gives}
 
 -- the machine's table names the operations of the record types, these are among these subprograms, and the code is well formed
 pub record Setting (k : Tables) (code : Code) : Type 0 where
@@ -42,21 +42,13 @@ pub record Sees (d : List ℕ) (s : List Kind) (w : World) : Type 0 where
   pub long : length d ≡ depth s
 
 -- what an execution gives to the frame that waits for it
-abbrev pub ended : {A : Type 0} → Result A → Tried Handed
-ended (Goes a) = Fine Complete
-ended (Leaves ByExit) = Fine Complete
-ended (Leaves (ByReturn v)) = Fine Complete
-ended (Leaves (ByRaise e)) = Raised e
-
 abbrev pub returns : {A : Type 0} → List Frame → Result A → Log → World → State
 returns ks r l w = gives ks (ended r) l w
 
 -- nothing but an exception leaves a body
 abbrev pub IsTold : Option Way → Type 0
 IsTold None = Unit {0}
-IsTold (Some ByExit) = ⊥
-IsTold (Some (ByReturn v)) = ⊥
-IsTold (Some (ByRaise e)) = Unit {0}
+IsTold (Some y) = IsRaise y
 
 abbrev pub Told : (k : Tables) (code : Code) → World → Option Way → World → Type 0
 Told k code w0 y w = IsTold y × Since k code w0 w

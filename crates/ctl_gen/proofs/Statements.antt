@@ -1,6 +1,6 @@
 -- The code of each construct does what the construct means, where the code of its parts does.
-use Rattle.std.proofs.Common.{◌≡◌, ℕ, ◌+◌, ◌-◌, ◌<◌, ◌≤◌, List, [], ◌∷◌, ◌++◌, length, map, Some, None, true, false, refl, sym, ap, ◌∙◌, arith, subst, length-append, append_assoc}
-use Rattle.std.specs.Prelude.{slice_get, replicate, ◌&&◌}
+use Rattle.std.proofs.Common.{◌≡◌, ℕ, ◌+◌, ◌-◌, ◌<◌, ◌≤◌, List, [], ◌∷◌, ◌++◌, length, map, Option, Some, None, true, false, refl, sym, ap, ◌∙◌, arith, subst, length-append, append_assoc, Bool}
+use Rattle.std.specs.Prelude.{slice_get, replicate, ◌&&◌, if◌then◌else◌}
 use Rattle.ctl_program.specs.declared.types.Ty.{Ty}
 use Rattle.ctl_program.specs.declared.types.Ty.TheVariants.{Integer, Count, Boolean, Address, Handle, Access, Record}
 use Rattle.ctl_program.specs.declared.statement.Item.{Item}
@@ -10,7 +10,7 @@ use Rattle.ctl_meaning.specs.Lists.{last_of, opened_lists}
 use Rattle.ctl_meaning.specs.Changes.{open_master, opened_changes}
 use Rattle.ctl_meaning.specs.Ledger.{layers_of, opened_ledger}
 use Rattle.ctl_meaning.specs.Choice.{Ask, picked}
-use Rattle.ctl_meaning.specs.Outcome.{ByExit, ByReturn, ByRaise, Result, Goes, Leaves, Gives, Act, Done, ◌>>◌, bind, on_goes, given, then_always, opened_outcome}
+use Rattle.ctl_meaning.specs.Outcome.{raised_by, leave_by, on_some, ByRaise, Result, Goes, Leaves, Gives, Act, Done, ◌>>◌, bind, on_goes, given, then_always, opened_outcome, completes_loop, Way}
 use Rattle.ctl_meaning.specs.Types.{Tables, category_of}
 use Rattle.ctl_meaning.specs.Names.{Default, Returned, Tools}
 use Rattle.ctl_meaning.specs.Names as Names
@@ -22,10 +22,10 @@ use Rattle.ctl_code.specs.declared.code.Code.{Code}
 use Rattle.ctl_code.specs.declared.kinds.Kind.{Kind}
 use Rattle.ctl_code.specs.declared.kinds.Kind.TheVariants as KindOf
 use Rattle.ctl_code.specs.States.{After, AfterBlock, Point, Frame, InMaster, State}
-use Rattle.ctl_code.specs.Table.{behind as goes_behind}
+use Rattle.ctl_code.specs.Table.{behind as goes_behind, on_at, transfers}
 use Rattle.ctl_code.specs.Steps.{moved, step}
 use Rattle.ctl_code.specs.Windows.{depth}
-use Rattle.ctl_gen.specs.Around.{Line, Exits, FromMaster, FromLoop, Around, behind, exit_of, further as further_on}
+use Rattle.ctl_gen.specs.Around.{Line, Landing, OutOfMaster, BeforeLoop, Around, behind, land, further as further_on}
 use Rattle.ctl_gen.specs.Values.{ValueCode, value_code}
 use Rattle.ctl_gen.specs.Layout.{ArmCode, ItemCode, MasterCode, StatementCode, all, all_items, arms_code, arms_run, arms_texts, block, block_code, branches, in_master as in_new, inside, is_declared, item_code, leaves_code, turn_code}
 use Rattle.ctl_gen.proofs.Known.{both_true, plain_if, scalar_if}
@@ -41,7 +41,7 @@ use Rattle.ctl_gen.proofs.Evaluated.{value_means}
 use Rattle.ctl_gen.proofs.Branches.{Ends, arm_runs}
 use Rattle.ctl_gen.proofs.Loops.{leave_step}
 use Rattle.ctl_gen.proofs.Leave.{leaves, leave_runs}
-use Rattle.ctl_gen.proofs.Follow.{Runs, Landing, OutOf, landing_of, landing_further, landed_on, way_of, at, arrives, added, within as no_more_than, last_step, no_step, both, step_both_paid, arriving, left_behind, in_row}
+use Rattle.ctl_gen.proofs.Follow.{by_raise, raised_is, leads, leads_out, Runs, Target, OutOf, target_of, landing_further, landed_on, way_of, at, arrives, added, within as no_more_than, last_step, no_step, both, step_both_paid, arriving, left_behind, in_row, lands, transferred}
 
 last_is : (d : List ℕ) (n : ℕ) → last_of (d ++ n ∷ []) ≡ n
 unfolding opened_lists
@@ -50,18 +50,18 @@ last_is (x ∷ []) n = refl
 last_is (x ∷ y ∷ d) n = last_is (y ∷ d) n
 
 behind_both : (m n : ℕ) (a : Around) → behind (m + n) a ≡ behind n (behind m a)
-behind_both m n a = ap (λ e. record { stack = a.stack; exits = e }) (by a.exits)
+behind_both m n a = ap (λ e. record { stack = a.stack; landing = e }) (by a.landing)
   where
-    by : (e : Exits) → further_on (m + n) e ≡ further_on n (further_on m e)
-    by FromMaster = refl
-    by (FromLoop back) = let e : back + (m + n) ≡ back + m + n = omega arith in ap FromLoop e
+    by : (e : Landing) → further_on (m + n) e ≡ further_on n (further_on m e)
+    by OutOfMaster = refl
+    by (BeforeLoop back) = let e : back + (m + n) ≡ back + m + n = omega arith in ap BeforeLoop e
 
 next_after : (env : List ℕ) (slots : List Slot) (w : World) → (open_master env slots w).ledger.next_master ≡ w.ledger.next_master + 1
 unfolding opened_changes opened_ledger
 next_after env slots w = refl
 
--- the instructions of a statement behind another one, where an exit leads as before
-pub continues : (e : Exits) (n place : ℕ) (d : List ℕ) (q : ℕ) (ks : List Frame) (ops : List ℕ) (r : Result Done) (l : Log) (w : World) → arrives (landing_of (further_on n e) (place + n)) d q ks ops r l w ≡ arrives (landing_of e place) d q ks ops r l w
+-- the instructions of a statement behind another one, from where control lands as before
+pub continues : (e : Landing) (n place : ℕ) (d : List ℕ) (q : ℕ) (ks : List Frame) (ops : List ℕ) (r : Result Done) (l : Log) (w : World) → arrives (target_of (further_on n e) (place + n)) d q ks ops r l w ≡ arrives (target_of e place) d q ks ops r l w
 continues e n place d q ks ops r l w = ap (λ x. arrives x d q ks ops r l w) (landing_further e n place)
 
 module _ (ask : Ask) (k : Tables) (code : Code) (setting : Setting k code) (call : Names.Call) (default : Default) (bound : ℕ) (calls : Calls ask k code setting bound call) where
@@ -69,7 +69,7 @@ module _ (ask : Ask) (k : Tables) (code : Code) (setting : Setting k code) (call
   K = tools_with ask k call default
 
   -- no instruction, and a tick or none
-  pub still_there : (t : ℕ) (e : Landing) (w0 : World) (d : List ℕ) (place : ℕ) (ks : List Frame) (ops : List ℕ) (c : ℕ) (l : Log) (w : World) → Since k code w0 w → Runs ask code (Kept k code w0) 0 0 (at d place ks ops l w) c (arrives e d (place + 0) ks ops) (Gives (Goes tt) t c l w)
+  pub still_there : (t : ℕ) (e : Target) (w0 : World) (d : List ℕ) (place : ℕ) (ks : List Frame) (ops : List ℕ) (c : ℕ) (l : Log) (w : World) → Since k code w0 w → Runs ask code (Kept k code w0) 0 0 (at d place ks ops l w) c (arrives e d (place + 0) ks ops) (Gives (Goes tt) t c l w)
   still_there t e w0 d place ks ops c l w fits = let e1 : place ≡ place + 0 = omega arith in no_step ask code (Kept k code w0) 0 0 _ c t (arrives e d (place + 0) ks ops) (Goes tt) l w fits (ap (λ p. at d p ks ops l w) e1)
 
   -- two stretches, one behind the other
@@ -79,11 +79,11 @@ module _ (ask : Ask) (k : Tables) (code : Code) (setting : Setting k code) (call
       let is = x a in
       let js = y (behind (length (x a)) a) in
       let e : place + length is + length js ≡ place + length (is ++ js) = omega (arith, length-append is js) in
-      arriving ask code (Kept k code w0) 0 0 _ c _ _ _ (λ r l1 w1. ap (λ p. arrives (landing_of a.exits place) d p ks ops r l1 w1) e)
-      (in_row ask code (Kept k code w0) 0 0 0 0 0 0 _ c (landing_of a.exits place) d (place + length is) (place + length is + length js) ks ops (m d c l w) (n d) (omega arith) (omega arith) (omega arith)
+      arriving ask code (Kept k code w0) 0 0 _ c _ _ _ (λ r l1 w1. ap (λ p. arrives (lands a place) d p ks ops r l1 w1) e)
+      (in_row ask code (Kept k code w0) 0 0 0 0 0 0 _ c (lands a place) d (place + length is) (place + length is + length js) ks ops (m d c l w) (n d) (omega arith) (omega arith) (omega arith)
       (first a w0 d place ks ops c l w le fits sees (laid_front code place is js has))
       (λ c1 l1 w1 lo fits1.
-      arriving ask code (Kept k code w0) 0 0 (at d (place + length is) ks ops l1 w1) c1 (arrives (landing_of (further_on (length is) a.exits) (place + length is)) d (place + length is + length js) ks ops) (arrives (landing_of a.exits place) d (place + length is + length js) ks ops) (n d c1 l1 w1) (λ r l2 w2. continues a.exits (length is) place d (place + length is + length js) ks ops r l2 w2)
+      arriving ask code (Kept k code w0) 0 0 (at d (place + length is) ks ops l1 w1) c1 (arrives (target_of (further_on (length is) a.landing) (place + length is)) d (place + length is + length js) ks ops) (arrives (lands a place) d (place + length is + length js) ks ops) (n d c1 l1 w1) (λ r l2 w2. continues a.landing (length is) place d (place + length is + length js) ks ops r l2 w2)
       (second (behind (length is) a) w0 d (place + length is) ks ops c1 l1 w1 (omega (arith, lo, le)) fits1 sees (laid_back code place is js has))))
 
   -- Items ------------------------------------------------------------------------------------
@@ -95,7 +95,7 @@ module _ (ask : Ask) (k : Tables) (code : Code) (setting : Setting k code) (call
   unfolding object if_given category_of opened_outcome
   bare_object slot (Record t) runs a w0 d place ks ops c l w le fits sees has =
       let known = plain_if k (slice_get k.records t) runs in
-      added ask code (Kept k code w0) 1 4 5 0 0 _ c (arrives (landing_of a.exits place) d (place + 1) ks ops) _ (omega arith) (omega arith) (added ask code (Kept k code w0) 0 4 5 4 5 _ c (arrives (landing_of a.exits place) d (place + 1) ks ops) _ (omega arith) (omega arith) (declare_runs ask k code setting call default t known.0 known.1 known.2 bound calls slot (landing_of a.exits place) a.stack w0 d place ks ops c l w le fits sees has))
+      added ask code (Kept k code w0) 1 4 5 0 0 _ c (arrives (lands a place) d (place + 1) ks ops) _ (omega arith) (omega arith) (added ask code (Kept k code w0) 0 4 5 4 5 _ c (arrives (lands a place) d (place + 1) ks ops) _ (omega arith) (omega arith) (declare_runs ask k code setting call default t known.0 known.1 known.2 bound calls slot (lands a place) a.stack w0 d place ks ops c l w le fits sees has))
   bare_object slot Integer runs a w0 d place ks ops c l w le fits sees has = scalar_runs ask k code setting.valid bound call default slot Integer tt a w0 d place ks ops c l w le fits sees has
   bare_object slot Boolean runs a w0 d place ks ops c l w le fits sees has = scalar_runs ask k code setting.valid bound call default slot Boolean tt a w0 d place ks ops c l w le fits sees has
   bare_object slot Count runs a w0 d place ks ops c l w le fits sees has = absurd (cc)
@@ -109,13 +109,13 @@ module _ (ask : Ask) (k : Tables) (code : Code) (setting : Setting k code) (call
   item_elaborates (Object slot ty (Some e)) runs =
       let h = both_true _ _ runs in
       valued_runs ask k code setting.valid bound call default slot ty (value_code e) (eval e K) (scalar_if ty h.0) (λ w0. value_means ask k code call default (Since k code w0) e h.1)
-  item_elaborates Silent runs = λ a w0 d place ks ops c l w le fits sees has. still_there 1 (landing_of a.exits place) w0 d place ks ops c l w fits
+  item_elaborates Silent runs = λ a w0 d place ks ops c l w le fits sees has. still_there 1 (lands a place) w0 d place ks ops c l w fits
   item_elaborates (Collections accesses) runs = absurd (cc)
   item_elaborates (Pool slot t ds) runs = absurd (cc)
 
   items_run : (xs : List Item) → (all_items (map item_code xs)).runs k.records ≡ true → Does ask k code bound (λ a. (all_items (map item_code xs)).code a.stack) (λ d. elaborate K d (last_of d) (map elaborate_item xs))
   unfolding elaborate opened_outcome
-  items_run [] runs a w0 d place ks ops c l w le fits sees has = still_there 0 (landing_of a.exits place) w0 d place ks ops c l w fits
+  items_run [] runs a w0 d place ks ops c l w le fits sees has = still_there 0 (lands a place) w0 d place ks ops c l w fits
   items_run (x ∷ xs) runs a w0 d place ks ops c l w le fits sees has =
       let h = both_true ((item_code x).runs k.records) ((all_items (map item_code xs)).runs k.records) runs in
       both_do (λ b. (item_code x).code b.stack) (λ b. (all_items (map item_code xs)).code b.stack) (λ v. elaborate_item x K v (last_of v)) (λ v. elaborate K v (last_of v) (map elaborate_item xs)) (item_elaborates x h.0) (items_run xs h.1) a w0 d place ks ops c l w le fits sees has
@@ -133,7 +133,7 @@ module _ (ask : Ask) (k : Tables) (code : Code) (setting : Setting k code) (call
 
   pub all_run : (xs : List StatementCode) (ms : List Doing) → EachPerforms xs ms → Performs (all xs) (λ j env caught. do_each j env caught ms)
   unfolding do_each opened_outcome
-  all_run [] [] each runs n texts caught a w0 d place ks ops c l w le fits sees has = still_there 0 (landing_of a.exits place) w0 d place ks ops c l w fits
+  all_run [] [] each runs n texts caught a w0 d place ks ops c l w le fits sees has = still_there 0 (lands a place) w0 d place ks ops c l w fits
   all_run [] (m ∷ ms) each runs n texts caught a w0 d place ks ops c l w le fits sees has = absurd each
   all_run (x ∷ xs) [] each runs n texts caught a w0 d place ks ops c l w le fits sees has = absurd each
   all_run (x ∷ xs) (m ∷ ms) each runs n texts caught a w0 d place ks ops c l w le fits sees has =
@@ -148,28 +148,28 @@ module _ (ask : Ask) (k : Tables) (code : Code) (setting : Setting k code) (call
   Guards x m =
       x.test.runs ≡ true → x.body.runs k.records ≡ true → (n : ℕ) → HasAt code.texts.items n x.body.texts → (caught : ℕ) (other : Act Done) (a : Around) (w0 : World) (d : List ℕ) (place place1 : ℕ) (ks : List Frame) (ops : List ℕ) (c : ℕ) (l : Log) (w : World) → c ≤ bound → Since k code w0 w → Sees d a.stack w0 →
       Laid code place (turn_code x a n) → Ends ask k code bound d (place + length (turn_code x a n)) place1 ks ops →
-      ((c1 : ℕ) (l1 : Log) (w1 : World) → c1 ≤ c → Since k code w0 w1 → Runs ask code (Kept k code w0) 0 0 (at d (place + length (turn_code x a n) + 1) ks ops l1 w1) c1 (arrives (landing_of a.exits place) d place1 ks ops) (other c1 l1 w1)) →
-      Runs ask code (Kept k code w0) 0 0 (at d place ks ops l w) c (arrives (landing_of a.exits place) d place1 ks ops) (m K d caught other c l w)
+      ((c1 : ℕ) (l1 : Log) (w1 : World) → c1 ≤ c → Since k code w0 w1 → Runs ask code (Kept k code w0) 0 0 (at d (place + length (turn_code x a n) + 1) ks ops l1 w1) c1 (arrives (lands a place) d place1 ks ops) (other c1 l1 w1)) →
+      Runs ask code (Kept k code w0) 0 0 (at d place ks ops l w) c (arrives (lands a place) d place1 ks ops) (m K d caught other c l w)
 
   pub guard_runs : (x : ValueCode) (test : Valued) (xs : List StatementCode) (ms : List Doing) → (x.runs ≡ true → (w0 : World) → Value ask k code (Since k code w0) x (test K)) → EachPerforms xs ms → Guards (record { test = x; body = all xs }) (guard test ms)
   unfolding guard
   guard_runs x test xs ms value each runs_test runs_body n texts caught other a w0 d place place1 ks ops c l w le fits sees has ends elses =
-      arm_runs ask k code bound x (test K) (value runs_test) (λ b. (all xs).code b n) (λ u. do_each K u caught ms) (all_run xs ms each runs_body n texts caught) other a w0 d place place1 ks ops c l w le fits sees has ends elses
+      arm_runs ask k code bound 0 1 (omega arith) x (test K) (value runs_test) (λ b. (all xs).code b n) (λ u. do_each K u caught ms) (all_run xs ms each runs_body n texts caught) other a w0 d place place1 ks ops c l w le fits sees has ends elses
 
   abbrev pub EachGuards : List ArmCode → List Guarding → Type 0
   EachGuards [] [] = Unit {0}
   EachGuards (x ∷ xs) (m ∷ ms) = Guards x m × EachGuards xs ms
   EachGuards _ _ = ⊥
 
-  -- further arms, behind the end of the first one: an exit leads on from each as from where they begin
-  further_run : (arms : List ArmCode) (ms : List Guarding) → EachGuards arms ms → arms_run arms k.records ≡ true → (n : ℕ) → HasAt code.texts.items n (arms_texts arms) → (caught : ℕ) (others : Around → List Line) (act : List ℕ → Act Done) → Does ask k code bound others act → (back end place1 size : ℕ) (a : Around) (w0 : World) (d : List ℕ) (ks : List Frame) (ops : List ℕ) (c : ℕ) (l : Log) (w : World) → c ≤ bound → Since k code w0 w → Sees d a.stack w0 → slice_get code.instructions.items end ≡ Some (InstrOf.Skip size) → end + 1 + size ≡ place1 → Laid code (end + back) (arms_code back arms a n ++ others (behind (length (arms_code back arms a n)) a)) → end + back + length (arms_code back arms a n) + length (others (behind (length (arms_code back arms a n)) a)) ≡ place1 → Runs ask code (Kept k code w0) 0 0 (at d (end + back) ks ops l w) c (arrives (landing_of a.exits (end + back)) d place1 ks ops) (do_first K d caught ms (act d) c l w)
+  -- further arms, behind the end of the first one: control lands from each as from where they begin
+  further_run : (arms : List ArmCode) (ms : List Guarding) → EachGuards arms ms → arms_run arms k.records ≡ true → (n : ℕ) → HasAt code.texts.items n (arms_texts arms) → (caught : ℕ) (others : Around → List Line) (act : List ℕ → Act Done) → Does ask k code bound others act → (back end place1 size : ℕ) (a : Around) (w0 : World) (d : List ℕ) (ks : List Frame) (ops : List ℕ) (c : ℕ) (l : Log) (w : World) → c ≤ bound → Since k code w0 w → Sees d a.stack w0 → slice_get code.instructions.items end ≡ Some (InstrOf.Skip size) → end + 1 + size ≡ place1 → Laid code (end + back) (arms_code back arms a n ++ others (behind (length (arms_code back arms a n)) a)) → end + back + length (arms_code back arms a n) + length (others (behind (length (arms_code back arms a n)) a)) ≡ place1 → Runs ask code (Kept k code w0) 0 0 (at d (end + back) ks ops l w) c (arrives (lands a (end + back)) d place1 ks ops) (do_first K d caught ms (act d) c l w)
   unfolding do_first
   further_run [] [] each runs n texts caught others act does back end place1 size a w0 d ks ops c l w le fits sees here far has last =
       let e : end + back + length (others (behind 0 a)) ≡ place1 = omega (arith, last) in
       let e0 : end + back + 0 ≡ end + back = omega arith in
-      arriving ask code (Kept k code w0) 0 0 _ c _ _ _ (λ r l1 w1. continues a.exits 0 (end + back) d place1 ks ops r l1 w1)
-      (subst (λ p. Runs ask code (Kept k code w0) 0 0 (at d (end + back) ks ops l w) c (arrives (landing_of (further_on 0 a.exits) p) d place1 ks ops) (act d c l w)) (sym e0)
-      (arriving ask code (Kept k code w0) 0 0 _ c _ _ _ (λ r l1 w1. ap (λ p. arrives (landing_of (further_on 0 a.exits) (end + back)) d p ks ops r l1 w1) e)
+      arriving ask code (Kept k code w0) 0 0 _ c _ _ _ (λ r l1 w1. continues a.landing 0 (end + back) d place1 ks ops r l1 w1)
+      (subst (λ p. Runs ask code (Kept k code w0) 0 0 (at d (end + back) ks ops l w) c (arrives (target_of (further_on 0 a.landing) p) d place1 ks ops) (act d c l w)) (sym e0)
+      (arriving ask code (Kept k code w0) 0 0 _ c _ _ _ (λ r l1 w1. ap (λ p. arrives (target_of (further_on 0 a.landing) (end + back)) d p ks ops r l1 w1) e)
       (does (behind 0 a) w0 d (end + back) ks ops c l w le fits sees has)))
   further_run [] (m ∷ ms) each runs n texts caught others act does back end place1 size a w0 d ks ops c l w le fits sees here far has last = absurd each
   further_run (x ∷ rest) [] each runs n texts caught others act does back end place1 size a w0 d ks ops c l w le fits sees here far has last = absurd each
@@ -203,8 +203,8 @@ module _ (ask : Ask) (k : Tables) (code : Code) (setting : Setting k code) (call
       each.0 h.0 g.0 n (has_front code.texts.items n x.body.texts (arms_texts rest) texts) caught (do_first K d caught ms (act d)) a w0 d (end + back) place1 ks ops c l w le fits sees (laid_front code (end + back) turn ((again, a.stack) ∷ []) front)
       (λ l1 w1. (2, omega arith, ap (step ask code) (by_code ask code d q ks ops l1 w1 again there ∙ ap (λ p. at d p ks ops l1 w1) e1) ∙ by_code ask code d end ks ops l1 w1 (InstrOf.Skip size) here ∙ ap (λ p. at d p ks ops l1 w1) far))
       (λ c1 l1 w1 lo fits1.
-      subst (λ p. Runs ask code (Kept k code w0) 0 0 (at d p ks ops l1 w1) c1 (arrives (landing_of a.exits (end + back)) d place1 ks ops) (do_first K d caught ms (act d) c1 l1 w1)) e3
-      (arriving ask code (Kept k code w0) 0 0 (at d (end + more) ks ops l1 w1) c1 (arrives (landing_of a1.exits (end + more)) d place1 ks ops) (arrives (landing_of a.exits (end + back)) d place1 ks ops) (do_first K d caught ms (act d) c1 l1 w1) (λ r l2 w2. ap (λ p. arrives (landing_of a1.exits p) d place1 ks ops r l2 w2) e4 ∙ continues a.exits (j + 1) (end + back) d place1 ks ops r l2 w2)
+      subst (λ p. Runs ask code (Kept k code w0) 0 0 (at d p ks ops l1 w1) c1 (arrives (lands a (end + back)) d place1 ks ops) (do_first K d caught ms (act d) c1 l1 w1)) e3
+      (arriving ask code (Kept k code w0) 0 0 (at d (end + more) ks ops l1 w1) c1 (arrives (lands a1 (end + more)) d place1 ks ops) (arrives (lands a (end + back)) d place1 ks ops) (do_first K d caught ms (act d) c1 l1 w1) (λ r l2 w2. ap (λ p. arrives (lands a1 p) d place1 ks ops r l2 w2) e4 ∙ continues a.landing (j + 1) (end + back) d place1 ks ops r l2 w2)
       (further_run rest ms each.1 g.1 n1 (has_back code.texts.items n x.body.texts (arms_texts rest) texts) caught others act does more end place1 size a1 w0 d ks ops c1 l1 w1 (omega (arith, lo, le)) fits1 sees here far tail last2)))
 
   -- the arms of an if statement, and what stands behind `else`
@@ -234,11 +234,11 @@ module _ (ask : Ask) (k : Tables) (code : Code) (setting : Setting k code) (call
       let e2 : q + 1 ≡ place + (j + 1) = omega arith in
       let tail = subst (λ p. Laid code p skipped) e1 (laid_back code place arm skipped has) in
       let texts1 : n2 ≡ n + length (arms_texts (x ∷ rest)) = omega (arith, length-append x.body.texts (arms_texts rest)) in
-      arriving ask code (Kept k code w0) 0 0 _ c _ _ _ (λ r l1 w1. ap (λ p. arrives (landing_of a.exits place) d p ks ops r l1 w1) behind1)
+      arriving ask code (Kept k code w0) 0 0 _ c _ _ _ (λ r l1 w1. ap (λ p. arrives (lands a place) d p ks ops r l1 w1) behind1)
       (each.0 h.0 g.0 n (has_front code.texts.items n x.body.texts (arms_texts rest) texts) caught (do_first K d caught ms (act d)) a w0 d place (q + 1 + length skipped) ks ops c l w le fits sees (laid_front code place turn ((skip, a.stack) ∷ []) front)
       (λ l1 w1. (1, omega arith, by_code ask code d q ks ops l1 w1 skip here))
       (λ c1 l1 w1 lo fits1.
-      arriving ask code (Kept k code w0) 0 0 (at d (q + 1) ks ops l1 w1) c1 (arrives (landing_of a1.exits (q + 1)) d (q + 1 + length skipped) ks ops) (arrives (landing_of a.exits place) d (q + 1 + length skipped) ks ops) (do_first K d caught ms (act d) c1 l1 w1) (λ r l2 w2. ap (λ p. arrives (landing_of a1.exits p) d (q + 1 + length skipped) ks ops r l2 w2) e2 ∙ continues a.exits (j + 1) place d (q + 1 + length skipped) ks ops r l2 w2)
+      arriving ask code (Kept k code w0) 0 0 (at d (q + 1) ks ops l1 w1) c1 (arrives (lands a1 (q + 1)) d (q + 1 + length skipped) ks ops) (arrives (lands a place) d (q + 1 + length skipped) ks ops) (do_first K d caught ms (act d) c1 l1 w1) (λ r l2 w2. ap (λ p. arrives (lands a1 p) d (q + 1 + length skipped) ks ops r l2 w2) e2 ∙ continues a.landing (j + 1) place d (q + 1 + length skipped) ks ops r l2 w2)
       (further_run rest ms each.1 g.1 n1 (has_back code.texts.items n x.body.texts (arms_texts rest) texts) caught (λ b. others.code b n2) act (does n2 texts1) 1 q (q + 1 + length skipped) (length skipped) a1 w0 d ks ops c1 l1 w1 (omega (arith, lo, le)) fits1 sees here refl tail (omega (arith, length-append more_arms all_else)))))
 
   pub branches_run : (arms : List ArmCode) (ms : List Guarding) (xs : List StatementCode) (others : List Doing) → EachGuards arms ms → EachPerforms xs others → Performs (branches arms (all xs)) (choose_arm ms others)
@@ -256,17 +256,19 @@ module _ (ask : Ask) (k : Tables) (code : Code) (setting : Setting k code) (call
   unhandled : (env d : List ℕ) (w0 : World) (place : ℕ) (ks : List Frame) (r : Result Done) (c : ℕ) (l : Log) (w : World) → Since k code w0 w → Runs ask code (Kept k code w0) 0 0 (arrives OutOf d place ks [] r l w) c (arrives OutOf d place ks []) (handled (handle K env []) r c l w)
   unfolding handled handle do_first opened_outcome
   unhandled env d w0 place ks (Goes a) c l w fits = no_step ask code (Kept k code w0) 0 0 _ c 0 (arrives OutOf d place ks []) (Goes tt) l w fits refl
-  unhandled env d w0 place ks (Leaves ByExit) c l w fits = no_step ask code (Kept k code w0) 0 0 _ c 0 (arrives OutOf d place ks []) (Leaves ByExit) l w fits refl
-  unhandled env d w0 place ks (Leaves (ByReturn u)) c l w fits = no_step ask code (Kept k code w0) 0 0 _ c 0 (arrives OutOf d place ks []) (Leaves (ByReturn u)) l w fits refl
-  unhandled env d w0 place ks (Leaves (ByRaise e)) c l w fits = no_step ask code (Kept k code w0) 0 0 _ c 0 (arrives OutOf d place ks []) (Leaves (ByRaise e)) l w fits refl
+  unhandled env d w0 place ks (Leaves y) c l w fits = by (raised_by y) refl
+    where
+      by : (o : Option ℕ) → raised_by y ≡ o → Runs ask code (Kept k code w0) 0 0 (leads OutOf y d ks [] l w) c (arrives OutOf d place ks []) (on_some o (leave_by y) (handle K env []) c l w)
+      by None is = no_step ask code (Kept k code w0) 0 0 _ c 0 (arrives OutOf d place ks []) (Leaves y) l w fits refl
+      by (Some e) is =
+          subst (λ v. Runs ask code (Kept k code w0) 0 0 (leads OutOf v d ks [] l w) c (arrives OutOf d place ks []) (leave_by (ByRaise e) c l w)) (sym (raised_is y e is))
+          (no_step ask code (Kept k code w0) 0 0 _ c 0 (arrives OutOf d place ks []) (Leaves (ByRaise e)) l w fits refl)
 
   -- a master is left when its statements have ended
   end_runs : (m : ℕ) (w0 : World) (d : List ℕ) (place : ℕ) (after : After) (ks : List Frame) → w0.ledger.next_master ≤ m → slice_get code.instructions.items place ≡ Some InstrOf.Leave → (r : Result Done) (c : ℕ) (l : Log) (w : World) → c ≤ bound → Since k code w0 w → Runs ask code (Told k code w0) 1 1 (arrives OutOf d place (InMaster m after ∷ ks) [] r l w) c (leaves after ks) (bind (leave_layers K m (layers_of m w.ledger) false c l w) (on_goes (left m r)))
   unfolding picked
   end_runs m w0 d place after ks young here (Goes tt) c l w le fits = leave_runs ask k code setting call default bound calls (Goes tt) m after w0 ks c l w _ young le fits (by_code ask code d place (InMaster m after ∷ ks) [] l w InstrOf.Leave here)
-  end_runs m w0 d place after ks young here (Leaves ByExit) c l w le fits = leave_runs ask k code setting call default bound calls (Leaves ByExit) m after w0 ks c l w _ young le fits refl
-  end_runs m w0 d place after ks young here (Leaves (ByReturn u)) c l w le fits = leave_runs ask k code setting call default bound calls (Leaves (ByReturn u)) m after w0 ks c l w _ young le fits refl
-  end_runs m w0 d place after ks young here (Leaves (ByRaise e)) c l w le fits = leave_runs ask k code setting call default bound calls (Leaves (ByRaise e)) m after w0 ks c l w _ young le fits refl
+  end_runs m w0 d place after ks young here (Leaves y) c l w le fits = leave_runs ask k code setting call default bound calls (Leaves y) m after w0 ks c l w _ young le fits (ap (step ask code) (leads_out y d (InMaster m after ∷ ks) [] l w))
 
   -- a master, from the step that enters it
   abbrev pub Masters : StatementCode → Doing → Type 0
@@ -340,34 +342,37 @@ module _ (ask : Ask) (k : Tables) (code : Code) (setting : Setting k code) (call
     pub slots : x.slots ≡ b.slots
     pub inside : Masters x.inside b.inside
 
-  -- a block's result goes on behind it: an exit statement by the instruction for it
-  behind_block : (e : Exits) (n : ℕ) (w0 : World) (d : List ℕ) (place q : ℕ) (ks : List Frame) (ops : List ℕ) → q ≡ place + n → slice_get code.instructions.items q ≡ Some (exit_of (further_on n e)) → (r : Result Left) (c : ℕ) (l : Log) (w : World) → Told k code w0 (way_of r) w → Runs ask code (Kept k code w0) 1 1 (leaves (AfterBlock (record { display = d; place = q; operands = ops })) ks r l w) c (arrives (landing_of e place) d (q + 1) ks ops) (on_goes (λ (x : Left). given x.result) r c l w)
+  -- a block's result goes on behind it: to the landing by the instruction that leads there
+  behind_block : (e : Landing) (n : ℕ) (w0 : World) (d : List ℕ) (place q : ℕ) (ks : List Frame) (ops : List ℕ) → q ≡ place + n → slice_get code.instructions.items q ≡ Some (land (further_on n e)) → (r : Result Left) (c : ℕ) (l : Log) (w : World) → Told k code w0 (way_of r) w → Runs ask code (Kept k code w0) 1 1 (leaves (AfterBlock (record { display = d; place = q; operands = ops })) ks r l w) c (arrives (target_of e place) d (q + 1) ks ops) (on_goes (λ (x : Left). given x.result) r c l w)
   unfolding opened_outcome
-  behind_block e n w0 d place q ks ops is here (Leaves ByExit) c l w fits = absurd fits.0
-  behind_block e n w0 d place q ks ops is here (Leaves (ByReturn v)) c l w fits = absurd fits.0
-  behind_block e n w0 d place q ks ops is here (Leaves (ByRaise x)) c l w fits = no_step ask code (Kept k code w0) 1 1 _ c 0 (arrives (landing_of e place) d (q + 1) ks ops) (Leaves (ByRaise x)) l w fits.1 refl
+  behind_block e n w0 d place q ks ops is here (Leaves y) c l w fits =
+      by_raise (λ v. Runs ask code (Kept k code w0) 1 1 (leaves (AfterBlock (record { display = d; place = q; operands = ops })) ks (Leaves v) l w) c (arrives (target_of e place) d (q + 1) ks ops) (Gives (Leaves v) 0 c l w))
+      (λ x. no_step ask code (Kept k code w0) 1 1 _ c 0 (arrives (target_of e place) d (q + 1) ks ops) (Leaves (ByRaise x)) l w fits.1 refl) y fits.0
   behind_block e n w0 d place q ks ops is here (Goes x) c l w fits = on x.result
     where
-      on : (r : Result Done) → Runs ask code (Kept k code w0) 1 1 (moved l (goes_behind (AfterBlock (record { display = d; place = q; operands = ops })) r ks w)) c (arrives (landing_of e place) d (q + 1) ks ops) (Gives r 0 c l w)
-      on (Goes a) = no_step ask code (Kept k code w0) 1 1 _ c 0 (arrives (landing_of e place) d (q + 1) ks ops) (Goes a) l w fits.1 refl
-      on (Leaves ByExit) =
-          last_step ask code (Kept k code w0) 1 1 _ c 0 (arrives (landing_of e place) d (q + 1) ks ops) (Leaves ByExit) l w (omega arith) fits.1
-          (leave_step ask k code bound (further_on n e) d q ks ops l w here ∙ ap (λ p. landed_on (landing_of (further_on n e) p) d ks ops l w) is ∙ ap (λ (y : Landing). landed_on y d ks ops l w) (landing_further e n place))
-      on (Leaves (ByReturn v)) = no_step ask code (Kept k code w0) 1 1 _ c 0 (arrives (landing_of e place) d (q + 1) ks ops) (Leaves (ByReturn v)) l w fits.1 refl
-      on (Leaves (ByRaise v)) = no_step ask code (Kept k code w0) 1 1 _ c 0 (arrives (landing_of e place) d (q + 1) ks ops) (Leaves (ByRaise v)) l w fits.1 refl
+      led : (y : Way) (b : Bool) → completes_loop y ≡ b → Runs ask code (Kept k code w0) 1 1 (moved l (if b then on_at (record { display = d; place = q; operands = ops }) ks w else transfers y ks w)) c (arrives (target_of e place) d (q + 1) ks ops) (Gives (Leaves y) 0 c l w)
+      led y true this =
+          last_step ask code (Kept k code w0) 1 1 _ c 0 (arrives (target_of e place) d (q + 1) ks ops) (Leaves y) l w (omega arith) fits.1
+          (leave_step ask k code bound (further_on n e) d q ks ops l w here ∙ ap (λ p. landed_on (target_of (further_on n e) p) d ks ops l w) is ∙ ap (λ (t : Target). landed_on t d ks ops l w) (landing_further e n place)
+          ∙ sym (ap (λ b. if b then landed_on (target_of e place) d ks ops l w else transferred y ks l w) this))
+      led y false this = no_step ask code (Kept k code w0) 1 1 _ c 0 (arrives (target_of e place) d (q + 1) ks ops) (Leaves y) l w fits.1 (sym (ap (λ b. if b then landed_on (target_of e place) d ks ops l w else transferred y ks l w) this))
+
+      on : (r : Result Done) → Runs ask code (Kept k code w0) 1 1 (moved l (goes_behind (AfterBlock (record { display = d; place = q; operands = ops })) r ks w)) c (arrives (target_of e place) d (q + 1) ks ops) (Gives r 0 c l w)
+      on (Goes a) = no_step ask code (Kept k code w0) 1 1 _ c 0 (arrives (target_of e place) d (q + 1) ks ops) (Goes a) l w fits.1 refl
+      on (Leaves y) = led y (completes_loop y) refl
 
   pub block_runs : (x : MasterCode) (b : Body) → Mastered x b → Performs (block x) (do_block b)
   unfolding do_block unset_slots opened_outcome
   block_runs x b mastered runs n texts caught a w0 d place ks ops c l w le fits sees has =
       let inner = x.inside.code (in_new (KindOf.Block x.slots) a.stack) n in
-      let exits = leaves_code (behind (length inner + 1) a) in
+      let out = leaves_code (behind (length inner + 1) a) in
       let q = place + 1 + length inner in
       let p : Point = record { display = d; place = q; operands = ops } in
-      let e : q + 1 ≡ place + length (block_code x.slots inner a) = omega (arith, length-append inner exits) in
-      let at_exit : q ≡ place + (length inner + 1) = omega arith in
+      let e : q + 1 ≡ place + length (block_code x.slots inner a) = omega (arith, length-append inner out) in
+      let at_end : q ≡ place + (length inner + 1) = omega arith in
       added ask code (Kept k code w0) 1 1 2 0 0 _ c _ _ (omega arith) (omega arith)
-      (arriving ask code (Kept k code w0) 1 2 _ c _ _ _ (λ r l1 w1. ap (λ z. arrives (landing_of a.exits place) d z ks ops r l1 w1) e)
-      (both ask code (Told k code w0) (Kept k code w0) 0 1 1 1 1 2 _ c (leaves (AfterBlock p) ks) (arrives (landing_of a.exits place) d (q + 1) ks ops) _ (on_goes (λ (y : Left). given y.result)) (omega arith) (omega arith) (omega arith)
-      (mastered.inside runs n texts caught (KindOf.Block x.slots) a.stack w0 d (replicate b.slots Unset) (AfterBlock p) ks c c l w (at d place ks ops l w) (place + 1) le (omega arith) (omega arith) fits (ap (λ z. z + 1) sees.long) (small_unset b.slots) (laid_front code (place + 1) inner exits has.2)
+      (arriving ask code (Kept k code w0) 1 2 _ c _ _ _ (λ r l1 w1. ap (λ z. arrives (lands a place) d z ks ops r l1 w1) e)
+      (both ask code (Told k code w0) (Kept k code w0) 0 1 1 1 1 2 _ c (leaves (AfterBlock p) ks) (arrives (lands a place) d (q + 1) ks ops) _ (on_goes (λ (y : Left). given y.result)) (omega arith) (omega arith) (omega arith)
+      (mastered.inside runs n texts caught (KindOf.Block x.slots) a.stack w0 d (replicate b.slots Unset) (AfterBlock p) ks c c l w (at d place ks ops l w) (place + 1) le (omega arith) (omega arith) fits (ap (λ z. z + 1) sees.long) (small_unset b.slots) (laid_front code (place + 1) inner out has.2)
       (by_code ask code d place ks ops l w (InstrOf.Enter x.slots (length inner)) has.0 ∙ ap (λ j. at (d ++ w.ledger.next_master ∷ []) (place + 1) (InMaster w.ledger.next_master (AfterBlock p) ∷ ks) [] l (open_master d (replicate j Unset) w)) mastered.slots))
-      (λ r c1 l1 w1 lo fits1. behind_block a.exits (length inner + 1) w0 d place q ks ops at_exit (laid_back code (place + 1) inner exits has.2).0 r c1 l1 w1 fits1)))
+      (λ r c1 l1 w1 lo fits1. behind_block a.landing (length inner + 1) w0 d place q ks ops at_end (laid_back code (place + 1) inner out has.2).0 r c1 l1 w1 fits1)))

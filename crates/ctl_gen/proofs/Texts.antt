@@ -41,7 +41,7 @@ use Rattle.ctl_gen.proofs.Cells.{Any, by_code, here, landed}
 use Rattle.ctl_gen.proofs.Worth.{both_cell}
 use Rattle.ctl_gen.proofs.Expressions.{value_runs}
 use Rattle.ctl_gen.proofs.Does.{Does}
-use Rattle.ctl_gen.proofs.Follow.{Runs, Landing, landing_of, at, transferred, arrives, added, last_step, no_step, bind_add, bind_bind}
+use Rattle.ctl_gen.proofs.Follow.{Runs, Target, at, transferred, arrives, added, last_step, no_step, bind_add, bind_bind, lands}
 
 -- Texts and their values -------------------------------------------------------------------------
 
@@ -143,7 +143,7 @@ module _ (ask : Ask) (k : Tables) (code : Code) (call : Call) (default : Default
       ∙ ap (λ t. f t ops) holds.text
 
   -- the instruction that prints
-  put_runs : (ends_line : Bool) (n first : ℕ) (t : List Kind) (full : List TextPart) → HasAt code.texts.items n (full ∷ []) → (rs u : List ℕ) → Holds full rs u → (e : Landing) (w0 : World) (d : List ℕ) (place : ℕ) (ks : List Frame) (ops : List ℕ) (c : ℕ) (l : Log) (w : World) → Since k code w0 w → Laid code place ((print_of ends_line n first, t) ∷ []) → Runs ask code (Kept k code w0) 1 1 (at d place ks (rs ++ ops) l w) c (arrives e d (place + 1) ks ops) (printed ends_line u c l w)
+  put_runs : (ends_line : Bool) (n first : ℕ) (t : List Kind) (full : List TextPart) → HasAt code.texts.items n (full ∷ []) → (rs u : List ℕ) → Holds full rs u → (e : Target) (w0 : World) (d : List ℕ) (place : ℕ) (ks : List Frame) (ops : List ℕ) (c : ℕ) (l : Log) (w : World) → Since k code w0 w → Laid code place ((print_of ends_line n first, t) ∷ []) → Runs ask code (Kept k code w0) 1 1 (at d place ks (rs ++ ops) l w) c (arrives e d (place + 1) ks ops) (printed ends_line u c l w)
   unfolding opened_outcome
   put_runs true n first t full texts rs u holds e w0 d place ks ops c l w fits has =
       last_step ask code (Kept k code w0) 1 1 _ c 0 (arrives e d (place + 1) ks ops) (Goes tt) _ w (omega arith) fits (by_code ask code d place ks (rs ++ ops) l w (InstrOf.PutLine n first) has.0 ∙ ap (λ x. moved l (by_text x (Newline ∷ []) (rs ++ ops) (here d place ks w))) texts.0 ∙ shown full rs u ops holds (λ v os. moved l (showing (Print v ∷ Newline ∷ []) (At d (place + 1)) ks os w)))
@@ -155,7 +155,7 @@ module _ (ask : Ask) (k : Tables) (code : Code) (call : Call) (default : Default
   printing b n first t ps s = pieces_code ps s ++ (print_of b n first, t) ∷ []
 
   -- the rest of the pieces
-  join_runs : (b : Bool) (n first : ℕ) (t : List Kind) (full : List TextPart) → HasAt code.texts.items n (full ∷ []) → (ps : List Piece) → pieces_are_run ps ≡ true → (qs : List TextPart) (rs u : List ℕ) → Holds qs rs u → qs ++ parts_of ps ≡ full → (s : List Kind) (e : Landing) (w0 : World) (d : List ℕ) (place : ℕ) (ks : List Frame) (ops : List ℕ) (c : ℕ) (l : Log) (w : World) → Since k code w0 w → length d ≡ depth s → Laid code place (printing b n first t ps s) → Runs ask code (Kept k code w0) 1 1 (at d place ks (rs ++ ops) l w) c (arrives e d (place + length (printing b n first t ps s)) ks ops) (bind (join_pieces K d (map eval_piece ps) u c l w) (on_goes (printed b)))
+  join_runs : (b : Bool) (n first : ℕ) (t : List Kind) (full : List TextPart) → HasAt code.texts.items n (full ∷ []) → (ps : List Piece) → pieces_are_run ps ≡ true → (qs : List TextPart) (rs u : List ℕ) → Holds qs rs u → qs ++ parts_of ps ≡ full → (s : List Kind) (e : Target) (w0 : World) (d : List ℕ) (place : ℕ) (ks : List Frame) (ops : List ℕ) (c : ℕ) (l : Log) (w : World) → Since k code w0 w → length d ≡ depth s → Laid code place (printing b n first t ps s) → Runs ask code (Kept k code w0) 1 1 (at d place ks (rs ++ ops) l w) c (arrives e d (place + length (printing b n first t ps s)) ks ops) (bind (join_pieces K d (map eval_piece ps) u c l w) (on_goes (printed b)))
   unfolding join_pieces opened_outcome
   join_runs b n first t full texts [] known qs rs u holds same s e w0 d place ks ops c l w fits long has =
       added ask code (Kept k code w0) 0 1 1 1 1 _ c _ _ (omega arith) (omega arith)
@@ -177,12 +177,12 @@ module _ (ask : Ask) (k : Tables) (code : Code) (call : Call) (default : Default
   unfolding eval_text opened_outcome
   print_runs b [] known n texts a w0 d place ks ops c l w le fits sees has =
       added ask code (Kept k code w0) 1 1 1 0 0 _ c _ _ (omega arith) (omega arith) (added ask code (Kept k code w0) 0 1 1 1 1 _ c _ _ (omega arith) (omega arith)
-      (put_runs b n (height a.stack) a.stack [] texts [] [] (record { count = refl; text = refl }) (landing_of a.exits place) w0 d place ks ops c l w fits has))
+      (put_runs b n (height a.stack) a.stack [] texts [] [] (record { count = refl; text = refl }) (lands a place) w0 d place ks ops c l w fits has))
   print_runs b (p ∷ ps) known n texts a w0 d place ks ops c l w le fits sees has =
       let s = a.stack in
       let first = height s in
       let t = with_pieces (p ∷ ps) s in
-      let e = landing_of a.exits place in
+      let e = lands a place in
       let is = printing b n first t ps (with_piece p s) in
       let flat : printing b n first t (p ∷ ps) s ≡ piece_code p s ++ is = append_assoc (piece_code p s) (pieces_code ps (with_piece p s)) ((print_of b n first, t) ∷ []) in
       let far : place + length (piece_code p s) + length is ≡ place + length (printing b n first t (p ∷ ps) s) = omega (arith, ap length flat, length-append (piece_code p s) is) in

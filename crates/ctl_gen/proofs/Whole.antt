@@ -30,11 +30,12 @@ use Rattle.ctl_gen.specs.Run.{AreLinked, IsBody, IsRun, IsWritten, are_procedure
 use Rattle.ctl_gen.proofs.Known.{both_true}
 use Rattle.ctl_gen.specs.Correct.{HasReached, RunsAs, Behaves}
 use Rattle.ctl_gen.proofs.Place.{HasAt, has_front, has_back, has_all, Laid, laid_front, laid_back}
-use Rattle.ctl_gen.proofs.Setting.{Setting, Told, returns, ended}
+use Rattle.ctl_code.specs.Table.{ended}
+use Rattle.ctl_gen.proofs.Setting.{Setting, Told, returns}
 use Rattle.ctl_gen.proofs.Bodies.{Stands, main_runs}
-use Rattle.ctl_gen.proofs.Follow.{GoingBy, Runs, gives}
+use Rattle.ctl_gen.proofs.Follow.{by_raise, GoingBy, Runs, gives}
 use Rattle.ctl_meaning.specs.World.{empty_world}
-use Rattle.ctl_meaning.specs.Outcome.{ByExit, ByReturn, ByRaise}
+use Rattle.ctl_meaning.specs.Outcome.{ByRaise}
 
 -- Where everything stands ----------------------------------------------------------------------
 
@@ -191,17 +192,18 @@ module _ (program : Checked) (code : Code) (laid : IsLaidOut program code) (kind
     fine = λ h. let bad : Giving (ended (Goes a)) ≡ Stuck = sym (ap (λ (x : State). x.mode) z.comes) ∙ h in cc;
     why = inr (subst (Stays ask code) (sym z.comes) (ended_stays ask code (gives [] (ended (Goes a)) l w) (inl (λ h. cc))));
   }
-  moment_of ask clock (Gives (Leaves ByExit) t c l w) z = absurd z.fits.0
-  moment_of ask clock (Gives (Leaves (ByReturn v)) t c l w) z = absurd z.fits.0
-  moment_of ask clock (Gives (Leaves (ByRaise y)) t c l w) z = record {
-    n = z.n;
-    in_time = omega (arith, z.in_time);
-    trace = sym (ap (λ (x : State). x.log.trace) z.comes);
-    taken = sym (ap (λ (x : State). x.log.taken) z.comes);
-    end = ap (end_of code) z.comes ∙ ap (λ names. Some (end_by names (ByRaise y))) laid.exceptions;
-    fine = λ h. let bad : Giving (ended {A = Returned} (Leaves (ByRaise y))) ≡ Stuck = sym (ap (λ (x : State). x.mode) z.comes) ∙ h in cc;
-    why = inr (subst (Stays ask code) (sym z.comes) (ended_stays ask code (gives [] (ended {A = Returned} (Leaves (ByRaise y))) l w) (inl (λ h. cc))));
-  }
+  moment_of ask clock (Gives (Leaves y) t c l w) z = by_raise (λ v. Runs ask code (Told (tables_of program) code empty_world) 0 1 start clock (returns {A = Returned} []) (Gives (Leaves v) t c l w) → Moment code ask clock (outcome_of program.exceptions (Gives (Leaves v) t c l w)).ticks (outcome_of program.exceptions (Gives (Leaves v) t c l w))) raised y z.fits.0 z
+    where
+      raised : (e : ℕ) → Runs ask code (Told (tables_of program) code empty_world) 0 1 start clock (returns {A = Returned} []) (Gives (Leaves (ByRaise e)) t c l w) → Moment code ask clock (outcome_of program.exceptions (Gives (Leaves (ByRaise e)) t c l w)).ticks (outcome_of program.exceptions (Gives (Leaves (ByRaise e)) t c l w))
+      raised e z1 = record {
+        n = z1.n;
+        in_time = omega (arith, z1.in_time);
+        trace = sym (ap (λ (x : State). x.log.trace) z1.comes);
+        taken = sym (ap (λ (x : State). x.log.taken) z1.comes);
+        end = ap (end_of code) z1.comes ∙ ap (λ names. Some (end_by names (ByRaise e))) laid.exceptions;
+        fine = λ h. let bad : Giving (ended {A = Returned} (Leaves (ByRaise e))) ≡ Stuck = sym (ap (λ (x : State). x.mode) z1.comes) ∙ h in cc;
+        why = inr (subst (Stays ask code) (sym z1.comes) (ended_stays ask code (gives [] (ended {A = Returned} (Leaves (ByRaise e))) l w) (inl (λ h. cc))));
+      }
   moment_of ask clock (Stops s t l) z =
       let x = steps ask code z.n start in
       let over : end_of code x ≡ Some (EndOf.TheVariants.Stopped s) = stopped_end code.exceptions.items x.mode x.control s z.over in

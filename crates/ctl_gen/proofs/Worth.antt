@@ -2,28 +2,31 @@
 use Rattle.std.proofs.Common.{◌≡◌, ℕ, ◌+◌, ◌≤◌, List, [], ◌∷◌, Option, Some, None, sym, ap, ◌∙◌, subst, arith}
 use Rattle.ctl_meaning.specs.World.{Log, World}
 use Rattle.ctl_meaning.specs.Choice.{Ask}
-use Rattle.ctl_meaning.specs.Outcome.{Way, ByExit, ByReturn, ByRaise, Result, Goes, Leaves, Out, Gives, Stops, Cut, Act, add, bind, on_goes, given}
+use Rattle.ctl_meaning.specs.Outcome.{Way, ByRaise, Result, Goes, Leaves, Out, Gives, Stops, Cut, Act, add, bind, on_goes, given}
 use Rattle.ctl_code.specs.declared.code.Code.{Code}
 use Rattle.ctl_code.specs.States.{State}
 use Rattle.ctl_gen.proofs.Cells.{IsCell}
-use Rattle.ctl_gen.proofs.Follow.{Runs, after_comes, added, bind_add}
+use Rattle.ctl_gen.proofs.Follow.{by_raise, Runs, after_comes, added, bind_add}
+
+-- less is true of it
+pub cell_less : (P Q : ℕ → World → Type 0) → ((n : ℕ) (w : World) → P n w → Q n w) → (o : Out (List ℕ)) → IsCell P o → IsCell Q o
+cell_less P Q f (Gives (Goes u) t c l w) h = (h.0, h.1, f h.0 w h.2)
+cell_less P Q f (Gives (Leaves y) t c l w) h = h
+cell_less P Q f (Stops s t l) h = tt
+cell_less P Q f (Cut t c l) h = tt
 
 -- more ticks leave it one cell
 pub cell_later : (P : ℕ → World → Type 0) (t : ℕ) (o : Out (List ℕ)) → IsCell P o → IsCell P (add t o)
 unfolding add
 cell_later P t (Gives (Goes u) v c l w) h = h
-cell_later P t (Gives (Leaves ByExit) v c l w) h = absurd h
-cell_later P t (Gives (Leaves (ByReturn y)) v c l w) h = absurd h
-cell_later P t (Gives (Leaves (ByRaise y)) v c l w) h = tt
+cell_later P t (Gives (Leaves y) v c l w) h = h
 cell_later P t (Stops s v l) h = tt
 cell_later P t (Cut v c l) h = tt
 
 pub cell_then : (P Q : ℕ → World → Type 0) (o : Out (List ℕ)) (f : List ℕ → Act (List ℕ)) → IsCell P o → ((n c : ℕ) (l : Log) (w : World) → P n w → IsCell Q (f (n ∷ []) c l w)) → IsCell Q (bind o (on_goes f))
 unfolding bind on_goes add given
 cell_then P Q (Gives (Goes u) t c l w) f h z = cell_later Q t (f u c l w) (subst (λ v. IsCell Q (f v c l w)) (sym h.1) (z h.0 c l w h.2))
-cell_then P Q (Gives (Leaves ByExit) t c l w) f h z = absurd h
-cell_then P Q (Gives (Leaves (ByReturn y)) t c l w) f h z = absurd h
-cell_then P Q (Gives (Leaves (ByRaise y)) t c l w) f h z = tt
+cell_then P Q (Gives (Leaves y) t c l w) f h z = h
 cell_then P Q (Stops s t l) f h z = tt
 cell_then P Q (Cut t c l) f h z = tt
 
@@ -31,9 +34,7 @@ cell_then P Q (Cut t c l) f h z = tt
 pub cell_always : (P Q : ℕ → World → Type 0) (o : Out (List ℕ)) (f : List ℕ → Act (List ℕ)) → IsCell P o → ((u : List ℕ) (c : ℕ) (l : Log) (w : World) → IsCell Q (f u c l w)) → IsCell Q (bind o (on_goes f))
 unfolding bind on_goes add given
 cell_always P Q (Gives (Goes u) t c l w) f h z = cell_later Q t (f u c l w) (z u c l w)
-cell_always P Q (Gives (Leaves ByExit) t c l w) f h z = absurd h
-cell_always P Q (Gives (Leaves (ByReturn y)) t c l w) f h z = absurd h
-cell_always P Q (Gives (Leaves (ByRaise y)) t c l w) f h z = tt
+cell_always P Q (Gives (Leaves y) t c l w) f h z = h
 cell_always P Q (Stops s t l) f h z = tt
 cell_always P Q (Cut t c l) f h z = tt
 
@@ -43,9 +44,9 @@ module _ (ask : Ask) (code : Code) (Fits : Option Way → World → Type 0) wher
   both_cell P b h b1 h1 d e s c mid next (Gives (Goes u) t c1 l w) f le he fe is a z y =
       after_comes ask code Fits b b1 h1 d e s (mid (Goes u) l w) c c1 t next (f (Goes u) c1 l w) le fe a
       (subst (λ v. Runs ask code Fits b1 h1 (mid (Goes v) l w) c1 next (f (Goes v) c1 l w)) (sym is.1) (z is.0 c1 l w a.falls a.fits is.2))
-  both_cell P b h b1 h1 d e s c mid next (Gives (Leaves ByExit) t c1 l w) f le he fe is a z y = absurd is
-  both_cell P b h b1 h1 d e s c mid next (Gives (Leaves (ByReturn x)) t c1 l w) f le he fe is a z y = absurd is
-  both_cell P b h b1 h1 d e s c mid next (Gives (Leaves (ByRaise x)) t c1 l w) f le he fe is a z y = after_comes ask code Fits b b1 h1 d e s (mid (Leaves (ByRaise x)) l w) c c1 t next (f (Leaves (ByRaise x)) c1 l w) le fe a (y x c1 l w a.falls a.fits)
+  both_cell P b h b1 h1 d e s c mid next (Gives (Leaves x) t c1 l w) f le he fe is a z y =
+      after_comes ask code Fits b b1 h1 d e s (mid (Leaves x) l w) c c1 t next (f (Leaves x) c1 l w) le fe a
+      (by_raise (λ v. Fits (Some v) w → Runs ask code Fits b1 h1 (mid (Leaves v) l w) c1 next (f (Leaves v) c1 l w)) (λ v fits. y v c1 l w a.falls fits) x is a.fits)
   both_cell P b h b1 h1 d e s c mid next (Stops why t l) f le he fe is a z y = record { n = a.n; in_time = omega (arith, a.in_time, he); logged = a.logged; over = a.over }
   both_cell P b h b1 h1 d e s c mid next (Cut t c1 l) f le he fe is a z y = record { n = a.n; in_time = omega (arith, a.in_time, he); logged = a.logged; going = a.going; why = a.why }
 

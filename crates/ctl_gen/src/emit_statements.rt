@@ -184,7 +184,7 @@ impl Emitter {
 
     /// Adds what an exit statement is.
     fn exit_to(&mut self, landing: Option<usize>) -> Result<(), AllocError>
-        ensures { OnOk result (self.new ≡ stated (spec.exit None) landing self.old) }
+        ensures { OnOk result (self.new ≡ stated spec.departure landing self.old) }
     {
         match landing {
             Some(landing) => {

@@ -1,22 +1,22 @@
 -- Variables of bodies around, by their links.
-use Rattle.std.proofs.Common.{◌≡◌, ◌≢◌, ℕ, zero, suc, ◌+◌, ◌-◌, ◌<◌, ◌≤◌, List, [], ◌∷◌, ◌++◌, Option, Some, None, length, refl, sym, ap, ◌∙◌, subst, arith, reverse, ◌⊎◌, inl, inr}
-use Rattle.std.specs.Prelude.{slice_get, slice_set}
+use Rattle.std.proofs.Common.{◌≡◌, ℕ, zero, suc, ◌+◌, ◌-◌, ◌<◌, ◌≤◌, List, [], ◌∷◌, Option, Some, None, length, refl, sym, ap, ◌∙◌, subst, arith, reverse, ◌⊎◌, inl, inr}
+use Rattle.std.specs.Prelude.{slice_get}
 use Rattle.std.proofs.lemmas.List.{reverse-append, reverse-reverse}
 use Rattle.ctl_meaning.specs.World as W
 use Rattle.ctl_meaning.specs.World.{World, Slot, Unset, Activation}
 use Rattle.ctl_meaning.specs.Lists.{item_or, opened_lists}
-use Rattle.ctl_meaning.specs.Activations.{slot_in, change_slot, opened_activations}
-use Rattle.ctl_meaning.specs.Names.{slot_at, opened_names}
+use Rattle.ctl_meaning.specs.Activations.{slot_in, opened_activations}
+use Rattle.ctl_meaning.specs.Names.{opened_names}
 use Rattle.ctl_code.specs.declared.code.Code.{Code}
 use Rattle.ctl_code.specs.States as T
 use Rattle.ctl_code.specs.Table.{out_of, cell_at}
 use Rattle.ctl_machine.specs.declared.engine.Engine.{Engine}
 use Rattle.ctl_machine.specs.declared.frame.Master.{Master}
 use Rattle.ctl_machine.specs.declared.frame.Owned.{Owned}
-use Rattle.ctl_machine.specs.Masters.{Head, heads_of, AreBelow, AreMasters, no_masters, newest_master, IsAmong, display_from, first_display}
+use Rattle.ctl_machine.specs.Masters.{Head, heads_of, AreBelow, AreMasters, newest_master, IsAmong, display_from}
 use Rattle.ctl_machine.specs.Links.{AreLinked, IsAtPlace}
 use Rattle.ctl_machine.specs.Shows.{Kept, Holds, kept}
-use Rattle.ctl_machine.specs.Variables.{IsVariable, IsBeyond, IsNoVariable}
+use Rattle.ctl_machine.specs.Variables.{IsVariable, IsNoVariable}
 use Rattle.ctl_machine.proofs.Lists.{eq_differs}
 use Rattle.ctl_machine.proofs.Links.{get_split, none_around, are_linked}
 use Rattle.ctl_machine.proofs.Places.{out_none, out_more}

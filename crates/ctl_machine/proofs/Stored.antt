@@ -1,5 +1,5 @@
 -- A variable of a body around is given a value.
-use Rattle.std.proofs.Common.{◌≡◌, ℕ, zero, suc, ◌+◌, ◌<◌, ◌≤◌, List, [], ◌∷◌, Some, length, refl, sym, ap, ◌∙◌, subst, arith, reverse, inl, inr}
+use Rattle.std.proofs.Common.{◌≡◌, ℕ, zero, suc, ◌+◌, ◌≤◌, List, [], ◌∷◌, Some, length, refl, sym, ap, ◌∙◌, subst, arith, inl, inr}
 use Rattle.std.specs.Prelude.{slice_get, slice_set}
 use Rattle.ctl_program.specs.declared.types.Ty.{Ty}
 use Rattle.ctl_meaning.specs.World as W
@@ -20,7 +20,7 @@ use Rattle.ctl_machine.specs.declared.frame.Mode.TheVariants as ModeOf
 use Rattle.ctl_machine.specs.declared.frame.Owned.{Owned}
 use Rattle.ctl_machine.specs.Masters.{Head, heads_of, first_display, AreMasters, newest_master, AreBelow, IsAmong}
 use Rattle.ctl_machine.specs.Shows.{Sized, Kept, Holds, kept, with_cells}
-use Rattle.ctl_machine.specs.Moves.{Inside, Before, Makes, GoesOn, here_of}
+use Rattle.ctl_machine.specs.Moves.{Before, Makes, GoesOn, here_of}
 use Rattle.ctl_machine.specs.Variables.{IsVariable, IsNoVariable}
 use Rattle.ctl_machine.proofs.Slots.{HaveNo, unwritten, own_written, other_written, is_older}
 use Rattle.ctl_machine.proofs.Values.{IsTaken, taken, slot_put, cell_of_copy}

@@ -12,7 +12,7 @@ use Rattle.ctl_meaning.specs.World.{Pick, Log, World, empty_log, empty_world, Ob
 use Rattle.ctl_meaning.specs.Changes.{object_at}
 use Rattle.ctl_meaning.specs.Members.{Group, candidates_of}
 use Rattle.ctl_meaning.specs.Choice.{Ask, AreAnswers, accepted, noted, picked}
-use Rattle.ctl_meaning.specs.Outcome.{Result, Goes, Leaves, ByExit, ByReturn, ByRaise, Out, Gives, Stops, Cut, Act, Done, add, bind, given, then_always, stop, counted, spend, look, change, tell, show, after_pick, answered, choose, leave_by, nothing, done, ticked, on_goes, either, on_some, ◌>>=◌, ◌>>◌}
+use Rattle.ctl_meaning.specs.Outcome.{Result, Goes, Leaves, Out, Gives, Stops, Cut, Act, Done, add, bind, given, then_always, stop, counted, spend, look, change, tell, show, after_pick, answered, choose, leave_by, nothing, done, ticked, on_goes, either, on_some, ◌>>=◌, ◌>>◌}
 use Rattle.ctl_meaning.specs.Types.{Tables, tables_of}
 use Rattle.ctl_meaning.specs.Names.{Execution, OfSubprogram, OfAllocator, Call, Default, Tools, existing, must_exist, gone}
 use Rattle.ctl_meaning.specs.Finalization.{finalize_begun, finalize_object, finalize_one, finalize_members, finalize_group}
@@ -153,9 +153,7 @@ module _ (ask : Ask) where
   unfolding turned leave_by nothing
   turns_on m h (Goes true) = h
   turns_on m h (Goes false) = gives _
-  turns_on m h (Leaves ByExit) = gives _
-  turns_on m h (Leaves (ByReturn v)) = gives _
-  turns_on m h (Leaves (ByRaise e)) = gives _
+  turns_on m h (Leaves y) = gives _
 
   pub turns_at : (n : ℕ) (m : Act Bool) → Advancing ask m → (c : ℕ) (l : Log) (w : World) → Advances ask c l (turns n m c l w)
   unfolding turns

@@ -11,7 +11,7 @@ use Rattle.ctl_meaning.specs.Lists.{any_of, pull_item}
 use Rattle.ctl_meaning.specs.Changes.{object_at, begin_finalization, join}
 use Rattle.ctl_meaning.specs.Members.{Group, candidates_of, count_due}
 use Rattle.ctl_meaning.specs.Choice.{Ask, accepted, noted, picked}
-use Rattle.ctl_meaning.specs.Outcome.{Result, Goes, Leaves, ByExit, ByReturn, ByRaise, Out, Gives, Stops, Cut, Act, Done, add, bind, given, then_always, stop, counted, spend, look, change, show, after_pick, answered, choose, leave_by, nothing, done, ticked, on_goes, either, on_some, ◌>>=◌, ◌>>◌}
+use Rattle.ctl_meaning.specs.Outcome.{Result, Goes, Leaves, Out, Gives, Stops, Cut, Act, Done, add, bind, given, then_always, stop, counted, spend, look, change, show, after_pick, answered, choose, leave_by, nothing, done, ticked, on_goes, either, on_some, ◌>>=◌, ◌>>◌}
 use Rattle.ctl_meaning.specs.Types.{Tables, tables_of}
 use Rattle.ctl_meaning.specs.Names.{Execution, OfSubprogram, OfAllocator, Call, Default, Returned, Tools, existing, must_exist, gone}
 use Rattle.ctl_meaning.specs.Finalization.{finalize_begun, finalize_object, finalize_one, finalize_members, finalize_group}
@@ -157,9 +157,7 @@ module _ (tables : Tables) (ask : Ask) where
     unfolding bind turned nothing leave_by
     after_turn n c m p (Gives (Goes true) t c1 l1 w1) e i h f x = let g = h.falls in adds t c p (turns n m c1 l1 w1) (after c c1 p (c1 + count tables w1) (turns n m c1 l1 w1) g h.shrinks (x c1 l1 w1 (omega arith) (omega arith)))
     after_turn n c m p (Gives (Goes false) t c1 l1 w1) e i h f x = left_with c p t c1 l1 w1 _ h.falls h.shrinks
-    after_turn n c m p (Gives (Leaves ByExit) t c1 l1 w1) e i h f x = left_with c p t c1 l1 w1 _ h.falls h.shrinks
-    after_turn n c m p (Gives (Leaves (ByReturn v)) t c1 l1 w1) e i h f x = left_with c p t c1 l1 w1 _ h.falls h.shrinks
-    after_turn n c m p (Gives (Leaves (ByRaise y)) t c1 l1 w1) e i h f x = left_with c p t c1 l1 w1 _ h.falls h.shrinks
+    after_turn n c m p (Gives (Leaves y) t c1 l1 w1) e i h f x = left_with c p t c1 l1 w1 _ h.falls h.shrinks
     after_turn n c m p (Stops s t l1) e i h f x = record { falls = tt; shrinks = tt; cause = tt }
     after_turn n c m p (Cut t c1 l1) e i h f x = record { falls = h.falls; shrinks = tt; cause = h.cause }
 

@@ -15,7 +15,6 @@ use Rattle.ctl_program.specs.declared.operators.Operation.{Operation}
 use Rattle.ctl_program.specs.declared.operators.Direction.{Direction}
 use Rattle.ctl_program.specs.declared.operators.Direction.TheVariants.{Upward, Downward}
 use Rattle.ctl_program.specs.declared.operators.SubprogramKind.{SubprogramKind}
-use Rattle.ctl_program.specs.declared.operators.SubprogramKind.TheVariants.{Procedure, Function}
 use Rattle.ctl_program.specs.declared.operators.UnaryOp.{UnaryOp}
 use Rattle.ctl_program.specs.declared.operators.BinaryOp.{BinaryOp}
 use Rattle.ctl_program.specs.declared.expression.Actual.TheOpen.{Actual-F, Expr-F, Name-F}
@@ -30,7 +29,7 @@ use Rattle.ctl_meaning.specs.Lists.{pull_item, pull_rest}
 use Rattle.ctl_meaning.specs.Changes.{object_at}
 use Rattle.ctl_meaning.specs.Members.{Group}
 use Rattle.ctl_meaning.specs.Choice.{Ask}
-use Rattle.ctl_meaning.specs.Outcome.{Way, ByExit, ByReturn, ByRaise, Result, Goes, Leaves, Act, Done, on_goes, ◌>>=◌, ◌>>◌, done, nothing, leave_by, raise, ticked, spend, choose, told, attempt, Tried, Fine, Raised, when, either, on_some}
+use Rattle.ctl_meaning.specs.Outcome.{Way, ByRaise, Result, Goes, Leaves, Act, Done, on_goes, ◌>>=◌, ◌>>◌, done, nothing, leave_by, raise, ticked, spend, choose, raised_by, tried, told, attempt, Tried, Fine, Raised, when, either, on_some}
 use Rattle.ctl_meaning.specs.Types.{Tables, Category, Elementary, Composite, category_of, Placed, depth, of_record}
 use Rattle.ctl_meaning.specs.Names.{OfSubprogram, OfAllocator, Call as Caller, Default, Tools, Found, InObject, InCopy, Alone, gone, existing, must_exist, read_part, write_part, read_found, write_found, find_var, dereferenced, narrowed, one_step, walk, begins_as, or_constraint_error}
 use Rattle.ctl_meaning.specs.Marks.{with_mark_pool, mark, default_subpool, subpool_function, discriminant}
@@ -93,10 +92,7 @@ module _ (t : Tables) (ask other : Ask) (call spare : Caller) (default fallback 
 
   k_told : {A : Type 0} (r : Result A) → Same (told r) (told r)
   unfolding told
-  k_told (Goes a) = k_done (Fine a)
-  k_told (Leaves ByExit) = k_leave ByExit
-  k_told (Leaves (ByReturn v)) = k_leave (ByReturn v)
-  k_told (Leaves (ByRaise e)) = k_done (Raised e)
+  k_told r = closed.gives (tried r)
 
   k_attempt : {A : Type 0} {m n : Act A} → Same m n → Same (attempt m) (attempt n)
   unfolding attempt
@@ -757,9 +753,7 @@ module _ (t : Tables) (ask other : Ask) (call spare : Caller) (default fallback 
       unfolding turned
       k_turned h (Goes true) = h
       k_turned h (Goes false) = k_nothing
-      k_turned h (Leaves ByExit) = k_nothing
-      k_turned h (Leaves (ByReturn v)) = k_leave _
-      k_turned h (Leaves (ByRaise e)) = k_leave _
+      k_turned h (Leaves y) = closed.gives _
 
       k_one_turn : {m n : Act Done} → Same m n → Same (one_turn m) (one_turn n)
       unfolding one_turn
@@ -778,9 +772,7 @@ module _ (t : Tables) (ask other : Ask) (call spare : Caller) (default fallback 
       k_handled : (f g : ℕ → Act Done) → ((e : ℕ) → Same (f e) (g e)) → (r : Result Done) → Same (handled f r) (handled g r)
       unfolding handled
       k_handled f g h (Goes a) = k_nothing
-      k_handled f g h (Leaves ByExit) = k_leave _
-      k_handled f g h (Leaves (ByReturn v)) = k_leave _
-      k_handled f g h (Leaves (ByRaise e)) = h e
+      k_handled f g h (Leaves y) = k_on_some (raised_by y) (k_leave y) h
 
       k_scalar : {m n : Act (List ℕ)} {f g : ℕ → Act Done} → Same m n → ((i : ℕ) → Same (f i) (g i)) → Same (scalar m f) (scalar n g)
       unfolding scalar
@@ -921,14 +913,7 @@ module _ (t : Tables) (ask other : Ask) (call spare : Caller) (default fallback 
 
       k_returned : (b : SubprogramKind) (ss : List Slot) (r : Result Done) → Same (returned b ss r) (returned b ss r)
       unfolding returned
-      k_returned Function ss (Goes a) = k_raise _
-      k_returned Procedure ss (Goes a) = k_done _
-      k_returned Function ss (Leaves ByExit) = k_raise _
-      k_returned Procedure ss (Leaves ByExit) = k_done _
-      k_returned Function ss (Leaves (ByReturn v)) = k_done _
-      k_returned Procedure ss (Leaves (ByReturn v)) = k_done _
-      k_returned Function ss (Leaves (ByRaise e)) = k_raise _
-      k_returned Procedure ss (Leaves (ByRaise e)) = k_raise _
+      k_returned b ss r = closed.gives _
 
       pub k_run_routine : (env : List ℕ) (ss : List Slot) (s : Routine) → GoodBody s.body → Same (run_routine k env ss s) (run_routine j env ss s)
       unfolding run_routine

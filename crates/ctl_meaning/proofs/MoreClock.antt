@@ -10,7 +10,7 @@ use Rattle.ctl_meaning.specs.World.{Log, World, empty_log, empty_world, Object, 
 use Rattle.ctl_meaning.specs.Changes.{object_at}
 use Rattle.ctl_meaning.specs.Members.{Group, candidates_of, count_due}
 use Rattle.ctl_meaning.specs.Choice.{Ask, picked}
-use Rattle.ctl_meaning.specs.Outcome.{Result, Goes, Leaves, ByExit, ByReturn, ByRaise, Out, Gives, Stops, Cut, Act, Done, add, bind, given, then_always, stop, counted, spend, look, change, show, after_pick, answered, choose, leave_by, nothing, done, ticked, on_goes, either, on_some, ◌>>=◌, ◌>>◌}
+use Rattle.ctl_meaning.specs.Outcome.{Result, Goes, Leaves, Out, Gives, Stops, Cut, Act, Done, add, bind, given, then_always, stop, counted, spend, look, change, show, after_pick, answered, choose, leave_by, nothing, done, ticked, on_goes, either, on_some, ◌>>=◌, ◌>>◌}
 use Rattle.ctl_meaning.specs.Types.{Tables, tables_of}
 use Rattle.ctl_meaning.specs.Names.{Execution, OfSubprogram, OfAllocator, Call, Default, Tools, existing, must_exist, gone}
 use Rattle.ctl_meaning.specs.Finalization.{finalize_begun, finalize_object, finalize_one, finalize_members, finalize_group}
@@ -135,9 +135,7 @@ module _ (ask : Ask) (more : ℕ) where
   unfolding turned leave_by nothing
   turns_on h (Goes true) = h
   turns_on h (Goes false) = gives _
-  turns_on h (Leaves ByExit) = gives _
-  turns_on h (Leaves (ByReturn v)) = gives _
-  turns_on h (Leaves (ByRaise e)) = gives _
+  turns_on h (Leaves y) = gives _
 
   turns_at : (i k : ℕ) (m n : Act Bool) → Longer m n → i ≤ k → (c : ℕ) (l : Log) (w : World) → Continues ask more (turns i m c l w) (turns k n (c + more) l w)
   unfolding turns

@@ -13,7 +13,7 @@ use Rattle.ctl_meaning.specs.Objects.{change_in, with_cells, with_begun, with_jo
 use Rattle.ctl_meaning.specs.Changes.{take_object_number, object_at, new_object, create, create_at, put_into, write_cells, forget, forget_all, open_master, close_master, add_layer, take_layer, set_slot, add_collection, start_collections, join, begin_finalization, end_finalization, in_pools, close_pool_at, empty_subpool}
 use Rattle.ctl_meaning.specs.Members.{Group, candidates_of}
 use Rattle.ctl_meaning.specs.Choice.{Ask, picked}
-use Rattle.ctl_meaning.specs.Outcome.{Result, Goes, Leaves, ByExit, ByReturn, ByRaise, Out, Gives, Stops, Cut, Act, Done, add, bind, given, then_always, stop, counted, spend, look, change, show, after_pick, answered, choose, leave_by, nothing, done, ticked, on_goes, either, on_some, ◌>>=◌, ◌>>◌}
+use Rattle.ctl_meaning.specs.Outcome.{Result, Goes, Leaves, Out, Gives, Stops, Cut, Act, Done, add, bind, given, then_always, stop, counted, spend, look, change, show, after_pick, answered, choose, leave_by, nothing, done, ticked, on_goes, either, on_some, ◌>>=◌, ◌>>◌}
 use Rattle.ctl_meaning.specs.Types.{Tables, tables_of}
 use Rattle.ctl_meaning.specs.Names.{Execution, OfSubprogram, OfAllocator, Call, Tools, existing, must_exist, gone}
 use Rattle.ctl_meaning.specs.Finalization.{finalize_begun, finalize_object, finalize_one, finalize_members, finalize_group}
@@ -222,9 +222,7 @@ turns_on : (m : Act Done) → Keeping m → (r : Result Bool) → Keeping (turne
 unfolding turned leave_by nothing
 turns_on m h (Goes true) = h
 turns_on m h (Goes false) = gives _
-turns_on m h (Leaves ByExit) = gives _
-turns_on m h (Leaves (ByReturn v)) = gives _
-turns_on m h (Leaves (ByRaise e)) = gives _
+turns_on m h (Leaves y) = gives _
 
 turns_at : (n : ℕ) (m : Act Bool) → Keeping m → (c : ℕ) (l : Log) (w : World) → InOrder w → StaysInOrder (turns n m c l w)
 unfolding turns

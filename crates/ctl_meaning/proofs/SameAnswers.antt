@@ -11,7 +11,7 @@ use Rattle.ctl_meaning.specs.World.{Pick, Log, World, empty_log, empty_world, Ob
 use Rattle.ctl_meaning.specs.Changes.{object_at}
 use Rattle.ctl_meaning.specs.Members.{Group, candidates_of, count_due}
 use Rattle.ctl_meaning.specs.Choice.{Ask, AreAnswers, accepted, noted, picked}
-use Rattle.ctl_meaning.specs.Outcome.{Result, Goes, Leaves, ByExit, ByReturn, ByRaise, Out, Gives, Stops, Cut, Act, Done, add, bind, given, then_always, stop, counted, spend, look, change, show, after_pick, answered, choose, leave_by, nothing, done, ticked, on_goes, either, on_some, ◌>>=◌, ◌>>◌}
+use Rattle.ctl_meaning.specs.Outcome.{Result, Goes, Leaves, Out, Gives, Stops, Cut, Act, Done, add, bind, given, then_always, stop, counted, spend, look, change, show, after_pick, answered, choose, leave_by, nothing, done, ticked, on_goes, either, on_some, ◌>>=◌, ◌>>◌}
 use Rattle.ctl_meaning.specs.Types.{Tables, tables_of}
 use Rattle.ctl_meaning.specs.Names.{Execution, OfSubprogram, OfAllocator, Call, Default, Tools, existing, must_exist, gone}
 use Rattle.ctl_meaning.specs.Finalization.{finalize_begun, finalize_object, finalize_one, finalize_members, finalize_group}
@@ -132,9 +132,7 @@ module _ (ask other : Ask) where
   unfolding turned leave_by nothing
   turns_on h (Goes true) = h
   turns_on h (Goes false) = gives _
-  turns_on h (Leaves ByExit) = gives _
-  turns_on h (Leaves (ByReturn v)) = gives _
-  turns_on h (Leaves (ByRaise e)) = gives _
+  turns_on h (Leaves y) = gives _
 
   turns_at : (i : ℕ) (m n : Act Bool) → Alike m n → (c : ℕ) (l : Log) (w : World) → AnswersAlike ask other (turns i m c l w) → turns i n c l w ≡ turns i m c l w
   unfolding turns

@@ -11,6 +11,16 @@ pub data Way : Type 0 where
   ByReturn : (cells : List ℕ) → Way
   ByRaise : (exception : ℕ) → Way
 
+-- whether it completes the loop that is left, and the execution goes on behind that: an exit statement does (5.7)
+abbrev pub completes_loop : Way → Bool
+completes_loop ByExit = true
+completes_loop y = false
+
+-- the exception, if it is one
+abbrev pub raised_by : Way → Option ℕ
+raised_by (ByRaise e) = Some e
+raised_by y = None
+
 -- a construct goes on with a value, or control leaves it
 pub data Result (A : Type 0) : Type 0 where
   Goes : (a : A) → Result A
@@ -136,13 +146,15 @@ pub data Tried (A : Type 0) : Type 0 where
   Fine : (a : A) → Tried A
   Raised : (exception : ℕ) → Tried A
 
-unfoldable pub told : {A : Type 0} → Result A → Act (Tried A)
-told (Goes a) = done (Fine a)
-told (Leaves ByExit) = leave_by ByExit
-told (Leaves (ByReturn v)) = leave_by (ByReturn v)
-told (Leaves (ByRaise e)) = done (Raised e)
-
 -- an exception becomes a value
+abbrev pub tried : {A : Type 0} → Result A → Result (Tried A)
+tried (Goes a) = Goes (Fine a)
+tried (Leaves (ByRaise e)) = Goes (Raised e)
+tried (Leaves y) = Leaves y
+
+unfoldable pub told : {A : Type 0} → Result A → Act (Tried A)
+told r = given (tried r)
+
 unfoldable pub attempt : {A : Type 0} → Act A → Act (Tried A)
 attempt m = then_always m told
 

@@ -17,7 +17,7 @@ use Rattle.ctl_meaning.specs.Pools.{opened_pools}
 use Rattle.ctl_meaning.specs.Changes.{opened_changes}
 use Rattle.ctl_meaning.specs.Members.{opened_members}
 use Rattle.ctl_meaning.specs.Choice.{Ask, opened_choice}
-use Rattle.ctl_meaning.specs.Outcome.{program_error, Way, ByExit, ByReturn, ByRaise, Result, Goes, Leaves, Out, Gives, Stops, Cut, Act, Done, ◌>>=◌, ◌>>◌, done, raise, ticked, spend, on_some, opened_outcome}
+use Rattle.ctl_meaning.specs.Outcome.{program_error, Way, ByReturn, ByRaise, Result, Goes, Leaves, Out, Gives, Stops, Cut, Act, Done, given, ◌>>=◌, ◌>>◌, done, ticked, spend, on_some, opened_outcome}
 use Rattle.ctl_meaning.specs.Numbers.{opened_numbers}
 use Rattle.ctl_meaning.specs.Types.{Tables, tables_of, of_parent, opened_types}
 use Rattle.ctl_meaning.specs.Names.{Execution, OfSubprogram, OfAllocator, Returned, Call, Default, Tools, gone, opened_names}
@@ -70,13 +70,14 @@ meaning_of p = record { tables = tables_of p; defaults = defaults_from [] p.reco
 
 -- a function that reaches its end raises Program_Error, outside its own handlers (6.5). An exit statement stands in a loop (5.7); one
 -- that stands in none would end the body
+abbrev pub handed_back : SubprogramKind → List Slot → Result Done → Result Returned
+handed_back kind slots (Leaves (ByReturn v)) = Goes (record { cells = v; slots = slots })
+handed_back kind slots (Leaves (ByRaise e)) = Leaves (ByRaise e)
+handed_back Function slots r = Leaves (ByRaise program_error)
+handed_back Procedure slots r = Goes (record { cells = []; slots = slots })
+
 unfoldable pub returned : SubprogramKind → List Slot → Result Done → Act Returned
-returned Function slots (Goes a) = raise program_error
-returned Procedure slots (Goes a) = done (record { cells = []; slots = slots })
-returned Function slots (Leaves ByExit) = raise program_error
-returned Procedure slots (Leaves ByExit) = done (record { cells = []; slots = slots })
-returned kind slots (Leaves (ByReturn v)) = done (record { cells = v; slots = slots })
-returned kind slots (Leaves (ByRaise e)) = raise e
+returned kind slots r = given (handed_back kind slots r)
 
 -- the formals have the first slots
 unfoldable pub slots_for : Body → List Slot → List Slot
@@ -139,9 +140,8 @@ unfoldable pub name_of : List (List ℕ) → ℕ → List ℕ
 name_of names e = item_or [] (slice_get names e)
 
 unfoldable pub end_by : List (List ℕ) → Way → End
-end_by names ByExit = EndOf.TheVariants.Done
-end_by names (ByReturn v) = EndOf.TheVariants.Done
 end_by names (ByRaise e) = EndOf.TheVariants.Raised (name_of names e)
+end_by names y = EndOf.TheVariants.Done
 
 unfoldable pub outcome_of : List (List ℕ) → Out Returned → Outcome
 outcome_of names (Gives (Goes a) t c l w) = record { trace = l.trace; picks = l.taken; end = Some EndOf.TheVariants.Done; ticks = t }

@@ -22,7 +22,7 @@ use Rattle.ctl_meaning.specs.World.{Slot, Unset, Copies}
 use Rattle.ctl_meaning.specs.Lists.{contains, last_of}
 use Rattle.ctl_meaning.specs.Activations.{master_of}
 use Rattle.ctl_meaning.specs.Changes.{set_slot}
-use Rattle.ctl_meaning.specs.Outcome.{ByExit, ByReturn, ByRaise, Result, Goes, Leaves, Cut, Act, Done, given, ◌>>=◌, ◌>>◌, done, nothing, leave_by, raise, counted, ticked, then_always, spend, change, show, when, either, on_some}
+use Rattle.ctl_meaning.specs.Outcome.{completes_loop, raised_by, ByExit, ByReturn, Result, Goes, Leaves, Cut, Act, Done, given, ◌>>=◌, ◌>>◌, done, nothing, leave_by, raise, counted, ticked, then_always, spend, change, show, when, either, on_some}
 use Rattle.ctl_meaning.specs.Numbers.{signed, cell_of, is_true, integer_image, boolean_image}
 use Rattle.ctl_meaning.specs.Types.{Tables, Elementary, Composite, cells_of, has_controlled, operation, record_of}
 use Rattle.ctl_meaning.specs.Names.{Tools, Found, InObject, existing, scalar_of, read_found, write_found, object_of, same_found}
@@ -97,9 +97,7 @@ leaving m = then_always m (λ r. ticked (given r))
 unfoldable pub turned : Act Done → Result Bool → Act Done
 turned again (Goes true) = again
 turned again (Goes false) = nothing
-turned again (Leaves ByExit) = nothing
-turned again (Leaves (ByReturn v)) = leave_by (ByReturn v)
-turned again (Leaves (ByRaise e)) = leave_by (ByRaise e)
+turned again (Leaves y) = given (if completes_loop y then Goes tt else Leaves y)
 
 unfoldable pub turns : ℕ → Act Bool → Act Done
 turns zero turn c l w = Cut 0 c l
@@ -136,9 +134,7 @@ set_loop env v z = change (set_slot (master_of env v) v.slot (Copies (cell_of z 
 
 unfoldable pub handled : (ℕ → Act Done) → Result Done → Act Done
 handled f (Goes a) = nothing
-handled f (Leaves ByExit) = leave_by ByExit
-handled f (Leaves (ByReturn v)) = leave_by (ByReturn v)
-handled f (Leaves (ByRaise e)) = f e
+handled f (Leaves y) = on_some (raised_by y) (leave_by y) f
 
 -- whether a handler with these choices handles an exception (11.4)
 unfoldable pub does_handle : Choices → ℕ → Bool

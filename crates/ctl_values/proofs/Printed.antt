@@ -1,5 +1,5 @@
 -- A text takes as many values as it has images.
-use Rattle.std.proofs.Common.{◌≡◌, ℕ, ◌+◌, List, [], ◌∷◌, ◌++◌, take, refl, ap, add-one}
+use Rattle.std.proofs.Common.{◌≡◌, ℕ, List, [], ◌∷◌, ◌++◌, take, refl, ap, add-one}
 use Rattle.ctl_meaning.specs.Numbers.{integer_image, boolean_image}
 use Rattle.ctl_code.specs.declared.template.TextPart.{TextPart}
 use Rattle.ctl_code.specs.declared.template.TextPart.TheVariants.{Literal, IntegerImage, BooleanImage}

@@ -1,4 +1,4 @@
-use Rattle.std.proofs.Common.{◌≡◌, ◌-◌, ◌<◌, ap, arith, length, suc}
+use Rattle.std.proofs.Common.{◌-◌, ap, arith, length}
 use Rattle.ctl_machine.proofs.Tops.{top_replaced_at}
 use Rattle.ctl_machine.proofs.calls.replace_top.Goals as goal
 

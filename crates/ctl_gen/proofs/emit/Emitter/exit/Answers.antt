@@ -1,13 +1,13 @@
-use Rattle.std.proofs.Common.{ap, sym, ◌∙◌, option_map}
+use Rattle.std.proofs.Common.{ap, refl, sym, ◌∙◌, option_map}
 use Rattle.ctl_gen.specs.Emitted.{stated}
 use Rattle.ctl_gen.specs.Values.{value_code}
-use Rattle.ctl_gen.specs.Layout.{exit}
+use Rattle.ctl_gen.specs.Layout.{departure, exit}
 use Rattle.ctl_gen.proofs.Emission.{on_ok}
-use Rattle.ctl_gen.proofs.EmittedStatements.{exit_when}
+use Rattle.ctl_gen.proofs.EmittedStatements.{only_if_emitted}
 use Rattle.ctl_gen.proofs.emit.Emitter.exit.Goals as goal
 
 pub returns-in_ok-take-in-Some : goal.returns-in_ok-take-in-Some
 returns-in_ok-take-in-Some c = on_ok _ _ c.exit_to-in-Some.result c.exit_to-in-Some.ensures (λ e.
-    exit_when (value_code c.in-Some.test) c.in_ok-from-in-Some.from c.args.landing c.args.self.now c.held.new.self c.take.new.self c.exit_to-in-Some.new.self c.requires
+    only_if_emitted (value_code c.in-Some.test) departure 1 c.in_ok-from-in-Some.from c.args.landing c.args.self.now c.held.new.self c.take.new.self c.exit_to-in-Some.new.self c.requires refl
     c.in_ok-from-in-Some.ensures.held c.in_ok-from-in-Some.ensures.cell c.in_ok-take-in-Some.ensures e
     ∙ ap (λ o. stated (exit (option_map value_code o)) c.args.landing c.args.self.now) (sym c.in-Some.is))

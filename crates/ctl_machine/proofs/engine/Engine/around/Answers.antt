@@ -1,5 +1,5 @@
-use Rattle.std.proofs.Common.{◌≡◌, ◌∙◌, ◌-◌, sym, arith, ap, take}
-use Rattle.ctl_machine.proofs.Links.{stops_here, goes_further, none_around, display_of_all, got}
+use Rattle.std.proofs.Common.{◌∙◌, ◌-◌, arith}
+use Rattle.ctl_machine.proofs.Links.{stops_here, goes_further, got}
 use Rattle.ctl_machine.proofs.engine.Engine.around.Goals as goal
 
 pub returns-then-master-level-clause-display : goal.returns-then-master-level-clause-display

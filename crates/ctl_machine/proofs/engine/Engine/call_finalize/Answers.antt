@@ -1,4 +1,4 @@
-use Rattle.std.proofs.Common.{◌≡◌, ◌+◌, ◌<◌, ◌≤◌, [], ◌∷◌, ◌++◌, List, ℕ, Some, drop, length, reverse, slice_get, slice_set, ap, sym, subst, refl, arith, ◌∙◌}
+use Rattle.std.proofs.Common.{◌≡◌, ◌+◌, ◌≤◌, [], ◌∷◌, ◌++◌, List, ℕ, drop, length, reverse, slice_get, slice_set, ap, subst, refl, arith, ◌∙◌}
 use Rattle.ctl_tree.specs.declared.event.Cause.TheVariants.{Scope}
 use Rattle.ctl_tree.specs.declared.event.Event.{Event}
 use Rattle.ctl_tree.specs.declared.event.Event.TheVariants.{Finalize}
@@ -7,9 +7,7 @@ use Rattle.ctl_code.specs.declared.kinds.Kind.TheVariants.{Body}
 use Rattle.ctl_machine.specs.declared.frame.Frame.{Frame}
 use Rattle.ctl_machine.specs.declared.frame.Frame.TheVariants as FrameOf
 use Rattle.ctl_machine.specs.declared.frame.Master.{Master}
-use Rattle.ctl_machine.specs.declared.frame.Owned.{Owned}
-use Rattle.ctl_machine.specs.declared.engine.Engine.{Engine}
-use Rattle.ctl_machine.specs.Shows.{Kept, kept}
+use Rattle.ctl_machine.specs.Shows.{Kept}
 use Rattle.ctl_machine.specs.Departing.{begun}
 use Rattle.ctl_machine.proofs.Called.{linked_by, call_makes, HasBegun, IsFinalizer}
 use Rattle.ctl_machine.proofs.engine.Engine.call_finalize.Goals as goal

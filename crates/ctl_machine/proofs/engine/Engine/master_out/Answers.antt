@@ -1,4 +1,4 @@
-use Rattle.std.proofs.Common.{◌≡◌, ℕ, suc, ◌+◌, ◌-◌, ◌∙◌, sym, ap, arith}
+use Rattle.std.proofs.Common.{◌≡◌, ℕ, suc, ◌-◌, ◌∙◌, sym, ap, arith}
 use Rattle.ctl_code.specs.Table.{out_of}
 use Rattle.ctl_machine.specs.Masters.{display_from}
 use Rattle.ctl_machine.proofs.Links.{got}

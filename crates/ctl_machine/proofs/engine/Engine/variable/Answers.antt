@@ -1,4 +1,4 @@
-use Rattle.std.proofs.Common.{◌+◌, ◌<◌, arith, inr, reverse}
+use Rattle.std.proofs.Common.{◌+◌, arith, inr}
 use Rattle.std.proofs.lemmas.Option.{slice_get_within}
 use Rattle.ctl_machine.specs.Masters.{heads_of, first_display}
 use Rattle.ctl_machine.specs.Shows.{kept}
