@@ -464,6 +464,7 @@ pub fn is_fine(code: &Code, place: usize, instr: &Instr) -> bool
         Instr::Start(entry) => is_bare(code, place) && is_in_scope(code, 0, Some(entry)),
         Instr::Enter { slots, length } => is_enter_fine(code, place, slots, length),
         Instr::Leave | Instr::Exit => is_at_end(code, place),
+        Instr::Raise(exception) => exception < code.exceptions.len(),
         Instr::Declare { slot: _, record } => is_declare_fine(code, place, record),
         Instr::Number | Instr::NewLine => leads_on(code, place, 0, None),
         Instr::Set { value, ty, to } => is_cell_of(ty, value) && puts(code, place, 0, to, ty),

@@ -1,5 +1,5 @@
 -- The code of each well-typed statement and master is well formed.
-use Rattle.std.proofs.Common.{◌≡◌, ℕ, ◌+◌, List, [], ◌∷◌, ◌++◌, length, map, Bool, true, false, Option, Some, None, option_map, refl, sym, ap, ◌∙◌, subst, arith}
+use Rattle.std.proofs.Common.{◌<◌, ◌≡◌, ℕ, ◌+◌, List, [], ◌∷◌, ◌++◌, length, map, Bool, true, false, Option, Some, None, option_map, refl, sym, ap, ◌∙◌, subst, arith}
 use Rattle.std.specs.Prelude.{◌&&◌}
 use Rattle.ctl_program.specs.declared.types.Ty.{Ty}
 use Rattle.ctl_program.specs.declared.types.Ty.TheVariants.{Integer, Count, Boolean, Address, Handle, Access, Record}
@@ -26,7 +26,7 @@ use Rattle.ctl_gen.specs.Around.{behind, local_at}
 use Rattle.ctl_gen.specs.Values.{ValueCode, is_run_type, value_code, variable_of}
 use Rattle.ctl_gen.specs.Layout.{ArmCode, ItemCode, MasterCode, StatementCode, all, all_items, arm_code, arms_run, assign, block, exit, has_no_handlers, in_master, inside, item_code, master_code, missing_statement, no_code, statement_code, tested}
 use Rattle.ctl_gen.proofs.Known.{both_true}
-use Rattle.ctl_gen.proofs.StatementLayers.{statement_assign, statement_block, statement_exit, statement_for, statement_if, statement_loop, statement_new_line, statement_null, statement_put, statement_put_line, statement_while}
+use Rattle.ctl_gen.proofs.StatementLayers.{statement_assign, statement_block, statement_exit, statement_for, statement_if, statement_loop, statement_new_line, statement_null, statement_put, statement_put_line, statement_raise, statement_while}
 use Rattle.ctl_gen.proofs.StatementLayers as L
 use Rattle.ctl_gen.proofs.TreeLayers.{arm_roll, master_roll}
 use Rattle.ctl_gen.proofs.Place.{HasAt}
@@ -45,7 +45,7 @@ slots_told (D.master {f = f} {is = items} {body = body} {hs = hs} elaborated don
     ap (λ (z : MasterCode). z.slots) (master_roll (record { slots = length f; items = items; body = body; handlers = hs }))
 
 -- the operations of each record type that is declared around a place are declared there too
-module _ (code : Code) (records : List RecordType) (k : W.Setting) (declarable : (env : W.Frames) (t : ℕ) → W.HasRecord k env t → IsDeclarable code (length env) t) where
+module _ (code : Code) (records : List RecordType) (k : W.Setting) (declarable : (env : W.Frames) (t : ℕ) → W.HasRecord k env t → IsDeclarable code (length env) t) (raisable : (x : ℕ) → x < k.exceptions → x < length code.exceptions.items) where
   -- Items ------------------------------------------------------------------------------------------
 
   may_declare : (env : W.Frames) (ty : Ty) → W.InView k env ty → MayDeclare code (length env) ty
@@ -142,6 +142,7 @@ module _ (code : Code) (records : List RecordType) (k : W.Setting) (declarable :
     statement_good {env} (D.put {ps = ps} puts) = good_as env _ _ (statement_put ps) (λ runs a n p agrees texts can. print_formed code false n ps puts runs texts.0 a.stack p)
     statement_good {env} (D.put_line {ps = ps} puts) = good_as env _ _ (statement_put_line ps) (λ runs a n p agrees texts can. print_formed code true n ps puts runs texts.0 a.stack p)
     statement_good {env} D.new_line = good_as env _ _ statement_new_line (λ runs a n p agrees texts can. one code InstrOf.NewLine a.stack (Some a.stack) (λ q next. next) p)
+    statement_good {env} (D.raise {x = x} known) = good_as env _ _ (statement_raise x) (λ runs a n p agrees texts can. one code (InstrOf.Raise x) a.stack (Some a.stack) (λ q next. raisable x known) p)
     statement_good {env} (D.exit {x = o} inside_a_loop perhaps) = good_as env _ _ (statement_exit o) (leaving_good o perhaps)
     statement_good {env} (D.choose {arms = arms} {others = others} each rest) =
         good_as env _ _ (statement_if arms others) (λ runs.
@@ -172,10 +173,9 @@ module _ (code : Code) (records : List RecordType) (k : W.Setting) (declarable :
     statement_good {env} (D.library_allocate {p = p} {x = x} {size = size} {alignment = alignment} views rooted denotes h g) = not_missing env _ (L.statement_allocate p x size alignment)
     statement_good {env} (D.library_deallocate {p = p} {x = x} {size = size} {alignment = alignment} views rooted address h g) = not_missing env _ (L.statement_deallocate p x size alignment)
     statement_good {env} (D.return {x = x} returns) = not_missing env _ (L.statement_return x)
-    statement_good {env} (D.raise {x = x} there) = not_missing env _ (L.statement_raise x)
-    statement_good {env} (D.raise_again handles) = not_missing env _ L.statement_raise_again
     statement_good {env} (D.free {t = t} {x = x} has denotes) = not_missing env _ (L.statement_free t x)
     statement_good {env} (D.release {x = x} denotes) = not_missing env _ (L.statement_release x)
+    statement_good {env} (D.raise_again handles) = not_missing env _ L.statement_raise_again
 
     each_good : {env : W.Frames} {a : D.Around} {ys : List Stmt} → DoneEach k env a ys → GoodStatement env (all (map statement_code ys))
     each_good D.no_more_statements = λ runs a n p agrees texts can. none code a.stack p

@@ -1,5 +1,5 @@
 -- The code of a well-typed program is valid, and the subprograms that such a program names are in its table.
-use Rattle.std.proofs.Common.{◌≡◌, ℕ, zero, suc, ◌+◌, ◌≤◌, List, [], ◌∷◌, ◌++◌, length, map, Option, Some, None, true, refl, sym, ap, ◌∙◌, subst, arith, take}
+use Rattle.std.proofs.Common.{◌<◌, ◌≡◌, ℕ, zero, suc, ◌+◌, ◌≤◌, List, [], ◌∷◌, ◌++◌, length, map, Option, Some, None, true, refl, sym, ap, ◌∙◌, subst, arith, take}
 use Rattle.std.specs.Prelude.{slice_get}
 use Rattle.std.proofs.lemmas.List.{length-take}
 use Rattle.ctl_program.specs.declared.types.RecordType.{RecordType}
@@ -234,6 +234,9 @@ module _ (program : Checked) (code : Code) (laid : IsLaidOut program code) (kind
         in_scope h.home env h.is.operations.finalize h.encloses (finalize_written program typed t h.is h.home e h.at_home),
       )
 
+  raisable : (x : ℕ) → x < typed.k.exceptions → x < length code.exceptions.items
+  raisable x known = let all = ap (λ (names : List (List ℕ)). length names) laid.exceptions in omega (arith, known, typed.fits.exceptions, all)
+
   -- Instructions -------------------------------------------------------------------------------------
 
   stands : Has code 0 (program_code program) None
@@ -247,7 +250,7 @@ module _ (program : Checked) (code : Code) (laid : IsLaidOut program code) (kind
       let frame = map W.OfFormal is.formals ++ h.others in
       let slots = (master_code s.body).slots in
       let over = subst (λ m. Agrees (is.home ++ frame ∷ []) (Body s.level m ∷ [])) (sym (slots_told h.body)) (agrees_body is.home frame s.level h.level) in
-      master_good code program.records typed.k declarable h.body runs (Body s.level slots) [] n p over texts tt
+      master_good code program.records typed.k declarable raisable h.body runs (Body s.level slots) [] n p over texts tt
 
   good : (f : ℕ) (s : Subprogram) → slice_get program.subprograms f ≡ Some s → GoodBody code program.records s
   good f s e =

@@ -36,6 +36,10 @@ pub statement_new_line : statement_code s.NewLine ≡ one_statement InstrOf.NewL
 unfolding statement_code
 statement_new_line = rw (← rolls-NewLine, fold-roll-Stmt) refl
 
+pub statement_raise : (e : ℕ) → statement_code (s.Raise e) ≡ one_statement (InstrOf.Raise e)
+unfolding statement_code
+statement_raise e = rw (← rolls-Raise, fold-roll-Stmt) refl
+
 pub statement_exit : (o : Option Expr) → statement_code (s.Exit o) ≡ exit (option_map value_code o)
 unfolding statement_code
 statement_exit o = rw (← rolls-Exit, fold-roll-Stmt) refl
@@ -89,10 +93,6 @@ pub statement_return : (o : Option Expr) → statement_code (s.Return o) ≡ mis
 unfolding statement_code
 statement_return o = rw (← rolls-Return, fold-roll-Stmt) refl
 
-pub statement_raise : (x : ℕ) → statement_code (s.Raise x) ≡ missing_statement
-unfolding statement_code
-statement_raise x = rw (← rolls-Raise, fold-roll-Stmt) refl
-
 pub statement_raise_again : statement_code s.RaiseAgain ≡ missing_statement
 unfolding statement_code
 statement_raise_again = rw (← rolls-RaiseAgain, fold-roll-Stmt) refl
@@ -115,10 +115,9 @@ IsMissing y =
     ⊎ (((p : Name) × (x : Name) × (size : Expr) × (alignment : Expr) × (y ≡ s.LibraryAllocate p x size alignment))
     ⊎ (((p : Name) × (x : Expr) × (size : Expr) × (alignment : Expr) × (y ≡ s.LibraryDeallocate p x size alignment))
     ⊎ (((o : Option Expr) × (y ≡ s.Return o))
-    ⊎ (((x : ℕ) × (y ≡ s.Raise x))
     ⊎ ((y ≡ s.RaiseAgain)
     ⊎ (((access : ℕ) × (x : Name) × (y ≡ s.Free access x))
-    ⊎ ((x : Name) × (y ≡ s.Release x)))))))))))
+    ⊎ ((x : Name) × (y ≡ s.Release x))))))))))
 
 pub missing_is : (y : Stmt) → IsMissing y → statement_code y ≡ missing_statement
 missing_is y (inl (x, t, a, is)) = ap statement_code is ∙ statement_assign_record x t a
@@ -128,10 +127,9 @@ missing_is y (inr (inr (inr (inl (op, x, is))))) = ap statement_code is ∙ stat
 missing_is y (inr (inr (inr (inr (inl (p, x, size, alignment, is)))))) = ap statement_code is ∙ statement_allocate p x size alignment
 missing_is y (inr (inr (inr (inr (inr (inl (p, x, size, alignment, is))))))) = ap statement_code is ∙ statement_deallocate p x size alignment
 missing_is y (inr (inr (inr (inr (inr (inr (inl (o, is)))))))) = ap statement_code is ∙ statement_return o
-missing_is y (inr (inr (inr (inr (inr (inr (inr (inl (x, is))))))))) = ap statement_code is ∙ statement_raise x
-missing_is y (inr (inr (inr (inr (inr (inr (inr (inr (inl is))))))))) = ap statement_code is ∙ statement_raise_again
-missing_is y (inr (inr (inr (inr (inr (inr (inr (inr (inr (inl (access, x, is))))))))))) = ap statement_code is ∙ statement_free access x
-missing_is y (inr (inr (inr (inr (inr (inr (inr (inr (inr (inr (x, is))))))))))) = ap statement_code is ∙ statement_release x
+missing_is y (inr (inr (inr (inr (inr (inr (inr (inl is)))))))) = ap statement_code is ∙ statement_raise_again
+missing_is y (inr (inr (inr (inr (inr (inr (inr (inr (inl (access, x, is)))))))))) = ap statement_code is ∙ statement_free access x
+missing_is y (inr (inr (inr (inr (inr (inr (inr (inr (inr (x, is)))))))))) = ap statement_code is ∙ statement_release x
 
 -- Arms and masters --------------------------------------------------------------------------------
 

@@ -130,6 +130,7 @@ impl Emitter {
             Stmt::PutLine(pieces) => self.print(true, pieces.as_slice()),
             Stmt::NewLine => self.put(Instr::NewLine),
             Stmt::Exit(condition) => self.exit(condition, landing),
+            Stmt::Raise(exception) => self.put(Instr::Raise(*exception)),
             Stmt::If(arms, others) => {
                 let end = self.arms(arms.as_slice(), landing)?;
                 self.statements(others.as_slice(), landing)?;
@@ -149,7 +150,6 @@ impl Emitter {
             | Stmt::LibraryAllocate(..)
             | Stmt::LibraryDeallocate(..)
             | Stmt::Return(_)
-            | Stmt::Raise(_)
             | Stmt::RaiseAgain
             | Stmt::Free(..)
             | Stmt::Release(_) => self.put(Instr::Missing),

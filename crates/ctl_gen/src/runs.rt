@@ -235,7 +235,7 @@ fn statement(statement: &Stmt, records: &[RecordType]) -> bool
     ensures { result ≡ (spec.statement_code statement.now).runs records.now }
 {
     match statement {
-        Stmt::Null | Stmt::NewLine => true,
+        Stmt::Null | Stmt::NewLine | Stmt::Raise(_) => true,
         Stmt::Assign(name, expression) => is_assigned(name, expression),
         Stmt::Put(text) | Stmt::PutLine(text) => pieces(text.as_slice()),
         Stmt::Exit(condition) => is_exit(condition),
@@ -255,7 +255,6 @@ fn statement(statement: &Stmt, records: &[RecordType]) -> bool
         | Stmt::LibraryAllocate(..)
         | Stmt::LibraryDeallocate(..)
         | Stmt::Return(_)
-        | Stmt::Raise(_)
         | Stmt::RaiseAgain
         | Stmt::Free(..)
         | Stmt::Release(_) => false,

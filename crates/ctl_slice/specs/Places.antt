@@ -49,7 +49,7 @@ item_of place (kind.Instance n m actuals) = Some place
 item_of place (kind.Incomplete n t) = Some place
 item_of place (kind.«Type» n d) = where_left_out (of_type d) place
 item_of place (kind.StoragePool t m) = Some place
-item_of place (kind.Exceptions ns) = Some place
+item_of place (kind.Exceptions ns) = None
 item_of place (kind.Objects os) = where_left_out (of_objects os) place
 
 -- no handler is run yet (11.2)
@@ -75,7 +75,7 @@ statement_step (Statement-F.Assignment place to x) = None
 statement_step (Statement-F.Call place n) = where_left_out (of_call n.first.denoted) place
 statement_step (Statement-F.Exit place c) = None
 statement_step (Statement-F.Return place x) = Some place
-statement_step (Statement-F.Raise place m) = Some place
+statement_step (Statement-F.Raise place m) = None
 statement_step (Statement-F.RaiseAgain place) = Some place
 statement_step (Statement-F.If place first more otherwise) = conditional first more otherwise
 statement_step (Statement-F.Loop place ss) = first_of ss

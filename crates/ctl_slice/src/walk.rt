@@ -83,10 +83,10 @@ fn item(item: &Item<Definition, Use>) -> Option<Span>
         },
         ItemKind::Type(_, definition) => where_left_out(of_type(definition), item.span),
         ItemKind::Objects(objects) => where_left_out(of_objects(objects), item.span),
-        ItemKind::Instance(..)
-        | ItemKind::Incomplete(..)
-        | ItemKind::StoragePool(..)
-        | ItemKind::Exceptions(_) => Some(item.span),
+        ItemKind::Exceptions(_) => None,
+        ItemKind::Instance(..) | ItemKind::Incomplete(..) | ItemKind::StoragePool(..) => {
+            Some(item.span)
+        }
     }
 }
 
@@ -109,10 +109,12 @@ fn statement(statement: &Statement<Definition, Use>) -> Option<Span>
     ensures { result ≡ spec.statement statement.now }
 {
     match statement {
-        Statement::Null(_) | Statement::Assignment(..) | Statement::Exit(..) => None,
+        Statement::Null(_)
+        | Statement::Assignment(..)
+        | Statement::Exit(..)
+        | Statement::Raise(..) => None,
         Statement::Call(place, name) => where_left_out(of_call(name.first.denoted), *place),
         Statement::Return(place, _) => Some(*place),
-        Statement::Raise(place, _) => Some(*place),
         Statement::RaiseAgain(place) => Some(*place),
         Statement::If(_, first, more, otherwise) => {
             let opening = branch(first);

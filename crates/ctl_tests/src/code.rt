@@ -8,6 +8,7 @@ use ctl_code::code::{Cell, Code, Entry, Instr, Named, Operations};
 use ctl_code::template::{Template, TextPart};
 use ctl_program::operators::{Direction, Shortcut, UnaryOp};
 use ctl_program::types::Ty;
+use ctl_tree::text::Text;
 use std::alloc::{AllocError, Global};
 use std::test::Fail;
 
@@ -209,7 +210,7 @@ const EACH_INSTRUCTION: &[Line] = &[
         },
         "fi",
     ),
-    (Instr::Leave, "f"),
+    (Instr::Raise(0), "f"),
 ];
 
 /// The place of the Finalize there, and one inside a block.
@@ -360,6 +361,13 @@ const OPERAND_LEFT_OVER: &[Line] = &[
     (Instr::Leave, "mi"),
 ];
 
+/// An exception that is not in the table.
+const EXCEPTION_PAST_THE_TABLE: &[Line] = &[
+    (Instr::Start(0), ""),
+    (Instr::Raise(1), "m"),
+    (Instr::Leave, "m"),
+];
+
 /// A text with an Integer and a Boolean image.
 fn two_images(alloc: Global) -> Result<Template, AllocError> {
     let mut text = Template::new(alloc);
@@ -401,7 +409,7 @@ fn code_of(
             },
         ]?,
         texts: vec![in alloc; two_images(alloc)?]?,
-        exceptions: Vec::new(alloc),
+        exceptions: vec![in alloc; Text::from_slice(alloc, b"CONSTRAINT_ERROR")?]?,
     })
 }
 
@@ -440,6 +448,7 @@ fn faults_are_refused(rt: HostRuntime) -> Result<(), Fail> {
         (ANOTHER_CELL, "an operand in another cell"),
         (NEXT_OUTSIDE, "a next turn without bounds"),
         (TEXT_PAST_THE_TABLE, "a text past the table"),
+        (EXCEPTION_PAST_THE_TABLE, "an exception past the table"),
         (OPERAND_LEFT_OVER, "an operand that is left over"),
     ] {
         assert!(rt; !is_accepted_with_finalize(alloc, lines)?, "{fault}");

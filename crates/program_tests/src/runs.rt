@@ -45,6 +45,21 @@ const COUNTED_TRACE: &str = "print  2TRUE 3\nprint  1FALSE 3\nend done\n";
 /// Division by zero raises Constraint_Error (RM 4.5.5).
 const ZERO_DIVISOR: &[u8] = b"procedure Main is X : Integer := 0; begin X := 1 / X; end Main;";
 
+/// A Finalize that raises stops no other finalization of its master, and becomes Program_Error then; the statement behind the block is not
+/// executed (RM 7.6.1, 11.3).
+const FAILING_FINALIZE: &[u8] =
+    b"with Ada.Finalization; use Ada.Finalization; with Ada.Text_IO; use Ada.Text_IO; procedure Main is type A is new Controlled with null record; overriding procedure Finalize (X : in out A); Lost : exception; procedure Finalize (X : in out A) is begin Put_Line (\"a\"); raise Lost; end Finalize; begin declare V : A; W : A; begin null; end; Put_Line (\"no\"); end Main;";
+
+const FAILING_FINALIZE_TRACE: &str =
+    "live 1 m2\nlive 2 m2\nfinalize 2 scope\nprint a\nnewline\nfinalize 1 scope\nprint a\nnewline\nend raised Program_Error\n";
+
+/// An exception of the text's own leaves a loop, two blocks and the main procedure (RM 11.3, 11.4).
+const RAISED: &[u8] =
+    b"with Ada.Finalization; use Ada.Finalization; with Ada.Text_IO; use Ada.Text_IO; procedure Main is type A is new Controlled with null record; overriding procedure Finalize (X : in out A); Lost : exception; procedure Finalize (X : in out A) is begin Put_Line (\"a\"); end Finalize; V : A; begin for I in 1 .. 3 loop declare W : A; begin if I = 2 then raise Lost; end if; end; end loop; Put_Line (\"no\"); end Main;";
+
+const RAISED_TRACE: &str =
+    "live 1 m1\nlive 2 m2\nfinalize 2 scope\nprint a\nnewline\nlive 3 m4\nfinalize 3 scope\nprint a\nnewline\nfinalize 1 scope\nprint a\nnewline\nend raised Lost\n";
+
 /// Sums under an `if`, and a loop that is left behind it; the signs of `/`, `rem` and `mod`, the image of Integer'First, and at last an
 /// overflow (RM 3.5.4, 4.5.5, 5.7).
 const NUMBERS: &[u8] =
@@ -84,6 +99,8 @@ fn traces_of_runs(rt: HostRuntime) -> Result<(), Fail> {
         (COUNTED, 1000, COUNTED_TRACE),
         (ZERO_DIVISOR, 1000, "end raised Constraint_Error\n"),
         (NUMBERS, 1000, NUMBERS_TRACE),
+        (FAILING_FINALIZE, 1000, FAILING_FINALIZE_TRACE),
+        (RAISED, 1000, RAISED_TRACE),
         (EXIT_OF_TWO, 1000, EXIT_OF_TWO_TRACE),
         (TYPE_ALONE, 1000, "end done\n"),
         (TURNS, 100, "end limit\n"),
