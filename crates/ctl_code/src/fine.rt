@@ -465,6 +465,7 @@ pub fn is_fine(code: &Code, place: usize, instr: &Instr) -> bool
         Instr::Enter { slots, length } => is_enter_fine(code, place, slots, length),
         Instr::Leave | Instr::Exit => is_at_end(code, place),
         Instr::Raise(exception) => exception < code.exceptions.len(),
+        Instr::Return => true,
         Instr::Declare { slot: _, record } => is_declare_fine(code, place, record),
         Instr::Number | Instr::NewLine => leads_on(code, place, 0, None),
         Instr::Set { value, ty, to } => is_cell_of(ty, value) && puts(code, place, 0, to, ty),

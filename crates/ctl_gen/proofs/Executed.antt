@@ -12,18 +12,18 @@ use Rattle.ctl_program.specs.declared.statement.Master.{Master, Master-F, roll-M
 use Rattle.ctl_tree.specs.declared.event.Event.TheVariants.{Newline}
 use Rattle.ctl_meaning.specs.World.{World}
 use Rattle.ctl_meaning.specs.Choice.{Ask}
-use Rattle.ctl_meaning.specs.Outcome.{Goes, tell, opened_outcome, ByExit, ByRaise, leave_by, Leaves}
+use Rattle.ctl_meaning.specs.Outcome.{Goes, tell, opened_outcome, ByExit, ByReturn, ByRaise, leave_by, Leaves}
 use Rattle.ctl_meaning.specs.Types.{Tables, Elementary}
 use Rattle.ctl_meaning.specs.Names.{Default, Tools}
 use Rattle.ctl_meaning.specs.Names as Names
 use Rattle.ctl_meaning.specs.Expressions.{eval, eval_name, Naming}
 use Rattle.ctl_meaning.specs.Masters.{elaborate_item}
-use Rattle.ctl_meaning.specs.Statements.{Doing, arm_of, assign as assign_doing, body_of, do_each, exec, exit as exit_doing, handler_of, loop_for, loop_plainly, loop_while, new_line, null as null_doing, put, put_line, raise_new, within}
+use Rattle.ctl_meaning.specs.Statements.{Doing, arm_of, assign as assign_doing, body_of, do_each, exec, exit as exit_doing, handler_of, loop_for, loop_plainly, loop_while, new_line, null as null_doing, put, put_line, raise_new, return as return_doing, within}
 use Rattle.ctl_meaning.proofs.Trees.{exec_roll, arm_roll as guarding_roll, master_roll as body_roll}
 use Rattle.ctl_code.specs.declared.code.Code.{Code}
 use Rattle.ctl_code.specs.declared.code.Instr.TheVariants as InstrOf
 use Rattle.ctl_gen.specs.Values.{value_code, variable_of}
-use Rattle.ctl_gen.specs.Layout.{StatementCode, all, all_items, arm_code, assign, exit, has_no_handlers, inside, item_code, master_code, missing_statement, no_code, statement_code, leaves_code}
+use Rattle.ctl_gen.specs.Layout.{StatementCode, all, all_items, arm_code, assign, exit, return, has_no_handlers, inside, item_code, master_code, missing_statement, no_code, statement_code, leaves_code}
 use Rattle.ctl_gen.proofs.Known.{both_true}
 use Rattle.ctl_gen.proofs.TreeLayers.{arm_roll, master_roll, statement_roll}
 use Rattle.ctl_gen.proofs.Setting.{Setting, Calls, tools_with}
@@ -126,6 +126,11 @@ module _ (ask : Ask) (k : Tables) (code : Code) (setting : Setting k code) (call
   exit_does None runs n texts caught = paid ask k code bound leaves_code (λ d. leave_by ByExit) exits
   exit_does (Some e) runs n texts caught = only_if_runs ask k code bound (value_code e) (eval e K) (means e runs) leaves_code (λ d. leave_by ByExit) exits
 
+  return_does : (o : Option Expr) → Performs (return (option_map value_code o)) (return_doing (option_map eval o))
+  unfolding return_doing opened_outcome
+  return_does None runs n texts caught = λ a w0 d place ks ops c l w le fits sees has. last_step ask code (Kept k code w0) 0 0 _ c 1 (arrives (lands a place) d (place + 1) ks ops) (Leaves (ByReturn [])) l w (omega arith) fits (by_code ask code d place ks ops l w InstrOf.Return has.0)
+  return_does (Some e) runs n texts caught = absurd (cc)
+
   stmt_rolled : (y : Stmt-F StmtToo ArmToo HandlerToo MasterToo) → Does (roll-Stmt (bare_stmt y))
   unfolding null_doing put put_line new_line raise_new loop_plainly loop_while loop_for opened_outcome
   stmt_rolled Stmt-F.Null = does Stmt-F.Null _ _ (statement_roll Stmt-F.Null) (exec_roll Stmt-F.Null) (λ runs n texts caught a w0 d place ks ops c l w le fits sees has. S.still_there ask k code setting call default bound calls 1 (lands a place) w0 d place ks ops c l w fits)
@@ -135,6 +140,7 @@ module _ (ask : Ask) (k : Tables) (code : Code) (setting : Setting k code) (call
   stmt_rolled Stmt-F.NewLine = does Stmt-F.NewLine _ _ (statement_roll Stmt-F.NewLine) (exec_roll Stmt-F.NewLine) (λ runs n texts caught a w0 d place ks ops c l w le fits sees has. last_step ask code (Kept k code w0) 0 0 _ c 1 (arrives (lands a place) d (place + 1) ks ops) (Goes tt) (tell Newline l) w (omega arith) fits (by_code ask code d place ks ops l w InstrOf.NewLine has.0))
   stmt_rolled (Stmt-F.Exit o) = does (Stmt-F.Exit o) _ _ (statement_roll (Stmt-F.Exit o)) (exec_roll (Stmt-F.Exit o)) (exit_does o)
   stmt_rolled (Stmt-F.Raise e) = does (Stmt-F.Raise e) _ _ (statement_roll (Stmt-F.Raise e)) (exec_roll (Stmt-F.Raise e)) (λ runs n texts caught a w0 d place ks ops c l w le fits sees has. last_step ask code (Kept k code w0) 0 0 _ c 1 (arrives (lands a place) d (place + 1) ks ops) (Leaves (ByRaise e)) l w (omega arith) fits (by_code ask code d place ks ops l w (InstrOf.Raise e) has.0))
+  stmt_rolled (Stmt-F.Return o) = does (Stmt-F.Return o) _ _ (statement_roll (Stmt-F.Return o)) (exec_roll (Stmt-F.Return o)) (return_does o)
   stmt_rolled (Stmt-F.If arms others) =
       let y = Stmt-F.If (map (λ e. e.0) arms) (map (λ e. e.0) others) in
       does y _ _ (statement_roll y) (exec_roll y) (S.branches_run ask k code setting call default bound calls _ _ _ _ (arms_too arms) (statements_too others))
@@ -161,7 +167,6 @@ module _ (ask : Ask) (k : Tables) (code : Code) (setting : Setting k code) (call
   stmt_rolled (Stmt-F.Dispatch op x) = missing_does (Stmt-F.Dispatch op x) (statement_roll (Stmt-F.Dispatch op x))
   stmt_rolled (Stmt-F.LibraryAllocate p x size al) = missing_does (Stmt-F.LibraryAllocate p x size al) (statement_roll (Stmt-F.LibraryAllocate p x size al))
   stmt_rolled (Stmt-F.LibraryDeallocate p x size al) = missing_does (Stmt-F.LibraryDeallocate p x size al) (statement_roll (Stmt-F.LibraryDeallocate p x size al))
-  stmt_rolled (Stmt-F.Return o) = missing_does (Stmt-F.Return o) (statement_roll (Stmt-F.Return o))
   stmt_rolled Stmt-F.RaiseAgain = missing_does Stmt-F.RaiseAgain (statement_roll Stmt-F.RaiseAgain)
   stmt_rolled (Stmt-F.Free a x) = missing_does (Stmt-F.Free a x) (statement_roll (Stmt-F.Free a x))
   stmt_rolled (Stmt-F.Release x) = missing_does (Stmt-F.Release x) (statement_roll (Stmt-F.Release x))

@@ -24,9 +24,9 @@ use Rattle.ctl_code.specs.Windows.{variable_at}
 use Rattle.ctl_code.specs.Valid.{IsAtEnd, IsDeclarable}
 use Rattle.ctl_gen.specs.Around.{behind, local_at}
 use Rattle.ctl_gen.specs.Values.{ValueCode, is_run_type, value_code, variable_of}
-use Rattle.ctl_gen.specs.Layout.{ArmCode, ItemCode, MasterCode, StatementCode, all, all_items, arm_code, arms_run, assign, block, exit, has_no_handlers, in_master, inside, item_code, master_code, missing_statement, no_code, statement_code, tested}
+use Rattle.ctl_gen.specs.Layout.{ArmCode, ItemCode, MasterCode, StatementCode, all, all_items, arm_code, arms_run, assign, block, exit, return, has_no_handlers, in_master, inside, item_code, master_code, missing_statement, no_code, statement_code, tested}
 use Rattle.ctl_gen.proofs.Known.{both_true}
-use Rattle.ctl_gen.proofs.StatementLayers.{statement_assign, statement_block, statement_exit, statement_for, statement_if, statement_loop, statement_new_line, statement_null, statement_put, statement_put_line, statement_raise, statement_while}
+use Rattle.ctl_gen.proofs.StatementLayers.{statement_assign, statement_block, statement_exit, statement_for, statement_if, statement_loop, statement_new_line, statement_null, statement_put, statement_put_line, statement_raise, statement_return, statement_while}
 use Rattle.ctl_gen.proofs.StatementLayers as L
 use Rattle.ctl_gen.proofs.TreeLayers.{arm_roll, master_roll}
 use Rattle.ctl_gen.proofs.Place.{HasAt}
@@ -104,6 +104,10 @@ module _ (code : Code) (records : List RecordType) (k : W.Setting) (declarable :
   leaving_good {env} None T.left_out runs = leaves_stay code env
   leaving_good {env} (Some e) (T.given h) runs = leaves_when_stay code env (value_code e) (usable_as code (value_code e) Boolean tt (typed_fine code h runs))
 
+  returning_good : {env : W.Frames} (o : Option Expr) → GoodStatement env (return (option_map value_code o))
+  returning_good None runs = λ a n p agrees texts can. one code InstrOf.Return a.stack (Some a.stack) (λ q next. tt) p
+  returning_good (Some e) runs = absurd (cc)
+
   -- Masters ------------------------------------------------------------------------------------------
 
   abbrev pub GoodMaster : W.Frames → StatementCode → Type 0
@@ -143,6 +147,7 @@ module _ (code : Code) (records : List RecordType) (k : W.Setting) (declarable :
     statement_good {env} (D.put_line {ps = ps} puts) = good_as env _ _ (statement_put_line ps) (λ runs a n p agrees texts can. print_formed code true n ps puts runs texts.0 a.stack p)
     statement_good {env} D.new_line = good_as env _ _ statement_new_line (λ runs a n p agrees texts can. one code InstrOf.NewLine a.stack (Some a.stack) (λ q next. next) p)
     statement_good {env} (D.raise {x = x} known) = good_as env _ _ (statement_raise x) (λ runs a n p agrees texts can. one code (InstrOf.Raise x) a.stack (Some a.stack) (λ q next. raisable x known) p)
+    statement_good {env} (D.return {x = o} returns) = good_as env _ _ (statement_return o) (returning_good o)
     statement_good {env} (D.exit {x = o} inside_a_loop perhaps) = good_as env _ _ (statement_exit o) (leaving_good o perhaps)
     statement_good {env} (D.choose {arms = arms} {others = others} each rest) =
         good_as env _ _ (statement_if arms others) (λ runs.
@@ -172,7 +177,6 @@ module _ (code : Code) (records : List RecordType) (k : W.Setting) (declarable :
     statement_good {env} (D.dispatch {o = o} {x = x} views) = not_missing env _ (L.statement_dispatch o x)
     statement_good {env} (D.library_allocate {p = p} {x = x} {size = size} {alignment = alignment} views rooted denotes h g) = not_missing env _ (L.statement_allocate p x size alignment)
     statement_good {env} (D.library_deallocate {p = p} {x = x} {size = size} {alignment = alignment} views rooted address h g) = not_missing env _ (L.statement_deallocate p x size alignment)
-    statement_good {env} (D.return {x = x} returns) = not_missing env _ (L.statement_return x)
     statement_good {env} (D.free {t = t} {x = x} has denotes) = not_missing env _ (L.statement_free t x)
     statement_good {env} (D.release {x = x} denotes) = not_missing env _ (L.statement_release x)
     statement_good {env} (D.raise_again handles) = not_missing env _ L.statement_raise_again

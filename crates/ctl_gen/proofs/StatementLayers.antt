@@ -14,7 +14,7 @@ use Rattle.ctl_program.specs.declared.statement.Stmt.TheVariants as s
 use Rattle.ctl_program.specs.declared.statement.Stmt.TheVariants.{rolls-Null, rolls-Assign, rolls-AssignRecord, rolls-Call, rolls-Nothing, rolls-Dispatch, rolls-LibraryAllocate, rolls-LibraryDeallocate, rolls-Put, rolls-PutLine, rolls-NewLine, rolls-Exit, rolls-Return, rolls-Raise, rolls-RaiseAgain, rolls-If, rolls-Loop, rolls-While, rolls-For, rolls-Block, rolls-Free, rolls-Release}
 use Rattle.ctl_code.specs.declared.code.Instr.TheVariants as InstrOf
 use Rattle.ctl_gen.specs.Values.{value_code, variable_of}
-use Rattle.ctl_gen.specs.Layout.{all, all_items, assign, block, branches, exit, for, has_no_handlers, inside, item_code, loop, missing_statement, null, one_statement, print, while, statement_code, arm_code, no_code, master_code}
+use Rattle.ctl_gen.specs.Layout.{all, all_items, assign, block, branches, exit, for, has_no_handlers, inside, item_code, loop, missing_statement, null, one_statement, print, return, while, statement_code, arm_code, no_code, master_code}
 
 pub statement_null : statement_code s.Null ≡ null
 unfolding statement_code
@@ -39,6 +39,10 @@ statement_new_line = rw (← rolls-NewLine, fold-roll-Stmt) refl
 pub statement_raise : (e : ℕ) → statement_code (s.Raise e) ≡ one_statement (InstrOf.Raise e)
 unfolding statement_code
 statement_raise e = rw (← rolls-Raise, fold-roll-Stmt) refl
+
+pub statement_return : (o : Option Expr) → statement_code (s.Return o) ≡ return (option_map value_code o)
+unfolding statement_code
+statement_return o = rw (← rolls-Return, fold-roll-Stmt) refl
 
 pub statement_exit : (o : Option Expr) → statement_code (s.Exit o) ≡ exit (option_map value_code o)
 unfolding statement_code
@@ -89,10 +93,6 @@ pub statement_deallocate : (p : Name) (x size alignment : Expr) → statement_co
 unfolding statement_code
 statement_deallocate p x size alignment = rw (← rolls-LibraryDeallocate, fold-roll-Stmt) refl
 
-pub statement_return : (o : Option Expr) → statement_code (s.Return o) ≡ missing_statement
-unfolding statement_code
-statement_return o = rw (← rolls-Return, fold-roll-Stmt) refl
-
 pub statement_raise_again : statement_code s.RaiseAgain ≡ missing_statement
 unfolding statement_code
 statement_raise_again = rw (← rolls-RaiseAgain, fold-roll-Stmt) refl
@@ -114,10 +114,9 @@ IsMissing y =
     ⊎ (((op : Operation) × (x : Name) × (y ≡ s.Dispatch op x))
     ⊎ (((p : Name) × (x : Name) × (size : Expr) × (alignment : Expr) × (y ≡ s.LibraryAllocate p x size alignment))
     ⊎ (((p : Name) × (x : Expr) × (size : Expr) × (alignment : Expr) × (y ≡ s.LibraryDeallocate p x size alignment))
-    ⊎ (((o : Option Expr) × (y ≡ s.Return o))
     ⊎ ((y ≡ s.RaiseAgain)
     ⊎ (((access : ℕ) × (x : Name) × (y ≡ s.Free access x))
-    ⊎ ((x : Name) × (y ≡ s.Release x))))))))))
+    ⊎ ((x : Name) × (y ≡ s.Release x)))))))))
 
 pub missing_is : (y : Stmt) → IsMissing y → statement_code y ≡ missing_statement
 missing_is y (inl (x, t, a, is)) = ap statement_code is ∙ statement_assign_record x t a
@@ -126,10 +125,9 @@ missing_is y (inr (inr (inl (x, is)))) = ap statement_code is ∙ statement_noth
 missing_is y (inr (inr (inr (inl (op, x, is))))) = ap statement_code is ∙ statement_dispatch op x
 missing_is y (inr (inr (inr (inr (inl (p, x, size, alignment, is)))))) = ap statement_code is ∙ statement_allocate p x size alignment
 missing_is y (inr (inr (inr (inr (inr (inl (p, x, size, alignment, is))))))) = ap statement_code is ∙ statement_deallocate p x size alignment
-missing_is y (inr (inr (inr (inr (inr (inr (inl (o, is)))))))) = ap statement_code is ∙ statement_return o
-missing_is y (inr (inr (inr (inr (inr (inr (inr (inl is)))))))) = ap statement_code is ∙ statement_raise_again
-missing_is y (inr (inr (inr (inr (inr (inr (inr (inr (inl (access, x, is)))))))))) = ap statement_code is ∙ statement_free access x
-missing_is y (inr (inr (inr (inr (inr (inr (inr (inr (inr (x, is)))))))))) = ap statement_code is ∙ statement_release x
+missing_is y (inr (inr (inr (inr (inr (inr (inl is))))))) = ap statement_code is ∙ statement_raise_again
+missing_is y (inr (inr (inr (inr (inr (inr (inr (inl (access, x, is))))))))) = ap statement_code is ∙ statement_free access x
+missing_is y (inr (inr (inr (inr (inr (inr (inr (inr (x, is))))))))) = ap statement_code is ∙ statement_release x
 
 -- Arms and masters --------------------------------------------------------------------------------
 

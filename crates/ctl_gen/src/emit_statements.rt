@@ -131,6 +131,7 @@ impl Emitter {
             Stmt::NewLine => self.put(Instr::NewLine),
             Stmt::Exit(condition) => self.exit(condition, landing),
             Stmt::Raise(exception) => self.put(Instr::Raise(*exception)),
+            Stmt::Return(value) => self.leave_body(value, landing),
             Stmt::If(arms, others) => {
                 let end = self.arms(arms.as_slice(), landing)?;
                 self.statements(others.as_slice(), landing)?;
@@ -149,7 +150,6 @@ impl Emitter {
             | Stmt::Dispatch(..)
             | Stmt::LibraryAllocate(..)
             | Stmt::LibraryDeallocate(..)
-            | Stmt::Return(_)
             | Stmt::RaiseAgain
             | Stmt::Free(..)
             | Stmt::Release(_) => self.put(Instr::Missing),
@@ -207,6 +207,17 @@ impl Emitter {
                 self.take(Instr::Unless { from, length }, from)?;
                 self.exit_to(landing)
             }
+        }
+    }
+
+    /// Emits a return statement.
+    fn leave_body(&mut self, value: &Option<Expr>, landing: Option<usize>) -> Result<(), AllocError>
+        ensures { OnOk result (self.new ≡ stated (spec.return (option_map values.value_code value.now)) landing self.old) }
+    {
+        let _ = landing;
+        match value {
+            None => self.put(Instr::Return),
+            Some(_) => self.put(Instr::Missing),
         }
     }
 

@@ -228,6 +228,13 @@ fn is_exit(condition: &Option<Expr>) -> bool
     }
 }
 
+/// Tells whether a return statement is run: without a value.
+fn is_return(value: &Option<Expr>) -> bool
+    ensures { result ≡ (spec.return (option_map values.value_code value.now)).runs [] }
+{
+    value.is_none()
+}
+
 /// Tells whether a statement is run.
 #[cycle(statements)]
 #[tactic(auto, unfolding(crate::specs::Layout::statement_code, crate::specs::Layout::master_code, crate::specs::Layout::arm_code))]
@@ -239,6 +246,7 @@ fn statement(statement: &Stmt, records: &[RecordType]) -> bool
         Stmt::Assign(name, expression) => is_assigned(name, expression),
         Stmt::Put(text) | Stmt::PutLine(text) => pieces(text.as_slice()),
         Stmt::Exit(condition) => is_exit(condition),
+        Stmt::Return(value) => is_return(value),
         Stmt::If(arms, otherwise) => {
             conditional(arms.as_slice(), records) && statements(otherwise.as_slice(), records)
         }
@@ -254,7 +262,6 @@ fn statement(statement: &Stmt, records: &[RecordType]) -> bool
         | Stmt::Dispatch(..)
         | Stmt::LibraryAllocate(..)
         | Stmt::LibraryDeallocate(..)
-        | Stmt::Return(_)
         | Stmt::RaiseAgain
         | Stmt::Free(..)
         | Stmt::Release(_) => false,

@@ -2,10 +2,12 @@
 
 use ctl_tree::ending::Stop;
 
-/// A transfer of control to the innermost master: an exit statement (RM 5.7), or an exception, by its number in the table of exceptions.
+/// A transfer of control to the innermost master: an exit statement (RM 5.7), a return statement without a value (RM 6.5), or an exception,
+/// by its number in the table of exceptions.
 #[derive(Clone, Copy)]
 pub enum Way {
     Exit,
+    Return,
     Raise(usize),
 }
 

@@ -114,7 +114,8 @@ fn statement(statement: &Statement<Definition, Use>) -> Option<Span>
         | Statement::Exit(..)
         | Statement::Raise(..) => None,
         Statement::Call(place, name) => where_left_out(of_call(name.first.denoted), *place),
-        Statement::Return(place, _) => Some(*place),
+        Statement::Return(_, None) => None,
+        Statement::Return(place, Some(_)) => Some(*place),
         Statement::RaiseAgain(place) => Some(*place),
         Statement::If(_, first, more, otherwise) => {
             let opening = branch(first);

@@ -211,6 +211,7 @@ const EACH_INSTRUCTION: &[Line] = &[
         "fi",
     ),
     (Instr::Raise(0), "f"),
+    (Instr::Return, "f"),
 ];
 
 /// The place of the Finalize there, and one inside a block.

@@ -60,6 +60,13 @@ const RAISED: &[u8] =
 const RAISED_TRACE: &str =
     "live 1 m1\nlive 2 m2\nfinalize 2 scope\nprint a\nnewline\nlive 3 m4\nfinalize 3 scope\nprint a\nnewline\nfinalize 1 scope\nprint a\nnewline\nend raised Lost\n";
 
+/// A return statement leaves a loop and a block of its body, whose object is finalized (RM 6.5, 7.6.1).
+const RETURNED: &[u8] =
+    b"with Ada.Finalization; use Ada.Finalization; with Ada.Text_IO; use Ada.Text_IO; procedure Main is type A is new Controlled with null record; type B is new Controlled with null record; overriding procedure Finalize (X : in out A); overriding procedure Finalize (X : in out B); procedure Finalize (X : in out A) is begin for I in 1 .. 3 loop declare V : B; begin Put_Line (\"a\"); return; end; end loop; Put_Line (\"no\"); end Finalize; procedure Finalize (X : in out B) is begin Put_Line (\"b\"); end Finalize; begin declare V : A; begin null; end; Put_Line (\"out\"); return; end Main;";
+
+const RETURNED_TRACE: &str =
+    "live 1 m2\nfinalize 1 scope\nlive 2 m4\nprint a\nnewline\nfinalize 2 scope\nprint b\nnewline\nprint out\nnewline\nend done\n";
+
 /// Sums under an `if`, and a loop that is left behind it; the signs of `/`, `rem` and `mod`, the image of Integer'First, and at last an
 /// overflow (RM 3.5.4, 4.5.5, 5.7).
 const NUMBERS: &[u8] =
@@ -101,6 +108,7 @@ fn traces_of_runs(rt: HostRuntime) -> Result<(), Fail> {
         (NUMBERS, 1000, NUMBERS_TRACE),
         (FAILING_FINALIZE, 1000, FAILING_FINALIZE_TRACE),
         (RAISED, 1000, RAISED_TRACE),
+        (RETURNED, 1000, RETURNED_TRACE),
         (EXIT_OF_TWO, 1000, EXIT_OF_TWO_TRACE),
         (TYPE_ALONE, 1000, "end done\n"),
         (TURNS, 100, "end limit\n"),
