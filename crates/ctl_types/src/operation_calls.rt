@@ -17,7 +17,7 @@ use ctl_syntax::name::Name;
 use ctl_tree::fault::FaultCode;
 use ctl_tree::span::Span;
 use ctl_typing::expressions::{actuals, expression, found};
-use ctl_typing::found::{Asked, Found};
+use ctl_typing::found::{Asked, Found, discard};
 use ctl_typing::judging::wrong;
 use ctl_typing::lookup::{is_limited, root_of};
 use ctl_typing::names::settled;
@@ -51,7 +51,11 @@ fn operand_named(
         return Ok(None);
     };
     match settled(alloc, tables, place, found, notes) {
-        Some(found) => Ok(operand_found(place, &found, notes)),
+        Some(found) => {
+            let ty = operand_found(place, &found, notes);
+            discard(found);
+            Ok(ty)
+        }
         None => Ok(None),
     }
 }
@@ -66,7 +70,11 @@ fn operand_value(
     ensures { Judges (spec.operand_value tables.now (sense x.now)) notes.old result notes.new }
 {
     match expression(alloc, tables, x, Asked::Anything, notes)? {
-        Some(typed) => Ok(Some(typed.ty)),
+        Some(typed) => {
+            let ty = typed.ty;
+            drop(typed);
+            Ok(Some(ty))
+        }
         None => Ok(None),
     }
 }
