@@ -18,7 +18,7 @@ use ctl_typing::actuals::{as_variable, handed_on};
 use ctl_typing::adopting::place_of;
 use ctl_typing::expressions::{expression, found};
 use ctl_typing::found::{Asked, Found, Place};
-use ctl_typing::judging::{is_same, note, note_deed, wrong};
+use ctl_typing::judging::{doing, is_same, note, refused, wrong};
 use ctl_typing::lookup::is_limited;
 use ctl_typing::names::{name_at, settled};
 use ctl_typing::notes::{Deed, Notes};
@@ -84,8 +84,10 @@ fn target_found(
 {
     match found {
         Found::Part(part) => target_part(alloc, tables, place, part, notes),
-        Found::Computed(_) | Found::Discriminant(_, _) => Ok(wrong(FaultCode::Mode, place, notes)),
-        _ => Ok(wrong(FaultCode::Type, place, notes)),
+        Found::Computed(_) | Found::Discriminant(_, _) => {
+            Ok(refused(found, FaultCode::Mode, place, notes))
+        }
+        _ => Ok(refused(found, FaultCode::Type, place, notes)),
     }
 }
 
@@ -119,10 +121,12 @@ fn record_part(
     ensures { Judges (spec.record_part place number part) notes.old result notes.new }
 {
     if !is_same(Ty::Record(number), part.ty) {
+        drop(part);
         return Ok(wrong(FaultCode::Type, place, notes));
     }
-    note_deed(notes, Deed::Freezes(part.ty))?;
-    Ok(Some(Source::Record(number, handed_on(alloc, part.head, part.steps)?)))
+    let ty = part.ty;
+    let source = Source::Record(number, handed_on(alloc, part.head, part.steps)?);
+    doing(Deed::Freezes(ty), source, notes)
 }
 
 /// Judges what a name is as the record that is assigned: a view of it is none (profile).
@@ -137,7 +141,7 @@ fn record_source(
 {
     match found {
         Found::Part(part) => record_part(alloc, place, number, part, notes),
-        _ => Ok(wrong(FaultCode::Type, place, notes)),
+        _ => Ok(refused(found, FaultCode::Type, place, notes)),
     }
 }
 
@@ -234,7 +238,7 @@ pub fn assignment(
     ensures { Judges (spec.assignment to.now.first (map suffix_sense to.now.suffixes) (sense x.now) tables.now) notes.old result notes.new }
 {
     let Some(target) = written_to(alloc, tables, to, notes)? else {
-        value_source(alloc, tables, x, Asked::Anything, notes)?;
+        drop(value_source(alloc, tables, x, Asked::Anything, notes)?);
         return Ok(None);
     };
     match written(alloc, tables, target.ty, x, notes)? {

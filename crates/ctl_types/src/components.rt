@@ -216,9 +216,9 @@ fn enter_component(
 fn checked_component(ty: Option<Ty>, default: Option<Option<Expr>>) -> Option<Component>
     ensures { result ≡ spec.checked_component ty default }
 {
-    match (ty, default) {
-        (Some(ty), Some(default)) => Some(Component { ty, default }),
-        _ => None,
+    match ty.zip(default) {
+        Some((ty, default)) => Some(Component { ty, default }),
+        None => None,
     }
 }
 
@@ -253,15 +253,14 @@ fn component_default(
     ensures { Judges (λ d. spec.component_default within identifier.now (option_map sense value.now) (ty, d)) draft.old result draft.new }
 {
     let default = default_of(alloc, &draft.tables, ty, value, &mut draft.notes)?;
-    enter_component(
-        alloc,
-        within,
-        &identifier.text,
-        beginning_of(value),
-        ty,
-        draft,
-    )?;
-    Ok(checked_component(ty, default))
+    let beginning = beginning_of(value);
+    match enter_component(alloc, within, &identifier.text, beginning, ty, draft) {
+        Ok(()) => Ok(checked_component(ty, default)),
+        Err(error) => {
+            drop(default);
+            Err(error)
+        }
+    }
 }
 
 /// Judges one component (RM 3.8).

@@ -19,7 +19,7 @@ use ctl_syntax::name::{Mark, Name};
 use ctl_tree::fault::FaultCode;
 use ctl_tree::span::Span;
 use ctl_typing::expressions::found;
-use ctl_typing::found::Found;
+use ctl_typing::found::{Found, discard};
 use ctl_typing::judging::{unresolved, wrong};
 use ctl_typing::notes::{Deed, Notes};
 use ctl_typing::table::{Entry, Tables};
@@ -48,7 +48,11 @@ fn type_named(
     ensures { Judges (spec.type_named place name.now.first (map suffix_sense name.now.suffixes) tables.now) notes.old result notes.new }
 {
     match found(alloc, tables, name, notes)? {
-        Some(found) => Ok(type_found(place, &found, notes)),
+        Some(found) => {
+            let ty = type_found(place, &found, notes);
+            discard(found);
+            Ok(ty)
+        }
         None => Ok(None),
     }
 }

@@ -113,7 +113,10 @@ fn object_item(
     ensures { result ≡ spec.object_item tables.now ty slot discriminants value }
 {
     match ty {
-        Ty::Record(number) if is_pool(tables, ty) => Item::Pool(slot, number, discriminants),
+        Ty::Record(number) if is_pool(tables, ty) => {
+            drop(value);
+            Item::Pool(slot, number, discriminants)
+        }
         _ => Item::Object(slot, ty, value),
     }
 }
@@ -130,6 +133,7 @@ fn object_made(
     ensures { IfOk result (λ made. made ≡ spec.object_made tables.now slot ty discriminants value) }
 {
     let Some(ty) = ty else {
+        drop((discriminants, value));
         return Ok(None);
     };
     let Some((discriminants, value)) = discriminants.zip(value) else {

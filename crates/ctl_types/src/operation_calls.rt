@@ -17,7 +17,8 @@ use ctl_syntax::name::Name;
 use ctl_tree::fault::FaultCode;
 use ctl_tree::span::Span;
 use ctl_typing::expressions::{actuals, expression, found};
-use ctl_typing::found::{Asked, Found};
+use ctl_typing::found::{Asked, Found, discard};
+use ctl_typing::joining::paired_with;
 use ctl_typing::judging::wrong;
 use ctl_typing::lookup::{is_limited, root_of};
 use ctl_typing::names::settled;
@@ -51,7 +52,11 @@ fn operand_named(
         return Ok(None);
     };
     match settled(alloc, tables, place, found, notes) {
-        Some(found) => Ok(operand_found(place, &found, notes)),
+        Some(found) => {
+            let ty = operand_found(place, &found, notes);
+            discard(found);
+            Ok(ty)
+        }
         None => Ok(None),
     }
 }
@@ -66,7 +71,11 @@ fn operand_value(
     ensures { Judges (spec.operand_value tables.now (sense x.now)) notes.old result notes.new }
 {
     match expression(alloc, tables, x, Asked::Anything, notes)? {
-        Some(typed) => Ok(Some(typed.ty)),
+        Some(typed) => {
+            let ty = typed.ty;
+            drop(typed);
+            Ok(Some(ty))
+        }
         None => Ok(None),
     }
 }
@@ -157,8 +166,7 @@ fn measures(
     ensures { Judges (spec.measures tables.now (sense size.now) (sense alignment.now)) notes.old result notes.new }
 {
     let size = value_as(alloc, tables, Ty::Count, size, notes)?;
-    let alignment = value_as(alloc, tables, Ty::Count, alignment, notes)?;
-    Ok(size.zip(alignment))
+    paired_with(size, value_as(alloc, tables, Ty::Count, alignment, notes))
 }
 
 /// Judges a pool, and the variable that gets an address of it (RM 13.11).
@@ -230,8 +238,7 @@ fn library_deallocate(
     ensures { Judges (spec.library_deallocate tables.now ty (sense pool.now) (sense address.now) (sense size.now) (sense alignment.now)) notes.old result notes.new }
 {
     let read = pool_and_address(alloc, tables, ty, pool, address, notes)?;
-    let measures = measures(alloc, tables, size, alignment, notes)?;
-    match read.zip(measures) {
+    match paired_with(read, measures(alloc, tables, size, alignment, notes))? {
         Some(((pool, address), (size, alignment))) => {
             Ok(Some(Stmt::LibraryDeallocate(pool, address, size, alignment)))
         }

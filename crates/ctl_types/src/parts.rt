@@ -4,7 +4,8 @@ ghost use Rattle.std.specs.Prelude.{◌≡◌, [], Some, false, map};
 ghost use Rattle.ctl_types.specs.Draft.{by_tables};
 ghost use Rattle.ctl_types.specs.Elaboration as spec;
 ghost use Rattle.ctl_types.specs.Parts as part;
-ghost use Rattle.ctl_typing.specs.Judgement.{Judges, each};
+ghost use Rattle.ctl_types.specs.declared.draft.Draft.{Draft as Drafted};
+ghost use Rattle.ctl_typing.specs.Judgement.{Judges, beside, each};
 ghost use Rattle.ctl_typing.specs.Typing.{sense};
 
 use crate::accesses::incomplete;
@@ -63,6 +64,16 @@ fn bound(alloc: Global, x: &Expression<Use>, draft: &mut Draft) -> Result<Option
         Some(typed) => Ok(Some(typed.value)),
         None => Ok(None),
     }
+}
+
+/// Pairs what is known of a part with what is known of another, which is judged after it; memory may be refused for that.
+fn paired_with<A: Drop, B: Drop>(
+    first: Option<A>,
+    second: Result<Option<B>, AllocError>,
+) -> Result<Option<(A, B)>, AllocError>
+    ensures { (q : _) (old new : Drafted) → Judges q old second new → Judges (λ d. beside q (first, d)) old result new }
+{
+    Ok(first.zip(second?))
 }
 
 /// Answers what stands around the statements of a loop (RM 5.7).
@@ -230,8 +241,8 @@ fn branch(
     ensures { Judges (spec.branch around (part.branch_of branch.now)) draft.old result draft.new }
 {
     let test = condition(alloc, &branch.condition, draft)?;
-    let body = sequence(alloc, branch.statements.as_slice(), around, draft)?;
-    match test.zip(body) {
+    let statements = branch.statements.as_slice();
+    match paired_with(test, sequence(alloc, statements, around, draft))? {
         Some((test, body)) => Ok(Some(Arm { test, body })),
         None => Ok(None),
     }
@@ -294,8 +305,7 @@ fn while_loop(
     ensures { Judges (spec.while (sense test.now) (map spec.statement statements.now) around) draft.old result draft.new }
 {
     let test = condition(alloc, test, draft)?;
-    let body = sequence(alloc, statements, in_loop(around), draft)?;
-    match test.zip(body) {
+    match paired_with(test, sequence(alloc, statements, in_loop(around), draft))? {
         Some((test, body)) => Ok(Some(Stmt::While(test, body))),
         None => Ok(None),
     }
@@ -339,9 +349,8 @@ fn counting(
 {
     let var = draft.next_var(around);
     let low = bound(alloc, low, draft)?;
-    let high = bound(alloc, high, draft)?;
-    let body = with_parameter(alloc, statements, around, draft)?;
-    match low.zip(high).zip(body) {
+    let bounds = paired_with(low, bound(alloc, high, draft))?;
+    match paired_with(bounds, with_parameter(alloc, statements, around, draft))? {
         Some(((low, high), body)) => Ok(Some(Stmt::For(var, way_of(direction), low, high, body))),
         None => Ok(None),
     }

@@ -77,7 +77,7 @@ fn unclear_value(
 ) -> Result<Option<Stmt>, AllocError>
     ensures { Judges (spec.unclear_value (sense x.now) tables.now) notes.old result notes.new }
 {
-    expression(alloc, tables, x, Asked::Anything, notes)?;
+    drop(expression(alloc, tables, x, Asked::Anything, notes)?);
     Ok(None)
 }
 

@@ -17,7 +17,7 @@ use ctl_typing::actuals::as_variable;
 use ctl_typing::adopting::place_of;
 use ctl_typing::expressions::found;
 use ctl_typing::found::{Found, Place};
-use ctl_typing::judging::{is_same, wrong};
+use ctl_typing::judging::{is_same, refused, wrong};
 use ctl_typing::names::name_at;
 use ctl_typing::notes::Notes;
 use ctl_typing::table::Tables;
@@ -34,6 +34,7 @@ fn written_part(
     ensures { Judges (spec.written_part place ty part) notes.old result notes.new }
 {
     if !is_same(ty, part.ty) {
+        drop(part);
         return Ok(wrong(FaultCode::Type, place, notes));
     }
     let mutability = part.mutability;
@@ -53,7 +54,7 @@ fn written_name(
 {
     match found {
         Found::Part(part) | Found::View(part) => written_part(alloc, place, ty, part, notes),
-        _ => Ok(wrong(FaultCode::Mode, place, notes)),
+        _ => Ok(refused(found, FaultCode::Mode, place, notes)),
     }
 }
 

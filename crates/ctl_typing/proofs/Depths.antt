@@ -22,6 +22,14 @@ deepest_of_list x o os = most (λ y. y) (size-Expression Use x ∷ deepest_of_ch
 abbrev pub deepest_of_all : Expression Use → Operand (Expression Use) → List (Operand (Expression Use)) → Operand (Expression Use) → List (Operand (Expression Use)) → ℕ
 deepest_of_all x o before leading behind = most (λ y. y) (deepest_of_list x o before ∷ deepest_of_chain leading behind ∷ [])
 
+-- with operands behind the first one alone
+abbrev pub deepest_beside : Expression Use → List (Operand (Expression Use)) → ℕ
+deepest_beside x os = most (λ y. y) (size-Expression Use x ∷ most (λ p. size-Expression Use p.operand) os ∷ [])
+
+-- with operands before and behind one that is left out
+abbrev pub deepest_around : Expression Use → Operand (Expression Use) → List (Operand (Expression Use)) → List (Operand (Expression Use)) → ℕ
+deepest_around x o before behind = most (λ y. y) (deepest_of_list x o before ∷ most (λ p. size-Expression Use p.operand) behind ∷ [])
+
 -- operands around one
 pub around_one : {A : Type 0} (μ : A → ℕ) (all : List A) (i : ℕ) (x : A) → i < length all → x ≡ get_or all i x → most μ all ≡ max (most μ (take i all)) (max (μ x) (most μ (drop (i + 1) all)))
 around_one μ all i x lt at =

@@ -79,8 +79,8 @@ after_two o tables more (two, s) = paired_late o two (truths_of tables more s) �
 pub whole_is : (o : BinaryOp) (a b : Sense) (more : List Sense) (tables : Tables) (n : Notes) → whole o a b more tables n ≡ (both (two_truths tables a b) (truths_behind o tables more) >>= chained o) n
 whole_is o a b more tables n = after_two o tables more (two_truths tables a b n)
 
-both_first : (a b : Sense) (tables : Tables) (n m k : Notes) (x y : Option Expr) (two : Option (Expr × Expr)) → truth_of tables a n ≡ (x, m) → truth_of tables b m ≡ (y, k) → paired x (y, k) ≡ (two, k) → two_truths tables a b n ≡ (two, k)
-both_first a b tables n m k x y two first second pair = ap (beside (truth_of tables b)) first ∙ ap (paired x) second ∙ pair
+both_first : (a b : Sense) (tables : Tables) (n m k : Notes) (x : Option Expr) (two : Option (Expr × Expr)) → truth_of tables a n ≡ (x, m) → beside (truth_of tables b) (x, m) ≡ (two, k) → two_truths tables a b n ≡ (two, k)
+both_first a b tables n m k x two first second = ap (beside (truth_of tables b)) first ∙ second
 
 by_whole : (q : BinaryOp) (a b : Sense) (more : List Sense) (tables : Tables) (n k : Notes) (two : Option (Expr × Expr)) → two_truths tables a b n ≡ (two, k) → whole q a b more tables n ≡ whole_behind q two more tables k
 by_whole q a b more tables n k two h = whole_is q a b more tables n ∙ ap (λ r. with_known (chained q) (beside (truths_behind q tables more) r)) h
@@ -96,7 +96,7 @@ value_is logical.AndThen a b more tables n k two h = by_short shortcut.AndThen a
 value_is logical.OrElse a b more tables n k two h = by_short shortcut.OrElse a b more tables n k two h
 
 -- an expression of several relations, once each part of it is judged
-pub logical_judged_is : (place : Span) (o : LogicalOperator) (a b : Sense) (more : List Sense) (tables : Tables) (asked : Asked) (n m k l : Notes) (x y v : Option Expr) (two : Option (Expr × Expr)) → truth_of tables a n ≡ (x, m) → truth_of tables b m ≡ (y, k) → paired x (y, k) ≡ (two, k) → logical_behind o two more tables k ≡ (v, l) → logical_judged place o a b more tables asked n ≡ onward v (boolean_at place asked) l
-logical_judged_is place o a b more tables asked n m k l x y v two first second pair behind =
+pub logical_judged_is : (place : Span) (o : LogicalOperator) (a b : Sense) (more : List Sense) (tables : Tables) (asked : Asked) (n m k l : Notes) (x v : Option Expr) (two : Option (Expr × Expr)) → truth_of tables a n ≡ (x, m) → beside (truth_of tables b) (x, m) ≡ (two, k) → logical_behind o two more tables k ≡ (v, l) → logical_judged place o a b more tables asked n ≡ onward v (boolean_at place asked) l
+logical_judged_is place o a b more tables asked n m k l x v two first second behind =
     logical_is place o a b more tables asked n
-    ∙ ap (with_known (boolean_at place asked)) (value_is o a b more tables n k two (both_first a b tables n m k x y two first second pair) ∙ behind)
+    ∙ ap (with_known (boolean_at place asked)) (value_is o a b more tables n k two (both_first a b tables n m k x two first second) ∙ behind)

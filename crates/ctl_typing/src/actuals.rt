@@ -6,7 +6,7 @@ ghost use Rattle.ctl_typing.specs.Senses as senses;
 ghost use Rattle.ctl_typing.specs.Typing as spec;
 
 use crate::found::{Found, Head, Place};
-use crate::judging::{is_same, note, note_deed, wrong};
+use crate::judging::{doing, is_same, note, refused, wrong};
 use crate::names::{name_at, settled_known};
 use crate::notes::{Deed, Notes};
 use crate::table::{Mutability, Tables};
@@ -64,6 +64,7 @@ fn written(
     ensures { Judges (spec.written place mode ty part) notes.old result notes.new }
 {
     if !is_same(ty, part.ty) {
+        drop(part);
         return Ok(wrong(FaultCode::Type, place, notes));
     }
     let mutability = part.mutability;
@@ -84,7 +85,7 @@ pub fn written_found(
 {
     match found {
         Found::Part(part) | Found::View(part) => written(alloc, place, mode, ty, part, notes),
-        _ => Ok(wrong(FaultCode::Mode, place, notes)),
+        _ => Ok(refused(found, FaultCode::Mode, place, notes)),
     }
 }
 
@@ -110,14 +111,14 @@ pub fn record_found(
 {
     let part = match found {
         Found::Part(part) | Found::View(part) => part,
-        _ => return Ok(wrong(FaultCode::Type, place, notes)),
+        _ => return Ok(refused(found, FaultCode::Type, place, notes)),
     };
     if !is_same(ty, part.ty) {
+        drop(part);
         return Ok(wrong(FaultCode::Type, place, notes));
     }
     let actual = handed_on(alloc, part.head, part.steps)?;
-    note_deed(notes, Deed::Freezes(ty))?;
-    Ok(Some(actual))
+    doing(Deed::Freezes(ty), actual, notes)
 }
 
 /// Judges what a name is as the actual of a formal of a record type and of mode `in`, where that is known (RM 6.2).

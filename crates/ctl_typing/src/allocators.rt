@@ -7,7 +7,7 @@ ghost use Rattle.ctl_typing.specs.Typing.{creating};
 ghost use Rattle.ctl_typing.specs.Allocating as allocating;
 
 use crate::found::{Asked, Found, Typed};
-use crate::judging::{note, note_deed, wrong};
+use crate::judging::{marked, note, note_deed, refused, wrong};
 use crate::literals::first_found;
 use crate::lookup::{has_subpools, is_limited};
 use crate::names::{settled_known, value_at};
@@ -35,13 +35,19 @@ pub fn handle_found(
     match found {
         Found::Part(part) => match part.ty {
             Ty::Handle => Ok(Some(value_at(alloc, part.head, part.steps, Ty::Handle)?)),
-            _ => Ok(wrong(FaultCode::Type, place, notes)),
+            _ => {
+                drop(part);
+                Ok(wrong(FaultCode::Type, place, notes))
+            }
         },
         Found::Computed(typed) => match typed.ty {
             Ty::Handle => Ok(Some(typed.value)),
-            _ => Ok(wrong(FaultCode::Type, place, notes)),
+            _ => {
+                drop(typed);
+                Ok(wrong(FaultCode::Type, place, notes))
+            }
         },
-        _ => Ok(wrong(FaultCode::Type, place, notes)),
+        _ => Ok(refused(found, FaultCode::Type, place, notes)),
     }
 }
 
@@ -76,13 +82,25 @@ pub fn allocates(
 }
 
 /// Moves a value into a box, where there is one.
-fn boxed(alloc: Global, value: Option<Expr>) -> Result<Option<Boxed<Expr>>, AllocError>
+fn boxed<T: Drop>(alloc: Global, value: Option<T>) -> Result<Option<Boxed<T>>, AllocError>
     ensures { IfOk result (λ boxed. boxed ≡ value) }
 {
     match value {
         Some(value) => Ok(Some(Boxed::new(alloc, value)?)),
         None => Ok(None),
     }
+}
+
+/// Moves two values into boxes, where there are any.
+fn each_boxed<T: Drop>(
+    alloc: Global,
+    first: Option<T>,
+    second: Option<T>,
+) -> Result<(Option<Boxed<T>>, Option<Boxed<T>>), AllocError>
+    ensures { IfOk result (λ boxes. boxes ≡ (first, second)) }
+{
+    let first = boxed(alloc, first)?;
+    Ok((first, boxed(alloc, second)?))
 }
 
 /// Notes that an object of a type is allocated and created (RM 4.8, 13.14).
@@ -106,26 +124,15 @@ pub fn allocated(
 ) -> Result<Option<Typed>, AllocError>
     ensures { Judges (allocating.allocated access ty handle value) notes.old result notes.new }
 {
+    let (handle, value) = each_boxed(alloc, handle, value)?;
     note_creation(access, ty, notes)?;
     if value.is_none() {
         note_deed(notes, Deed::Initializes(ty))?;
     }
-    let handle = boxed(alloc, handle)?;
-    let value = boxed(alloc, value)?;
     Ok(Some(Typed {
         ty: Ty::Access(access),
         value: Expr::New(access, ty, handle, value),
     }))
-}
-
-/// Answers the type that a name denotes, where it denotes one (RM 3.2).
-fn marked(place: Span, found: Found, notes: &mut Notes) -> Option<Ty>
-    ensures { Answers (spec.marked place found) notes.old result notes.new }
-{
-    let Found::TypeName(ty) = found else {
-        return wrong(FaultCode::Type, place, notes);
-    };
-    Some(ty)
 }
 
 /// Answers the type that a mark denotes; an expanded name denotes nothing of a text (RM 3.2, profile).
@@ -209,6 +216,9 @@ pub fn allocator(
     };
     match allocates(tables, place, asked, ty, notes) {
         Some(access) => allocated(alloc, access, ty, handle, value, notes),
-        None => Ok(None),
+        None => {
+            drop((handle, value));
+            Ok(None)
+        }
     }
 }

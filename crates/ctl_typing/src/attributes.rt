@@ -5,8 +5,8 @@ ghost use Rattle.ctl_typing.specs.Judgement.{Answers};
 ghost use Rattle.ctl_typing.specs.Typing as spec;
 ghost use Rattle.ctl_syntax.specs.declared.name.Attribute.TheVariants as reading;
 
-use crate::found::{Found, Head, Place};
-use crate::judging::wrong;
+use crate::found::{Found, Head, Place, discard};
+use crate::judging::{refused, wrong};
 use crate::literals::constant;
 use crate::notes::Notes;
 use crate::table::Mutability;
@@ -22,13 +22,13 @@ const LEAST: u64 = 18_446_744_071_562_067_968;
 const LARGEST: u64 = 2_147_483_647;
 
 /// Reads `X'Access`: of an aliased variable of a record type that is declared so (RM 3.10.2).
-fn accessed(place: Span, part: Place, notes: &mut Notes) -> Option<Found>
-    ensures { Answers (spec.accessed place part.head part.steps part.ty part.mutability part.aliasing) notes.old result notes.new }
+fn accessed(place: Span, part: &Place, notes: &mut Notes) -> Option<Found>
+    ensures { Answers (spec.accessed place part.now.head part.now.steps part.now.ty part.now.mutability part.now.aliasing) notes.old result notes.new }
 {
     let is_whole = part.steps.is_empty();
-    match (part.head, part.ty, part.mutability, part.aliasing) {
+    match (&part.head, part.ty, part.mutability, part.aliasing) {
         (Head::At(var), Ty::Record(number), Mutability::Variable, Aliasing::Aliased) if is_whole =>
-            { Some(Found::Accessed(var, Ty::Record(number))) }
+            { Some(Found::Accessed(*var, Ty::Record(number))) }
         _ => wrong(FaultCode::Type, place, notes),
     }
 }
@@ -58,8 +58,12 @@ fn access(place: Span, found: Found, notes: &mut Notes) -> Option<Found>
     ensures { Answers (spec.attributed place reading.Access found) notes.old result notes.new }
 {
     match found {
-        Found::Part(part) => accessed(place, part, notes),
-        _ => wrong(FaultCode::Type, place, notes),
+        Found::Part(part) => {
+            let found = accessed(place, &part, notes);
+            drop(part);
+            found
+        }
+        _ => refused(found, FaultCode::Type, place, notes),
     }
 }
 
@@ -68,8 +72,9 @@ fn image(place: Span, found: Found, notes: &mut Notes) -> Option<Found>
     ensures { Answers (spec.attributed place reading.Image found) notes.old result notes.new }
 {
     let Found::TypeName(ty) = found else {
-        return wrong(FaultCode::Type, place, notes);
+        return refused(found, FaultCode::Type, place, notes);
     };
+    discard(found);
     image_of(place, ty, notes)
 }
 
@@ -78,8 +83,9 @@ fn first(place: Span, found: Found, notes: &mut Notes) -> Option<Found>
     ensures { Answers (spec.attributed place reading.First found) notes.old result notes.new }
 {
     let Found::TypeName(ty) = found else {
-        return wrong(FaultCode::Type, place, notes);
+        return refused(found, FaultCode::Type, place, notes);
     };
+    discard(found);
     bound_of(place, ty, LEAST, notes)
 }
 
@@ -88,8 +94,9 @@ fn last(place: Span, found: Found, notes: &mut Notes) -> Option<Found>
     ensures { Answers (spec.attributed place reading.Last found) notes.old result notes.new }
 {
     let Found::TypeName(ty) = found else {
-        return wrong(FaultCode::Type, place, notes);
+        return refused(found, FaultCode::Type, place, notes);
     };
+    discard(found);
     bound_of(place, ty, LARGEST, notes)
 }
 

@@ -8,7 +8,7 @@ ghost use Rattle.ctl_typing.specs.Typing as spec;
 
 use crate::actuals::as_variable;
 use crate::found::{Found, Place, Typed};
-use crate::judging::{is_same, wrong};
+use crate::judging::{is_same, refused, wrong};
 use crate::lookup::{descends, designated_by, is_general, level_of_access};
 use crate::names::{given_place, name_at};
 use crate::notes::Notes;
@@ -75,6 +75,7 @@ pub fn converted_access(
     ensures { Answers (spec.converted_access tables.now place access typed) notes.old result notes.new }
 {
     if !is_convertible(tables, access, typed.ty) {
+        drop(typed);
         return wrong(FaultCode::Type, place, notes);
     }
     let operand = level_of(tables, typed.ty);
@@ -104,7 +105,10 @@ fn viewed_as(
             mutability: part.mutability,
             aliasing: part.aliasing,
         })),
-        _ => wrong(FaultCode::Type, place, notes),
+        _ => {
+            drop(part);
+            wrong(FaultCode::Type, place, notes)
+        }
     }
 }
 
@@ -121,8 +125,8 @@ pub fn viewed(
 {
     match found {
         Found::Part(part) => viewed_as(tables, place, number, part, notes),
-        Found::View(_) => wrong(FaultCode::Type, inner, notes),
-        _ => wrong(FaultCode::Type, place, notes),
+        Found::View(_) => refused(found, FaultCode::Type, inner, notes),
+        _ => refused(found, FaultCode::Type, place, notes),
     }
 }
 
@@ -137,7 +141,7 @@ pub fn subpool_of(
     ensures { Judges (spec.subpool_of place function found) notes.old result notes.new }
 {
     let Found::Part(part) = found else {
-        return Ok(wrong(FaultCode::Type, place, notes));
+        return Ok(refused(found, FaultCode::Type, place, notes));
     };
     match part.ty {
         Ty::Record(number) if number == MARK_RELEASE_POOL => {
@@ -149,7 +153,10 @@ pub fn subpool_of(
             };
             Ok(as_variable(place, part.mutability, Found::Computed(typed), notes))
         }
-        _ => Ok(wrong(FaultCode::Type, place, notes)),
+        _ => {
+            drop(part);
+            Ok(wrong(FaultCode::Type, place, notes))
+        }
     }
 }
 

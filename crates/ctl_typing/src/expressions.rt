@@ -11,10 +11,10 @@ use crate::adopting::{adopts, has_joining, is_led_by_right, parted, place_of, ta
 use crate::allocators::{allocator, handle_of, mark_judged, value_asked};
 use crate::attributes::attributed;
 use crate::conversions::{converted_access, converted_number, imaged, subpool_of, viewed};
-use crate::found::{Asked, Found, Typed};
+use crate::found::{Asked, Found, Typed, discard};
 use crate::joining::{
     boolean, chain_joined, chain_typed, literals_joined, operand_behind, operand_typed, paired,
-    relation_joined, short_circuit, swapped, truths_joined, unary_joined, value_of,
+    paired_with, relation_joined, short_circuit, swapped, truths_joined, unary_joined, value_of,
 };
 use crate::judging::{fitted, wrong};
 use crate::literals::{adopted, first_found, null, number};
@@ -30,7 +30,7 @@ use ctl_program::types::Ty;
 use ctl_syntax::denoted::Use;
 use ctl_syntax::expression::Expression;
 use ctl_syntax::item::Mode;
-use ctl_syntax::name::{Name, Suffix};
+use ctl_syntax::name::{Mark, Name, Suffix};
 use ctl_syntax::operators::{LogicalOperator, Operand as WrittenOperand, RelationalOperator};
 use ctl_tree::fault::FaultCode;
 use ctl_tree::span::Span;
@@ -51,8 +51,7 @@ pub fn expression(
     match x {
         Expression::Logical(place, operator, first, second, more) => {
             let first = truth(alloc, tables, first.get(), notes)?;
-            let second = truth(alloc, tables, second.get(), notes)?;
-            let two = paired(first, second);
+            let two = paired_with(first, truth(alloc, tables, second.get(), notes))?;
             let value = logical(alloc, tables, more.as_slice(), *operator, two, notes)?;
             boolean(*place, asked, value, notes)
         }
@@ -97,9 +96,10 @@ pub fn expression(
         Expression::Parentheses(_, inner) => expression(alloc, tables, inner.get(), asked, notes),
         Expression::New(place, handle, mark, value) => {
             let handle = handle_or_none(alloc, tables, handle, asked, notes)?;
-            let ty = mark_judged(alloc, tables, mark.first, mark.rest.as_slice(), notes)?;
-            let value = value_or_none(alloc, tables, value, *place, ty, notes)?;
-            let parts = paired(handle, paired(ty, value));
+            let parts = paired_with(
+                handle,
+                new_object(alloc, tables, mark, value, *place, notes),
+            )?;
             allocator(alloc, tables, *place, asked, parts, notes)
         }
     }
@@ -152,8 +152,8 @@ fn whole(
 ) -> Result<Option<Expr>, AllocError>
     ensures { Judges (senses.whole_behind op two (map spec.sense more.now) tables.now) notes.old result notes.new }
 {
-    let more = truths_behind(alloc, tables, more, op, notes)?;
-    truths_joined(alloc, op, paired(two, more))
+    let all = paired_with(two, truths_behind(alloc, tables, more, op, notes))?;
+    truths_joined(alloc, op, all)
 }
 
 /// Judges the operands of `and`, `or` or `xor` behind the second, each with its operator (RM 4.5.1).
@@ -187,8 +187,8 @@ fn short(
 ) -> Result<Option<Expr>, AllocError>
     ensures { Judges (senses.short_behind form two (map spec.sense more.now) tables.now) notes.old result notes.new }
 {
-    let more = truths(alloc, tables, more, notes)?;
-    short_circuit(alloc, form, paired(two, more))
+    let all = paired_with(two, truths(alloc, tables, more, notes))?;
+    short_circuit(alloc, form, all)
 }
 
 /// Judges the operands of a short-circuit form behind the second (RM 4.5.1).
@@ -228,13 +228,14 @@ fn relation(
     if is_led_by_right(left, right) {
         let beside = asked_beside(operator, adopts(left));
         let right = expression(alloc, tables, right, beside, notes)?;
-        let left = expression(alloc, tables, left, asked_like(taken, &right), notes)?;
-        let both = swapped(paired(right, left));
-        return relation_joined(alloc, place, operator, both, asked, notes);
+        let like = asked_like(taken, &right);
+        let both = paired_with(right, expression(alloc, tables, left, like, notes))?;
+        return relation_joined(alloc, place, operator, swapped(both), asked, notes);
     }
     let left = expression(alloc, tables, left, taken, notes)?;
-    let right = expression(alloc, tables, right, asked_like(taken, &left), notes)?;
-    relation_joined(alloc, place, operator, paired(left, right), asked, notes)
+    let like = asked_like(taken, &left);
+    let both = paired_with(left, expression(alloc, tables, right, like, notes))?;
+    relation_joined(alloc, place, operator, both, asked, notes)
 }
 
 /// Judges a chain; a string is no value outside of Put and Put_Line (RM 4.5.3, profile).
@@ -302,8 +303,8 @@ fn by_first(
 {
     let typed = expression(alloc, tables, first, Asked::Number, notes)?;
     let like = asked_like(Asked::Number, &typed);
-    let operands = operands_as(alloc, tables, second, rest, like, notes)?;
-    chain_typed(alloc, paired(typed, operands))
+    let all = paired_with(typed, operands_as(alloc, tables, second, rest, like, notes))?;
+    chain_typed(alloc, all)
 }
 
 /// Judges a chain of which the second operand is the first with a type of its own (RM 4.5.3).
@@ -320,10 +321,32 @@ fn by_second(
 {
     let typed = expression(alloc, tables, &second.operand, Asked::Number, notes)?;
     let like = asked_like(Asked::Number, &typed);
+    let all = paired_with(
+        typed,
+        around_second(alloc, tables, first, rest, like, notes),
+    )?;
+    chain_joined(alloc, second.operator, all)
+}
+
+/// Judges the operands around a second one, of which they take on the type (RM 4.5.3).
+#[cycle(expression)]
+fn around_second(
+    alloc: Global,
+    tables: &Tables,
+    first: &Expression<Use>,
+    rest: &[WrittenOperand<Expression<Use>>],
+    like: Asked,
+    notes: &mut Notes,
+) -> Result<Option<((Expr, Items<Operand>), Items<Operand>)>, AllocError>
+    ensures { Judges (spec.around tables.now (spec.sense first.now) [] (map senses.operand_sense rest.now) like) notes.old result notes.new }
+{
     let value = expression(alloc, tables, first, like, notes)?;
     let first = paired(value_of(value), Some(Items::new(alloc)));
-    let behind = operands_behind(alloc, tables, rest, like, Some(Items::new(alloc)), notes)?;
-    chain_joined(alloc, second.operator, paired(typed, paired(first, behind)))
+    let none = Some(Items::new(alloc));
+    paired_with(
+        first,
+        operands_behind(alloc, tables, rest, like, none, notes),
+    )
 }
 
 /// Judges a chain of literals alone: they take on the type that the place asks (RM 4.5.3, profile).
@@ -368,12 +391,30 @@ fn by_further(
 {
     let typed = expression(alloc, tables, &leading.operand, Asked::Number, notes)?;
     let like = asked_like(Asked::Number, &typed);
+    let others = around_further(alloc, tables, first, second, before, behind, like, notes);
+    let all = paired_with(typed, others)?;
+    chain_joined(alloc, leading.operator, all)
+}
+
+/// Judges the operands around a further one, of which they take on the type (RM 4.5.3).
+#[cycle(expression)]
+fn around_further(
+    alloc: Global,
+    tables: &Tables,
+    first: &Expression<Use>,
+    second: &WrittenOperand<Expression<Use>>,
+    before: &[WrittenOperand<Expression<Use>>],
+    behind: &[WrittenOperand<Expression<Use>>],
+    like: Asked,
+    notes: &mut Notes,
+) -> Result<Option<((Expr, Items<Operand>), Items<Operand>)>, AllocError>
+    ensures { Judges (spec.around tables.now (spec.sense first.now) (senses.operand_sense second.now ∷ map senses.operand_sense before.now) (map senses.operand_sense behind.now) like) notes.old result notes.new }
+{
     let first = first_as(alloc, tables, first, second, before, like, notes)?;
-    let behind = operands_behind(alloc, tables, behind, like, Some(Items::new(alloc)), notes)?;
-    chain_joined(
-        alloc,
-        leading.operator,
-        paired(typed, paired(first, behind)),
+    let none = Some(Items::new(alloc));
+    paired_with(
+        first,
+        operands_behind(alloc, tables, behind, like, none, notes),
     )
 }
 
@@ -390,9 +431,9 @@ fn first_as(
 ) -> Result<Option<(Expr, Items<Operand>)>, AllocError>
     ensures { Judges (spec.first_as tables.now asked (spec.sense first.now) (senses.operand_sense second.now ∷ map senses.operand_sense rest.now)) notes.old result notes.new }
 {
-    let value = value_of(expression(alloc, tables, first, asked, notes)?);
-    let operands = operands_as(alloc, tables, second, rest, asked, notes)?;
-    Ok(paired(value, operands))
+    let typed = expression(alloc, tables, first, asked, notes)?;
+    let others = operands_as(alloc, tables, second, rest, asked, notes);
+    paired_with(value_of(typed), others)
 }
 
 /// Judges the operands of a chain behind the first (RM 4.5.3, 4.5.5).
@@ -488,7 +529,9 @@ fn suffixed(
         }
         Suffix::All(_) => dereference(alloc, tables, place, found, notes),
         Suffix::Arguments(_, first, more) => {
-            with_arguments(alloc, tables, first, more.as_slice(), place, &found, notes)
+            let whole = with_arguments(alloc, tables, first, more.as_slice(), place, &found, notes);
+            discard(found);
+            whole
         }
         Suffix::Attribute(_, attribute) => Ok(attributed(place, *attribute, found, notes)),
     }
@@ -782,6 +825,22 @@ fn handle_or_none(
     let name = name.get();
     let found = found(alloc, tables, name, notes)?;
     handle_of(alloc, tables, name.first.span, asked, found, notes)
+}
+
+/// Judges the type of a new object and then its value, where it has one (RM 4.8).
+#[cycle(expression)]
+fn new_object(
+    alloc: Global,
+    tables: &Tables,
+    mark: &Mark<Use>,
+    value: &Option<Boxed<Expression<Use>>>,
+    place: Span,
+    notes: &mut Notes,
+) -> Result<Option<(Ty, Option<Expr>)>, AllocError>
+    ensures { Judges (judgement.following (spec.mark_judged tables.now mark.now.first mark.now.rest) (λ ty. spec.value_judged tables.now place ty (option_map spec.sense value.now))) notes.old result notes.new }
+{
+    let ty = mark_judged(alloc, tables, mark.first, mark.rest.as_slice(), notes)?;
+    paired_with(ty, value_or_none(alloc, tables, value, place, ty, notes))
 }
 
 /// Judges the value of an allocator, where it has one, by the type of the new object, where that is known (RM 4.8).

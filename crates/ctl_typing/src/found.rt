@@ -78,3 +78,17 @@ pub enum Found {
     /// `X'Access` of a variable of this record type
     Accessed(Var, Ty),
 }
+
+/// Lets go of what a name is, by a call for each part: what goes out of scope by itself is taken apart where it stands, which makes a
+/// proof of its own there.
+pub fn discard(found: Found) {
+    match found {
+        Found::Part(part) | Found::Discriminant(part, _) | Found::View(part) => drop(part),
+        Found::Computed(typed) | Found::Imaged(typed) => drop(typed),
+        Found::TypeName(_)
+        | Found::Callable(_)
+        | Found::Subpools(_)
+        | Found::Image(_)
+        | Found::Accessed(_, _) => {}
+    }
+}

@@ -2,14 +2,14 @@
 
 ghost use Rattle.std.specs.Prelude.{◌≡◌};
 ghost use Rattle.ctl_typing.specs.declared.notes.Notes.{Notes as Noted};
-ghost use Rattle.ctl_typing.specs.Judgement.{Judges, onward, paired as both_known};
+ghost use Rattle.ctl_typing.specs.Judgement.{Judges, beside, onward, paired as both_known};
 ghost use Rattle.ctl_typing.specs.Senses as senses;
 
 use crate::found::{Asked, Typed};
 use crate::judging::fits;
 use crate::notes::Notes;
 use crate::operators::{
-    chain_of, joined, logical_chain, operand_of, operator_of, relation_of, unary_of,
+    both_boxed, chain_of, joined, logical_chain, operand_of, operator_of, relation_of, unary_of,
 };
 use ctl_program::expression::{Expr, Operand};
 use ctl_program::operators::{BinaryOp, Shortcut};
@@ -27,6 +27,16 @@ pub fn paired<A: Drop, B: Drop>(first: Option<A>, second: Option<B>) -> Option<(
         (Some(first), Some(second)) => Some((first, second)),
         _ => None,
     }
+}
+
+/// Pairs what is known of a part with what is known of another, which is judged after it; memory may be refused for that.
+pub fn paired_with<A: Drop, B: Drop>(
+    first: Option<A>,
+    second: Result<Option<B>, AllocError>,
+) -> Result<Option<(A, B)>, AllocError>
+    ensures { (q : _) (old new : Noted) → Judges q old second new → Judges (λ s. beside q (first, s)) old result new }
+{
+    Ok(paired(first, second?))
 }
 
 /// Puts what is known of two parts the other way round.
@@ -94,8 +104,8 @@ pub fn short_circuit(
     let Some(((first, second), more)) = all else {
         return Ok(None);
     };
-    let first = Boxed::new(alloc, first)?;
-    Ok(Some(Expr::Short(form, first, Boxed::new(alloc, second)?, more)))
+    let (first, second) = both_boxed(alloc, first, second)?;
+    Ok(Some(Expr::Short(form, first, second, more)))
 }
 
 /// Judges a Boolean value by what its place asks, where it is known (RM 4.5.1).

@@ -6,7 +6,7 @@ ghost use Rattle.ctl_typing.specs.Judgement.{Answers, Judges};
 ghost use Rattle.ctl_typing.specs.Lookup as lookup;
 ghost use Rattle.ctl_typing.specs.Typing as spec;
 
-use crate::found::{Asked, Typed};
+use crate::found::{Asked, Found, Typed, discard};
 use crate::notes::{Deed, Notes};
 use ctl_program::types::Ty;
 use ctl_tree::fault::{Fault, FaultCode};
@@ -35,6 +35,25 @@ pub fn wrong<T>(code: FaultCode, place: Span, notes: &mut Notes) -> Option<T>
     None
 }
 
+/// Notes that a rule is broken at a place by what a name is, and that nothing is known for it.
+pub fn refused<T>(found: Found, code: FaultCode, place: Span, notes: &mut Notes) -> Option<T>
+    ensures { Answers (judgement.wrong code place) notes.old result notes.new }
+{
+    discard(found);
+    wrong(code, place, notes)
+}
+
+/// Answers the type that a name denotes, where it denotes one (RM 3.2).
+pub fn marked(place: Span, found: Found, notes: &mut Notes) -> Option<Ty>
+    ensures { Answers (spec.marked place found) notes.old result notes.new }
+{
+    let Found::TypeName(ty) = found else {
+        return refused(found, FaultCode::Type, place, notes);
+    };
+    discard(found);
+    Some(ty)
+}
+
 /// Notes a use that denotes nothing: the rules on names are broken there (RM 8.3), and nothing is known.
 pub fn unresolved<T>(place: Span, notes: &mut Notes) -> Option<T>
     ensures { Answers (judgement.unresolved place) notes.old result notes.new }
@@ -50,6 +69,14 @@ pub fn note_deed(notes: &mut Notes, deed: Deed) -> Result<(), AllocError>
         Some(deeds) => deeds.push(deed),
         None => Ok(()),
     }
+}
+
+/// Answers what is known of an expression, and notes what it does.
+pub fn doing<T: Drop>(deed: Deed, value: T, notes: &mut Notes) -> Result<Option<T>, AllocError>
+    ensures { Judges (judgement.doing (deed ∷ []) value) notes.old result notes.new }
+{
+    note_deed(notes, deed)?;
+    Ok(Some(value))
 }
 
 /// Tells whether a number type is meant (RM 3.5.4, 13.7.1).
@@ -101,11 +128,10 @@ pub fn fits(
     ensures { Judges (spec.fits place asked typed) notes.old result notes.new }
 {
     if !meets(asked, typed.ty) {
-        note(notes, FaultCode::Type, place);
-        return Ok(None);
+        drop(typed);
+        return Ok(wrong(FaultCode::Type, place, notes));
     }
-    note_deed(notes, Deed::Freezes(typed.ty))?;
-    Ok(Some(typed))
+    doing(Deed::Freezes(typed.ty), typed, notes)
 }
 
 /// Notes an expression of another type than its place asks, where it is known.

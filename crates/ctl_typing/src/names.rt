@@ -1,12 +1,13 @@
 //! A name read from its beginning on: components, dereferences, attributes and results.
 
-ghost use Rattle.std.specs.Prelude.{◌≡◌, IfOk};
+ghost use Rattle.std.specs.Prelude.{◌≡◌, ◌++◌, ◌∷◌, [], IfOk};
+ghost use Rattle.ctl_syntax.specs.declared.item.Aliasing.TheVariants as reading;
 ghost use Rattle.ctl_typing.specs.Judgement.{Answers, Judges, onward};
 ghost use Rattle.ctl_typing.specs.Senses as senses;
 ghost use Rattle.ctl_typing.specs.Typing as spec;
 
 use crate::found::{Found, Head, Place, Typed};
-use crate::judging::{note, wrong};
+use crate::judging::{refused, wrong};
 use crate::lookup::{component_of, designated_by, profile_of, root_of};
 use crate::notes::Notes;
 use crate::table::{Mutability, Profile, Tables};
@@ -93,6 +94,26 @@ pub fn value_at(alloc: Global, head: Head, steps: Items<Step>, ty: Ty) -> Result
     }
 }
 
+/// Answers a part of a part, one step behind it; it is not aliased.
+fn behind(part: Place, step: Step, ty: Ty, mutability: Mutability) -> Result<Place, AllocError>
+    ensures { IfOk result (λ place. place ≡ record { head = part.head; steps = part.steps ++ step ∷ []; ty = ty; mutability = mutability; aliasing = reading.Unaliased }) }
+{
+    let mut part = part;
+    match part.steps.push(step) {
+        Ok(()) => Ok(Place {
+            head: part.head,
+            steps: part.steps,
+            ty,
+            mutability,
+            aliasing: Aliasing::Unaliased,
+        }),
+        Err(error) => {
+            drop(part);
+            Err(error)
+        }
+    }
+}
+
 /// Dereferences an access value (RM 4.1).
 fn dereferenced(
     tables: &Tables,
@@ -107,18 +128,10 @@ fn dereferenced(
         _ => None,
     };
     let Some(ty) = designated else {
-        note(notes, FaultCode::Type, place);
-        return Ok(None);
+        drop(part);
+        return Ok(wrong(FaultCode::Type, place, notes));
     };
-    let mut part = part;
-    part.steps.push(Step::Dereference)?;
-    Ok(Some(Place {
-        head: part.head,
-        steps: part.steps,
-        ty,
-        mutability: Mutability::Variable,
-        aliasing: Aliasing::Unaliased,
-    }))
+    Ok(Some(behind(part, Step::Dereference, ty, Mutability::Variable)?))
 }
 
 /// Answers what a discriminant of a pool type is called by its position from 0 (RM 3.7, profile).
@@ -145,23 +158,21 @@ fn selected_of(
     ensures { Judges (spec.selected_of tables.now place name.now part.ty part) notes.old result notes.new }
 {
     let Ty::Record(number) = part.ty else {
+        drop(part);
         return Ok(wrong(FaultCode::Type, place, notes));
     };
     let Some((position, ty)) = component_of(tables, name, number) else {
         return Ok(match discriminant_named(root_of(tables, number), name) {
             Some(position) => Some(Found::Discriminant(part, position)),
-            None => wrong(FaultCode::Type, place, notes),
+            None => {
+                drop(part);
+                wrong(FaultCode::Type, place, notes)
+            }
         });
     };
-    let mut part = part;
-    part.steps.push(Step::Component(number, position))?;
-    Ok(Some(Found::Part(Place {
-        head: part.head,
-        steps: part.steps,
-        ty,
-        mutability: part.mutability,
-        aliasing: Aliasing::Unaliased,
-    })))
+    let mutability = part.mutability;
+    let step = Step::Component(number, position);
+    Ok(Some(Found::Part(behind(part, step, ty, mutability)?)))
 }
 
 /// Selects behind a part; an access value is dereferenced by itself before (RM 4.1).
@@ -195,7 +206,7 @@ pub fn selected(
 {
     match found {
         Found::Part(part) => selected_through(tables, place, name, part, notes),
-        _ => Ok(wrong(FaultCode::Type, place, notes)),
+        _ => Ok(refused(found, FaultCode::Type, place, notes)),
     }
 }
 
@@ -209,7 +220,7 @@ pub fn all_of(
     ensures { Judges (spec.all_of tables.now place found) notes.old result notes.new }
 {
     let Found::Part(part) = found else {
-        return Ok(wrong(FaultCode::Type, place, notes));
+        return Ok(refused(found, FaultCode::Type, place, notes));
     };
     match dereferenced(tables, place, part, notes)? {
         Some(part) => Ok(Some(Found::Part(part))),

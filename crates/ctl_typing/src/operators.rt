@@ -124,6 +124,18 @@ pub fn operand_of(op: BinaryOp, ty: Ty, right: Expr) -> Operand
     Operand { op, ty, right }
 }
 
+/// Moves two values into boxes.
+pub fn both_boxed<A: Drop, B: Drop>(
+    alloc: Global,
+    first: A,
+    second: B,
+) -> Result<(Boxed<A>, Boxed<B>), AllocError>
+    ensures { IfOk result (λ boxes. boxes ≡ (first, second)) }
+{
+    let first = Boxed::new(alloc, first)?;
+    Ok((first, Boxed::new(alloc, second)?))
+}
+
 /// Makes a comparison (RM 4.5.2).
 pub fn relation_of(
     alloc: Global,
@@ -134,8 +146,8 @@ pub fn relation_of(
     ensures { IfOk result (λ typed. typed ≡ spec.relation_of operator left right) }
 {
     let operand = operand_of(comparison(operator), Ty::Boolean, right.value);
-    let left = Boxed::new(alloc, left.value)?;
-    let value = Expr::Chain(left, Boxed::new(alloc, operand)?, Items::new(alloc));
+    let (left, operand) = both_boxed(alloc, left.value, operand)?;
+    let value = Expr::Chain(left, operand, Items::new(alloc));
     Ok(Typed {
         ty: Ty::Boolean,
         value,
@@ -150,8 +162,22 @@ pub fn chain_of(alloc: Global, first: Expr, operands: Items<Operand>) -> Result<
         return Ok(first);
     }
     let mut rest = operands;
-    let second = rest.remove(0);
-    Ok(Expr::Chain(Boxed::new(alloc, first)?, Boxed::new(alloc, second)?, rest))
+    let (first, second) = both_boxed(alloc, first, rest.remove(0))?;
+    Ok(Expr::Chain(first, second, rest))
+}
+
+/// Puts operands before one and behind it.
+fn around(
+    before: Items<Operand>,
+    operand: Operand,
+    behind: Items<Operand>,
+) -> Result<Items<Operand>, AllocError>
+    ensures { IfOk result (λ all. all ≡ before ++ operand ∷ behind) }
+{
+    let mut all = before;
+    all.push(operand)?;
+    all.append(behind)?;
+    Ok(all)
 }
 
 /// Makes a chain of literals, the operand that gives them their type, and what stands behind it.
@@ -164,11 +190,15 @@ pub fn joined(
 ) -> Result<Typed, AllocError>
     ensures { IfOk result (λ whole. whole ≡ spec.joined op typed (first, behind)) }
 {
-    let (first, mut operands) = first;
+    let (first, operands) = first;
     let ty = typed.ty;
-    operands.push(operand_of(op, ty, typed.value))?;
-    operands.append(behind)?;
-    let value = chain_of(alloc, first, operands)?;
+    let value = match around(operands, operand_of(op, ty, typed.value), behind) {
+        Ok(operands) => chain_of(alloc, first, operands)?,
+        Err(error) => {
+            drop(first);
+            return Err(error);
+        }
+    };
     Ok(Typed { ty, value })
 }
 
@@ -183,5 +213,6 @@ pub fn logical_chain(
     ensures { IfOk result (λ value. value ≡ made.Chain first (spec.logical_operand op second) more) }
 {
     let second = operand_of(op, Ty::Boolean, second);
-    Ok(Expr::Chain(Boxed::new(alloc, first)?, Boxed::new(alloc, second)?, more))
+    let (first, second) = both_boxed(alloc, first, second)?;
+    Ok(Expr::Chain(first, second, more))
 }

@@ -9,7 +9,7 @@ ghost use Rattle.ctl_typing.specs.Typing as spec;
 use crate::adopting::{all_joining, place_of};
 use crate::expressions::{expression, found};
 use crate::found::{Asked, Found};
-use crate::judging::wrong;
+use crate::judging::{refused, wrong};
 use crate::names::settled_known;
 use crate::notes::Notes;
 use crate::table::Tables;
@@ -70,7 +70,7 @@ fn text_found(
     ensures { Judges (spec.text_found place found) notes.old result notes.new }
 {
     let Found::Imaged(typed) = found else {
-        return Ok(wrong(FaultCode::Type, place, notes));
+        return Ok(refused(found, FaultCode::Type, place, notes));
     };
     Ok(Some(alone(alloc, image_piece(typed.ty, typed.value))?))
 }
@@ -101,7 +101,10 @@ fn no_text(
     ensures { Judges (spec.no_text (spec.sense x.now).place (spec.sense x.now).judged tables.now) notes.old result notes.new }
 {
     match expression(alloc, tables, x, Asked::Anything, notes)? {
-        Some(_) => Ok(wrong(FaultCode::Type, place_of(x), notes)),
+        Some(typed) => {
+            drop(typed);
+            Ok(wrong(FaultCode::Type, place_of(x), notes))
+        }
         None => Ok(None),
     }
 }

@@ -6,8 +6,8 @@ ghost use Rattle.ctl_typing.specs.Lookup as lookup;
 ghost use Rattle.ctl_typing.specs.Senses as senses;
 ghost use Rattle.ctl_typing.specs.Typing as spec;
 
-use crate::found::{Asked, Found, Typed};
-use crate::judging::{fits, is_same, note, wrong};
+use crate::found::{Asked, Found, Typed, discard};
+use crate::judging::{fits, is_same, note, refused, wrong};
 use crate::lookup::{designated_by, is_general, level_of_access};
 use crate::names::{name_at, settled_known, value_at};
 use crate::notes::Notes;
@@ -96,9 +96,10 @@ pub fn value_found(
             value: Expr::Discriminant(name_at(alloc, part.head, part.steps)?, position),
         },
         Found::Accessed(var, ty) => {
+            discard(found);
             return Ok(access_value(tables, place, var, ty, asked, notes));
         }
-        _ => return Ok(wrong(FaultCode::Type, place, notes)),
+        _ => return Ok(refused(found, FaultCode::Type, place, notes)),
     };
     fits(place, asked, typed, notes)
 }

@@ -30,7 +30,7 @@ statement-returns-in-Loop t c =
     rw (i.is, fold_out-Statement, outs-Loop i.field-0 i.statements, ← c.as_slice-in-Loop.ensures) c.endless.ensures
 
 pub branch-sequence-requires : goal.branch-sequence-requires
-branch-sequence-requires t c = rw c.as_slice.ensures (omega (arith, c.decreases), tt)
+branch-sequence-requires t c = rw c.as_slice-statements.ensures (omega (arith, c.decreases), tt)
 
 pub statement-branches-requires : goal.statement-branches-requires
 statement-branches-requires t c =

@@ -5,7 +5,7 @@ use Rattle.std.proofs.Common.{arith, if◌then◌else◌, Option, option_map, sy
 use Rattle.ctl_syntax.specs.declared.denoted.Use.{Use}
 use Rattle.ctl_syntax.specs.declared.expression.Expression.{Expression, size-Expression, size_is-Expression}
 use Rattle.ctl_syntax.specs.declared.expression.Expression.TheVariants.{Logical, outs-Logical, Relation, outs-Relation}
-use Rattle.ctl_typing.specs.Judgement.{◌>>=◌, appended, each, following, known, onward, paired, with_known}
+use Rattle.ctl_typing.specs.Judgement.{◌>>=◌, appended, beside, each, following, known, onward, then_beside, with_known}
 use Rattle.ctl_program.specs.declared.types.Ty.{Ty}
 use Rattle.ctl_syntax.specs.declared.operators.Operand.{Operand}
 use Rattle.ctl_typing.specs.Allocating.{by_parts, given, handle_of}
@@ -20,21 +20,22 @@ use Rattle.ctl_typing.proofs.Logical.{logical_judged_is}
 use Rattle.ctl_typing.proofs.Matching.{no_more, no_more_formals}
 use Rattle.ctl_typing.proofs.Parting.{second_is_typed, further_is_typed, led_by}
 use Rattle.ctl_typing.proofs.Senses.{sense_name, sense_chain, sense_logical, sense_new, sense_number, sense_null}
-use Rattle.ctl_typing.proofs.Stages.{judged_as, onward_is, both_are, following_are, swapped_is}
+use Rattle.ctl_typing.proofs.Stages.{judged_as, onward_is, both_are, both_judged, following_judged, swapped_is}
 use Rattle.ctl_typing.proofs.Turns.{each_walked, next_of}
 use Rattle.ctl_typing.proofs.expressions.+expression.Goals as goal
 
 pub expression-returns-in_ok-value-in-Logical : goal.expression-returns-in_ok-value-in-Logical
 expression-returns-in_ok-value-in-Logical t c =
     let i = c.in-Logical in
+    let tables = c.args.tables.now in
     let first = spec.sense c.get.result.now in
     let second = spec.sense c.get-in-Logical.result.now in
     let more = map spec.sense c.as_slice.result.now in
+    let two = c.in_ok-two-in-Logical.ensures (spec.truth_of tables second) c.truth.new.notes c.truth-in-Logical.new.notes c.truth-in-Logical.ensures in
     rw (i.is, sense_logical i.place i.operator i.first i.second i.more, ← c.get.ensures, ← c.get-in-Logical.ensures, ← c.as_slice.ensures)
-    (judged_as (spec.logical_judged i.place i.operator first second more c.args.tables.now c.args.asked) (onward c.in_ok-value-in-Logical.value (senses.boolean_at i.place c.args.asked)) c.args.notes.now c.logical.new.notes c.boolean.new.notes c.boolean.result
-    (logical_judged_is i.place i.operator first second more c.args.tables.now c.args.asked c.args.notes.now c.truth.new.notes c.truth-in-Logical.new.notes c.logical.new.notes
-    c.in_ok-first-in-Logical.first c.in_ok-second-in-Logical.second c.in_ok-value-in-Logical.value c.paired-two.result
-    c.in_ok-first-in-Logical.ensures c.in_ok-second-in-Logical.ensures (c.paired-two.ensures c.truth-in-Logical.new.notes) c.in_ok-value-in-Logical.ensures)
+    (judged_as (spec.logical_judged i.place i.operator first second more tables c.args.asked) (onward c.in_ok-value-in-Logical.value (senses.boolean_at i.place c.args.asked)) c.args.notes.now c.logical.new.notes c.boolean.new.notes c.boolean.result
+    (logical_judged_is i.place i.operator first second more tables c.args.asked c.args.notes.now c.truth.new.notes c.truth-in-Logical.new.notes c.logical.new.notes
+    c.in_ok-first-in-Logical.first c.in_ok-value-in-Logical.value c.in_ok-two-in-Logical.two c.in_ok-first-in-Logical.ensures two c.in_ok-value-in-Logical.ensures)
     c.boolean.ensures)
 
 pub expression-returns-in-Chain : goal.expression-returns-in-Chain
@@ -58,22 +59,32 @@ expression-returns-in_ok-found-in-Name t c =
     (ap (λ q. with_known (spec.value_found c.args.tables.now i.name.first.span c.args.asked) (with_known (spec.settled c.args.tables.now i.name.first.span) q)) c.in_ok-found-in-Name.ensures)
     c.name_value.ensures)
 
-pub expression-returns-in_ok-value-in-New : goal.expression-returns-in_ok-value-in-New
-expression-returns-in_ok-value-in-New t c =
+pub expression-returns-in_ok-parts-in-New : goal.expression-returns-in_ok-parts-in-New
+expression-returns-in_ok-parts-in-New t c =
     let i = c.in-New in
     let tables = c.args.tables.now in
+    let start = c.args.notes.now in
+    let held = c.handle_or_none.new.notes in
+    let ended = c.new_object.new.notes in
     let handle = spec.held (option_map (spec.handle_judged tables c.args.asked) (option_map senses.name_sense i.handle)) in
-    let mark = spec.mark_judged tables i.mark.first i.mark.rest in
-    let value_of = λ (ty : Option Ty). spec.value_judged tables i.place ty (option_map spec.sense i.value) in
-    let typed = ap (λ is'. spec.mark_judged tables i.mark.first is' c.handle_or_none.new.notes) (sym c.as_slice-in-New.ensures) ∙ c.in_ok-ty-in-New.ensures in
-    let made = following_are mark value_of c.handle_or_none.new.notes c.mark_judged.new.notes c.value_or_none.new.notes c.in_ok-ty-in-New.ty c.in_ok-value-in-New.value c.paired.result
-    typed c.in_ok-value-in-New.ensures (c.paired.ensures c.value_or_none.new.notes) in
-    let parts = both_are handle (following mark value_of) c.args.notes.now c.handle_or_none.new.notes c.value_or_none.new.notes c.in_ok-handle-in-New.handle c.paired.result c.paired-parts.result
-    c.in_ok-handle-in-New.ensures made (c.paired-parts.ensures c.value_or_none.new.notes) in
+    let object = following (spec.mark_judged tables i.mark.first i.mark.rest) (λ (ty : Option Ty). spec.value_judged tables i.place ty (option_map spec.sense i.value)) in
+    let parts = both_judged handle object start held ended c.in_ok-handle-in-New.handle c.in_ok-parts-in-New.parts c.in_ok-handle-in-New.ensures (c.in_ok-parts-in-New.ensures object held ended c.new_object.ensures) in
     rw (i.is, sense_new i.place i.handle i.mark i.value)
-    (judged_as (spec.new_judged i.place (option_map senses.name_sense i.handle) i.mark (option_map spec.sense i.value) tables c.args.asked) (onward c.paired-parts.result (by_parts tables i.place c.args.asked))
-    c.args.notes.now c.value_or_none.new.notes c.allocator.new.notes c.allocator.result
+    (judged_as (spec.new_judged i.place (option_map senses.name_sense i.handle) i.mark (option_map spec.sense i.value) tables c.args.asked) (onward c.in_ok-parts-in-New.parts (by_parts tables i.place c.args.asked))
+    start ended c.allocator.new.notes c.allocator.result
     (ap (with_known (by_parts tables i.place c.args.asked)) parts) c.allocator.ensures)
+
+pub new_object-returns : goal.new_object-returns
+new_object-returns t c =
+    let tables = c.args.tables.now in
+    let mark = c.args.mark.now in
+    let object = λ (ty : Option Ty). spec.value_judged tables c.args.place ty (option_map spec.sense c.args.value.now) in
+    let ty = c.in_ok-ty.ty in
+    let start = c.args.notes.now in
+    let marked = c.mark_judged.new.notes in
+    let typed = ap (λ is'. spec.mark_judged tables mark.first is' start) (sym c.as_slice.ensures) ∙ c.in_ok-ty.ensures in
+    judged_as (following (spec.mark_judged tables mark.first mark.rest) object) (λ n. beside (object ty) (ty, n)) start marked c.value_or_none.new.notes c.paired_with.result
+    (ap (then_beside object) typed) (c.paired_with.ensures (object ty) marked c.value_or_none.new.notes c.value_or_none.ensures)
 
 pub expression-logical-requires : goal.expression-logical-requires
 expression-logical-requires t c =
@@ -101,16 +112,20 @@ expression-chain-requires t c =
 pub whole-returns : goal.whole-returns
 whole-returns t c =
     let op = c.args.op in
+    let start = c.args.notes.now in
     let ended = c.truths_behind.new.notes in
-    judged_as (senses.whole_behind op c.args.two (map spec.sense c.args.more.now) c.args.tables.now) (onward c.paired.result (senses.chain_made op)) c.args.notes.now ended ended c.truths_joined.result
-    (ap (λ q. with_known (senses.chain_made op) (paired c.args.two q)) c.in_ok-more.ensures ∙ ap (with_known (senses.chain_made op)) (c.paired.ensures ended)) (c.truths_joined.ensures ended)
+    let more = senses.truths_behind op c.args.tables.now (map spec.sense c.args.more.now) in
+    judged_as (senses.whole_behind op c.args.two (map spec.sense c.args.more.now) c.args.tables.now) (onward c.in_ok-all.all (senses.chain_made op)) start ended ended c.truths_joined.result
+    (ap (with_known (senses.chain_made op)) (c.in_ok-all.ensures more start ended c.truths_behind.ensures)) (c.truths_joined.ensures ended)
 
 pub short-returns : goal.short-returns
 short-returns t c =
     let form = c.args.form in
+    let start = c.args.notes.now in
     let ended = c.truths.new.notes in
-    judged_as (senses.short_behind form c.args.two (map spec.sense c.args.more.now) c.args.tables.now) (onward c.paired.result (senses.short_made form)) c.args.notes.now ended ended c.short_circuit.result
-    (ap (λ q. with_known (senses.short_made form) (paired c.args.two q)) c.in_ok-more.ensures ∙ ap (with_known (senses.short_made form)) (c.paired.ensures ended)) (c.short_circuit.ensures ended)
+    let more = spec.truths_of c.args.tables.now (map spec.sense c.args.more.now) in
+    judged_as (senses.short_behind form c.args.two (map spec.sense c.args.more.now) c.args.tables.now) (onward c.in_ok-all.all (senses.short_made form)) start ended ended c.short_circuit.result
+    (ap (with_known (senses.short_made form)) (c.in_ok-all.ensures more start ended c.truths.ensures)) (c.short_circuit.ensures ended)
 
 pub relation-expression-requires : goal.relation-expression-requires
 relation-expression-requires t c = (omega (arith, c.decreases), tt)
@@ -126,20 +141,22 @@ relation-returns-then-is_led_by_right t c =
     let start = c.args.notes.now in
     let middle = c.expression.new.notes in
     let ended = c.expression-then-is_led_by_right.new.notes in
-    let beside = c.asked_beside-beside.ensures ∙ ap (spec.asked_beside op) c.adopts.ensures in
-    let first = ap (λ a. right.judged tables a start) (sym beside) ∙ c.in_ok-right.ensures in
+    let like = c.asked_like-like.result in
+    let leading = c.in_ok-right.right in
+    let beside' = c.asked_beside-beside.ensures ∙ ap (spec.asked_beside op) c.adopts.ensures in
+    let first = ap (λ a. right.judged tables a start) (sym beside') ∙ c.in_ok-right.ensures in
     let second =
-    ap (λ a. left.judged tables (spec.asked_like a c.in_ok-right.right) middle) (sym c.compared-taken.ensures)
-    ∙ ap (λ a. left.judged tables a middle) (sym c.asked_like.ensures)
-    ∙ c.in_ok-left.ensures in
-    let both = following_are (right.judged tables (spec.asked_beside op left.adopts)) (λ ty. left.judged tables (spec.asked_like (spec.compared op) ty)) start middle ended c.in_ok-right.right c.in_ok-left.left c.paired.result first second (c.paired.ensures ended) in
-    judged_as (spec.relation_judged place op left right tables asked) (onward c.swapped-both.result (senses.relation_at place op asked)) start ended c.relation_joined.new.notes c.relation_joined.result
+    ap (λ a. beside (left.judged tables (spec.asked_like a leading)) (leading, middle)) (sym c.compared-taken.ensures)
+    ∙ ap (λ a. beside (left.judged tables a) (leading, middle)) (sym c.asked_like-like.ensures)
+    ∙ c.in_ok-both.ensures (left.judged tables like) middle ended c.expression-then-is_led_by_right.ensures in
+    let both = following_judged (right.judged tables (spec.asked_beside op left.adopts)) (λ ty. left.judged tables (spec.asked_like (spec.compared op) ty)) start middle ended leading c.in_ok-both.both first second in
+    judged_as (spec.relation_judged place op left right tables asked) (onward c.swapped.result (senses.relation_at place op asked)) start ended c.relation_joined.new.notes c.relation_joined.result
     (ap
     (λ b. (if b then (following (right.judged tables (spec.asked_beside op left.adopts)) (λ ty. left.judged tables (spec.asked_like (spec.compared op) ty)) >>= (λ p. spec.fits place asked (spec.relation_of op p.1 p.0)))
     else (following (left.judged tables (spec.compared op)) (λ ty. right.judged tables (spec.asked_like (spec.compared op) ty)) >>= (λ p. spec.fits place asked (spec.relation_of op p.0 p.1)))) start)
     (sym c.is_led_by_right.ensures ∙ c.if-is_led_by_right.true)
     ∙ ap (with_known (λ p. spec.fits place asked (spec.relation_of op p.1 p.0))) both
-    ∙ swapped_is (senses.relation_at place op asked) c.paired.result c.swapped-both.result ended (c.swapped-both.ensures ended))
+    ∙ swapped_is (senses.relation_at place op asked) c.in_ok-both.both c.swapped.result ended (c.swapped.ensures ended))
     c.relation_joined.ensures
 
 pub relation-expression-requires-3 : goal.relation-expression-requires-3
@@ -209,19 +226,26 @@ by_first-returns t c =
     let tables = c.args.tables.now in
     let x = spec.sense c.args.first.now in
     let os = operand_sense c.args.second.now ∷ map operand_sense c.args.rest.now in
-    let all = following_are (x.judged tables Number) (λ r. spec.operands_as tables (spec.asked_like Number r) os) c.args.notes.now c.expression.new.notes c.operands_as.new.notes
-    c.in_ok-typed.typed c.in_ok-operands.operands c.paired.result c.in_ok-typed.ensures (ap (λ a. spec.operands_as tables a os c.expression.new.notes) (sym c.asked_like-like.ensures) ∙ c.in_ok-operands.ensures) (c.paired.ensures c.operands_as.new.notes) in
-    judged_as (spec.by_first tables x os) (onward c.paired.result senses.led_by_first) c.args.notes.now c.operands_as.new.notes c.operands_as.new.notes c.chain_typed.result
-    (ap (with_known senses.led_by_first) all) (c.chain_typed.ensures c.operands_as.new.notes)
+    let start = c.args.notes.now in
+    let typed = c.expression.new.notes in
+    let ended = c.operands_as.new.notes in
+    let others = λ (r : Option Typed). spec.operands_as tables (spec.asked_like Number r) os in
+    let all = following_judged (x.judged tables Number) others start typed ended c.in_ok-typed.typed c.in_ok-all.all c.in_ok-typed.ensures
+    (ap (λ a. beside (spec.operands_as tables a os) (c.in_ok-typed.typed, typed)) (sym c.asked_like-like.ensures) ∙ c.in_ok-all.ensures (spec.operands_as tables c.asked_like-like.result os) typed ended c.operands_as.ensures) in
+    judged_as (spec.by_first tables x os) (onward c.in_ok-all.all senses.led_by_first) start ended ended c.chain_typed.result
+    (ap (with_known senses.led_by_first) all) (c.chain_typed.ensures ended)
 
 pub by_second-expression-requires : goal.by_second-expression-requires
 by_second-expression-requires t c = (omega (arith, c.decreases), tt)
 
-pub by_second-expression-requires-2 : goal.by_second-expression-requires-2
-by_second-expression-requires-2 t c = (omega (arith, c.decreases), tt)
+pub around_second-expression-requires : goal.around_second-expression-requires
+around_second-expression-requires t c = (omega (arith, c.decreases), tt)
 
-pub by_second-operands_behind-requires : goal.by_second-operands_behind-requires
-by_second-operands_behind-requires t c = (omega (arith, c.decreases), tt)
+pub around_second-operands_behind-requires : goal.around_second-operands_behind-requires
+around_second-operands_behind-requires t c = (omega (arith, c.decreases), tt)
+
+pub by_second-around_second-requires : goal.by_second-around_second-requires
+by_second-around_second-requires t c = (omega (arith, c.decreases), tt)
 
 pub by_second-returns : goal.by_second-returns
 by_second-returns t c asked =
@@ -229,19 +253,31 @@ by_second-returns t c asked =
     let x = spec.sense c.args.first.now in
     let o = operand_sense c.args.second.now in
     let os = map operand_sense c.args.rest.now in
-    let like = c.asked_like-like.result in
+    let start = c.args.notes.now in
     let typed = c.expression.new.notes in
-    let valued = c.expression-2.new.notes in
+    let ended = c.around_second.new.notes in
+    let others = λ (r : Option Typed). spec.around tables x [] os (spec.asked_like Number r) in
+    let all = following_judged (o.operand.judged tables Number) others start typed ended c.in_ok-typed.typed c.in_ok-all.all c.in_ok-typed.ensures
+    (ap (λ a. beside (spec.around tables x [] os a) (c.in_ok-typed.typed, typed)) (sym c.asked_like-like.ensures) ∙ c.in_ok-all.ensures (spec.around tables x [] os c.asked_like-like.result) typed ended c.around_second.ensures) in
+    judged_as (spec.by_other tables asked x [] (Some o) os) (onward c.in_ok-all.all (senses.led_by c.args.second.now.operator)) start ended ended c.chain_joined.result
+    (ap (with_known (senses.led_by c.args.second.now.operator)) all) (c.chain_joined.ensures ended)
+
+pub around_second-returns : goal.around_second-returns
+around_second-returns t c =
+    let tables = c.args.tables.now in
+    let x = spec.sense c.args.first.now in
+    let os = map operand_sense c.args.rest.now in
+    let like = c.args.like in
+    let start = c.args.notes.now in
+    let valued = c.expression.new.notes in
     let ended = c.operands_behind.new.notes in
     let value = ap (with_known (λ (r : Typed). known {S = Notes} r.value)) c.in_ok-value.ensures ∙ c.value_of.ensures valued in
-    let first = both_are (x.judged tables like >>= (λ r. known r.value)) (spec.operands_as tables like []) typed valued valued c.value_of.result (Some c.new.result) c.paired-first.result
+    let first = both_are (x.judged tables like >>= (λ r. known r.value)) (spec.operands_as tables like []) start valued valued c.value_of.result (Some c.new.result) c.paired-first.result
     value (ap (λ e. (Some e, valued)) (sym c.new.ensures)) (c.paired-first.ensures valued) in
-    let behind = ap (λ e. each (spec.operand_as tables like) (Some e) os valued) (sym c.new-2.ensures) ∙ c.in_ok-behind.ensures in
-    let others = both_are (spec.first_as tables like x []) (spec.operands_as tables like os) typed valued ended c.paired-first.result c.in_ok-behind.behind c.paired.result first behind (c.paired.ensures ended) in
-    let all = following_are (o.operand.judged tables Number) (λ r. spec.around tables x [] os (spec.asked_like Number r)) c.args.notes.now typed ended c.in_ok-typed.typed c.paired.result c.paired-2.result
-    c.in_ok-typed.ensures (ap (λ a. spec.around tables x [] os a typed) (sym c.asked_like-like.ensures) ∙ others) (c.paired-2.ensures ended) in
-    judged_as (spec.by_other tables asked x [] (Some o) os) (onward c.paired-2.result (senses.led_by c.args.second.now.operator)) c.args.notes.now ended ended c.chain_joined.result
-    (ap (with_known (senses.led_by c.args.second.now.operator)) all) (c.chain_joined.ensures ended)
+    let behind = judged_as (spec.operands_as tables like os) (each (spec.operand_as tables like) (Some c.new-2.result) os) valued valued ended c.operands_behind.result
+    (ap (λ e. each (spec.operand_as tables like) (Some e) os valued) (sym c.new-2.ensures)) c.operands_behind.ensures in
+    judged_as (spec.around tables x [] os like) (λ n. beside (spec.operands_as tables like os) (c.paired-first.result, n)) start valued ended c.paired_with.result
+    (ap (beside (spec.operands_as tables like os)) first) (c.paired_with.ensures (spec.operands_as tables like os) valued ended behind)
 
 pub by_place-first_as-requires : goal.by_place-first_as-requires
 by_place-first_as-requires t c = (omega (arith, c.decreases), tt)
@@ -260,11 +296,14 @@ by_place-returns t c =
 pub by_further-expression-requires : goal.by_further-expression-requires
 by_further-expression-requires t c = (omega (arith, c.decreases), tt)
 
-pub by_further-first_as-requires : goal.by_further-first_as-requires
-by_further-first_as-requires t c = (omega (arith, c.decreases), tt)
+pub by_further-around_further-others-requires : goal.by_further-around_further-others-requires
+by_further-around_further-others-requires t c = (omega (arith, c.decreases), tt)
 
-pub by_further-operands_behind-requires : goal.by_further-operands_behind-requires
-by_further-operands_behind-requires t c = (omega (arith, c.decreases), tt)
+pub around_further-first_as-requires : goal.around_further-first_as-requires
+around_further-first_as-requires t c = (omega (arith, c.decreases), tt)
+
+pub around_further-operands_behind-requires : goal.around_further-operands_behind-requires
+around_further-operands_behind-requires t c = (omega (arith, c.decreases), tt)
 
 pub by_further-returns : goal.by_further-returns
 by_further-returns t c asked =
@@ -273,22 +312,48 @@ by_further-returns t c asked =
     let o = operand_sense c.args.leading.now in
     let before = operand_sense c.args.second.now ∷ map operand_sense c.args.before.now in
     let os = map operand_sense c.args.behind.now in
-    let like = c.asked_like-like.result in
+    let start = c.args.notes.now in
     let typed = c.expression.new.notes in
+    let ended = c.around_further-others.new.notes in
+    let others = λ (r : Option Typed). spec.around tables x before os (spec.asked_like Number r) in
+    let all = following_judged (o.operand.judged tables Number) others start typed ended c.in_ok-typed.typed c.in_ok-all.all c.in_ok-typed.ensures
+    (ap (λ a. beside (spec.around tables x before os a) (c.in_ok-typed.typed, typed)) (sym c.asked_like-like.ensures) ∙ c.in_ok-all.ensures (spec.around tables x before os c.asked_like-like.result) typed ended c.around_further-others.ensures) in
+    judged_as (spec.by_other tables asked x before (Some o) os) (onward c.in_ok-all.all (senses.led_by c.args.leading.now.operator)) start ended ended c.chain_joined.result
+    (ap (with_known (senses.led_by c.args.leading.now.operator)) all) (c.chain_joined.ensures ended)
+
+pub around_further-returns : goal.around_further-returns
+around_further-returns t c =
+    let tables = c.args.tables.now in
+    let x = spec.sense c.args.first.now in
+    let before = operand_sense c.args.second.now ∷ map operand_sense c.args.before.now in
+    let os = map operand_sense c.args.behind.now in
+    let like = c.args.like in
+    let start = c.args.notes.now in
     let valued = c.first_as.new.notes in
     let ended = c.operands_behind.new.notes in
-    let behind = ap (λ e. each (spec.operand_as tables like) (Some e) os valued) (sym c.new.ensures) ∙ c.in_ok-behind.ensures in
-    let others = both_are (spec.first_as tables like x before) (spec.operands_as tables like os) typed valued ended c.in_ok-first.first c.in_ok-behind.behind c.paired.result c.in_ok-first.ensures behind (c.paired.ensures ended) in
-    let all = following_are (o.operand.judged tables Number) (λ r. spec.around tables x before os (spec.asked_like Number r)) c.args.notes.now typed ended c.in_ok-typed.typed c.paired.result c.paired-2.result
-    c.in_ok-typed.ensures (ap (λ a. spec.around tables x before os a typed) (sym c.asked_like-like.ensures) ∙ others) (c.paired-2.ensures ended) in
-    judged_as (spec.by_other tables asked x before (Some o) os) (onward c.paired-2.result (senses.led_by c.args.leading.now.operator)) c.args.notes.now ended ended c.chain_joined.result
-    (ap (with_known (senses.led_by c.args.leading.now.operator)) all) (c.chain_joined.ensures ended)
+    let behind = judged_as (spec.operands_as tables like os) (each (spec.operand_as tables like) (Some c.new.result) os) valued valued ended c.operands_behind.result
+    (ap (λ e. each (spec.operand_as tables like) (Some e) os valued) (sym c.new.ensures)) c.operands_behind.ensures in
+    judged_as (spec.around tables x before os like) (λ n. beside (spec.operands_as tables like os) (c.in_ok-first.first, n)) start valued ended c.paired_with.result
+    (ap (beside (spec.operands_as tables like os)) c.in_ok-first.ensures) (c.paired_with.ensures (spec.operands_as tables like os) valued ended behind)
 
 pub first_as-expression-requires : goal.first_as-expression-requires
 first_as-expression-requires t c = (omega (arith, c.decreases), tt)
 
-pub first_as-operands_as-requires : goal.first_as-operands_as-requires
-first_as-operands_as-requires t c = (omega (arith, c.decreases), tt)
+pub first_as-operands_as-others-requires : goal.first_as-operands_as-others-requires
+first_as-operands_as-others-requires t c = (omega (arith, c.decreases), tt)
+
+pub first_as-returns : goal.first_as-returns
+first_as-returns t c =
+    let tables = c.args.tables.now in
+    let asked = c.args.asked in
+    let x = spec.sense c.args.first.now in
+    let os = operand_sense c.args.second.now ∷ map operand_sense c.args.rest.now in
+    let start = c.args.notes.now in
+    let valued = c.expression.new.notes in
+    let ended = c.operands_as-others.new.notes in
+    let value = ap (with_known (λ (r : Typed). known {S = Notes} r.value)) c.in_ok-typed.ensures ∙ c.value_of.ensures valued in
+    judged_as (spec.first_as tables asked x os) (λ n. beside (spec.operands_as tables asked os) (c.value_of.result, n)) start valued ended c.paired_with.result
+    (ap (beside (spec.operands_as tables asked os)) value) (c.paired_with.ensures (spec.operands_as tables asked os) valued ended c.operands_as-others.ensures)
 
 pub operands_as-expression-requires : goal.operands_as-expression-requires
 operands_as-expression-requires t c = (omega (arith, c.decreases), tt)
@@ -328,8 +393,8 @@ operands_behind-loop-operand-preserved t c =
 pub found-suffixes-requires : goal.found-suffixes-requires
 found-suffixes-requires t c = rw c.as_slice.ensures (omega (arith, c.decreases), tt)
 
-pub suffixed-with_arguments-requires : goal.suffixed-with_arguments-requires
-suffixed-with_arguments-requires t c =
+pub suffixed-with_arguments-whole-requires : goal.suffixed-with_arguments-whole-requires
+suffixed-with_arguments-whole-requires t c =
     let below = rw c.in-Arguments.is at c.decreases in
     rw c.as_slice.ensures (omega (arith, below), tt)
 

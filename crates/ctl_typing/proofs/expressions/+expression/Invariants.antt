@@ -7,7 +7,7 @@ use Rattle.ctl_syntax.specs.declared.expression.Expression.{Expression, size-Exp
 use Rattle.ctl_typing.specs.Judgement.{each, onward}
 use Rattle.ctl_typing.specs.Senses as senses
 use Rattle.ctl_typing.specs.Typing as spec
-use Rattle.ctl_typing.proofs.Depths.{deepest, deepest_of_chain, deepest_of_list, deepest_of_all}
+use Rattle.ctl_typing.proofs.Depths.{deepest, deepest_of_chain, deepest_of_list, deepest_of_all, deepest_beside, deepest_around}
 use Rattle.ctl_typing.proofs.expressions.+expression.Given as goal
 
 abbrev pub invariant-actuals_behind-loop-at : goal.invariant-actuals_behind-loop-at
@@ -71,19 +71,25 @@ abbrev pub decreases-by_first : goal.decreases-by_first
 decreases-by_first l = deepest_of_list l.first.now l.second.now l.rest.now * 16 + 4
 
 abbrev pub decreases-by_second : goal.decreases-by_second
-decreases-by_second l = deepest_of_list l.first.now l.second.now l.rest.now * 16 + 4
+decreases-by_second l = deepest_of_list l.first.now l.second.now l.rest.now * 16 + 5
 
 abbrev pub decreases-by_place : goal.decreases-by_place
 decreases-by_place l = deepest_of_list l.first.now l.second.now l.rest.now * 16 + 4
 
 abbrev pub decreases-by_further : goal.decreases-by_further
-decreases-by_further l = deepest_of_all l.first.now l.second.now l.before.now l.leading.now l.behind.now * 16 + 4
+decreases-by_further l = deepest_of_all l.first.now l.second.now l.before.now l.leading.now l.behind.now * 16 + 5
+
+abbrev pub decreases-around_second : goal.decreases-around_second
+decreases-around_second l = deepest_beside l.first.now l.rest.now * 16 + 4
+
+abbrev pub decreases-around_further : goal.decreases-around_further
+decreases-around_further l = deepest_around l.first.now l.second.now l.before.now l.behind.now * 16 + 4
 
 abbrev pub decreases-arithmetic : goal.decreases-arithmetic
-decreases-arithmetic l = deepest_of_list l.first.now l.second.now l.rest.now * 16 + 5
+decreases-arithmetic l = deepest_of_list l.first.now l.second.now l.rest.now * 16 + 6
 
 abbrev pub decreases-chain : goal.decreases-chain
-decreases-chain l = deepest_of_list l.first.now l.second.now l.rest.now * 16 + 6
+decreases-chain l = deepest_of_list l.first.now l.second.now l.rest.now * 16 + 7
 
 abbrev pub decreases-bare : goal.decreases-bare
 decreases-bare l = goal.size-bare l * 16 + 0
@@ -105,6 +111,9 @@ decreases-converted l = goal.size-converted l * 16 + 2
 
 abbrev pub decreases-value_or_none : goal.decreases-value_or_none
 decreases-value_or_none l = goal.size-value_or_none l * 16 + 1
+
+abbrev pub decreases-new_object : goal.decreases-new_object
+decreases-new_object l = goal.size-new_object l * 16 + 2
 
 abbrev pub decreases-with_one : goal.decreases-with_one
 decreases-with_one l = goal.size-with_one l * 16 + 3
