@@ -8,21 +8,21 @@ ghost use Rattle.ctl_values.specs.Operators.{IsDivision};
 use ctl_program::operators::{BinaryOp, UnaryOp};
 use ctl_program::types::Ty;
 
-/// The number in a cell: a negative one counts down from 2 ** 64.
+/// Answers the number in a cell: a negative one counts down from 2 ** 64.
 pub fn signed(cell: u64) -> i64
     ensures { result ≡ Numbers.signed cell }
 {
     cell.cast_signed()
 }
 
-/// The cell of a number.
+/// Answers the cell of a number.
 pub fn cell_of(number: i64) -> u64
     ensures { result ≡ Numbers.cell_of number }
 {
     number.cast_unsigned()
 }
 
-/// A truth value as a cell: 1 or 0.
+/// Answers the cell of a truth value: 1 or 0.
 fn truth(value: bool) -> u64
     ensures { result ≡ Numbers.truth value }
 {
@@ -47,7 +47,7 @@ fn is_in_range(ty: Ty, number: i64) -> bool
     lowest <= number && number <= 2_147_483_647
 }
 
-/// The cell of a number of this type; none where it is out of range, which raises Constraint_Error (RM 3.5.4).
+/// Answers the cell of a number of this type; none where it is out of range, which raises Constraint_Error (RM 3.5.4).
 fn held(ty: Ty, number: i64) -> Option<u64>
     ensures { result ≡ Numbers.held ty number }
 {
@@ -58,28 +58,28 @@ fn held(ty: Ty, number: i64) -> Option<u64>
     }
 }
 
-/// The cell of a sum.
+/// Answers the cell of a sum.
 fn sum(ty: Ty, left: i64, right: i64) -> Option<u64>
     ensures { result ≡ Numbers.held ty (left +ℤ right) }
 {
     held(ty, left.checked_add(right)?)
 }
 
-/// The cell of a difference.
+/// Answers the cell of a difference.
 fn difference(ty: Ty, left: i64, right: i64) -> Option<u64>
     ensures { result ≡ Numbers.held ty (left -ℤ right) }
 {
     held(ty, left.checked_sub(right)?)
 }
 
-/// The cell of a product.
+/// Answers the cell of a product.
 fn product(ty: Ty, left: i64, right: i64) -> Option<u64>
     ensures { result ≡ Numbers.held ty (left *ℤ right) }
 {
     held(ty, left.checked_mul(right)?)
 }
 
-/// The cell of a quotient, which is truncated toward zero (RM 4.5.5).
+/// Answers the cell of a quotient, which is truncated toward zero (RM 4.5.5).
 fn quotient(ty: Ty, left: i64, right: i64) -> Option<u64>
     requires { right ≢ pos 0 }
     ensures { result ≡ Numbers.held ty (int_div left right) }
@@ -87,7 +87,7 @@ fn quotient(ty: Ty, left: i64, right: i64) -> Option<u64>
     held(ty, left.checked_div(right)?)
 }
 
-/// The remainder with the sign of the left operand (RM 4.5.5).
+/// Answers the remainder with the sign of the left operand (RM 4.5.5).
 fn remainder(left: i64, right: i64) -> i64
     requires { right ≢ pos 0 }
     ensures { result ≡ int_rem left right }
@@ -95,7 +95,7 @@ fn remainder(left: i64, right: i64) -> i64
     left.wrapping_rem(right)
 }
 
-/// The remainder with the sign of the right operand (RM 4.5.5).
+/// Answers the remainder with the sign of the right operand (RM 4.5.5).
 fn modulo(left: i64, right: i64) -> i64
     requires { right ≢ pos 0 }
     ensures { result ≡ Numbers.modulo left right }
@@ -108,7 +108,7 @@ fn modulo(left: i64, right: i64) -> i64
     }
 }
 
-/// An operator with one operand (RM 4.5.4, 4.5.6); none where Constraint_Error is raised.
+/// Applies an operator with one operand (RM 4.5.4, 4.5.6); none where Constraint_Error is raised.
 pub fn unary(op: UnaryOp, ty: Ty, cell: u64) -> Option<u64>
     ensures { result ≡ Numbers.unary op ty cell }
 {
@@ -121,7 +121,7 @@ pub fn unary(op: UnaryOp, ty: Ty, cell: u64) -> Option<u64>
     }
 }
 
-/// An operator whose right operand is a divisor (RM 4.5.5); none where that is zero, or the result is out of range.
+/// Applies an operator whose right operand is a divisor (RM 4.5.5); none where that is zero, or the result is out of range.
 fn divided(op: BinaryOp, ty: Ty, left: u64, right: u64) -> Option<u64>
     requires { IsDivision op }
     ensures { result ≡ Numbers.binary op ty left right }
@@ -136,7 +136,7 @@ fn divided(op: BinaryOp, ty: Ty, left: u64, right: u64) -> Option<u64>
     }
 }
 
-/// An operator with two operands (RM 4.5); none where Constraint_Error is raised.
+/// Applies an operator with two operands (RM 4.5); none where Constraint_Error is raised.
 #[inline(always)]
 pub fn binary(op: BinaryOp, ty: Ty, left: u64, right: u64) -> Option<u64>
     ensures { result ≡ Numbers.binary op ty left right }

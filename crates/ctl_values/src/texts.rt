@@ -11,7 +11,7 @@ use ctl_tree::text::Text;
 use itoa::Buffer;
 use std::alloc::{AllocError, Global};
 
-/// The sign of the image of a number: a blank or a minus sign.
+/// Answers the sign of the image of a number: a blank or a minus sign.
 fn sign_of(number: i64) -> u8
     ensures { result ≡ Sign.sign_of number }
 {
@@ -41,7 +41,7 @@ fn push_boolean_image(text: &mut Text, cell: u64) -> Result<(), AllocError>
     }
 }
 
-/// A text, whose images take their values in turn from the cells from this one on.
+/// Makes a text, whose images take their values in turn from the cells from this one on.
 pub fn text_from(
     alloc: Global,
     parts: &[TextPart],
@@ -69,7 +69,7 @@ pub fn text_from(
     Ok(text)
 }
 
-/// A copy of the text of this number, where there is one.
+/// Copies the text of this number, where there is one.
 pub fn copy_at(alloc: Global, texts: &[Text], number: usize) -> Result<Option<Text>, AllocError>
     ensures { IfOk result (λ text. text ≡ slice_get texts.now number) }
 {
