@@ -13,7 +13,7 @@ ghost use Rattle.ctl_code.specs.Kinds.{changed, stack_at};
 ghost use Rattle.ctl_code.specs.Valid.{Bounded, IsAtEnd, IsDeclarable, IsEntry, IsFine, IsInScope, IsText, Leads, Puts, Taken, Takes, Under};
 ghost use Rattle.ctl_code.specs.Windows.{depth, height, variable_at};
 
-use crate::code::{Cell, Code, Instr, Named, Operator};
+use crate::code::{Cell, Code, Instr, Named, Operator, Way};
 use crate::images::count_images;
 use crate::kinds::{Kind, is_same_kind};
 use crate::types::{is_binary_of, is_cell_of, is_scalar, is_unary_of};
@@ -244,6 +244,18 @@ fn is_enter_fine(code: &Code, place: usize, slots: usize, length: usize) -> bool
         && leads_behind(code, place, 0, length)
 }
 
+/// Checks a transfer of control: that the exception is one of the table (RM 11.3), and that an exit statement finds no operand over the newest
+/// master (RM 5.7).
+fn is_transfer_fine(code: &Code, place: usize, way: Way) -> bool
+    ensures { IsTrue result ↔ IsFine code.now place (I.Transfer way) (stack_at code.now.kinds place) }
+{
+    match way {
+        Way::Exit => is_at_end(code, place),
+        Way::Return => true,
+        Way::Raise(exception) => exception < code.exceptions.len(),
+    }
+}
+
 /// Checks an operator whose right operand is a constant (RM 4.5).
 fn is_constant_fine(
     code: &Code,
@@ -463,9 +475,8 @@ pub fn is_fine(code: &Code, place: usize, instr: &Instr) -> bool
     match *instr {
         Instr::Start(entry) => is_bare(code, place) && is_in_scope(code, 0, Some(entry)),
         Instr::Enter { slots, length } => is_enter_fine(code, place, slots, length),
-        Instr::Leave | Instr::Exit => is_at_end(code, place),
-        Instr::Raise(exception) => exception < code.exceptions.len(),
-        Instr::Return => true,
+        Instr::Leave => is_at_end(code, place),
+        Instr::Transfer(way) => is_transfer_fine(code, place, way),
         Instr::Declare { slot: _, record } => is_declare_fine(code, place, record),
         Instr::Number | Instr::NewLine => leads_on(code, place, 0, None),
         Instr::Set { value, ty, to } => is_cell_of(ty, value) && puts(code, place, 0, to, ty),

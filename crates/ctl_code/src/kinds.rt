@@ -39,6 +39,7 @@ pub fn is_same_kind(left: Kind, right: Kind) -> bool
 }
 
 /// Answers the number of the stack before the instruction at a place; the empty one after the last.
+#[inline(always)]
 fn number_at(before: &[usize], place: usize) -> usize
     ensures { (stacks : List (List Kind)) → stack_in stacks result ≡ stack_at (stacks_in stacks before.now) place }
 {
@@ -49,6 +50,7 @@ fn number_at(before: &[usize], place: usize) -> usize
 }
 
 /// Answers the number of what stands before the instruction at a place, under so many newer ones.
+#[inline(always)]
 fn number_under(stacks: &Stacks, before: &[usize], place: usize, under: usize) -> usize
     ensures { stack_in stacks.now result ≡ drop under (stack_at (stacks_in stacks.now before.now) place) }
 {
@@ -117,6 +119,7 @@ impl Kinds {
     }
 
     /// Answers how many cells of a window are in use before the instruction at a place, under so many newer ones.
+    #[inline(always)]
     pub fn height_at(&self, place: usize, under: usize) -> usize
         ensures { result ≡ height (drop under (stack_at self.now place)) }
     {

@@ -113,6 +113,7 @@ impl Stacks {
     }
 
     /// Answers the link to what is newest on a stack; None where nothing stands on it.
+    #[inline(always)]
     fn link(&self, stack: usize) -> Option<Link>
         ensures top { MatchOption result (stack_in self.now stack ≡ []) (λ link. stack_in self.now stack ≡ link.kind ∷ stack_in self.now link.below) }
         ensures below { IfSome result (λ link. link.below < stack) }
@@ -132,6 +133,7 @@ impl Stacks {
     }
 
     /// Answers how many cells a stack has.
+    #[inline(always)]
     pub fn height(&self, stack: usize) -> usize
         ensures { result ≡ height (stack_in self.now stack) }
     {
@@ -171,6 +173,7 @@ impl Stacks {
     }
 
     /// Answers the stack without so many of its newest.
+    #[inline(always)]
     pub fn without(&self, stack: usize, taken: usize) -> usize
         ensures left { stack_in self.now result ≡ drop taken (stack_in self.now stack) }
         ensures older { result ≤ stack }

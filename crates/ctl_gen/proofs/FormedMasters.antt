@@ -9,6 +9,7 @@ use Rattle.ctl_program.specs.declared.expression.Expr.{Expr}
 use Rattle.ctl_program.specs.declared.statement.Item.{Item}
 use Rattle.ctl_program.specs.declared.statement.Item.TheVariants.{Object}
 use Rattle.ctl_program.specs.declared.statement.Stmt.{Stmt}
+use Rattle.ctl_program.specs.declared.statement.Stmt.TheVariants.{rolls-Assign, rolls-AssignRecord, rolls-Block, rolls-Call, rolls-Dispatch, rolls-Exit, rolls-For, rolls-Free, rolls-If, rolls-LibraryAllocate, rolls-LibraryDeallocate, rolls-Loop, rolls-NewLine, rolls-Nothing, rolls-Null, rolls-Put, rolls-PutLine, rolls-Raise, rolls-RaiseAgain, rolls-Release, rolls-Return, rolls-While}
 use Rattle.ctl_program.specs.declared.statement.Arm.{Arm}
 use Rattle.ctl_program.specs.declared.statement.Master.{Master}
 use Rattle.ctl_well_typed.specs.Setting as W
@@ -19,6 +20,7 @@ use Rattle.ctl_well_typed.specs.Statements as D
 use Rattle.ctl_code.specs.declared.kinds.Kind.{Kind}
 use Rattle.ctl_code.specs.declared.kinds.Kind.TheVariants.{Block}
 use Rattle.ctl_code.specs.declared.code.Instr.TheVariants as InstrOf
+use Rattle.ctl_code.specs.declared.code.Way.TheVariants as WayOf
 use Rattle.ctl_code.specs.declared.code.Code.{Code}
 use Rattle.ctl_code.specs.Windows.{variable_at}
 use Rattle.ctl_code.specs.Valid.{IsAtEnd, IsDeclarable}
@@ -26,9 +28,7 @@ use Rattle.ctl_gen.specs.Around.{behind, local_at}
 use Rattle.ctl_gen.specs.Values.{ValueCode, is_run_type, value_code, variable_of}
 use Rattle.ctl_gen.specs.Layout.{ArmCode, ItemCode, MasterCode, StatementCode, all, all_items, arm_code, arms_run, assign, block, exit, return, has_no_handlers, in_master, inside, item_code, master_code, missing_statement, no_code, statement_code, tested}
 use Rattle.ctl_gen.proofs.Known.{both_true}
-use Rattle.ctl_gen.proofs.StatementLayers.{statement_assign, statement_block, statement_exit, statement_for, statement_if, statement_loop, statement_new_line, statement_null, statement_put, statement_put_line, statement_raise, statement_return, statement_while}
-use Rattle.ctl_gen.proofs.StatementLayers as L
-use Rattle.ctl_gen.proofs.TreeLayers.{arm_roll, master_roll}
+use Rattle.ctl_gen.proofs.TreeLayers.{arm_roll, layer_of, master_roll}
 use Rattle.ctl_gen.proofs.Place.{HasAt}
 use Rattle.ctl_gen.proofs.Formed.{both, both_at, Formed, FormedAt, none, one}
 use Rattle.ctl_gen.proofs.FormedAround.{Agrees, agrees_inside, leave_behind, leaves_formed, newest_there}
@@ -105,7 +105,7 @@ module _ (code : Code) (records : List RecordType) (k : W.Setting) (declarable :
   leaving_good {env} (Some e) (T.given h) runs = leaves_when_stay code env (value_code e) (usable_as code (value_code e) Boolean tt (typed_fine code h runs))
 
   returning_good : {env : W.Frames} (o : Option Expr) → GoodStatement env (return (option_map value_code o))
-  returning_good None runs = λ a n p agrees texts can. one code InstrOf.Return a.stack (Some a.stack) (λ q next. tt) p
+  returning_good None runs = λ a n p agrees texts can. one code (InstrOf.Transfer WayOf.Return) a.stack (Some a.stack) (λ q next. tt) p
   returning_good (Some e) runs = absurd (cc)
 
   -- Masters ------------------------------------------------------------------------------------------
@@ -141,28 +141,28 @@ module _ (code : Code) (records : List RecordType) (k : W.Setting) (declarable :
 
   mutual
     pub statement_good : {env : W.Frames} {a : D.Around} {y : Stmt} → Done k env a y → GoodStatement env (statement_code y)
-    statement_good {env} D.null = good_as env _ _ statement_null (λ runs a n p agrees texts can. none code a.stack p)
-    statement_good {env} (D.assign {x = x} {v = v} {t = t} scalar denotes h) = good_as env _ _ (statement_assign x v) (assign_good env (variable_of x) (value_code v) t (λ runs. typed_fine code h runs))
-    statement_good {env} (D.put {ps = ps} puts) = good_as env _ _ (statement_put ps) (λ runs a n p agrees texts can. print_formed code false n ps puts runs texts.0 a.stack p)
-    statement_good {env} (D.put_line {ps = ps} puts) = good_as env _ _ (statement_put_line ps) (λ runs a n p agrees texts can. print_formed code true n ps puts runs texts.0 a.stack p)
-    statement_good {env} D.new_line = good_as env _ _ statement_new_line (λ runs a n p agrees texts can. one code InstrOf.NewLine a.stack (Some a.stack) (λ q next. next) p)
-    statement_good {env} (D.raise {x = x} known) = good_as env _ _ (statement_raise x) (λ runs a n p agrees texts can. one code (InstrOf.Raise x) a.stack (Some a.stack) (λ q next. raisable x known) p)
-    statement_good {env} (D.return {x = o} returns) = good_as env _ _ (statement_return o) (returning_good o)
-    statement_good {env} (D.exit {x = o} inside_a_loop perhaps) = good_as env _ _ (statement_exit o) (leaving_good o perhaps)
+    statement_good {env} D.null = good_as env _ _ (layer_of _ (sym rolls-Null)) (λ runs a n p agrees texts can. none code a.stack p)
+    statement_good {env} (D.assign {x = x} {v = v} {t = t} scalar denotes h) = good_as env _ _ (layer_of _ (sym (rolls-Assign x v))) (assign_good env (variable_of x) (value_code v) t (λ runs. typed_fine code h runs))
+    statement_good {env} (D.put {ps = ps} puts) = good_as env _ _ (layer_of _ (sym (rolls-Put ps))) (λ runs a n p agrees texts can. print_formed code false n ps puts runs texts.0 a.stack p)
+    statement_good {env} (D.put_line {ps = ps} puts) = good_as env _ _ (layer_of _ (sym (rolls-PutLine ps))) (λ runs a n p agrees texts can. print_formed code true n ps puts runs texts.0 a.stack p)
+    statement_good {env} D.new_line = good_as env _ _ (layer_of _ (sym rolls-NewLine)) (λ runs a n p agrees texts can. one code InstrOf.NewLine a.stack (Some a.stack) (λ q next. next) p)
+    statement_good {env} (D.raise {x = x} known) = good_as env _ _ (layer_of _ (sym (rolls-Raise x))) (λ runs a n p agrees texts can. one code (InstrOf.Transfer (WayOf.Raise x)) a.stack (Some a.stack) (λ q next. raisable x known) p)
+    statement_good {env} (D.return {x = o} returns) = good_as env _ _ (layer_of _ (sym (rolls-Return o))) (returning_good o)
+    statement_good {env} (D.exit {x = o} inside_a_loop perhaps) = good_as env _ _ (layer_of _ (sym (rolls-Exit o))) (leaving_good o perhaps)
     statement_good {env} (D.choose {arms = arms} {others = others} each rest) =
-        good_as env _ _ (statement_if arms others) (λ runs.
+        good_as env _ _ (layer_of _ (sym (rolls-If arms others))) (λ runs.
         let e = both_true (arms_run (map arm_code arms) records) ((all (map statement_code others)).runs records) runs in
         branches_stay code env (map arm_code arms) (all (map statement_code others)) (arms_good each e.0) (each_good rest e.1))
     statement_good {env} (D.loop {body = body} h) =
-        good_as env _ _ (statement_loop body) (λ runs. loop_stays code env (all (map statement_code body)) (λ a n p agrees texts can next. each_good h runs a n p agrees texts can))
+        good_as env _ _ (layer_of _ (sym (rolls-Loop body))) (λ runs. loop_stays code env (all (map statement_code body)) (λ a n p agrees texts can next. each_good h runs a n p agrees texts can))
     statement_good {env} (D.while {test = e} {body = body} t h) =
-        good_as env _ _ (statement_while e body) (λ runs.
+        good_as env _ _ (layer_of _ (sym (rolls-While e body))) (λ runs.
         let b = all (map statement_code body) in
         let g = both_true (value_code e).runs (b.runs records) runs in
         loop_stays code env (tested (value_code e) b) (tested_turns code env (value_code e) b (usable_as code (value_code e) Boolean tt (typed_fine code t g.0)) (each_good h g.1)))
     statement_good {env} (D.for {number = number} {way = way} {low = low} {high = high} {body = body} (D.fills names) from to h) =
         let v : Var = record { level = length env; slot = number } in
-        good_as env _ _ (statement_for v way low high body) (λ runs.
+        good_as env _ _ (layer_of _ (sym (rolls-For v way low high body))) (λ runs.
         let b = all (map statement_code body) in
         let e = both_true (value_code low).runs ((value_code high).runs && b.runs records) runs in
         let g = both_true (value_code high).runs (b.runs records) e.1 in
@@ -170,16 +170,16 @@ module _ (code : Code) (records : List RecordType) (k : W.Setting) (declarable :
         (usable_as code (value_code low) Integer tt (typed_fine code from e.0))
         (usable_as code (value_code high) Integer tt (typed_fine code to g.0))
         (each_good h g.1))
-    statement_good {env} (D.block {m = m} {f = f} h) = good_as env _ _ (statement_block m) (block_good env f (master_code m) (slots_told h) (master_good h))
-    statement_good {env} (D.assign_record {x = x} {t = t} {v = v} denotes fits) = not_missing env _ (L.statement_assign_record x t v)
-    statement_good {env} (D.call {s = f} {actuals = actuals} callable gives fits) = not_missing env _ (L.statement_call f actuals)
-    statement_good {env} (D.nothing_done {x = x} views) = not_missing env _ (L.statement_nothing x)
-    statement_good {env} (D.dispatch {o = o} {x = x} views) = not_missing env _ (L.statement_dispatch o x)
-    statement_good {env} (D.library_allocate {p = p} {x = x} {size = size} {alignment = alignment} views rooted denotes h g) = not_missing env _ (L.statement_allocate p x size alignment)
-    statement_good {env} (D.library_deallocate {p = p} {x = x} {size = size} {alignment = alignment} views rooted address h g) = not_missing env _ (L.statement_deallocate p x size alignment)
-    statement_good {env} (D.free {t = t} {x = x} has denotes) = not_missing env _ (L.statement_free t x)
-    statement_good {env} (D.release {x = x} denotes) = not_missing env _ (L.statement_release x)
-    statement_good {env} (D.raise_again handles) = not_missing env _ L.statement_raise_again
+    statement_good {env} (D.block {m = m} {f = f} h) = good_as env _ _ (layer_of _ (sym (rolls-Block m))) (block_good env f (master_code m) (slots_told h) (master_good h))
+    statement_good {env} (D.assign_record {x = x} {t = t} {v = v} denotes fits) = not_missing env _ (layer_of _ (sym (rolls-AssignRecord x t v)))
+    statement_good {env} (D.call {s = f} {actuals = actuals} callable gives fits) = not_missing env _ (layer_of _ (sym (rolls-Call f actuals)))
+    statement_good {env} (D.nothing_done {x = x} views) = not_missing env _ (layer_of _ (sym (rolls-Nothing x)))
+    statement_good {env} (D.dispatch {o = o} {x = x} views) = not_missing env _ (layer_of _ (sym (rolls-Dispatch o x)))
+    statement_good {env} (D.library_allocate {p = p} {x = x} {size = size} {alignment = alignment} views rooted denotes h g) = not_missing env _ (layer_of _ (sym (rolls-LibraryAllocate p x size alignment)))
+    statement_good {env} (D.library_deallocate {p = p} {x = x} {size = size} {alignment = alignment} views rooted address h g) = not_missing env _ (layer_of _ (sym (rolls-LibraryDeallocate p x size alignment)))
+    statement_good {env} (D.free {t = t} {x = x} has denotes) = not_missing env _ (layer_of _ (sym (rolls-Free t x)))
+    statement_good {env} (D.release {x = x} denotes) = not_missing env _ (layer_of _ (sym (rolls-Release x)))
+    statement_good {env} (D.raise_again handles) = not_missing env _ (layer_of _ (sym rolls-RaiseAgain))
 
     each_good : {env : W.Frames} {a : D.Around} {ys : List Stmt} → DoneEach k env a ys → GoodStatement env (all (map statement_code ys))
     each_good D.no_more_statements = λ runs a n p agrees texts can. none code a.stack p

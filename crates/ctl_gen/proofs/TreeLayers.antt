@@ -1,5 +1,5 @@
 -- What each layer of a tree has, by what its parts have.
-use Rattle.std.proofs.Common.{◌≡◌, Option}
+use Rattle.std.proofs.Common.{◌≡◌, Option, ap, ◌∙◌}
 use Rattle.ctl_program.specs.declared.types.Var.{Var}
 use Rattle.ctl_program.specs.declared.expression.Expr.{Expr, roll-Expr, map-Expr, fold-roll-Expr}
 use Rattle.ctl_program.specs.declared.expression.Name.{Name, roll-Name, map-Name, fold-roll-Name}
@@ -34,6 +34,10 @@ operator_roll y = fold-roll-Operand NoCode ValueCode (Option Var) OperatorCode a
 pub statement_roll : (y : Stmt-F Stmt Arm Handler Master) → statement_code (roll-Stmt y) ≡ statement_step (map-Stmt Stmt Arm Handler Master StatementCode ArmCode L.NoCode MasterCode statement_code arm_code no_code master_code y)
 unfolding statement_code arm_code no_code master_code
 statement_roll y = fold-roll-Stmt StatementCode ArmCode L.NoCode MasterCode statement_step arm_step handler_step master_step y
+
+-- a statement has what its layer has
+pub layer_of : {x : Stmt} (y : Stmt-F Stmt Arm Handler Master) → x ≡ roll-Stmt y → statement_code x ≡ statement_step (map-Stmt Stmt Arm Handler Master StatementCode ArmCode L.NoCode MasterCode statement_code arm_code no_code master_code y)
+layer_of {x} y is = ap statement_code is ∙ statement_roll y
 
 pub arm_roll : (y : Arm-F Stmt Arm Handler Master) → arm_code (roll-Arm y) ≡ arm_step (map-Arm Stmt Arm Handler Master StatementCode ArmCode L.NoCode MasterCode statement_code arm_code no_code master_code y)
 unfolding statement_code arm_code no_code master_code

@@ -14,7 +14,7 @@ ghost use Rattle.ctl_gen.specs.Layout as spec;
 use crate::emit::Emitter;
 use crate::right::variable_of;
 use crate::typing::value_type;
-use ctl_code::code::Instr;
+use ctl_code::code::{Instr, Way};
 use ctl_code::kinds::Kind;
 use ctl_program::expression::{Expr, Name};
 use ctl_program::operators::Direction;
@@ -130,7 +130,7 @@ impl Emitter {
             Stmt::PutLine(pieces) => self.print(true, pieces.as_slice()),
             Stmt::NewLine => self.put(Instr::NewLine),
             Stmt::Exit(condition) => self.exit(condition, landing),
-            Stmt::Raise(exception) => self.put(Instr::Raise(*exception)),
+            Stmt::Raise(exception) => self.put(Instr::Transfer(Way::Raise(*exception))),
             Stmt::Return(value) => self.leave_body(value, landing),
             Stmt::If(arms, others) => {
                 let end = self.arms(arms.as_slice(), landing)?;
@@ -191,7 +191,7 @@ impl Emitter {
                 let back = self.since(landing);
                 self.put(Instr::Back(back))
             }
-            None => self.put(Instr::Exit),
+            None => self.put(Instr::Transfer(Way::Exit)),
         }
     }
 
@@ -216,7 +216,7 @@ impl Emitter {
     {
         let _ = landing;
         match value {
-            None => self.put(Instr::Return),
+            None => self.put(Instr::Transfer(Way::Return)),
             Some(_) => self.put(Instr::Missing),
         }
     }

@@ -1,15 +1,7 @@
 //! Where the machine is, what waits on the control stack, the active masters, and the objects that they own.
 
+use ctl_code::code::Way;
 use ctl_tree::ending::Stop;
-
-/// A transfer of control to the innermost master: an exit statement (RM 5.7), a return statement without a value (RM 6.5), or an exception,
-/// by its number in the table of exceptions.
-#[derive(Clone, Copy)]
-pub enum Way {
-    Exit,
-    Return,
-    Raise(usize),
-}
 
 /// How the statements of a master are completed (RM 7.6.1).
 #[derive(Clone, Copy)]

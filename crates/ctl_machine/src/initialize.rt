@@ -12,15 +12,15 @@ ghost use Rattle.ctl_machine.specs.declared.frame.Life.TheVariants as LifeOf;
 ghost use Rattle.ctl_machine.specs.declared.frame.Master.{Master};
 ghost use Rattle.ctl_machine.specs.declared.frame.Mode.TheVariants as ModeOf;
 ghost use Rattle.ctl_machine.specs.declared.frame.Owned.{Owned};
-ghost use Rattle.ctl_machine.specs.declared.frame.Way.TheVariants as WayOf;
+ghost use Rattle.ctl_code.specs.declared.code.Way.TheVariants as WayOf;
 ghost use Rattle.ctl_machine.specs.Initializing.{IsNewest, Turns, held, new_of};
 ghost use Rattle.ctl_machine.specs.Moves.{Before, BeforeResuming, GoesOn, Makes, here_of};
 ghost use Rattle.ctl_machine.specs.Shows as Shows;
 
 use crate::engine::Engine;
-use crate::frame::{Ended, Life, Mode, Way};
+use crate::frame::{Ended, Life, Mode};
 use crate::showing::show_life;
-use ctl_code::code::Code;
+use ctl_code::code::{Code, Way};
 use std::alloc::AllocError;
 
 impl Engine {

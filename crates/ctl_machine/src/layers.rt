@@ -14,8 +14,8 @@ ghost use Rattle.ctl_machine.specs.Shows as Shows;
 
 use crate::calls::{Departure, replace_top};
 use crate::engine::Engine;
-use crate::frame::{Completion, Ended, Life, Master, Mode, Owned, Way};
-use ctl_code::code::{Code, Entry};
+use crate::frame::{Completion, Ended, Life, Master, Mode, Owned};
+use ctl_code::code::{Code, Entry, Way};
 
 /// The number of Program_Error in the table of exceptions (RM 11.1).
 const PROGRAM_ERROR: usize = 1;

@@ -79,7 +79,7 @@ impl Engine {
 
     /// Takes the next object number for a scalar object (RM 3.3.1).
     #[inline(always)]
-    fn number(&mut self, code: &Code, place: usize)
+    pub(crate) fn number(&mut self, code: &Code, place: usize)
         ghost s: { State }
         requires before { Before code.now self.old place InstrOf.Number s }
         requires place { place + 1 < 2 ^ 64 }
@@ -110,6 +110,7 @@ impl Engine {
     }
 
     /// Executes this instruction, which stands at this place and gives a number or reaches a variable of a body around.
+    #[inline(always)]
     pub(crate) fn reach(&mut self, code: &Code, instr: &Instr, place: usize)
         ghost s: { State }
         requires valid { IsValid code.now }

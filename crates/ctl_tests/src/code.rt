@@ -4,7 +4,7 @@ use crate::lines::{
     ADD, AND, BODY_SLOTS, CELL_1, CELL_2, CELL_3, CELL_4, EQUAL, FIRST, Line, MAIN_SLOTS, SECOND,
     instructions_of, notes_of,
 };
-use ctl_code::code::{Cell, Code, Entry, Instr, Named, Operations};
+use ctl_code::code::{Cell, Code, Entry, Instr, Named, Operations, Way};
 use ctl_code::template::{Template, TextPart};
 use ctl_program::operators::{Direction, Shortcut, UnaryOp};
 use ctl_program::types::Ty;
@@ -189,7 +189,7 @@ const EACH_INSTRUCTION: &[Line] = &[
         },
         "m",
     ),
-    (Instr::Exit, "m["),
+    (Instr::Transfer(Way::Exit), "m["),
     (Instr::Skip(0), "m"),
     (Instr::Leave, "m"),
     (
@@ -210,8 +210,8 @@ const EACH_INSTRUCTION: &[Line] = &[
         },
         "fi",
     ),
-    (Instr::Raise(0), "f"),
-    (Instr::Return, "f"),
+    (Instr::Transfer(Way::Raise(0)), "f"),
+    (Instr::Transfer(Way::Return), "f"),
 ];
 
 /// The place of the Finalize there, and one inside a block.
@@ -365,7 +365,7 @@ const OPERAND_LEFT_OVER: &[Line] = &[
 /// An exception that is not in the table.
 const EXCEPTION_PAST_THE_TABLE: &[Line] = &[
     (Instr::Start(0), ""),
-    (Instr::Raise(1), "m"),
+    (Instr::Transfer(Way::Raise(1)), "m"),
     (Instr::Leave, "m"),
 ];
 
@@ -470,7 +470,7 @@ fn tables_are_looked_at(rt: HostRuntime) -> Result<(), Fail> {
     let past = code_of(alloc, EACH_INSTRUCTION, 1, EACH_INSTRUCTION.len())?;
     assert!(rt; past.validate().is_none(), "an entry past the code");
     let mut too_short = code_of(alloc, EACH_INSTRUCTION, 1, FINALIZE)?;
-    too_short.instructions.push(Instr::Exit)?;
+    too_short.instructions.push(Instr::Transfer(Way::Exit))?;
     assert!(rt;
         too_short.validate().is_none(),
         "an instruction of which nothing says what stands before it"
