@@ -6,15 +6,14 @@ use Rattle.std.proofs.lemmas.List.{get_or-reverse, length-reverse}
 use Rattle.ctl_program.specs.declared.types.Ty.{Ty}
 use Rattle.ctl_program.specs.declared.types.Ty.TheVariants.{Integer, Count, Boolean, Address, Handle, Access, Record}
 use Rattle.ctl_program.specs.declared.types.Var.{Var}
-use Rattle.ctl_meaning.specs.World.{Copies, Log, World}
+use Rattle.ctl_meaning.specs.World.{Log, World}
 use Rattle.ctl_meaning.specs.Lists.{item_or, last_of, opened_lists}
-use Rattle.ctl_meaning.specs.Objects.{overwritten}
 use Rattle.ctl_meaning.specs.Activations.{master_of}
-use Rattle.ctl_meaning.specs.Changes.{set_slot, take_object_number, opened_changes}
+use Rattle.ctl_meaning.specs.Changes.{set_value, take_object_number, opened_changes}
 use Rattle.ctl_meaning.specs.Choice.{Ask}
 use Rattle.ctl_meaning.specs.Outcome.{ByRaise, Goes, Leaves, Gives, Act, add, bind, on_goes, ◌>>=◌, done, ticked, opened_outcome}
 use Rattle.ctl_meaning.specs.Types.{Tables, category_of, opened_types}
-use Rattle.ctl_meaning.specs.Names.{Call, Default, Tools, Found, InCopy, copy_in, slot_at, scalar_of, write_found}
+use Rattle.ctl_meaning.specs.Names.{Call, Default, Tools, Found, InVariable, scalar_of, write_found}
 use Rattle.ctl_meaning.specs.Masters.{declare}
 use Rattle.ctl_code.specs.declared.code.Instr.TheVariants as InstrOf
 use Rattle.ctl_code.specs.declared.code.Named.TheVariants.{Variable}
@@ -30,7 +29,7 @@ use Rattle.ctl_gen.specs.Values.{ValueCode, held, value_type}
 use Rattle.ctl_gen.specs.Layout.{assign_code, store_code, scalar_code, valued_code}
 use Rattle.ctl_gen.proofs.Known.{IsScalar}
 use Rattle.ctl_gen.proofs.Place.{Laid, laid_front, laid_back}
-use Rattle.ctl_gen.proofs.Worlds.{Fits, Since, Kept, since_slot, since_number, written_is}
+use Rattle.ctl_gen.proofs.Worlds.{Fits, Since, Kept, since_value, since_number}
 use Rattle.ctl_gen.proofs.Setting.{Sees, tools_with, never_missing}
 use Rattle.ctl_gen.proofs.Cells.{here, by_code, landed, waiting, Stays, taking_is, out_is, Any}
 use Rattle.ctl_gen.proofs.Worth.{both_cell}
@@ -54,27 +53,23 @@ newest_is (x ∷ xs) =
     ap (item_or 0) (slice_get-get_or (reverse (x ∷ xs)) 0 0 lt1) ∙ get_or-reverse (x ∷ xs) 0 0 lt ∙ ap (λ n. get_or (x ∷ xs) n 0) e ∙ sym (last_item x xs)
 
 module _ (ask : Ask) (k : Tables) (code : Code) (valid : IsValid code) (bound : ℕ) where
-  -- a cell that is written
-  written : (d : List ℕ) (out slot n : ℕ) (w : World) → Fits k code w → with_cell d out slot n w ≡ set_slot (out_of d out) slot (Copies (n ∷ [])) w
-  written d out slot n w fits = ap (λ v. set_slot (out_of d out) slot (Copies v) w) (written_is k code (out_of d out) slot n w fits)
-
   -- what an assignment makes of the world
   abbrev assigned : List ℕ → Var → ℕ → World → World
-  assigned d x n w = set_slot (master_of d x) x.slot (Copies (overwritten 0 (n ∷ []) (copy_in (slot_at (master_of d x) x.slot w)))) w
+  assigned d x n w = set_value (master_of d x) x.slot n w
 
   since_assigned : (d : List ℕ) (x : Var) (n : ℕ) (w0 w : World) → Since k code w0 w → Since k code w0 (assigned d x n w)
-  since_assigned d x n w0 w h = since_slot k code (master_of d x) x.slot _ w0 w (subst (λ v. length v ≤ 1) (sym (written_is k code (master_of d x) x.slot n w h.0)) (omega arith)) h
+  since_assigned d x n w0 w h = since_value k code (master_of d x) x.slot n w0 w h
 
   assigned_is : (d : List ℕ) (s : List Kind) (x : Var) (n : ℕ) (w w0 : World) → Sees d s w0 → with_cell d (out_to s x) x.slot n w ≡ assigned d x n w
-  assigned_is d s x n w w0 sees = ap (λ m. set_slot m x.slot (Copies (overwritten 0 (n ∷ []) (copy_in (slot_at m x.slot w)))) w) (out_is d s x sees.long)
+  assigned_is d s x n w w0 sees = ap (λ m. set_value m x.slot n w) (out_is d s x sees.long)
 
   -- into its cell, or the variable of a body around
-  stored : (o : Option ℕ) (x : Var) (y : ValueCode) (act : List ℕ → Act (List ℕ)) → ((w0 : World) → Value ask k code (Since k code w0) y act) → (a : Around) (w0 : World) (d : List ℕ) (place : ℕ) (ks : List Frame) (ops : List ℕ) (c : ℕ) (l : Log) (w : World) → Since k code w0 w → Sees d a.stack w0 → Laid code place (assign_code o x y a.stack) → Runs ask code (Kept k code w0) 0 0 (at d place ks ops l w) c (arrives (lands a place) d (place + length (assign_code o x y a.stack)) ks ops) (bind (act d c l w) (on_goes (write_found (InCopy (master_of d x) x.slot 0))))
+  stored : (o : Option ℕ) (x : Var) (y : ValueCode) (act : List ℕ → Act (List ℕ)) → ((w0 : World) → Value ask k code (Since k code w0) y act) → (a : Around) (w0 : World) (d : List ℕ) (place : ℕ) (ks : List Frame) (ops : List ℕ) (c : ℕ) (l : Log) (w : World) → Since k code w0 w → Sees d a.stack w0 → Laid code place (assign_code o x y a.stack) → Runs ask code (Kept k code w0) 0 0 (at d place ks ops l w) c (arrives (lands a place) d (place + length (assign_code o x y a.stack)) ks ops) (bind (act d c l w) (on_goes (write_found (InVariable (master_of d x) x.slot))))
   unfolding opened_outcome write_found scalar_of opened_lists
   stored (Some n) x y act value a w0 d place ks ops c l w fits sees has =
       let s = a.stack in
       let end = place + length (y.code (local_cell s x n) (value_type y) s) in
-      both_cell ask code (Kept k code w0) Any 0 0 0 0 0 0 _ c (landed (Variable (out_to s x) x.slot) d end ks ops) (arrives (lands a place) d end ks ops) (act d c l w) (on_goes (write_found (InCopy (master_of d x) x.slot 0))) (omega arith) (omega arith) (omega arith) ((value w0).cell d c l w)
+      both_cell ask code (Kept k code w0) Any 0 0 0 0 0 0 _ c (landed (Variable (out_to s x) x.slot) d end ks ops) (arrives (lands a place) d end ks ops) (act d c l w) (on_goes (write_found (InVariable (master_of d x) x.slot))) (omega arith) (omega arith) (omega arith) ((value w0).cell d c l w)
       (value_runs ask k code (Since k code w0) y act (value w0) (local_cell s x n) (value_type y) s d place ks ops c l w fits sees.long has)
       (λ m c1 l1 w1 lo fits1 p. no_step ask code (Kept k code w0) 0 0 _ c1 0 (arrives (lands a place) d end ks ops) (Goes tt) l1 (assigned d x m w1) (since_assigned d x m w0 w1 fits1) (ap (at d end ks ops l1) (assigned_is d s x m w1 w0 sees)))
       (λ z c1 l1 w1 lo fits1. no_step ask code (Kept k code w0) 0 0 _ c1 0 (arrives (lands a place) d end ks ops) (Leaves (ByRaise z)) l1 w1 fits1 refl)
@@ -86,8 +81,8 @@ module _ (ask : Ask) (k : Tables) (code : Code) (valid : IsValid code) (bound : 
       let q = place + length h.code in
       let there = (laid_back code place h.code ((i, h.after) ∷ []) has).0 in
       let e : q + 1 ≡ place + length (store_code x ty s h) = omega (arith, length-append h.code ((i, h.after) ∷ [])) in
-      subst (λ p. Runs ask code (Kept k code w0) 0 0 (at d place ks ops l w) c (arrives (lands a place) d p ks ops) (bind (act d c l w) (on_goes (write_found (InCopy (master_of d x) x.slot 0))))) e
-      (held_then ask k code (Since k code w0) h (λ n w1. Stays h.cell.named n d w1) act d place ks ops c l w (arrives (lands a place) d (q + 1) ks ops) (on_goes (write_found (InCopy (master_of d x) x.slot 0)))
+      subst (λ p. Runs ask code (Kept k code w0) 0 0 (at d place ks ops l w) c (arrives (lands a place) d p ks ops) (bind (act d c l w) (on_goes (write_found (InVariable (master_of d x) x.slot))))) e
+      (held_then ask k code (Since k code w0) h (λ n w1. Stays h.cell.named n d w1) act d place ks ops c l w (arrives (lands a place) d (q + 1) ks ops) (on_goes (write_found (InVariable (master_of d x) x.slot)))
       (held_holds ask k code (Since k code w0) y.right y act refl (value w0) ty s d place ks ops c l w fits sees.long (laid_front code place h.code ((i, h.after) ∷ []) has))
       (λ m c1 l1 w1 lo fits1 stays. last_step ask code (Kept k code w0) 8 8 _ c1 0 (arrives (lands a place) d (q + 1) ks ops) (Goes tt) l1 (assigned d x m w1) (omega arith) (since_assigned d x m w0 w1 fits1)
       (by_code ask code d q ks (waiting h.cell.named m ops) l1 w1 i there
@@ -106,14 +101,14 @@ module _ (ask : Ask) (k : Tables) (code : Code) (valid : IsValid code) (bound : 
 
   -- what the declaration of an elementary variable makes of the world
   abbrev declared : List ℕ → ℕ → ℕ → World → World
-  declared d slot n w = set_slot (last_of d) slot (Copies (n ∷ [])) (take_object_number w)
+  declared d slot n w = set_value (last_of d) slot n (take_object_number w)
 
   declared_is : (d : List ℕ) (slot n : ℕ) (w : World) → Fits k code w → take_object_number (with_cell d 0 slot n w) ≡ declared d slot n w
   unfolding opened_changes
-  declared_is d slot n w fits = ap take_object_number (written d 0 slot n w fits ∙ ap (λ m. set_slot m slot (Copies (n ∷ [])) w) (newest_is d))
+  declared_is d slot n w fits = ap (λ m. take_object_number (set_value m slot n w)) (newest_is d)
 
   since_declared : (d : List ℕ) (slot n : ℕ) (w0 w : World) → Since k code w0 w → Since k code w0 (declared d slot n w)
-  since_declared d slot n w0 w h = since_slot k code (last_of d) slot (Copies (n ∷ [])) w0 (take_object_number w) (omega arith) (since_number k code w0 w h)
+  since_declared d slot n w0 w h = since_value k code (last_of d) slot n w0 (take_object_number w) (since_number k code w0 w h)
 
   module _ (call : Call) (default : Default) where
     abbrev K : Tools

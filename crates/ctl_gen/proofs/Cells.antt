@@ -10,7 +10,8 @@ use Rattle.ctl_meaning.specs.Lists.{item_or, opened_lists}
 use Rattle.ctl_meaning.specs.Activations.{master_of}
 use Rattle.ctl_meaning.specs.Outcome.{Way, Result, Goes, Leaves, Out, Gives, Stops, Cut}
 use Rattle.ctl_meaning.specs.Choice.{Ask, picked}
-use Rattle.ctl_meaning.specs.Names.{copy_in, slot_at, scalar_of}
+use Rattle.ctl_meaning.specs.Changes.{slot_at}
+use Rattle.ctl_meaning.specs.Names.{scalar_of}
 use Rattle.ctl_code.specs.declared.code.Named.{Named}
 use Rattle.ctl_code.specs.declared.code.Named.TheVariants.{Operand, Variable}
 use Rattle.ctl_code.specs.declared.code.Instr.{Instr}
@@ -79,7 +80,7 @@ taking_is (Variable out slot) n f ops d place ks w h = ap (λ m. f m ops) h
 
 -- the value of an elementary variable
 abbrev pub value_of : List ℕ → Var → World → ℕ
-value_of d v w = scalar_of (copy_in (slot_at (master_of d v) v.slot w))
+value_of d v w = (slot_at (master_of d v) v.slot w).value
 
 item_at : (xs : List ℕ) (i : ℕ) → i < length xs → item_or 0 (slice_get xs i) ≡ get_or xs i 0
 unfolding opened_lists
@@ -107,7 +108,7 @@ out_is d s v long = by (nat_lt (v.level - 1) (depth s)) refl
         item_past (reverse d) (depth s) (omega (arith, long, length-reverse d)) ∙ sym (item_past d (v.level - 1) (omega (arith, long, le)))
 
 pub cell_is : (d : List ℕ) (s : List Kind) (v : Var) (w : World) → length d ≡ depth s → cell_at d (out_to s v) v.slot w ≡ value_of d v w
-cell_is d s v w long = ap (λ m. scalar_of (copy_in (slot_at m v.slot w))) (out_is d s v long)
+cell_is d s v w long = ap (λ m. (slot_at m v.slot w).value) (out_is d s v long)
 
 -- What an act gives ---------------------------------------------------------------------------------
 

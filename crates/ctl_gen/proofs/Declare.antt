@@ -7,7 +7,7 @@ use Rattle.ctl_tree.specs.declared.ending.Stop.TheVariants.{UseAfterFree}
 use Rattle.ctl_tree.specs.declared.event.Event.{Event}
 use Rattle.ctl_tree.specs.declared.event.Event.TheVariants as EventOf
 use Rattle.ctl_tree.specs.declared.event.Cause.TheVariants.{Failed}
-use Rattle.ctl_meaning.specs.World.{Object, Declared, Single, Holds, Binds, Log, World}
+use Rattle.ctl_meaning.specs.World.{Object, Declared, Single, Holds, Binds, holding, Log, World}
 use Rattle.ctl_meaning.specs.Lists.{last_of, opened_lists}
 use Rattle.ctl_meaning.specs.Changes.{object_at, create, set_slot, add_layer, begin_finalization, end_finalization, home_of, owner_of}
 use Rattle.ctl_meaning.specs.Choice.{Ask, picked}
@@ -81,13 +81,13 @@ module _ (ask : Ask) (k : Tables) (code : Code) (setting : Setting k code) (call
       ∙ ap (λ x. started (operation (λ y. y.finalize) k t) n m (call_operation K (whole n) x (starts n) c l w)) e1
       ∙ ap (λ x. started x n m (call_operation K (whole n) g1 (starts n) c l w)) e2
 
-  declare_is : (m slot c : ℕ) (l : Log) (w : World) → declare Composite K m slot (Record t) None c l w ≡ standing w.ledger.next_object m (initialize K (birth_of (Declared m) w) (whole w.ledger.next_object) (Record t) c l (set_slot m slot (Holds w.ledger.next_object) (create (Record t) [] (Declared m) w)))
+  declare_is : (m slot c : ℕ) (l : Log) (w : World) → declare Composite K m slot (Record t) None c l w ≡ standing w.ledger.next_object m (initialize K (birth_of (Declared m) w) (whole w.ledger.next_object) (Record t) c l (set_slot m slot (holding (Holds w.ledger.next_object)) (create (Record t) [] (Declared m) w)))
   unfolding declare fill opened_outcome
-  declare_is m slot c l w = ap (λ cells. standing w.ledger.next_object m (initialize K (birth_of (Declared m) w) (whole w.ledger.next_object) (Record t) c l (set_slot m slot (Holds w.ledger.next_object) (create (Record t) cells (Declared m) w)))) (begin_cells_plain k t r here plain)
+  declare_is m slot c l w = ap (λ cells. standing w.ledger.next_object m (initialize K (birth_of (Declared m) w) (whole w.ledger.next_object) (Record t) c l (set_slot m slot (holding (Holds w.ledger.next_object)) (create (Record t) cells (Declared m) w)))) (begin_cells_plain k t r here plain)
 
-  call_is : (f n c : ℕ) (e : Event) (l : Log) (w : World) (o : Object) → object_at n w ≡ Some o → call_operation K (whole n) (Some f) e c l w ≡ bind (add 0 (call (OfSubprogram f (Binds n 0 [] ∷ [])) (home_of o.origin w) c (tell e l) w)) (on_goes (λ _. nothing))
+  call_is : (f n c : ℕ) (e : Event) (l : Log) (w : World) (o : Object) → object_at n w ≡ Some o → call_operation K (whole n) (Some f) e c l w ≡ bind (add 0 (call (OfSubprogram f (holding (Binds n 0 []) ∷ [])) (home_of o.origin w) c (tell e l) w)) (on_goes (λ _. nothing))
   unfolding opened_finalization opened_outcome opened_names
-  call_is f n c e l w o at = ap (λ x. on_some x gone (λ o1. look (λ w1. show e >> call (OfSubprogram f (Binds n 0 [] ∷ [])) (home_of o1.origin w1) >> nothing)) c l w) at
+  call_is f n c e l w o at = ap (λ x. on_some x gone (λ o1. look (λ w1. show e >> call (OfSubprogram f (holding (Binds n 0 []) ∷ [])) (home_of o1.origin w1) >> nothing)) c l w) at
 
   -- with the object that is found, or not, in the end
   abbrev standing_at : Option Object → ℕ → ℕ → Out Done → Out Done
@@ -139,15 +139,15 @@ module _ (ask : Ask) (k : Tables) (code : Code) (setting : Setting k code) (call
         subst (λ x. Runs ask code (Kept k code w0) 4 5 s0 c (arrives e p.display p.place ks p.operands) (standing n (last_of p.display) (started (operation (λ z. z.finalize) k t) n (last_of p.display) (add 1 (on_some x gone (λ _. nothing) c l w))))) (sym ey)
         (within ask code (Kept k code w0) 3 4 4 5 s0 c (arrives e p.display p.place ks p.operands) (standing n (last_of p.display) (started (operation (λ z. z.finalize) k t) n (last_of p.display) (Gives (Goes tt) 1 c l w))) (omega arith) (omega arith)
         (found_runs w0 n e p ks s0 s0 c c 1 l w (Unit {0}) fits (record { n = 0; falls = omega arith; enough = omega arith; in_time = omega arith; comes = refl; fits = tt }) (operation (λ x. x.finalize) k t) (Some o) refl ey (first ∙ ap (λ x. moved l (Table.by_declaration code None n t x p ks w)) ey ∙ ap (λ x. moved l (come_to_life code n t x p ks w)) (sym ey))))
-    created_runs w0 n e p ks s0 c l w le fits ty (Some f) None eg ey first = subst (λ x. Runs ask code (Kept k code w0) 4 5 s0 c (arrives e p.display p.place ks p.operands) (standing n (last_of p.display) (started (operation (λ z. z.finalize) k t) n (last_of p.display) (on_some x gone (λ o1. look (λ w1. show (starts n) >> call (OfSubprogram f (Binds n 0 [] ∷ [])) (home_of o1.origin w1) >> nothing)) c l w)))) (sym ey) (stop_step ask code (Kept k code w0) 4 5 s0 _ c 0 (arrives e p.display p.place ks p.operands) UseAfterFree l (omega arith) (first ∙ ap (λ x. moved l (Table.by_declaration code (Some f) n t x p ks w)) ey) refl refl)
+    created_runs w0 n e p ks s0 c l w le fits ty (Some f) None eg ey first = subst (λ x. Runs ask code (Kept k code w0) 4 5 s0 c (arrives e p.display p.place ks p.operands) (standing n (last_of p.display) (started (operation (λ z. z.finalize) k t) n (last_of p.display) (on_some x gone (λ o1. look (λ w1. show (starts n) >> call (OfSubprogram f (holding (Binds n 0 []) ∷ [])) (home_of o1.origin w1) >> nothing)) c l w)))) (sym ey) (stop_step ask code (Kept k code w0) 4 5 s0 _ c 0 (arrives e p.display p.place ks p.operands) UseAfterFree l (omega arith) (first ∙ ap (λ x. moved l (Table.by_declaration code (Some f) n t x p ks w)) ey) refl refl)
     created_runs w0 n e p ks s0 c l w le fits ty (Some f) (Some o) eg ey first =
         let body = setting.initialize_body t f eg in
         let settled = subst (IfFound (Settled k code w.ledger.next_master w.activations)) ey (object_fits k code n w fits.0) in
         subst (λ x. Runs ask code (Kept k code w0) 4 5 s0 c (arrives e p.display p.place ks p.operands) (standing n (last_of p.display) (started (operation (λ z. z.finalize) k t) n (last_of p.display) x))) (sym (call_is f n c (starts n) l w o ey))
-        (within ask code (Kept k code w0) 3 4 4 5 s0 c (arrives e p.display p.place ks p.operands) (standing n (last_of p.display) (started (operation (λ z. z.finalize) k t) n (last_of p.display) (bind (add 0 (call (OfSubprogram f (Binds n 0 [] ∷ [])) (home_of o.origin w) c (tell (starts n) l) w)) (on_goes (λ _. nothing))))) (omega arith) (omega arith)
-        (begun_runs w0 n e p ks s0 c (call (OfSubprogram f (Binds n 0 [] ∷ [])) (home_of o.origin w) c (tell (starts n) l) w)
-        (calls.runs f body.0 body.1 w0 (home_of o.origin w) (Binds n 0 [] ∷ []) (Initializing n t p ∷ ks) c (tell (starts n) l) w s0 le fits (initialize_scope k code w o t f (ty o ey) settled (setting.initialize t ∙ eg)) (tt, tt)
-        (first ∙ ap (λ x. moved l (Table.by_declaration code (Some f) n t x p ks w)) ey ∙ enter_shows (slice_get code.entries.items f) (starts n) (home_of o.origin w) (Binds n 0 [] ∷ []) (Initializing n t p ∷ ks) l w))))
+        (within ask code (Kept k code w0) 3 4 4 5 s0 c (arrives e p.display p.place ks p.operands) (standing n (last_of p.display) (started (operation (λ z. z.finalize) k t) n (last_of p.display) (bind (add 0 (call (OfSubprogram f (holding (Binds n 0 []) ∷ [])) (home_of o.origin w) c (tell (starts n) l) w)) (on_goes (λ _. nothing))))) (omega arith) (omega arith)
+        (begun_runs w0 n e p ks s0 c (call (OfSubprogram f (holding (Binds n 0 []) ∷ [])) (home_of o.origin w) c (tell (starts n) l) w)
+        (calls.runs f body.0 body.1 w0 (home_of o.origin w) (holding (Binds n 0 []) ∷ []) (Initializing n t p ∷ ks) c (tell (starts n) l) w s0 le fits (initialize_scope k code w o t f (ty o ey) settled (setting.initialize t ∙ eg)) (tt, tt)
+        (first ∙ ap (λ x. moved l (Table.by_declaration code (Some f) n t x p ks w)) ey ∙ enter_shows (slice_get code.entries.items f) (starts n) (home_of o.origin w) (holding (Binds n 0 []) ∷ []) (Initializing n t p ∷ ks) l w))))
 
     -- a declaration: its operations are in scope, as the code is well formed
     pub declare_runs : (slot : ℕ) (e : Target) (s : List Kind) (w0 : World) (d : List ℕ) (place : ℕ) (ks : List Frame) (ops : List ℕ) (c : ℕ) (l : Log) (w : World) → c ≤ bound → Since k code w0 w → Sees d s w0 → Laid code place ((InstrOf.Declare slot t, s) ∷ []) → Runs ask code (Kept k code w0) 4 5 (at d place ks ops l w) c (arrives e d (place + 1) ks ops) (declare Composite K (last_of d) slot (Record t) None c l w)
@@ -164,7 +164,7 @@ module _ (ask : Ask) (k : Tables) (code : Code) (setting : Setting k code) (call
         p = record { display = d; place = place + 1; operands = ops }
 
         w1 : World
-        w1 = set_slot (last_of d) slot (Holds w.ledger.next_object) (create (Record t) [] (Declared (last_of d)) w)
+        w1 = set_slot (last_of d) slot (holding (Holds w.ledger.next_object)) (create (Record t) [] (Declared (last_of d)) w)
 
         old : last_of d < w.ledger.next_master
         old = omega (arith, sees.old, fits.1.later)
@@ -175,8 +175,8 @@ module _ (ask : Ask) (k : Tables) (code : Code) (setting : Setting k code) (call
         inside : IsDeclarable code (length (home (last_of d) w.activations)) t
         inside = subst (λ x. IsDeclarable code x t) (sym (ap length same ∙ sees.long)) (setting.valid.each place (InstrOf.Declare slot t) s has.0 has.1).0
 
-        fits2 : Since k code w0 (set_slot (last_of d) slot (Holds w.ledger.next_object) (create (Record t) [] (Declared (last_of d)) w))
-        fits2 = since_slot k code (last_of d) slot (Holds n) w0 _ tt (since_create k code (Record t) [] (last_of d) w0 w (r, here, plain) old inside fits)
+        fits2 : Since k code w0 (set_slot (last_of d) slot (holding (Holds w.ledger.next_object)) (create (Record t) [] (Declared (last_of d)) w))
+        fits2 = since_slot k code (last_of d) slot (holding (Holds n)) w0 _ tt (since_create k code (Record t) [] (last_of d) w0 w (r, here, plain) old inside fits)
 
-        typed : (o : Object) → object_at w.ledger.next_object (set_slot (last_of d) slot (Holds w.ledger.next_object) (create (Record t) [] (Declared (last_of d)) w)) ≡ Some o → o.ty ≡ Record t
+        typed : (o : Object) → object_at w.ledger.next_object (set_slot (last_of d) slot (holding (Holds w.ledger.next_object)) (create (Record t) [] (Declared (last_of d)) w)) ≡ Some o → o.ty ≡ Record t
         typed o at1 = created_ty k code (Record t) [] (last_of d) slot w fits.0 o at1

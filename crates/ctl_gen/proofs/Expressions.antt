@@ -14,7 +14,8 @@ use Rattle.ctl_meaning.specs.Choice.{Ask}
 use Rattle.ctl_meaning.specs.Outcome.{constraint_error, Way, ByRaise, Result, Goes, Leaves, Out, Gives, Stops, Cut, Act, add, bind, on_goes, ◌>>=◌, done, ticked, either, opened_outcome}
 use Rattle.ctl_meaning.specs.Numbers.{unary, binary}
 use Rattle.ctl_meaning.specs.Types.{Tables, cells_of}
-use Rattle.ctl_meaning.specs.Names.{Found, InCopy, copy_in, slot_at, scalar_of, read_found, or_constraint_error, opened_names}
+use Rattle.ctl_meaning.specs.Changes.{slot_at}
+use Rattle.ctl_meaning.specs.Names.{Found, InVariable, scalar_of, read_found, or_constraint_error, opened_names}
 use Rattle.ctl_meaning.specs.Expressions.{apply_each, decides, join_each, Applied, Valued}
 use Rattle.ctl_meaning.specs.Names.{Tools}
 use Rattle.ctl_code.specs.declared.code.Named.{Named}
@@ -91,16 +92,16 @@ module _ (ask : Ask) (k : Tables) (code : Code) (Fits : World → Type 0) where
     variable = λ y is d c l w. absurd (cc);
   }
 
-  -- what finds an elementary variable, in one tick: the cells of its slot
+  -- what finds an elementary variable, in one tick
   abbrev pub Uses : Var → (List ℕ → Act Found) → Type 0
-  Uses x find = (d : List ℕ) (c : ℕ) (l : Log) (w : World) → find d c l w ≡ Gives (Goes (InCopy (master_of d x) x.slot 0)) 1 c l w
+  Uses x find = (d : List ℕ) (c : ℕ) (l : Log) (w : World) → find d c l w ≡ Gives (Goes (InVariable (master_of d x) x.slot)) 1 c l w
 
   reads_it : (x : Var) (find : List ℕ → Act Found) → Uses x find → (ty : Ty) → IsScalar ty → (d : List ℕ) (c : ℕ) (l : Log) (w : World) → ticked (find d >>= read_found (cells_of k ty)) c l w ≡ Gives (Goes (value_of d x w ∷ [])) 2 c l w
   unfolding opened_outcome read_found
   reads_it x find uses ty scalar d c l w =
       ap (λ o. add 1 (bind o (on_goes (read_found (cells_of k ty))))) (uses d c l w)
-      ∙ ap (λ n. add 1 (add 1 (read_found n (InCopy (master_of d x) x.slot 0) c l w))) (scalar_cells k ty scalar)
-      ∙ ap (λ u. Gives (Goes u) 2 c l w) (one_cell (copy_in (slot_at (master_of d x) x.slot w)))
+      ∙ ap (λ n. add 1 (add 1 (read_found n (InVariable (master_of d x) x.slot) c l w))) (scalar_cells k ty scalar)
+      ∙ ap (λ u. Gives (Goes u) 2 c l w) (one_cell ((slot_at (master_of d x) x.slot w).value ∷ []))
 
   -- a variable of this window, or of a body around, goes where it is wanted
   read_step : (at' : Option ℕ) (v : Var) (ty : Ty) (to : Cell) (s : List Kind) (d : List ℕ) (place : ℕ) (ks : List Frame) (ops : List ℕ) (l : Log) (w : World) → length d ≡ depth s → slice_get code.instructions.items place ≡ Some (read_from at' v ty to s) → step ask code (at d place ks ops l w) ≡ landed to.named d (place + 1) ks ops (Goes (value_of d v w ∷ [])) l w

@@ -8,7 +8,7 @@ use Rattle.ctl_tree.specs.declared.ending.Stop.TheVariants.{UseAfterFree}
 use Rattle.ctl_tree.specs.declared.event.Event.{Event}
 use Rattle.ctl_tree.specs.declared.event.Event.TheVariants as EventOf
 use Rattle.ctl_tree.specs.declared.event.Cause.TheVariants.{Scope}
-use Rattle.ctl_meaning.specs.World.{Object, Member, Log, World, Binds}
+use Rattle.ctl_meaning.specs.World.{Object, Member, Log, World, Binds, holding}
 use Rattle.ctl_meaning.specs.Lists.{first_with, opened_lists}
 use Rattle.ctl_meaning.specs.Pools.{opened_pools}
 use Rattle.ctl_meaning.specs.Changes.{object_at, begin_finalization, end_finalization, home_of, home_master, opened_changes}
@@ -100,9 +100,9 @@ module _ (ask : Ask) (k : Tables) (code : Code) (setting : Setting k code) (call
       ap (λ x. bind (bind (on_some x gone (λ _. nothing) c l w) (on_goes (λ _. change (begin_finalization n)))) (on_goes (λ _. finalize K Scope Every (whole n) t >>= (λ b. change (end_finalization n) >> done b)))) at
       ∙ ap (λ x. add 0 (bind x (on_goes (λ b. change (end_finalization n) >> done b)))) (finalize_is g e n c l (begin_finalization n w))
 
-  call_is : (f n c : ℕ) (l : Log) (w : World) (o : Object) → object_at n w ≡ Some o → call_operation K (whole n) (Some f) (ends n) c l w ≡ bind (add 0 (call (OfSubprogram f (Binds n 0 [] ∷ [])) (home_of o.origin w) c (tell (ends n) l) w)) (on_goes (λ _. nothing))
+  call_is : (f n c : ℕ) (l : Log) (w : World) (o : Object) → object_at n w ≡ Some o → call_operation K (whole n) (Some f) (ends n) c l w ≡ bind (add 0 (call (OfSubprogram f (holding (Binds n 0 []) ∷ [])) (home_of o.origin w) c (tell (ends n) l) w)) (on_goes (λ _. nothing))
   unfolding opened_finalization opened_outcome opened_names
-  call_is f n c l w o at = ap (λ x. on_some x gone (λ o1. look (λ w1. show (ends n) >> call (OfSubprogram f (Binds n 0 [] ∷ [])) (home_of o1.origin w1) >> nothing)) c l w) at
+  call_is f n c l w o at = ap (λ x. on_some x gone (λ o1. look (λ w1. show (ends n) >> call (OfSubprogram f (holding (Binds n 0 []) ∷ [])) (home_of o1.origin w1) >> nothing)) c l w) at
 
   -- after the execution of a Finalize, one that raised is remembered
   over : (n : ℕ) (w0 : World) (ks : List Frame) (s0 : State) (c : ℕ) (o : Out Returned) → Runs ask code (Told k code w0) 2 2 s0 c (returns (Finalizing n ∷ ks)) o → Runs ask code (Sure k code w0) 3 2 s0 c (tells ks) (finalized n o)
@@ -135,13 +135,13 @@ module _ (ask : Ask) (k : Tables) (code : Code) (setting : Setting k code) (call
         still : (g : Option ℕ) (x : Option Object) → operation (λ x1. x1.finalize) k t ≡ g → object_at n (begin_finalization n w) ≡ x → step ask code s0 ≡ moved l (Table.finalize_by code g n (object_at n (begin_finalization n w)) ks (begin_finalization n w)) → Runs ask code (Sure k code w0) 3 3 s0 c (tells ks) (unwritten n (call_operation K (whole n) g (ends n) c l (begin_finalization n w)))
         still None None op at1 e = subst goal (sym (ap (λ x. unwritten n (add 1 (on_some x gone (λ _. nothing) c l w1))) at1)) (stop_step ask code (Sure k code w0) 3 3 s0 _ c 2 (tells ks) UseAfterFree l (omega arith) (e ∙ ap (begun None) at1) refl refl)
         still None (Some p) op at1 e = subst goal (sym (ap (λ x. unwritten n (add 1 (on_some x gone (λ _. nothing) c l w1))) at1)) (last_step ask code (Sure k code w0) 3 3 s0 c 2 (tells ks) (Goes false) l (end_finalization n w1) (omega arith) (tt, since_end k code n w0 w1 fits1) (e ∙ ap (begun None) at1))
-        still (Some f) None op at1 e = subst goal (sym (ap (λ x. unwritten n (on_some x gone (λ o1. look (λ v. show (ends n) >> call (OfSubprogram f (Binds n 0 [] ∷ [])) (home_of o1.origin v) >> nothing)) c l w1)) at1)) (stop_step ask code (Sure k code w0) 3 3 s0 _ c 1 (tells ks) UseAfterFree l (omega arith) (e ∙ ap (begun (Some f)) at1) refl refl)
+        still (Some f) None op at1 e = subst goal (sym (ap (λ x. unwritten n (on_some x gone (λ o1. look (λ v. show (ends n) >> call (OfSubprogram f (holding (Binds n 0 []) ∷ [])) (home_of o1.origin v) >> nothing)) c l w1)) at1)) (stop_step ask code (Sure k code w0) 3 3 s0 _ c 1 (tells ks) UseAfterFree l (omega arith) (e ∙ ap (begun (Some f)) at1) refl refl)
         still (Some f) (Some p) op at1 e =
             let body = setting.finalize_body t f op in
             let settled = subst (IfFound (Settled k code w1.ledger.next_master w1.activations)) at1 (object_fits k code n w1 fits1.0) in
             subst goal (sym (ap (unwritten n) (call_is f n c l w1 p at1)))
             (within ask code (Sure k code w0) 3 2 3 3 s0 c (tells ks) _ (omega arith) (omega arith)
-            (over n w0 ks s0 c _ (calls.runs f body.0 body.1 w0 (home_of p.origin w1) (Binds n 0 [] ∷ []) (Finalizing n ∷ ks) c (tell (ends n) l) w1 s0 le fits1 (finalize_scope k code w1 p t f (ty1 p at1) settled (setting.finalize t ∙ op)) (tt, tt) (e ∙ ap (begun (Some f)) at1 ∙ enter_shows (slice_get code.entries.items f) (ends n) (home_of p.origin w1) (Binds n 0 [] ∷ []) (Finalizing n ∷ ks) l w1))))
+            (over n w0 ks s0 c _ (calls.runs f body.0 body.1 w0 (home_of p.origin w1) (holding (Binds n 0 []) ∷ []) (Finalizing n ∷ ks) c (tell (ends n) l) w1 s0 le fits1 (finalize_scope k code w1 p t f (ty1 p at1) settled (setting.finalize t ∙ op)) (tt, tt) (e ∙ ap (begun (Some f)) at1 ∙ enter_shows (slice_get code.entries.items f) (ends n) (home_of p.origin w1) (holding (Binds n 0 []) ∷ []) (Finalizing n ∷ ks) l w1))))
 
     -- such an object, which is no pool
     pub declared_runs : (n : ℕ) (w0 : World) (ks : List Frame) (c : ℕ) (l : Log) (w : World) (s0 : State) (o : Object) → c ≤ bound → Since k code w0 w → object_at n w ≡ Some o → o.ty ≡ Record t → ((p : Object) → object_at n (begin_finalization n w) ≡ Some p → p.ty ≡ Record t) → step ask code s0 ≡ moved l (Table.finalize_by code (operation_of (λ x. x.finalize) code t) n (object_at n (begin_finalization n w)) ks (begin_finalization n w)) → Runs ask code (Sure k code w0) 3 3 s0 c (tells ks) (finalize_as K n (Record t) c l w)

@@ -8,10 +8,10 @@ use Rattle.ctl_program.specs.declared.types.Var.{Var}
 use Rattle.ctl_program.specs.declared.types.Ty.TheVariants.{Integer}
 use Rattle.ctl_program.specs.declared.operators.Direction.{Direction}
 use Rattle.ctl_program.specs.declared.operators.Direction.TheVariants.{Upward, Downward}
-use Rattle.ctl_meaning.specs.World.{Copies, Log, World}
+use Rattle.ctl_meaning.specs.World.{Log, World}
 use Rattle.ctl_meaning.specs.Lists.{last_of, opened_lists}
 use Rattle.ctl_meaning.specs.Activations.{master_of}
-use Rattle.ctl_meaning.specs.Changes.{set_slot}
+use Rattle.ctl_meaning.specs.Changes.{set_value}
 use Rattle.ctl_meaning.specs.Choice.{Ask}
 use Rattle.ctl_meaning.specs.Outcome.{ByRaise, Goes, Leaves, Act, Done, bind, on_goes, ◌>>◌, given, nothing, ticked, then_always, opened_outcome}
 use Rattle.ctl_meaning.specs.Numbers.{signed, cell_of}
@@ -32,7 +32,7 @@ use Rattle.ctl_gen.specs.Around.{Line, Around, newest_at, newest_by, new_operand
 use Rattle.ctl_gen.specs.Values.{ValueCode}
 use Rattle.ctl_gen.specs.Layout.{in_loop, with_bounds, bounds_code, turns_code, next_of}
 use Rattle.ctl_gen.proofs.Place.{Laid, laid_front, laid_back}
-use Rattle.ctl_gen.proofs.Worlds.{Since, Kept, since_slot}
+use Rattle.ctl_gen.proofs.Worlds.{Since, Kept, since_value}
 use Rattle.ctl_gen.proofs.Setting.{Sees, never_missing}
 use Rattle.ctl_gen.proofs.Cells.{Any, by_code, here, landed, out_is}
 use Rattle.ctl_gen.proofs.Worth.{both_cell}
@@ -141,15 +141,15 @@ is_newest s v d parameter long known = by (out_to s v) (out_is d s v long) known
 
 module _ (ask : Ask) (k : Tables) (code : Code) (valid : IsValid code) (bound : ℕ) where
   -- one of the turns, from the step that begins it, and what follows
-  counted_turn : (x : Around → List Line) (act : List ℕ → Act Done) → Does ask k code bound x act → (s : List Kind) (v : Var) (z : ℤ) (again : Act Done) (e : Target) (w0 : World) (d : List ℕ) (start place : ℕ) (ks : List Frame) (over ops : List ℕ) (c : ℕ) (l : Log) (w : World) (s0 : State) → c ≤ bound → Since k code w0 w → Sees d s w0 → Laid code start (x (in_loop (with_bounds s))) → Lands ask k code bound d (start - 1) ks over place ops → step ask code s0 ≡ at d start ks over l (set_slot (master_of d v) v.slot (Copies (cell_of z ∷ [])) w) → IsGoing s0 → s0.log ≡ l → ((c1 : ℕ) (l1 : Log) (w2 : World) → c1 + 1 ≤ c → Since k code w0 w2 → Runs ask code (Kept k code w0) 4 4 (at d (start + length (x (in_loop (with_bounds s)))) ks over l1 w2) c1 (arrives e d place ks ops) (again c1 l1 w2)) → Runs ask code (Kept k code w0) 1 1 s0 c (arrives e d place ks ops) (bind (one_turn (set_loop d v z >> act d) c l w) (turned again))
+  counted_turn : (x : Around → List Line) (act : List ℕ → Act Done) → Does ask k code bound x act → (s : List Kind) (v : Var) (z : ℤ) (again : Act Done) (e : Target) (w0 : World) (d : List ℕ) (start place : ℕ) (ks : List Frame) (over ops : List ℕ) (c : ℕ) (l : Log) (w : World) (s0 : State) → c ≤ bound → Since k code w0 w → Sees d s w0 → Laid code start (x (in_loop (with_bounds s))) → Lands ask k code bound d (start - 1) ks over place ops → step ask code s0 ≡ at d start ks over l (set_value (master_of d v) v.slot (cell_of z) w) → IsGoing s0 → s0.log ≡ l → ((c1 : ℕ) (l1 : Log) (w2 : World) → c1 + 1 ≤ c → Since k code w0 w2 → Runs ask code (Kept k code w0) 4 4 (at d (start + length (x (in_loop (with_bounds s)))) ks over l1 w2) c1 (arrives e d place ks ops) (again c1 l1 w2)) → Runs ask code (Kept k code w0) 1 1 s0 c (arrives e d place ks ops) (bind (one_turn (set_loop d v z >> act d) c l w) (turned again))
   unfolding turned set_loop opened_outcome
   counted_turn x act does s v z again e w0 d start place ks over ops c l w s0 le fits sees has lands first going logged more =
       let b = x (in_loop (with_bounds s)) in
-      let w1 = set_slot (master_of d v) v.slot (Copies (cell_of z ∷ [])) w in
+      let w1 = set_value (master_of d v) v.slot (cell_of z) w in
       let sees1 : Sees d (with_bounds s) w0 = record { old = sees.old; home = sees.home; long = sees.long } in
       within ask code (Kept k code w0) 0 1 1 1 s0 c (arrives e d place ks ops) _ (omega arith) (omega arith)
       (turn_runs ask k code bound (set_loop d v z >> act d) (turned again) w0 (arrives (On (start - 1)) d (start + length b) ks over) (arrives e d place ks ops) s0 (at d start ks over l w1) c l w first going logged
-      (λ c1 lo. added ask code (Kept k code w0) 0 0 0 0 0 (at d start ks over l w1) c1 (arrives (On (start - 1)) d (start + length b) ks over) (act d c1 l w1) (omega arith) (omega arith) (does (in_loop (with_bounds s)) w0 d start ks over c1 l w1 (omega (arith, lo, le)) (since_slot k code (master_of d v) v.slot (Copies (cell_of z ∷ [])) w0 w (omega arith) fits) sees1 has))
+      (λ c1 lo. added ask code (Kept k code w0) 0 0 0 0 0 (at d start ks over l w1) c1 (arrives (On (start - 1)) d (start + length b) ks over) (act d c1 l w1) (omega arith) (omega arith) (does (in_loop (with_bounds s)) w0 d start ks over c1 l w1 (omega (arith, lo, le)) (since_value k code (master_of d v) v.slot (cell_of z) w0 w fits) sees1 has))
       more
       (λ y c1 l1 w2 lo fits1. loop_ends ask k code bound e d (start - 1) (start + length b) place ks over ops w0 again lands y c1 l1 w2 fits1))
 
@@ -163,8 +163,8 @@ module _ (ask : Ask) (k : Tables) (code : Code) (valid : IsValid code) (bound : 
       ∙ ap (λ t. moved l1 (if t then in_turn way v.slot (bounds_after way a b) (start + length (x (in_loop (with_bounds s))) - length (x (in_loop (with_bounds s)))) ops (here d (start + length (x (in_loop (with_bounds s)))) ks w2) else on ops w2 (here d (start + length (x (in_loop (with_bounds s)))) ks w2))) (last_left (signed a) (signed b) left)
       ∙ ap (λ p. at d p ks ops l1 w2) far))
     where
-      parameter_is : (a1 b1 : ℕ) (w1 : World) → with_parameter d v.slot (present way a1 b1) w1 ≡ set_slot (master_of d v) v.slot (Copies (cell_of (value_at way a1 b1) ∷ [])) w1
-      parameter_is a1 b1 w1 = ap (λ m. with_parameter d v.slot m w1) (present_is way a1 b1) ∙ ap (λ m. set_slot m v.slot (Copies (cell_of (value_at way a1 b1) ∷ [])) w1) (sym newest)
+      parameter_is : (a1 b1 : ℕ) (w1 : World) → with_parameter d v.slot (present way a1 b1) w1 ≡ set_value (master_of d v) v.slot (cell_of (value_at way a1 b1)) w1
+      parameter_is a1 b1 w1 = ap (λ m. with_parameter d v.slot m w1) (present_is way a1 b1) ∙ ap (λ m. set_value m v.slot (cell_of (value_at way a1 b1)) w1) (sym newest)
   counted_run x act does s v low parameter way (suc n) a b e w0 d start place ks ops c l w s0 left newest le fits sees has next far lands first going logged =
       counted_turn x act does s v (value_at way a b) (for_turns (suc n) (next_value way) (λ z. set_loop d v z >> act d) (next_value way (value_at way a b))) e w0 d start place ks (b ∷ a ∷ ops) ops c l w s0 le fits sees has (lands b a) (first ∙ ap (at d start ks (b ∷ a ∷ ops) l) (parameter_is a b w)) going logged
       (λ c1 l1 w2 lo fits1. within ask code (Kept k code w0) 1 1 4 4 (at d q ks (b ∷ a ∷ ops) l1 w2) c1 (arrives e d place ks ops) (for_turns (suc n) (next_value way) (λ z. set_loop d v z >> act d) (next_value way (value_at way a b)) c1 l1 w2) (omega arith) (omega arith)
@@ -177,8 +177,8 @@ module _ (ask : Ask) (k : Tables) (code : Code) (valid : IsValid code) (bound : 
       q : ℕ
       q = start + length (x (in_loop (with_bounds s)))
 
-      parameter_is : (a1 b1 : ℕ) (w1 : World) → with_parameter d v.slot (present way a1 b1) w1 ≡ set_slot (master_of d v) v.slot (Copies (cell_of (value_at way a1 b1) ∷ [])) w1
-      parameter_is a1 b1 w1 = ap (λ m. with_parameter d v.slot m w1) (present_is way a1 b1) ∙ ap (λ m. set_slot m v.slot (Copies (cell_of (value_at way a1 b1) ∷ [])) w1) (sym newest)
+      parameter_is : (a1 b1 : ℕ) (w1 : World) → with_parameter d v.slot (present way a1 b1) w1 ≡ set_value (master_of d v) v.slot (cell_of (value_at way a1 b1)) w1
+      parameter_is a1 b1 w1 = ap (λ m. with_parameter d v.slot m w1) (present_is way a1 b1) ∙ ap (λ m. set_value m v.slot (cell_of (value_at way a1 b1)) w1) (sym newest)
 
       back : (l1 : Log) (w2 : World) → step ask code (at d (start + length (x (in_loop (with_bounds s)))) ks (b ∷ a ∷ ops) l1 w2) ≡ at d start ks (high_after way a b ∷ low_after way a b ∷ ops) l1 (with_parameter d v.slot (present way (low_after way a b) (high_after way a b)) w2)
       back l1 w2 =

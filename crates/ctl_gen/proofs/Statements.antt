@@ -5,7 +5,7 @@ use Rattle.ctl_program.specs.declared.types.Ty.{Ty}
 use Rattle.ctl_program.specs.declared.types.Ty.TheVariants.{Integer, Count, Boolean, Address, Handle, Access, Record}
 use Rattle.ctl_program.specs.declared.statement.Item.{Item}
 use Rattle.ctl_program.specs.declared.statement.Item.TheVariants.{Collections, Object, Pool, Silent}
-use Rattle.ctl_meaning.specs.World.{Slot, Unset, Log, World}
+use Rattle.ctl_meaning.specs.World.{Slot, unset, Log, World}
 use Rattle.ctl_meaning.specs.Lists.{last_of, opened_lists}
 use Rattle.ctl_meaning.specs.Changes.{open_master, opened_changes}
 use Rattle.ctl_meaning.specs.Ledger.{layers_of, opened_ledger}
@@ -30,7 +30,7 @@ use Rattle.ctl_gen.specs.Values.{ValueCode, value_code}
 use Rattle.ctl_gen.specs.Layout.{ArmCode, ItemCode, MasterCode, StatementCode, all, all_items, arms_code, arms_run, arms_texts, block, block_code, branches, in_master as in_new, inside, is_declared, item_code, leaves_code, turn_code}
 use Rattle.ctl_gen.proofs.Known.{both_true, plain_if, scalar_if}
 use Rattle.ctl_gen.proofs.Place.{HasAt, has_front, has_back, Laid, laid_front, laid_back}
-use Rattle.ctl_gen.proofs.Worlds.{home, Each, IsSmall, small_unset, Since, Kept, home_new, keeps_itself, keeps_on, keeps_open, fits_open}
+use Rattle.ctl_gen.proofs.Worlds.{home, Each, IsWhole, whole_unset, Since, Kept, home_new, keeps_itself, keeps_on, keeps_open, fits_open}
 use Rattle.ctl_gen.proofs.Setting.{Setting, tools_with, Sees, Told, Calls}
 use Rattle.ctl_gen.proofs.Cells.{by_code}
 use Rattle.ctl_gen.proofs.Does.{Does}
@@ -273,13 +273,13 @@ module _ (ask : Ask) (k : Tables) (code : Code) (setting : Setting k code) (call
   -- a master, from the step that enters it
   abbrev pub Masters : StatementCode → Doing → Type 0
   Masters x m =
-      x.runs k.records ≡ true → (n : ℕ) → HasAt code.texts.items n x.texts → (caught : ℕ) (new : Kind) (s : List Kind) (w0 : World) (env : List ℕ) (slots : List Slot) (after : After) (ks : List Frame) (c0 c : ℕ) (l : Log) (w : World) (s0 : State) (place : ℕ) → c ≤ bound → c ≤ c0 → c0 ≤ c + 1 → Since k code w0 w → length env + 1 ≡ depth (new ∷ s) → Each IsSmall slots → Laid code place (x.code (in_new new s) n) →
+      x.runs k.records ≡ true → (n : ℕ) → HasAt code.texts.items n x.texts → (caught : ℕ) (new : Kind) (s : List Kind) (w0 : World) (env : List ℕ) (slots : List Slot) (after : After) (ks : List Frame) (c0 c : ℕ) (l : Log) (w : World) (s0 : State) (place : ℕ) → c ≤ bound → c ≤ c0 → c0 ≤ c + 1 → Since k code w0 w → length env + 1 ≡ depth (new ∷ s) → Each IsWhole slots → Laid code place (x.code (in_new new s) n) →
       step ask code s0 ≡ at (env ++ w.ledger.next_master ∷ []) place (InMaster w.ledger.next_master after ∷ ks) [] l (open_master env slots w) →
       Runs ask code (Told k code w0) 0 1 s0 c0 (leaves after ks) (in_master K env slots (λ inner. m K inner caught) c l w)
 
   pub master_runs : (items : List Item) (xs : List StatementCode) (ms : List Doing) → EachPerforms xs ms → Masters (inside (all_items (map item_code items)) (all xs) true) (within (map elaborate_item items) ms [])
   unfolding in_master leave within opened_outcome
-  master_runs items xs ms each runs n texts caught new s w0 env slots after ks c0 c l w s0 place le lo hi fits long small has first =
+  master_runs items xs ms each runs n texts caught new s w0 env slots after ks c0 c l w s0 place le lo hi fits long whole has first =
       added ask code (Told k code w0) 0 0 1 0 1 s0 c0 (leaves after ks) _ (omega arith) (omega arith)
       (step_both_paid ask code (Kept k code w2) (Told k code w0) 0 0 3 3 0 1 s0 (at inner place frames [] l w2) c0 c (arrives OutOf inner end frames []) (leaves after ks) _ (λ r c1 l1 w1. bind (leave_layers K m (layers_of m w1.ledger) false c1 l1 w1) (on_goes (left m r))) (omega arith) (omega arith) (omega arith) lo hi first
       (in_row ask code (Kept k code w2) 0 0 0 0 0 0 _ c OutOf inner (place + length is) end frames [] _ (then_always (do_each K inner caught ms) (handled (handle K inner []))) (omega arith) (omega arith) (omega arith)
@@ -314,7 +314,7 @@ module _ (ask : Ask) (k : Tables) (code : Code) (setting : Setting k code) (call
       end = place + length is + length js
 
       fits2 : Since k code (open_master env slots w) (open_master env slots w)
-      fits2 = (fits_open k code env slots w small fits.0, keeps_itself k code w2)
+      fits2 = (fits_open k code env slots w whole fits.0, keeps_itself k code w2)
 
       next : (open_master env slots w).ledger.next_master ≡ w.ledger.next_master + 1
       next = next_after env slots w
@@ -373,6 +373,6 @@ module _ (ask : Ask) (k : Tables) (code : Code) (setting : Setting k code) (call
       added ask code (Kept k code w0) 1 1 2 0 0 _ c _ _ (omega arith) (omega arith)
       (arriving ask code (Kept k code w0) 1 2 _ c _ _ _ (λ r l1 w1. ap (λ z. arrives (lands a place) d z ks ops r l1 w1) e)
       (both ask code (Told k code w0) (Kept k code w0) 0 1 1 1 1 2 _ c (leaves (AfterBlock p) ks) (arrives (lands a place) d (q + 1) ks ops) _ (on_goes (λ (y : Left). given y.result)) (omega arith) (omega arith) (omega arith)
-      (mastered.inside runs n texts caught (KindOf.Block x.slots) a.stack w0 d (replicate b.slots Unset) (AfterBlock p) ks c c l w (at d place ks ops l w) (place + 1) le (omega arith) (omega arith) fits (ap (λ z. z + 1) sees.long) (small_unset b.slots) (laid_front code (place + 1) inner out has.2)
-      (by_code ask code d place ks ops l w (InstrOf.Enter x.slots (length inner)) has.0 ∙ ap (λ j. at (d ++ w.ledger.next_master ∷ []) (place + 1) (InMaster w.ledger.next_master (AfterBlock p) ∷ ks) [] l (open_master d (replicate j Unset) w)) mastered.slots))
+      (mastered.inside runs n texts caught (KindOf.Block x.slots) a.stack w0 d (replicate b.slots unset) (AfterBlock p) ks c c l w (at d place ks ops l w) (place + 1) le (omega arith) (omega arith) fits (ap (λ z. z + 1) sees.long) (whole_unset b.slots) (laid_front code (place + 1) inner out has.2)
+      (by_code ask code d place ks ops l w (InstrOf.Enter x.slots (length inner)) has.0 ∙ ap (λ j. at (d ++ w.ledger.next_master ∷ []) (place + 1) (InMaster w.ledger.next_master (AfterBlock p) ∷ ks) [] l (open_master d (replicate j unset) w)) mastered.slots))
       (λ r c1 l1 w1 lo fits1. behind_block a.landing (length inner + 1) w0 d place q ks ops at_end (laid_back code (place + 1) inner out has.2).0 r c1 l1 w1 fits1)))

@@ -1,20 +1,19 @@
 -- The worlds of the programs of this version: each object is of a plain record type, and was declared in an active master, inside those
--- around the operations of its type; each layer is one object, each copy at most one cell, and there is no pool.
+-- around the operations of its type; each layer is one object, no record is copied, and there is no pool.
 use Rattle.std.proofs.Common.{◌≡◌, ℕ, zero, suc, ◌+◌, ◌<◌, ◌≤◌, List, [], ◌∷◌, ◌++◌, length, Option, Some, None, Bool, true, false, refl, sym, ap, ◌∙◌, subst, arith}
 use Rattle.std.specs.Prelude.{if◌then◌else◌, nat_eq, not, drop, slice_get, slice_set, replicate}
 use Rattle.std.proofs.lemmas.Bool.{eqb-true, eqb-false, eq-eqb, ne_eqb}
 use Rattle.ctl_program.specs.declared.types.Ty.{Ty}
 use Rattle.ctl_program.specs.declared.types.Ty.TheVariants.{Record}
 use Rattle.ctl_meaning.specs.Types.{Tables}
-use Rattle.ctl_meaning.specs.World.{Finalized, Origin, Declared, Allocated, Object, Layer, Single, Sets, Master, Slot, Unset, Holds, Binds, Copies, Gathers, Activation, World, opened_world, empty_world}
+use Rattle.ctl_meaning.specs.World.{Finalized, Origin, Declared, Allocated, Object, Layer, Single, Sets, Master, Content, Nothing, Holds, Binds, Copies, Gathers, Slot, unset, Activation, World, opened_world, empty_world}
 use Rattle.ctl_meaning.specs.Lists.{first_with, change_each, keep, item_or, opened_lists}
 use Rattle.ctl_meaning.specs.Ledger.{with_layer, without_newest, layers_in, layers_of, opened_ledger}
-use Rattle.ctl_meaning.specs.Activations.{with_slot, slots_in, display_in, activation_at, opened_activations}
-use Rattle.ctl_meaning.specs.Objects.{object_in, with_begun, with_finalized, is_untouched, overwritten, opened_objects}
+use Rattle.ctl_meaning.specs.Activations.{with_slot, slots_in, display_in, activation_at, slot_in, opened_activations}
+use Rattle.ctl_meaning.specs.Objects.{object_in, with_begun, with_finalized, is_untouched, opened_objects}
 use Rattle.ctl_meaning.specs.Pools.{keep_pools}
-use Rattle.ctl_meaning.specs.Names.{copy_in, slot_at, opened_names}
 use Rattle.ctl_meaning.specs.Outcome.{Way}
-use Rattle.ctl_meaning.specs.Changes.{ends_with, object_at, take_object_number, create, open_master, add_layer, take_layer, set_slot, close_master, begin_finalization, end_finalization, opened_changes}
+use Rattle.ctl_meaning.specs.Changes.{ends_with, object_at, take_object_number, create, open_master, add_layer, take_layer, set_slot, slot_at, set_value, close_master, begin_finalization, end_finalization, opened_changes}
 use Rattle.ctl_code.specs.declared.code.Code.{Code}
 use Rattle.ctl_code.specs.Valid.{IsDeclarable}
 use Rattle.ctl_gen.proofs.Known.{IsPlainType}
@@ -107,50 +106,43 @@ home_kept n m e (a ∷ as') = one (nat_eq a.master m) refl (home_kept n m e as')
 
 -- Slots -----------------------------------------------------------------------------------------------
 
--- a copy has at most one cell
-abbrev pub IsSmall : Slot → Type 0
-IsSmall (Copies v) = length v ≤ 1
-IsSmall Unset = Unit {0}
-IsSmall (Holds n) = Unit {0}
-IsSmall (Binds n i p) = Unit {0}
-IsSmall (Gathers n) = Unit {0}
+-- no record is copied, and a formal stands for a whole object
+abbrev pub HoldsWhole : Content → Type 0
+HoldsWhole Nothing = Unit {0}
+HoldsWhole (Holds n) = Unit {0}
+HoldsWhole (Binds n zero []) = Unit {0}
+HoldsWhole (Binds n i p) = ⊥
+HoldsWhole (Copies v) = ⊥
+HoldsWhole (Gathers n) = Unit {0}
 
-abbrev pub AreSmall : Activation → Type 0
-AreSmall a = Each IsSmall a.slots
+abbrev pub IsWhole : Slot → Type 0
+IsWhole s = HoldsWhole s.content
 
-small_set : (xs : List Slot) (i : ℕ) (x : Slot) → IsSmall x → Each IsSmall xs → Each IsSmall (slice_set xs i x)
-small_set [] i x known h = tt
-small_set (y ∷ xs) zero x known h = (known, h.1)
-small_set (y ∷ xs) (suc i) x known h = (h.0, small_set xs i x known h.1)
+abbrev pub AreWhole : Activation → Type 0
+AreWhole a = Each IsWhole a.slots
 
-pub small_unset : (n : ℕ) → Each IsSmall (replicate n Unset)
-small_unset zero = tt
-small_unset (suc n) = (tt, small_unset n)
+whole_set : (xs : List Slot) (i : ℕ) (x : Slot) → IsWhole x → Each IsWhole xs → Each IsWhole (slice_set xs i x)
+whole_set [] i x known h = tt
+whole_set (y ∷ xs) zero x known h = (known, h.1)
+whole_set (y ∷ xs) (suc i) x known h = (h.0, whole_set xs i x known h.1)
 
-small_get : (xs : List Slot) (i : ℕ) → Each IsSmall xs → IsSmall (item_or Unset (slice_get xs i))
+pub whole_unset : (n : ℕ) → Each IsWhole (replicate n unset)
+whole_unset zero = tt
+whole_unset (suc n) = (tt, whole_unset n)
+
+whole_get : (xs : List Slot) (i : ℕ) → Each IsWhole xs → IsWhole (item_or unset (slice_get xs i))
 unfolding opened_lists
-small_get [] i h = tt
-small_get (x ∷ xs) zero h = h.0
-small_get (x ∷ xs) (suc i) h = small_get xs i h.1
+whole_get [] i h = tt
+whole_get (x ∷ xs) zero h = h.0
+whole_get (x ∷ xs) (suc i) h = whole_get xs i h.1
 
-small_in : (n i : ℕ) (as' : List Activation) → Each AreSmall as' → IsSmall (item_or Unset (slice_get (slots_in (first_with (λ a. nat_eq a.master n) as')) i))
+whole_in : (n i : ℕ) (as' : List Activation) → Each AreWhole as' → IsWhole (item_or unset (slice_get (slots_in (first_with (λ a. nat_eq a.master n) as')) i))
 unfolding slots_in
-small_in n i as' h = by (first_with (λ a. nat_eq a.master n) as') (each_found AreSmall (λ a. nat_eq a.master n) as' h)
+whole_in n i as' h = by (first_with (λ a. nat_eq a.master n) as') (each_found AreWhole (λ a. nat_eq a.master n) as' h)
   where
-    by : (o : Option Activation) → IfFound AreSmall o → IsSmall (item_or Unset (slice_get (slots_in o) i))
-    by None h1 = small_get [] i tt
-    by (Some a) h1 = small_get a.slots i h1
-
--- a cell that is written is all of its copy
-one_written : (x : ℕ) (s : Slot) → IsSmall s → overwritten 0 (x ∷ []) (copy_in s) ≡ x ∷ []
-unfolding opened_objects opened_names
-one_written x Unset h = refl
-one_written x (Holds n) h = refl
-one_written x (Binds n i p) h = refl
-one_written x (Gathers n) h = refl
-one_written x (Copies []) h = refl
-one_written x (Copies (y ∷ [])) h = refl
-one_written x (Copies (y ∷ z ∷ v)) h = absurd (omega (arith, h))
+    by : (o : Option Activation) → IfFound AreWhole o → IsWhole (item_or unset (slice_get (slots_in o) i))
+    by None h1 = whole_get [] i tt
+    by (Some a) h1 = whole_get a.slots i h1
 
 -- Layers ----------------------------------------------------------------------------------------------
 
@@ -186,7 +178,7 @@ module _ (k : Tables) (code : Code) where
     pub objects : Each (Settled w.ledger.next_master w.activations) w.objects
     pub numbers : Each (λ o. o.number < w.ledger.next_object) w.objects
     pub masters : Each AreSingle w.ledger.masters
-    pub copies : Each AreSmall w.activations
+    pub slots : Each AreWhole w.activations
     pub block_pools : w.pools.block_pools ≡ []
     pub mark_pools : w.pools.mark_pools ≡ []
 
@@ -224,35 +216,39 @@ module _ (k : Tables) (code : Code) where
 
   pub fits_empty : Fits empty_world
   unfolding opened_world
-  fits_empty = record { objects = tt; numbers = tt; masters = tt; copies = tt; block_pools = refl; mark_pools = refl }
+  fits_empty = record { objects = tt; numbers = tt; masters = tt; slots = tt; block_pools = refl; mark_pools = refl }
 
   fits_number : (w : World) → Fits w → Fits (take_object_number w)
   unfolding opened_changes opened_ledger
-  fits_number w h = record { objects = h.objects; numbers = each_all (λ o. o.number < w.ledger.next_object) (λ o. o.number < w.ledger.next_object + 1) (λ o lt. omega (arith, lt)) w.objects h.numbers; masters = h.masters; copies = h.copies; block_pools = h.block_pools; mark_pools = h.mark_pools }
+  fits_number w h = record { objects = h.objects; numbers = each_all (λ o. o.number < w.ledger.next_object) (λ o. o.number < w.ledger.next_object + 1) (λ o lt. omega (arith, lt)) w.objects h.numbers; masters = h.masters; slots = h.slots; block_pools = h.block_pools; mark_pools = h.mark_pools }
 
   pub since_number : (w0 w : World) → Since w0 w → Since w0 (take_object_number w)
   unfolding opened_changes opened_ledger
   since_number w0 w h = (fits_number w h.0, record { later = h.1.later; homes = h.1.homes })
 
-  fits_slot : (n i : ℕ) (x : Slot) (w : World) → IsSmall x → Fits w → Fits (set_slot n i x w)
+  fits_slot : (n i : ℕ) (x : Slot) (w : World) → IsWhole x → Fits w → Fits (set_slot n i x w)
   unfolding opened_changes opened_activations
-  fits_slot n i x w small h = record {
+  fits_slot n i x w whole h = record {
     objects = each_all (Settled w.ledger.next_master w.activations) (Settled w.ledger.next_master (change_each (λ a. nat_eq a.master n) (with_slot i x) w.activations)) (settled_in w.ledger.next_master w.ledger.next_master w.activations _ (omega arith) (λ m lt. home_slot m n i x w.activations)) w.objects h.objects;
     numbers = h.numbers;
     masters = h.masters;
-    copies = each_changed AreSmall _ (with_slot i x) (λ a y. small_set a.slots i x small y) w.activations h.copies;
+    slots = each_changed AreWhole _ (with_slot i x) (λ a y. whole_set a.slots i x whole y) w.activations h.slots;
     block_pools = h.block_pools;
     mark_pools = h.mark_pools;
   }
 
-  pub since_slot : (n i : ℕ) (x : Slot) (w0 w : World) → IsSmall x → Since w0 w → Since w0 (set_slot n i x w)
+  pub since_slot : (n i : ℕ) (x : Slot) (w0 w : World) → IsWhole x → Since w0 w → Since w0 (set_slot n i x w)
   unfolding opened_changes opened_activations
-  since_slot n i x w0 w small h = (fits_slot n i x w small h.0, record { later = h.1.later; homes = λ m lt. home_slot m n i x w.activations ∙ h.1.homes m lt })
+  since_slot n i x w0 w whole h = (fits_slot n i x w whole h.0, record { later = h.1.later; homes = λ m lt. home_slot m n i x w.activations ∙ h.1.homes m lt })
 
-  -- the copy in a slot is written
-  pub written_is : (n i x : ℕ) (w : World) → Fits w → overwritten 0 (x ∷ []) (copy_in (slot_at n i w)) ≡ x ∷ []
-  unfolding slot_at opened_activations
-  written_is n i x w h = one_written x _ (small_in n i w.activations h.copies)
+  -- what a slot holds is whole
+  pub whole_at : (n i : ℕ) (w : World) → Fits w → IsWhole (slot_at n i w)
+  unfolding slot_at slot_in activation_at
+  whole_at n i w h = whole_in n i w.activations h.slots
+
+  pub since_value : (n i x : ℕ) (w0 w : World) → Since w0 w → Since w0 (set_value n i x w)
+  unfolding set_value
+  since_value n i x w0 w h = since_slot n i _ w0 w (whole_at n i w h.0) h
 
   pub fits_create : (ty : Ty) (cells : List ℕ) (m : ℕ) (w : World) → IsPlainType k ty → m < w.ledger.next_master → IsInside code ty (length (home m w.activations)) → Fits w → Fits (create ty cells (Declared m) w)
   unfolding opened_changes opened_ledger
@@ -260,7 +256,7 @@ module _ (k : Tables) (code : Code) where
     objects = each_and (Settled w.ledger.next_master w.activations) w.objects _ (record { plain = known; master = m; origin = refl; old = old; inside = inside }) h.objects;
     numbers = each_and (λ o. o.number < w.ledger.next_object + 1) w.objects _ (omega arith) (each_all (λ o. o.number < w.ledger.next_object) (λ o. o.number < w.ledger.next_object + 1) (λ o lt. omega (arith, lt)) w.objects h.numbers);
     masters = h.masters;
-    copies = h.copies;
+    slots = h.slots;
     block_pools = h.block_pools;
     mark_pools = h.mark_pools;
   }
@@ -271,11 +267,11 @@ module _ (k : Tables) (code : Code) where
 
   pub since_layer : (m n : ℕ) (w0 w : World) → Since w0 w → Since w0 (add_layer m (Single n) w)
   unfolding opened_changes opened_ledger
-  since_layer m n w0 w h = (record { objects = h.0.objects; numbers = h.0.numbers; masters = each_changed AreSingle _ (with_layer (Single n)) (λ x y. (tt, y)) w.ledger.masters h.0.masters; copies = h.0.copies; block_pools = h.0.block_pools; mark_pools = h.0.mark_pools }, record { later = h.1.later; homes = h.1.homes })
+  since_layer m n w0 w h = (record { objects = h.0.objects; numbers = h.0.numbers; masters = each_changed AreSingle _ (with_layer (Single n)) (λ x y. (tt, y)) w.ledger.masters h.0.masters; slots = h.0.slots; block_pools = h.0.block_pools; mark_pools = h.0.mark_pools }, record { later = h.1.later; homes = h.1.homes })
 
   pub since_take : (m : ℕ) (w0 w : World) → Since w0 w → Since w0 (take_layer m w)
   unfolding opened_changes opened_ledger
-  since_take m w0 w h = (record { objects = h.0.objects; numbers = h.0.numbers; masters = each_changed AreSingle _ without_newest (λ x y. all_but_newest x.layers y) w.ledger.masters h.0.masters; copies = h.0.copies; block_pools = h.0.block_pools; mark_pools = h.0.mark_pools }, record { later = h.1.later; homes = h.1.homes })
+  since_take m w0 w h = (record { objects = h.0.objects; numbers = h.0.numbers; masters = each_changed AreSingle _ without_newest (λ x y. all_but_newest x.layers y) w.ledger.masters h.0.masters; slots = h.0.slots; block_pools = h.0.block_pools; mark_pools = h.0.mark_pools }, record { later = h.1.later; homes = h.1.homes })
 
   same_finalized : (o : Object) → (with_finalized o).ty ≡ o.ty
   unfolding with_finalized
@@ -306,11 +302,11 @@ module _ (k : Tables) (code : Code) where
 
   pub since_begin : (n : ℕ) (w0 w : World) → Since w0 w → Since w0 (begin_finalization n w)
   unfolding opened_changes opened_objects
-  since_begin n w0 w h = (record { objects = each_changed (Settled w.ledger.next_master w.activations) _ with_begun (λ o y. settled_as w.ledger.next_master w.activations o (with_begun o) refl refl y) w.objects h.0.objects; numbers = each_changed (λ o. o.number < w.ledger.next_object) _ with_begun (λ o y. y) w.objects h.0.numbers; masters = h.0.masters; copies = h.0.copies; block_pools = h.0.block_pools; mark_pools = h.0.mark_pools }, record { later = h.1.later; homes = h.1.homes })
+  since_begin n w0 w h = (record { objects = each_changed (Settled w.ledger.next_master w.activations) _ with_begun (λ o y. settled_as w.ledger.next_master w.activations o (with_begun o) refl refl y) w.objects h.0.objects; numbers = each_changed (λ o. o.number < w.ledger.next_object) _ with_begun (λ o y. y) w.objects h.0.numbers; masters = h.0.masters; slots = h.0.slots; block_pools = h.0.block_pools; mark_pools = h.0.mark_pools }, record { later = h.1.later; homes = h.1.homes })
 
   pub since_end : (n : ℕ) (w0 w : World) → Since w0 w → Since w0 (end_finalization n w)
   unfolding opened_changes opened_objects
-  since_end n w0 w h = (record { objects = each_changed (Settled w.ledger.next_master w.activations) _ with_finalized (λ o y. settled_as w.ledger.next_master w.activations o (with_finalized o) (same_finalized o) (same_origin o) y) w.objects h.0.objects; numbers = each_changed (λ o. o.number < w.ledger.next_object) _ with_finalized (λ o y. subst (λ m. m < w.ledger.next_object) (sym (same_number o)) y) w.objects h.0.numbers; masters = h.0.masters; copies = h.0.copies; block_pools = h.0.block_pools; mark_pools = h.0.mark_pools }, record { later = h.1.later; homes = h.1.homes })
+  since_end n w0 w h = (record { objects = each_changed (Settled w.ledger.next_master w.activations) _ with_finalized (λ o y. settled_as w.ledger.next_master w.activations o (with_finalized o) (same_finalized o) (same_origin o) y) w.objects h.0.objects; numbers = each_changed (λ o. o.number < w.ledger.next_object) _ with_finalized (λ o y. subst (λ m. m < w.ledger.next_object) (sym (same_number o)) y) w.objects h.0.numbers; masters = h.0.masters; slots = h.0.slots; block_pools = h.0.block_pools; mark_pools = h.0.mark_pools }, record { later = h.1.later; homes = h.1.homes })
 
   -- a master is entered ------------------------------------------------------------------------------
 
@@ -330,13 +326,13 @@ module _ (k : Tables) (code : Code) where
   unfolding open_master opened_ledger
   keeps_open d slots w = record { later = omega arith; homes = λ n lt. home_open n d slots w lt }
 
-  pub fits_open : (d : List ℕ) (slots : List Slot) (w : World) → Each IsSmall slots → Fits w → Fits (open_master d slots w)
+  pub fits_open : (d : List ℕ) (slots : List Slot) (w : World) → Each IsWhole slots → Fits w → Fits (open_master d slots w)
   unfolding open_master opened_ledger opened_activations
-  fits_open d slots w small h = record {
+  fits_open d slots w whole h = record {
     objects = each_all (Settled w.ledger.next_master w.activations) (Settled (w.ledger.next_master + 1) (open_master d slots w).activations) (settled_in w.ledger.next_master (w.ledger.next_master + 1) w.activations (open_master d slots w).activations (omega arith) (λ n lt. home_open n d slots w lt)) w.objects h.objects;
     numbers = h.numbers;
     masters = (tt, h.masters);
-    copies = (small, h.copies);
+    slots = (whole, h.slots);
     block_pools = h.block_pools;
     mark_pools = h.mark_pools;
   }
@@ -348,7 +344,7 @@ module _ (k : Tables) (code : Code) where
     objects = each_kept (Settled w.ledger.next_master w.activations) (Settled w.ledger.next_master (keep (λ a. not (nat_eq a.master m)) w.activations)) _ left w.objects h.objects;
     numbers = each_kept (λ o. o.number < w.ledger.next_object) (λ o. o.number < w.ledger.next_object) _ (λ o e y. y) w.objects h.numbers;
     masters = each_kept AreSingle AreSingle (λ x. not (nat_eq x.number m)) (λ x e y. y) w.ledger.masters h.masters;
-    copies = each_kept AreSmall AreSmall (λ a. not (nat_eq a.master m)) (λ x e y. y) w.activations h.copies;
+    slots = each_kept AreWhole AreWhole (λ a. not (nat_eq a.master m)) (λ x e y. y) w.activations h.slots;
     block_pools = ap (keep _) h.block_pools;
     mark_pools = ap (keep _) h.mark_pools;
   }

@@ -6,7 +6,7 @@ use Rattle.std.proofs.lemmas.Option.{slice_get_within}
 use Rattle.ctl_program.specs.declared.types.Ty.TheVariants.{Integer}
 use Rattle.ctl_program.specs.declared.operators.Direction.{Direction}
 use Rattle.ctl_program.specs.declared.operators.Direction.TheVariants.{Upward, Downward}
-use Rattle.ctl_meaning.specs.World.{World, Copies}
+use Rattle.ctl_meaning.specs.World.{World}
 use Rattle.ctl_meaning.specs.Lists.{last_of, opened_lists}
 use Rattle.ctl_meaning.specs.Names.{opened_names}
 use Rattle.ctl_code.specs.declared.kinds.Kind.{Kind}
@@ -28,7 +28,7 @@ use Rattle.ctl_machine.proofs.Lists.{get_left, set_right, length_set}
 use Rattle.ctl_machine.proofs.Slots.{tall_is}
 use Rattle.ctl_machine.specs.Variables.{IsVariable}
 use Rattle.ctl_machine.proofs.Places.{place_is, variable_is}
-use Rattle.ctl_machine.proofs.Values.{window_in, variable_read, slot_put}
+use Rattle.ctl_machine.proofs.Values.{window_in, variable_read, value_put}
 use Rattle.ctl_machine.proofs.Plain.{goes_makes}
 use Rattle.ctl_machine.proofs.Operands.{AreNewest, are_newest}
 
@@ -44,10 +44,6 @@ last_is : (d : List ℕ) → last_of d ≡ out_of d 0
 unfolding opened_lists
 last_is [] = refl
 last_is (x ∷ d) = rw (newest_is_last x d) refl
-
-cell_of_one : (x : ℕ) → cell_in (Copies (x ∷ [])) ≡ x
-unfolding opened_lists opened_names
-cell_of_one x = refl
 
 -- A bound is written ------------------------------------------------------------------------------------
 
@@ -137,11 +133,11 @@ turn_goes code old new place low slot parameter way below k ops w x l leads g =
     let at = first_window e.masters + parameter in
     let turned = upper_of way x l.bounds.upper ∷ lower_of way x l.bounds.lower ∷ l.bounds.rest in
     let v = parameter_is code e low slot parameter below k ops w l in
-    let p = slot_put code (with_cells e cells) k turned w (last_of d) slot at (Copies (x ∷ [])) v.master (bound_set code e low slot parameter way below k ops w x l) v.among (last_is d ∙ v.number) v.within v.cell in
+    let p = value_put code (with_cells e cells) k turned w (last_of d) slot at x v.master (bound_set code e low slot parameter way below k ops w x l) v.among (last_is d ∙ v.number) v.within v.cell in
     let inside : Inside code (with_cells e (slice_set cells at x)) (Operand Integer ∷ Operand Integer ∷ below) k turned (with_parameter d slot x w) = record {
       stands = l.bounds.left.stands;
       sized = subst (λ (hs : List Head). Sized code below k hs) (sym p.2) l.bounds.left.sized;
-      holds = subst (λ c. Holds code (with_cells e (slice_set cells at c)) k turned (with_parameter d slot x w)) (cell_of_one x) p.0;
+      holds = p.0;
     } in
     subst (λ (hs : List Head). Makes code old new (quiet (At (first_display hs) place) k turned (with_parameter d slot x w))) p.2
     (goes_makes code old new place (Operand Integer ∷ Operand Integer ∷ below) k turned (with_parameter d slot x w) (slice_set cells at x) leads inside g)

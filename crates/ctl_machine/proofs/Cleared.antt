@@ -2,7 +2,7 @@
 use Rattle.std.proofs.Common.{◌≡◌, ℕ, zero, suc, ◌+◌, ◌<◌, ◌≤◌, List, [], ◌∷◌, ◌++◌, length, refl, sym, ap, ◌∙◌, subst, arith, map, replicate}
 use Rattle.std.specs.Prelude.{slice_set}
 use Rattle.std.proofs.lemmas.List.{length-append, append-nil, append_assoc, length-replicate}
-use Rattle.ctl_meaning.specs.World.{Unset}
+use Rattle.ctl_meaning.specs.World.{unset}
 use Rattle.ctl_meaning.specs.Lists.{opened_lists}
 use Rattle.ctl_meaning.specs.Names.{opened_names}
 use Rattle.ctl_machine.specs.Under.{cell_in}
@@ -34,7 +34,7 @@ cleared_is below rest base (suc n) e within =
     let last = set_last front ih.0 0 (base + n) long there in
     (last.0, ap (λ l. slice_set l (base + n) 0) ih.1 ∙ (last.1 ∙ ap (λ l. l ++ last.0) (append_assoc below (replicate n 0) (0 ∷ []) ∙ ap (λ (l : List ℕ). below ++ l) (zero_last n))))
 
-pub unset_cells : (n : ℕ) → map cell_in (replicate n Unset) ≡ replicate n 0
+pub unset_cells : (n : ℕ) → map cell_in (replicate n unset) ≡ replicate n 0
 unfolding opened_lists opened_names
 unset_cells zero = refl
 unset_cells (suc n) = ap (λ l. 0 ∷ l) (unset_cells n)

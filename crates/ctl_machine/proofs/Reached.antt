@@ -3,7 +3,7 @@ use Rattle.std.proofs.Common.{◌≡◌, ℕ, zero, suc, ◌+◌, ◌-◌, ◌<�
 use Rattle.std.specs.Prelude.{slice_get}
 use Rattle.std.proofs.lemmas.List.{reverse-append, reverse-reverse}
 use Rattle.ctl_meaning.specs.World as W
-use Rattle.ctl_meaning.specs.World.{World, Slot, Unset, Activation}
+use Rattle.ctl_meaning.specs.World.{World, Slot, unset, Activation}
 use Rattle.ctl_meaning.specs.Lists.{item_or, opened_lists}
 use Rattle.ctl_meaning.specs.Activations.{slot_in, opened_activations}
 use Rattle.ctl_meaning.specs.Names.{opened_names}
@@ -87,19 +87,19 @@ no_zero ms [] ks owned bound a b = tt
 no_zero [] (x ∷ acts) ks owned bound a b = elim a [ ]
 no_zero (m ∷ ms) (x ∷ acts) _ _ bound (newest_master {ks = ks} {owned = owned} h o r) b = ((λ same. let p = bound_rises ms m.number b.1 in let i = h.head in omega (arith, same, i, p)), no_zero ms acts ks _ m.number r b.1)
 
-not_there : (n slot : ℕ) (acts : List Activation) → HaveNo n acts → slot_in n slot acts ≡ Unset
+not_there : (n slot : ℕ) (acts : List Activation) → HaveNo n acts → slot_in n slot acts ≡ unset
 unfolding opened_lists opened_activations
 not_there n slot [] none = refl
 not_there n slot (x ∷ acts) none = rw (eq_differs x.master n none.0) (not_there n slot acts none.1)
 
 -- a slot that the master does not have
-beyond_is_unset : (xs : List Slot) (slot : ℕ) → length xs ≤ slot → item_or Unset (slice_get xs slot) ≡ Unset
+beyond_is_unset : (xs : List Slot) (slot : ℕ) → length xs ≤ slot → item_or unset (slice_get xs slot) ≡ unset
 unfolding opened_lists
 beyond_is_unset [] slot less = refl
 beyond_is_unset (x ∷ xs) zero less = absurd (omega (arith, less))
 beyond_is_unset (x ∷ xs) (suc slot) less = beyond_is_unset xs slot (omega (arith, less))
 
-beyond_in : (ms : List Master) (acts : List Activation) (ks : List W.Master) (owned : List Owned) (bound : ℕ) (x : Master) (slot : ℕ) → AreMasters ms (heads_of acts) ks owned → AreBelow ms bound → IsAmong x ms → x.slots ≤ slot → slot_in x.number slot acts ≡ Unset
+beyond_in : (ms : List Master) (acts : List Activation) (ks : List W.Master) (owned : List Owned) (bound : ℕ) (x : Master) (slot : ℕ) → AreMasters ms (heads_of acts) ks owned → AreBelow ms bound → IsAmong x ms → x.slots ≤ slot → slot_in x.number slot acts ≡ unset
 beyond_in [] acts ks owned bound x slot a b i less = absurd i
 beyond_in (m ∷ ms) [] ks owned bound x slot a b i less = elim a [ ]
 beyond_in (m ∷ ms) (act ∷ acts) _ _ bound x slot (newest_master h o r) b (inl e) less =
@@ -108,7 +108,7 @@ beyond_in (m ∷ ms) (act ∷ acts) _ _ bound x slot (newest_master h o r) b (in
 beyond_in (m ∷ ms) (act ∷ acts) _ _ bound x slot (newest_master {ks = ks} h o r) b (inr i) less =
     slot_of_other x.number m.number slot act acts h.head (is_older ms x m.number b.1 i) ∙ beyond_in ms acts ks _ m.number x slot r b.1 i less
 
-unset_reads_zero : (d : List ℕ) (out slot : ℕ) (w : World) → slot_in (out_of d out) slot w.activations ≡ Unset → cell_at d out slot w ≡ 0
+unset_reads_zero : (d : List ℕ) (out slot : ℕ) (w : World) → slot_in (out_of d out) slot w.activations ≡ unset → cell_at d out slot w ≡ 0
 unfolding opened_names opened_lists
 unset_reads_zero d out slot w e = rw e refl
 

@@ -3,11 +3,9 @@ use Rattle.std.proofs.Common.{◌≡◌, ℕ, zero, suc, ◌+◌, ◌≤◌, Lis
 use Rattle.std.specs.Prelude.{slice_get, slice_set}
 use Rattle.ctl_program.specs.declared.types.Ty.{Ty}
 use Rattle.ctl_meaning.specs.World as W
-use Rattle.ctl_meaning.specs.World.{World, Slot, Copies, Activation}
-use Rattle.ctl_meaning.specs.Objects.{overwritten}
+use Rattle.ctl_meaning.specs.World.{World, Slot, Activation}
 use Rattle.ctl_meaning.specs.Activations.{change_slot}
-use Rattle.ctl_meaning.specs.Changes.{set_slot, opened_changes}
-use Rattle.ctl_meaning.specs.Names.{copy_in, slot_at}
+use Rattle.ctl_meaning.specs.Changes.{set_slot, slot_at, set_value, opened_changes}
 use Rattle.ctl_code.specs.declared.code.Code.{Code}
 use Rattle.ctl_code.specs.declared.code.Cell.{Cell}
 use Rattle.ctl_code.specs.declared.code.Instr.TheVariants.{Store}
@@ -23,7 +21,7 @@ use Rattle.ctl_machine.specs.Shows.{Sized, Kept, Holds, kept, with_cells}
 use Rattle.ctl_machine.specs.Moves.{Before, Makes, GoesOn, here_of}
 use Rattle.ctl_machine.specs.Variables.{IsVariable, IsNoVariable}
 use Rattle.ctl_machine.proofs.Slots.{HaveNo, unwritten, own_written, other_written, is_older}
-use Rattle.ctl_machine.proofs.Values.{IsTaken, taken, slot_put, cell_of_copy}
+use Rattle.ctl_machine.proofs.Values.{IsTaken, taken, value_put}
 use Rattle.ctl_machine.proofs.Plain.{goes_makes}
 use Rattle.ctl_machine.proofs.Computed.{cell_of, same_value}
 use Rattle.ctl_machine.proofs.Reached.{no_zero}
@@ -56,11 +54,15 @@ set_nothing : (n slot : ℕ) (y : Slot) (w : World) → change_slot n slot y w.a
 unfolding opened_changes
 set_nothing n slot y w e = ap (λ (l : List Activation). record w { activations = l }) e
 
+nothing_valued : (n slot x : ℕ) (w : World) → ((y : Slot) → change_slot n slot y w.activations ≡ w.activations) → set_value n slot x w ≡ w
+unfolding set_value
+nothing_valued n slot x w e = set_nothing n slot (record (slot_at n slot w) { value = x }) w (e (record (slot_at n slot w) { value = x }))
+
 nothing_written : (code : Code) (e : Kept) (k : List T.Frame) (ops : List ℕ) (w : World) (d : List ℕ) (out slot x : ℕ) → Holds code e k ops w → IsNoVariable d out slot e.masters → with_cell d out slot x w ≡ w
 nothing_written code e k ops w d out slot x h (inl none) =
-    set_nothing (out_of d out) slot (Copies (overwritten 0 (x ∷ []) (copy_in (slot_at (out_of d out) slot w)))) w (ap (λ n. change_slot n slot (Copies (overwritten 0 (x ∷ []) (copy_in (slot_at (out_of d out) slot w)))) w.activations) none ∙ unwritten 0 slot (Copies (overwritten 0 (x ∷ []) (copy_in (slot_at (out_of d out) slot w)))) w.activations (no_zero e.masters w.activations w.ledger.masters e.owned e.next_master h.masters h.below))
+    nothing_valued (out_of d out) slot x w (λ y. ap (λ n. change_slot n slot y w.activations) none ∙ unwritten 0 slot y w.activations (no_zero e.masters w.activations w.ledger.masters e.owned e.next_master h.masters h.below))
 nothing_written code e k ops w d out slot x h (inr v) =
-    set_nothing (out_of d out) slot (Copies (overwritten 0 (x ∷ []) (copy_in (slot_at (out_of d out) slot w)))) w (ap (λ n. change_slot n slot (Copies (overwritten 0 (x ∷ []) (copy_in (slot_at (out_of d out) slot w)))) w.activations) v.number ∙ beyond_written e.masters w.activations w.ledger.masters e.owned e.next_master v.master slot (Copies (overwritten 0 (x ∷ []) (copy_in (slot_at (out_of d out) slot w)))) h.masters h.below v.among v.beyond)
+    nothing_valued (out_of d out) slot x w (λ y. ap (λ n. change_slot n slot y w.activations) v.number ∙ beyond_written e.masters w.activations w.ledger.masters e.owned e.next_master v.master slot y h.masters h.below v.among v.beyond)
 
 -- A value is given ----------------------------------------------------------------------------------------
 
@@ -82,8 +84,7 @@ pub store_makes : (code : Code) (e new : Engine) (place : ℕ) (s : State) (from
 store_makes code e new place s from ty out slot at x b read v g =
     let d = first_display (heads_of s.world.activations) in
     let t = from_taken code e place s from ty out slot b in
-    let y : Slot = Copies (overwritten 0 (x ∷ []) (copy_in (slot_at (out_of d out) slot s.world))) in
-    let p = slot_put code (kept e) s.control t.rest s.world (out_of d out) slot at y v.master t.left.holds v.among v.number v.within v.cell in
+    let p = value_put code (kept e) s.control t.rest s.world (out_of d out) slot at x v.master t.left.holds v.among v.number v.within v.cell in
     let w' = with_cell d out slot x s.world in
     stored_move code e new place s from ty out slot x b read
     (subst (λ (hs : List Head). Makes code e new (quiet (At (first_display hs) (place + 1)) s.control t.rest w')) p.2
@@ -91,7 +92,7 @@ store_makes code e new place s from ty out slot at x b read v g =
     (record {
       stands = t.left.stands;
       sized = subst (λ hs. Sized code b.fine.1.0 s.control hs) (sym p.2) t.left.sized;
-      holds = subst (λ c. Holds code (with_cells (kept e) (slice_set e.cells.items at c)) s.control t.rest w') (cell_of_copy x (copy_in (slot_at (out_of d out) slot s.world))) p.0;
+      holds = p.0;
     }) g))
 
 pub store_none : (code : Code) (e new : Engine) (place : ℕ) (s : State) (from : Cell) (ty : Ty) (out slot x : ℕ) → Before code e place (Store from ty out slot) s → slice_get e.cells.items (cell_of e from) ≡ Some x → IsNoVariable (first_display (heads_of s.world.activations)) out slot (kept e).masters

@@ -5,8 +5,8 @@ use Rattle.ctl_meaning.specs.Lists.{keep, any_of, change_each, change_first, pul
 use Rattle.ctl_meaning.specs.Objects.{change_in, with_cells, with_begun, with_joined, with_finalized, is_untouched}
 use Rattle.ctl_meaning.specs.Types.{Tables}
 use Rattle.ctl_meaning.specs.Members.{Group, is_of_group, member_of, is_due, is_candidate, candidates_of}
-use Rattle.ctl_meaning.specs.Changes.{take_object_number, new_object, create, create_at, put_into, write_cells, forget, forget_all, open_master, close_master, add_layer, take_layer, set_slot, add_collection, start_collections, join, begin_finalization, end_finalization, in_pools, close_pool_at, empty_subpool}
-use Rattle.ctl_meaning.proofs.Relation.{Edit, numbers, creates, creates_at, writes, forgets, opens, closes, layers, takes, sets, gathers, starts, begins, ends, stores, shuts, empties}
+use Rattle.ctl_meaning.specs.Changes.{take_object_number, new_object, create, create_at, put_into, write_cells, forget, forget_all, open_master, close_master, add_layer, take_layer, set_slot, set_value, add_collection, start_collections, join, begin_finalization, end_finalization, in_pools, close_pool_at, empty_subpool}
+use Rattle.ctl_meaning.proofs.Relation.{Edit, numbers, creates, creates_at, writes, forgets, opens, closes, layers, takes, sets, assigns, gathers, starts, begins, ends, stores, shuts, empties}
 
 -- Fewer ---------------------------------------------------------------------------------
 
@@ -93,7 +93,7 @@ module _ (t : Tables) where
 
   -- no change adds one
   pub edits_count : {f : World → World} → Edit f → (w : World) → count (f w) ≤ count w
-  unfolding take_object_number create_at write_cells forget forget_all open_master close_master add_layer take_layer set_slot add_collection start_collections begin_finalization end_finalization in_pools close_pool_at empty_subpool change_in
+  unfolding take_object_number create_at write_cells forget forget_all open_master close_master add_layer take_layer set_slot set_value add_collection start_collections begin_finalization end_finalization in_pools close_pool_at empty_subpool change_in
   edits_count numbers w = omega arith
   edits_count (creates ty cells origin) w = creates_count ty cells origin w
   edits_count (creates_at ty cells set place) w = at_most _ _ _ (puts_count place w.ledger.next_object (create ty cells (Allocated set place) w)) (creates_count ty cells (Allocated set place) w)
@@ -104,6 +104,7 @@ module _ (t : Tables) where
   edits_count (layers n x) w = omega arith
   edits_count (takes n) w = omega arith
   edits_count (sets n i x) w = omega arith
+  edits_count (assigns n i x) w = omega arith
   edits_count (gathers n i x) w = omega arith
   edits_count (starts xs) w = omega arith
   edits_count (begins n) w = changes_fewer (is_due t) _ _ w.objects begun_due

@@ -24,14 +24,14 @@ use Rattle.ctl_program.specs.declared.statement.Choices.{Choices}
 use Rattle.ctl_tree.specs.declared.event.Event.{Event}
 use Rattle.ctl_tree.specs.declared.event.Cause.{Cause}
 use Rattle.ctl_tree.specs.declared.event.Cause as CauseOf
-use Rattle.ctl_meaning.specs.World.{Member, Layer, Single, Sets, Origin, Declared, Allocated, Place, Standard, InBlock, InSubpool, Object, Slot, BlockPool as BlockPoolRecord, MarkPool as MarkPoolRecord}
+use Rattle.ctl_meaning.specs.World.{Member, Layer, Single, Sets, Origin, Declared, Allocated, Place, Standard, InBlock, InSubpool, Object, Content, Nothing, Holds, Binds, Copies, Gathers, Slot, BlockPool as BlockPoolRecord, MarkPool as MarkPoolRecord}
 use Rattle.ctl_meaning.specs.Lists.{pull_item, pull_rest}
 use Rattle.ctl_meaning.specs.Changes.{object_at}
 use Rattle.ctl_meaning.specs.Members.{Group}
 use Rattle.ctl_meaning.specs.Choice.{Ask}
 use Rattle.ctl_meaning.specs.Outcome.{Way, ByRaise, Result, Goes, Leaves, Act, Done, on_goes, ◌>>=◌, ◌>>◌, done, nothing, leave_by, raise, ticked, spend, choose, raised_by, tried, told, attempt, Tried, Fine, Raised, when, either, on_some}
 use Rattle.ctl_meaning.specs.Types.{Tables, Category, Elementary, Composite, category_of, Placed, depth, of_record}
-use Rattle.ctl_meaning.specs.Names.{OfSubprogram, OfAllocator, Call as Caller, Default, Tools, Found, InObject, InCopy, Alone, gone, existing, must_exist, read_part, write_part, read_found, write_found, find_var, dereferenced, narrowed, one_step, walk, begins_as, or_constraint_error}
+use Rattle.ctl_meaning.specs.Names.{OfSubprogram, OfAllocator, Call as Caller, Default, Tools, Found, InObject, InVariable, InCopy, Alone, gone, existing, must_exist, read_part, write_part, read_found, write_found, found_in, find_var, dereferenced, narrowed, one_step, walk, begins_as, or_constraint_error}
 use Rattle.ctl_meaning.specs.Marks.{with_mark_pool, mark, default_subpool, subpool_function, discriminant}
 use Rattle.ctl_meaning.specs.Expressions.{Passed, no_actuals, with_formal, bound, by_reference, copied, by_copy, copy_back, call_with, Valued, Naming, Applied, Supplied, pass_each, apply_each, join_each, var_part, if_given, operands, allocator, eval_step, operand_step, name_step, actual_step}
 use Rattle.ctl_meaning.specs.Finalization.{Spot, whole, component_at, no_component, with_home, call_operation, Chosen, Every, These, after_finalize, own_finalize, in_any_order, parts_to_finalize, finalize_part, finalize, finalize_begun, finalize_object, finalize_if_controlled, finalize_failed, finalize_group}
@@ -43,7 +43,7 @@ use Rattle.ctl_meaning.specs.Masters.{finalize_declared, finalize_sets, finalize
 use Rattle.ctl_meaning.specs.Statements as S
 use Rattle.ctl_meaning.specs.Statements.{dispatch, join_pieces, eval_text, spot_of, overwrite, assign_record, leaving, turned, loop, one_turn, while, for_turns, for, set_loop, handled, Doing, Guarding, Body, do_each, do_first, handle, scalar}
 use Rattle.ctl_meaning.specs.Run.{Routine, returned, run_routine}
-use Rattle.ctl_meaning.proofs.Relation.{numbers, creates, creates_at, writes, forgets, opens, closes, layers, takes, sets, gathers, starts, begins, ends, stores, shuts, empties, Closed, Each, IfSome}
+use Rattle.ctl_meaning.proofs.Relation.{numbers, creates, creates_at, writes, forgets, opens, closes, layers, takes, sets, assigns, gathers, starts, begins, ends, stores, shuts, empties, Closed, Each, IfSome}
 
 module _ (t : Tables) (ask other : Ask) (call spare : Caller) (default fallback : Default) (Rel : (A : Type 0) → Act A → Act A → Type 0) (closed : Closed t ask other Rel) where
   abbrev Same : {A : Type 0} → Act A → Act A → Type 0
@@ -151,19 +151,29 @@ module _ (t : Tables) (ask other : Ask) (call spare : Caller) (default fallback 
   k_read_found : (n : ℕ) (f : Found) → Same (read_found n f) (read_found n f)
   unfolding read_found
   k_read_found n (InObject o x path) = k_read_part o x n
+  k_read_found n (InVariable m i) = closed.looks (λ w. k_done _)
   k_read_found n (InCopy m i x) = closed.looks (λ w. k_done _)
   k_read_found n (Alone v) = k_done _
 
   k_write_found : (f : Found) (v : List ℕ) → Same (write_found f v) (write_found f v)
   unfolding write_found
   k_write_found (InObject o x path) v = k_write_part o x v
+  k_write_found (InVariable m i) v = closed.changes (assigns m i _)
   k_write_found (InCopy m i x) v = closed.looks (λ w. closed.changes (sets m i _))
   k_write_found (Alone u) v = k_nothing
+
+  k_found_in : (m i : ℕ) (h : Content) → Same (found_in m i h) (found_in m i h)
+  unfolding found_in
+  k_found_in m i Nothing = k_gone
+  k_found_in m i (Holds o) = k_done _
+  k_found_in m i (Binds o x path) = k_done _
+  k_found_in m i (Copies v) = k_done _
+  k_found_in m i (Gathers n) = k_gone
 
   k_find_var : (c : Category) (env : List ℕ) (v : Var) → Same (find_var c env v) (find_var c env v)
   unfolding find_var
   k_find_var Elementary env v = k_done _
-  k_find_var Composite env v = closed.looks (λ w. k_done _)
+  k_find_var Composite env v = closed.looks (λ w. k_found_in _ _ _)
 
   k_dereferenced : (n : ℕ) → Same (dereferenced n) (dereferenced n)
   unfolding dereferenced
@@ -200,6 +210,7 @@ module _ (t : Tables) (ask other : Ask) (call spare : Caller) (default fallback 
   k_bound : (f : Found) → Same (bound f) (bound f)
   unfolding bound
   k_bound (InObject o x path) = k_done _
+  k_bound (InVariable m i) = closed.looks (λ w. k_done _)
   k_bound (InCopy m i x) = closed.looks (λ w. k_done _)
   k_bound (Alone v) = k_done _
 
@@ -651,7 +662,7 @@ module _ (t : Tables) (ask other : Ask) (call spare : Caller) (default fallback 
 
       k_declare : (c : Category) (m slot : ℕ) (ty : Ty) (v : Option (List ℕ)) → Same (declare c k m slot ty v) (declare c j m slot ty v)
       unfolding declare
-      k_declare Elementary m slot ty v = k_then (closed.changes numbers) (closed.changes (sets m slot _))
+      k_declare Elementary m slot ty v = k_then (closed.changes numbers) (closed.changes (assigns m slot _))
       k_declare Composite m slot ty v =
           closed.looks (λ w. k_then (k_then (k_then (closed.changes (creates ty _ _)) (closed.changes (sets m slot _))) (k_fill _ _ ty v)) (closed.changes (layers m _)))
 
@@ -780,7 +791,7 @@ module _ (t : Tables) (ask other : Ask) (call spare : Caller) (default fallback 
 
       k_set_loop : (env : List ℕ) (v : Var) (z : ℤ) → Same (set_loop env v z) (set_loop env v z)
       unfolding set_loop
-      k_set_loop env v z = closed.changes (sets _ _ _)
+      k_set_loop env v z = closed.changes (assigns _ _ _)
 
       -- What holds of statements ---------------------------------------------------------------
 

@@ -10,7 +10,7 @@ use Rattle.ctl_meaning.specs.World.{Place, Standard, InBlock, InSubpool, Allocat
 use Rattle.ctl_meaning.specs.Lists.{keep, change_each, change_first}
 use Rattle.ctl_meaning.specs.Ledger.{take_number, enter_master, push_layer, drop_layer, drop_master, push_collection, start_sets}
 use Rattle.ctl_meaning.specs.Objects.{change_in, with_cells, with_begun, with_joined, with_finalized, is_untouched}
-use Rattle.ctl_meaning.specs.Changes.{take_object_number, object_at, new_object, create, create_at, put_into, write_cells, forget, forget_all, open_master, close_master, add_layer, take_layer, set_slot, add_collection, start_collections, join, begin_finalization, end_finalization, in_pools, close_pool_at, empty_subpool}
+use Rattle.ctl_meaning.specs.Changes.{take_object_number, object_at, new_object, create, create_at, put_into, write_cells, forget, forget_all, open_master, close_master, add_layer, take_layer, set_slot, set_value, add_collection, start_collections, join, begin_finalization, end_finalization, in_pools, close_pool_at, empty_subpool}
 use Rattle.ctl_meaning.specs.Members.{Group, candidates_of}
 use Rattle.ctl_meaning.specs.Choice.{Ask, picked}
 use Rattle.ctl_meaning.specs.Outcome.{Result, Goes, Leaves, Out, Gives, Stops, Cut, Act, Done, add, bind, given, then_always, stop, counted, spend, look, change, show, after_pick, answered, choose, leave_by, nothing, done, ticked, on_goes, either, on_some, ◌>>=◌, ◌>>◌}
@@ -22,7 +22,7 @@ use Rattle.ctl_meaning.specs.Statements.{turned, turns, loop, one_turn, while, e
 use Rattle.ctl_meaning.specs.Run.{meaning_of, completed, execute, execution, tools_with}
 use Rattle.ctl_meaning.specs.Emptied.{AllAbove, Ascend, AllBelow, numbers_of, InOrder, StaysInOrder}
 use Rattle.ctl_meaning.proofs.Candidates.{ascend_kept}
-use Rattle.ctl_meaning.proofs.Relation.{Edit, numbers, creates, creates_at, writes, forgets, opens, closes, layers, takes, sets, gathers, starts, begins, ends, stores, shuts, empties, Closed}
+use Rattle.ctl_meaning.proofs.Relation.{Edit, numbers, creates, creates_at, writes, forgets, opens, closes, layers, takes, sets, assigns, gathers, starts, begins, ends, stores, shuts, empties, Closed}
 use Rattle.ctl_meaning.proofs.Bodies.{good_run_number, good_allocate, good_exec}
 
 -- Lists of objects ------------------------------------------------------------------------
@@ -114,7 +114,7 @@ keeps_order : (p : Object → Bool) (w : World) → InOrder w → Stands w.ledge
 keeps_order p w h = (ascend_kept p w.objects h.ascend, below_kept p w.ledger.next_object w.objects h.below)
 
 edits_order : {f : World → World} → Edit f → (w : World) → InOrder w → InOrder (f w)
-unfolding take_object_number create_at write_cells forget forget_all open_master enter_master close_master drop_master add_layer push_layer take_layer drop_layer set_slot add_collection push_collection start_collections start_sets begin_finalization end_finalization in_pools close_pool_at empty_subpool change_in with_cells with_begun
+unfolding take_object_number create_at write_cells forget forget_all open_master enter_master close_master drop_master add_layer push_layer take_layer drop_layer set_slot set_value add_collection push_collection start_collections start_sets begin_finalization end_finalization in_pools close_pool_at empty_subpool change_in with_cells with_begun
 edits_order numbers w h = numbers_order w h
 edits_order (creates ty cells origin) w h = creates_order ty cells origin w h
 edits_order (creates_at ty cells set place) w h = puts_order place w.ledger.next_object (create ty cells (Allocated set place) w) (creates_order ty cells (Allocated set place) w h)
@@ -125,6 +125,7 @@ edits_order (closes n) w h = let s = keeps_order _ w h in record { ascend = s.0;
 edits_order (layers n x) w h = record { ascend = h.ascend; below = h.below }
 edits_order (takes n) w h = record { ascend = h.ascend; below = h.below }
 edits_order (sets n i x) w h = record { ascend = h.ascend; below = h.below }
+edits_order (assigns n i x) w h = record { ascend = h.ascend; below = h.below }
 edits_order (gathers n i x) w h = record { ascend = h.ascend; below = h.below }
 edits_order (starts xs) w h = record { ascend = h.ascend; below = h.below }
 edits_order (begins n) w h = changes_order _ _ (λ o. refl) w h

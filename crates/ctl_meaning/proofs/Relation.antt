@@ -5,7 +5,7 @@ use Rattle.ctl_tree.specs.declared.ending.Stop.{Stop}
 use Rattle.ctl_tree.specs.declared.event.Event.{Event}
 use Rattle.ctl_tree.specs.declared.event.Cause.{Cause}
 use Rattle.ctl_meaning.specs.World.{Member, Layer, Origin, Place, Slot, Pools, World}
-use Rattle.ctl_meaning.specs.Changes.{take_object_number, create, create_at, write_cells, forget, open_master, close_master, add_layer, take_layer, set_slot, add_collection, start_collections, begin_finalization, end_finalization, in_pools, close_pool_at, empty_subpool}
+use Rattle.ctl_meaning.specs.Changes.{take_object_number, create, create_at, write_cells, forget, open_master, close_master, add_layer, take_layer, set_slot, set_value, add_collection, start_collections, begin_finalization, end_finalization, in_pools, close_pool_at, empty_subpool}
 use Rattle.ctl_meaning.specs.Members.{Group}
 use Rattle.ctl_meaning.specs.Choice.{Ask}
 use Rattle.ctl_meaning.specs.Outcome.{Result, Act, Done, given, then_always, stop, counted, spend, look, change, show, answered}
@@ -26,6 +26,7 @@ pub data Edit : (World → World) → Type 0 where
   layers : (n : ℕ) (x : Layer) → Edit (add_layer n x)
   takes : (n : ℕ) → Edit (take_layer n)
   sets : (n i : ℕ) (x : Slot) → Edit (set_slot n i x)
+  assigns : (n i x : ℕ) → Edit (set_value n i x)
   gathers : (n i : ℕ) (x : Slot) → Edit (add_collection n i x)
   starts : (collections : List ℕ) → Edit (start_collections collections)
   begins : (n : ℕ) → Edit (begin_finalization n)

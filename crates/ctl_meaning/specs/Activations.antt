@@ -1,7 +1,7 @@
 -- What the names of a part stand for while its master is active (3.10.2: a use names a level, and a slot there).
 use Rattle.std.specs.Prelude.{ℕ, ◌-◌, List, [], ◌∷◌, ◌++◌, Option, Some, None, not, nat_eq, slice_get, slice_set}
 use Rattle.ctl_program.specs.declared.types.Var.{Var}
-use Rattle.ctl_meaning.specs.World.{Slot, Unset, Activation}
+use Rattle.ctl_meaning.specs.World.{Slot, unset, Activation}
 use Rattle.ctl_meaning.specs.Lists.{first_with, change_each, keep, item_or}
 
 unfoldable pub activation_at : ℕ → List Activation → Option Activation
@@ -33,7 +33,7 @@ unfoldable pub master_of : List ℕ → Var → ℕ
 master_of display v = item_or 0 (slice_get display (v.level - 1))
 
 unfoldable pub slot_in : ℕ → ℕ → List Activation → Slot
-slot_in n i xs = item_or Unset (slice_get (slots_in (activation_at n xs)) i)
+slot_in n i xs = item_or unset (slice_get (slots_in (activation_at n xs)) i)
 
 -- everything here, opened at once
 unfoldable pub opened_activations : Unit {0}

@@ -4,15 +4,15 @@ use Rattle.ctl_program.specs.declared.types.Ty.{Ty}
 use Rattle.ctl_program.specs.declared.types.AccessType.{AccessType}
 use Rattle.ctl_tree.specs.declared.ending.Stop.TheVariants.{FreeWhileFinalizing, ForeignFree}
 use Rattle.ctl_tree.specs.declared.event.Cause.TheVariants.{Free}
-use Rattle.ctl_meaning.specs.World.{Place, Standard, InBlock, InSubpool, Origin, Declared, Allocated, Object, Collection, Slot, Gathers, World}
+use Rattle.ctl_meaning.specs.World.{Place, Standard, InBlock, InSubpool, Origin, Declared, Allocated, Object, Collection, Content, Gathers, World}
 use Rattle.ctl_meaning.specs.Activations.{master_of}
 use Rattle.ctl_meaning.specs.Objects.{is_untouched, is_finalizing, is_of_set}
 use Rattle.ctl_meaning.specs.Ledger.{collection_at}
-use Rattle.ctl_meaning.specs.Changes.{create_at, forget, join}
+use Rattle.ctl_meaning.specs.Changes.{create_at, forget, join, slot_at}
 use Rattle.ctl_meaning.specs.Members.{member_of, is_due}
 use Rattle.ctl_meaning.specs.Outcome.{constraint_error, program_error, Act, Done, ◌>>=◌, ◌>>◌, done, nothing, raise, stop, counted, look, change, Tried, Fine, Raised, attempt, either, on_some}
 use Rattle.ctl_meaning.specs.Types.{Tables, size_of, begin_cells, has_controlled}
-use Rattle.ctl_meaning.specs.Names.{Tools, Found, gone, existing, slot_at, scalar_of, read_found, write_found}
+use Rattle.ctl_meaning.specs.Names.{Tools, Found, gone, existing, scalar_of, read_found, write_found}
 use Rattle.ctl_meaning.specs.Finalization.{finalize_object}
 use Rattle.ctl_meaning.specs.Adjustment.{birth_of}
 use Rattle.ctl_meaning.specs.Initialization.{fill}
@@ -20,13 +20,13 @@ use Rattle.ctl_meaning.specs.Storage.{storage, give_back, program_error_if}
 
 -- Collections of access types --------------------------------------------------------
 
-unfoldable pub set_in : Slot → ℕ
+unfoldable pub set_in : Content → ℕ
 set_in (Gathers n) = n
 set_in _ = 0
 
 -- the collection that an access type has where a display is seen
 unfoldable pub with_set : {A : Type 0} → List ℕ → AccessType → (ℕ → Act A) → Act A
-with_set env a f = look (λ w. f (set_in (slot_at (master_of env a.collection) a.collection.slot w)))
+with_set env a f = look (λ w. f (set_in (slot_at (master_of env a.collection) a.collection.slot w).content))
 
 -- Program_Error where the finalization of the collection has started and the object has a controlled part (4.8)
 unfoldable pub refuses : Tables → Ty → Collection → Bool

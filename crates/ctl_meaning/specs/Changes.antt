@@ -6,7 +6,7 @@ use Rattle.ctl_tree.specs.declared.event.Owner.{Owner}
 use Rattle.ctl_meaning.specs.World.{Place, Standard, InBlock, InSubpool, Origin, Declared, Allocated, Untouched, Object, Layer, Slot, Block, Pools, World}
 use Rattle.ctl_meaning.specs.Lists.{change_first, keep, any_of}
 use Rattle.ctl_meaning.specs.Ledger.{take_number, enter_master, push_layer, drop_layer, drop_master, collection_at, push_collection, start_sets, master_in}
-use Rattle.ctl_meaning.specs.Activations.{activation_at, push_activation, drop_activation, change_slot, display_in}
+use Rattle.ctl_meaning.specs.Activations.{activation_at, push_activation, drop_activation, change_slot, slot_in, display_in}
 use Rattle.ctl_meaning.specs.Objects.{object_in, change_in, with_cells, with_begun, with_joined, with_finalized, is_finalizing, lies_in_subpool, lies_in_pool, ends_with_master}
 use Rattle.ctl_meaning.specs.Pools.{hold_block, shut, keep_pools}
 
@@ -58,6 +58,13 @@ take_layer n w = record w { ledger = drop_layer n w.ledger }
 
 unfoldable pub set_slot : ℕ → ℕ → Slot → World → World
 set_slot n i x w = record w { activations = change_slot n i x w.activations }
+
+unfoldable pub slot_at : ℕ → ℕ → World → Slot
+slot_at n i w = slot_in n i w.activations
+
+-- an elementary variable takes a value
+unfoldable pub set_value : ℕ → ℕ → ℕ → World → World
+set_value n i x w = set_slot n i (record (slot_at n i w) { value = x }) w
 
 -- the numbers of a master's collections
 unfoldable pub sets_of : ℕ → World → List ℕ
@@ -147,5 +154,5 @@ is_vacant w (Some b) = not (is_held w b.holder)
 
 -- everything here, opened at once
 unfoldable pub opened_changes : Unit {0}
-unfolding object_at new_object take_object_number create write_cells forget forget_all count_of open_master add_layer take_layer set_slot sets_of ends_with close_master gone_with add_collection start_collections join begin_finalization end_finalization home_master home_of owner_of in_pools put_into create_at close_pool_at empty_subpool is_busy is_held is_vacant
+unfolding object_at new_object take_object_number create write_cells forget forget_all count_of open_master add_layer take_layer set_slot slot_at set_value sets_of ends_with close_master gone_with add_collection start_collections join begin_finalization end_finalization home_master home_of owner_of in_pools put_into create_at close_pool_at empty_subpool is_busy is_held is_vacant
 opened_changes = tt

@@ -15,12 +15,13 @@ use Rattle.ctl_program.specs.declared.expression.Name.{Name, fold-Name}
 use Rattle.ctl_program.specs.declared.expression.Actual.{Actual, fold-Actual}
 use Rattle.ctl_program.specs.declared.expression.Actual.TheOpen.{Actual-F, Expr-F, Name-F}
 use Rattle.ctl_program.specs.declared.expression.Operand.{Operand, Operand-F, fold-Operand}
-use Rattle.ctl_meaning.specs.World.{Slot, Unset, Binds, Copies}
+use Rattle.ctl_meaning.specs.World.{Slot, Binds, Copies, holding, unset, valued}
 use Rattle.ctl_meaning.specs.Lists.{item_or}
 use Rattle.ctl_meaning.specs.Outcome.{Act, Done, ◌>>=◌, ◌>>◌, done, nothing, ticked, spend, look, either}
 use Rattle.ctl_meaning.specs.Numbers.{unary, binary, converted, is_true}
+use Rattle.ctl_meaning.specs.Changes.{slot_at}
 use Rattle.ctl_meaning.specs.Types.{Category, Composite, category_of, cells_of}
-use Rattle.ctl_meaning.specs.Names.{OfSubprogram, OfAllocator, Returned, Tools, Found, InObject, InCopy, Alone, copy_in, scalar_of, slot_at, read_found, write_found, find_var, object_of, walk, begins_as, or_constraint_error}
+use Rattle.ctl_meaning.specs.Names.{OfSubprogram, OfAllocator, Returned, Tools, Found, InObject, InVariable, InCopy, Alone, copy_at, scalar_of, read_found, write_found, find_var, object_of, walk, begins_as, or_constraint_error}
 use Rattle.ctl_meaning.specs.Marks.{subpool_function, discriminant}
 
 -- Parameters (6.2, 6.4.1) --------------------------------------------------------
@@ -46,11 +47,16 @@ going_back n (Some f) = (n, f) ∷ []
 unfoldable pub with_formal : Formal → Passed → Passed
 with_formal x p = record { slots = p.slots ++ x.slot ∷ []; back = p.back ++ going_back (length p.slots) x.back }
 
--- a record that an object holds is passed by reference, and any other one as a copy: a part of a copy as the cells from there on
+-- a copy of a value, elementary or not
+abbrev pub copy_of : List ℕ → Slot
+copy_of v = record { value = scalar_of v; content = Copies v }
+
+-- a record that an object holds is passed by reference, and any other value as a copy: a part of a copy as the cells from there on
 unfoldable pub bound : Found → Act Slot
-bound (InObject o offset path) = done (Binds o offset path)
-bound (InCopy m i offset) = look (λ w. done (Copies (drop offset (copy_in (slot_at m i w)))))
-bound (Alone v) = done (Copies v)
+bound (InObject o offset path) = done (holding (Binds o offset path))
+bound (InVariable m i) = look (λ w. done (valued (slot_at m i w).value))
+bound (InCopy m i offset) = look (λ w. done (copy_of (copy_at m i offset w)))
+bound (Alone v) = done (copy_of v)
 
 unfoldable pub by_reference : Found → Act Formal
 by_reference f = bound f >>= (λ x. done (record { slot = x; back = None }))
@@ -61,12 +67,12 @@ copied n CopyStartOf.TheVariants.Actual f = read_found n f
 copied n CopyStartOf.TheVariants.Beginning f = done (replicate n 0)
 
 unfoldable pub by_copy : ℕ → CopyStart → Found → Act Formal
-by_copy n begins f = copied n begins f >>= (λ v. done (record { slot = Copies v; back = Some f }))
+by_copy n begins f = copied n begins f >>= (λ v. done (record { slot = valued (scalar_of v); back = Some f }))
 
 -- on a normal return the copies go back, from left to right (6.4.1)
 unfoldable pub copy_back : List Slot → List (ℕ × Found) → Act Done
 copy_back slots [] = nothing
-copy_back slots (b ∷ bs) = write_found b.1 (copy_in (item_or Unset (slice_get slots b.0))) >> copy_back slots bs
+copy_back slots (b ∷ bs) = write_found b.1 ((item_or unset (slice_get slots b.0)).value ∷ []) >> copy_back slots bs
 
 unfoldable pub call_with : Tools → List ℕ → ℕ → Passed → Act Returned
 call_with k env f p = k.call (OfSubprogram f p.slots) env >>= (λ r. copy_back r.slots p.back >> done r)

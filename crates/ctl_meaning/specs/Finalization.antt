@@ -6,7 +6,7 @@ use Rattle.ctl_tree.specs.declared.event.Cause.{Cause}
 use Rattle.ctl_tree.specs.declared.event.Cause.TheVariants.{Assign, Failed}
 use Rattle.ctl_tree.specs.declared.event.Event.{Event}
 use Rattle.ctl_tree.specs.declared.event.Event.TheVariants.{Finalize}
-use Rattle.ctl_meaning.specs.World.{Member, Binds}
+use Rattle.ctl_meaning.specs.World.{Member, Binds, holding}
 use Rattle.ctl_meaning.specs.Lists.{keep, any_of, same_list, begins, pull_item, pull_rest}
 use Rattle.ctl_meaning.specs.Changes.{home_of, begin_finalization, end_finalization}
 use Rattle.ctl_meaning.specs.Members.{Group, candidates_of, count_due}
@@ -46,7 +46,7 @@ with_home n f = existing n (λ o. look (λ w. f (home_of o.origin w)))
 -- a call that the rules make of an operation of a part: shown where the user wrote the operation; the library's does nothing
 unfoldable pub call_operation : Tools → Spot → Option ℕ → Event → Act Done
 call_operation k s None e = ticked (must_exist s.object)
-call_operation k s (Some f) e = with_home s.object (λ d. show e >> k.call (OfSubprogram f (Binds s.object s.offset s.path ∷ [])) d >> nothing)
+call_operation k s (Some f) e = with_home s.object (λ d. show e >> k.call (OfSubprogram f (holding (Binds s.object s.offset s.path) ∷ [])) d >> nothing)
 
 -- Finalize -----------------------------------------------------------------------
 

@@ -8,12 +8,12 @@ use Rattle.ctl_program.specs.declared.types.Root.{Root}
 use Rattle.ctl_program.specs.declared.types.Root.TheVariants.{MarkPool}
 use Rattle.ctl_program.specs.declared.statement.Item.{Item}
 use Rattle.ctl_tree.specs.declared.event.Cause.TheVariants.{Scope, Collection}
-use Rattle.ctl_meaning.specs.World.{Declared, Layer, Single, Sets, Slot, Holds, Copies, Gathers}
+use Rattle.ctl_meaning.specs.World.{Declared, Layer, Single, Sets, Slot, Holds, Gathers, holding}
 use Rattle.ctl_meaning.specs.Lists.{item_or}
 use Rattle.ctl_meaning.specs.Activations.{slots_in, activation_at}
 use Rattle.ctl_meaning.specs.Ledger.{layers_of}
 use Rattle.ctl_meaning.specs.Pools.{push_block_pool, push_mark_pool}
-use Rattle.ctl_meaning.specs.Changes.{take_object_number, create, open_master, close_master, gone_with, add_layer, take_layer, set_slot, add_collection, start_collections, in_pools, close_pool_at}
+use Rattle.ctl_meaning.specs.Changes.{take_object_number, create, open_master, close_master, gone_with, add_layer, take_layer, set_slot, set_value, add_collection, start_collections, in_pools, close_pool_at}
 use Rattle.ctl_meaning.specs.Members.{OfSets}
 use Rattle.ctl_meaning.specs.Limits.{least_block_size, greatest_block_size, least_block_count, greatest_block_count, least_mark_pool_size, greatest_mark_pool_size}
 use Rattle.ctl_meaning.specs.Outcome.{constraint_error, Result, Act, Done, ◌>>=◌, ◌>>◌, done, nothing, raise, counted, ticked, then_always, look, change, Tried, Fine, Raised, attempt, either, on_some}
@@ -69,16 +69,16 @@ in_master k env slots run =
 -- an elementary variable takes an object number too, and its value is in its slot: nothing but a use of that slot reaches it, and it has
 -- nothing to finalize. A composite object takes its number and is filled; it is a layer only where that succeeded
 unfoldable pub declare : Category → Tools → ℕ → ℕ → Ty → Option (List ℕ) → Act Done
-declare Elementary k m slot ty value = change take_object_number >> change (set_slot m slot (Copies (item_or (begin_cells k.tables ty) value)))
+declare Elementary k m slot ty value = change take_object_number >> change (set_value m slot (scalar_of (item_or (begin_cells k.tables ty) value)))
 declare Composite k m slot ty value =
     look (λ w. change (create ty (begin_cells k.tables ty) (Declared m))
-    >> change (set_slot m slot (Holds w.ledger.next_object))
+    >> change (set_slot m slot (holding (Holds w.ledger.next_object)))
     >> fill k (birth_of (Declared m) w) w.ledger.next_object ty value
     >> change (add_layer m (Single w.ledger.next_object)))
 
 -- the collection of an access type, at its freezing place (13.14, profile)
 unfoldable pub gather : ℕ → AccessType → Act ℕ
-gather m a = look (λ w. change (add_collection m a.collection.slot (Gathers w.ledger.next_collection)) >> done w.ledger.next_collection)
+gather m a = look (λ w. change (add_collection m a.collection.slot (holding (Gathers w.ledger.next_collection))) >> done w.ledger.next_collection)
 
 -- those of one freezing place are one layer. The declaration of an access type is counted here
 unfoldable pub gather_each : Tools → ℕ → List ℕ → List ℕ → Act Done
@@ -112,7 +112,7 @@ unfoldable pub declare_pool : Tools → ℕ → ℕ → ℕ → ℕ × ℕ → A
 declare_pool k m slot t d =
     either (good_discriminants (root_of k.tables t) d)
     (look (λ w. change (create (Record t) (begin_cells k.tables (Record t)) (Declared m))
-    >> change (set_slot m slot (Holds w.ledger.next_object))
+    >> change (set_slot m slot (holding (Holds w.ledger.next_object)))
     >> open_pool (root_of k.tables t) w.ledger.next_object d
     >> attempt (fill k (birth_of (Declared m) w) w.ledger.next_object (Record t) None)
     >>= pool_or_closed m w.ledger.next_object))

@@ -5,11 +5,11 @@ use Rattle.ctl_program.specs.declared.types.Var.{Var}
 use Rattle.ctl_program.specs.declared.expression.Step.{Step}
 use Rattle.ctl_program.specs.declared.expression.Step.TheVariants.{Component, Dereference, Narrow}
 use Rattle.ctl_tree.specs.declared.ending.Stop.TheVariants.{UseAfterFree}
-use Rattle.ctl_meaning.specs.World.{Object, Slot, Holds, Binds, Copies, World}
+use Rattle.ctl_meaning.specs.World.{Object, Content, Holds, Binds, Copies, holding, Slot, World}
 use Rattle.ctl_meaning.specs.Lists.{item_or, same_list}
 use Rattle.ctl_meaning.specs.Activations.{master_of, slot_in}
 use Rattle.ctl_meaning.specs.Objects.{first_cells, cells_at, overwritten}
-use Rattle.ctl_meaning.specs.Changes.{object_at, write_cells, set_slot}
+use Rattle.ctl_meaning.specs.Changes.{object_at, write_cells, set_slot, slot_at, set_value}
 use Rattle.ctl_meaning.specs.Choice.{Ask}
 use Rattle.ctl_meaning.specs.Outcome.{constraint_error, Act, Done, ◌>>=◌, ◌>>◌, done, nothing, raise, stop, ticked, look, change, either, on_some}
 use Rattle.ctl_meaning.specs.Types.{Tables, Category, Elementary, Composite, placed, offset_in, record_of, descends}
@@ -59,44 +59,49 @@ write_part n offset v = existing n (λ o. change (write_cells n offset v))
 
 -- What a name denotes ------------------------------------------------------------
 
--- a part of an object, cells of a slot, or a value alone
+-- a part of an object, an elementary variable, cells of a copy, or a value alone
 pub data Found : Type 0 where
   InObject : (object offset : ℕ) (path : List ℕ) → Found
+  InVariable : (master slot : ℕ) → Found
   InCopy : (master slot offset : ℕ) → Found
   Alone : (cells : List ℕ) → Found
 
-unfoldable pub copy_in : Slot → List ℕ
+unfoldable pub copy_in : Content → List ℕ
 copy_in (Copies v) = v
 copy_in _ = []
+
+-- the cells of a copy, from one on
+unfoldable pub copy_at : ℕ → ℕ → ℕ → World → List ℕ
+copy_at m i offset w = drop offset (copy_in (slot_at m i w).content)
 
 -- the first cell of a value
 unfoldable pub scalar_of : List ℕ → ℕ
 scalar_of v = item_or 0 (slice_get v 0)
 
-unfoldable pub slot_at : ℕ → ℕ → World → Slot
-slot_at m i w = slot_in m i w.activations
-
 -- n cells; one that is not there counts as 0
 unfoldable pub read_found : ℕ → Found → Act (List ℕ)
 read_found n (InObject o offset path) = read_part o offset n
-read_found n (InCopy m i offset) = look (λ w. done (first_cells n (drop offset (copy_in (slot_at m i w)))))
+read_found n (InVariable m i) = look (λ w. done (first_cells n ((slot_at m i w).value ∷ [])))
+read_found n (InCopy m i offset) = look (λ w. done (first_cells n (copy_at m i offset w)))
 read_found n (Alone v) = done (first_cells n v)
 
 unfoldable pub write_found : Found → List ℕ → Act Done
 write_found (InObject o offset path) v = write_part o offset v
-write_found (InCopy m i offset) v = look (λ w. change (set_slot m i (Copies (overwritten offset v (copy_in (slot_at m i w))))))
+write_found (InVariable m i) v = change (set_value m i (scalar_of v))
+write_found (InCopy m i offset) v = look (λ w. change (set_slot m i (holding (Copies (overwritten offset v (copy_in (slot_at m i w).content))))))
 write_found (Alone x) v = nothing
 
-unfoldable pub found_in : ℕ → ℕ → Slot → Found
-found_in m i (Holds o) = InObject o 0 []
-found_in m i (Binds o offset path) = InObject o offset path
-found_in m i _ = InCopy m i 0
+-- no name finds a declaration that was not elaborated
+unfoldable pub found_in : ℕ → ℕ → Content → Act Found
+found_in m i (Holds o) = done (InObject o 0 [])
+found_in m i (Binds o offset path) = done (InObject o offset path)
+found_in m i (Copies v) = done (InCopy m i 0)
+found_in m i _ = gone
 
--- a use of a variable of some category, where a display is seen: an elementary one is the cells of its slot, whatever the slot holds, and
--- a composite one is what its slot holds
+-- a use of a variable of some category, where a display is seen: a composite one is what its slot holds
 unfoldable pub find_var : Category → List ℕ → Var → Act Found
-find_var Elementary env v = done (InCopy (master_of env v) v.slot 0)
-find_var Composite env v = look (λ w. done (found_in (master_of env v) v.slot (slot_at (master_of env v) v.slot w)))
+find_var Elementary env v = done (InVariable (master_of env v) v.slot)
+find_var Composite env v = look (λ w. found_in (master_of env v) v.slot (slot_at (master_of env v) v.slot w).content)
 
 unfoldable pub object_of : Found → ℕ
 object_of (InObject o offset path) = o
@@ -111,6 +116,7 @@ same_found _ _ = false
 
 unfoldable pub moved : ℕ → ℕ → Found → Found
 moved offset position (InObject o at path) = InObject o (at + offset) (path ++ position ∷ [])
+moved offset position (InVariable m i) = InVariable m i
 moved offset position (InCopy m i at) = InCopy m i (at + offset)
 moved offset position (Alone v) = Alone (drop offset v)
 
@@ -146,5 +152,5 @@ or_constraint_error (Some n) = done (n ∷ [])
 
 -- everything here, opened at once
 unfoldable pub opened_names : Unit {0}
-unfolding gone existing must_exist read_part write_part copy_in scalar_of slot_at read_found write_found found_in find_var object_of same_found moved dereferenced narrowed one_step walk begins_as or_constraint_error
+unfolding gone existing must_exist read_part write_part copy_in copy_at scalar_of read_found write_found found_in find_var object_of same_found moved dereferenced narrowed one_step walk begins_as or_constraint_error
 opened_names = tt

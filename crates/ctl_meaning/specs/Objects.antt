@@ -19,8 +19,16 @@ first_cells (suc n) (x ∷ xs) = x ∷ first_cells n xs
 unfoldable pub cells_at : ℕ → ℕ → Object → List ℕ
 cells_at offset n o = first_cells n (drop offset o.cells)
 
+-- the first cells are written over; one that is not there is not written
+unfoldable pub written_over : List ℕ → List ℕ → List ℕ
+written_over [] cells = cells
+written_over (x ∷ xs) [] = []
+written_over (x ∷ xs) (y ∷ ys) = x ∷ written_over xs ys
+
 unfoldable pub overwritten : ℕ → List ℕ → List ℕ → List ℕ
-overwritten offset v cells = take offset cells ++ v ++ drop (offset + length v) cells
+overwritten zero v cells = written_over v cells
+overwritten (suc n) v [] = []
+overwritten (suc n) v (y ∷ ys) = y ∷ overwritten n v ys
 
 unfoldable pub with_cells : ℕ → List ℕ → Object → Object
 with_cells offset v o = record o { cells = overwritten offset v o.cells }
@@ -75,5 +83,5 @@ ends_with_master m sets (Allocated s p) = contains s sets
 
 -- everything here, opened at once
 unfoldable pub opened_objects : Unit {0}
-unfolding object_in change_in first_cells cells_at overwritten with_cells with_begun with_joined is_untouched with_finalized is_finalizing is_of_set place_in_subpool lies_in_subpool place_in_pool lies_in_pool ends_with_master
+unfolding object_in change_in first_cells cells_at written_over overwritten with_cells with_begun with_joined is_untouched with_finalized is_finalizing is_of_set place_in_subpool lies_in_subpool place_in_pool lies_in_pool ends_with_master
 opened_objects = tt

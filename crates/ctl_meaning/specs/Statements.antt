@@ -18,10 +18,10 @@ use Rattle.ctl_program.specs.declared.statement.Handler.{Handler, Handler-F, fol
 use Rattle.ctl_program.specs.declared.statement.Master.{Master, Master-F, fold-Master}
 use Rattle.ctl_tree.specs.declared.event.Cause as CauseOf
 use Rattle.ctl_tree.specs.declared.event.Event.TheVariants.{Print, Newline}
-use Rattle.ctl_meaning.specs.World.{Slot, Unset, Copies}
+use Rattle.ctl_meaning.specs.World.{Slot, unset}
 use Rattle.ctl_meaning.specs.Lists.{contains, last_of}
 use Rattle.ctl_meaning.specs.Activations.{master_of}
-use Rattle.ctl_meaning.specs.Changes.{set_slot}
+use Rattle.ctl_meaning.specs.Changes.{set_value}
 use Rattle.ctl_meaning.specs.Outcome.{completes_loop, raised_by, ByExit, ByReturn, Result, Goes, Leaves, Cut, Act, Done, given, ◌>>=◌, ◌>>◌, done, nothing, leave_by, raise, counted, ticked, then_always, spend, change, show, when, either, on_some}
 use Rattle.ctl_meaning.specs.Numbers.{signed, cell_of, is_true, integer_image, boolean_image}
 use Rattle.ctl_meaning.specs.Types.{Tables, Elementary, Composite, cells_of, has_controlled, operation, record_of}
@@ -128,7 +128,7 @@ for Upward body low high = for_turns (count_up (high -ℤ low)) (λ z. z +ℤ po
 for Downward body low high = for_turns (count_up (high -ℤ low)) (λ z. z -ℤ pos 1) body high
 
 unfoldable pub set_loop : List ℕ → Var → ℤ → Act Done
-set_loop env v z = change (set_slot (master_of env v) v.slot (Copies (cell_of z ∷ [])))
+set_loop env v z = change (set_value (master_of env v) v.slot (cell_of z))
 
 -- Handlers (11.4) ---------------------------------------------------------------------------------
 
@@ -183,7 +183,7 @@ unfoldable pub scalar : Act (List ℕ) → (ℕ → Act Done) → Act Done
 scalar m f = m >>= (λ v. f (scalar_of v))
 
 unfoldable pub unset_slots : Body → List Slot
-unset_slots b = replicate b.slots Unset
+unset_slots b = replicate b.slots unset
 
 -- Each construct ---------------------------------------------------------------------------------
 

@@ -6,7 +6,7 @@ use Rattle.ctl_program.specs.declared.types.Var.{Var}
 use Rattle.ctl_tree.specs.declared.ending.Stop.TheVariants.{FreeWhileFinalizing, BadAddress, ReleasedSubpool}
 use Rattle.ctl_tree.specs.declared.event.Cause.TheVariants.{Subpool}
 use Rattle.ctl_tree.specs.declared.event.Event.TheVariants.{Allocate, Deallocate}
-use Rattle.ctl_meaning.specs.World.{Place, Standard, InBlock, InSubpool, Slot, Unset, Binds, Copies, BlockPool, Pools, World}
+use Rattle.ctl_meaning.specs.World.{Place, Standard, InBlock, InSubpool, Slot, Binds, holding, unset, valued, BlockPool, Pools, World}
 use Rattle.ctl_meaning.specs.World as W
 use Rattle.ctl_meaning.specs.Limits.{integer_last, alignment}
 use Rattle.ctl_meaning.specs.Lists.{item_or}
@@ -16,7 +16,7 @@ use Rattle.ctl_meaning.specs.Changes.{in_pools, is_vacant, is_busy, empty_subpoo
 use Rattle.ctl_meaning.specs.Members.{OfSubpool}
 use Rattle.ctl_meaning.specs.Outcome.{constraint_error, program_error, storage_error, Act, Done, ◌>>=◌, ◌>>◌, done, nothing, raise, stop, counted, look, change, show, either, on_some}
 use Rattle.ctl_meaning.specs.Types.{Composite, operation, root_of, record_of}
-use Rattle.ctl_meaning.specs.Names.{OfSubprogram, Returned, Tools, Found, gone, existing, copy_in, scalar_of, read_found, write_found, find_var, object_of}
+use Rattle.ctl_meaning.specs.Names.{OfSubprogram, Returned, Tools, Found, gone, existing, scalar_of, read_found, write_found, find_var, object_of}
 use Rattle.ctl_meaning.specs.Marks.{default_subpool}
 use Rattle.ctl_meaning.specs.Finalization.{with_home, finalize_group}
 
@@ -41,10 +41,10 @@ tested n size a = with_block_pool n (λ p. look (λ w. either (is_vacant w (bloc
 
 -- the slots of Allocate and Deallocate: the pool, the address, the size and the alignment (13.11)
 unfoldable pub storage_actuals : ℕ → ℕ → ℕ → List Slot
-storage_actuals n a size = Binds n 0 [] ∷ Copies (a ∷ []) ∷ Copies (size ∷ []) ∷ Copies (alignment ∷ []) ∷ []
+storage_actuals n a size = holding (Binds n 0 []) ∷ valued a ∷ valued size ∷ valued alignment ∷ []
 
 unfoldable pub address_in : Returned → ℕ
-address_in r = scalar_of (copy_in (item_or Unset (slice_get r.slots 1)))
+address_in r = (item_or unset (slice_get r.slots 1)).value
 
 -- a size above Storage_Count'Last raises Constraint_Error in place of the call (profile)
 unfoldable pub user_allocate : Tools → ℕ → ℕ → ℕ → Act ℕ

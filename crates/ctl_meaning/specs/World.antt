@@ -66,14 +66,29 @@ pub record Ledger : Type 0 where
   pub masters : List Master
   pub collections : List Collection
 
--- what a use of a name finds: nothing yet, an object, a part that a formal stands for, the cells of an elementary variable or of a copy,
+-- what a use of a name that is no elementary variable finds: nothing yet, an object, a part that a formal stands for, a copy of a record,
 -- or a collection
-pub data Slot : Type 0 where
-  Unset : Slot
-  Holds : (object : ℕ) → Slot
-  Binds : (object offset : ℕ) (path : List ℕ) → Slot
-  Copies : (cells : List ℕ) → Slot
-  Gathers : (collection : ℕ) → Slot
+pub data Content : Type 0 where
+  Nothing : Content
+  Holds : (object : ℕ) → Content
+  Binds : (object offset : ℕ) (path : List ℕ) → Content
+  Copies : (cells : List ℕ) → Content
+  Gathers : (collection : ℕ) → Content
+
+-- the slot of a declaration: the cell of an elementary variable, 0 where it has no value yet, and what any other one holds
+pub record Slot : Type 0 where
+  pub value : ℕ
+  pub content : Content
+
+abbrev pub unset : Slot
+unset = record { value = 0; content = Nothing }
+
+-- a slot with this value, and one that holds this
+abbrev pub valued : ℕ → Slot
+valued n = record { value = n; content = Nothing }
+
+abbrev pub holding : Content → Slot
+holding h = record { value = 0; content = h }
 
 -- an active master as its statements see it: the masters around it by level, itself last, and its slots
 pub record Activation : Type 0 where
