@@ -10,7 +10,7 @@ ghost use Rattle.ctl_code.specs.declared.code.Cell.{Cell};
 ghost use Rattle.ctl_code.specs.declared.code.Operator.{Operator};
 ghost use Rattle.ctl_code.specs.declared.code.Instr.TheVariants as I;
 ghost use Rattle.ctl_code.specs.Kinds.{changed, stack_at};
-ghost use Rattle.ctl_code.specs.Valid.{Bounded, IsAtEnd, IsDeclarable, IsEntry, IsFine, IsInScope, IsText, Leads, Puts, Taken, Takes, Under};
+ghost use Rattle.ctl_code.specs.Valid.{Bounded, DropsObject, IsAtEnd, IsDeclarable, IsEntry, IsFine, IsInScope, IsText, Leads, Puts, Taken, Takes, Under};
 ghost use Rattle.ctl_code.specs.Windows.{depth, height, variable_at};
 
 use crate::code::{Cell, Code, Instr, Named, Operator, Way};
@@ -228,6 +228,27 @@ fn drops(code: &Code, place: usize, from: Cell, ty: Ty) -> bool
 {
     match taken(code, place, 0, from, ty) {
         Some(under) => leads_on(code, place, under, None),
+        None => false,
+    }
+}
+
+/// Tells whether the number of an object of this record type stands in this cell, where so many were taken, and the next place finds what is
+/// below it.
+fn drops_object(code: &Code, place: usize, before: usize, at: usize, record: usize) -> bool
+    requires { (place + 1 < 2 ^ 64) × (before + 1 < 2 ^ 64) }
+    ensures { IsTrue result ↔ DropsObject code.now place at «record» (drop before (stack_at code.now.kinds place)) }
+{
+    is_operand(code, place, before, at, Ty::Record(record))
+        && leads_on(code, place, before + 1, None)
+}
+
+/// Tells whether a value is taken from a cell, and then the number of an object of this record type, which stands in another.
+fn stores_part(code: &Code, place: usize, from: Cell, ty: Ty, at: usize, record: usize) -> bool
+    requires { place + 1 < 2 ^ 64 }
+    ensures { IsTrue result ↔ Takes from ty (stack_at code.now.kinds place) (DropsObject code.now place at «record») }
+{
+    match taken(code, place, 0, from, ty) {
+        Some(under) => drops_object(code, place, under, at, record),
         None => false,
     }
 }
@@ -481,7 +502,19 @@ pub fn is_fine(code: &Code, place: usize, instr: &Instr) -> bool
         Instr::Number | Instr::NewLine => leads_on(code, place, 0, None),
         Instr::Set { value, ty, to } => is_cell_of(ty, value) && puts(code, place, 0, to, ty),
         Instr::Move { from, ty, to } => is_scalar(ty) && passes(code, place, 0, from, ty, to, ty),
-        Instr::Fetch { ty, to, .. } => is_scalar(ty) && puts(code, place, 0, to, ty),
+        Instr::Fetch { ty, to, .. } | Instr::FetchPart { ty, to, .. } => {
+            is_scalar(ty) && puts(code, place, 0, to, ty)
+        }
+        Instr::Locate { record, at, .. } => {
+            puts_operand(code, place, 0, at, Ty::Record(record))
+        }
+        Instr::StorePart {
+            from,
+            ty,
+            at,
+            record,
+            ..
+        } => is_scalar(ty) && stores_part(code, place, from, ty, at, record),
         Instr::Store { from, ty, .. } => is_scalar(ty) && drops(code, place, from, ty),
         Instr::Unary { op, ty, from, to } => is_unary_of(op, ty)
             && passes(code, place, 0, from, ty, to, ty),

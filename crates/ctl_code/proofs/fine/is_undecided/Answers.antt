@@ -7,9 +7,9 @@ use Rattle.ctl_code.proofs.fine.is_undecided.Goals as goal
 
 pub returns-then-is_operand : goal.returns-then-is_operand
 returns-then-is_operand c =
-    let step = under_one c.args.at Boolean (stack_at c.args.code.now.kinds c.args.place) (Leads c.args.code.now (c.args.place + 1)) (c.if-is_operand.ensures.0 refl) in
+    let step = under_one 0 c.args.at Boolean (stack_at c.args.code.now.kinds c.args.place) (Leads c.args.code.now (c.args.place + 1)) (c.if-is_operand.ensures.0 refl) in
     (λ t. step.0 (c.leads_on.ensures.0 t), λ u. c.leads_on.ensures.1 (step.1 u))
 
 pub returns-else-is_operand : goal.returns-else-is_operand
 returns-else-is_operand c =
-    (λ t. cc (t, c.if-is_operand.false), λ u. absurd (not_under_one c.args.at Boolean (stack_at c.args.code.now.kinds c.args.place) (Leads c.args.code.now (c.args.place + 1)) (λ top. cc (c.is_operand.ensures.1 top, c.if-is_operand.false)) u))
+    (λ t. cc (t, c.if-is_operand.false), λ u. absurd (not_under_one 0 c.args.at Boolean (stack_at c.args.code.now.kinds c.args.place) (Leads c.args.code.now (c.args.place + 1)) (λ top. cc (c.is_operand.ensures.1 top, c.if-is_operand.false)) u))
