@@ -115,7 +115,7 @@ module _ (ask : Ask) (k : Tables) (code : Code) (valid : IsValid code) (bound : 
     K = tools_with ask k call default
 
     default_is : (ty : Ty) → IsScalar ty → (d : List ℕ) (slot c : ℕ) (l : Log) (w : World) → declare (category_of ty) K (last_of d) slot ty None c l w ≡ Gives (Goes tt) 0 c l (declared d slot 0 w)
-    unfolding declare opened_outcome opened_types item_or
+    unfolding declare opened_outcome opened_types item_or scalar_of opened_lists
     default_is Integer known d slot c l w = refl
     default_is Boolean known d slot c l w = refl
     default_is Count known d slot c l w = absurd known
@@ -125,7 +125,7 @@ module _ (ask : Ask) (k : Tables) (code : Code) (valid : IsValid code) (bound : 
     default_is (Record t) known d slot c l w = absurd known
 
     value_is : (ty : Ty) → IsScalar ty → (d : List ℕ) (slot n c : ℕ) (l : Log) (w : World) → declare (category_of ty) K (last_of d) slot ty (Some (n ∷ [])) c l w ≡ Gives (Goes tt) 0 c l (declared d slot n w)
-    unfolding declare opened_outcome opened_types item_or
+    unfolding declare opened_outcome opened_types item_or scalar_of opened_lists
     value_is Integer known d slot n c l w = refl
     value_is Boolean known d slot n c l w = refl
     value_is Count known d slot n c l w = absurd known

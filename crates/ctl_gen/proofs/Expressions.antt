@@ -9,6 +9,7 @@ use Rattle.ctl_program.specs.declared.operators.UnaryOp.{UnaryOp}
 use Rattle.ctl_program.specs.declared.operators.Shortcut.{Shortcut}
 use Rattle.ctl_meaning.specs.World.{Log, World}
 use Rattle.ctl_meaning.specs.Lists.{opened_lists}
+use Rattle.ctl_meaning.specs.Objects.{first_cells}
 use Rattle.ctl_meaning.specs.Activations.{master_of}
 use Rattle.ctl_meaning.specs.Choice.{Ask}
 use Rattle.ctl_meaning.specs.Outcome.{constraint_error, Way, ByRaise, Result, Goes, Leaves, Out, Gives, Stops, Cut, Act, add, bind, on_goes, ◌>>=◌, done, ticked, either, opened_outcome}
@@ -35,7 +36,7 @@ use Rattle.ctl_gen.specs.Around.{Line, new_operand, local_at, local_cell, out_to
 use Rattle.ctl_gen.specs.Values.{ValueCode, OperatorCode, Held, held, held_by, evaluated, in_cell, left_held, operator_for, binary_code, operator_by, operator_code, operators_code, other_code, others_code, moved_to, constant, read, read_from, unary_code, chain, first_type, short}
 use Rattle.ctl_gen.specs.Values.{unary as unary_value_code}
 use Rattle.ctl_gen.proofs.Known.{IsScalar}
-use Rattle.ctl_gen.proofs.Values.{one_cell, scalar_cells}
+use Rattle.ctl_gen.proofs.Values.{scalar_cells}
 use Rattle.ctl_gen.proofs.Place.{Laid, laid_front, laid_back}
 use Rattle.ctl_gen.proofs.Cells.{here, by_code, landed, landed_leaves, put_is, waiting, Stays, held_in, taking_is, value_of, cell_is, IsCell, Any}
 use Rattle.ctl_gen.proofs.Worth.{cell_less, cell_later, cell_then, cell_always, both_cell, then_paid}
@@ -97,11 +98,10 @@ module _ (ask : Ask) (k : Tables) (code : Code) (Fits : World → Type 0) where
   Uses x find = (d : List ℕ) (c : ℕ) (l : Log) (w : World) → find d c l w ≡ Gives (Goes (InVariable (master_of d x) x.slot)) 1 c l w
 
   reads_it : (x : Var) (find : List ℕ → Act Found) → Uses x find → (ty : Ty) → IsScalar ty → (d : List ℕ) (c : ℕ) (l : Log) (w : World) → ticked (find d >>= read_found (cells_of k ty)) c l w ≡ Gives (Goes (value_of d x w ∷ [])) 2 c l w
-  unfolding opened_outcome read_found
+  unfolding opened_outcome read_found first_cells
   reads_it x find uses ty scalar d c l w =
       ap (λ o. add 1 (bind o (on_goes (read_found (cells_of k ty))))) (uses d c l w)
       ∙ ap (λ n. add 1 (add 1 (read_found n (InVariable (master_of d x) x.slot) c l w))) (scalar_cells k ty scalar)
-      ∙ ap (λ u. Gives (Goes u) 2 c l w) (one_cell ((slot_at (master_of d x) x.slot w).value ∷ []))
 
   -- a variable of this window, or of a body around, goes where it is wanted
   read_step : (at' : Option ℕ) (v : Var) (ty : Ty) (to : Cell) (s : List Kind) (d : List ℕ) (place : ℕ) (ks : List Frame) (ops : List ℕ) (l : Log) (w : World) → length d ≡ depth s → slice_get code.instructions.items place ≡ Some (read_from at' v ty to s) → step ask code (at d place ks ops l w) ≡ landed to.named d (place + 1) ks ops (Goes (value_of d v w ∷ [])) l w

@@ -10,7 +10,7 @@ use Rattle.ctl_meaning.specs.Names.{scalar_of, opened_names}
 use Rattle.ctl_gen.proofs.Known.{IsScalar}
 
 -- the one cell of an elementary variable, 0 where its slot has none
-pub one_cell : (v : List ℕ) → first_cells 1 (drop 0 v) ≡ scalar_of v ∷ []
+pub one_cell : (v : List ℕ) → first_cells 1 v ≡ scalar_of (first_cells 1 v) ∷ []
 unfolding opened_objects opened_names opened_lists
 one_cell [] = refl
 one_cell (x ∷ v) = refl

@@ -6,7 +6,7 @@ use Rattle.std.proofs.lemmas.Bool.{eqb-true, eqb-false, eq-eqb, ne_eqb}
 use Rattle.ctl_program.specs.declared.types.Ty.{Ty}
 use Rattle.ctl_program.specs.declared.types.Ty.TheVariants.{Record}
 use Rattle.ctl_meaning.specs.Types.{Tables}
-use Rattle.ctl_meaning.specs.World.{Finalized, Origin, Declared, Allocated, Object, Layer, Single, Sets, Master, Content, Nothing, Holds, Binds, Copies, Gathers, Slot, unset, Activation, World, opened_world, empty_world}
+use Rattle.ctl_meaning.specs.World.{Finalized, Origin, Declared, Allocated, Object, Layer, Single, Sets, Master, Content, Nothing, Holds, Binds, Copies, Gathers, holding, Slot, unset, Activation, World, opened_world, empty_world}
 use Rattle.ctl_meaning.specs.Lists.{first_with, change_each, keep, item_or, opened_lists}
 use Rattle.ctl_meaning.specs.Ledger.{with_layer, without_newest, layers_in, layers_of, opened_ledger}
 use Rattle.ctl_meaning.specs.Activations.{with_slot, slots_in, display_in, activation_at, slot_in, opened_activations}
@@ -381,6 +381,6 @@ module _ (k : Tables) (code : Code) where
       by true is rest e1 = absurd (let same = eqb-true p.number n is in let lt = h.0 in omega (arith, same, lt))
       by false is rest e1 = rest e1
 
-  pub created_ty : (ty : Ty) (cells : List ℕ) (m slot : ℕ) (w : World) → Fits w → (o : Object) → object_at w.ledger.next_object (set_slot m slot (Holds w.ledger.next_object) (create ty cells (Declared m) w)) ≡ Some o → o.ty ≡ ty
+  pub created_ty : (ty : Ty) (cells : List ℕ) (m slot : ℕ) (w : World) → Fits w → (o : Object) → object_at w.ledger.next_object (set_slot m slot (holding (Holds w.ledger.next_object)) (create ty cells (Declared m) w)) ≡ Some o → o.ty ≡ ty
   unfolding opened_changes object_in
   created_ty ty cells m slot w h o e = new_found w.ledger.next_object w.objects _ o h.numbers e
