@@ -1,6 +1,6 @@
 -- The declaration of an object of a plain type.
 use Rattle.std.proofs.Common.{◌≡◌, ℕ, ◌+◌, ◌<◌, ◌≤◌, List, [], ◌∷◌, length, Option, Some, None, false, refl, sym, ap, ◌∙◌, subst, arith}
-use Rattle.std.specs.Prelude.{slice_get, ◌&&◌, is_some}
+use Rattle.std.specs.Prelude.{replicate, slice_get, ◌&&◌, is_some}
 use Rattle.ctl_program.specs.declared.types.Ty.TheVariants.{Record}
 use Rattle.ctl_program.specs.declared.types.RecordType.{RecordType}
 use Rattle.ctl_tree.specs.declared.ending.Stop.TheVariants.{UseAfterFree}
@@ -24,12 +24,12 @@ use Rattle.ctl_code.specs.States.{At, Stopped, Point, Frame, Initializing, State
 use Rattle.ctl_code.specs.declared.kinds.Kind.{Kind}
 use Rattle.ctl_code.specs.Valid.{IsDeclarable}
 use Rattle.ctl_code.specs.Table as Table
-use Rattle.ctl_code.specs.Table.{whole_part, showing, birth, come_to_life, operation_of}
+use Rattle.ctl_code.specs.Table.{size_of, whole_part, showing, birth, come_to_life, operation_of}
 use Rattle.ctl_code.specs.Steps.{moved, step}
 use Rattle.ctl_gen.proofs.Known.{IsPlain}
 use Rattle.ctl_gen.proofs.Worlds.{IfFound, Settled, Since, Kept, home, object_fits, created_ty, since_create, since_slot, since_layer, since_begin, since_end}
 use Rattle.ctl_gen.proofs.Finalize.{initialize_scope}
-use Rattle.ctl_gen.proofs.Plain.{is_controlled_plain, begin_cells_plain, parts_to_begin_plain, parts_to_finalize_plain}
+use Rattle.ctl_gen.proofs.Plain.{is_controlled_plain, begin_cells_flat, parts_to_begin_flat, parts_to_finalize_flat}
 use Rattle.ctl_gen.proofs.Setting.{Setting, tools_with, returns, Told, Sees, Calls, enter_shows}
 use Rattle.ctl_gen.proofs.Cells.{by_code}
 use Rattle.ctl_gen.proofs.Place.{Laid}
@@ -66,7 +66,7 @@ module _ (ask : Ask) (k : Tables) (code : Code) (setting : Setting k code) (call
   finalize_none : (n c : ℕ) (l : Log) (w : World) → finalize K Failed (These []) (whole n) t c l w ≡ Gives (Goes false) 1 c l w
   unfolding opened_finalization opened_outcome depth opened_lists
   finalize_none n c l w =
-      ap (λ ps. add 1 (bind (own_finalize K Failed (These []) (whole n) t c l w) (on_goes (in_any_order K (λ p. of_record (done false) (finalize_part K Failed (These []) (length k.records) (component_at (whole n) p)) p.ty) (length ps) ps)))) (parts_to_finalize_plain k t r here plain K (These []) (whole n) refl)
+      ap (λ ps. add 1 (bind (own_finalize K Failed (These []) (whole n) t c l w) (on_goes (in_any_order K (λ p. of_record (done false) (finalize_part K Failed (These []) (length k.records) (component_at (whole n) p)) p.ty) (length ps) ps)))) (parts_to_finalize_flat k t r here plain.flat K (These []) (whole n) refl)
       ∙ ap (λ b. add 1 (bind (either (b && false) (attempt (call_operation K (whole n) (operation (λ x. x.finalize) k t) (EventOf.Finalize (whole_part n) Failed)) >>= after_finalize Failed) (done false) c l w) (on_goes (λ b1. done b1)))) (is_controlled_plain k t r here plain)
 
   clean_up_is : (n e c : ℕ) (l : Log) (w : World) → clean_up K (whole n) t [] e c l w ≡ Gives (Leaves (ByRaise e)) 1 c l (end_finalization n (begin_finalization n w))
@@ -76,14 +76,14 @@ module _ (ask : Ask) (k : Tables) (code : Code) (setting : Setting k code) (call
   initialize_is : (g1 g2 : Option ℕ) → operation (λ x. x.initialize) k t ≡ g1 → operation (λ x. x.finalize) k t ≡ g2 → (n m c : ℕ) (l : Log) (w0 w : World) → initialize K (birth_of (Declared m) w0) (whole n) (Record t) c l w ≡ started g2 n m (call_operation K (whole n) g1 (starts n) c l w)
   unfolding opened_initialization opened_finalization opened_outcome depth of_record birth_of lives
   initialize_is g1 g2 e1 e2 n m c l w0 w =
-      ap (λ ps. bind (bind (begin_each K (whole n) (begin_component K (birth_of (Declared m) w0) (initialize_part K (birth_of (Declared m) w0) (length k.records)) (whole n) t) (length ps) ps [] c l w) (on_goes (unless_failed (own_initialize K (whole n) t)))) (on_goes (begun K (birth_of (Declared m) w0) (whole n) t))) (parts_to_begin_plain k t r here plain K refl)
+      ap (λ ps. bind (bind (begin_each K (whole n) (begin_component K (birth_of (Declared m) w0) (initialize_part K (birth_of (Declared m) w0) (length k.records)) (whole n) t) (length ps) ps [] c l w) (on_goes (unless_failed (own_initialize K (whole n) t)))) (on_goes (begun K (birth_of (Declared m) w0) (whole n) t))) (parts_to_begin_flat k t r here plain.flat K refl)
       ∙ ap (λ b. bind (add 0 (either b (λ c1 l1 w1. bind (bind (call_operation K (whole n) (operation (λ x. x.initialize) k t) (starts n) c1 l1 w1) told) (on_goes (begin_next [] begun_with []))) (begun_with []) c l w)) (on_goes (λ x. on_some x.failure (when b (alive (operation (λ y. y.finalize) k t) n m)) (clean_up K (whole n) t x.paths)))) (is_controlled_plain k t r here plain)
       ∙ ap (λ x. started (operation (λ y. y.finalize) k t) n m (call_operation K (whole n) x (starts n) c l w)) e1
       ∙ ap (λ x. started x n m (call_operation K (whole n) g1 (starts n) c l w)) e2
 
-  declare_is : (m slot c : ℕ) (l : Log) (w : World) → declare Composite K m slot (Record t) None c l w ≡ standing w.ledger.next_object m (initialize K (birth_of (Declared m) w) (whole w.ledger.next_object) (Record t) c l (set_slot m slot (holding (Holds w.ledger.next_object)) (create (Record t) [] (Declared m) w)))
+  declare_is : (m slot c : ℕ) (l : Log) (w : World) → declare Composite K m slot (Record t) None c l w ≡ standing w.ledger.next_object m (initialize K (birth_of (Declared m) w) (whole w.ledger.next_object) (Record t) c l (set_slot m slot (holding (Holds w.ledger.next_object)) (create (Record t) (replicate (size_of code t) 0) (Declared m) w)))
   unfolding declare fill opened_outcome
-  declare_is m slot c l w = ap (λ cells. standing w.ledger.next_object m (initialize K (birth_of (Declared m) w) (whole w.ledger.next_object) (Record t) c l (set_slot m slot (holding (Holds w.ledger.next_object)) (create (Record t) cells (Declared m) w)))) (begin_cells_plain k t r here plain)
+  declare_is m slot c l w = ap (λ cells. standing w.ledger.next_object m (initialize K (birth_of (Declared m) w) (whole w.ledger.next_object) (Record t) c l (set_slot m slot (holding (Holds w.ledger.next_object)) (create (Record t) cells (Declared m) w)))) (begin_cells_flat k t r here plain.flat ∙ ap (λ i. replicate i 0) (sym (setting.sizes t r here)))
 
   call_is : (f n c : ℕ) (e : Event) (l : Log) (w : World) (o : Object) → object_at n w ≡ Some o → call_operation K (whole n) (Some f) e c l w ≡ bind (add 0 (call (OfSubprogram f (holding (Binds n 0 []) ∷ [])) (home_of o.origin w) c (tell e l) w)) (on_goes (λ _. nothing))
   unfolding opened_finalization opened_outcome opened_names
@@ -164,7 +164,7 @@ module _ (ask : Ask) (k : Tables) (code : Code) (setting : Setting k code) (call
         p = record { display = d; place = place + 1; operands = ops }
 
         w1 : World
-        w1 = set_slot (last_of d) slot (holding (Holds w.ledger.next_object)) (create (Record t) [] (Declared (last_of d)) w)
+        w1 = set_slot (last_of d) slot (holding (Holds w.ledger.next_object)) (create (Record t) (replicate (size_of code t) 0) (Declared (last_of d)) w)
 
         old : last_of d < w.ledger.next_master
         old = omega (arith, sees.old, fits.1.later)
@@ -175,8 +175,8 @@ module _ (ask : Ask) (k : Tables) (code : Code) (setting : Setting k code) (call
         inside : IsDeclarable code (length (home (last_of d) w.activations)) t
         inside = subst (λ x. IsDeclarable code x t) (sym (ap length same ∙ sees.long)) (setting.valid.each place (InstrOf.Declare slot t) s has.0 has.1).0
 
-        fits2 : Since k code w0 (set_slot (last_of d) slot (holding (Holds w.ledger.next_object)) (create (Record t) [] (Declared (last_of d)) w))
-        fits2 = since_slot k code (last_of d) slot (holding (Holds n)) w0 _ tt (since_create k code (Record t) [] (last_of d) w0 w (r, here, plain) old inside fits)
+        fits2 : Since k code w0 (set_slot (last_of d) slot (holding (Holds w.ledger.next_object)) (create (Record t) (replicate (size_of code t) 0) (Declared (last_of d)) w))
+        fits2 = since_slot k code (last_of d) slot (holding (Holds n)) w0 _ tt (since_create k code (Record t) (replicate (size_of code t) 0) (last_of d) w0 w (r, here, plain) old inside fits)
 
-        typed : (o : Object) → object_at w.ledger.next_object (set_slot (last_of d) slot (holding (Holds w.ledger.next_object)) (create (Record t) [] (Declared (last_of d)) w)) ≡ Some o → o.ty ≡ Record t
-        typed o at1 = created_ty k code (Record t) [] (last_of d) slot w fits.0 o at1
+        typed : (o : Object) → object_at w.ledger.next_object (set_slot (last_of d) slot (holding (Holds w.ledger.next_object)) (create (Record t) (replicate (size_of code t) 0) (Declared (last_of d)) w)) ≡ Some o → o.ty ≡ Record t
+        typed o at1 = created_ty k code (Record t) (replicate (size_of code t) 0) (last_of d) slot w fits.0 o at1

@@ -1,5 +1,5 @@
 -- The code of each expression that this version runs does what the expression means.
-use Rattle.std.proofs.Common.{◌≡◌, List, [], ◌∷◌, map, Option, Some, None, true, refl, sym, ap, ◌∙◌, subst}
+use Rattle.std.proofs.Common.{◌≡◌, ℕ, List, [], ◌∷◌, map, Option, Some, None, true, refl, sym, ap, ◌∙◌, subst}
 use Rattle.ctl_program.specs.declared.types.Ty.{Ty}
 use Rattle.ctl_program.specs.declared.types.Var.{Var}
 use Rattle.ctl_program.specs.declared.expression.Expr.{Expr, roll-Expr, map-Expr, ind-Expr}
@@ -7,30 +7,42 @@ use Rattle.ctl_program.specs.declared.expression.Name.{Name, roll-Name, map-Name
 use Rattle.ctl_program.specs.declared.expression.Actual.{Actual}
 use Rattle.ctl_program.specs.declared.expression.Operand.{Operand, Operand-F, roll-Operand, map-Operand}
 use Rattle.ctl_program.specs.declared.expression.Actual.TheOpen.{Expr-F, Name-F}
-use Rattle.ctl_meaning.specs.World.{World}
+use Rattle.ctl_meaning.specs.World.{Content, Nothing, Holds, Binds, Copies, Gathers, World}
+use Rattle.ctl_meaning.specs.Activations.{master_of}
+use Rattle.ctl_meaning.specs.Changes.{slot_at}
 use Rattle.ctl_meaning.specs.Choice.{Ask}
-use Rattle.ctl_meaning.specs.Outcome.{◌>>=◌, ticked, opened_outcome}
-use Rattle.ctl_meaning.specs.Types.{Tables, Category, Elementary, cells_of}
-use Rattle.ctl_meaning.specs.Names.{Call, Default, Tools, read_found, walk, begins_as, opened_names}
+use Rattle.ctl_meaning.specs.Outcome.{Act, add, bind, on_goes, ◌>>=◌, ticked, opened_outcome}
+use Rattle.ctl_meaning.specs.Types.{Tables, Category, Elementary, Composite, cells_of, offset_in, placed as placed_in}
+use Rattle.ctl_meaning.specs.Names.{Call, Default, Tools, Found, found_in, read_found, walk, begins_as, opened_names}
 use Rattle.ctl_meaning.specs.Expressions.{Applied, Naming, Valued, apply, eval, eval_name, eval_step, name_step as name_meaning, operand_step, var_part}
 use Rattle.ctl_meaning.proofs.Trees.{eval_roll, name_roll, operand_roll}
 use Rattle.ctl_code.specs.declared.code.Code.{Code}
-use Rattle.ctl_gen.specs.Values.{ValueCode, OperatorCode, missing_value, operator_of, operators_run, read, value_code, values_run, variable_of}
-use Rattle.ctl_gen.proofs.Known.{both_true, scalar_elementary, scalar_if}
-use Rattle.ctl_gen.proofs.TreeLayers.{value_roll, variable_roll, operator_roll}
-use Rattle.ctl_gen.proofs.Setting.{tools_with}
+use Rattle.ctl_program.specs.declared.expression.Step.{Step}
+use Rattle.ctl_program.specs.declared.expression.Step.TheVariants.{Component, Dereference, Narrow}
+use Rattle.ctl_gen.specs.declared.right.Reached.{Reached}
+use Rattle.ctl_gen.specs.declared.right.Reached.TheVariants as ReachedOf
+use Rattle.ctl_gen.specs.Values.{ValueCode, behind_steps, OperatorCode, missing_value, operator_of, operators_run, read, value_code, values_run, reached_by}
+use Rattle.ctl_gen.proofs.Known.{IsScalar, both_true, scalar_elementary, scalar_if}
+use Rattle.ctl_gen.proofs.Worlds.{IsWhole, Since, whole_at}
+use Rattle.ctl_gen.proofs.Components.{Touches, component_value, content_of, stepped}
+use Rattle.ctl_gen.proofs.TreeLayers.{value_roll, reached_roll, operator_roll}
+use Rattle.ctl_gen.proofs.Setting.{ArePlaced, tools_with}
 use Rattle.ctl_gen.proofs.Expressions as X
 
-module _ (ask : Ask) (k : Tables) (code : Code) (call : Call) (default : Default) (Fits : World → Type 0) where
+module _ (ask : Ask) (k : Tables) (code : Code) (placed : ArePlaced k code) (call : Call) (default : Default) (Fits : World → Type 0) (whole : (n i : ℕ) (w : World) → Fits w → IsWhole (slot_at n i w)) where
   abbrev K : Tools
   K = tools_with ask k call default
 
   abbrev pub IsValue : Expr → Type 0
   IsValue e = (value_code e).runs ≡ true → X.Value ask k code Fits (value_code e) (eval e K)
 
-  -- a name that is a variable alone finds it
+  -- what a name means that reaches something
+  abbrev pub Reaches : Reached → (List ℕ → Act Found) → Type 0
+  Reaches (ReachedOf.Variable v) find = X.Uses ask k code Fits v find
+  Reaches (ReachedOf.Component v t position) find = Touches k v t position find
+
   abbrev pub Finds : Name → Type 0
-  Finds n = (x : Var) → variable_of n ≡ Some x → X.Uses ask k code Fits x (eval_name n Elementary K)
+  Finds n = (x : Reached) → reached_by n ≡ Some x → Reaches x (eval_name n Elementary K)
 
   abbrev IsOperator : Operand → Type 0
   IsOperator o = (operator_of o).right.runs ≡ true → X.Further ask k code Fits (operator_of o) (apply o K)
@@ -82,17 +94,20 @@ module _ (ask : Ask) (k : Tables) (code : Code) (call : Call) (default : Default
   missing_rolled : (y : Expr-F Actual Expr Name Operand) → value_code (roll-Expr y) ≡ missing_value None → IsValue (roll-Expr y)
   missing_rolled y same h = absurd (let e = sym (ap (λ (x : ValueCode). x.runs) same) ∙ h in cc)
 
-  reads : (o : Option Var) (ty : Ty) (find : Naming) → ((x : Var) → o ≡ Some x → X.Uses ask k code Fits x (find Elementary K)) → Meets (read o ty) (eval_step (Expr-F.Read find ty))
+  -- a value of an elementary type
+  elementary : (o : Option Reached) (ty : Ty) (find : Naming) → IsScalar ty → X.Value ask k code Fits (read o ty) (λ v. ticked (find Elementary K v >>= read_found (cells_of k ty))) → X.Value ask k code Fits (read o ty) (eval_step (Expr-F.Read find ty) K)
   unfolding eval_step
+  elementary o ty find scalar h = subst (λ (c : Category). X.Value ask k code Fits (read o ty) (λ v. ticked (find c K v >>= read_found (cells_of k ty)))) (sym (scalar_elementary ty scalar)) h
+
+  reads : (o : Option Reached) (ty : Ty) (find : Naming) → ((x : Reached) → o ≡ Some x → Reaches x (find Elementary K)) → Meets (read o ty) (eval_step (Expr-F.Read find ty))
   reads None ty find h runs = absurd (cc)
-  reads (Some x) ty find h runs =
-      subst (λ (c : Category). X.Value ask k code Fits (read (Some x) ty) (λ v. ticked (find c K v >>= read_found (cells_of k ty)))) (sym (scalar_elementary ty (scalar_if ty runs)))
-      (X.read_value ask k code Fits x (find Elementary K) (h x refl) ty (scalar_if ty runs))
+  reads (Some (ReachedOf.Variable v)) ty find h runs = elementary (Some (ReachedOf.Variable v)) ty find (scalar_if ty runs) (X.read_value ask k code Fits v (find Elementary K) (h (ReachedOf.Variable v) refl) ty (scalar_if ty runs))
+  reads (Some (ReachedOf.Component v t position)) ty find h runs = elementary (Some (ReachedOf.Component v t position)) ty find (scalar_if ty runs) (component_value ask k code placed Fits whole v t position (find Elementary K) (h (ReachedOf.Component v t position) refl) ty (scalar_if ty runs))
 
   expr_rolled : (y : Expr-F ActualToo ExprToo NameToo OperandToo) → IsValue (roll-Expr (bare_expr y))
   unfolding eval_step
   expr_rolled (Expr-F.Constant n) = meets (Expr-F.Constant n) _ _ (value_roll (Expr-F.Constant n)) (eval_roll (Expr-F.Constant n)) (λ h. X.constant_value ask k code Fits n)
-  expr_rolled (Expr-F.Read n ty) = meets (Expr-F.Read n.0 ty) _ _ (value_roll (Expr-F.Read n.0 ty)) (eval_roll (Expr-F.Read n.0 ty)) (reads (variable_of n.0) ty (eval_name n.0) n.1)
+  expr_rolled (Expr-F.Read n ty) = meets (Expr-F.Read n.0 ty) _ _ (value_roll (Expr-F.Read n.0 ty)) (eval_roll (Expr-F.Read n.0 ty)) (reads (reached_by n.0) ty (eval_name n.0) n.1)
   expr_rolled (Expr-F.Unary op ty e) = meets (Expr-F.Unary op ty e.0) _ _ (value_roll (Expr-F.Unary op ty e.0)) (eval_roll (Expr-F.Unary op ty e.0)) (λ h. X.unary_value ask k code Fits op ty (value_code e.0) (eval e.0 K) (e.1 h))
   expr_rolled (Expr-F.Chain e o os) =
       let y = Expr-F.Chain e.0 o.0 (map (λ z. z.0) os) in
@@ -123,14 +138,34 @@ module _ (ask : Ask) (k : Tables) (code : Code) (call : Call) (default : Default
   unfolding var_part opened_names opened_outcome
   uses_it x v c l w = refl
 
-  finds : (y : Name-F Actual Expr Name Operand) (o : Option Var) (m : Naming) → variable_of (roll-Name y) ≡ o → eval_name (roll-Name y) ≡ m → ((x : Var) → o ≡ Some x → X.Uses ask k code Fits x (m Elementary K)) → Finds (roll-Name y)
-  finds y o m same means h x is = subst (λ (n : Naming). X.Uses ask k code Fits x (n Elementary K)) (sym means) (h x (sym same ∙ is))
+  -- in two ticks
+  touches_it : (v : Var) (t position : ℕ) → Touches k v t position (λ u. var_part Composite u v >>= walk K (Component t position ∷ []))
+  unfolding var_part opened_names opened_outcome
+  touches_it v t position d c l w = by (content_of d v w)
+    where
+      by : (x : Content) → bind (add 1 (found_in (master_of d v) v.slot x c l w)) (on_goes (walk K (Component t position ∷ []))) ≡ stepped (offset_in position (placed_in k t)) position (found_in (master_of d v) v.slot x c l w)
+      by Nothing = refl
+      by (Holds n) = refl
+      by (Binds n at path) = refl
+      by (Copies u) = refl
+      by (Gathers n) = refl
+
+  finds : (y : Name-F Actual Expr Name Operand) (o : Option Reached) (m : Naming) → reached_by (roll-Name y) ≡ o → eval_name (roll-Name y) ≡ m → ((x : Reached) → o ≡ Some x → Reaches x (m Elementary K)) → Finds (roll-Name y)
+  finds y o m same means h x is = subst (λ (n : Naming). Reaches x (n Elementary K)) (sym means) (h x (sym same ∙ is))
+
+  -- what a variable reaches behind its steps
+  behind_it : (v : Var) (ss : List Step) (x : Reached) → behind_steps v ss ≡ Some x → Reaches x (λ u. var_part (begins_as ss Elementary) u v >>= walk K ss)
+  unfolding begins_as
+  behind_it v [] x is = let same : ReachedOf.Variable v ≡ x = cc is in subst (λ y. Reaches y (λ u. var_part Elementary u v >>= walk K [])) same (uses_it v)
+  behind_it v (Component t position ∷ []) x is = let same : ReachedOf.Component v t position ≡ x = cc is in subst (λ y. Reaches y (λ u. var_part Composite u v >>= walk K (Component t position ∷ []))) same (touches_it v t position)
+  behind_it v (Component t position ∷ s ∷ ss) x is = absurd (cc is)
+  behind_it v (Dereference ∷ ss) x is = absurd (cc is)
+  behind_it v (Narrow t ∷ ss) x is = absurd (cc is)
 
   name_rolled : (y : Name-F ActualToo ExprToo NameToo OperandToo) → Finds (roll-Name (bare_name y))
-  unfolding name_meaning begins_as
-  name_rolled (Name-F.Variable v []) = finds (Name-F.Variable v []) _ _ (variable_roll (Name-F.Variable v [])) (name_roll (Name-F.Variable v [])) (λ x is. let same : v ≡ x = cc in subst (λ (y : Var). X.Uses ask k code Fits y (λ u. var_part Elementary u v >>= walk K [])) same (uses_it v))
-  name_rolled (Name-F.Variable v (s ∷ ss)) = finds (Name-F.Variable v (s ∷ ss)) _ _ (variable_roll (Name-F.Variable v (s ∷ ss))) (name_roll (Name-F.Variable v (s ∷ ss))) (λ x is. absurd (cc))
-  name_rolled (Name-F.Given e ss) = finds (Name-F.Given e.0 ss) _ _ (variable_roll (Name-F.Given e.0 ss)) (name_roll (Name-F.Given e.0 ss)) (λ x is. absurd (cc))
+  unfolding name_meaning
+  name_rolled (Name-F.Variable v ss) = finds (Name-F.Variable v ss) _ _ (reached_roll (Name-F.Variable v ss)) (name_roll (Name-F.Variable v ss)) (behind_it v ss)
+  name_rolled (Name-F.Given e ss) = finds (Name-F.Given e.0 ss) _ _ (reached_roll (Name-F.Given e.0 ss)) (name_roll (Name-F.Given e.0 ss)) (λ x is. absurd (cc))
 
   operand_rolled : (y : Operand-F ActualToo ExprToo NameToo OperandToo) → IsOperator (roll-Operand (bare_operand y))
   unfolding operand_step
@@ -156,3 +191,7 @@ module _ (ask : Ask) (k : Tables) (code : Code) (call : Call) (default : Default
       (λ x y is. subst (λ z. IsValue (roll-Expr z)) is (expr_rolled y))
       (λ x y is. subst (λ z. Finds (roll-Name z)) is (name_rolled y))
       (λ x y is. subst (λ z. IsOperator (roll-Operand z)) is (operand_rolled y))
+
+-- a value, in the worlds since any
+pub value_since : (ask : Ask) (k : Tables) (code : Code) (placed : ArePlaced k code) (call : Call) (default : Default) (e : Expr) → (value_code e).runs ≡ true → (w0 : World) → X.Value ask k code (Since k code w0) (value_code e) (eval e (tools_with ask k call default))
+value_since ask k code placed call default e runs w0 = value_means ask k code placed call default (Since k code w0) (λ n i w h. whole_at k code n i w h.0) e runs

@@ -1,7 +1,6 @@
 -- The code of each statement and of each master that this version runs does what it means.
 use Rattle.std.proofs.Common.{◌≡◌, ℕ, ◌+◌, List, [], ◌∷◌, map, Option, Some, None, Bool, true, false, refl, sym, ap, ◌∙◌, subst, arith, option_map}
 use Rattle.std.specs.Prelude.{◌&&◌}
-use Rattle.ctl_program.specs.declared.types.Var.{Var}
 use Rattle.ctl_program.specs.declared.expression.Expr.{Expr}
 use Rattle.ctl_program.specs.declared.statement.Item.{Item}
 use Rattle.ctl_program.specs.declared.statement.Stmt.{Stmt, roll-Stmt, map-Stmt}
@@ -23,15 +22,18 @@ use Rattle.ctl_meaning.proofs.Trees.{exec_roll, arm_roll as guarding_roll, maste
 use Rattle.ctl_code.specs.declared.code.Code.{Code}
 use Rattle.ctl_code.specs.declared.code.Instr.TheVariants as InstrOf
 use Rattle.ctl_code.specs.declared.code.Way.TheVariants as WayOf
-use Rattle.ctl_gen.specs.Values.{value_code, variable_of}
+use Rattle.ctl_gen.specs.declared.right.Reached.{Reached}
+use Rattle.ctl_gen.specs.declared.right.Reached.TheVariants as ReachedOf
+use Rattle.ctl_gen.specs.Values.{value_code, reached_by}
 use Rattle.ctl_gen.specs.Layout.{StatementCode, all, all_items, arm_code, assign, exit, return, has_no_handlers, inside, item_code, master_code, missing_statement, no_code, statement_code, leaves_code}
 use Rattle.ctl_gen.proofs.Known.{both_true}
 use Rattle.ctl_gen.proofs.TreeLayers.{arm_roll, master_roll, statement_roll}
 use Rattle.ctl_gen.proofs.Setting.{Setting, Calls, tools_with}
-use Rattle.ctl_gen.proofs.Worlds.{Fits, Since, Kept}
+use Rattle.ctl_gen.proofs.Worlds.{Fits, Since, Kept, whole_at}
 use Rattle.ctl_gen.proofs.Cells.{by_code}
-use Rattle.ctl_gen.proofs.Expressions.{Uses, Value}
-use Rattle.ctl_gen.proofs.Evaluated.{name_finds, value_means}
+use Rattle.ctl_gen.proofs.Expressions.{Value}
+use Rattle.ctl_gen.proofs.Evaluated.{Reaches, name_finds, value_since}
+use Rattle.ctl_gen.proofs.Components.{part_does}
 use Rattle.ctl_gen.proofs.Assign.{assign_runs}
 use Rattle.ctl_gen.proofs.Texts.{print_runs}
 use Rattle.ctl_gen.proofs.Branches.{only_if_runs, paid}
@@ -101,7 +103,7 @@ module _ (ask : Ask) (k : Tables) (code : Code) (setting : Setting k code) (call
 
   -- a value, in the worlds since any
   means : (e : Expr) → (value_code e).runs ≡ true → (w0 : World) → Value ask k code (Since k code w0) (value_code e) (eval e K)
-  means e runs w0 = value_means ask k code call default (Since k code w0) e runs
+  means e runs w0 = value_since ask k code setting.places call default e runs w0
 
   -- One layer ---------------------------------------------------------------------------------------
 
@@ -112,10 +114,11 @@ module _ (ask : Ask) (k : Tables) (code : Code) (setting : Setting k code) (call
   missing_does : (y : Stmt-F Stmt Arm Handler Master) → statement_code (roll-Stmt y) ≡ missing_statement → Does (roll-Stmt y)
   missing_does y same runs = absurd (let e = sym (ap (λ (x : StatementCode). x.runs k.records) same) ∙ runs in cc)
 
-  assign_does : (o : Option Var) (find : Naming) (e : Expr) → ((x : Var) → o ≡ Some x → Uses ask k code (λ w. Fits k code w) x (find Elementary K)) → Performs (assign o (value_code e)) (assign_doing find (eval e))
+  assign_does : (o : Option Reached) (find : Naming) (e : Expr) → ((x : Reached) → o ≡ Some x → Reaches ask k code setting.places call default (λ w. Fits k code w) (whole_at k code) x (find Elementary K)) → Performs (assign o (value_code e)) (assign_doing find (eval e))
   unfolding assign_doing
-  assign_does None find e uses runs n texts caught = absurd (cc)
-  assign_does (Some x) find e uses runs n texts caught = assign_runs ask k code setting.valid bound x (find Elementary K) (uses x refl) (value_code e) (eval e K) (means e runs)
+  assign_does None find e reaches runs n texts caught = absurd (cc)
+  assign_does (Some (ReachedOf.Variable v)) find e reaches runs n texts caught = assign_runs ask k code setting.valid bound v (find Elementary K) (reaches (ReachedOf.Variable v) refl) (value_code e) (eval e K) (means e runs)
+  assign_does (Some (ReachedOf.Component v t position)) find e reaches runs n texts caught = part_does ask k code setting.places bound v t position (value_code e) (eval e K) (means e runs) (find Elementary K) (reaches (ReachedOf.Component v t position) refl)
 
   -- one step to where control lands
   exits : DoesIn 1 ask k code bound leaves_code (λ d. leave_by ByExit)
@@ -135,9 +138,9 @@ module _ (ask : Ask) (k : Tables) (code : Code) (setting : Setting k code) (call
   stmt_rolled : (y : Stmt-F StmtToo ArmToo HandlerToo MasterToo) → Does (roll-Stmt (bare_stmt y))
   unfolding null_doing put put_line new_line raise_new loop_plainly loop_while loop_for opened_outcome
   stmt_rolled Stmt-F.Null = does Stmt-F.Null _ _ (statement_roll Stmt-F.Null) (exec_roll Stmt-F.Null) (λ runs n texts caught a w0 d place ks ops c l w le fits sees has. S.still_there ask k code setting call default bound calls 1 (lands a place) w0 d place ks ops c l w fits)
-  stmt_rolled (Stmt-F.Assign x e) = does (Stmt-F.Assign x e) _ _ (statement_roll (Stmt-F.Assign x e)) (exec_roll (Stmt-F.Assign x e)) (assign_does (variable_of x) (eval_name x) e (name_finds ask k code call default (λ w. Fits k code w) x))
-  stmt_rolled (Stmt-F.Put ps) = does (Stmt-F.Put ps) _ _ (statement_roll (Stmt-F.Put ps)) (exec_roll (Stmt-F.Put ps)) (λ runs n texts caught. print_runs ask k code call default bound false ps runs n texts)
-  stmt_rolled (Stmt-F.PutLine ps) = does (Stmt-F.PutLine ps) _ _ (statement_roll (Stmt-F.PutLine ps)) (exec_roll (Stmt-F.PutLine ps)) (λ runs n texts caught. print_runs ask k code call default bound true ps runs n texts)
+  stmt_rolled (Stmt-F.Assign x e) = does (Stmt-F.Assign x e) _ _ (statement_roll (Stmt-F.Assign x e)) (exec_roll (Stmt-F.Assign x e)) (assign_does (reached_by x) (eval_name x) e (name_finds ask k code setting.places call default (λ w. Fits k code w) (whole_at k code) x))
+  stmt_rolled (Stmt-F.Put ps) = does (Stmt-F.Put ps) _ _ (statement_roll (Stmt-F.Put ps)) (exec_roll (Stmt-F.Put ps)) (λ runs n texts caught. print_runs ask k code setting.places call default bound false ps runs n texts)
+  stmt_rolled (Stmt-F.PutLine ps) = does (Stmt-F.PutLine ps) _ _ (statement_roll (Stmt-F.PutLine ps)) (exec_roll (Stmt-F.PutLine ps)) (λ runs n texts caught. print_runs ask k code setting.places call default bound true ps runs n texts)
   stmt_rolled Stmt-F.NewLine = does Stmt-F.NewLine _ _ (statement_roll Stmt-F.NewLine) (exec_roll Stmt-F.NewLine) (λ runs n texts caught a w0 d place ks ops c l w le fits sees has. last_step ask code (Kept k code w0) 0 0 _ c 1 (arrives (lands a place) d (place + 1) ks ops) (Goes tt) (tell Newline l) w (omega arith) fits (by_code ask code d place ks ops l w InstrOf.NewLine has.0))
   stmt_rolled (Stmt-F.Exit o) = does (Stmt-F.Exit o) _ _ (statement_roll (Stmt-F.Exit o)) (exec_roll (Stmt-F.Exit o)) (exit_does o)
   stmt_rolled (Stmt-F.Raise e) = does (Stmt-F.Raise e) _ _ (statement_roll (Stmt-F.Raise e)) (exec_roll (Stmt-F.Raise e)) (λ runs n texts caught a w0 d place ks ops c l w le fits sees has. last_step ask code (Kept k code w0) 0 0 _ c 1 (arrives (lands a place) d (place + 1) ks ops) (Leaves (ByRaise e)) l w (omega arith) fits (by_code ask code d place ks ops l w (InstrOf.Transfer (WayOf.Raise e)) has.0))

@@ -15,7 +15,6 @@ use Rattle.ctl_meaning.specs.Choice.{Ask}
 use Rattle.ctl_meaning.specs.Outcome.{constraint_error, Way, ByRaise, Result, Goes, Leaves, Out, Gives, Stops, Cut, Act, add, bind, on_goes, ◌>>=◌, done, ticked, either, opened_outcome}
 use Rattle.ctl_meaning.specs.Numbers.{unary, binary}
 use Rattle.ctl_meaning.specs.Types.{Tables, cells_of}
-use Rattle.ctl_meaning.specs.Changes.{slot_at}
 use Rattle.ctl_meaning.specs.Names.{Found, InVariable, scalar_of, read_found, or_constraint_error, opened_names}
 use Rattle.ctl_meaning.specs.Expressions.{apply_each, decides, join_each, Applied, Valued}
 use Rattle.ctl_meaning.specs.Names.{Tools}
@@ -30,6 +29,7 @@ use Rattle.ctl_code.specs.States.{Frame, State}
 use Rattle.ctl_code.specs.Table.{by_result, by_binary, by_decision, cell_at}
 use Rattle.ctl_code.specs.Steps.{moved, step}
 use Rattle.ctl_code.specs.Windows.{depth, height}
+use Rattle.ctl_gen.specs.declared.right.Reached.TheVariants as ReachedOf
 use Rattle.ctl_gen.specs.declared.right.Right.{Right}
 use Rattle.ctl_gen.specs.declared.right.Right.TheVariants as RightOf
 use Rattle.ctl_gen.specs.Around.{Line, new_operand, local_at, local_cell, out_to}
@@ -108,7 +108,7 @@ module _ (ask : Ask) (k : Tables) (code : Code) (Fits : World → Type 0) where
   read_step (Some n) v ty to s d place ks ops l w long has = by_code ask code d place ks ops l w (InstrOf.Move (local_cell s v n) ty to) has ∙ put_is to.named (cell_at d (out_to s v) v.slot w) d place ks ops l w ∙ ap (λ x. landed to.named d (place + 1) ks ops (Goes (x ∷ [])) l w) (cell_is d s v w long)
   read_step None v ty to s d place ks ops l w long has = by_code ask code d place ks ops l w (InstrOf.Fetch (out_to s v) v.slot ty to) has ∙ put_is to.named (cell_at d (out_to s v) v.slot w) d place ks ops l w ∙ ap (λ x. landed to.named d (place + 1) ks ops (Goes (x ∷ [])) l w) (cell_is d s v w long)
 
-  pub read_value : (x : Var) (find : List ℕ → Act Found) → Uses x find → (ty : Ty) → IsScalar ty → Value (read (Some x) ty) (λ d. ticked (find d >>= read_found (cells_of k ty)))
+  pub read_value : (x : Var) (find : List ℕ → Act Found) → Uses x find → (ty : Ty) → IsScalar ty → Value (read (Some (ReachedOf.Variable x)) ty) (λ d. ticked (find d >>= read_found (cells_of k ty)))
   unfolding opened_outcome
   read_value x find uses ty scalar = record {
     cell = λ d c l w. subst (IsCell Any) (sym (reads_it x find uses ty scalar d c l w)) (value_of d x w, refl, tt);

@@ -27,7 +27,7 @@ use Rattle.ctl_code.specs.Steps.{moved, step}
 use Rattle.ctl_code.specs.Valid.{IsInScope, IsDeclarable}
 use Rattle.ctl_gen.proofs.Known.{IsPlain}
 use Rattle.ctl_gen.proofs.Worlds.{IfFound, Fits, Settled, Since, IsInside, home, object_fits, since_begin, since_end}
-use Rattle.ctl_gen.proofs.Plain.{is_controlled_plain, has_controlled_plain, parts_to_finalize_plain}
+use Rattle.ctl_gen.proofs.Plain.{is_controlled_plain, has_controlled_plain, parts_to_finalize_flat}
 use Rattle.ctl_gen.proofs.Setting.{Setting, tools_with, returns, Told, Sure, Calls, enter_shows}
 use Rattle.ctl_gen.proofs.Follow.{by_raise, Runs, gives, way_of, both, no_step, last_step, stop_step, within, then_step, more_quits, more_halts}
 
@@ -89,7 +89,7 @@ module _ (ask : Ask) (k : Tables) (code : Code) (setting : Setting k code) (call
   finalize_is : (g : Option ℕ) → operation (λ x. x.finalize) k t ≡ g → (n c : ℕ) (l : Log) (w : World) → finalize K Scope Every (whole n) t c l w ≡ add 1 (bind (bind (bind (call_operation K (whole n) g (ends n) c l w) told) (on_goes (after_finalize Scope))) (on_goes (λ b. done b)))
   unfolding opened_finalization opened_outcome depth
   finalize_is g e n c l w =
-      ap (λ ps. add 1 (bind (own_finalize K Scope Every (whole n) t c l w) (on_goes (in_any_order K (λ p. of_record (done false) (finalize_part K Scope Every (length k.records) (component_at (whole n) p)) p.ty) (length ps) ps)))) (parts_to_finalize_plain k t r here plain K Every (whole n) refl)
+      ap (λ ps. add 1 (bind (own_finalize K Scope Every (whole n) t c l w) (on_goes (in_any_order K (λ p. of_record (done false) (finalize_part K Scope Every (length k.records) (component_at (whole n) p)) p.ty) (length ps) ps)))) (parts_to_finalize_flat k t r here plain.flat K Every (whole n) refl)
       ∙ ap (λ b. add 1 (bind (either (b && true) (λ c1 l1 w1. bind (bind (call_operation K (whole n) (operation (λ x. x.finalize) k t) (ends n) c1 l1 w1) told) (on_goes (after_finalize Scope))) (done false) c l w) (on_goes (λ b1. done b1)))) (is_controlled_plain k t r here plain)
       ∙ ap (λ x. add 1 (bind (bind (bind (call_operation K (whole n) x (ends n) c l w) told) (on_goes (after_finalize Scope))) (on_goes (λ b. done b)))) e
 

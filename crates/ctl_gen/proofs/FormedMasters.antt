@@ -25,7 +25,10 @@ use Rattle.ctl_code.specs.declared.code.Code.{Code}
 use Rattle.ctl_code.specs.Windows.{variable_at}
 use Rattle.ctl_code.specs.Valid.{IsAtEnd, IsDeclarable}
 use Rattle.ctl_gen.specs.Around.{behind, local_at}
-use Rattle.ctl_gen.specs.Values.{ValueCode, is_run_type, value_code, variable_of}
+use Rattle.ctl_gen.specs.declared.right.Reached.{Reached}
+use Rattle.ctl_gen.specs.declared.right.Reached.TheVariants as ReachedOf
+use Rattle.ctl_gen.proofs.Components.{part_formed}
+use Rattle.ctl_gen.specs.Values.{ValueCode, is_run_type, value_code, reached_by}
 use Rattle.ctl_gen.specs.Layout.{ArmCode, ItemCode, MasterCode, StatementCode, all, all_items, arm_code, arms_run, assign, block, exit, return, has_no_handlers, in_master, inside, item_code, master_code, missing_statement, no_code, statement_code, tested}
 use Rattle.ctl_gen.proofs.Known.{both_true}
 use Rattle.ctl_gen.proofs.TreeLayers.{arm_roll, layer_of, master_roll}
@@ -96,9 +99,10 @@ module _ (code : Code) (records : List RecordType) (k : W.Setting) (declarable :
   not_missing : (env : W.Frames) (x : StatementCode) → x ≡ missing_statement → GoodStatement env x
   not_missing env x same runs = absurd (let e = sym (ap (λ (z : StatementCode). z.runs records) same) ∙ runs in cc)
 
-  assign_good : (env : W.Frames) (o : Option Var) (x : ValueCode) (t : Ty) → (x.runs ≡ true → Fine code x t) → GoodStatement env (assign o x)
+  assign_good : (env : W.Frames) (o : Option Reached) (x : ValueCode) (t : Ty) → (x.runs ≡ true → Fine code x t) → GoodStatement env (assign o x)
   assign_good env None x t fine runs a n p agrees texts can = absurd (cc)
-  assign_good env (Some v) x t fine runs a n p agrees texts can = assign_formed code (local_at a.stack v) v x a.stack refl (value_usable code x t (fine runs)) p
+  assign_good env (Some (ReachedOf.Component v u position)) x t fine runs a n p agrees texts can = part_formed code v u position x a.stack (value_usable code x t (fine runs)) p
+  assign_good env (Some (ReachedOf.Variable v)) x t fine runs a n p agrees texts can = assign_formed code (local_at a.stack v) v x a.stack refl (value_usable code x t (fine runs)) p
 
   leaving_good : {env : W.Frames} (o : Option Expr) → Perhaps k env o Boolean → GoodStatement env (exit (option_map value_code o))
   leaving_good {env} None T.left_out runs = leaves_stay code env
@@ -142,7 +146,7 @@ module _ (code : Code) (records : List RecordType) (k : W.Setting) (declarable :
   mutual
     pub statement_good : {env : W.Frames} {a : D.Around} {y : Stmt} → Done k env a y → GoodStatement env (statement_code y)
     statement_good {env} D.null = good_as env _ _ (layer_of _ (sym rolls-Null)) (λ runs a n p agrees texts can. none code a.stack p)
-    statement_good {env} (D.assign {x = x} {v = v} {t = t} scalar denotes h) = good_as env _ _ (layer_of _ (sym (rolls-Assign x v))) (assign_good env (variable_of x) (value_code v) t (λ runs. typed_fine code h runs))
+    statement_good {env} (D.assign {x = x} {v = v} {t = t} scalar denotes h) = good_as env _ _ (layer_of _ (sym (rolls-Assign x v))) (assign_good env (reached_by x) (value_code v) t (λ runs. typed_fine code h runs))
     statement_good {env} (D.put {ps = ps} puts) = good_as env _ _ (layer_of _ (sym (rolls-Put ps))) (λ runs a n p agrees texts can. print_formed code false n ps puts runs texts.0 a.stack p)
     statement_good {env} (D.put_line {ps = ps} puts) = good_as env _ _ (layer_of _ (sym (rolls-PutLine ps))) (λ runs a n p agrees texts can. print_formed code true n ps puts runs texts.0 a.stack p)
     statement_good {env} D.new_line = good_as env _ _ (layer_of _ (sym rolls-NewLine)) (λ runs a n p agrees texts can. one code InstrOf.NewLine a.stack (Some a.stack) (λ q next. next) p)

@@ -25,10 +25,12 @@ use Rattle.ctl_code.specs.declared.code.Code.{Code}
 use Rattle.ctl_code.specs.Windows.{height, variable_at}
 use Rattle.ctl_code.specs.Valid as Valid
 use Rattle.ctl_code.specs.Valid.{BinaryOf, IsCellOf, IsFine, Leads, Puts, Taken, UnaryOf}
+use Rattle.ctl_gen.specs.declared.right.Reached.{Reached}
+use Rattle.ctl_gen.specs.declared.right.Reached.TheVariants as ReachedOf
 use Rattle.ctl_gen.specs.declared.right.Right.{Right}
 use Rattle.ctl_gen.specs.declared.right.Right.TheVariants as RightOf
-use Rattle.ctl_gen.specs.Around.{Line, local_at, new_operand}
-use Rattle.ctl_gen.specs.Values.{Held, OperatorCode, ValueCode, binary_code, chain, common_type, constant, evaluated, first_type, held, held_by, in_cell, last_type, left_held, missing_value, moved_to, next_target, operand_type, operator_by, operator_code, operator_for, operator_of, operators_code, operators_run, other_code, others_code, read, read_from, short, unary, value_code, value_type, values_run, variable_of}
+use Rattle.ctl_gen.specs.Around.{Line, local_at, new_operand, out_to}
+use Rattle.ctl_gen.specs.Values.{Held, OperatorCode, ValueCode, binary_code, chain, common_type, constant, evaluated, first_type, held, held_by, in_cell, last_type, left_held, missing_value, moved_to, next_target, operand_type, operator_by, operator_code, operator_for, operator_of, operators_code, operators_run, other_code, others_code, read, read_from, short, unary, value_code, value_type, values_run, reached_by}
 use Rattle.ctl_gen.proofs.Known.{both_true}
 use Rattle.ctl_gen.proofs.Layers.{value_access, value_call, value_chain, value_constant, value_convert, value_discriminant, value_new, value_read, value_short, value_subpool, value_unary}
 use Rattle.ctl_gen.proofs.TreeLayers.{operator_roll}
@@ -278,9 +280,17 @@ module _ (code : Code) where
   read_fine (Some at) v ty to s p here scalar put = (scalar, (s, (refl, here), put))
   read_fine None v ty to s p here scalar put = (scalar, put)
 
-  read_own : (o : Option Var) (ty : Ty) → (read o ty).runs ≡ true → Own (read o ty) ty
+  read_own : (o : Option Reached) (ty : Ty) → (read o ty).runs ≡ true → Own (read o ty) ty
   read_own None ty runs = absurd (cc)
-  read_own (Some v) ty runs = record {
+  read_own (Some (ReachedOf.Component v t position)) ty runs = record {
+    own = refl;
+    usable = record {
+      scalar = run_scalar ty runs;
+      formed = λ to s at. one code (InstrOf.FetchPart (out_to s v) v.slot t position ty to) s (Some (with_put to.named ty s)) (λ p next. (run_scalar ty runs, puts p to ty s at next));
+      constant = λ n is. absurd (cc);
+    };
+  }
+  read_own (Some (ReachedOf.Variable v)) ty runs = record {
     own = refl;
     usable = record {
       scalar = run_scalar ty runs;
@@ -311,7 +321,7 @@ module _ (code : Code) where
     typed_fine (T.constant {cell = n} {t = t} scalar cell view) runs = inr (n, value_constant n, cell)
     typed_fine (T.read {x = x} {t = t} denotes) runs =
         let same = value_read x t in
-        fine_as _ _ t same (inl (read_own (variable_of x) t (runs_as _ _ same runs)))
+        fine_as _ _ t same (inl (read_own (reached_by x) t (runs_as _ _ same runs)))
     typed_fine (T.call {s = f} {actuals = actuals} callable gives fits) runs = absurd (not_missing _ (value_call f actuals) runs)
     typed_fine (T.unary {o = o} {x = x} {t = t} takes h) runs =
         let same = value_unary o t x in

@@ -1,4 +1,5 @@
 pub mod Layers
+pub mod Layouts
 pub mod StatementLayers
 pub mod Known
 pub mod Place
@@ -6,6 +7,7 @@ pub mod Follow
 pub mod Plain
 pub mod Values
 pub mod Cells
+pub mod Components
 pub mod Worth
 pub mod Expressions
 pub mod TreeLayers

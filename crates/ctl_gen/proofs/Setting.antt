@@ -2,19 +2,20 @@
 use Rattle.std.proofs.Common.{◌≡◌, ℕ, ◌<◌, ◌≤◌, List, [], ◌∷◌, length, Option, Some, None, refl}
 use Rattle.std.specs.Prelude.{slice_get}
 use Rattle.ctl_program.specs.declared.program.Subprogram.{Subprogram}
+use Rattle.ctl_program.specs.declared.types.RecordType.{RecordType}
 use Rattle.ctl_tree.specs.declared.event.Event.{Event}
 use Rattle.ctl_meaning.specs.World.{Log, World, Slot}
 use Rattle.ctl_meaning.specs.Lists.{last_of}
 use Rattle.ctl_meaning.specs.Choice.{Ask}
 use Rattle.ctl_meaning.specs.Outcome.{Way, Result, tell}
-use Rattle.ctl_meaning.specs.Types.{Tables, operation}
+use Rattle.ctl_meaning.specs.Types.{Tables, offset_in, operation, placed}
 use Rattle.ctl_meaning.specs.Names.{OfSubprogram, Call, Default, Tools}
 use Rattle.ctl_code.specs.declared.code.Entry.{Entry}
 use Rattle.ctl_code.specs.declared.code.Instr.TheVariants as InstrOf
 use Rattle.ctl_code.specs.declared.code.Code.{Code}
 use Rattle.ctl_code.specs.declared.kinds.Kind.{Kind}
 use Rattle.ctl_code.specs.States.{Frame, State}
-use Rattle.ctl_code.specs.Table.{ended, enter_body, operation_of}
+use Rattle.ctl_code.specs.Table.{ended, enter_body, offset_of, operation_of, size_of}
 use Rattle.ctl_code.specs.Steps.{moved, step}
 use Rattle.ctl_code.specs.Valid.{IsInScope, IsValid, kinds_at}
 use Rattle.ctl_code.specs.Windows.{depth}
@@ -22,10 +23,17 @@ use Rattle.ctl_gen.specs.Run.{IsBody}
 use Rattle.ctl_gen.proofs.Worlds.{Each, IsWhole, Since, home}
 use Rattle.ctl_gen.proofs.Follow.{IsRaise, Runs, gives}
 
--- the machine's table names the operations of the record types, these are among these subprograms, and the code is well formed
+-- the first cells of components are those of the tables
+abbrev pub ArePlaced : Tables → Code → Type 0
+ArePlaced k code = (t position : ℕ) → offset_of code t position ≡ offset_in position (placed k t)
+
+-- the machine's table names the operations and the components of the record types, the operations are among these subprograms, and the code
+-- is well formed
 pub record Setting (k : Tables) (code : Code) : Type 0 where
   pub subprograms : List Subprogram
   pub valid : IsValid code
+  pub places : ArePlaced k code
+  pub sizes : (t : ℕ) (r : RecordType) → slice_get k.records t ≡ Some r → size_of code t ≡ length r.own
   pub initialize : (t : ℕ) → operation_of (λ x. x.initialize) code t ≡ operation (λ x. x.initialize) k t
   pub finalize : (t : ℕ) → operation_of (λ x. x.finalize) code t ≡ operation (λ x. x.finalize) k t
   pub initialize_body : (t f : ℕ) → operation (λ x. x.initialize) k t ≡ Some f → IsBody subprograms f

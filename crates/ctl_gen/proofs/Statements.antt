@@ -37,7 +37,7 @@ use Rattle.ctl_gen.proofs.Does.{Does}
 use Rattle.ctl_gen.proofs.Declare.{declare_runs}
 use Rattle.ctl_gen.proofs.Assign.{scalar_runs, valued_runs}
 use Rattle.ctl_gen.proofs.Expressions.{Value}
-use Rattle.ctl_gen.proofs.Evaluated.{value_means}
+use Rattle.ctl_gen.proofs.Evaluated.{value_since}
 use Rattle.ctl_gen.proofs.Branches.{Ends, arm_runs}
 use Rattle.ctl_gen.proofs.Loops.{leave_step}
 use Rattle.ctl_gen.proofs.Leave.{leaves, leave_runs}
@@ -108,7 +108,7 @@ module _ (ask : Ask) (k : Tables) (code : Code) (setting : Setting k code) (call
   item_elaborates (Object slot ty None) runs = bare_object slot ty runs
   item_elaborates (Object slot ty (Some e)) runs =
       let h = both_true _ _ runs in
-      valued_runs ask k code setting.valid bound call default slot ty (value_code e) (eval e K) (scalar_if ty h.0) (λ w0. value_means ask k code call default (Since k code w0) e h.1)
+      valued_runs ask k code setting.valid bound call default slot ty (value_code e) (eval e K) (scalar_if ty h.0) (value_since ask k code setting.places call default e h.1)
   item_elaborates Silent runs = λ a w0 d place ks ops c l w le fits sees has. still_there 1 (lands a place) w0 d place ks ops c l w fits
   item_elaborates (Collections accesses) runs = absurd (cc)
   item_elaborates (Pool slot t ds) runs = absurd (cc)

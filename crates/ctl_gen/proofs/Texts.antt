@@ -33,10 +33,10 @@ use Rattle.ctl_gen.specs.Around.{Line, new_operand}
 use Rattle.ctl_gen.specs.Values.{value_code}
 use Rattle.ctl_gen.specs.Texts.{part_of, parts_of, piece_code, piece_is_run, pieces_are_run, pieces_code, print_code, print_of, with_piece, with_pieces}
 use Rattle.ctl_gen.proofs.Known.{both_true}
-use Rattle.ctl_gen.proofs.Evaluated.{value_means}
+use Rattle.ctl_gen.proofs.Evaluated.{value_since}
 use Rattle.ctl_gen.proofs.Place.{HasAt, Laid, laid_front, laid_back}
 use Rattle.ctl_gen.proofs.Worlds.{Since, Kept}
-use Rattle.ctl_gen.proofs.Setting.{tools_with}
+use Rattle.ctl_gen.proofs.Setting.{ArePlaced, tools_with}
 use Rattle.ctl_gen.proofs.Cells.{Any, by_code, here, landed}
 use Rattle.ctl_gen.proofs.Worth.{both_cell}
 use Rattle.ctl_gen.proofs.Expressions.{value_runs}
@@ -78,7 +78,7 @@ abbrev pub printed : Bool → List ℕ → Act Done
 printed true u = show (Print u) >> show Newline
 printed false u = show (Print u)
 
-module _ (ask : Ask) (k : Tables) (code : Code) (call : Call) (default : Default) (bound : ℕ) where
+module _ (ask : Ask) (k : Tables) (code : Code) (placed : ArePlaced k code) (call : Call) (default : Default) (bound : ℕ) where
   abbrev K : Tools
   K = tools_with ask k call default
 
@@ -114,7 +114,7 @@ module _ (ask : Ask) (k : Tables) (code : Code) (call : Call) (default : Default
   image_runs : (e : Expr) (ty : Ty) (image : ℕ → List ℕ) → (value_code e).runs ≡ true → (f : Result (List ℕ) → Act Done) (s : List Kind) (w0 : World) (d : List ℕ) (place : ℕ) (ks : List Frame) (ops : List ℕ) (c : ℕ) (l : Log) (w : World) (next : Result Done → Log → World → State) → Since k code w0 w → length d ≡ depth s → Laid code place ((value_code e).code (new_operand s) ty s) → ((y c1 : ℕ) (l1 : Log) (w1 : World) → c1 ≤ c → Since k code w0 w1 → Runs ask code (Kept k code w0) 1 1 (transferred (ByRaise y) ks l1 w1) c1 next (f (Leaves (ByRaise y)) c1 l1 w1)) → ((n c1 : ℕ) (l1 : Log) (w1 : World) → c1 ≤ c → Since k code w0 w1 → Runs ask code (Kept k code w0) 1 1 (at d (place + length ((value_code e).code (new_operand s) ty s)) ks (n ∷ ops) l1 w1) c1 next (f (Goes (image n)) c1 l1 w1)) → Runs ask code (Kept k code w0) 1 1 (at d place ks ops l w) c next (bind (ticked (eval e K d >>= (λ x. done (image (scalar_of x)))) c l w) f)
   unfolding opened_outcome scalar_of opened_lists
   image_runs e ty image known f s w0 d place ks ops c l w next fits long has leaves more =
-      let value = value_means ask k code call default (Since k code w0) e known in
+      let value = value_since ask k code placed call default e known w0 in
       subst (λ o. Runs ask code (Kept k code w0) 1 1 (at d place ks ops l w) c next o) (sym (bind_add 1 (bind (eval e K d c l w) (on_goes (λ x. done (image (scalar_of x))))) f ∙ ap (add 1) (bind_bind (eval e K d c l w) (on_goes (λ x. done (image (scalar_of x)))) f)))
       (added ask code (Kept k code w0) 1 1 1 1 1 _ c next _ (omega arith) (omega arith)
       (both_cell ask code (Kept k code w0) Any 0 0 1 1 1 1 _ c (landed Operand d (place + length ((value_code e).code (new_operand s) ty s)) ks ops) next (eval e K d c l w) _ (omega arith) (omega arith) (omega arith) (value.cell d c l w)

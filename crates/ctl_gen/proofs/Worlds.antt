@@ -10,10 +10,10 @@ use Rattle.ctl_meaning.specs.World.{Finalized, Origin, Declared, Allocated, Obje
 use Rattle.ctl_meaning.specs.Lists.{first_with, change_each, keep, item_or, opened_lists}
 use Rattle.ctl_meaning.specs.Ledger.{with_layer, without_newest, layers_in, layers_of, opened_ledger}
 use Rattle.ctl_meaning.specs.Activations.{with_slot, slots_in, display_in, activation_at, slot_in, opened_activations}
-use Rattle.ctl_meaning.specs.Objects.{object_in, with_begun, with_finalized, is_untouched, opened_objects}
+use Rattle.ctl_meaning.specs.Objects.{object_in, change_in, with_cells, with_begun, with_finalized, is_untouched, opened_objects}
 use Rattle.ctl_meaning.specs.Pools.{keep_pools}
 use Rattle.ctl_meaning.specs.Outcome.{Way}
-use Rattle.ctl_meaning.specs.Changes.{ends_with, object_at, take_object_number, create, open_master, add_layer, take_layer, set_slot, slot_at, set_value, close_master, begin_finalization, end_finalization, opened_changes}
+use Rattle.ctl_meaning.specs.Changes.{ends_with, object_at, take_object_number, create, write_cells, open_master, add_layer, take_layer, set_slot, slot_at, set_value, close_master, begin_finalization, end_finalization, opened_changes}
 use Rattle.ctl_code.specs.declared.code.Code.{Code}
 use Rattle.ctl_code.specs.Valid.{IsDeclarable}
 use Rattle.ctl_gen.proofs.Known.{IsPlainType}
@@ -380,6 +380,22 @@ module _ (k : Tables) (code : Code) where
       by : (b : Bool) → nat_eq p.number n ≡ b → (first_with (λ q. nat_eq q.number n) (os ++ x ∷ []) ≡ Some o → o.ty ≡ x.ty) → (if b then Some p else first_with (λ q. nat_eq q.number n) (os ++ x ∷ [])) ≡ Some o → o.ty ≡ x.ty
       by true is rest e1 = absurd (let same = eqb-true p.number n is in let lt = h.0 in omega (arith, same, lt))
       by false is rest e1 = rest e1
+
+  -- cells of an object are written
+  fits_written : (n offset : ℕ) (v : List ℕ) (w : World) → Fits w → Fits (write_cells n offset v w)
+  unfolding opened_changes change_in with_cells
+  fits_written n offset v w h = record {
+    objects = each_changed (Settled w.ledger.next_master w.activations) _ (with_cells offset v) (λ o y. record { plain = y.plain; master = y.master; origin = y.origin; old = y.old; inside = y.inside }) w.objects h.objects;
+    numbers = each_changed (λ o. o.number < w.ledger.next_object) _ (with_cells offset v) (λ o y. y) w.objects h.numbers;
+    masters = h.masters;
+    slots = h.slots;
+    block_pools = h.block_pools;
+    mark_pools = h.mark_pools;
+  }
+
+  pub since_written : (n offset : ℕ) (v : List ℕ) (w0 w : World) → Since w0 w → Since w0 (write_cells n offset v w)
+  unfolding opened_changes
+  since_written n offset v w0 w h = (fits_written n offset v w h.0, record { later = h.1.later; homes = h.1.homes })
 
   pub created_ty : (ty : Ty) (cells : List ℕ) (m slot : ℕ) (w : World) → Fits w → (o : Object) → object_at w.ledger.next_object (set_slot m slot (holding (Holds w.ledger.next_object)) (create ty cells (Declared m) w)) ≡ Some o → o.ty ≡ ty
   unfolding opened_changes object_in

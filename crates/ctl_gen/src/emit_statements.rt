@@ -5,6 +5,7 @@
 
 ghost use Rattle.std.specs.Prelude.{◌≡◌, ◌≤◌, ◌-◌, [], IfOk, length, map, option_map, OnOk, None, Some};
 ghost use Rattle.std.specs.Option.{ForSome};
+ghost use Rattle.ctl_gen.specs.declared.right.Reached.TheVariants as ReachedOf;
 ghost use Rattle.ctl_gen.specs.Around as cells;
 ghost use Rattle.ctl_gen.specs.Emitted.{appended, first_end, further_arms, lined, open_arms, repeated, skipping, standing, stated, without_image, without_images};
 ghost use Rattle.ctl_gen.specs.Values as values;
@@ -12,7 +13,7 @@ ghost use Rattle.ctl_gen.specs.Texts as texts;
 ghost use Rattle.ctl_gen.specs.Layout as spec;
 
 use crate::emit::Emitter;
-use crate::right::variable_of;
+use crate::right::{Reached, reached_by};
 use crate::typing::value_type;
 use ctl_code::code::{Instr, Way};
 use ctl_code::kinds::Kind;
@@ -156,13 +157,74 @@ impl Emitter {
         }
     }
 
-    /// Emits the assignment of a value to a variable.
+    /// Emits the assignment of a value to what a name denotes (RM 5.2).
     fn assign(&mut self, name: &Name, value: &Expr) -> Result<(), AllocError>
-        ensures { OnOk result (self.new ≡ stated (spec.assign (values.variable_of name.now) (values.value_code value.now)) None self.old) }
+        ensures { OnOk result (self.new ≡ stated (spec.assign (values.reached_by name.now) (values.value_code value.now)) None self.old) }
     {
-        let Some(variable) = variable_of(name) else {
-            return self.put(Instr::Missing);
-        };
+        match reached_by(name) {
+            Some(Reached::Variable(variable)) => self.assign_variable(variable, value),
+            Some(
+                Reached::Component {
+                    of,
+                    record,
+                    position,
+                },
+            ) => self.assign_component(of, record, position, value),
+            None => self.put(Instr::Missing),
+        }
+    }
+
+    /// Emits the value of a component over the number of its object, a new operand in this cell, and what gives it to the component.
+    fn store_part(
+        &mut self,
+        at: usize,
+        record: usize,
+        position: usize,
+        value: &Expr,
+    ) -> Result<(), AllocError>
+        ensures { OnOk result (self.new ≡ lined (spec.store_part_code at «record» position (values.value_code value.now)) self.old) }
+    {
+        let ty = value_type(value);
+        self.enter(Kind::Operand(Ty::Record(record)))?;
+        let from = self.held(ty, value)?;
+        self.take(
+            Instr::StorePart {
+                from,
+                ty,
+                at,
+                record,
+                position,
+            },
+            from,
+        )?;
+        self.leave();
+        Ok(())
+    }
+
+    /// Emits the assignment of a value to a component of the object in a variable: the object comes before the value (RM 5.2).
+    fn assign_component(
+        &mut self,
+        of: Var,
+        record: usize,
+        position: usize,
+        value: &Expr,
+    ) -> Result<(), AllocError>
+        ensures { OnOk result (self.new ≡ stated (spec.assign (Some (ReachedOf.Component of «record» position)) (values.value_code value.now)) None self.old) }
+    {
+        let (out, slot, at) = (self.out_to(of), of.slot, self.height());
+        self.put(Instr::Locate {
+            out,
+            slot,
+            record,
+            at,
+        })?;
+        self.store_part(at, record, position, value)
+    }
+
+    /// Emits the assignment of a value to a variable.
+    fn assign_variable(&mut self, variable: Var, value: &Expr) -> Result<(), AllocError>
+        ensures { OnOk result (self.new ≡ stated (spec.assign (Some (ReachedOf.Variable variable)) (values.value_code value.now)) None self.old) }
+    {
         let ty = value_type(value);
         match self.local_cell(variable) {
             Some(to) => self.expression(to, ty, value),

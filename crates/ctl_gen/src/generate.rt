@@ -5,10 +5,10 @@ ghost use Rattle.ctl_tree.specs.declared.fault.FaultCode.TheVariants.{LeftOut, M
 ghost use Rattle.ctl_well_typed.specs.Programs.{WellTyped};
 ghost use Rattle.ctl_gen.specs.Correct.{Behaves};
 ghost use Rattle.ctl_gen.specs.Run.{AreLinked, IsRun};
-ghost use Rattle.ctl_gen.specs.Layout.{HasKinds, IsLaidOut, entry_at, operations_of};
+ghost use Rattle.ctl_gen.specs.Layout.{AreLayouts, HasKinds, IsLaidOut, IsLayout, entry_at, operations_of};
 
 use crate::emit::Emitter;
-use ctl_code::code::{Code, Entry, Instr, Operations};
+use ctl_code::code::{Code, Entry, Instr, Layout, Operations};
 use ctl_code::valid::ValidCode;
 use ctl_program::program::{Checked, Subprogram};
 use ctl_program::types::RecordType;
@@ -60,6 +60,7 @@ fn assemble(alloc: Global, program: &Checked) -> Result<Code, Fault>
         emitter.body(subprogram)?;
     }
     let records = records_of(alloc, program.records.as_slice())?;
+    let layouts = layouts_of(alloc, program.records.as_slice())?;
     let exceptions = names_of(alloc, program.exceptions.as_slice())?;
     let room = emitter.room();
     let (instructions, texts, kinds) = emitter.finish();
@@ -69,6 +70,7 @@ fn assemble(alloc: Global, program: &Checked) -> Result<Code, Fault>
         room,
         entries,
         records,
+        layouts,
         texts,
         exceptions,
     })
@@ -95,6 +97,31 @@ fn records_of(alloc: Global, records: &[RecordType]) -> Result<Vec<Operations>, 
             initialize: record.operations.initialize,
             finalize: record.operations.finalize,
         })?;
+    }
+    Ok(all)
+}
+
+/// Gives the layout of a record type with so many components of one cell each.
+fn layout_of(alloc: Global, count: usize) -> Result<Layout, AllocError>
+    ensures { IfOk result (λ layout. IsLayout layout count) }
+{
+    let mut offsets = Vec::new(alloc);
+    for offset in 0..count {
+        offsets.push(offset)?;
+    }
+    Ok(Layout {
+        cells: count,
+        offsets,
+    })
+}
+
+/// Gives the layouts of record types.
+fn layouts_of(alloc: Global, records: &[RecordType]) -> Result<Vec<Layout>, AllocError>
+    ensures { IfOk result (λ all. AreLayouts all.items records.now) }
+{
+    let mut all = Vec::new(alloc);
+    for record in records {
+        all.push(layout_of(alloc, record.own.as_slice().len())?)?;
     }
     Ok(all)
 }

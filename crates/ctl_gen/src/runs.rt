@@ -6,18 +6,19 @@ ghost use Rattle.ctl_gen.specs.Run as whole;
 ghost use Rattle.ctl_gen.specs.Texts as texts;
 ghost use Rattle.ctl_gen.specs.Values as values;
 
-use crate::right::variable_of;
+use crate::right::reached_by;
 use ctl_program::expression::{Expr, Name, Operand};
 use ctl_program::operators::SubprogramKind;
 use ctl_program::program::{Checked, Subprogram};
 use ctl_program::statement::{Arm, Item, Master, Piece, Stmt};
-use ctl_program::types::{RecordType, Root, Ty};
+use ctl_program::types::{Component, RecordType, Root, Ty};
 
 /// Tells whether this version runs each construct of a program.
 pub fn is_run(program: &Checked) -> bool
     ensures { result ≡ whole.is_run program.now }
 {
     are_procedures(program.subprograms.as_slice())
+        && are_flat(program.records.as_slice(), program.records.as_slice())
         && bodies(program.records.as_slice(), program.subprograms.as_slice())
 }
 
@@ -52,11 +53,11 @@ fn is_run_type(ty: Ty) -> bool
     matches!(ty, Ty::Integer | Ty::Boolean)
 }
 
-/// Tells whether the value of a name is run: of a variable alone.
+/// Tells whether the value of a name is run: of a variable, or of a component of the object in one.
 fn is_read(name: &Name, ty: Ty) -> bool
-    ensures { result ≡ (values.read (values.variable_of name.now) ty).runs }
+    ensures { result ≡ (values.read (values.reached_by name.now) ty).runs }
 {
-    match variable_of(name) {
+    match reached_by(name) {
         Some(_) => is_run_type(ty),
         None => false,
     }
@@ -145,6 +146,25 @@ fn pieces(pieces: &[Piece]) -> bool
     true
 }
 
+/// Tells whether a component is of a type whose variables are run, and has no default expression (RM 3.8).
+fn is_scalar(component: &Component) -> bool
+    ensures { result ≡ spec.is_scalar component.now }
+{
+    is_run_type(component.ty) && component.default.is_none()
+}
+
+/// Tells whether each of these components is one.
+fn are_scalar(components: &[Component]) -> bool
+    ensures { result ≡ spec.are_scalar components.now }
+{
+    for component in components {
+        if !is_scalar(component) {
+            return false;
+        }
+    }
+    true
+}
+
 /// Tells whether a type extends none and has no components, as Controlled and Limited_Controlled themselves.
 fn is_bare(entry: &RecordType) -> bool
     ensures { result ≡ spec.is_bare (Some entry.now) }
@@ -165,13 +185,30 @@ fn extends_bare(records: &[RecordType], parent: Option<usize>) -> bool
     }
 }
 
-/// Tells whether objects of a record type are run: one that extends Controlled or Limited_Controlled without components (RM 7.6).
+/// Tells whether a record type has scalar components alone, and inherits none (RM 3.8).
+fn is_flat(records: &[RecordType], entry: &RecordType) -> bool
+    ensures { result ≡ spec.is_flat records.now entry.now }
+{
+    extends_bare(records, entry.parent) && are_scalar(entry.own.as_slice())
+}
+
+/// Tells whether each of these record types does.
+fn are_flat(all: &[RecordType], records: &[RecordType]) -> bool
+    ensures { result ≡ spec.are_flat all.now records.now }
+{
+    for entry in records {
+        if !is_flat(all, entry) {
+            return false;
+        }
+    }
+    true
+}
+
+/// Tells whether objects of a record type are run: one that extends Controlled or Limited_Controlled by scalar components (RM 7.6).
 fn is_plain(records: &[RecordType], entry: &RecordType) -> bool
     ensures { result ≡ spec.is_plain records.now (Some entry.now) }
 {
-    matches!(entry.root, Root::Controlled)
-        && extends_bare(records, entry.parent)
-        && entry.own.as_slice().is_empty()
+    matches!(entry.root, Root::Controlled) && is_flat(records, entry)
 }
 
 /// Tells whether objects of a type are run.
@@ -211,11 +248,11 @@ fn items(records: &[RecordType], items: &[Item]) -> bool
     true
 }
 
-/// Tells whether an assignment is run: to a variable.
+/// Tells whether an assignment is run: to a variable, or to a component of the object in one.
 fn is_assigned(name: &Name, expression: &Expr) -> bool
-    ensures { result ≡ (spec.assign (values.variable_of name.now) (values.value_code expression.now)).runs [] }
+    ensures { result ≡ (spec.assign (values.reached_by name.now) (values.value_code expression.now)).runs [] }
 {
-    variable_of(name).is_some() && value(expression)
+    reached_by(name).is_some() && value(expression)
 }
 
 /// Tells whether the condition of an exit is run, if there is one.

@@ -8,6 +8,7 @@ use Rattle.ctl_syntax.specs.declared.denoted.LibraryName.TheVariants.{Integer, B
 use Rattle.ctl_syntax.specs.declared.denoted.Use.{Use}
 use Rattle.ctl_syntax.specs.declared.expression.Expression.{Expression}
 use Rattle.ctl_syntax.specs.declared.item.Association.{Association}
+use Rattle.ctl_syntax.specs.declared.item.Components.{Components}
 use Rattle.ctl_syntax.specs.declared.item.Definition.{Definition as Type_definition}
 use Rattle.ctl_syntax.specs.declared.item.Definition.TheVariants.{Extension}
 use Rattle.ctl_syntax.specs.declared.item.Objects.{Objects}
@@ -36,16 +37,24 @@ abbrev pub is_absent : {A : Type 0} → Option A → Bool
 is_absent None = true
 is_absent (Some a) = false
 
--- a type that extends one of these by no component
-abbrev pub of_type : Type_definition Use → Support
-of_type (Extension parent added) = support_when (is_empty added && is_controlled parent.first.denoted)
-of_type d = LeftOut
-
 -- Integer or Boolean (3.5.3, 3.5.4)
 abbrev pub is_scalar : Denoted → Bool
 is_scalar (Library Integer) = true
 is_scalar (Library Boolean) = true
 is_scalar d = false
+
+-- components of a scalar type, without a default expression (3.8)
+abbrev pub is_plain : Components Use → Bool
+is_plain c = is_scalar c.mark.first.denoted && is_absent c.default
+
+abbrev pub are_plain : List (Components Use) → Bool
+are_plain [] = true
+are_plain (c ∷ cs) = is_plain c && are_plain cs
+
+-- a type that extends Controlled or Limited_Controlled by such components
+abbrev pub of_type : Type_definition Use → Support
+of_type (Extension parent added) = support_when (are_plain added && is_controlled parent.first.denoted)
+of_type d = LeftOut
 
 -- objects of this type, with these discriminants and this value: of a type of the text without either, and of a scalar one (3.3.1)
 abbrev pub of_objects_as : Denoted → List (Association Use) → Option (Expression Use) → Support

@@ -5,7 +5,7 @@ ghost use Rattle.ctl_slice.specs.Constructs as spec;
 
 use ctl_grammar::spelling::is_same_name;
 use ctl_syntax::denoted::{Definition, Denoted, LibraryName, Use};
-use ctl_syntax::item::{Definition as TypeDefinition, Objects, Specification};
+use ctl_syntax::item::{Components, Definition as TypeDefinition, Objects, Specification};
 
 /// Whether this version runs a construct.
 #[derive(Clone, Copy, Debug, PartialEq, Eq)]
@@ -34,13 +34,32 @@ pub(crate) fn of_heading(heading: &Specification<Definition, Use>) -> Support
     support_when(is_run)
 }
 
-/// Judges a type: one that extends Controlled or Limited_Controlled by no component is run (RM 7.6).
+/// Tells whether components are of a scalar type, without a default expression (RM 3.8).
+fn is_plain(components: &Components<Use>) -> bool
+    ensures { result ≡ spec.is_plain components.now }
+{
+    is_scalar(components.mark.first.denoted) && components.default.is_none()
+}
+
+/// Tells whether all of these are.
+fn are_plain(added: &[Components<Use>]) -> bool
+    ensures { result ≡ spec.are_plain added.now }
+{
+    for components in added {
+        if !is_plain(components) {
+            return false;
+        }
+    }
+    true
+}
+
+/// Judges a type: one that extends Controlled or Limited_Controlled by such components alone is run (RM 7.6).
 pub(crate) fn of_type(definition: &TypeDefinition<Use>) -> Support
     ensures { result ≡ spec.of_type definition.now }
 {
     match definition {
-        TypeDefinition::Extension(parent, components) => {
-            support_when(components.as_slice().is_empty() && is_controlled(parent.first.denoted))
+        TypeDefinition::Extension(parent, added) => {
+            support_when(are_plain(added.as_slice()) && is_controlled(parent.first.denoted))
         }
         _ => Support::LeftOut,
     }
