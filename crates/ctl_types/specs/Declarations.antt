@@ -1,5 +1,5 @@
 -- Objects, exceptions, instances and headings of subprograms as they are declared (3.3.1, 11.1, 12.3, 6.1, 8.3.1).
-use Rattle.std.specs.Prelude.{ℕ, zero, suc, Bool, true, false, ◌&&◌, ◌||◌, not, if◌then◌else◌, nat_eq, List, [], ◌∷◌, ◌++◌, codes, length, map, slice_get, slice_set, Option, Some, None, option_map}
+use Rattle.std.specs.Prelude.{ℕ, zero, suc, Bool, true, false, ◌&&◌, ◌||◌, not, if◌then◌else◌, nat_eq, List, [], ◌∷◌, ◌++◌, codes, length, map, slice_get, Option, Some, None, option_map, ◌+◌}
 use Rattle.ctl_grammar.specs.Spelling.{same_name}
 use Rattle.ctl_tree.specs.declared.span.Span.{Span}
 use Rattle.ctl_tree.specs.declared.fault.FaultCode.TheVariants as rule
@@ -7,12 +7,9 @@ use Rattle.ctl_program.specs.declared.types.Ty.{Ty}
 use Rattle.ctl_program.specs.declared.types.Ty.TheVariants as ty
 use Rattle.ctl_program.specs.declared.types.Operations.{Operations}
 use Rattle.ctl_program.specs.declared.expression.Expr.{Expr}
-use Rattle.ctl_program.specs.declared.operators.SubprogramKind.{SubprogramKind}
-use Rattle.ctl_program.specs.declared.operators.SubprogramKind.TheVariants as kind
 use Rattle.ctl_program.specs.declared.statement.Association.{Association as Checked_association}
 use Rattle.ctl_program.specs.declared.statement.Item.{Item as Checked_item}
 use Rattle.ctl_program.specs.declared.statement.Item.TheVariants as made
-use Rattle.ctl_program.specs.declared.statement.Master.{Master}
 use Rattle.ctl_syntax.specs.declared.denoted.Denoted.{Denoted}
 use Rattle.ctl_syntax.specs.declared.denoted.Denoted.TheVariants as denoted
 use Rattle.ctl_syntax.specs.declared.denoted.Definition.{Definition}
@@ -39,37 +36,35 @@ use Rattle.ctl_typing.specs.declared.notes.Deed.{Deed}
 use Rattle.ctl_typing.specs.declared.notes.Deed.TheVariants.{Freezes, Initializes}
 use Rattle.ctl_typing.specs.declared.notes.Notes.{Notes}
 use Rattle.ctl_typing.specs.declared.table.Tables.{Tables}
-use Rattle.ctl_typing.specs.declared.table.Entry.{Entry}
 use Rattle.ctl_typing.specs.declared.table.Entry.TheVariants as entry
 use Rattle.ctl_typing.specs.declared.table.FormalEntry.{FormalEntry}
 use Rattle.ctl_typing.specs.declared.table.Mutability.{Mutability}
 use Rattle.ctl_typing.specs.declared.table.Mutability.TheVariants as mutability
-use Rattle.ctl_typing.specs.declared.table.Profile.{Profile}
 use Rattle.ctl_typing.specs.declared.table.RecordEntry.{RecordEntry}
 use Rattle.ctl_typing.specs.declared.table.RecordState.{RecordState}
 use Rattle.ctl_typing.specs.declared.table.Standing.TheVariants as standing
 use Rattle.ctl_typing.specs.declared.found.Asked.{Asked}
 use Rattle.ctl_typing.specs.declared.found.Asked.TheVariants.{Anything, Exactly}
-use Rattle.ctl_types.specs.declared.associations.Associated.TheVariants.{Discriminants, Deallocation}
+use Rattle.ctl_draft.specs.declared.associations.Associated.TheVariants.{Discriminants, Deallocation}
 use Rattle.ctl_typing.specs.declared.found.Found.{Found}
 use Rattle.ctl_typing.specs.declared.found.Found.TheVariants.{TypeName}
-use Rattle.ctl_types.specs.declared.draft.Draft.{Draft}
-use Rattle.ctl_types.specs.declared.draft.Routine.{Routine}
-use Rattle.ctl_types.specs.declared.draft.Around.{Around}
-use Rattle.ctl_types.specs.declared.draft.Giving.{Giving}
-use Rattle.ctl_types.specs.declared.draft.Giving.TheVariants as giving
-use Rattle.ctl_types.specs.declared.draft.Order.{Order}
-use Rattle.ctl_types.specs.declared.draft.Order.TheVariants as order
-use Rattle.ctl_types.specs.declared.draft.Role.{Role}
-use Rattle.ctl_types.specs.declared.draft.Role.TheVariants as role
+use Rattle.ctl_draft.specs.declared.draft.Draft.{Draft}
+use Rattle.ctl_draft.specs.declared.draft.Around.{Around}
+use Rattle.ctl_draft.specs.declared.draft.Order.{Order}
+use Rattle.ctl_draft.specs.declared.draft.Order.TheVariants as order
+use Rattle.ctl_draft.specs.declared.draft.Role.{Role}
+use Rattle.ctl_draft.specs.declared.draft.Role.TheVariants as role
 use Rattle.ctl_typing.specs.Judgement.{Judgement, known, but, wrong, unresolved, ◌>>=◌, both, each}
 use Rattle.ctl_typing.specs.Lookup.{same, root_of, is_limited, designated_by}
 use Rattle.ctl_typing.specs.Typing.{Sense, sense, found, together, designates_this}
-use Rattle.ctl_types.specs.Draft.{Doing, by_tables, early_when, fault_when, asking, deeds_of, asked, is_declared_in, declare, declare_object}
-use Rattle.ctl_types.specs.Marks.{named_type, concrete_type, no_pool, is_pool, is_controlled, positions, root_of_type}
-use Rattle.ctl_types.specs.Freezing.{changed, with_records, is_free_type, done_by}
-use Rattle.ctl_types.specs.Statements.{provides, operation_formals, formal}
-use Rattle.ctl_types.specs.Types.{is_given}
+use Rattle.ctl_draft.specs.Draft.{Doing, by_tables, early_when, fault_when, asking, deeds_of, asked, declare, declare_object, enter}
+use Rattle.ctl_draft.specs.Marks.{named_type, concrete_type, no_pool, is_pool, is_controlled, positions, root_of_type}
+use Rattle.ctl_draft.specs.Freezing.{changed, with_records, is_free_type, done_by}
+use Rattle.ctl_draft.specs.Operations.{provides, operation_formals, formal}
+use Rattle.ctl_types.specs.Types.{is_given, record_type, extension, access_type}
+use Rattle.ctl_syntax.specs.declared.item.Definition.{Definition as Type_definition}
+use Rattle.ctl_syntax.specs.declared.item.Definition.TheVariants as definition
+use Rattle.ctl_syntax.specs.declared.item.Taggedness.{Taggedness}
 
 -- Names of operations (7.6, 13.11) --------------------------------------------------------------------------
 
@@ -89,6 +84,19 @@ name_kept n d = fault_when (is_given (operation_named n.identifier.text)) rule.O
 abbrev pub names_kept : List Definition → Draft → Draft
 names_kept [] d = d
 names_kept (n ∷ ns) d = names_kept ns (name_kept n d)
+
+-- Types, by their definitions or without one (3.2.1, 3.10.1) -------------------------------------------------------
+
+abbrev pub defined_by : Span → Definition → Type_definition Use → Around → Draft → List Checked_item × Draft
+defined_by place name (definition.Record l cs) around d = record_type place name.number l cs around d
+defined_by place name (definition.Extension m cs) around d = extension place name.number m cs around d
+defined_by place name (definition.Access g m c pool) around d = access_type place name g m c pool around d
+
+abbrev pub definition_of : Span → Definition → Type_definition Use → Around → Draft → List Checked_item × Draft
+definition_of place name def around d = defined_by place name def around (name_kept name d)
+
+abbrev pub incomplete : Definition → Taggedness → Around → Draft → List Checked_item × Draft
+incomplete name t around d = (made.Silent ∷ [], enter around name.number (entry.Incomplete t) (name_kept name d))
 
 -- Objects (3.3.1) ------------------------------------------------------------------------------------------
 
@@ -348,10 +356,6 @@ modes_kept (Some m) fs d = only_in fs d
 abbrev pub heading : Span → Specification Definition Use → Doing (List FormalEntry × Option Ty)
 heading place s d = by_tables (heading_types place s) (modes_kept s.result s.formals d)
 
-abbrev pub formal_names : List (Formal Definition Use) → List (List ℕ)
-formal_names [] = []
-formal_names (f ∷ fs) = map (λ n. n.identifier.text) f.names ++ formal_names fs
-
 -- Overriding (3.2.3, 7.6, 8.3.1, 13.11) --------------------------------------------------------------------------------
 
 abbrev pub same_mode : Mode → Mode → Bool
@@ -409,64 +413,9 @@ play place s role.Plain d = d
 play place s role.Misplaced d = fault_when true rule.Override place d
 play place s (role.Overrides o t) d = override place o t s d
 
--- Subprograms ---------------------------------------------------------------------------------------------------------------
-
-abbrev pub kind_of : Option (Mark Use) → SubprogramKind
-kind_of None = kind.Procedure
-kind_of (Some m) = kind.Function
-
--- its body has not come yet
-abbrev pub add_subprogram : Around → SubprogramKind → Draft → Draft
-add_subprogram around k d = record d { subprograms = d.subprograms ++ (record { level = around.level; kind = k; body = None }) ∷ [] }
-
--- a subprogram takes a body where its heading is known
-abbrev pub numbered : ℕ → Option (List FormalEntry × Option Ty) → Option ℕ
-numbered s None = None
-numbered s (Some h) = Some s
-
-abbrev pub profile : ℕ → List (List ℕ) → List FormalEntry × Option Ty → Profile
-profile s names h = record { subprogram = s; formals = h.0; names = names; result = h.1 }
-
-abbrev pub entry_of : ℕ → List (List ℕ) → Option (List FormalEntry × Option Ty) → Entry
-entry_of s names None = entry.Unknown
-entry_of s names (Some h) = entry.Subprogram (profile s names h)
-
 abbrev pub role_of : Around → Specification Definition Use → Option (List FormalEntry × Option Ty) → Tables → Role
 role_of around s None tables = role.Plain
 role_of around s (Some h) tables = role_by tables around.level s.indicator (operation_named s.name.identifier.text) h.0 h.1
-
--- a subprogram that is declared here, with the next number
-abbrev pub introduce : Around → Specification Definition Use → Option (List FormalEntry × Option Ty) × Draft → Option ℕ × Draft
-introduce around s (h, d) = (
-  numbered (length d.subprograms) h,
-  declare (entry_of (length d.subprograms) (formal_names s.formals) h)
-      (add_subprogram around (kind_of s.result) (play s.name.identifier.span (length d.subprograms) (role_of around s h d.tables) d)),
-)
-
-abbrev pub declaration : Span → Specification Definition Use → Around → Draft → List Checked_item × Draft
-declaration place s around d = silent (introduce around s (heading place s d))
-  where
-    silent : Option ℕ × Draft → List Checked_item × Draft
-    silent (n, d) = (made.Silent ∷ [], d)
-
--- the same names, but for case
-abbrev pub same_names : List (List ℕ) → List (List ℕ) → Bool
-same_names [] [] = true
-same_names (a ∷ as') (b ∷ bs) = same_name a b && same_names as' bs
-same_names as' bs = false
-
-abbrev pub same_results : Option Ty → Option Ty → Bool
-same_results None None = true
-same_results (Some s) (Some t) = same s t
-same_results s t = false
-
--- a body repeats the names, modes and types of its declaration (6.3.1)
-abbrev pub conforms : Profile → List (List ℕ) → List FormalEntry × Option Ty → Bool
-conforms p names h = same_formals p.formals h.0 && same_names p.names names && same_results p.result h.1
-
-abbrev pub conformed : Profile → List (List ℕ) → Option (List FormalEntry × Option Ty) → Bool
-conformed p names None = true
-conformed p names (Some h) = conforms p names h
 
 -- a body that completes a declaration says `overriding` only where that is an operation (8.3.1(4)); whether it overrides was told there
 abbrev pub is_unfounded : Indicator → Option OperationName → Bool
@@ -476,29 +425,7 @@ is_unfounded i o = false
 abbrev pub indicator_kept : Specification Definition Use → Draft → Draft
 indicator_kept s d = fault_when (is_unfounded s.indicator (operation_named s.name.identifier.text)) rule.Override s.name.identifier.span d
 
-abbrev pub is_of_level : ℕ → Option Routine → Bool
-is_of_level level None = false
-is_of_level level (Some r) = nat_eq r.level level
-
--- a subprogram of the part takes the body that repeats its declaration
-abbrev pub completes : Around → List Routine → Profile → List (List ℕ) → Option (List FormalEntry × Option Ty) → Option ℕ
-completes around rs p names None = None
-completes around rs p names (Some h) = if conforms p names h && is_of_level around.level (slice_get rs p.subprogram) then Some p.subprogram else None
-
-abbrev pub completed : Around → Span → Specification Definition Use → Option Entry → Option (List FormalEntry × Option Ty) × Draft → Option ℕ × Draft
-completed around place s (Some (entry.Subprogram p)) (h, d) =
-    (completes around d.subprograms p (formal_names s.formals) h, indicator_kept s (fault_when (not (conformed p (formal_names s.formals) h)) rule.Type place d))
-completed around place s e (h, d) = (None, d)
-
--- the subprogram of a body, which may complete a declaration
-abbrev pub subprogram_of : Around → Span → Specification Definition Use → Option (List FormalEntry × Option Ty) × Draft → Option ℕ × Draft
-subprogram_of around place s (h, d) =
-    if is_declared_in around s.name.number d then completed around place s (slice_get d.tables.entries s.name.number) (h, d) else introduce around s (h, d)
-
-abbrev pub giving_of : Option (Mark Use) → Option (List FormalEntry × Option Ty) → Giving
-giving_of None h = giving.Nothing
-giving_of (Some m) (Some (fs, Some t)) = giving.Value t
-giving_of (Some m) h = giving.Unclear
+-- Formals in view (6.1) ------------------------------------------------------------------------------------------------
 
 abbrev pub formal_mutability : Mode → Mutability
 formal_mutability mode.In = mutability.Constant
@@ -521,12 +448,3 @@ enter_formal around place f d = enter_typed around f (by_tables (λ tables. name
 abbrev pub enter_formals : Around → Span → List (Formal Definition Use) → Draft → Draft
 enter_formals around place [] d = d
 enter_formals around place (f ∷ fs) d = enter_formals around place fs (enter_formal around place f d)
-
--- the body of this number is known
-abbrev pub with_body : ℕ → Master → Option Routine → Draft → Draft
-with_body s m None d = d
-with_body s m (Some p) d = record d { subprograms = slice_set d.subprograms s (record { level = p.level; kind = p.kind; body = Some m }) }
-
-abbrev pub put_body : Option ℕ → Option Master → Draft → Draft
-put_body (Some s) (Some m) d = with_body s m (slice_get d.subprograms s) d
-put_body s m d = d

@@ -1,12 +1,9 @@
 -- The checked form of statements, but for those that hold statements themselves (5.1 to 5.8, 6.4, 6.5, 11.3, A.10.7, 13.11).
-use Rattle.std.specs.Prelude.{ℕ, Bool, true, false, not, if◌then◌else◌, List, [], ◌∷◌, slice_get, Option, Some, None}
+use Rattle.std.specs.Prelude.{ℕ, if◌then◌else◌, List, [], ◌∷◌, slice_get, Option, Some, None}
 use Rattle.ctl_tree.specs.declared.span.Span.{Span}
 use Rattle.ctl_tree.specs.declared.fault.FaultCode.TheVariants as rule
 use Rattle.ctl_program.specs.declared.types.Ty.{Ty}
 use Rattle.ctl_program.specs.declared.types.Ty.TheVariants as ty
-use Rattle.ctl_program.specs.declared.types.Root.{Root}
-use Rattle.ctl_program.specs.declared.types.Root.TheVariants as root
-use Rattle.ctl_program.specs.declared.types.Operations.{Operations}
 use Rattle.ctl_program.specs.declared.expression.Expr.{Expr}
 use Rattle.ctl_program.specs.declared.expression.Name.{Name as Checked_name}
 use Rattle.ctl_program.specs.declared.statement.Piece.{Piece}
@@ -17,10 +14,8 @@ use Rattle.ctl_syntax.specs.declared.denoted.Denoted.TheVariants as denoted
 use Rattle.ctl_syntax.specs.declared.denoted.LibraryName.{LibraryName}
 use Rattle.ctl_syntax.specs.declared.denoted.LibraryName.TheVariants as library
 use Rattle.ctl_syntax.specs.declared.denoted.OperationName.{OperationName}
-use Rattle.ctl_syntax.specs.declared.denoted.OperationName.TheVariants.{Initialize, Adjust, Finalize, Allocate, Deallocate}
+use Rattle.ctl_syntax.specs.declared.denoted.OperationName.TheVariants.{Allocate, Deallocate}
 use Rattle.ctl_syntax.specs.declared.denoted.Use.{Use}
-use Rattle.ctl_syntax.specs.declared.item.Mode.{Mode}
-use Rattle.ctl_syntax.specs.declared.item.Mode.TheVariants as mode
 use Rattle.ctl_syntax.specs.declared.name.Identifier.{Identifier}
 use Rattle.ctl_syntax.specs.declared.name.Mark.{Mark}
 use Rattle.ctl_syntax.specs.declared.name.Suffix.{Suffix}
@@ -28,9 +23,7 @@ use Rattle.ctl_syntax.specs.declared.name.Suffix.TheVariants as suffix
 use Rattle.ctl_typing.specs.declared.table.Tables.{Tables}
 use Rattle.ctl_typing.specs.declared.table.Entry.{Entry}
 use Rattle.ctl_typing.specs.declared.table.Entry.TheVariants as entry
-use Rattle.ctl_typing.specs.declared.table.FormalEntry.{FormalEntry}
 use Rattle.ctl_typing.specs.declared.table.Profile.{Profile}
-use Rattle.ctl_typing.specs.declared.table.RecordState.{RecordState}
 use Rattle.ctl_typing.specs.declared.found.Asked.{Asked}
 use Rattle.ctl_typing.specs.declared.found.Asked.TheVariants.{Anything, Exactly}
 use Rattle.ctl_typing.specs.declared.found.Place.{Place}
@@ -39,18 +32,23 @@ use Rattle.ctl_types.specs.declared.assignments.Source.TheVariants as as_source
 use Rattle.ctl_types.specs.declared.assignments.Target.{Target}
 use Rattle.ctl_typing.specs.declared.found.Found.{Found}
 use Rattle.ctl_typing.specs.declared.found.Found.TheVariants.{Part, Computed, Discriminant, View}
-use Rattle.ctl_types.specs.declared.draft.Draft.{Draft}
-use Rattle.ctl_types.specs.declared.draft.Giving.{Giving}
-use Rattle.ctl_types.specs.declared.draft.Giving.TheVariants as giving
-use Rattle.ctl_types.specs.declared.draft.Looping.{Looping}
-use Rattle.ctl_types.specs.declared.draft.Looping.TheVariants as looping
-use Rattle.ctl_types.specs.declared.draft.Handling.{Handling}
-use Rattle.ctl_types.specs.declared.draft.Handling.TheVariants as handling
-use Rattle.ctl_types.specs.declared.draft.Returning.TheVariants.{Somewhere}
-use Rattle.ctl_typing.specs.Judgement.{Judgement, known, but, wrong, unresolved, noting, ◌>>=◌, both, following}
+use Rattle.ctl_draft.specs.declared.draft.Draft.{Draft}
+use Rattle.ctl_draft.specs.declared.draft.Giving.{Giving}
+use Rattle.ctl_draft.specs.declared.draft.Giving.TheVariants as giving
+use Rattle.ctl_draft.specs.declared.draft.Looping.{Looping}
+use Rattle.ctl_draft.specs.declared.draft.Looping.TheVariants as looping
+use Rattle.ctl_draft.specs.declared.draft.Handling.{Handling}
+use Rattle.ctl_draft.specs.declared.draft.Handling.TheVariants as handling
+use Rattle.ctl_draft.specs.declared.draft.Returning.TheVariants.{Somewhere}
+use Rattle.ctl_typing.specs.Judgement.{Judgement, known, but, wrong, unresolved, noting, ◌>>=◌, both, following, each}
 use Rattle.ctl_typing.specs.Lookup.{same, root_of, is_limited}
 use Rattle.ctl_typing.specs.Typing.{Sense, found, settled, name_of, as_variable, actuals_of, handed_on, truth_of}
-use Rattle.ctl_types.specs.Draft.{Doing, by_tables, broken}
+use Rattle.ctl_draft.specs.Draft.{Doing, by_tables, broken}
+use Rattle.ctl_draft.specs.Operations.{provides, user_operation, operation_formals, operations_of}
+use Rattle.ctl_program.specs.declared.statement.Choices.{Choices as Checked_choices}
+use Rattle.ctl_program.specs.declared.statement.Choices.TheVariants as chosen
+use Rattle.ctl_syntax.specs.declared.item.Choices.{Choices}
+use Rattle.ctl_syntax.specs.declared.item.Choices.TheVariants as choices
 
 -- Variables that are written to ---------------------------------------------------------------
 
@@ -159,32 +157,6 @@ operand_by tables x (Some name) = operand_of tables x.place name
 abbrev pub operand_type : Tables → Sense → Judgement Ty
 operand_type tables x = operand_by tables x x.bare
 
--- the operations that a type has: Adjust is one of those that are not limited, Allocate and Deallocate of block pools (7.6, 13.11)
-abbrev pub provides : Root → Bool → OperationName → Bool
-provides root.Untagged limited o = false
-provides r limited Initialize = true
-provides r limited Finalize = true
-provides root.Controlled limited Adjust = not limited
-provides root.BlockPool limited Allocate = true
-provides root.BlockPool limited Deallocate = true
-provides r limited o = false
-
-abbrev pub user_operation : OperationName → Operations → Option ℕ
-user_operation Initialize os = os.initialize
-user_operation Adjust os = os.adjust
-user_operation Finalize os = os.finalize
-user_operation Allocate os = os.allocate
-user_operation Deallocate os = os.deallocate
-
-abbrev pub formal : Mode → Ty → FormalEntry
-formal m t = record { mode = m; ty = t }
-
--- the formals of an operation of this type
-abbrev pub operation_formals : OperationName → Ty → List FormalEntry
-operation_formals Allocate t = formal mode.InOut t ∷ formal mode.Out ty.Address ∷ formal mode.In ty.Count ∷ formal mode.In ty.Count ∷ []
-operation_formals Deallocate t = formal mode.InOut t ∷ formal mode.In ty.Address ∷ formal mode.In ty.Count ∷ formal mode.In ty.Count ∷ []
-operation_formals o t = formal mode.InOut t ∷ []
-
 abbrev pub user_called : Tables → Span → OperationName → Ty → ℕ → List Sense → Judgement Stmt
 user_called tables place o t s xs = actuals_of tables place (operation_formals o t) xs >>= (λ as'. known (stmt.Call s as'))
 
@@ -223,10 +195,6 @@ library_operation tables place o t xs = wrong rule.Type place
 abbrev pub operation_by : Tables → Span → OperationName → Ty → Option ℕ → List Sense → Judgement Stmt
 operation_by tables place o t None xs = library_operation tables place o t xs
 operation_by tables place o t (Some s) xs = user_called tables place o t s xs
-
-abbrev pub operations_of : Option RecordState → Operations
-operations_of None = record { initialize = None; adjust = None; finalize = None; allocate = None; deallocate = None }
-operations_of (Some s) = s.operations
 
 abbrev pub operation_of : Tables → Span → OperationName → List Sense → Ty → Judgement Stmt
 operation_of tables place o xs (ty.Record t) =
@@ -333,6 +301,16 @@ exception_named tables place u (i ∷ is) = wrong rule.Type place
 
 abbrev pub raising : Span → Mark Use → Tables → Judgement Stmt
 raising place m tables = exception_named tables place m.first m.rest >>= (λ n. known (stmt.Raise n))
+
+abbrev pub choice : Span → Mark Use → Tables → Judgement ℕ
+choice place m tables = exception_named tables place m.first m.rest
+
+abbrev pub exceptions_chosen : Span → List (Mark Use) → Doing (List ℕ)
+exceptions_chosen place ms d = each (λ m. by_tables (choice place m)) (Some []) ms d
+
+abbrev pub choices_of : Span → Choices Use → Doing Checked_choices
+choices_of place choices.Others = known chosen.Others
+choices_of place (choices.Exceptions ms) = exceptions_chosen place ms >>= (λ ns. known (chosen.Exceptions ns))
 
 -- Transfers (5.7, 6.5, 11.3) --------------------------------------------------------------------------------------
 

@@ -47,16 +47,16 @@ use Rattle.ctl_typing.specs.declared.table.Designated.{Designated}
 use Rattle.ctl_typing.specs.declared.table.Designated.TheVariants as designated
 use Rattle.ctl_typing.specs.declared.table.Freezing.TheVariants.{Free}
 use Rattle.ctl_typing.specs.declared.found.Asked.TheVariants.{Exactly}
-use Rattle.ctl_types.specs.declared.draft.Draft.{Draft}
-use Rattle.ctl_types.specs.declared.draft.Around.{Around}
-use Rattle.ctl_types.specs.declared.draft.Enclosing.{Enclosing}
+use Rattle.ctl_draft.specs.declared.draft.Draft.{Draft}
+use Rattle.ctl_draft.specs.declared.draft.Around.{Around}
+use Rattle.ctl_draft.specs.declared.draft.Enclosing.{Enclosing}
 use Rattle.ctl_typing.specs.Judgement.{Judgement, known, but, wrong, unresolved, ◌>>=◌, each, with_early}
 use Rattle.ctl_typing.specs.Lookup.{component_of, root_of, is_limited, is_mark_root}
 use Rattle.ctl_typing.specs.Typing.{Sense, sense, discriminant_named, together}
-use Rattle.ctl_types.specs.Draft.{Doing, by_tables, early_when, fault_when, asking, deeds_of, asked, enter, take_slot, next_var}
-use Rattle.ctl_types.specs.Marks.{concrete_type, named_type, no_pool, is_controlled, pool_named}
-use Rattle.ctl_types.specs.Freezing.{changed, changed_each, with_accesses, is_free_type, done_by}
-use Rattle.ctl_types.specs.Statements.{operations_of}
+use Rattle.ctl_draft.specs.Draft.{Doing, by_tables, early_when, fault_when, asking, deeds_of, asked, enter, take_slot, next_var}
+use Rattle.ctl_draft.specs.Marks.{concrete_type, named_type, no_pool, is_controlled, pool_named}
+use Rattle.ctl_draft.specs.Freezing.{changed, changed_each, with_accesses, is_free_type, done_by}
+use Rattle.ctl_draft.specs.Operations.{operations_of}
 
 -- Components (3.8) --------------------------------------------------------------------------------
 

@@ -1,16 +1,16 @@
 //! Access types, incomplete types and what completes them (RM 3.10, 3.10.1).
 
 ghost use Rattle.std.specs.Prelude.{◌≡◌, ◌∷◌, [], IfOk, OnOk, slice_get};
+ghost use Rattle.ctl_draft.specs.Freezing as freezing;
 ghost use Rattle.ctl_program.specs.declared.statement.Item.TheVariants.{Silent};
-ghost use Rattle.ctl_types.specs.Elaboration as elaboration;
-ghost use Rattle.ctl_types.specs.Freezing as freezing;
+ghost use Rattle.ctl_types.specs.Declarations as declarations;
 ghost use Rattle.ctl_types.specs.Types as spec;
 ghost use Rattle.ctl_typing.specs.Judgement.{Answers, Judges, Yields};
 
-use crate::draft::{Around, Draft};
-use crate::named_types::named_type;
 use crate::own_names::keep_name;
-use crate::types::{no_pool, pool_named};
+use ctl_draft::draft::{Around, Draft};
+use ctl_draft::named_types::named_type;
+use ctl_draft::types::{no_pool, pool_named};
 use ctl_program::statement::Item;
 use ctl_program::types::{Root, Ty, Var};
 use ctl_syntax::denoted::{Definition, Denoted, Use};
@@ -96,7 +96,7 @@ pub fn incomplete(
     around: Around,
     draft: &mut Draft,
 ) -> Result<Items<Item>, AllocError>
-    ensures { Yields (elaboration.incomplete name.now taggedness around) draft.old result draft.new }
+    ensures { Yields (declarations.incomplete name.now taggedness around) draft.old result draft.new }
 {
     keep_name(name, draft);
     draft.enter(around, name.number, Entry::Incomplete(taggedness))?;

@@ -5,10 +5,10 @@ ghost use Rattle.ctl_types.specs.Types as spec;
 ghost use Rattle.ctl_typing.specs.Judgement.{Answers, Judges};
 ghost use Rattle.ctl_typing.specs.Typing.{sense};
 
-use crate::draft::{Draft, Enclosing};
-use crate::named_types::concrete_type;
-use crate::rows::together;
-use crate::types::no_pool;
+use ctl_draft::draft::{Draft, Enclosing};
+use ctl_draft::named_types::concrete_type;
+use ctl_draft::rows::together;
+use ctl_draft::types::no_pool;
 use ctl_grammar::spelling::is_same_name;
 use ctl_program::expression::Expr;
 use ctl_program::types::{Component, Ty};

@@ -1,12 +1,12 @@
 //! Types by their definitions (RM 3.2.1).
 
-ghost use Rattle.ctl_types.specs.Elaboration as spec;
+ghost use Rattle.ctl_types.specs.Declarations as spec;
 ghost use Rattle.ctl_typing.specs.Judgement.{Yields};
 
 use crate::accesses::access_type;
-use crate::draft::{Around, Draft};
 use crate::own_names::keep_name;
 use crate::records::{extension, record_type};
+use ctl_draft::draft::{Around, Draft};
 use ctl_program::statement::Item;
 use ctl_syntax::denoted::{Definition, Use};
 use ctl_syntax::item::Definition as TypeDefinition;

@@ -4,8 +4,8 @@ ghost use Rattle.std.specs.Prelude.{◌≡◌, Some, []};
 ghost use Rattle.ctl_types.specs.Declarations as spec;
 ghost use Rattle.ctl_typing.specs.Judgement.{Judges, each};
 
-use crate::associations::{Associated, positions};
-use crate::types::root_of_type;
+use ctl_draft::associations::{Associated, positions};
+use ctl_draft::types::root_of_type;
 use ctl_program::expression::Expr;
 use ctl_program::statement::Association as CheckedAssociation;
 use ctl_program::types::Ty;

@@ -4,8 +4,8 @@ ghost use Rattle.std.specs.Prelude.{◌≡◌, [], OnOk};
 ghost use Rattle.ctl_types.specs.Declarations as spec;
 ghost use Rattle.ctl_typing.specs.Judgement.{Yields};
 
-use crate::draft::Draft;
 use crate::own_names::keep_names;
+use ctl_draft::draft::Draft;
 use ctl_program::statement::Item;
 use ctl_syntax::denoted::Definition;
 use ctl_typing::table::Entry;

@@ -3,8 +3,8 @@
 ghost use Rattle.std.specs.Prelude.{◌≡◌, OnOk};
 ghost use Rattle.ctl_types.specs.Declarations as spec;
 
-use crate::draft::{Around, Draft};
-use crate::named_types::named_type;
+use ctl_draft::draft::{Around, Draft};
+use ctl_draft::named_types::named_type;
 use ctl_program::types::Ty;
 use ctl_syntax::denoted::{Definition, Use};
 use ctl_syntax::item::{Aliasing, Formal, Mode};

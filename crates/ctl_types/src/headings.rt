@@ -1,15 +1,15 @@
 //! The headings of subprograms (RM 6.1).
 
 ghost use Rattle.std.specs.Prelude.{◌≡◌, IfOk, map};
+ghost use Rattle.ctl_draft.specs.Marks as marks;
+ghost use Rattle.ctl_draft.specs.Operations as operation_spec;
 ghost use Rattle.ctl_types.specs.Declarations as spec;
-ghost use Rattle.ctl_types.specs.Marks as marks;
-ghost use Rattle.ctl_types.specs.Statements as statements;
 ghost use Rattle.ctl_typing.specs.Judgement.{Answers, Judges};
 
-use crate::draft::Draft;
-use crate::named_types::named_type;
-use crate::operations::formal;
-use crate::types::is_controlled;
+use ctl_draft::draft::Draft;
+use ctl_draft::named_types::named_type;
+use ctl_draft::operations::formal;
+use ctl_draft::types::is_controlled;
 use ctl_program::types::Ty;
 use ctl_syntax::denoted::{Definition, Use};
 use ctl_syntax::item::{Formal, Mode, Specification};
@@ -33,7 +33,7 @@ fn formals_of(
     ty: Ty,
     names: &[Definition],
 ) -> Result<Items<FormalEntry>, AllocError>
-    ensures { IfOk result (λ formals. formals ≡ map (λ n. statements.formal mode ty) names.now) }
+    ensures { IfOk result (λ formals. formals ≡ map (λ n. operation_spec.formal mode ty) names.now) }
 {
     let mut formals = Items::new(alloc);
     for _ in names {

@@ -6,10 +6,10 @@ ghost use Rattle.ctl_typing.specs.Judgement.{Answers, Judges};
 ghost use Rattle.ctl_typing.specs.Senses.{suffix_sense};
 ghost use Rattle.ctl_typing.specs.Typing.{sense};
 
-use crate::associations::{Associated, positions};
-use crate::draft::{Around, Draft};
-use crate::freezing::done_by;
 use crate::own_names::keep_name;
+use ctl_draft::associations::{Associated, positions};
+use ctl_draft::draft::{Around, Draft};
+use ctl_draft::freezing::done_by;
 use ctl_program::statement::Item;
 use ctl_program::types::Ty;
 use ctl_syntax::denoted::{Definition, Denoted, LibraryName, Use};

@@ -1,18 +1,18 @@
 //! Objects as they are declared (RM 3.3.1).
 
 ghost use Rattle.std.specs.Prelude.{◌≡◌, ◌++◌, IfOk, OnOk, option_map};
+ghost use Rattle.ctl_draft.specs.Draft as draft_spec;
 ghost use Rattle.ctl_types.specs.Declarations as spec;
-ghost use Rattle.ctl_types.specs.Draft as draft_spec;
 ghost use Rattle.ctl_typing.specs.Judgement.{Answers, Judges};
 ghost use Rattle.ctl_typing.specs.Typing.{sense};
 
 use crate::discriminants::discriminants_given;
-use crate::draft::{Around, Draft, Order, Waiting};
-use crate::freezing::done_by;
-use crate::named_types::concrete_type;
 use crate::own_names::keep_names;
-use crate::rows::together;
-use crate::types::{is_pool, no_pool};
+use ctl_draft::draft::{Around, Draft, Order, Waiting};
+use ctl_draft::freezing::done_by;
+use ctl_draft::named_types::concrete_type;
+use ctl_draft::rows::together;
+use ctl_draft::types::{is_pool, no_pool};
 use ctl_program::expression::Expr;
 use ctl_program::statement::{Association as CheckedAssociation, Item};
 use ctl_program::types::Ty;

@@ -1,13 +1,14 @@
 //! Explicit calls of the operations of controlled types and of pools (RM 7.6, 13.11).
 
 ghost use Rattle.std.specs.Prelude.{◌≡◌, ◌∷◌, map, slice_get};
+ghost use Rattle.ctl_draft.specs.Operations as operation_spec;
 ghost use Rattle.ctl_types.specs.Statements as spec;
 ghost use Rattle.ctl_typing.specs.Judgement.{Answers, Judges};
 ghost use Rattle.ctl_typing.specs.Senses.{suffix_sense};
 ghost use Rattle.ctl_typing.specs.Typing.{sense};
 
-use crate::operations::{operation_formals, provides};
 use crate::writing::writing;
+use ctl_draft::operations::{operation_formals, provides};
 use ctl_program::expression::{Expr, Name as CheckedName};
 use ctl_program::statement::Stmt;
 use ctl_program::types::{Operations, Ty};
@@ -97,7 +98,7 @@ fn operand_type(
 
 /// Answers the user's subprogram for an operation (RM 7.6, 13.11).
 fn user_operation(operation: OperationName, operations: Operations) -> Option<usize>
-    ensures { result ≡ spec.user_operation operation operations }
+    ensures { result ≡ operation_spec.user_operation operation operations }
 {
     match operation {
         OperationName::Initialize => operations.initialize,
@@ -110,7 +111,7 @@ fn user_operation(operation: OperationName, operations: Operations) -> Option<us
 
 /// Answers the user's subprogram for an operation of a record type, if there is one.
 fn operation_in(tables: &Tables, operation: OperationName, number: usize) -> Option<usize>
-    ensures { result ≡ spec.user_operation operation (spec.operations_of (slice_get tables.now.states.records number)) }
+    ensures { result ≡ operation_spec.user_operation operation (operation_spec.operations_of (slice_get tables.now.states.records number)) }
 {
     match sqlite_items::at(tables.states.records.as_slice(), number) {
         Some(state) => user_operation(operation, state.operations),

@@ -1,13 +1,13 @@
 //! What a subprogram is to the operations of a type (RM 3.2.3, 7.6, 8.3.1, 13.11).
 
 ghost use Rattle.std.specs.Prelude.{◌≡◌, IfOk, slice_get};
+ghost use Rattle.ctl_draft.specs.Freezing as freezing;
 ghost use Rattle.ctl_types.specs.Declarations as spec;
-ghost use Rattle.ctl_types.specs.Freezing as freezing;
 
-use crate::draft::{Around, Draft, Role};
-use crate::freezing::is_free_type;
 use crate::headings::Heading;
-use crate::operations::{operation_formals, provides};
+use ctl_draft::draft::{Around, Draft, Role};
+use ctl_draft::freezing::is_free_type;
+use ctl_draft::operations::{operation_formals, provides};
 use ctl_grammar::spelling::is_same_name;
 use ctl_program::types::{Operations, Ty};
 use ctl_syntax::denoted::{Definition, OperationName, Use};

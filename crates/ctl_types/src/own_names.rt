@@ -3,8 +3,8 @@
 ghost use Rattle.std.specs.Prelude.{◌≡◌};
 ghost use Rattle.ctl_types.specs.Declarations as spec;
 
-use crate::draft::Draft;
 use crate::overriding::operation_named;
+use ctl_draft::draft::Draft;
 use ctl_syntax::denoted::Definition;
 use ctl_tree::fault::FaultCode;
 

@@ -1,10 +1,10 @@
 //! Statements, items of declarative parts and bodies, each of which may hold the others (RM 3.11, 5.1, 6.3, 11.2).
 
 ghost use Rattle.std.specs.Prelude.{◌≡◌, [], Some, false, map};
-ghost use Rattle.ctl_types.specs.Draft.{by_tables};
+ghost use Rattle.ctl_draft.specs.Draft.{by_tables};
+ghost use Rattle.ctl_draft.specs.declared.draft.Draft.{Draft as Drafted};
 ghost use Rattle.ctl_types.specs.Elaboration as spec;
 ghost use Rattle.ctl_types.specs.Parts as part;
-ghost use Rattle.ctl_types.specs.declared.draft.Draft.{Draft as Drafted};
 ghost use Rattle.ctl_typing.specs.Judgement.{Judges, beside, each};
 ghost use Rattle.ctl_typing.specs.Typing.{sense};
 
@@ -12,7 +12,6 @@ use crate::accesses::incomplete;
 use crate::assignments::assignment;
 use crate::calls::call;
 use crate::definitions::type_definition;
-use crate::draft::{Around, Draft, Giving, Handling, Looping, Order, Returning};
 use crate::exceptions::exceptions;
 use crate::formals::enter_formals;
 use crate::instances::instance;
@@ -25,6 +24,7 @@ use crate::pool_clauses::pool_clause;
 use crate::raises::{choices_of, raising, raising_again};
 use crate::subprograms::{body_put, declaration, opened};
 use crate::transfers::{exiting, returning};
+use ctl_draft::draft::{Around, Draft, Giving, Handling, Looping, Order, Returning};
 use ctl_program::expression::Expr;
 use ctl_program::operators::Direction as CheckedDirection;
 use ctl_program::statement as checked;

@@ -1,14 +1,14 @@
 //! Clauses that give an access type its pool (RM 13.3, 13.11).
 
 ghost use Rattle.std.specs.Prelude.{◌≡◌, slice_get};
-ghost use Rattle.ctl_types.specs.Freezing as freezing;
+ghost use Rattle.ctl_draft.specs.Freezing as freezing;
 ghost use Rattle.ctl_types.specs.Types as spec;
 ghost use Rattle.ctl_typing.specs.Judgement.{Answers, Yields};
 
 use crate::accesses::{pool_for, silent};
-use crate::draft::{Around, Draft};
-use crate::freezing::is_free_type;
-use crate::types::pool_named;
+use ctl_draft::draft::{Around, Draft};
+use ctl_draft::freezing::is_free_type;
+use ctl_draft::types::pool_named;
 use ctl_program::statement::Item;
 use ctl_program::types::{Ty, Var};
 use ctl_syntax::denoted::{Denoted, LibraryName, Use};

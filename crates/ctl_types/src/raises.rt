@@ -1,12 +1,11 @@
 //! Raises, and the exceptions that they and handlers name (RM 11.2, 11.3).
 
 ghost use Rattle.std.specs.Prelude.{◌≡◌};
-ghost use Rattle.ctl_types.specs.Draft.{by_tables};
-ghost use Rattle.ctl_types.specs.Elaboration as elaboration;
+ghost use Rattle.ctl_draft.specs.Draft.{by_tables};
 ghost use Rattle.ctl_types.specs.Statements as spec;
 ghost use Rattle.ctl_typing.specs.Judgement.{Answers, Judges};
 
-use crate::draft::{Draft, Handling};
+use ctl_draft::draft::{Draft, Handling};
 use ctl_program::statement as checked;
 use ctl_program::statement::Stmt;
 use ctl_syntax::denoted::{Denoted, LibraryName, Use};
@@ -96,7 +95,7 @@ pub fn raising_again(place: Span, handling: Handling, draft: &mut Draft) -> Opti
 
 /// Judges an exception that a handler names (RM 11.2).
 fn choice(place: Span, mark: &Mark<Use>, draft: &mut Draft) -> Option<usize>
-    ensures { Answers (by_tables (elaboration.choice place mark.now)) draft.old result draft.new }
+    ensures { Answers (by_tables (spec.choice place mark.now)) draft.old result draft.new }
 {
     exception_named(&draft.tables, place, mark, &mut draft.notes)
 }
@@ -108,7 +107,7 @@ fn exceptions_chosen(
     marks: &[Mark<Use>],
     draft: &mut Draft,
 ) -> Result<Option<Items<usize>>, AllocError>
-    ensures { Judges (elaboration.exceptions_chosen place marks.now) draft.old result draft.new }
+    ensures { Judges (spec.exceptions_chosen place marks.now) draft.old result draft.new }
 {
     let mut done = Some(Items::new(alloc));
     for one in marks {
@@ -125,7 +124,7 @@ pub fn choices_of(
     choices: &Choices<Use>,
     draft: &mut Draft,
 ) -> Result<Option<checked::Choices>, AllocError>
-    ensures { Judges (elaboration.choices_of place choices.now) draft.old result draft.new }
+    ensures { Judges (spec.choices_of place choices.now) draft.old result draft.new }
 {
     match choices {
         Choices::Others => Ok(Some(checked::Choices::Others)),

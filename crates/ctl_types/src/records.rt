@@ -1,18 +1,18 @@
 //! Record types and extensions (RM 3.8, 3.9.1).
 
 ghost use Rattle.std.specs.Prelude.{◌≡◌, OnOk, slice_get, Some};
-ghost use Rattle.ctl_types.specs.Draft as draft_spec;
-ghost use Rattle.ctl_types.specs.Statements as statements;
+ghost use Rattle.ctl_draft.specs.Draft as draft_spec;
+ghost use Rattle.ctl_draft.specs.Operations as operation_spec;
 ghost use Rattle.ctl_types.specs.Types as spec;
 ghost use Rattle.ctl_typing.specs.Judgement.{Answers, Judges, Yields};
 
 use crate::accesses::{enter_type, silent, untagged_kept};
 use crate::components::{components, inherited_count, last_position};
-use crate::draft::{Around, Draft, Enclosing};
-use crate::freezing::done_by;
-use crate::named_types::named_type;
-use crate::operations::no_operations;
-use crate::types::is_controlled;
+use ctl_draft::draft::{Around, Draft, Enclosing};
+use ctl_draft::freezing::done_by;
+use ctl_draft::named_types::named_type;
+use ctl_draft::operations::no_operations;
+use ctl_draft::types::is_controlled;
 use ctl_program::statement::Item;
 use ctl_program::types::{Component, Operations, Root, Ty};
 use ctl_syntax::denoted::Use;
@@ -128,7 +128,7 @@ fn inherited_state(tables: &Tables, parent: Option<usize>) -> RecordState
 
 /// Answers the operations that a new record type inherits (RM 3.4).
 fn inherited_operations(tables: &Tables, parent: Option<usize>) -> Operations
-    ensures { result ≡ statements.operations_of (spec.state_on tables.now parent) }
+    ensures { result ≡ operation_spec.operations_of (spec.state_on tables.now parent) }
 {
     if let Some(number) = parent {
         if let Some(state) = sqlite_items::at(tables.states.records.as_slice(), number) {

@@ -5,7 +5,7 @@ ghost use Rattle.ctl_types.specs.Statements as spec;
 ghost use Rattle.ctl_typing.specs.Judgement.{Judges};
 ghost use Rattle.ctl_typing.specs.Typing.{sense};
 
-use crate::draft::{Draft, Giving, Looping, Returning};
+use ctl_draft::draft::{Draft, Giving, Looping, Returning};
 use ctl_program::statement::Stmt;
 use ctl_syntax::denoted::Use;
 use ctl_syntax::expression::Expression;

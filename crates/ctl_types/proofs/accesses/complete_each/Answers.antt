@@ -1,6 +1,6 @@
 use Rattle.std.proofs.Common.{rules, arith}
 use Rattle.ctl_types.specs.Types as spec
-use Rattle.ctl_types.proofs.Changes.{changed_next, changed_none, changed_length}
+use Rattle.ctl_draft.proofs.Changes.{changed_next, changed_none, changed_length}
 use Rattle.ctl_types.proofs.accesses.complete_each.Goals as goal
 
 pub loop-at-preserved : goal.loop-at-preserved

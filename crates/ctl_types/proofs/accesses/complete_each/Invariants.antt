@@ -1,5 +1,5 @@
 use Rattle.std.proofs.Common.{◌≡◌, length}
-use Rattle.ctl_types.specs.Freezing as freezing
+use Rattle.ctl_draft.specs.Freezing as freezing
 use Rattle.ctl_types.specs.Types as spec
 use Rattle.ctl_types.proofs.accesses.complete_each.Given as goal
 

@@ -2,7 +2,7 @@ use Rattle.std.proofs.Common.{◌∙◌, ap, sym, drop, ◌+◌}
 use Rattle.ctl_types.specs.Types as spec
 use Rattle.ctl_typing.proofs.Turns.{each_walked}
 use Rattle.ctl_typing.specs.Judgement.{each}
-use Rattle.ctl_types.proofs.Ordered.{next_of}
+use Rattle.ctl_draft.proofs.Behind.{next_of}
 use Rattle.ctl_types.proofs.components.component_rows.Goals as goal
 
 pub loop-one-preserved : goal.loop-one-preserved

@@ -3,7 +3,7 @@ use Rattle.ctl_types.specs.Types as spec
 use Rattle.ctl_typing.proofs.Turns.{each_walked}
 use Rattle.ctl_typing.specs.Judgement.{each}
 use Rattle.ctl_typing.specs.Typing.{sense}
-use Rattle.ctl_types.proofs.Ordered.{next_of}
+use Rattle.ctl_draft.proofs.Behind.{next_of}
 use Rattle.ctl_types.proofs.components.components_named.Goals as goal
 
 pub loop-name-preserved : goal.loop-name-preserved

@@ -1,6 +1,6 @@
 use Rattle.std.proofs.Common.{ap, sym, ◌∙◌, ◌+◌, drop}
 use Rattle.ctl_types.proofs.Profiles.{formals_walked}
-use Rattle.ctl_types.proofs.Ordered.{next_of}
+use Rattle.ctl_draft.proofs.Behind.{next_of}
 use Rattle.ctl_types.specs.Declarations as spec
 use Rattle.ctl_types.proofs.headings.formal_types.Goals as goal
 

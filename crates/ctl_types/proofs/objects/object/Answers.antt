@@ -1,7 +1,7 @@
 use Rattle.std.proofs.Common.{◌∙◌, ap, sym}
 use Rattle.ctl_types.specs.Declarations as spec
-use Rattle.ctl_types.specs.Draft.{by_tables, noted}
-use Rattle.ctl_types.proofs.Drafts.{judges_as}
+use Rattle.ctl_draft.specs.Draft.{by_tables, noted}
+use Rattle.ctl_draft.proofs.Drafts.{judges_as}
 use Rattle.ctl_types.proofs.objects.object.Goals as goal
 
 pub returns : goal.returns
