@@ -41,7 +41,7 @@ use Rattle.ctl_draft.specs.declared.draft.Looping.TheVariants as looping
 use Rattle.ctl_draft.specs.Draft.{Doing, by_tables, noted, fault_when, declare_object, next_var}
 use Rattle.ctl_types.specs.Elaboration as spec
 use Rattle.ctl_types.specs.Elaboration.{Says}
-use Rattle.ctl_types.specs.Statements as simple
+use Rattle.ctl_statements.specs.Statements as simple
 use Rattle.ctl_well_typed.specs.Setting.{LoopParameter, loop_parameter, Frames, Names, Setting, InView}
 use Rattle.ctl_well_typed.specs.Expressions.{Typed}
 use Rattle.ctl_well_typed.specs.Statements as rule

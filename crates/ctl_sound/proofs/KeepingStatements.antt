@@ -33,11 +33,11 @@ use Rattle.ctl_typing.specs.Lookup.{same, root_of, is_limited}
 use Rattle.ctl_typing.specs.Senses.{suffix_sense}
 use Rattle.ctl_typing.specs.Typing as expr
 use Rattle.ctl_typing.specs.Typing.{Sense, sense}
-use Rattle.ctl_types.specs.Statements as spec
+use Rattle.ctl_statements.specs.Statements as spec
 use Rattle.ctl_draft.specs.Operations as operations
-use Rattle.ctl_types.specs.declared.assignments.Source.{Source}
-use Rattle.ctl_types.specs.declared.assignments.Source.TheVariants as as_source
-use Rattle.ctl_types.specs.declared.assignments.Target.{Target}
+use Rattle.ctl_statements.specs.declared.assignments.Source.{Source}
+use Rattle.ctl_statements.specs.declared.assignments.Source.TheVariants as as_source
+use Rattle.ctl_statements.specs.declared.assignments.Target.{Target}
 use Rattle.ctl_sound.specs.Known.{IfSome, All, Stays}
 use Rattle.ctl_sound.specs.Law.{SimpleStatementsKeepFaults}
 use Rattle.ctl_sound.proofs.Stays.{Keeps, KeepsSuffix, FoundStays, known_stays, silent_stays, wrong_stays, but_stays, next_stays, both_stays, following_stays, if_stays, settled_stays, as_variable_stays, actuals_stay}

@@ -36,11 +36,11 @@ use Rattle.ctl_typing.specs.Judgement.{Judgement, known, but, wrong, noting, ◌
 use Rattle.ctl_typing.specs.Lookup.{same, root_of, is_limited}
 use Rattle.ctl_typing.specs.Typing as expr
 use Rattle.ctl_typing.specs.Typing.{Sense}
-use Rattle.ctl_types.specs.Statements as spec
+use Rattle.ctl_statements.specs.Statements as spec
 use Rattle.ctl_draft.specs.Operations as operations
-use Rattle.ctl_types.specs.declared.assignments.Source.{Source}
-use Rattle.ctl_types.specs.declared.assignments.Source.TheVariants as as_source
-use Rattle.ctl_types.specs.declared.assignments.Target.{Target}
+use Rattle.ctl_statements.specs.declared.assignments.Source.{Source}
+use Rattle.ctl_statements.specs.declared.assignments.Source.TheVariants as as_source
+use Rattle.ctl_statements.specs.declared.assignments.Target.{Target}
 use Rattle.ctl_well_typed.specs.Setting.{In, InOut, Formal, Frames, Setting, InView}
 use Rattle.ctl_well_typed.specs.Types.{is_scalar, Descends, itself, from_parent, Covers, same_type, ancestor, HasRoot}
 use Rattle.ctl_well_typed.specs.Expressions as rule

@@ -8,7 +8,7 @@ use Rattle.ctl_syntax.specs.declared.name.Mark.{Mark}
 use Rattle.ctl_syntax.specs.declared.name.Name.{Name}
 use Rattle.ctl_typing.specs.declared.found.Asked.TheVariants.{Exactly}
 use Rattle.ctl_typing.specs.Senses.{suffix_sense}
-use Rattle.ctl_types.specs.Statements.{assignment, call, raising, exit_by, return_value}
+use Rattle.ctl_statements.specs.Statements.{assignment, call, raising, exit_by, return_value}
 use Rattle.ctl_syntax.specs.declared.denoted.Use.{Use}
 use Rattle.ctl_syntax.specs.declared.expression.Expression.{Expression}
 use Rattle.ctl_program.specs.declared.types.Root.{Root}

@@ -2,5 +2,4 @@ pub mod Aligned
 pub mod Conditionals
 pub mod Ordered
 pub mod Profiles
-pub mod Threes
 pub mod Wholes

@@ -1,6 +1,5 @@
 pub mod Declarations
 pub mod Elaboration
 pub mod Parts
-pub mod Statements
 pub mod Subprograms
 pub mod Types

@@ -4,8 +4,6 @@
 #![tactic(auto)]
 
 pub mod accesses;
-pub mod assignments;
-pub mod calls;
 pub mod components;
 pub mod definitions;
 pub mod discriminants;
@@ -16,15 +14,11 @@ pub mod instances;
 pub mod library;
 pub mod masters;
 pub mod objects;
-pub mod operation_calls;
 pub mod overriding;
 pub mod own_names;
 pub mod parts;
 pub mod pool_clauses;
 pub mod programs;
-pub mod raises;
 pub mod records;
 pub mod subprograms;
-pub mod transfers;
 pub mod whole;
-pub mod writing;

@@ -9,8 +9,6 @@ ghost use Rattle.ctl_typing.specs.Judgement.{Judges, beside, each};
 ghost use Rattle.ctl_typing.specs.Typing.{sense};
 
 use crate::accesses::incomplete;
-use crate::assignments::assignment;
-use crate::calls::call;
 use crate::definitions::type_definition;
 use crate::exceptions::exceptions;
 use crate::formals::enter_formals;
@@ -21,15 +19,17 @@ use crate::masters::{
 };
 use crate::objects::objects;
 use crate::pool_clauses::pool_clause;
-use crate::raises::{choices_of, raising, raising_again};
 use crate::subprograms::{body_put, declaration, opened};
-use crate::transfers::{exiting, returning};
 use ctl_draft::draft::{Around, Draft, Giving, Handling, Looping, Order, Returning};
 use ctl_program::expression::Expr;
 use ctl_program::operators::Direction as CheckedDirection;
 use ctl_program::statement as checked;
 use ctl_program::statement::{Arm, Master, Stmt};
 use ctl_program::types::Ty;
+use ctl_statements::assignments::assignment;
+use ctl_statements::calls::call;
+use ctl_statements::raises::{choices_of, raising, raising_again};
+use ctl_statements::transfers::{exiting, returning};
 use ctl_syntax::denoted::{Definition, Use};
 use ctl_syntax::expression::Expression;
 use ctl_syntax::item::{

@@ -6,7 +6,7 @@ use Rattle.ctl_syntax.specs.declared.item.Item.{fold_out-Item}
 use Rattle.ctl_syntax.specs.declared.item.Statement.{Statement, size-Statement, size_is-Statement, fold_out-Statement}
 use Rattle.ctl_syntax.specs.declared.item.Statement.TheVariants.{outs-Assignment, If, outs-If, outs-Loop}
 use Rattle.ctl_types.specs.Elaboration as spec
-use Rattle.ctl_types.specs.Statements.{assignment}
+use Rattle.ctl_statements.specs.Statements.{assignment}
 use Rattle.ctl_types.specs.Parts as part
 use Rattle.ctl_typing.proofs.Turns.{each_walked}
 use Rattle.ctl_typing.specs.Judgement.{appended, each}

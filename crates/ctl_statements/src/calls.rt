@@ -1,7 +1,7 @@
 //! Calls of procedures: of the text's own, and of the library's (RM 6.4, A.10.7, 13.11.2, 13.11.5).
 
 ghost use Rattle.std.specs.Prelude.{◌≡◌, ◌∷◌, [], Some, None, map};
-ghost use Rattle.ctl_types.specs.Statements as spec;
+ghost use Rattle.ctl_statements.specs.Statements as spec;
 ghost use Rattle.ctl_typing.specs.Judgement.{Answers, Judges};
 ghost use Rattle.ctl_typing.specs.Senses.{suffix_sense};
 ghost use Rattle.ctl_typing.specs.Typing.{sense};

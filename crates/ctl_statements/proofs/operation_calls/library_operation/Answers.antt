@@ -1,5 +1,5 @@
-use Rattle.ctl_types.proofs.Threes.{three_of}
-use Rattle.ctl_types.proofs.operation_calls.library_operation.Goals as goal
+use Rattle.ctl_statements.proofs.Threes.{three_of}
+use Rattle.ctl_statements.proofs.operation_calls.library_operation.Goals as goal
 
 pub returns-in-Allocate-len3 : goal.returns-in-Allocate-len3
 returns-in-Allocate-len3 c =

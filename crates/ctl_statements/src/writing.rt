@@ -1,7 +1,7 @@
 //! Variables that a call writes to (RM 6.4.1).
 
 ghost use Rattle.std.specs.Prelude.{◌≡◌, map};
-ghost use Rattle.ctl_types.specs.Statements as spec;
+ghost use Rattle.ctl_statements.specs.Statements as spec;
 ghost use Rattle.ctl_typing.specs.Judgement.{Judges};
 ghost use Rattle.ctl_typing.specs.Senses.{suffix_sense};
 ghost use Rattle.ctl_typing.specs.Typing.{sense};

@@ -1,7 +1,7 @@
 //! Exits and returns (RM 5.7, 6.5).
 
 ghost use Rattle.std.specs.Prelude.{◌≡◌, option_map};
-ghost use Rattle.ctl_types.specs.Statements as spec;
+ghost use Rattle.ctl_statements.specs.Statements as spec;
 ghost use Rattle.ctl_typing.specs.Judgement.{Judges};
 ghost use Rattle.ctl_typing.specs.Typing.{sense};
 

@@ -1,8 +1,8 @@
 use Rattle.std.proofs.Common.{◌≡◌, [], drop, Some}
 use Rattle.ctl_draft.specs.Draft.{by_tables}
-use Rattle.ctl_types.specs.Statements as spec
+use Rattle.ctl_statements.specs.Statements as spec
 use Rattle.ctl_typing.specs.Judgement.{each}
-use Rattle.ctl_types.proofs.raises.exceptions_chosen.Given as goal
+use Rattle.ctl_statements.proofs.raises.exceptions_chosen.Given as goal
 
 abbrev pub invariant-loop-one : goal.invariant-loop-one
 invariant-loop-one l =

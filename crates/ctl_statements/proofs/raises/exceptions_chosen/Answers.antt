@@ -2,11 +2,11 @@ use Rattle.std.proofs.Common.{ap, sym, ◌∙◌, ◌+◌, drop}
 use Rattle.ctl_syntax.specs.declared.denoted.Use.{Use}
 use Rattle.ctl_syntax.specs.declared.name.Mark.{Mark}
 use Rattle.ctl_draft.specs.Draft.{by_tables}
-use Rattle.ctl_types.specs.Statements as spec
+use Rattle.ctl_statements.specs.Statements as spec
 use Rattle.ctl_draft.proofs.Behind.{next_of}
 use Rattle.ctl_typing.proofs.Turns.{each_walked}
 use Rattle.ctl_typing.specs.Judgement.{each}
-use Rattle.ctl_types.proofs.raises.exceptions_chosen.Goals as goal
+use Rattle.ctl_statements.proofs.raises.exceptions_chosen.Goals as goal
 
 pub loop-one-preserved : goal.loop-one-preserved
 loop-one-preserved c =

@@ -2,7 +2,7 @@
 
 ghost use Rattle.std.specs.Prelude.{◌≡◌};
 ghost use Rattle.ctl_draft.specs.Draft.{by_tables};
-ghost use Rattle.ctl_types.specs.Statements as spec;
+ghost use Rattle.ctl_statements.specs.Statements as spec;
 ghost use Rattle.ctl_typing.specs.Judgement.{Answers, Judges};
 
 use ctl_draft::draft::{Draft, Handling};

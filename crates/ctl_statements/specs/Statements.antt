@@ -27,9 +27,9 @@ use Rattle.ctl_typing.specs.declared.table.Profile.{Profile}
 use Rattle.ctl_typing.specs.declared.found.Asked.{Asked}
 use Rattle.ctl_typing.specs.declared.found.Asked.TheVariants.{Anything, Exactly}
 use Rattle.ctl_typing.specs.declared.found.Place.{Place}
-use Rattle.ctl_types.specs.declared.assignments.Source.{Source}
-use Rattle.ctl_types.specs.declared.assignments.Source.TheVariants as as_source
-use Rattle.ctl_types.specs.declared.assignments.Target.{Target}
+use Rattle.ctl_statements.specs.declared.assignments.Source.{Source}
+use Rattle.ctl_statements.specs.declared.assignments.Source.TheVariants as as_source
+use Rattle.ctl_statements.specs.declared.assignments.Target.{Target}
 use Rattle.ctl_typing.specs.declared.found.Found.{Found}
 use Rattle.ctl_typing.specs.declared.found.Found.TheVariants.{Part, Computed, Discriminant, View}
 use Rattle.ctl_draft.specs.declared.draft.Draft.{Draft}

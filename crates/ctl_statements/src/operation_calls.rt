@@ -2,7 +2,7 @@
 
 ghost use Rattle.std.specs.Prelude.{◌≡◌, ◌∷◌, map, slice_get};
 ghost use Rattle.ctl_draft.specs.Operations as operation_spec;
-ghost use Rattle.ctl_types.specs.Statements as spec;
+ghost use Rattle.ctl_statements.specs.Statements as spec;
 ghost use Rattle.ctl_typing.specs.Judgement.{Answers, Judges};
 ghost use Rattle.ctl_typing.specs.Senses.{suffix_sense};
 ghost use Rattle.ctl_typing.specs.Typing.{sense};
