@@ -39,14 +39,14 @@ use Rattle.ctl_typing.specs.Typing.{sense, designates_this}
 use Rattle.ctl_draft.specs.declared.associations.Associated.TheVariants.{Deallocation}
 use Rattle.ctl_draft.specs.declared.draft.Around.{Around}
 use Rattle.ctl_draft.specs.declared.draft.Draft.{Draft}
-use Rattle.ctl_types.specs.Declarations as decl
-use Rattle.ctl_types.specs.Declarations.{name_kept, operation_named}
+use Rattle.ctl_declarations.specs.Declarations as decl
+use Rattle.ctl_declarations.specs.Declarations.{name_kept, operation_named}
 use Rattle.ctl_draft.specs.Draft.{enter, with_entries}
 use Rattle.ctl_types.specs.Elaboration.{surely}
 use Rattle.ctl_draft.specs.Freezing.{changed, changed_from, changed_each, done_by, is_free_type, with_accesses}
 use Rattle.ctl_draft.specs.Marks as marks
-use Rattle.ctl_types.specs.Types as types
-use Rattle.ctl_types.specs.Types.{is_given}
+use Rattle.ctl_declarations.specs.Types as types
+use Rattle.ctl_declarations.specs.Types.{is_given}
 use Rattle.ctl_well_typed.specs.Setting.{Collection, Names, Frames, Encloses, Setting, HasAccess, InView}
 use Rattle.ctl_well_typed.specs.Statements as rule
 use Rattle.ctl_sound.specs.Known.{IfSome, Gives}

@@ -9,9 +9,9 @@ use Rattle.ctl_typing.specs.declared.table.RecordEntry.{RecordEntry}
 use Rattle.ctl_typing.specs.Lookup.{component_of, descends, designated_by}
 use Rattle.ctl_types.specs.Elaboration.{library_records, main_declared, library, begun, outside}
 use Rattle.ctl_draft.specs.Draft.{declare}
-use Rattle.ctl_types.specs.Declarations.{operation_named}
+use Rattle.ctl_declarations.specs.Declarations.{operation_named}
 use Rattle.ctl_types.specs.Subprograms.{add_subprogram}
-use Rattle.ctl_types.specs.Types.{is_given}
+use Rattle.ctl_declarations.specs.Types.{is_given}
 use Rattle.ctl_typing.specs.declared.table.Entry.TheVariants as entry
 use Rattle.ctl_typing.specs.Judgement.{with_fault}
 use Rattle.ctl_program.specs.declared.operators.SubprogramKind.TheVariants as kind

@@ -21,7 +21,7 @@ use Rattle.ctl_typing.specs.declared.table.Tables.{Tables}
 use Rattle.ctl_draft.specs.declared.draft.Around.{Around}
 use Rattle.ctl_draft.specs.declared.draft.Draft.{Draft}
 use Rattle.ctl_draft.specs.declared.draft.Giving.{Giving}
-use Rattle.ctl_types.specs.Declarations as decl
+use Rattle.ctl_declarations.specs.Declarations as decl
 use Rattle.ctl_types.specs.Subprograms as routines
 use Rattle.ctl_draft.specs.Draft.{fault_when, is_declared_in, leave_view}
 use Rattle.ctl_draft.specs.Freezing.{freeze_all}

@@ -24,7 +24,7 @@ use Rattle.ctl_draft.specs.declared.draft.Draft.{Draft}
 use Rattle.ctl_draft.specs.declared.draft.Enclosing.{Enclosing}
 use Rattle.ctl_draft.specs.Draft.{Doing, early_when}
 use Rattle.ctl_draft.specs.Marks as marks
-use Rattle.ctl_types.specs.Types as types
+use Rattle.ctl_declarations.specs.Types as types
 use Rattle.ctl_well_typed.specs.Setting.{Frames, Setting, InView}
 use Rattle.ctl_well_typed.specs.Expressions.{Perhaps}
 use Rattle.ctl_well_typed.specs.Programs as program

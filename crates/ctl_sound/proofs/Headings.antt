@@ -25,7 +25,7 @@ use Rattle.ctl_typing.specs.Judgement.{Judging, known, with_known, ◌>>=◌, pa
 use Rattle.ctl_typing.specs.Typing.{entry_found, library_found, marked, mark_judged}
 use Rattle.ctl_draft.specs.declared.draft.Around.{Around}
 use Rattle.ctl_draft.specs.declared.draft.Draft.{Draft}
-use Rattle.ctl_types.specs.Declarations as decl
+use Rattle.ctl_declarations.specs.Declarations as decl
 use Rattle.ctl_draft.specs.Draft.{declare, declare_object}
 use Rattle.ctl_draft.specs.Marks.{named_type}
 use Rattle.ctl_draft.specs.Operations.{formal}

@@ -43,8 +43,8 @@ use Rattle.ctl_typing.specs.Typing as expr
 use Rattle.ctl_typing.specs.Typing.{Sense, sense}
 use Rattle.ctl_draft.specs.Operations.{formal}
 use Rattle.ctl_draft.specs.Marks as marks
-use Rattle.ctl_types.specs.Declarations as decl
-use Rattle.ctl_types.specs.Types as defined
+use Rattle.ctl_declarations.specs.Declarations as decl
+use Rattle.ctl_declarations.specs.Types as defined
 use Rattle.ctl_well_typed.specs.Setting.{Declared, Frames, Names, Setting, HasRecord, InView}
 use Rattle.ctl_well_typed.specs.Types.{HasDiscriminant}
 use Rattle.ctl_well_typed.specs.Expressions as rule

@@ -40,8 +40,8 @@ use Rattle.ctl_draft.specs.declared.draft.Order.TheVariants as order
 use Rattle.ctl_draft.specs.Draft.{fault_when, asking, asked, deeds_of, declare}
 use Rattle.ctl_draft.specs.Freezing.{done_by}
 use Rattle.ctl_draft.specs.Marks as marks
-use Rattle.ctl_types.specs.Types.{is_given}
-use Rattle.ctl_types.specs.Declarations as decl
+use Rattle.ctl_declarations.specs.Types.{is_given}
+use Rattle.ctl_declarations.specs.Declarations as decl
 use Rattle.ctl_types.specs.Elaboration.{surely}
 use Rattle.ctl_well_typed.specs.Setting.{Declared, declared, Frames, Names, Setting, InView}
 use Rattle.ctl_well_typed.specs.Types.{HasDiscriminant, block_size, block_count, pool_size}

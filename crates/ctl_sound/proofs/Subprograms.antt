@@ -33,7 +33,7 @@ use Rattle.ctl_draft.specs.declared.draft.Around.{Around}
 use Rattle.ctl_draft.specs.declared.draft.Draft.{Draft}
 use Rattle.ctl_draft.specs.declared.draft.Role.{Role}
 use Rattle.ctl_draft.specs.declared.draft.Role.TheVariants as role
-use Rattle.ctl_types.specs.Declarations as decl
+use Rattle.ctl_declarations.specs.Declarations as decl
 use Rattle.ctl_types.specs.Subprograms as routines
 use Rattle.ctl_draft.specs.Draft.{declare, fault_when, is_declared_in}
 use Rattle.ctl_draft.specs.Freezing.{changed, changed_from, with_records, is_free_type}

@@ -21,7 +21,7 @@ use Rattle.ctl_typing.specs.declared.table.Tables.{Tables}
 use Rattle.ctl_typing.specs.declared.found.Asked.{Asked}
 use Rattle.ctl_typing.specs.Judgement.{each}
 use Rattle.ctl_types.specs.Elaboration.{Elaborates}
-use Rattle.ctl_types.specs.Declarations.{object_type, value_of, discriminant, heading_types}
+use Rattle.ctl_declarations.specs.Declarations.{object_type, value_of, discriminant, heading_types}
 use Rattle.ctl_well_typed.specs.Programs.{WellTyped}
 use Rattle.ctl_well_typed.specs.Types.{HasDiscriminant}
 use Rattle.ctl_well_typed.specs.Expressions.{Perhaps}

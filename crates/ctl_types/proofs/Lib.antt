@@ -1,5 +1,4 @@
 pub mod Aligned
 pub mod Conditionals
 pub mod Ordered
-pub mod Profiles
 pub mod Wholes

@@ -81,8 +81,8 @@ use Rattle.ctl_draft.specs.Freezing.{freeze_all, end_of_part}
 use Rattle.ctl_statements.specs.Statements.{assignment, call, raising, raising_again, exiting, choices_of}
 use Rattle.ctl_draft.specs.Operations.{operations_of}
 use Rattle.ctl_statements.specs.Statements as simple
-use Rattle.ctl_types.specs.Types.{pool_clause}
-use Rattle.ctl_types.specs.Declarations.{objects, exceptions, instance, heading, enter_formals, name_kept, definition_of, incomplete}
+use Rattle.ctl_declarations.specs.Types.{pool_clause}
+use Rattle.ctl_declarations.specs.Declarations.{objects, exceptions, instance, heading, enter_formals, name_kept, definition_of, incomplete}
 use Rattle.ctl_types.specs.Subprograms.{declaration, subprogram_of, giving_of, put_body, add_subprogram}
 
 -- What each construct is ------------------------------------------------------------------------------

@@ -25,7 +25,7 @@ use Rattle.ctl_draft.specs.declared.draft.Giving.{Giving}
 use Rattle.ctl_draft.specs.declared.draft.Giving.TheVariants as giving
 use Rattle.ctl_typing.specs.Lookup.{same}
 use Rattle.ctl_draft.specs.Draft.{fault_when, is_declared_in, declare}
-use Rattle.ctl_types.specs.Declarations.{heading, same_formals, play, role_of, indicator_kept}
+use Rattle.ctl_declarations.specs.Declarations.{heading, same_formals, play, role_of, indicator_kept}
 
 abbrev pub formal_names : List (Formal Definition Use) → List (List ℕ)
 formal_names [] = []

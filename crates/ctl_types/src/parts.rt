@@ -8,18 +8,18 @@ ghost use Rattle.ctl_types.specs.Parts as part;
 ghost use Rattle.ctl_typing.specs.Judgement.{Judges, beside, each};
 ghost use Rattle.ctl_typing.specs.Typing.{sense};
 
-use crate::accesses::incomplete;
-use crate::definitions::type_definition;
-use crate::exceptions::exceptions;
-use crate::formals::enter_formals;
-use crate::instances::instance;
 use crate::masters::{
     end_part, enter_master, inside, inside_block, leave_master, leave_returns, master_of,
     more_items,
 };
-use crate::objects::objects;
-use crate::pool_clauses::pool_clause;
 use crate::subprograms::{body_put, declaration, opened};
+use ctl_declarations::accesses::incomplete;
+use ctl_declarations::definitions::type_definition;
+use ctl_declarations::exceptions::exceptions;
+use ctl_declarations::formals::enter_formals;
+use ctl_declarations::instances::instance;
+use ctl_declarations::objects::objects;
+use ctl_declarations::pool_clauses::pool_clause;
 use ctl_draft::draft::{Around, Draft, Giving, Handling, Looping, Order, Returning};
 use ctl_program::expression::Expr;
 use ctl_program::operators::Direction as CheckedDirection;

@@ -6,9 +6,9 @@ ghost use Rattle.ctl_types.specs.Elaboration as elaboration;
 ghost use Rattle.ctl_types.specs.Subprograms as spec;
 ghost use Rattle.ctl_typing.specs.Judgement.{Judges, Yields};
 
-use crate::headings::{Heading, heading};
 use crate::masters::Opened;
-use crate::overriding::{has_same_formals, keep_indicator, play, role_of};
+use ctl_declarations::headings::{Heading, heading};
+use ctl_declarations::overriding::{has_same_formals, keep_indicator, play, role_of};
 use ctl_draft::draft::{Around, Draft, Giving, Routine};
 use ctl_draft::freezing::freeze_all;
 use ctl_grammar::spelling::is_same_name;
