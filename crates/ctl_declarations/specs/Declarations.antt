@@ -1,5 +1,5 @@
 -- Objects, exceptions, instances and headings of subprograms as they are declared (3.3.1, 11.1, 12.3, 6.1, 8.3.1).
-use Rattle.std.specs.Prelude.{ℕ, zero, suc, Bool, true, false, ◌&&◌, ◌||◌, not, if◌then◌else◌, nat_eq, List, [], ◌∷◌, ◌++◌, codes, length, map, slice_get, Option, Some, None, option_map, ◌+◌}
+use Rattle.std.specs.Prelude.{ℕ, zero, suc, Bool, true, false, ◌&&◌, ◌||◌, not, if◌then◌else◌, nat_eq, List, [], ◌∷◌, ◌++◌, codes, length, map, slice_get, Option, Some, None, option_map}
 use Rattle.ctl_grammar.specs.Spelling.{same_name}
 use Rattle.ctl_tree.specs.declared.span.Span.{Span}
 use Rattle.ctl_tree.specs.declared.fault.FaultCode.TheVariants as rule

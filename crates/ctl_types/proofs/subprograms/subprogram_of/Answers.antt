@@ -1,4 +1,4 @@
-use Rattle.std.proofs.Common.{◌∙◌, sym, ap, Bool, true, if◌then◌else◌, slice_get}
+use Rattle.std.proofs.Common.{◌∙◌, sym, ap, Bool, if◌then◌else◌, slice_get}
 use Rattle.ctl_draft.proofs.Drafts.{judges_as}
 use Rattle.ctl_types.specs.Subprograms as spec
 use Rattle.ctl_types.proofs.subprograms.subprogram_of.Goals as goal
