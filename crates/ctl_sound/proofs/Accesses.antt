@@ -36,18 +36,17 @@ use Rattle.ctl_typing.specs.declared.table.Tables.{Tables}
 use Rattle.ctl_typing.specs.Judgement.{Judgement, known, wrong, ◌>>=◌, both}
 use Rattle.ctl_typing.specs.Lookup.{designated_by, is_mark_root, root_of}
 use Rattle.ctl_typing.specs.Typing.{sense, designates_this}
-use Rattle.ctl_types.specs.declared.associations.Associated.TheVariants.{Deallocation}
-use Rattle.ctl_types.specs.declared.draft.Around.{Around}
-use Rattle.ctl_types.specs.declared.draft.Draft.{Draft}
-use Rattle.ctl_types.specs.Declarations as decl
-use Rattle.ctl_types.specs.Declarations.{name_kept, operation_named}
-use Rattle.ctl_types.specs.Draft.{enter, with_entries}
-use Rattle.ctl_types.specs.Elaboration as spec
+use Rattle.ctl_draft.specs.declared.associations.Associated.TheVariants.{Deallocation}
+use Rattle.ctl_draft.specs.declared.draft.Around.{Around}
+use Rattle.ctl_draft.specs.declared.draft.Draft.{Draft}
+use Rattle.ctl_declarations.specs.Declarations as decl
+use Rattle.ctl_declarations.specs.Declarations.{name_kept, operation_named}
+use Rattle.ctl_draft.specs.Draft.{enter, with_entries}
 use Rattle.ctl_types.specs.Elaboration.{surely}
-use Rattle.ctl_types.specs.Freezing.{changed, changed_from, changed_each, done_by, is_free_type, with_accesses}
-use Rattle.ctl_types.specs.Marks as marks
-use Rattle.ctl_types.specs.Types as types
-use Rattle.ctl_types.specs.Types.{is_given}
+use Rattle.ctl_draft.specs.Freezing.{changed, changed_from, changed_each, done_by, is_free_type, with_accesses}
+use Rattle.ctl_draft.specs.Marks as marks
+use Rattle.ctl_declarations.specs.Types as types
+use Rattle.ctl_declarations.specs.Types.{is_given}
 use Rattle.ctl_well_typed.specs.Setting.{Collection, Names, Frames, Encloses, Setting, HasAccess, InView}
 use Rattle.ctl_well_typed.specs.Statements as rule
 use Rattle.ctl_sound.specs.Known.{IfSome, Gives}
@@ -75,8 +74,8 @@ module _ (a : Around) where
     right = λ s i f b g. (front_entered s a.start number x d i.start (fine s) f, right s);
   })
 
-  pub incomplete_leads : (name : Definition) (t : Taggedness) (d : Draft) → Leads (here a) (RightItems a) d (surely (spec.incomplete name t a d))
-  incomplete_leads name t d = still_leads (here a) (RightItems a) d (name_kept name d) (surely (spec.incomplete name t a d)) (told_still (is_given (operation_named name.identifier.text)) _ name.identifier.span d)
+  pub incomplete_leads : (name : Definition) (t : Taggedness) (d : Draft) → Leads (here a) (RightItems a) d (surely (decl.incomplete name t a d))
+  incomplete_leads name t d = still_leads (here a) (RightItems a) d (name_kept name d) (surely (decl.incomplete name t a d)) (told_still (is_given (operation_named name.identifier.text)) _ name.identifier.span d)
       (entry_leads name.number (entry.Incomplete t) (name_kept name d) (made.Silent ∷ []) (λ s. tt) (silent_right a))
 
 -- Pools of access types (13.11) ---------------------------------------------------------------------------------
@@ -298,8 +297,8 @@ module _ (a : Around) (place : Span) (name : Definition) (g : Generality) (m : M
       (λ s f t e. let sound = front_sound s d1 (back_to s f) in known_designated s.k (around_site s) d1.tables sound r1.0 (designated_good s.k (around_site s) d1.tables sound place m c d1.notes) t e)
       (λ s f p e. let sound = front_sound s d1 (back_to s f) in known_pool s.k (around_site s) d1.tables sound r2.0 (pool_given_good s.k (around_site s) d1.tables sound g a.level name.identifier.span pool r1.1) p e))
 
-  pub access_defined : (d : Draft) → Leads (here a) (RightItems a) d (surely (spec.definition_of place name (definition.Access g m c pool) a d))
-  access_defined d = still_leads (here a) (RightItems a) d (name_kept name d) (surely (spec.definition_of place name (definition.Access g m c pool) a d)) (told_still (is_given (operation_named name.identifier.text)) _ name.identifier.span d) (access_type_leads (name_kept name d))
+  pub access_defined : (d : Draft) → Leads (here a) (RightItems a) d (surely (decl.definition_of place name (definition.Access g m c pool) a d))
+  access_defined d = still_leads (here a) (RightItems a) d (name_kept name d) (surely (decl.definition_of place name (definition.Access g m c pool) a d)) (told_still (is_given (operation_named name.identifier.text)) _ name.identifier.span d) (access_type_leads (name_kept name d))
 
 -- Storage_Pool clauses (13.3, 13.11) -------------------------------------------------------------------------------
 

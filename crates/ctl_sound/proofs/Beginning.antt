@@ -8,16 +8,17 @@ use Rattle.ctl_typing.specs.declared.table.Tables.{Tables}
 use Rattle.ctl_typing.specs.declared.table.RecordEntry.{RecordEntry}
 use Rattle.ctl_typing.specs.Lookup.{component_of, descends, designated_by}
 use Rattle.ctl_types.specs.Elaboration.{library_records, main_declared, library, begun, outside}
-use Rattle.ctl_types.specs.Draft.{declare}
-use Rattle.ctl_types.specs.Declarations.{add_subprogram, operation_named}
-use Rattle.ctl_types.specs.Types.{is_given}
+use Rattle.ctl_draft.specs.Draft.{declare}
+use Rattle.ctl_declarations.specs.Declarations.{operation_named}
+use Rattle.ctl_types.specs.Subprograms.{add_subprogram}
+use Rattle.ctl_declarations.specs.Types.{is_given}
 use Rattle.ctl_typing.specs.declared.table.Entry.TheVariants as entry
 use Rattle.ctl_typing.specs.Judgement.{with_fault}
 use Rattle.ctl_program.specs.declared.operators.SubprogramKind.TheVariants as kind
 use Rattle.ctl_tree.specs.declared.fault.Fault.{Fault}
 use Rattle.ctl_tree.specs.declared.fault.FaultCode.TheVariants as rule
 use Rattle.ctl_syntax.specs.declared.denoted.Definition.{Definition}
-use Rattle.ctl_types.specs.Statements.{user_operation, operations_of}
+use Rattle.ctl_draft.specs.Operations.{user_operation, operations_of}
 use Rattle.ctl_well_typed.specs.Setting.{Frames, Setting, InView}
 use Rattle.ctl_well_typed.specs.Types.{Descends, itself, HasRoot}
 use Rattle.ctl_sound.specs.Known.{IfSome}

@@ -12,11 +12,11 @@ use Rattle.ctl_syntax.specs.declared.denoted.Use.{Use}
 use Rattle.ctl_syntax.specs.declared.denoted.Definition.{Definition}
 use Rattle.ctl_syntax.specs.declared.item.Body.{Body-F}
 use Rattle.ctl_typing.specs.Judgement.{with_known, both}
-use Rattle.ctl_types.specs.declared.draft.Around.{Around}
-use Rattle.ctl_types.specs.declared.draft.Draft.{Draft}
-use Rattle.ctl_types.specs.declared.draft.Order.{Order}
-use Rattle.ctl_types.specs.Draft.{leave_view}
-use Rattle.ctl_types.specs.Freezing.{freeze_all, end_of_part}
+use Rattle.ctl_draft.specs.declared.draft.Around.{Around}
+use Rattle.ctl_draft.specs.declared.draft.Draft.{Draft}
+use Rattle.ctl_draft.specs.declared.draft.Order.{Order}
+use Rattle.ctl_draft.specs.Draft.{leave_view}
+use Rattle.ctl_draft.specs.Freezing.{freeze_all, end_of_part}
 use Rattle.ctl_types.specs.Elaboration as spec
 use Rattle.ctl_types.specs.Elaboration.{Says, Does, Part_of}
 use Rattle.ctl_well_typed.specs.Setting.{Frame, Frames, Encloses, InView}

@@ -3,7 +3,7 @@ use Rattle.std.proofs.Common.{arith, ◌≡◌, refl, sym, ap, ◌∙◌, subst,
 use Rattle.ctl_tree.specs.declared.span.Span.{Span}
 use Rattle.ctl_tree.specs.declared.fault.FaultCode.TheVariants as fault
 use Rattle.ctl_program.specs.declared.types.Ty.{Ty}
-use Rattle.ctl_types.specs.declared.draft.Routine.{Routine}
+use Rattle.ctl_draft.specs.declared.draft.Routine.{Routine}
 use Rattle.ctl_program.specs.declared.statement.Item.{Item as Checked_item}
 use Rattle.ctl_program.specs.declared.statement.Item.TheVariants as made
 use Rattle.ctl_program.specs.declared.statement.Master.{Master}
@@ -18,12 +18,13 @@ use Rattle.ctl_typing.specs.declared.table.Entry.{Entry}
 use Rattle.ctl_typing.specs.declared.table.Entry.TheVariants as entry
 use Rattle.ctl_typing.specs.declared.table.FormalEntry.{FormalEntry}
 use Rattle.ctl_typing.specs.declared.table.Tables.{Tables}
-use Rattle.ctl_types.specs.declared.draft.Around.{Around}
-use Rattle.ctl_types.specs.declared.draft.Draft.{Draft}
-use Rattle.ctl_types.specs.declared.draft.Giving.{Giving}
-use Rattle.ctl_types.specs.Declarations as decl
-use Rattle.ctl_types.specs.Draft.{fault_when, is_declared_in, leave_view}
-use Rattle.ctl_types.specs.Freezing.{freeze_all}
+use Rattle.ctl_draft.specs.declared.draft.Around.{Around}
+use Rattle.ctl_draft.specs.declared.draft.Draft.{Draft}
+use Rattle.ctl_draft.specs.declared.draft.Giving.{Giving}
+use Rattle.ctl_declarations.specs.Declarations as decl
+use Rattle.ctl_types.specs.Subprograms as routines
+use Rattle.ctl_draft.specs.Draft.{fault_when, is_declared_in, leave_view}
+use Rattle.ctl_draft.specs.Freezing.{freeze_all}
 use Rattle.ctl_types.specs.Elaboration as spec
 use Rattle.ctl_types.specs.Elaboration.{Does, surely}
 use Rattle.ctl_well_typed.specs.Setting.{Holding, OfFormal, Frame, Signature, Setting, InView}
@@ -96,12 +97,12 @@ module _ (place : Span) (x : Specification Definition Use) (d : Draft) where
 instead : {A C : Type 0} (h : Here) (Q : Site → A → Type 0) (R : Site → C → Type 0) (d : Draft) (r : Option A × Draft) (o : Option C) → Leads h Q d r → ((s : Site) → IfSome (R s) o) → Leads h R d (o, r.1)
 instead h Q R d r o l g = record { made = l.made; grows = l.grows; right = λ s i f b k. ((l.right s i f b k).0, g s) }
 
-pub declaration_leads : (a : Around) (place : Span) (x : Specification Definition Use) (d : Draft) → Leads (here a) (RightItems a) d (surely (decl.declaration place x a d))
+pub declaration_leads : (a : Around) (place : Span) (x : Specification Definition Use) (d : Draft) → Leads (here a) (RightItems a) d (surely (routines.declaration place x a d))
 declaration_leads a place x d =
     let h = heading_of place x d in
     let e = heading_behind place x d in
-    still_leads (here a) (RightItems a) d e (Some (made.Silent ∷ []), (decl.introduce a x (h, e)).1) (heading_still place x d)
-    (instead (here a) (Numbered h) (RightItems a) e (decl.introduce a x (h, e)) (Some (made.Silent ∷ [])) (introduce_leads a x h (heading_kind place x d) e (λ s i f. heading_usable place x d s f)) (λ s. rule.one_more_item rule.silent rule.no_more_items))
+    still_leads (here a) (RightItems a) d e (Some (made.Silent ∷ []), (routines.introduce a x (h, e)).1) (heading_still place x d)
+    (instead (here a) (Numbered h) (RightItems a) e (routines.introduce a x (h, e)) (Some (made.Silent ∷ [])) (introduce_leads a x h (heading_kind place x d) e (λ s i f. heading_usable place x d s f)) (λ s. rule.one_more_item rule.silent rule.no_more_items))
 
 -- Bodies that are put where they belong (6.3) -----------------------------------------------------------------
 
@@ -137,13 +138,13 @@ with_body_known k j m p h g =
     let same = one_signature g.is h.is (slice_get k.subprograms j) g.found h.found in
     record { is = h.is; found = h.found; level = h.level; result = h.result; formals = h.formals; body = subst (λ x. BodyFor k x m) same g.body }
 
-pub put_known : (n : Option ℕ) (m : Option Master) (d : Draft) → Put n m d (decl.put_body n m d)
+pub put_known : (n : Option ℕ) (m : Option Master) (d : Draft) → Put n m d (routines.put_body n m d)
 put_known None None d = put_nothing None None d
 put_known None (Some m) d = put_nothing None (Some m) d
 put_known (Some j) None d = put_nothing (Some j) None d
 put_known (Some j) (Some m) d = by_old (slice_get d.subprograms j) refl
   where
-    by_old : (o : Option Routine) → slice_get d.subprograms j ≡ o → Put (Some j) (Some m) d (decl.with_body j m o d)
+    by_old : (o : Option Routine) → slice_get d.subprograms j ≡ o → Put (Some j) (Some m) d (routines.with_body j m o d)
     by_old None e = put_nothing (Some j) (Some m) d
     by_old (Some p) e = record {
       subprograms = slice_set d.subprograms j (record { level = p.level; kind = p.kind; body = Some m });
@@ -155,13 +156,13 @@ put_known (Some j) (Some m) d = by_old (slice_get d.subprograms j) refl
 -- Bodies (6.3) -------------------------------------------------------------------------------------------------------
 
 -- a return gives the result of the heading
-gives_result : (m : Option (Mark Use)) (fs : List FormalEntry) (r : Option Ty) → ResultOf m r → gives_of (decl.giving_of m (Some (fs, r))) ≡ r
+gives_result : (m : Option (Mark Use)) (fs : List FormalEntry) (r : Option Ty) → ResultOf m r → gives_of (routines.giving_of m (Some (fs, r))) ≡ r
 gives_result None fs r e = sym e
-gives_result (Some m) fs r e = subst (λ o. gives_of (decl.giving_of (Some m) (Some (fs, o))) ≡ o) (sym e.1) refl
+gives_result (Some m) fs r e = subst (λ o. gives_of (routines.giving_of (Some m) (Some (fs, o))) ≡ o) (sym e.1) refl
 
 module _ (a : Around) (place : Span) (x : Specification Definition Use) (h : Heading) (tables : Tables) (read : IfSome (HeadingRead tables place x) h) (b : Does) (masters : DoesRight b) (d : Draft) (more : Behind tables.entries d.tables.entries) where
   abbrev gives : Giving
-  gives = decl.giving_of x.result h
+  gives = routines.giving_of x.result h
 
   abbrev within : Around
   within = spec.inside a gives d
@@ -228,11 +229,11 @@ module _ (a : Around) (place : Span) (x : Specification Definition Use) (h : Hea
       by_result None v = tt
       by_result (Some t) v = in_view_deeper s.k (around_site s) frame t v
 
-      by_none : (m : Option (Mark Use)) → IfSome (InView s.k (around_site (inner s frame d))) (gives_of (decl.giving_of m None))
+      by_none : (m : Option (Mark Use)) → IfSome (InView s.k (around_site (inner s frame d))) (gives_of (routines.giving_of m None))
       by_none None = tt
       by_none (Some m) = tt
 
-      by_heading : (g : Heading) → IfSome (HeadingRead tables place x) g → HeadingUsable s g → IfSome (InView s.k (around_site (inner s frame d))) (gives_of (decl.giving_of x.result g))
+      by_heading : (g : Heading) → IfSome (HeadingRead tables place x) g → HeadingUsable s g → IfSome (InView s.k (around_site (inner s frame d))) (gives_of (routines.giving_of x.result g))
       by_heading None r u = by_none x.result
       by_heading (Some y) r u = subst (λ o. IfSome (InView s.k (around_site (inner s frame d))) o) (sym (gives_result x.result y.0 y.1 r.result)) (by_result y.1 u.1)
 
@@ -264,7 +265,7 @@ module _ (a : Around) (place : Span) (x : Specification Definition Use) (h : Hea
   fits_number s n m num body =
       let r = subst (λ g. IfSome (HeadingRead tables place x) g) num.known read in
       let slots : formal_slots ≡ map OfFormal (map formal_of num.formals) = held_is within place tables x.formals num.formals r.formals begun more in
-      let gives' : gives_of gives ≡ num.result = ap (λ g. gives_of (decl.giving_of x.result g)) num.known ∙ gives_result x.result num.formals num.result r.result in
+      let gives' : gives_of gives ≡ num.result = ap (λ g. gives_of (routines.giving_of x.result g)) num.known ∙ gives_result x.result num.formals num.result r.result in
       record {
         is = record { home = around_site s; formals = map formal_of num.formals; result = num.result };
         found = num.found;
@@ -309,18 +310,18 @@ module _ (a : Around) (place : Span) (x : Specification Definition Use) (h : Hea
     where
       by_master : (m : Option Master) → judged.0 ≡ m → PutRight n layers (spec.body_put n layers (m, behind))
       by_master None e = put_right n layers behind (put_nothing n judged.0 behind) None (λ s ls. tt)
-      by_master (Some m) e = put_right n layers (decl.put_body n (Some m) behind) (subst (λ o. Put n o behind (decl.put_body n (Some m) behind)) (sym e) (put_known n (Some m) behind)) (Some (layers ++ made.Silent ∷ []))
+      by_master (Some m) e = put_right n layers (routines.put_body n (Some m) behind) (subst (λ o. Put n o behind (routines.put_body n (Some m) behind)) (sym e) (put_known n (Some m) behind)) (Some (layers ++ made.Silent ∷ []))
           (λ s ls. elaborated_joined s.k (around_site s) layers (made.Silent ∷ []) ls (rule.one_more_item rule.silent rule.no_more_items))
 
 -- Bodies among the items of a part -------------------------------------------------------------------------------------
 
-subprogram_entries : (a : Around) (place : Span) (x : Specification Definition Use) (h : Heading) (d : Draft) → Behind d.tables.entries (decl.subprogram_of a place x (h, d)).1.tables.entries
+subprogram_entries : (a : Around) (place : Span) (x : Specification Definition Use) (h : Heading) (d : Draft) → Behind d.tables.entries (routines.subprogram_of a place x (h, d)).1.tables.entries
 subprogram_entries a place x h d = by_test (is_declared_in a x.name.number d)
   where
-    completed_entries : (o : Option Entry) → Behind d.tables.entries (decl.completed a place x o (h, d)).1.tables.entries
+    completed_entries : (o : Option Entry) → Behind d.tables.entries (routines.completed a place x o (h, d)).1.tables.entries
     completed_entries (Some (entry.Subprogram p)) =
-        let told = fault_when (not (decl.conformed p (decl.formal_names x.formals) h)) fault.Type place d in
-        let still = still_further d told (decl.indicator_kept x told) (told_still (not (decl.conformed p (decl.formal_names x.formals) h)) fault.Type place d) (told_still (decl.is_unfounded x.indicator (decl.operation_named x.name.identifier.text)) fault.Override x.name.identifier.span told) in
+        let told = fault_when (not (routines.conformed p (routines.formal_names x.formals) h)) fault.Type place d in
+        let still = still_further d told (decl.indicator_kept x told) (told_still (not (routines.conformed p (routines.formal_names x.formals) h)) fault.Type place d) (told_still (decl.is_unfounded x.indicator (decl.operation_named x.name.identifier.text)) fault.Override x.name.identifier.span told) in
         behind_same d.tables.entries (decl.indicator_kept x told).tables.entries still.entries
     completed_entries None = behind_self d.tables.entries
     completed_entries (Some (entry.«Type» t)) = behind_self d.tables.entries
@@ -330,14 +331,14 @@ subprogram_entries a place x h d = by_test (is_declared_in a x.name.number d)
     completed_entries (Some (entry.Exception n)) = behind_self d.tables.entries
     completed_entries (Some entry.Unknown) = behind_self d.tables.entries
 
-    introduced : Behind d.tables.entries (decl.introduce a x (h, d)).1.tables.entries
+    introduced : Behind d.tables.entries (routines.introduce a x (h, d)).1.tables.entries
     introduced =
         let role = decl.role_of a x h d.tables in
         let p = play_played a (length d.subprograms) h d x.name.identifier.span role (role_fine a x h d.tables) in
-        let own = decl.entry_of (length d.subprograms) (decl.formal_names x.formals) h in
+        let own = routines.entry_of (length d.subprograms) (routines.formal_names x.formals) h in
         subst (λ es. Behind d.tables.entries (es ++ own ∷ [])) (sym (ap (λ z. z.tables.entries) p.is)) (behind_one d.tables.entries own)
 
-    by_test : (c : Bool) → Behind d.tables.entries (if c then decl.completed a place x (slice_get d.tables.entries x.name.number) (h, d) else decl.introduce a x (h, d)).1.tables.entries
+    by_test : (c : Bool) → Behind d.tables.entries (if c then routines.completed a place x (slice_get d.tables.entries x.name.number) (h, d) else routines.introduce a x (h, d)).1.tables.entries
     by_test true = completed_entries (slice_get d.tables.entries x.name.number)
     by_test false = introduced
 
@@ -346,7 +347,7 @@ body_item_leads place x b masters o a d =
     let h = heading_of place x d in
     let d1 = heading_behind place x d in
     let asked = heading_still place x d in
-    let r2 = decl.subprogram_of a place x (h, d1) in
+    let r2 = routines.subprogram_of a place x (h, d1) in
     let q = freeze_all_quiet a r2.1 in
     let r3 = freeze_all a r2.1 in
     let numbered = subprogram_leads a place x h (heading_kind place x d) d1 (λ s i f. heading_usable place x d s f) in

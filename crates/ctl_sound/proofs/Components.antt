@@ -20,11 +20,11 @@ use Rattle.ctl_typing.specs.declared.table.Tables.{Tables}
 use Rattle.ctl_typing.specs.Judgement.{Judgement, known, but, wrong, ◌>>=◌, with_known, appended, each, each_on}
 use Rattle.ctl_typing.specs.Lookup.{component_among, is_limited}
 use Rattle.ctl_typing.specs.Typing.{Sense, sense, has_objects, together}
-use Rattle.ctl_types.specs.declared.draft.Draft.{Draft}
-use Rattle.ctl_types.specs.declared.draft.Enclosing.{Enclosing}
-use Rattle.ctl_types.specs.Draft.{Doing, early_when}
-use Rattle.ctl_types.specs.Marks as marks
-use Rattle.ctl_types.specs.Types as types
+use Rattle.ctl_draft.specs.declared.draft.Draft.{Draft}
+use Rattle.ctl_draft.specs.declared.draft.Enclosing.{Enclosing}
+use Rattle.ctl_draft.specs.Draft.{Doing, early_when}
+use Rattle.ctl_draft.specs.Marks as marks
+use Rattle.ctl_declarations.specs.Types as types
 use Rattle.ctl_well_typed.specs.Setting.{Frames, Setting, InView}
 use Rattle.ctl_well_typed.specs.Expressions.{Perhaps}
 use Rattle.ctl_well_typed.specs.Programs as program

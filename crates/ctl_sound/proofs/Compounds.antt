@@ -30,18 +30,18 @@ use Rattle.ctl_typing.specs.declared.table.Tables.{Tables}
 use Rattle.ctl_typing.specs.Judgement.{Judgement, known, wrong, with_fault, ◌>>=◌, paired, beside, both, each}
 use Rattle.ctl_typing.specs.Senses.{suffix_sense}
 use Rattle.ctl_typing.specs.Typing.{sense, truth_of}
-use Rattle.ctl_types.specs.declared.draft.Around.{Around}
-use Rattle.ctl_types.specs.declared.draft.Draft.{Draft}
-use Rattle.ctl_types.specs.declared.draft.Giving.{Giving}
-use Rattle.ctl_types.specs.declared.draft.Giving.TheVariants as giving
-use Rattle.ctl_types.specs.declared.draft.Handling.{Handling}
-use Rattle.ctl_types.specs.declared.draft.Handling.TheVariants as handling
-use Rattle.ctl_types.specs.declared.draft.Looping.{Looping}
-use Rattle.ctl_types.specs.declared.draft.Looping.TheVariants as looping
-use Rattle.ctl_types.specs.Draft.{Doing, by_tables, noted, fault_when, declare_object, next_var}
+use Rattle.ctl_draft.specs.declared.draft.Around.{Around}
+use Rattle.ctl_draft.specs.declared.draft.Draft.{Draft}
+use Rattle.ctl_draft.specs.declared.draft.Giving.{Giving}
+use Rattle.ctl_draft.specs.declared.draft.Giving.TheVariants as giving
+use Rattle.ctl_draft.specs.declared.draft.Handling.{Handling}
+use Rattle.ctl_draft.specs.declared.draft.Handling.TheVariants as handling
+use Rattle.ctl_draft.specs.declared.draft.Looping.{Looping}
+use Rattle.ctl_draft.specs.declared.draft.Looping.TheVariants as looping
+use Rattle.ctl_draft.specs.Draft.{Doing, by_tables, noted, fault_when, declare_object, next_var}
 use Rattle.ctl_types.specs.Elaboration as spec
 use Rattle.ctl_types.specs.Elaboration.{Says}
-use Rattle.ctl_types.specs.Statements as simple
+use Rattle.ctl_statements.specs.Statements as simple
 use Rattle.ctl_well_typed.specs.Setting.{LoopParameter, loop_parameter, Frames, Names, Setting, InView}
 use Rattle.ctl_well_typed.specs.Expressions.{Typed}
 use Rattle.ctl_well_typed.specs.Statements as rule
@@ -274,22 +274,22 @@ module _ (a : Around) where
   abbrev IsException : Site → ℕ → Type 0
   IsException s n = n < s.k.exceptions
 
-  each_choice : (place : Span) (ms : List (Mark Use)) → All (λ m. Goes (here a) IsException (by_tables (spec.choice place m))) ms
+  each_choice : (place : Span) (ms : List (Mark Use)) → All (λ m. Goes (here a) IsException (by_tables (simple.choice place m))) ms
   each_choice place [] = tt
-  each_choice place (m ∷ ms) = (tables_walk IsException (spec.choice place m) (λ s tables sound. exception_named_good s.k (around_site s) tables sound place m.first m.rest), each_choice place ms)
+  each_choice place (m ∷ ms) = (tables_walk IsException (simple.choice place m) (λ s tables sound. exception_named_good s.k (around_site s) tables sound place m.first m.rest), each_choice place ms)
 
   abbrev RightChoices : Site → Checked_choices → Type 0
   RightChoices s c = Chosen s.k c
 
-  choices_walk : (place : Span) (c : Choices Use) → Goes (here a) RightChoices (spec.choices_of place c)
+  choices_walk : (place : Span) (c : Choices Use) → Goes (here a) RightChoices (simple.choices_of place c)
   choices_walk place choices.Others = known_goes (here a) RightChoices chosen.Others (λ s. rule.others)
-  choices_walk place (choices.Exceptions ms) = then_walk (λ s. Raised s.k) RightChoices (spec.exceptions_chosen place ms) (λ ns. chosen.Exceptions ns)
-      (each_goes (here a) (λ s. Raised s.k) IsException (λ m. by_tables (spec.choice place m)) (λ s. raised_more s.k (around_site s) (around_of a)) (λ s. rule.no_more_exceptions) ms (each_choice place ms))
+  choices_walk place (choices.Exceptions ms) = then_walk (λ s. Raised s.k) RightChoices (simple.exceptions_chosen place ms) (λ ns. chosen.Exceptions ns)
+      (each_goes (here a) (λ s. Raised s.k) IsException (λ m. by_tables (simple.choice place m)) (λ s. raised_more s.k (around_site s) (around_of a)) (λ s. rule.no_more_exceptions) ms (each_choice place ms))
       (λ s ns h. rule.exceptions h)
 
   pub handler_walk : (place p : Span) (c : Choices Use) (ss : List Says) → All (SaysRight (spec.in_handler a)) ss → HandlerRight a place (record { span = p; choices = c; statements = ss })
-  handler_walk place p c ss g = then_walk (Both (here a) RightChoices (RightEach (spec.in_handler a))) (RightHandler a) (both (spec.choices_of place c) (spec.sequence ss (spec.in_handler a))) (λ r. roll-Handler (record { choices = r.0; body = r.1 }))
-      (both_goes (here a) RightChoices (RightEach (spec.in_handler a)) (spec.choices_of place c) (spec.sequence ss (spec.in_handler a)) (choices_walk place c) (sequence_walk (spec.in_handler a) ss g))
+  handler_walk place p c ss g = then_walk (Both (here a) RightChoices (RightEach (spec.in_handler a))) (RightHandler a) (both (simple.choices_of place c) (spec.sequence ss (spec.in_handler a))) (λ r. roll-Handler (record { choices = r.0; body = r.1 }))
+      (both_goes (here a) RightChoices (RightEach (spec.in_handler a)) (simple.choices_of place c) (spec.sequence ss (spec.in_handler a)) (choices_walk place c) (sequence_walk (spec.in_handler a) ss g))
       (λ s r h. rule.one_more_handler h.0 h.1 rule.no_more_handlers)
 
   told_leads : {A : Type 0} (Q : Site → A → Type 0) (j : Doing A) (b : Bool) (which : FaultCode) (place : Span) (d : Draft) → Goes (here a) Q j → Leads (here a) Q d (j (fault_when b which place d))

@@ -8,10 +8,10 @@ use Rattle.ctl_typing.specs.declared.table.Entry.{Entry}
 use Rattle.ctl_typing.specs.declared.table.Entry.TheVariants as entry
 use Rattle.ctl_typing.specs.declared.table.Mutability.{Mutability}
 use Rattle.ctl_typing.specs.declared.table.Standing.{Standing}
-use Rattle.ctl_types.specs.declared.draft.Around.{Around}
-use Rattle.ctl_types.specs.declared.draft.Draft.{Draft}
-use Rattle.ctl_types.specs.Draft.{declare, declare_object, leave_view}
-use Rattle.ctl_types.specs.Statements.{user_operation}
+use Rattle.ctl_draft.specs.declared.draft.Around.{Around}
+use Rattle.ctl_draft.specs.declared.draft.Draft.{Draft}
+use Rattle.ctl_draft.specs.Draft.{declare, declare_object, leave_view}
+use Rattle.ctl_draft.specs.Operations.{user_operation}
 use Rattle.ctl_well_typed.specs.Setting.{Holding, Stands, Frame, Frames, Names, slot, Setting, InView}
 use Rattle.ctl_sound.specs.Known.{IfSome}
 use Rattle.ctl_sound.specs.Sound.{EntryFine, AliasFine, DeclaredFine}

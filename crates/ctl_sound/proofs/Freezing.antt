@@ -17,9 +17,9 @@ use Rattle.ctl_typing.specs.declared.table.Freezing.{Freezing}
 use Rattle.ctl_typing.specs.declared.table.Freezing.TheVariants.{Free, Frozen, Placed}
 use Rattle.ctl_typing.specs.declared.table.Defaults.{Defaults}
 use Rattle.ctl_typing.specs.declared.table.Defaults.TheVariants.{Unused, Used}
-use Rattle.ctl_types.specs.declared.draft.Draft.{Draft}
-use Rattle.ctl_types.specs.declared.draft.Around.{Around}
-use Rattle.ctl_types.specs.Freezing as spec
+use Rattle.ctl_draft.specs.declared.draft.Draft.{Draft}
+use Rattle.ctl_draft.specs.declared.draft.Around.{Around}
+use Rattle.ctl_draft.specs.Freezing as spec
 use Rattle.ctl_well_typed.specs.Setting.{Collection, Frames, Names, Encloses, Setting, HasAccess}
 use Rattle.ctl_well_typed.specs.Statements as rule
 use Rattle.ctl_well_typed.specs.Statements.{Gathers, ElaboratedEach}

@@ -26,8 +26,8 @@ use Rattle.ctl_typing.specs.declared.table.Standing.{Standing}
 use Rattle.ctl_typing.specs.declared.table.Standing.TheVariants as standing
 use Rattle.ctl_typing.specs.declared.table.Tables.{Tables}
 use Rattle.ctl_typing.specs.Lookup.{component_among, component_in, component_within, descends_within, designated_by, designated_in, is_parent, on, or_else}
-use Rattle.ctl_types.specs.declared.draft.Draft.{Draft}
-use Rattle.ctl_types.specs.Statements.{user_operation, operations_of}
+use Rattle.ctl_draft.specs.declared.draft.Draft.{Draft}
+use Rattle.ctl_draft.specs.Operations.{user_operation, operations_of}
 use Rattle.ctl_well_typed.specs.Setting.{Holding, Declared, Frame, Frames, Names, slot, Encloses, HasRecord, Setting, InView}
 use Rattle.ctl_well_typed.specs.Types.{derived, Descends, itself, from_parent, Leads, component}
 use Rattle.ctl_well_typed.specs.Programs as program

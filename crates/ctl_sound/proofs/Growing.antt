@@ -9,10 +9,10 @@ use Rattle.ctl_typing.specs.declared.table.Designated.TheVariants as designated
 use Rattle.ctl_typing.specs.declared.table.Freezing.TheVariants.{Free}
 use Rattle.ctl_typing.specs.declared.table.RecordState.{RecordState}
 use Rattle.ctl_typing.specs.declared.table.States.{States}
-use Rattle.ctl_types.specs.declared.draft.Draft.{Draft}
-use Rattle.ctl_types.specs.declared.draft.Returning.{Returning}
-use Rattle.ctl_types.specs.declared.draft.Waiting.{Waiting}
-use Rattle.ctl_types.specs.Freezing.{with_states}
+use Rattle.ctl_draft.specs.declared.draft.Draft.{Draft}
+use Rattle.ctl_draft.specs.declared.draft.Returning.{Returning}
+use Rattle.ctl_draft.specs.declared.draft.Waiting.{Waiting}
+use Rattle.ctl_draft.specs.Freezing.{with_states}
 use Rattle.ctl_well_typed.specs.Setting.{Holding, Frames, Signature}
 use Rattle.ctl_sound.specs.Known.{IfSome}
 

@@ -23,12 +23,12 @@ use Rattle.ctl_typing.specs.declared.table.Standing.TheVariants as standing
 use Rattle.ctl_typing.specs.declared.table.Tables.{Tables}
 use Rattle.ctl_typing.specs.Judgement.{Judging, known, with_known, ◌>>=◌, paired, beside, both}
 use Rattle.ctl_typing.specs.Typing.{entry_found, library_found, marked, mark_judged}
-use Rattle.ctl_types.specs.declared.draft.Around.{Around}
-use Rattle.ctl_types.specs.declared.draft.Draft.{Draft}
-use Rattle.ctl_types.specs.Declarations as decl
-use Rattle.ctl_types.specs.Draft.{declare, declare_object}
-use Rattle.ctl_types.specs.Marks.{named_type}
-use Rattle.ctl_types.specs.Statements.{formal}
+use Rattle.ctl_draft.specs.declared.draft.Around.{Around}
+use Rattle.ctl_draft.specs.declared.draft.Draft.{Draft}
+use Rattle.ctl_declarations.specs.Declarations as decl
+use Rattle.ctl_draft.specs.Draft.{declare, declare_object}
+use Rattle.ctl_draft.specs.Marks.{named_type}
+use Rattle.ctl_draft.specs.Operations.{formal}
 use Rattle.ctl_well_typed.specs.Setting.{Holding, OfFormal, formal as Formal_stands, InView}
 use Rattle.ctl_sound.specs.Known.{IfSome}
 use Rattle.ctl_sound.specs.Sound.{formal_of}

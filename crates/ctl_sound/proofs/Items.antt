@@ -28,7 +28,7 @@ use Rattle.ctl_typing.specs.declared.table.Entry.{Entry}
 use Rattle.ctl_typing.specs.declared.table.Entry.TheVariants as entry
 use Rattle.ctl_typing.specs.declared.table.Designated.{Designated}
 use Rattle.ctl_typing.specs.declared.table.Designated.TheVariants as designated
-use Rattle.ctl_types.specs.declared.draft.Enclosing.{Enclosing}
+use Rattle.ctl_draft.specs.declared.draft.Enclosing.{Enclosing}
 use Rattle.ctl_sound.specs.Law.{DeclarationsWellTyped}
 use Rattle.ctl_typing.specs.declared.table.FormalEntry.{FormalEntry}
 use Rattle.ctl_typing.specs.declared.table.ObjectEntry.{ObjectEntry}
@@ -41,10 +41,10 @@ use Rattle.ctl_typing.specs.Judgement.{Judgement, known, but, wrong, ◌>>=◌, 
 use Rattle.ctl_typing.specs.Lookup.{root_of, is_limited}
 use Rattle.ctl_typing.specs.Typing as expr
 use Rattle.ctl_typing.specs.Typing.{Sense, sense}
-use Rattle.ctl_types.specs.Statements.{formal}
-use Rattle.ctl_types.specs.Marks as marks
-use Rattle.ctl_types.specs.Declarations as decl
-use Rattle.ctl_types.specs.Types as defined
+use Rattle.ctl_draft.specs.Operations.{formal}
+use Rattle.ctl_draft.specs.Marks as marks
+use Rattle.ctl_declarations.specs.Declarations as decl
+use Rattle.ctl_declarations.specs.Types as defined
 use Rattle.ctl_well_typed.specs.Setting.{Declared, Frames, Names, Setting, HasRecord, InView}
 use Rattle.ctl_well_typed.specs.Types.{HasDiscriminant}
 use Rattle.ctl_well_typed.specs.Expressions as rule

@@ -21,9 +21,9 @@ use Rattle.ctl_typing.specs.Judgement.{known, but, wrong, each}
 use Rattle.ctl_typing.specs.Lookup.{is_limited}
 use Rattle.ctl_typing.specs.Typing as expr
 use Rattle.ctl_typing.specs.Typing.{Sense, sense}
-use Rattle.ctl_types.specs.Statements.{formal}
-use Rattle.ctl_types.specs.Marks as marks
-use Rattle.ctl_types.specs.Declarations as decl
+use Rattle.ctl_draft.specs.Operations.{formal}
+use Rattle.ctl_draft.specs.Marks as marks
+use Rattle.ctl_declarations.specs.Declarations as decl
 use Rattle.ctl_sound.specs.Known.{IfSome, All, Clean, Stays}
 use Rattle.ctl_sound.specs.Law.{DeclarationsKeepFaults}
 use Rattle.ctl_sound.proofs.Stays.{Keeps, known_stays, wrong_stays, but_stays, next_stays, both_stays, if_stays, each_stays}

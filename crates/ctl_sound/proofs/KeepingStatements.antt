@@ -33,10 +33,11 @@ use Rattle.ctl_typing.specs.Lookup.{same, root_of, is_limited}
 use Rattle.ctl_typing.specs.Senses.{suffix_sense}
 use Rattle.ctl_typing.specs.Typing as expr
 use Rattle.ctl_typing.specs.Typing.{Sense, sense}
-use Rattle.ctl_types.specs.Statements as spec
-use Rattle.ctl_types.specs.declared.assignments.Source.{Source}
-use Rattle.ctl_types.specs.declared.assignments.Source.TheVariants as as_source
-use Rattle.ctl_types.specs.declared.assignments.Target.{Target}
+use Rattle.ctl_statements.specs.Statements as spec
+use Rattle.ctl_draft.specs.Operations as operations
+use Rattle.ctl_statements.specs.declared.assignments.Source.{Source}
+use Rattle.ctl_statements.specs.declared.assignments.Source.TheVariants as as_source
+use Rattle.ctl_statements.specs.declared.assignments.Target.{Target}
 use Rattle.ctl_sound.specs.Known.{IfSome, All, Stays}
 use Rattle.ctl_sound.specs.Law.{SimpleStatementsKeepFaults}
 use Rattle.ctl_sound.proofs.Stays.{Keeps, KeepsSuffix, FoundStays, known_stays, silent_stays, wrong_stays, but_stays, next_stays, both_stays, following_stays, if_stays, settled_stays, as_variable_stays, actuals_stay}
@@ -132,12 +133,12 @@ library_operation_stays tables place o t xs g = wrong_stays Stmt fault.Type plac
 
 operation_by_stays : (tables : Tables) (place : Span) (o : OperationName) (t : Ty) (q : Option ℕ) (xs : List Sense) → All Keeps xs → Stays (spec.operation_by tables place o t q xs)
 operation_by_stays tables place o t None xs g = library_operation_stays tables place o t xs g
-operation_by_stays tables place o t (Some s) xs g = next_stays (expr.actuals_of tables place (spec.operation_formals o t) xs) (λ as'. known (stmt.Call s as')) (actuals_stay tables place (spec.operation_formals o t) xs g) (λ as' n h. h)
+operation_by_stays tables place o t (Some s) xs g = next_stays (expr.actuals_of tables place (operations.operation_formals o t) xs) (λ as'. known (stmt.Call s as')) (actuals_stay tables place (operations.operation_formals o t) xs g) (λ as' n h. h)
 
 operation_of_stays : (tables : Tables) (place : Span) (o : OperationName) (xs : List Sense) (t : Ty) → All Keeps xs → Stays (spec.operation_of tables place o xs t)
 operation_of_stays tables place o xs (ty.Record t) g =
-    let q = spec.user_operation o (spec.operations_of (slice_get tables.states.records t)) in
-    if_stays (spec.provides (root_of (slice_get tables.records t)) (is_limited tables (ty.Record t)) o) (spec.operation_by tables place o (ty.Record t) q xs) (wrong fault.Type place) (operation_by_stays tables place o (ty.Record t) q xs g) (wrong_stays Stmt fault.Type place)
+    let q = operations.user_operation o (operations.operations_of (slice_get tables.states.records t)) in
+    if_stays (operations.provides (root_of (slice_get tables.records t)) (is_limited tables (ty.Record t)) o) (spec.operation_by tables place o (ty.Record t) q xs) (wrong fault.Type place) (operation_by_stays tables place o (ty.Record t) q xs g) (wrong_stays Stmt fault.Type place)
 operation_of_stays tables place o xs _ g = wrong_stays Stmt fault.Type place
 
 operation_with_stays : (tables : Tables) (place : Span) (o : OperationName) (xs : Option (List Sense)) → IfSome (All Keeps) xs → Stays (spec.operation_with tables place o xs)

@@ -32,16 +32,16 @@ use Rattle.ctl_typing.specs.declared.table.Tables.{Tables}
 use Rattle.ctl_typing.specs.Judgement.{wrong, with_fault, with_known, each}
 use Rattle.ctl_typing.specs.Lookup.{root_of}
 use Rattle.ctl_typing.specs.Typing.{sense, together, discriminant_named}
-use Rattle.ctl_types.specs.declared.associations.Associated.TheVariants.{Discriminants}
-use Rattle.ctl_types.specs.declared.draft.Around.{Around}
-use Rattle.ctl_types.specs.declared.draft.Draft.{Draft}
-use Rattle.ctl_types.specs.declared.draft.Order.{Order}
-use Rattle.ctl_types.specs.declared.draft.Order.TheVariants as order
-use Rattle.ctl_types.specs.Draft.{fault_when, asking, asked, deeds_of, declare}
-use Rattle.ctl_types.specs.Freezing.{done_by}
-use Rattle.ctl_types.specs.Marks as marks
-use Rattle.ctl_types.specs.Types.{is_given}
-use Rattle.ctl_types.specs.Declarations as decl
+use Rattle.ctl_draft.specs.declared.associations.Associated.TheVariants.{Discriminants}
+use Rattle.ctl_draft.specs.declared.draft.Around.{Around}
+use Rattle.ctl_draft.specs.declared.draft.Draft.{Draft}
+use Rattle.ctl_draft.specs.declared.draft.Order.{Order}
+use Rattle.ctl_draft.specs.declared.draft.Order.TheVariants as order
+use Rattle.ctl_draft.specs.Draft.{fault_when, asking, asked, deeds_of, declare}
+use Rattle.ctl_draft.specs.Freezing.{done_by}
+use Rattle.ctl_draft.specs.Marks as marks
+use Rattle.ctl_declarations.specs.Types.{is_given}
+use Rattle.ctl_declarations.specs.Declarations as decl
 use Rattle.ctl_types.specs.Elaboration.{surely}
 use Rattle.ctl_well_typed.specs.Setting.{Declared, declared, Frames, Names, Setting, InView}
 use Rattle.ctl_well_typed.specs.Types.{HasDiscriminant, block_size, block_count, pool_size}

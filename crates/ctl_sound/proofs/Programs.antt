@@ -27,13 +27,13 @@ use Rattle.ctl_typing.specs.declared.table.RecordEntry.{RecordEntry}
 use Rattle.ctl_typing.specs.declared.table.RecordState.{RecordState}
 use Rattle.ctl_typing.specs.Judgement.{appended}
 use Rattle.ctl_typing.specs.Lookup.{component_among}
-use Rattle.ctl_types.specs.declared.draft.Around.{Around}
-use Rattle.ctl_types.specs.declared.draft.Draft.{Draft}
-use Rattle.ctl_types.specs.declared.draft.Giving.TheVariants as giving
-use Rattle.ctl_types.specs.declared.draft.Routine.{Routine}
-use Rattle.ctl_types.specs.Declarations.{name_kept, operation_named}
-use Rattle.ctl_types.specs.Statements.{user_operation, operation_formals}
-use Rattle.ctl_types.specs.Types.{is_given}
+use Rattle.ctl_draft.specs.declared.draft.Around.{Around}
+use Rattle.ctl_draft.specs.declared.draft.Draft.{Draft}
+use Rattle.ctl_draft.specs.declared.draft.Giving.TheVariants as giving
+use Rattle.ctl_draft.specs.declared.draft.Routine.{Routine}
+use Rattle.ctl_declarations.specs.Declarations.{name_kept, operation_named}
+use Rattle.ctl_draft.specs.Operations.{user_operation, operation_formals}
+use Rattle.ctl_declarations.specs.Types.{is_given}
 use Rattle.ctl_types.specs.Elaboration as spec
 use Rattle.ctl_types.specs.Elaboration.{access_types_on, access_type_to, components_on, subprograms_on, subprogram_with, library_records, library_state, library_states, library_components, record_types, record_type_of, checked_of, checked_with, access_types, or_nothing, verdict_by, Elaborates}
 use Rattle.ctl_well_typed.specs.Setting.{InOut, Formal, Collection, Names, Frame, Frames, Encloses, Signature, Setting, InView}

@@ -29,17 +29,17 @@ use Rattle.ctl_typing.specs.declared.table.Entry.TheVariants as entry
 use Rattle.ctl_typing.specs.declared.table.RecordEntry.{RecordEntry}
 use Rattle.ctl_typing.specs.declared.table.RecordState.{RecordState}
 use Rattle.ctl_typing.specs.Lookup.{root_of}
-use Rattle.ctl_types.specs.declared.draft.Around.{Around}
-use Rattle.ctl_types.specs.declared.draft.Draft.{Draft}
-use Rattle.ctl_types.specs.declared.draft.Enclosing.{Enclosing}
-use Rattle.ctl_types.specs.Declarations.{name_kept, operation_named}
-use Rattle.ctl_types.specs.Draft.{asking, asked, declare, enter, is_declared_in, with_entries}
-use Rattle.ctl_types.specs.Elaboration as spec
+use Rattle.ctl_draft.specs.declared.draft.Around.{Around}
+use Rattle.ctl_draft.specs.declared.draft.Draft.{Draft}
+use Rattle.ctl_draft.specs.declared.draft.Enclosing.{Enclosing}
+use Rattle.ctl_declarations.specs.Declarations.{name_kept, operation_named}
+use Rattle.ctl_draft.specs.Draft.{asking, asked, declare, enter, is_declared_in, with_entries}
+use Rattle.ctl_declarations.specs.Declarations as spec
 use Rattle.ctl_types.specs.Elaboration.{surely}
-use Rattle.ctl_types.specs.Freezing.{changed_each, done_by, with_accesses}
-use Rattle.ctl_types.specs.Statements.{user_operation, operations_of}
-use Rattle.ctl_types.specs.Types as types
-use Rattle.ctl_types.specs.Types.{is_given}
+use Rattle.ctl_draft.specs.Freezing.{changed_each, done_by, with_accesses}
+use Rattle.ctl_draft.specs.Operations.{user_operation, operations_of}
+use Rattle.ctl_declarations.specs.Types as types
+use Rattle.ctl_declarations.specs.Types.{is_given}
 use Rattle.ctl_well_typed.specs.Setting.{Frames, Encloses, Setting, HasRecord, InView}
 use Rattle.ctl_well_typed.specs.Types.{Components, underived, derived, from_parent, Leads as Reaches, component}
 use Rattle.ctl_well_typed.specs.Programs as program

@@ -36,10 +36,11 @@ use Rattle.ctl_typing.specs.Judgement.{Judgement, known, but, wrong, noting, ◌
 use Rattle.ctl_typing.specs.Lookup.{same, root_of, is_limited}
 use Rattle.ctl_typing.specs.Typing as expr
 use Rattle.ctl_typing.specs.Typing.{Sense}
-use Rattle.ctl_types.specs.Statements as spec
-use Rattle.ctl_types.specs.declared.assignments.Source.{Source}
-use Rattle.ctl_types.specs.declared.assignments.Source.TheVariants as as_source
-use Rattle.ctl_types.specs.declared.assignments.Target.{Target}
+use Rattle.ctl_statements.specs.Statements as spec
+use Rattle.ctl_draft.specs.Operations as operations
+use Rattle.ctl_statements.specs.declared.assignments.Source.{Source}
+use Rattle.ctl_statements.specs.declared.assignments.Source.TheVariants as as_source
+use Rattle.ctl_statements.specs.declared.assignments.Target.{Target}
 use Rattle.ctl_well_typed.specs.Setting.{In, InOut, Formal, Frames, Setting, InView}
 use Rattle.ctl_well_typed.specs.Types.{is_scalar, Descends, itself, from_parent, Covers, same_type, ancestor, HasRoot}
 use Rattle.ctl_well_typed.specs.Expressions as rule
@@ -190,14 +191,14 @@ module _ (k : Setting) (env : Frames) (tables : Tables) (sound : Sound k env tab
   operand_by_good x None g h = next (Fine k env asking.Anything x.named) (InView k env) (x.judged tables asking.Anything) (λ t. known t.ty) (g.judged asking.Anything tt) (λ t i s. i.in_view)
   operand_by_good x (Some name) g h = next (FoundFine k env) (InView k env) (name tables >>= expr.settled tables x.place) (spec.operand_found x.place) (next (FoundFine k env) (FoundFine k env) (name tables) (expr.settled tables x.place) h (settled_good k env tables sound x.place)) (operand_found_good x.place)
 
-  formals_in_view : (o : OperationName) (t : ℕ) → InView k env (ty.Record t) → All (λ f. InView k env f.ty) (spec.operation_formals o (ty.Record t))
+  formals_in_view : (o : OperationName) (t : ℕ) → InView k env (ty.Record t) → All (λ f. InView k env f.ty) (operations.operation_formals o (ty.Record t))
   formals_in_view Initialize t v = (v, tt)
   formals_in_view Adjust t v = (v, tt)
   formals_in_view Finalize t v = (v, tt)
   formals_in_view Allocate t v = (v, (tt, (tt, (tt, tt))))
   formals_in_view Deallocate t v = (v, (tt, (tt, (tt, tt))))
 
-  operation_ancestor : (o : OperationName) (u t : ℕ) (as' : List Actual) → Descends k u t → FitEach k env (map formal_of (spec.operation_formals o (ty.Record t))) as' → FitEach k env (map formal_of (spec.operation_formals o (ty.Record u))) as'
+  operation_ancestor : (o : OperationName) (u t : ℕ) (as' : List Actual) → Descends k u t → FitEach k env (map formal_of (operations.operation_formals o (ty.Record t))) as' → FitEach k env (map formal_of (operations.operation_formals o (ty.Record u))) as'
   operation_ancestor Initialize u t as' d h = fit_each_ancestor k env u t [] as' d h
   operation_ancestor Adjust u t as' d h = fit_each_ancestor k env u t [] as' d h
   operation_ancestor Finalize u t as' d h = fit_each_ancestor k env u t [] as' d h
@@ -206,7 +207,7 @@ module _ (k : Setting) (env : Frames) (tables : Tables) (sound : Sound k env tab
 
   user_called_good : (a : Around) (place : Span) (o : OperationName) (t s : ℕ) (xs : List Sense) → OperationFine k env o t s → InView k env (ty.Record t) → All Right xs → Gives (Does a) (spec.user_called tables place o (ty.Record t) s xs)
   user_called_good a place o t s xs h v g =
-      let fs = spec.operation_formals o (ty.Record t) in
+      let fs = operations.operation_formals o (ty.Record t) in
       next (FitEach k env (map formal_of fs)) (Does a) (expr.actuals_of tables place fs xs) (λ as'. known (stmt.Call s as')) (actuals_good k env tables sound place fs xs (formals_in_view o t v) g)
       (λ as' i n. does.call h.callable h.result (subst (λ gs. FitEach k env gs as') (sym h.formals) (operation_ancestor o h.root t as' h.descends i)))
 
@@ -255,11 +256,11 @@ module _ (k : Setting) (env : Frames) (tables : Tables) (sound : Sound k env tab
   library_operation_good a place Finalize t (x ∷ []) r g = nothing_good a t x g.0
   library_operation_good a place o t xs r g = λ s. tt
 
-  operation_by_good : (a : Around) (place : Span) (o : OperationName) (t : ℕ) (q : Option ℕ) (xs : List Sense) → spec.user_operation o (spec.operations_of (slice_get tables.states.records t)) ≡ q → InView k env (ty.Record t) → OfBlockPool o t → All Right xs → Gives (Does a) (spec.operation_by tables place o (ty.Record t) q xs)
+  operation_by_good : (a : Around) (place : Span) (o : OperationName) (t : ℕ) (q : Option ℕ) (xs : List Sense) → operations.user_operation o (operations.operations_of (slice_get tables.states.records t)) ≡ q → InView k env (ty.Record t) → OfBlockPool o t → All Right xs → Gives (Does a) (spec.operation_by tables place o (ty.Record t) q xs)
   operation_by_good a place o t None xs e v r g = library_operation_good a place o t xs r g
   operation_by_good a place o t (Some s) xs e v r g = user_called_good a place o t s xs (sound.operations o t s v e) v g
 
-  provided : (o : OperationName) (t : ℕ) (limited : Bool) (q : Option RecordEntry) → slice_get tables.records t ≡ q → spec.provides (root_of q) limited o ≡ true → OfBlockPool o t
+  provided : (o : OperationName) (t : ℕ) (limited : Bool) (q : Option RecordEntry) → slice_get tables.records t ≡ q → operations.provides (root_of q) limited o ≡ true → OfBlockPool o t
   provided Initialize t limited q e h = tt
   provided Adjust t limited q e h = tt
   provided Finalize t limited q e h = tt
@@ -267,14 +268,14 @@ module _ (k : Setting) (env : Frames) (tables : Tables) (sound : Sound k env tab
   provided Deallocate t limited None e h = absurd (cc)
   provided Allocate t limited (Some r) e h = by_root r.root (sound.types.rooted t r e) h
     where
-      by_root : (x : Root) → HasRoot k t x → spec.provides x limited Allocate ≡ true → HasRoot k t root.BlockPool
+      by_root : (x : Root) → HasRoot k t x → operations.provides x limited Allocate ≡ true → HasRoot k t root.BlockPool
       by_root root.BlockPool i h = i
       by_root root.Untagged i h = absurd (cc)
       by_root root.Controlled i h = absurd (cc)
       by_root root.MarkPool i h = absurd (cc)
   provided Deallocate t limited (Some r) e h = by_root r.root (sound.types.rooted t r e) h
     where
-      by_root : (x : Root) → HasRoot k t x → spec.provides x limited Deallocate ≡ true → HasRoot k t root.BlockPool
+      by_root : (x : Root) → HasRoot k t x → operations.provides x limited Deallocate ≡ true → HasRoot k t root.BlockPool
       by_root root.BlockPool i h = i
       by_root root.Untagged i h = absurd (cc)
       by_root root.Controlled i h = absurd (cc)
@@ -283,8 +284,8 @@ module _ (k : Setting) (env : Frames) (tables : Tables) (sound : Sound k env tab
   operation_of_good : (a : Around) (place : Span) (o : OperationName) (xs : List Sense) (t : Ty) → InView k env t → All Right xs → Gives (Does a) (spec.operation_of tables place o xs t)
   operation_of_good a place o xs (ty.Record t) v g =
       let limited = is_limited tables (ty.Record t) in
-      let q = spec.user_operation o (spec.operations_of (slice_get tables.states.records t)) in
-      tested (Does a) (spec.provides (root_of (slice_get tables.records t)) limited o) (spec.operation_by tables place o (ty.Record t) q xs) (wrong fault.Type place)
+      let q = operations.user_operation o (operations.operations_of (slice_get tables.states.records t)) in
+      tested (Does a) (operations.provides (root_of (slice_get tables.records t)) limited o) (spec.operation_by tables place o (ty.Record t) q xs) (wrong fault.Type place)
       (λ h. operation_by_good a place o t q xs refl v (provided o t limited (slice_get tables.records t) refl h) g) (λ s. tt)
   operation_of_good a place o xs ty.Integer v g = λ s. tt
   operation_of_good a place o xs ty.Count v g = λ s. tt

@@ -16,12 +16,12 @@ use Rattle.ctl_typing.specs.declared.table.Designated.TheVariants as designated
 use Rattle.ctl_typing.specs.declared.table.Entry.{Entry}
 use Rattle.ctl_typing.specs.declared.table.RecordEntry.{RecordEntry}
 use Rattle.ctl_typing.specs.Lookup.{component_among}
-use Rattle.ctl_types.specs.declared.draft.Around.{Around}
-use Rattle.ctl_types.specs.declared.draft.Draft.{Draft}
-use Rattle.ctl_types.specs.declared.draft.Giving.{Giving}
-use Rattle.ctl_types.specs.declared.draft.Giving.TheVariants as giving
-use Rattle.ctl_types.specs.declared.draft.Routine.{Routine}
-use Rattle.ctl_types.specs.Statements.{user_operation, operations_of, operation_formals}
+use Rattle.ctl_draft.specs.declared.draft.Around.{Around}
+use Rattle.ctl_draft.specs.declared.draft.Draft.{Draft}
+use Rattle.ctl_draft.specs.declared.draft.Giving.{Giving}
+use Rattle.ctl_draft.specs.declared.draft.Giving.TheVariants as giving
+use Rattle.ctl_draft.specs.declared.draft.Routine.{Routine}
+use Rattle.ctl_draft.specs.Operations.{user_operation, operations_of, operation_formals}
 use Rattle.ctl_well_typed.specs.Setting.{Declared, OfFormal, Collection, Names, Frame, Frames, Encloses, Signature, Setting, InView}
 use Rattle.ctl_well_typed.specs.Types.{Components, Descends, HasRoot, Leads}
 use Rattle.ctl_well_typed.specs.Programs.{Parent, Added, FormalsInView, Results}

@@ -4,8 +4,8 @@ use Rattle.std.proofs.Common.{◌≡◌, refl, sym, subst, List, [], ◌∷◌, 
 use Rattle.ctl_typing.specs.declared.notes.Notes.{Notes}
 use Rattle.ctl_typing.specs.declared.table.Tables.{Tables}
 use Rattle.ctl_typing.specs.Judgement.{Judgement, known, with_known, paired, beside, both, appended, each, each_on}
-use Rattle.ctl_types.specs.declared.draft.Draft.{Draft}
-use Rattle.ctl_types.specs.Draft.{Doing, by_tables, noted}
+use Rattle.ctl_draft.specs.declared.draft.Draft.{Draft}
+use Rattle.ctl_draft.specs.Draft.{Doing, by_tables, noted}
 use Rattle.ctl_sound.specs.Known.{IfSome, All, Gives}
 use Rattle.ctl_sound.specs.Sound.{Sound}
 use Rattle.ctl_sound.proofs.Growing.{Still, still_noted, still_grows, Made, nothing, and_then, Grows, grows_self, grows_further, grows_behind}

@@ -8,7 +8,7 @@ use Rattle.ctl_tree.specs.declared.fault.FaultCode.TheVariants as fault
 use Rattle.ctl_program.specs.declared.types.Operations.{Operations}
 use Rattle.ctl_program.specs.declared.types.Ty.{Ty}
 use Rattle.ctl_program.specs.declared.types.Ty.TheVariants as ty
-use Rattle.ctl_types.specs.declared.draft.Routine.{Routine}
+use Rattle.ctl_draft.specs.declared.draft.Routine.{Routine}
 use Rattle.ctl_syntax.specs.declared.denoted.Definition.{Definition}
 use Rattle.ctl_syntax.specs.declared.denoted.OperationName.{OperationName}
 use Rattle.ctl_syntax.specs.declared.denoted.OperationName.TheVariants.{Initialize, Adjust, Finalize, Allocate, Deallocate}
@@ -29,14 +29,15 @@ use Rattle.ctl_typing.specs.declared.table.RecordState.{RecordState}
 use Rattle.ctl_typing.specs.declared.table.Tables.{Tables}
 use Rattle.ctl_typing.specs.Lookup as lookup
 use Rattle.ctl_typing.specs.Judgement.{with_early}
-use Rattle.ctl_types.specs.declared.draft.Around.{Around}
-use Rattle.ctl_types.specs.declared.draft.Draft.{Draft}
-use Rattle.ctl_types.specs.declared.draft.Role.{Role}
-use Rattle.ctl_types.specs.declared.draft.Role.TheVariants as role
-use Rattle.ctl_types.specs.Declarations as decl
-use Rattle.ctl_types.specs.Draft.{declare, fault_when, is_declared_in}
-use Rattle.ctl_types.specs.Freezing.{changed, changed_from, with_records, is_free_type}
-use Rattle.ctl_types.specs.Statements.{user_operation, operation_formals}
+use Rattle.ctl_draft.specs.declared.draft.Around.{Around}
+use Rattle.ctl_draft.specs.declared.draft.Draft.{Draft}
+use Rattle.ctl_draft.specs.declared.draft.Role.{Role}
+use Rattle.ctl_draft.specs.declared.draft.Role.TheVariants as role
+use Rattle.ctl_declarations.specs.Declarations as decl
+use Rattle.ctl_types.specs.Subprograms as routines
+use Rattle.ctl_draft.specs.Draft.{declare, fault_when, is_declared_in}
+use Rattle.ctl_draft.specs.Freezing.{changed, changed_from, with_records, is_free_type}
+use Rattle.ctl_draft.specs.Operations.{user_operation, operation_formals}
 use Rattle.ctl_well_typed.specs.Setting.{Frames, Encloses, Signature, Setting, InView}
 use Rattle.ctl_well_typed.specs.Types.{itself}
 use Rattle.ctl_well_typed.specs.Programs as program
@@ -266,17 +267,17 @@ module _ (a : Around) (m : Option (Mark Use)) (h : Heading) (kind : HeadingKind 
   abbrev env : Frames
   env = around_site s
 
-  results_of : (m : Option (Mark Use)) (h : Heading) → HeadingKind m h → HeadingUsable s h → Results s.k env (result_in m h) (decl.kind_of m)
+  results_of : (m : Option (Mark Use)) (h : Heading) → HeadingKind m h → HeadingUsable s h → Results s.k env (result_in m h) (routines.kind_of m)
   results_of None None g u = program.procedure
   results_of (Some x) None g u = program.function tt
-  results_of None (Some y) g u = subst (λ r. Results s.k env r (decl.kind_of None)) (sym g) program.procedure
-  results_of (Some x) (Some y) g u = subst (λ r. Results s.k env r (decl.kind_of (Some x))) (sym g.1) (program.function (subst (λ r. IfSome (InView s.k env) r) g.1 u.1))
+  results_of None (Some y) g u = subst (λ r. Results s.k env r (routines.kind_of None)) (sym g) program.procedure
+  results_of (Some x) (Some y) g u = subst (λ r. Results s.k env r (routines.kind_of (Some x))) (sym g.1) (program.function (subst (λ r. IfSome (InView s.k env) r) g.1 u.1))
 
   usable_formals : (h : Heading) → HeadingUsable s h → FormalsInView s.k env (map formal_of (formals_in h))
   usable_formals None u = program.no_more_formals
   usable_formals (Some y) u = formals_usable s.k env y.0 u.0
 
-  without_body : SubprogramKnown s.k n (record { level = a.level; kind = decl.kind_of m; body = None })
+  without_body : SubprogramKnown s.k n (record { level = a.level; kind = routines.kind_of m; body = None })
   without_body = record { is = signature_of m h env; found = found; level = i.level; result = results_of m h kind usable; formals = usable_formals h usable; body = tt }
 
   -- it overrides an operation of a type that is declared here
@@ -304,17 +305,17 @@ module _ (a : Around) (m : Option (Mark Use)) (h : Heading) (kind : HeadingKind 
         result = ap (λ x. result_in m x) known ∙ g.result;
       }
 
-  entry_right : (names : List (List ℕ)) → EntryFine s.k env (decl.entry_of n names h)
+  entry_right : (names : List (List ℕ)) → EntryFine s.k env (routines.entry_of n names h)
   entry_right names = by_heading h found usable
     where
-      by_heading : (h : Heading) → slice_get s.k.subprograms n ≡ Some (signature_of m h env) → HeadingUsable s h → EntryFine s.k env (decl.entry_of n names h)
+      by_heading : (h : Heading) → slice_get s.k.subprograms n ≡ Some (signature_of m h env) → HeadingUsable s h → EntryFine s.k env (routines.entry_of n names h)
       by_heading None e u = tt
       by_heading (Some y) e u = record { is = signature_of m (Some y) env; callable = record { found = e; encloses = encloses_self env }; formals = refl; result = refl; formals_in_view = u.0; result_in_view = u.1 }
 
-  numbered_right : IfSome (Numbered h s) (decl.numbered n h)
+  numbered_right : IfSome (Numbered h s) (routines.numbered n h)
   numbered_right = by_heading h found
     where
-      by_heading : (h : Heading) → slice_get s.k.subprograms n ≡ Some (signature_of m h env) → IfSome (Numbered h s) (decl.numbered n h)
+      by_heading : (h : Heading) → slice_get s.k.subprograms n ≡ Some (signature_of m h env) → IfSome (Numbered h s) (routines.numbered n h)
       by_heading None e = tt
       by_heading (Some y) e = record { formals = y.0; result = y.1; known = refl; found = e }
 
@@ -323,16 +324,16 @@ module _ (a : Around) (x : Specification Definition Use) (h : Heading) (kind : H
   next = length d.subprograms
 
   abbrev added : Draft → Draft
-  added e = decl.add_subprogram a (decl.kind_of x.result) e
+  added e = routines.add_subprogram a (routines.kind_of x.result) e
 
   abbrev own_entry : Entry
-  own_entry = decl.entry_of next (decl.formal_names x.formals) h
+  own_entry = routines.entry_of next (routines.formal_names x.formals) h
 
   abbrev canonical : List RecordState → Notes → Draft
   canonical ss n = added (record (with_records ss d) { notes = n })
 
-  played_leads : (e : Draft) → Played a next h d e → ((s : Site) → IsHere s (here a) → Front s d → HeadingUsable s h) → Leads (here a) (Numbered h) d (decl.numbered next h, declare own_entry (added e))
-  played_leads e p usable = subst (λ z. Leads (here a) (Numbered h) d (decl.numbered next h, declare own_entry (added z))) (sym p.is) (record {
+  played_leads : (e : Draft) → Played a next h d e → ((s : Site) → IsHere s (here a) → Front s d → HeadingUsable s h) → Leads (here a) (Numbered h) d (routines.numbered next h, declare own_entry (added e))
+  played_leads e p usable = subst (λ z. Leads (here a) (Numbered h) d (routines.numbered next h, declare own_entry (added z))) (sym p.is) (record {
     made = signature_made x.result h;
     grows = record {
       records = behind_same d.tables.records d.tables.records refl;
@@ -357,15 +358,15 @@ module _ (a : Around) (x : Specification Definition Use) (h : Heading) (kind : H
           components = f.known.components;
         } in
         let front : Front s (canonical p.states p.notes) = record { entries = f.entries; base = f.base; known = known; own = f.own; inner = f.inner } in
-        (front_declared s (canonical p.states p.notes) own_entry (entry_right a x.result h kind s i u next found (decl.formal_names x.formals)) front, numbered_right a x.result h kind s i u next found);
+        (front_declared s (canonical p.states p.notes) own_entry (entry_right a x.result h kind s i u next found (routines.formal_names x.formals)) front, numbered_right a x.result h kind s i u next found);
   })
 
-  pub introduce_leads : ((s : Site) → IsHere s (here a) → Front s d → HeadingUsable s h) → Leads (here a) (Numbered h) d (decl.introduce a x (h, d))
+  pub introduce_leads : ((s : Site) → IsHere s (here a) → Front s d → HeadingUsable s h) → Leads (here a) (Numbered h) d (routines.introduce a x (h, d))
   introduce_leads usable = played_leads (decl.play x.name.identifier.span next (decl.role_of a x h d.tables) d) (play_played a next h d x.name.identifier.span (decl.role_of a x h d.tables) (role_fine a x h d.tables)) usable
 
 -- What a body completes (6.3.1) -------------------------------------------------------------------------------
 
-same_results_are : (a b : Option Ty) → decl.same_results a b ≡ true → a ≡ b
+same_results_are : (a b : Option Ty) → routines.same_results a b ≡ true → a ≡ b
 same_results_are None None h = refl
 same_results_are (Some s) (Some t) h = ap (λ x. Some x) (same_is s t h)
 same_results_are None (Some t) h = absurd (cc)
@@ -376,7 +377,7 @@ both_hold true true h = (refl, refl)
 both_hold true false h = absurd (cc)
 both_hold false b h = absurd (cc)
 
-of_level : (level : ℕ) (o : Option Routine) → decl.is_of_level level o ≡ true → (q : Routine) × ((o ≡ Some q) × (q.level ≡ level))
+of_level : (level : ℕ) (o : Option Routine) → routines.is_of_level level o ≡ true → (q : Routine) × ((o ≡ Some q) × (q.level ≡ level))
 of_level level None h = absurd (cc)
 of_level level (Some q) h = let same_level : q.level ≡ level = grind (arith, nat_tests) in (q, (refl, same_level))
 
@@ -385,7 +386,7 @@ one_signature x y o h i = cc
 
 module _ (a : Around) (s : Site) (i : IsHere s (here a)) (d : Draft) (f : Front s d) (p : Profile) (fine : ProfileFine s.k (around_site s) p) where
   -- a subprogram of this level is declared in the master around
-  home_here : decl.is_of_level a.level (slice_get d.subprograms p.subprogram) ≡ true → fine.is.home ≡ around_site s
+  home_here : routines.is_of_level a.level (slice_get d.subprograms p.subprogram) ≡ true → fine.is.home ≡ around_site s
   home_here h =
       let q = of_level a.level (slice_get d.subprograms p.subprogram) h in
       let known = f.known.subprograms p.subprogram q.0 q.1.0 in
@@ -396,9 +397,9 @@ module _ (a : Around) (s : Site) (i : IsHere s (here a)) (d : Draft) (f : Front 
       let l3 = i.level in
       encloses_all fine.is.home (around_site s) fine.callable.encloses (omega (arith, counted, l1, l2, l3))
 
-  conforming : (names : List (List ℕ)) (x : List FormalEntry × Option Ty) → decl.conforms p names x ≡ true → decl.is_of_level a.level (slice_get d.subprograms p.subprogram) ≡ true → Numbered (Some x) s p.subprogram
+  conforming : (names : List (List ℕ)) (x : List FormalEntry × Option Ty) → routines.conforms p names x ≡ true → routines.is_of_level a.level (slice_get d.subprograms p.subprogram) ≡ true → Numbered (Some x) s p.subprogram
   conforming names x h g =
-      let parts = three_hold (decl.same_formals p.formals x.0) (decl.same_names p.names names) (decl.same_results p.result x.1) h in
+      let parts = three_hold (decl.same_formals p.formals x.0) (routines.same_names p.names names) (routines.same_results p.result x.1) h in
       let formals : fine.is.formals ≡ map formal_of x.0 = fine.formals ∙ ap (map formal_of) (same_formals_are p.formals x.0 parts.0) in
       let result : fine.is.result ≡ x.1 = fine.result ∙ same_results_are p.result x.1 parts.1.1 in
       let home = home_here g in
@@ -406,24 +407,24 @@ module _ (a : Around) (s : Site) (i : IsHere s (here a)) (d : Draft) (f : Front 
       ap (λ y. record fine.is { home = y }) home ∙ ap (λ y. record { home = around_site s; formals = y; result = fine.is.result }) formals ∙ ap (λ y. record { home = around_site s; formals = map formal_of x.0; result = y }) result in
       record { formals = x.0; result = x.1; known = refl; found = fine.callable.found ∙ ap (λ y. Some y) own }
 
-  completes_right : (names : List (List ℕ)) (h : Heading) → IfSome (Numbered h s) (decl.completes a d.subprograms p names h)
+  completes_right : (names : List (List ℕ)) (h : Heading) → IfSome (Numbered h s) (routines.completes a d.subprograms p names h)
   completes_right names None = tt
-  completes_right names (Some x) = by_test (decl.conforms p names x && decl.is_of_level a.level (slice_get d.subprograms p.subprogram)) refl
+  completes_right names (Some x) = by_test (routines.conforms p names x && routines.is_of_level a.level (slice_get d.subprograms p.subprogram)) refl
     where
-      by_test : (b : Bool) → (decl.conforms p names x && decl.is_of_level a.level (slice_get d.subprograms p.subprogram)) ≡ b → IfSome (Numbered (Some x) s) (if b then Some p.subprogram else None)
-      by_test true e = let both = both_hold (decl.conforms p names x) (decl.is_of_level a.level (slice_get d.subprograms p.subprogram)) e in conforming names x both.0 both.1
+      by_test : (b : Bool) → (routines.conforms p names x && routines.is_of_level a.level (slice_get d.subprograms p.subprogram)) ≡ b → IfSome (Numbered (Some x) s) (if b then Some p.subprogram else None)
+      by_test true e = let both = both_hold (routines.conforms p names x) (routines.is_of_level a.level (slice_get d.subprograms p.subprogram)) e in conforming names x both.0 both.1
       by_test false e = tt
 
 module _ (a : Around) (place : Span) (x : Specification Definition Use) (h : Heading) (kind : HeadingKind x.result h) (d : Draft) where
   nothing_completed : Leads (here a) (Numbered h) d (None, d)
   nothing_completed = still_given (here a) (Numbered h) d (None, d) (still_self d) (λ s i f. tt)
 
-  completed_leads : (o : Option Entry) → ((s : Site) → Front s d → IfSome (EntryFine s.k (around_site s)) o) → Leads (here a) (Numbered h) d (decl.completed a place x o (h, d))
+  completed_leads : (o : Option Entry) → ((s : Site) → Front s d → IfSome (EntryFine s.k (around_site s)) o) → Leads (here a) (Numbered h) d (routines.completed a place x o (h, d))
   completed_leads (Some (entry.Subprogram p)) fine =
-      let told = fault_when (not (decl.conformed p (decl.formal_names x.formals) h)) fault.Type place d in
-      still_given (here a) (Numbered h) d (decl.completed a place x (Some (entry.Subprogram p)) (h, d))
-      (still_further d told (decl.indicator_kept x told) (told_still (not (decl.conformed p (decl.formal_names x.formals) h)) fault.Type place d) (told_still (decl.is_unfounded x.indicator (decl.operation_named x.name.identifier.text)) fault.Override x.name.identifier.span told))
-      (λ s i f. completes_right a s i d f p (fine s f) (decl.formal_names x.formals) h)
+      let told = fault_when (not (routines.conformed p (routines.formal_names x.formals) h)) fault.Type place d in
+      still_given (here a) (Numbered h) d (routines.completed a place x (Some (entry.Subprogram p)) (h, d))
+      (still_further d told (decl.indicator_kept x told) (told_still (not (routines.conformed p (routines.formal_names x.formals) h)) fault.Type place d) (told_still (decl.is_unfounded x.indicator (decl.operation_named x.name.identifier.text)) fault.Override x.name.identifier.span told))
+      (λ s i f. completes_right a s i d f p (fine s f) (routines.formal_names x.formals) h)
   completed_leads None fine = nothing_completed
   completed_leads (Some (entry.«Type» t)) fine = nothing_completed
   completed_leads (Some (entry.Incomplete t)) fine = nothing_completed
@@ -432,9 +433,9 @@ module _ (a : Around) (place : Span) (x : Specification Definition Use) (h : Hea
   completed_leads (Some (entry.Exception n)) fine = nothing_completed
   completed_leads (Some entry.Unknown) fine = nothing_completed
 
-  pub subprogram_leads : ((s : Site) → IsHere s (here a) → Front s d → HeadingUsable s h) → Leads (here a) (Numbered h) d (decl.subprogram_of a place x (h, d))
+  pub subprogram_leads : ((s : Site) → IsHere s (here a) → Front s d → HeadingUsable s h) → Leads (here a) (Numbered h) d (routines.subprogram_of a place x (h, d))
   subprogram_leads usable = by_test (is_declared_in a x.name.number d)
     where
-      by_test : (b : Bool) → Leads (here a) (Numbered h) d (if b then decl.completed a place x (slice_get d.tables.entries x.name.number) (h, d) else decl.introduce a x (h, d))
+      by_test : (b : Bool) → Leads (here a) (Numbered h) d (if b then routines.completed a place x (slice_get d.tables.entries x.name.number) (h, d) else routines.introduce a x (h, d))
       by_test true = completed_leads (slice_get d.tables.entries x.name.number) (λ s f. f.entries x.name.number)
       by_test false = introduce_leads a x h kind d usable

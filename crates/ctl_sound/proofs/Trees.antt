@@ -22,7 +22,7 @@ use Rattle.ctl_syntax.specs.declared.item.Statement.TheVariants as s
 use Rattle.ctl_syntax.specs.declared.item.Statement.TheVariants.{rolls-Null, rolls-Assignment, rolls-Call, rolls-Exit, rolls-Return, rolls-Raise, rolls-RaiseAgain, rolls-If, rolls-Loop, rolls-While, rolls-For, rolls-Block}
 use Rattle.ctl_syntax.specs.declared.name.Mark.{Mark}
 use Rattle.ctl_syntax.specs.declared.name.Name.{Name}
-use Rattle.ctl_types.specs.declared.draft.Around.{Around}
+use Rattle.ctl_draft.specs.declared.draft.Around.{Around}
 use Rattle.ctl_types.specs.Elaboration as spec
 use Rattle.ctl_types.specs.Elaboration.{item_judged, statement, body}
 use Rattle.ctl_types.specs.Parts.{branch_of, handler_of}

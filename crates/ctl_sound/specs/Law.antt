@@ -8,7 +8,7 @@ use Rattle.ctl_syntax.specs.declared.name.Mark.{Mark}
 use Rattle.ctl_syntax.specs.declared.name.Name.{Name}
 use Rattle.ctl_typing.specs.declared.found.Asked.TheVariants.{Exactly}
 use Rattle.ctl_typing.specs.Senses.{suffix_sense}
-use Rattle.ctl_types.specs.Statements.{assignment, call, raising, exit_by, return_value}
+use Rattle.ctl_statements.specs.Statements.{assignment, call, raising, exit_by, return_value}
 use Rattle.ctl_syntax.specs.declared.denoted.Use.{Use}
 use Rattle.ctl_syntax.specs.declared.expression.Expression.{Expression}
 use Rattle.ctl_program.specs.declared.types.Root.{Root}
@@ -21,7 +21,7 @@ use Rattle.ctl_typing.specs.declared.table.Tables.{Tables}
 use Rattle.ctl_typing.specs.declared.found.Asked.{Asked}
 use Rattle.ctl_typing.specs.Judgement.{each}
 use Rattle.ctl_types.specs.Elaboration.{Elaborates}
-use Rattle.ctl_types.specs.Declarations.{object_type, value_of, discriminant, heading_types}
+use Rattle.ctl_declarations.specs.Declarations.{object_type, value_of, discriminant, heading_types}
 use Rattle.ctl_well_typed.specs.Programs.{WellTyped}
 use Rattle.ctl_well_typed.specs.Types.{HasDiscriminant}
 use Rattle.ctl_well_typed.specs.Expressions.{Perhaps}

@@ -5,8 +5,8 @@ use Rattle.ctl_program.specs.declared.statement.Stmt.{Stmt}
 use Rattle.ctl_program.specs.declared.statement.Stmt.TheVariants as stmt
 use Rattle.ctl_syntax.specs.declared.denoted.Use.{Use}
 use Rattle.ctl_syntax.specs.declared.item.Branch.{Branch}
-use Rattle.ctl_types.specs.declared.draft.Around.{Around}
-use Rattle.ctl_types.specs.declared.draft.Draft.{Draft}
+use Rattle.ctl_draft.specs.declared.draft.Around.{Around}
+use Rattle.ctl_draft.specs.declared.draft.Draft.{Draft}
 use Rattle.ctl_types.specs.Elaboration.{Says, branch, sequence, conditional}
 use Rattle.ctl_types.specs.Parts.{conditional_of}
 use Rattle.ctl_typing.specs.Judgement.{known, paired, with_known, appended, each}

@@ -1,9 +1,4 @@
 pub mod Aligned
-pub mod Changes
 pub mod Conditionals
-pub mod Drafts
-pub mod Joined
 pub mod Ordered
-pub mod Profiles
-pub mod Threes
 pub mod Wholes

@@ -1,20 +1,15 @@
 -- Going through the items of a part: whether a body stands behind, and one item more.
-use Rattle.std.proofs.Common.{arith, ◌≡◌, refl, sym, ap, ◌∙◌, ℕ, suc, ◌+◌, ◌-◌, ◌<◌, Bool, true, false, if◌then◌else◌, ◌||◌, List, [], ◌∷◌, map, length, get_or, drop, Option}
-use Rattle.std.proofs.lemmas.List.{at_drop_more}
+use Rattle.std.proofs.Common.{arith, ◌≡◌, refl, sym, ap, ◌∙◌, ℕ, suc, ◌-◌, Bool, true, false, if◌then◌else◌, ◌||◌, List, [], ◌∷◌, map, Option}
 use Rattle.ctl_program.specs.declared.statement.Item.{Item as Checked_item}
 use Rattle.ctl_syntax.specs.declared.denoted.Definition.{Definition}
 use Rattle.ctl_syntax.specs.declared.denoted.Use.{Use}
 use Rattle.ctl_syntax.specs.declared.item.Item.{Item}
-use Rattle.ctl_types.specs.declared.draft.Around.{Around}
-use Rattle.ctl_types.specs.declared.draft.Draft.{Draft}
-use Rattle.ctl_types.specs.declared.draft.Order.{Order}
-use Rattle.ctl_types.specs.declared.draft.Order.TheVariants as order
+use Rattle.ctl_draft.specs.declared.draft.Around.{Around}
+use Rattle.ctl_draft.specs.declared.draft.Draft.{Draft}
+use Rattle.ctl_draft.specs.declared.draft.Order.{Order}
+use Rattle.ctl_draft.specs.declared.draft.Order.TheVariants as order
 use Rattle.ctl_types.specs.Elaboration.{Part_of, item_judged, any_body, order_before, more_items, items, items_on}
 use Rattle.ctl_types.specs.Parts.{is_body, bodies_on, bodies_but, order_with}
-
--- the element at an index, and those behind it
-pub next_of : {A : Type 0} (all : List A) (i : ℕ) (x : A) → i < length all → x ≡ get_or all i x → drop i all ≡ x ∷ drop (i + 1) all
-next_of all i x lt at = at_drop_more (λ xs. xs) all i x lt ∙ ap (λ y. y ∷ drop (i + 1) all) (sym at)
 
 bodies_more : (n : ℕ) (is : List (Item Definition Use)) → bodies_on (suc n) is ≡ suc (bodies_on n is)
 bodies_more n [] = refl

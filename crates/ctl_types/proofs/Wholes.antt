@@ -3,8 +3,8 @@ use Rattle.std.proofs.Common.{◌≡◌, refl, List, length, Option, Some, None}
 use Rattle.ctl_program.specs.declared.statement.Handler.{Handler}
 use Rattle.ctl_program.specs.declared.statement.Item.{Item}
 use Rattle.ctl_program.specs.declared.statement.Stmt.{Stmt}
-use Rattle.ctl_types.specs.declared.draft.Draft.{Draft}
-use Rattle.ctl_types.specs.Draft.{Doing}
+use Rattle.ctl_draft.specs.declared.draft.Draft.{Draft}
+use Rattle.ctl_draft.specs.Draft.{Doing}
 use Rattle.ctl_types.specs.Elaboration.{master_of}
 use Rattle.ctl_types.specs.Parts.{master_of as master_known}
 use Rattle.ctl_typing.specs.Judgement.{◌>>=◌, beside, both, paired, with_known}

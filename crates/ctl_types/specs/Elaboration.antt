@@ -18,8 +18,6 @@ use Rattle.ctl_program.specs.declared.operators.SubprogramKind.TheVariants as ki
 use Rattle.ctl_program.specs.declared.program.Checked.{Checked}
 use Rattle.ctl_program.specs.declared.program.Subprogram.{Subprogram}
 use Rattle.ctl_program.specs.declared.statement.Arm.{Arm, roll-Arm}
-use Rattle.ctl_program.specs.declared.statement.Choices.{Choices as Checked_choices}
-use Rattle.ctl_program.specs.declared.statement.Choices.TheVariants as chosen
 use Rattle.ctl_program.specs.declared.statement.Handler.{Handler as Checked_handler, roll-Handler}
 use Rattle.ctl_program.specs.declared.statement.Item.{Item as Checked_item}
 use Rattle.ctl_program.specs.declared.statement.Item.TheVariants as made
@@ -32,8 +30,6 @@ use Rattle.ctl_syntax.specs.declared.item.Body.{Body, Body-F, fold-Body}
 use Rattle.ctl_syntax.specs.declared.item.Branch.{Branch}
 use Rattle.ctl_syntax.specs.declared.item.Choices.{Choices}
 use Rattle.ctl_syntax.specs.declared.item.Choices.TheVariants as choices
-use Rattle.ctl_syntax.specs.declared.item.Definition.{Definition as Type_definition}
-use Rattle.ctl_syntax.specs.declared.item.Definition.TheVariants as definition
 use Rattle.ctl_syntax.specs.declared.item.Direction.{Direction}
 use Rattle.ctl_syntax.specs.declared.item.Direction.TheVariants as direction
 use Rattle.ctl_syntax.specs.declared.item.Handler.{Handler}
@@ -46,8 +42,6 @@ use Rattle.ctl_syntax.specs.declared.item.Limitation.TheVariants as limitation
 use Rattle.ctl_syntax.specs.declared.item.Specification.{Specification}
 use Rattle.ctl_syntax.specs.declared.item.Statement.{Statement, fold-Statement}
 use Rattle.ctl_syntax.specs.declared.item.Tree.{Tree}
-use Rattle.ctl_syntax.specs.declared.name.Mark.{Mark}
-use Rattle.ctl_syntax.specs.declared.item.Taggedness.{Taggedness}
 use Rattle.ctl_typing.specs.declared.table.FormalEntry.{FormalEntry}
 use Rattle.ctl_typing.specs.declared.table.Tables.{Tables}
 use Rattle.ctl_typing.specs.declared.table.Entry.TheVariants as entry
@@ -65,29 +59,31 @@ use Rattle.ctl_typing.specs.declared.table.Mutability.TheVariants as mutability
 use Rattle.ctl_typing.specs.declared.table.Standing.TheVariants as standing
 use Rattle.ctl_syntax.specs.declared.item.Aliasing.TheVariants as aliasing
 use Rattle.ctl_typing.specs.declared.found.Asked.TheVariants.{Exactly}
-use Rattle.ctl_types.specs.declared.draft.Draft.{Draft}
-use Rattle.ctl_types.specs.declared.draft.Routine.{Routine}
-use Rattle.ctl_types.specs.declared.draft.Around.{Around}
-use Rattle.ctl_types.specs.declared.draft.Giving.{Giving}
-use Rattle.ctl_types.specs.declared.draft.Giving.TheVariants as giving
-use Rattle.ctl_types.specs.declared.draft.Handling.TheVariants as handling
-use Rattle.ctl_types.specs.declared.draft.Looping.TheVariants as looping
+use Rattle.ctl_draft.specs.declared.draft.Draft.{Draft}
+use Rattle.ctl_draft.specs.declared.draft.Routine.{Routine}
+use Rattle.ctl_draft.specs.declared.draft.Around.{Around}
+use Rattle.ctl_draft.specs.declared.draft.Giving.{Giving}
+use Rattle.ctl_draft.specs.declared.draft.Giving.TheVariants as giving
+use Rattle.ctl_draft.specs.declared.draft.Handling.TheVariants as handling
+use Rattle.ctl_draft.specs.declared.draft.Looping.TheVariants as looping
 use Rattle.ctl_types.specs.declared.masters.Opened.{Opened}
-use Rattle.ctl_types.specs.declared.draft.Order.{Order}
-use Rattle.ctl_types.specs.declared.draft.Order.TheVariants as order
-use Rattle.ctl_types.specs.declared.draft.Returning.{Returning}
-use Rattle.ctl_types.specs.declared.draft.Returning.TheVariants as returning
+use Rattle.ctl_draft.specs.declared.draft.Order.{Order}
+use Rattle.ctl_draft.specs.declared.draft.Order.TheVariants as order
+use Rattle.ctl_draft.specs.declared.draft.Returning.{Returning}
+use Rattle.ctl_draft.specs.declared.draft.Returning.TheVariants as returning
 use Rattle.ctl_tree.specs.Faults.{fault_at}
 use Rattle.ctl_typing.specs.declared.notes.Notes.{Notes}
 use Rattle.ctl_typing.specs.Judgement.{Judgement, known, with_known, ◌>>=◌, both, each, appended}
 use Rattle.ctl_typing.specs.Senses.{suffix_sense}
 use Rattle.ctl_typing.specs.Typing.{Sense, sense, truth_of}
-use Rattle.ctl_types.specs.Draft.{Doing, by_tables, fault_when, declare, declare_object, enter, leave_view, next_var}
-use Rattle.ctl_types.specs.Freezing.{freeze_all, end_of_part}
-use Rattle.ctl_types.specs.Statements.{assignment, call, raising, raising_again, exiting, exception_named, operations_of}
-use Rattle.ctl_types.specs.Statements as simple
-use Rattle.ctl_types.specs.Types.{record_type, extension, access_type, pool_clause}
-use Rattle.ctl_types.specs.Declarations.{objects, exceptions, instance, heading, declaration, subprogram_of, giving_of, enter_formals, put_body, add_subprogram, name_kept}
+use Rattle.ctl_draft.specs.Draft.{Doing, by_tables, fault_when, declare, declare_object, leave_view, next_var}
+use Rattle.ctl_draft.specs.Freezing.{freeze_all, end_of_part}
+use Rattle.ctl_statements.specs.Statements.{assignment, call, raising, raising_again, exiting, choices_of}
+use Rattle.ctl_draft.specs.Operations.{operations_of}
+use Rattle.ctl_statements.specs.Statements as simple
+use Rattle.ctl_declarations.specs.Types.{pool_clause}
+use Rattle.ctl_declarations.specs.Declarations.{objects, exceptions, instance, heading, enter_formals, name_kept, definition_of, incomplete}
+use Rattle.ctl_types.specs.Subprograms.{declaration, subprogram_of, giving_of, put_body, add_subprogram}
 
 -- What each construct is ------------------------------------------------------------------------------
 
@@ -219,16 +215,6 @@ surely (is, d) = (Some is, d)
 
 -- Handlers (11.2) ------------------------------------------------------------------------------------------------------------
 
-abbrev pub choice : Span → Mark Use → Tables → Judgement ℕ
-choice place m tables = exception_named tables place m.first m.rest
-
-abbrev pub exceptions_chosen : Span → List (Mark Use) → Doing (List ℕ)
-exceptions_chosen place ms d = each (λ m. by_tables (choice place m)) (Some []) ms d
-
-abbrev pub choices_of : Span → Choices Use → Doing Checked_choices
-choices_of place choices.Others = known chosen.Others
-choices_of place (choices.Exceptions ms) = exceptions_chosen place ms >>= (λ ns. known (chosen.Exceptions ns))
-
 abbrev pub in_handler : Around → Around
 in_handler around = record around { handling = handling.Inside }
 
@@ -325,17 +311,6 @@ body_item place s body o around d = body_opened place s body around (opened plac
 
 abbrev pub without_body : Declares → Part_of
 without_body p = record { is_body = false; declares = p }
-
-abbrev pub defined_by : Span → Definition → Type_definition Use → Around → Draft → List Checked_item × Draft
-defined_by place name (definition.Record l cs) around d = record_type place name.number l cs around d
-defined_by place name (definition.Extension m cs) around d = extension place name.number m cs around d
-defined_by place name (definition.Access g m c pool) around d = access_type place name g m c pool around d
-
-abbrev pub definition_of : Span → Definition → Type_definition Use → Around → Draft → List Checked_item × Draft
-definition_of place name def around d = defined_by place name def around (name_kept name d)
-
-abbrev pub incomplete : Definition → Taggedness → Around → Draft → List Checked_item × Draft
-incomplete name t around d = (made.Silent ∷ [], enter around name.number (entry.Incomplete t) (name_kept name d))
 
 abbrev pub item_of : Span → ItemKind Definition Use Does → Part_of
 item_of place (item.Declaration s) = without_body (λ o around d. surely (declaration place s around d))

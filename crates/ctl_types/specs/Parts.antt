@@ -17,13 +17,13 @@ use Rattle.ctl_program.specs.declared.statement.Master.{Master, roll-Master}
 use Rattle.ctl_tree.specs.declared.span.Span.{Span}
 use Rattle.ctl_syntax.specs.declared.item.Handler.{Handler}
 use Rattle.ctl_syntax.specs.declared.item.Item.{Item}
-use Rattle.ctl_types.specs.declared.draft.Draft.{Draft}
-use Rattle.ctl_types.specs.declared.draft.Giving.{Giving}
-use Rattle.ctl_types.specs.declared.draft.Order.{Order}
-use Rattle.ctl_types.specs.declared.draft.Order.TheVariants as order
-use Rattle.ctl_types.specs.declared.draft.Returning.{Returning}
+use Rattle.ctl_draft.specs.declared.draft.Draft.{Draft}
+use Rattle.ctl_draft.specs.declared.draft.Giving.{Giving}
+use Rattle.ctl_draft.specs.declared.draft.Order.{Order}
+use Rattle.ctl_draft.specs.declared.draft.Order.TheVariants as order
+use Rattle.ctl_draft.specs.declared.draft.Returning.{Returning}
 use Rattle.ctl_types.specs.declared.masters.Outer.{Outer}
-use Rattle.ctl_types.specs.Draft.{leave_view}
+use Rattle.ctl_draft.specs.Draft.{leave_view}
 use Rattle.ctl_types.specs.Elaboration.{Says, statement, item_judged, returns_kept, record_type_of}
 
 abbrev pub branch_of : Branch (Statement Definition Use) Use → Branch Says Use

@@ -3,37 +3,9 @@
 //! "RM" is ISO/IEC 8652:2012.
 #![tactic(auto)]
 
-pub mod accesses;
-pub mod assignments;
-pub mod associations;
-pub mod calls;
-pub mod components;
-pub mod definitions;
-pub mod discriminants;
-pub mod draft;
-pub mod exceptions;
-pub mod formals;
-pub mod freezing;
-pub mod headings;
-pub mod instances;
 pub mod library;
 pub mod masters;
-pub mod named_types;
-pub mod objects;
-pub mod operation_calls;
-pub mod operations;
-pub mod order;
-pub mod overriding;
-pub mod own_names;
 pub mod parts;
-pub mod pool_clauses;
 pub mod programs;
-pub mod raises;
-pub mod records;
-pub mod rows;
 pub mod subprograms;
-pub mod transfers;
-pub mod types;
-pub mod view;
 pub mod whole;
-pub mod writing;

@@ -3,8 +3,8 @@
 ghost use Rattle.std.specs.Prelude.{◌≡◌, IfOk};
 ghost use Rattle.ctl_types.specs.Elaboration as spec;
 
-use crate::draft::{Draft, Returning};
-use crate::operations::no_operations;
+use ctl_draft::draft::{Draft, Returning};
+use ctl_draft::operations::no_operations;
 use ctl_program::types::{Component, Root};
 use ctl_syntax::item::Limitation;
 use ctl_tree::text::Text;

@@ -1,15 +1,15 @@
 //! Masters: what stands around the items of one, and what is kept of what stood around it (RM 7.6.1).
 
 ghost use Rattle.std.specs.Prelude.{◌≡◌, IfOk};
+ghost use Rattle.ctl_draft.specs.Freezing as freezing;
 ghost use Rattle.ctl_types.specs.Elaboration as spec;
-ghost use Rattle.ctl_types.specs.Freezing as freezing;
 ghost use Rattle.ctl_types.specs.Parts as part;
 ghost use Rattle.ctl_typing.specs.Judgement.{Judges};
 
-use crate::draft::{Around, Draft, Giving, Handling, Looping, Returning};
-use crate::freezing::freeze_all;
-use crate::order::end_of_part;
-use crate::view::keep_first;
+use ctl_draft::draft::{Around, Draft, Giving, Handling, Looping, Returning};
+use ctl_draft::freezing::freeze_all;
+use ctl_draft::order::end_of_part;
+use ctl_draft::view::keep_first;
 use ctl_program::statement as checked;
 use ctl_program::types::Ty;
 use ctl_tree::fault::FaultCode;

@@ -1,35 +1,35 @@
 //! Statements, items of declarative parts and bodies, each of which may hold the others (RM 3.11, 5.1, 6.3, 11.2).
 
 ghost use Rattle.std.specs.Prelude.{◌≡◌, [], Some, false, map};
-ghost use Rattle.ctl_types.specs.Draft.{by_tables};
+ghost use Rattle.ctl_draft.specs.Draft.{by_tables};
+ghost use Rattle.ctl_draft.specs.declared.draft.Draft.{Draft as Drafted};
 ghost use Rattle.ctl_types.specs.Elaboration as spec;
 ghost use Rattle.ctl_types.specs.Parts as part;
-ghost use Rattle.ctl_types.specs.declared.draft.Draft.{Draft as Drafted};
 ghost use Rattle.ctl_typing.specs.Judgement.{Judges, beside, each};
 ghost use Rattle.ctl_typing.specs.Typing.{sense};
 
-use crate::accesses::incomplete;
-use crate::assignments::assignment;
-use crate::calls::call;
-use crate::definitions::type_definition;
-use crate::draft::{Around, Draft, Giving, Handling, Looping, Order, Returning};
-use crate::exceptions::exceptions;
-use crate::formals::enter_formals;
-use crate::instances::instance;
 use crate::masters::{
     end_part, enter_master, inside, inside_block, leave_master, leave_returns, master_of,
     more_items,
 };
-use crate::objects::objects;
-use crate::pool_clauses::pool_clause;
-use crate::raises::{choices_of, raising, raising_again};
 use crate::subprograms::{body_put, declaration, opened};
-use crate::transfers::{exiting, returning};
+use ctl_declarations::accesses::incomplete;
+use ctl_declarations::definitions::type_definition;
+use ctl_declarations::exceptions::exceptions;
+use ctl_declarations::formals::enter_formals;
+use ctl_declarations::instances::instance;
+use ctl_declarations::objects::objects;
+use ctl_declarations::pool_clauses::pool_clause;
+use ctl_draft::draft::{Around, Draft, Giving, Handling, Looping, Order, Returning};
 use ctl_program::expression::Expr;
 use ctl_program::operators::Direction as CheckedDirection;
 use ctl_program::statement as checked;
 use ctl_program::statement::{Arm, Master, Stmt};
 use ctl_program::types::Ty;
+use ctl_statements::assignments::assignment;
+use ctl_statements::calls::call;
+use ctl_statements::raises::{choices_of, raising, raising_again};
+use ctl_statements::transfers::{exiting, returning};
 use ctl_syntax::denoted::{Definition, Use};
 use ctl_syntax::expression::Expression;
 use ctl_syntax::item::{

@@ -4,7 +4,7 @@ ghost use Rattle.std.specs.Prelude.{◌≡◌, IfOk, reverse, slice_get};
 ghost use Rattle.ctl_types.specs.Elaboration as spec;
 ghost use Rattle.ctl_types.specs.Parts as part;
 
-use crate::draft::{Draft, Routine};
+use ctl_draft::draft::{Draft, Routine};
 use ctl_program::program::{Checked, Subprogram};
 use ctl_program::types::{AccessType, Component, RecordType, Var};
 use ctl_typing::operators::appended;

@@ -2,15 +2,15 @@
 
 ghost use Rattle.std.specs.Option.{option_copied};
 ghost use Rattle.std.specs.Prelude.{◌≡◌, ◌++◌, IfOk, OnOk, Some, map, slice_get};
-ghost use Rattle.ctl_types.specs.Declarations as spec;
 ghost use Rattle.ctl_types.specs.Elaboration as elaboration;
+ghost use Rattle.ctl_types.specs.Subprograms as spec;
 ghost use Rattle.ctl_typing.specs.Judgement.{Judges, Yields};
 
-use crate::draft::{Around, Draft, Giving, Routine};
-use crate::freezing::freeze_all;
-use crate::headings::{Heading, heading};
 use crate::masters::Opened;
-use crate::overriding::{has_same_formals, keep_indicator, play, role_of};
+use ctl_declarations::headings::{Heading, heading};
+use ctl_declarations::overriding::{has_same_formals, keep_indicator, play, role_of};
+use ctl_draft::draft::{Around, Draft, Giving, Routine};
+use ctl_draft::freezing::freeze_all;
 use ctl_grammar::spelling::is_same_name;
 use ctl_program::operators::SubprogramKind;
 use ctl_program::statement as checked;

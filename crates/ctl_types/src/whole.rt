@@ -4,13 +4,13 @@ ghost use Rattle.std.specs.Prelude.{◌≡◌, IfOk, OnOk};
 ghost use Rattle.ctl_types.specs.Elaboration as spec;
 ghost use Rattle.ctl_typing.specs.Judgement.{Judges};
 
-use crate::draft::{Around, Draft, Giving, Handling, Looping};
 use crate::library::library;
 use crate::masters::{enter_master, inside, leave_master};
-use crate::own_names::keep_name;
 use crate::parts::master;
 use crate::programs::checked_of;
 use crate::subprograms::{add_subprogram, put_body};
+use ctl_declarations::own_names::keep_name;
+use ctl_draft::draft::{Around, Draft, Giving, Handling, Looping};
 use ctl_program::operators::SubprogramKind;
 use ctl_program::program::Checked;
 use ctl_program::statement::Master;

@@ -6,16 +6,17 @@ use Rattle.ctl_syntax.specs.declared.item.Item.{fold_out-Item}
 use Rattle.ctl_syntax.specs.declared.item.Statement.{Statement, size-Statement, size_is-Statement, fold_out-Statement}
 use Rattle.ctl_syntax.specs.declared.item.Statement.TheVariants.{outs-Assignment, If, outs-If, outs-Loop}
 use Rattle.ctl_types.specs.Elaboration as spec
-use Rattle.ctl_types.specs.Statements.{assignment}
+use Rattle.ctl_statements.specs.Statements.{assignment}
 use Rattle.ctl_types.specs.Parts as part
 use Rattle.ctl_typing.proofs.Turns.{each_walked}
 use Rattle.ctl_typing.specs.Judgement.{appended, each}
 use Rattle.ctl_typing.specs.Senses.{suffix_sense}
 use Rattle.ctl_typing.specs.Typing.{sense}
 use Rattle.ctl_types.proofs.Conditionals.{conditional_judged}
-use Rattle.ctl_types.proofs.Drafts.{by_tables_judges, judges_as}
+use Rattle.ctl_draft.proofs.Drafts.{by_tables_judges, judges_as}
 use Rattle.ctl_types.proofs.Wholes.{master_judged}
-use Rattle.ctl_types.proofs.Ordered.{next_of, bodies_left, ordered, items_turn}
+use Rattle.ctl_draft.proofs.Behind.{next_of}
+use Rattle.ctl_types.proofs.Ordered.{bodies_left, ordered, items_turn}
 use Rattle.ctl_types.proofs.parts.+part.Goals as goal
 
 pub statement-returns-in-Assignment : goal.statement-returns-in-Assignment

@@ -1,4 +1,4 @@
-use Rattle.std.proofs.Common.{◌≡◌, Some, [], length}
+use Rattle.std.proofs.Common.{◌≡◌, length}
 use Rattle.std.specs.Prelude.{reverse}
 use Rattle.ctl_types.specs.Elaboration as spec
 use Rattle.ctl_types.proofs.programs.subprograms_of.Given as goal

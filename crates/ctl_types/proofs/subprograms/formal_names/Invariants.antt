@@ -1,5 +1,5 @@
 use Rattle.std.proofs.Common.{◌≡◌, ◌++◌, drop}
-use Rattle.ctl_types.specs.Declarations as spec
+use Rattle.ctl_types.specs.Subprograms as spec
 use Rattle.ctl_types.proofs.subprograms.formal_names.Given as goal
 
 -- the names of the formals that are left, behind those so far, are all

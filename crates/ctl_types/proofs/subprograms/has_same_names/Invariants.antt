@@ -1,5 +1,5 @@
 use Rattle.std.proofs.Common.{◌≡◌, length}
-use Rattle.ctl_types.specs.Declarations as spec
+use Rattle.ctl_types.specs.Subprograms as spec
 use Rattle.ctl_types.proofs.subprograms.has_same_names.Given as goal
 
 -- what is left of both is the same where all is

@@ -1,6 +1,6 @@
-use Rattle.std.proofs.Common.{◌∙◌, sym, ap, Bool, true, if◌then◌else◌, slice_get}
-use Rattle.ctl_types.proofs.Drafts.{judges_as}
-use Rattle.ctl_types.specs.Declarations as spec
+use Rattle.std.proofs.Common.{◌∙◌, sym, ap, Bool, if◌then◌else◌, slice_get}
+use Rattle.ctl_draft.proofs.Drafts.{judges_as}
+use Rattle.ctl_types.specs.Subprograms as spec
 use Rattle.ctl_types.proofs.subprograms.subprogram_of.Goals as goal
 
 pub returns-then-is_declared_in : goal.returns-then-is_declared_in

@@ -1,0 +1,17 @@
+use Rattle.std.proofs.Common.{◌∙◌, ap, sym, drop, ◌+◌, option_map}
+use Rattle.ctl_declarations.specs.Types as spec
+use Rattle.ctl_typing.proofs.Turns.{each_walked}
+use Rattle.ctl_typing.specs.Judgement.{each}
+use Rattle.ctl_typing.specs.Typing.{sense}
+use Rattle.ctl_draft.proofs.Behind.{next_of}
+use Rattle.ctl_declarations.proofs.components.components_named.Goals as goal
+
+pub loop-name-preserved : goal.loop-name-preserved
+loop-name-preserved c =
+    let all = c.args.names.now in
+    let i = c.loop-name.name-index in
+    let f = spec.component c.args.within c.args.mark.now (option_map sense c.args.value.now) in
+    let split = next_of all i c.name-item.result c.loop-name-test.true c.name-item.is in
+    each_walked f c.loop-name.done c.in_ok-done.done c.in_ok-judged.judged c.name-item.result (drop (i + 1) all) c.loop-name.draft c.component.new.draft c.in_ok-judged.ensures c.in_ok-done.ensures
+    ∙ ap (λ xs. each f c.loop-name.done xs c.loop-name.draft) (sym split)
+    ∙ c.loop-name.invariant

@@ -1,0 +1,4 @@
+pub mod Behind
+pub mod Changes
+pub mod Drafts
+pub mod Joined

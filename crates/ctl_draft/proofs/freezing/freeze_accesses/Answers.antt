@@ -1,0 +1,10 @@
+use Rattle.std.proofs.Common.{rules, arith}
+use Rattle.ctl_draft.specs.Freezing as spec
+use Rattle.ctl_draft.proofs.Changes.{changed_next, changed_none, changed_length}
+use Rattle.ctl_draft.proofs.freezing.freeze_accesses.Goals as goal
+
+pub loop-number-preserved : goal.loop-number-preserved
+loop-number-preserved c = search (rules, changed_length spec.frozen_access c.loop-number.number c.loop-number.accesses, changed_next spec.frozen_access c.loop-number.number c.loop-number.accesses)
+
+pub returns : goal.returns
+returns c = search (rules, changed_none spec.frozen_access c.loop-number.number c.loop-number.accesses (omega (arith, c.loop-number-test.false, c.loop-number.invariant.whole)))

@@ -1,0 +1,4 @@
+pub mod Draft
+pub mod Freezing
+pub mod Marks
+pub mod Operations
