@@ -1,6 +1,6 @@
 -- Components of objects: the code that reads one and the code that assigns to one is what is emitted, is well formed, and does what the
 -- program means (4.1.3, 5.2).
-use Rattle.std.proofs.Common.{◌≡◌, ℕ, zero, suc, ◌+◌, List, [], ◌∷◌, ◌++◌, length, drop, Option, Some, None, refl, sym, ap, ◌∙◌, subst, arith, length-append}
+use Rattle.std.proofs.Common.{◌≡◌, ℕ, zero, suc, ◌+◌, List, [], ◌∷◌, ◌++◌, length, drop, Option, Some, None, true, refl, sym, ap, ◌∙◌, subst, arith, length-append}
 use Rattle.std.specs.Prelude.{slice_get}
 use Rattle.ctl_program.specs.declared.types.Ty.{Ty}
 use Rattle.ctl_program.specs.declared.types.Ty.TheVariants.{Record}
@@ -28,6 +28,7 @@ use Rattle.ctl_code.specs.Windows.{height}
 use Rattle.ctl_gen.specs.declared.right.Reached.TheVariants as ReachedOf
 use Rattle.ctl_gen.specs.Around.{Around, out_to}
 use Rattle.ctl_gen.specs.Emitted.{Emitted, holding, lined, one, standing, stated, taking}
+use Rattle.ctl_gen.specs.Records.{is_flat}
 use Rattle.ctl_gen.specs.Values.{ValueCode, held, read, value_type}
 use Rattle.ctl_gen.specs.Layout.{assign, part_code, store_part_code, stored_part}
 use Rattle.ctl_gen.proofs.Emission.{lined_both}
@@ -145,9 +146,9 @@ module _ (ask : Ask) (k : Tables) (code : Code) (placed_so : ArePlaced k code) w
         by None first = stop_step ask code Worlds 8 8 s0 _ c 2 (landed to d (place + 1) ks ops) UseAfterFree l (omega arith) first refl refl
         by (Some y) first = last_step ask code Worlds 8 8 s0 c 2 (landed to d (place + 1) ks ops) (Goes (cells_at offset 1 y)) l w (omega arith) fits (first ∙ put_there to (cells_at offset 1 y) d place ks ops l w)
 
-    pub component_value : ((n i : ℕ) (w : World) → Fits w → IsWhole (slot_at n i w)) → (v : Var) (t position : ℕ) (find : List ℕ → Act Found) → Touches k v t position find → (ty : Ty) → IsScalar ty → Value ask k code Fits (read (Some (ReachedOf.Component v t position)) ty) (λ d. ticked (find d >>= read_found (cells_of k ty)))
+    pub component_value : ((n i : ℕ) (w : World) → Fits w → IsWhole (slot_at n i w)) → (v : Var) (t position : ℕ) → is_flat k.records (slice_get k.records t) ≡ true → (find : List ℕ → Act Found) → Touches k v t position find → (ty : Ty) → IsScalar ty → Value ask k code Fits (read (Some (ReachedOf.Component v t position)) ty) (λ d. ticked (find d >>= read_found (cells_of k ty)))
     unfolding read_found opened_outcome
-    component_value whole v t position find touches ty scalar = record {
+    component_value whole v t position flat find touches ty scalar = record {
       cell = λ d c l w. subst (IsCell Any) (sym (reads_it d c l w)) (cell_read (master_of d v) v.slot offset position (content_of d v w) c l w);
       begins = λ to u s d place ks ops c l w fits long has.
           let o = whole_of (content_of d v w) in
@@ -158,7 +159,7 @@ module _ (ask : Ask) (k : Tables) (code : Code) (placed_so : ArePlaced k code) w
             cells = cell_part o offset c l w;
             runs = part_runs o offset to.named d place ks ops c l w _ fits
                 (by_code ask code d place ks ops l w (InstrOf.FetchPart (out_to s v) v.slot t position u to) has.0
-                ∙ ap (λ j. moved l (by_fetch_part j (holder_at d (out_to s v) v.slot w) to.named ops (here d place ks w))) (placed_so t position)
+                ∙ ap (λ j. moved l (by_fetch_part j (holder_at d (out_to s v) v.slot w) to.named ops (here d place ks w))) (placed_so t position flat)
                 ∙ ap (λ m. moved l (by_fetch_part offset (whole_of (slot_at m v.slot w).content) to.named ops (here d place ks w))) (out_is d s v long));
           };
       constant = λ n is d c l w. absurd (cc);
@@ -190,7 +191,7 @@ module _ (ask : Ask) (k : Tables) (code : Code) (placed_so : ArePlaced k code) w
   assigns_whole act m i offset position (Copies v) d c l w h = absurd h
   assigns_whole act m i offset position (Gathers n) d c l w h = refl
 
-  module _ (bound : ℕ) (v : Var) (t position : ℕ) (y : ValueCode) (act : List ℕ → Act (List ℕ)) (value : (w0 : World) → Value ask k code (Since k code w0) y act) where
+  module _ (bound : ℕ) (v : Var) (t position : ℕ) (flat : is_flat k.records (slice_get k.records t) ≡ true) (y : ValueCode) (act : List ℕ → Act (List ℕ)) (value : (w0 : World) → Value ask k code (Since k code w0) y act) where
     abbrev offset : ℕ
     offset = offset_in position (placed k t)
 
@@ -203,7 +204,7 @@ module _ (ask : Ask) (k : Tables) (code : Code) (placed_so : ArePlaced k code) w
         first =
             by_code ask code d q ks (waiting cell.named m (n ∷ ops)) l w (InstrOf.StorePart cell (value_type y) high t position) has
             ∙ ap (moved l) (taking_is cell.named m (λ x rest. by_store_part (offset_of code t position) x rest (here d q ks w)) (n ∷ ops) d q ks w stays)
-            ∙ ap (λ j. moved l (stored n j m (object_at n w) ops (here d q ks w))) (placed_so t position)
+            ∙ ap (λ j. moved l (stored n j m (object_at n w) ops (here d q ks w))) (placed_so t position flat)
 
         by : (x : Option Object) → step ask code (at d q ks (waiting cell.named m (n ∷ ops)) l w) ≡ moved l (stored n offset m x ops (here d q ks w)) → Runs ask code (Kept k code w0) 8 8 (at d q ks (waiting cell.named m (n ∷ ops)) l w) c (arrives e d (q + 1) ks ops) (on_some x gone (λ o. change (write_cells n offset (m ∷ []))) c l w)
         by None go = stop_step ask code (Kept k code w0) 8 8 _ _ c 0 (arrives e d (q + 1) ks ops) UseAfterFree l (omega arith) go refl refl

@@ -34,7 +34,7 @@ module _ (ask : Ask) (k : Tables) (code : Code) (placed : ArePlaced k code) (cal
   K = tools_with ask k call default
 
   abbrev pub IsValue : Expr → Type 0
-  IsValue e = (value_code e).runs ≡ true → X.Value ask k code Fits (value_code e) (eval e K)
+  IsValue e = (value_code e).runs k.records ≡ true → X.Value ask k code Fits (value_code e) (eval e K)
 
   -- what a name means that reaches something
   abbrev pub Reaches : Reached → (List ℕ → Act Found) → Type 0
@@ -45,7 +45,7 @@ module _ (ask : Ask) (k : Tables) (code : Code) (placed : ArePlaced k code) (cal
   Finds n = (x : Reached) → reached_by n ≡ Some x → Reaches x (eval_name n Elementary K)
 
   abbrev IsOperator : Operand → Type 0
-  IsOperator o = (operator_of o).right.runs ≡ true → X.Further ask k code Fits (operator_of o) (apply o K)
+  IsOperator o = (operator_of o).right.runs k.records ≡ true → X.Further ask k code Fits (operator_of o) (apply o K)
 
   abbrev IsActual : Actual → Type 0
   IsActual a = Unit {0}
@@ -73,11 +73,11 @@ module _ (ask : Ask) (k : Tables) (code : Code) (placed : ArePlaced k code) (cal
 
   -- Lists of children -------------------------------------------------------------------------------
 
-  operators_too : (os : List OperandToo) → operators_run (map operator_of (map (λ o. o.0) os)) ≡ true → X.Operators ask k code Fits K (map operator_of (map (λ o. o.0) os)) (map apply (map (λ o. o.0) os))
+  operators_too : (os : List OperandToo) → operators_run k.records (map operator_of (map (λ o. o.0) os)) ≡ true → X.Operators ask k code Fits K (map operator_of (map (λ o. o.0) os)) (map apply (map (λ o. o.0) os))
   operators_too [] h = tt
   operators_too (o ∷ os) h = let g = both_true _ _ h in (o.1 g.0, operators_too os g.1)
 
-  values_too : (xs : List ExprToo) → values_run (map value_code (map (λ x. x.0) xs)) ≡ true → X.EachValue ask k code Fits K (map value_code (map (λ x. x.0) xs)) (map eval (map (λ x. x.0) xs))
+  values_too : (xs : List ExprToo) → values_run k.records (map value_code (map (λ x. x.0) xs)) ≡ true → X.EachValue ask k code Fits K (map value_code (map (λ x. x.0) xs)) (map eval (map (λ x. x.0) xs))
   values_too [] h = tt
   values_too (x ∷ xs) h = let g = both_true _ _ h in (x.1 g.0, values_too xs g.1)
 
@@ -85,14 +85,14 @@ module _ (ask : Ask) (k : Tables) (code : Code) (placed : ArePlaced k code) (cal
 
   -- what a construct has, and what it means
   abbrev Meets : ValueCode → Valued → Type 0
-  Meets x m = x.runs ≡ true → X.Value ask k code Fits x (m K)
+  Meets x m = x.runs k.records ≡ true → X.Value ask k code Fits x (m K)
 
   meets : (y : Expr-F Actual Expr Name Operand) (x : ValueCode) (m : Valued) → value_code (roll-Expr y) ≡ x → eval (roll-Expr y) ≡ m → Meets x m → IsValue (roll-Expr y)
   meets y x m same means h = subst (λ z. Meets z (eval (roll-Expr y))) (sym same) (subst (Meets x) (sym means) h)
 
   -- a construct that no instruction exists for is not run
   missing_rolled : (y : Expr-F Actual Expr Name Operand) → value_code (roll-Expr y) ≡ missing_value None → IsValue (roll-Expr y)
-  missing_rolled y same h = absurd (let e = sym (ap (λ (x : ValueCode). x.runs) same) ∙ h in cc)
+  missing_rolled y same h = absurd (let e = sym (ap (λ (x : ValueCode). x.runs k.records) same) ∙ h in cc)
 
   -- a value of an elementary type
   elementary : (o : Option Reached) (ty : Ty) (find : Naming) → IsScalar ty → X.Value ask k code Fits (read o ty) (λ v. ticked (find Elementary K v >>= read_found (cells_of k ty))) → X.Value ask k code Fits (read o ty) (eval_step (Expr-F.Read find ty) K)
@@ -102,7 +102,9 @@ module _ (ask : Ask) (k : Tables) (code : Code) (placed : ArePlaced k code) (cal
   reads : (o : Option Reached) (ty : Ty) (find : Naming) → ((x : Reached) → o ≡ Some x → Reaches x (find Elementary K)) → Meets (read o ty) (eval_step (Expr-F.Read find ty))
   reads None ty find h runs = absurd (cc)
   reads (Some (ReachedOf.Variable v)) ty find h runs = elementary (Some (ReachedOf.Variable v)) ty find (scalar_if ty runs) (X.read_value ask k code Fits v (find Elementary K) (h (ReachedOf.Variable v) refl) ty (scalar_if ty runs))
-  reads (Some (ReachedOf.Component v t position)) ty find h runs = elementary (Some (ReachedOf.Component v t position)) ty find (scalar_if ty runs) (component_value ask k code placed Fits whole v t position (find Elementary K) (h (ReachedOf.Component v t position) refl) ty (scalar_if ty runs))
+  reads (Some (ReachedOf.Component v t position)) ty find h runs =
+      let e = both_true _ _ runs in
+      elementary (Some (ReachedOf.Component v t position)) ty find (scalar_if ty e.0) (component_value ask k code placed Fits whole v t position e.1 (find Elementary K) (h (ReachedOf.Component v t position) refl) ty (scalar_if ty e.0))
 
   expr_rolled : (y : Expr-F ActualToo ExprToo NameToo OperandToo) → IsValue (roll-Expr (bare_expr y))
   unfolding eval_step
@@ -174,7 +176,7 @@ module _ (ask : Ask) (k : Tables) (code : Code) (placed : ArePlaced k code) (cal
       let means = operand_roll (bare_operand y) in
       subst (λ (o : OperatorCode). X.Further ask k code Fits o (apply (roll-Operand (bare_operand y)) K)) (sym is)
       (subst (λ (m : Applied). X.Further ask k code Fits (record { op = y.op; ty = y.ty; right = value_code y.right.0 }) (m K)) (sym means)
-      (X.operator_further ask k code Fits (record { op = y.op; ty = y.ty; right = value_code y.right.0 }) (eval y.right.0 K) (y.right.1 (sym (ap (λ (o : OperatorCode). o.right.runs) is) ∙ h))))
+      (X.operator_further ask k code Fits (record { op = y.op; ty = y.ty; right = value_code y.right.0 }) (eval y.right.0 K) (y.right.1 (sym (ap (λ (o : OperatorCode). o.right.runs k.records) is) ∙ h))))
 
   -- Whole trees ---------------------------------------------------------------------------------------
 
@@ -193,5 +195,5 @@ module _ (ask : Ask) (k : Tables) (code : Code) (placed : ArePlaced k code) (cal
       (λ x y is. subst (λ z. IsOperator (roll-Operand z)) is (operand_rolled y))
 
 -- a value, in the worlds since any
-pub value_since : (ask : Ask) (k : Tables) (code : Code) (placed : ArePlaced k code) (call : Call) (default : Default) (e : Expr) → (value_code e).runs ≡ true → (w0 : World) → X.Value ask k code (Since k code w0) (value_code e) (eval e (tools_with ask k call default))
+pub value_since : (ask : Ask) (k : Tables) (code : Code) (placed : ArePlaced k code) (call : Call) (default : Default) (e : Expr) → (value_code e).runs k.records ≡ true → (w0 : World) → X.Value ask k code (Since k code w0) (value_code e) (eval e (tools_with ask k call default))
 value_since ask k code placed call default e runs w0 = value_means ask k code placed call default (Since k code w0) (λ n i w h. whole_at k code n i w h.0) e runs

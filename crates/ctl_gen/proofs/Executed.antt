@@ -102,7 +102,7 @@ module _ (ask : Ask) (k : Tables) (code : Code) (setting : Setting k code) (call
   each_does xs = S.all_run ask k code setting call default bound calls (map statement_code (map (λ x. x.0) xs)) (map exec (map (λ x. x.0) xs)) (statements_too xs)
 
   -- a value, in the worlds since any
-  means : (e : Expr) → (value_code e).runs ≡ true → (w0 : World) → Value ask k code (Since k code w0) (value_code e) (eval e K)
+  means : (e : Expr) → (value_code e).runs k.records ≡ true → (w0 : World) → Value ask k code (Since k code w0) (value_code e) (eval e K)
   means e runs w0 = value_since ask k code setting.places call default e runs w0
 
   -- One layer ---------------------------------------------------------------------------------------
@@ -118,7 +118,9 @@ module _ (ask : Ask) (k : Tables) (code : Code) (setting : Setting k code) (call
   unfolding assign_doing
   assign_does None find e reaches runs n texts caught = absurd (cc)
   assign_does (Some (ReachedOf.Variable v)) find e reaches runs n texts caught = assign_runs ask k code setting.valid bound v (find Elementary K) (reaches (ReachedOf.Variable v) refl) (value_code e) (eval e K) (means e runs)
-  assign_does (Some (ReachedOf.Component v t position)) find e reaches runs n texts caught = part_does ask k code setting.places bound v t position (value_code e) (eval e K) (means e runs) (find Elementary K) (reaches (ReachedOf.Component v t position) refl)
+  assign_does (Some (ReachedOf.Component v t position)) find e reaches runs n texts caught =
+      let h = both_true _ _ runs in
+      part_does ask k code setting.places bound v t position h.0 (value_code e) (eval e K) (means e h.1) (find Elementary K) (reaches (ReachedOf.Component v t position) refl)
 
   -- one step to where control lands
   exits : DoesIn 1 ask k code bound leaves_code (λ d. leave_by ByExit)

@@ -28,7 +28,8 @@ use Rattle.ctl_gen.specs.Around.{behind, local_at}
 use Rattle.ctl_gen.specs.declared.right.Reached.{Reached}
 use Rattle.ctl_gen.specs.declared.right.Reached.TheVariants as ReachedOf
 use Rattle.ctl_gen.proofs.Components.{part_formed}
-use Rattle.ctl_gen.specs.Values.{ValueCode, is_run_type, value_code, reached_by}
+use Rattle.ctl_gen.specs.Values.{ValueCode, value_code, reached_by}
+use Rattle.ctl_gen.specs.Records.{is_run_type}
 use Rattle.ctl_gen.specs.Layout.{ArmCode, ItemCode, MasterCode, StatementCode, all, all_items, arm_code, arms_run, assign, block, exit, return, has_no_handlers, in_master, inside, item_code, master_code, missing_statement, no_code, statement_code, tested}
 use Rattle.ctl_gen.proofs.Known.{both_true}
 use Rattle.ctl_gen.proofs.TreeLayers.{arm_roll, layer_of, master_roll}
@@ -72,9 +73,9 @@ module _ (code : Code) (records : List RecordType) (k : W.Setting) (declarable :
       let cell = filled env slot (W.Declared ty) s fresh agrees in
       declaration_formed code records slot cell.0 ty s runs cell.1 (subst (λ n. MayDeclare code n ty) (sym agrees.deep) (may_declare env ty view))
   object_good env slot ty (Some e) fresh view (T.given h) runs s agrees =
-      let g = both_true (is_run_type ty) (value_code e).runs runs in
+      let g = both_true (is_run_type ty) ((value_code e).runs records) runs in
       let cell = filled env slot (W.Declared ty) s fresh agrees in
-      valued_formed code slot cell.0 ty (value_code e) s cell.1 (usable_as code (value_code e) ty (run_scalar ty g.0) (typed_fine code h g.1))
+      valued_formed code slot cell.0 ty (value_code e) s cell.1 (usable_as code (value_code e) ty (run_scalar ty g.0) (typed_fine code records h g.1))
 
   item_good : {env : W.Frames} {x : Item} → Elaborated k env x → GoodItem env (item_code x)
   item_good {env} (D.object {number = slot} {t = ty} {value = o} fresh view perhaps) = object_good env slot ty o fresh view perhaps
@@ -99,14 +100,14 @@ module _ (code : Code) (records : List RecordType) (k : W.Setting) (declarable :
   not_missing : (env : W.Frames) (x : StatementCode) → x ≡ missing_statement → GoodStatement env x
   not_missing env x same runs = absurd (let e = sym (ap (λ (z : StatementCode). z.runs records) same) ∙ runs in cc)
 
-  assign_good : (env : W.Frames) (o : Option Reached) (x : ValueCode) (t : Ty) → (x.runs ≡ true → Fine code x t) → GoodStatement env (assign o x)
+  assign_good : (env : W.Frames) (o : Option Reached) (x : ValueCode) (t : Ty) → (x.runs records ≡ true → Fine code x t) → GoodStatement env (assign o x)
   assign_good env None x t fine runs a n p agrees texts can = absurd (cc)
-  assign_good env (Some (ReachedOf.Component v u position)) x t fine runs a n p agrees texts can = part_formed code v u position x a.stack (value_usable code x t (fine runs)) p
+  assign_good env (Some (ReachedOf.Component v u position)) x t fine runs a n p agrees texts can = part_formed code v u position x a.stack (value_usable code x t (fine (both_true _ _ runs).1)) p
   assign_good env (Some (ReachedOf.Variable v)) x t fine runs a n p agrees texts can = assign_formed code (local_at a.stack v) v x a.stack refl (value_usable code x t (fine runs)) p
 
   leaving_good : {env : W.Frames} (o : Option Expr) → Perhaps k env o Boolean → GoodStatement env (exit (option_map value_code o))
   leaving_good {env} None T.left_out runs = leaves_stay code env
-  leaving_good {env} (Some e) (T.given h) runs = leaves_when_stay code env (value_code e) (usable_as code (value_code e) Boolean tt (typed_fine code h runs))
+  leaving_good {env} (Some e) (T.given h) runs = leaves_when_stay code env (value_code e) (usable_as code (value_code e) Boolean tt (typed_fine code records h runs))
 
   returning_good : {env : W.Frames} (o : Option Expr) → GoodStatement env (return (option_map value_code o))
   returning_good None runs = λ a n p agrees texts can. one code (InstrOf.Transfer WayOf.Return) a.stack (Some a.stack) (λ q next. tt) p
@@ -146,9 +147,9 @@ module _ (code : Code) (records : List RecordType) (k : W.Setting) (declarable :
   mutual
     pub statement_good : {env : W.Frames} {a : D.Around} {y : Stmt} → Done k env a y → GoodStatement env (statement_code y)
     statement_good {env} D.null = good_as env _ _ (layer_of _ (sym rolls-Null)) (λ runs a n p agrees texts can. none code a.stack p)
-    statement_good {env} (D.assign {x = x} {v = v} {t = t} scalar denotes h) = good_as env _ _ (layer_of _ (sym (rolls-Assign x v))) (assign_good env (reached_by x) (value_code v) t (λ runs. typed_fine code h runs))
-    statement_good {env} (D.put {ps = ps} puts) = good_as env _ _ (layer_of _ (sym (rolls-Put ps))) (λ runs a n p agrees texts can. print_formed code false n ps puts runs texts.0 a.stack p)
-    statement_good {env} (D.put_line {ps = ps} puts) = good_as env _ _ (layer_of _ (sym (rolls-PutLine ps))) (λ runs a n p agrees texts can. print_formed code true n ps puts runs texts.0 a.stack p)
+    statement_good {env} (D.assign {x = x} {v = v} {t = t} scalar denotes h) = good_as env _ _ (layer_of _ (sym (rolls-Assign x v))) (assign_good env (reached_by x) (value_code v) t (λ runs. typed_fine code records h runs))
+    statement_good {env} (D.put {ps = ps} puts) = good_as env _ _ (layer_of _ (sym (rolls-Put ps))) (λ runs a n p agrees texts can. print_formed code records false n ps puts runs texts.0 a.stack p)
+    statement_good {env} (D.put_line {ps = ps} puts) = good_as env _ _ (layer_of _ (sym (rolls-PutLine ps))) (λ runs a n p agrees texts can. print_formed code records true n ps puts runs texts.0 a.stack p)
     statement_good {env} D.new_line = good_as env _ _ (layer_of _ (sym rolls-NewLine)) (λ runs a n p agrees texts can. one code InstrOf.NewLine a.stack (Some a.stack) (λ q next. next) p)
     statement_good {env} (D.raise {x = x} known) = good_as env _ _ (layer_of _ (sym (rolls-Raise x))) (λ runs a n p agrees texts can. one code (InstrOf.Transfer (WayOf.Raise x)) a.stack (Some a.stack) (λ q next. raisable x known) p)
     statement_good {env} (D.return {x = o} returns) = good_as env _ _ (layer_of _ (sym (rolls-Return o))) (returning_good o)
@@ -162,17 +163,17 @@ module _ (code : Code) (records : List RecordType) (k : W.Setting) (declarable :
     statement_good {env} (D.while {test = e} {body = body} t h) =
         good_as env _ _ (layer_of _ (sym (rolls-While e body))) (λ runs.
         let b = all (map statement_code body) in
-        let g = both_true (value_code e).runs (b.runs records) runs in
-        loop_stays code env (tested (value_code e) b) (tested_turns code env (value_code e) b (usable_as code (value_code e) Boolean tt (typed_fine code t g.0)) (each_good h g.1)))
+        let g = both_true ((value_code e).runs records) (b.runs records) runs in
+        loop_stays code env (tested (value_code e) b) (tested_turns code env (value_code e) b (usable_as code (value_code e) Boolean tt (typed_fine code records t g.0)) (each_good h g.1)))
     statement_good {env} (D.for {number = number} {way = way} {low = low} {high = high} {body = body} (D.fills names) from to h) =
         let v : Var = record { level = length env; slot = number } in
         good_as env _ _ (layer_of _ (sym (rolls-For v way low high body))) (λ runs.
         let b = all (map statement_code body) in
-        let e = both_true (value_code low).runs ((value_code high).runs && b.runs records) runs in
-        let g = both_true (value_code high).runs (b.runs records) e.1 in
+        let e = both_true ((value_code low).runs records) ((value_code high).runs records && b.runs records) runs in
+        let g = both_true ((value_code high).runs records) (b.runs records) e.1 in
         for_stays code env v way (value_code low) (value_code high) b (λ s agrees. newest_there env s v W.LoopParameter agrees names refl)
-        (usable_as code (value_code low) Integer tt (typed_fine code from e.0))
-        (usable_as code (value_code high) Integer tt (typed_fine code to g.0))
+        (usable_as code (value_code low) Integer tt (typed_fine code records from e.0))
+        (usable_as code (value_code high) Integer tt (typed_fine code records to g.0))
         (each_good h g.1))
     statement_good {env} (D.block {m = m} {f = f} h) = good_as env _ _ (layer_of _ (sym (rolls-Block m))) (block_good env f (master_code m) (slots_told h) (master_good h))
     statement_good {env} (D.assign_record {x = x} {t = t} {v = v} denotes fits) = not_missing env _ (layer_of _ (sym (rolls-AssignRecord x t v)))
@@ -197,9 +198,9 @@ module _ (code : Code) (records : List RecordType) (k : W.Setting) (declarable :
         subst (λ (z : ArmCode). arms_run (z ∷ map arm_code more) records ≡ true → GoodArms code env (z ∷ map arm_code more)) (sym (arm_roll (record { test = e; body = body })))
         (λ runs.
         let b = all (map statement_code body) in
-        let f = both_true (value_code e).runs (b.runs records && arms_run (map arm_code more) records) runs in
+        let f = both_true ((value_code e).runs records) (b.runs records && arms_run (map arm_code more) records) runs in
         let g = both_true (b.runs records) (arms_run (map arm_code more) records) f.1 in
-        (tested_turns code env (value_code e) b (usable_as code (value_code e) Boolean tt (typed_fine code t f.0)) (each_good h g.0), arms_good rest g.1))
+        (tested_turns code env (value_code e) b (usable_as code (value_code e) Boolean tt (typed_fine code records t f.0)) (each_good h g.0), arms_good rest g.1))
 
     pub master_good : {env : W.Frames} {f : W.Frame} {a : D.Around} {m : Master} → Mastered k env f a m → GoodMaster (env ++ f ∷ []) (master_code m).inside
     master_good (D.master {env = env} {f = f} {is = items} {body = body} {hs = hs} elaborated done handled) =

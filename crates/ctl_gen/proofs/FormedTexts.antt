@@ -3,6 +3,7 @@ use Rattle.std.proofs.Common.{◌≡◌, ℕ, ◌+◌, List, [], ◌∷◌, ◌+
 use Rattle.std.specs.Prelude.{reverse, slice_get}
 use Rattle.std.proofs.lemmas.Grind.{reverse_onto}
 use Rattle.ctl_program.specs.declared.types.Ty.TheVariants.{Integer, Boolean}
+use Rattle.ctl_program.specs.declared.types.RecordType.{RecordType}
 use Rattle.ctl_program.specs.declared.statement.Piece.{Piece}
 use Rattle.ctl_program.specs.declared.statement.Piece.TheVariants as PieceOf
 use Rattle.ctl_well_typed.specs.Setting as W
@@ -43,25 +44,25 @@ module _ (code : Code) where
   next_image : (p : Piece) (ps : List Piece) → Imaged p → Images ps → Images (p ∷ ps)
   next_image p ps first rest s = both code (piece_code p s) (pieces_code ps (with_piece p s)) s (with_piece p s) (Some (with_pieces (p ∷ ps) s)) (first s) (rest (with_piece p s))
 
-  images : {k : W.Setting} {env : W.Frames} {ps : List Piece} → Puts k env ps → pieces_are_run ps ≡ true → Images ps
-  images D.no_more_pieces runs = λ s. none code s
-  images (D.literal {s = v} {more = ps} rest) runs = next_image (PieceOf.Text v) ps (λ s. none code s) (images rest (both_true true (pieces_are_run ps) runs).1)
-  images (D.integer {x = x} {more = ps} h rest) runs =
-      let e = both_true (value_code x).runs (pieces_are_run ps) runs in
-      let u : Usable code (value_code x) Integer = usable_as code (value_code x) Integer tt (typed_fine code h e.0) in
-      next_image (PieceOf.IntegerImage x) ps (λ s. u.formed (new_operand s) s refl) (images rest e.1)
-  images (D.boolean {x = x} {more = ps} h rest) runs =
-      let e = both_true (value_code x).runs (pieces_are_run ps) runs in
-      let u : Usable code (value_code x) Boolean = usable_as code (value_code x) Boolean tt (typed_fine code h e.0) in
-      next_image (PieceOf.BooleanImage x) ps (λ s. u.formed (new_operand s) s refl) (images rest e.1)
+  images : (records : List RecordType) {k : W.Setting} {env : W.Frames} {ps : List Piece} → Puts k env ps → pieces_are_run records ps ≡ true → Images ps
+  images records D.no_more_pieces runs = λ s. none code s
+  images records (D.literal {s = v} {more = ps} rest) runs = next_image (PieceOf.Text v) ps (λ s. none code s) (images records rest (both_true true (pieces_are_run records ps) runs).1)
+  images records (D.integer {x = x} {more = ps} h rest) runs =
+      let e = both_true ((value_code x).runs records) (pieces_are_run records ps) runs in
+      let u : Usable code (value_code x) Integer = usable_as code (value_code x) Integer tt (typed_fine code records h e.0) in
+      next_image (PieceOf.IntegerImage x) ps (λ s. u.formed (new_operand s) s refl) (images records rest e.1)
+  images records (D.boolean {x = x} {more = ps} h rest) runs =
+      let e = both_true ((value_code x).runs records) (pieces_are_run records ps) runs in
+      let u : Usable code (value_code x) Boolean = usable_as code (value_code x) Boolean tt (typed_fine code records h e.0) in
+      next_image (PieceOf.BooleanImage x) ps (λ s. u.formed (new_operand s) s refl) (images records rest e.1)
 
   print_fine : (ends_line : Bool) (n : ℕ) (s : List Kind) (ps : List Piece) → slice_get code.texts.items n ≡ Some (parts_of ps) → (place : ℕ) → Leads code (place + 1) s → IsFine code place (print_of ends_line n (height s)) (with_pieces ps s)
   print_fine true n s ps text place next = (parts_of ps, text, (s, images_stand s ps, (refl, next)))
   print_fine false n s ps text place next = (parts_of ps, text, (s, images_stand s ps, (refl, next)))
 
-  pub print_formed : {k : W.Setting} {env : W.Frames} (ends_line : Bool) (n : ℕ) (ps : List Piece) → Puts k env ps → pieces_are_run ps ≡ true → slice_get code.texts.items n ≡ Some (parts_of ps) → (s : List Kind) → Formed code (print_code ends_line n ps s) s (Some s)
-  print_formed ends_line n ps puts runs text s =
+  pub print_formed : (records : List RecordType) {k : W.Setting} {env : W.Frames} (ends_line : Bool) (n : ℕ) (ps : List Piece) → Puts k env ps → pieces_are_run records ps ≡ true → slice_get code.texts.items n ≡ Some (parts_of ps) → (s : List Kind) → Formed code (print_code ends_line n ps s) s (Some s)
+  print_formed records ends_line n ps puts runs text s =
       let all = with_pieces ps s in
       let print = print_of ends_line n (height s) in
-      both code (pieces_code ps s) ((print, all) ∷ []) s all (Some s) (images puts runs s)
+      both code (pieces_code ps s) ((print, all) ∷ []) s all (Some s) (images records puts runs s)
       (one code print all (Some s) (λ place next. print_fine ends_line n s ps text place next))

@@ -4,6 +4,7 @@ use Rattle.std.specs.Prelude.{◌&&◌, unwrap_or}
 use Rattle.ctl_program.specs.declared.types.Ty.{Ty}
 use Rattle.ctl_program.specs.declared.types.Ty.TheVariants.{Integer, Boolean}
 use Rattle.ctl_program.specs.declared.types.Ty.TheVariants as TyOf
+use Rattle.ctl_program.specs.declared.types.RecordType.{RecordType}
 use Rattle.ctl_program.specs.declared.types.Var.{Var}
 use Rattle.ctl_program.specs.declared.operators.Shortcut.{Shortcut}
 use Rattle.ctl_program.specs.declared.operators.UnaryOp.{UnaryOp}
@@ -280,87 +281,88 @@ module _ (code : Code) where
   read_fine (Some at) v ty to s p here scalar put = (scalar, (s, (refl, here), put))
   read_fine None v ty to s p here scalar put = (scalar, put)
 
-  read_own : (o : Option Reached) (ty : Ty) → (read o ty).runs ≡ true → Own (read o ty) ty
-  read_own None ty runs = absurd (cc)
-  read_own (Some (ReachedOf.Component v t position)) ty runs = record {
-    own = refl;
-    usable = record {
-      scalar = run_scalar ty runs;
-      formed = λ to s at. one code (InstrOf.FetchPart (out_to s v) v.slot t position ty to) s (Some (with_put to.named ty s)) (λ p next. (run_scalar ty runs, puts p to ty s at next));
-      constant = λ n is. absurd (cc);
-    };
-  }
-  read_own (Some (ReachedOf.Variable v)) ty runs = record {
-    own = refl;
-    usable = record {
-      scalar = run_scalar ty runs;
-      formed = λ to s at. one code (read_from (local_at s v) v ty to s) s (Some (with_put to.named ty s)) (λ p next. read_fine (local_at s v) v ty to s p refl (run_scalar ty runs) (puts p to ty s at next));
-      constant = λ n is. absurd (cc);
-    };
-  }
+  module _ (records : List RecordType) where
+    read_own : (o : Option Reached) (ty : Ty) → (read o ty).runs records ≡ true → Own (read o ty) ty
+    read_own None ty runs = absurd (cc)
+    read_own (Some (ReachedOf.Component v t position)) ty runs = record {
+      own = refl;
+      usable = record {
+        scalar = run_scalar ty (both_true _ _ runs).0;
+        formed = λ to s at. one code (InstrOf.FetchPart (out_to s v) v.slot t position ty to) s (Some (with_put to.named ty s)) (λ p next. (run_scalar ty (both_true _ _ runs).0, puts p to ty s at next));
+        constant = λ n is. absurd (cc);
+      };
+    }
+    read_own (Some (ReachedOf.Variable v)) ty runs = record {
+      own = refl;
+      usable = record {
+        scalar = run_scalar ty runs;
+        formed = λ to s at. one code (read_from (local_at s v) v ty to s) s (Some (with_put to.named ty s)) (λ p next. read_fine (local_at s v) v ty to s p refl (run_scalar ty runs) (puts p to ty s at next));
+        constant = λ n is. absurd (cc);
+      };
+    }
 
-  -- Well-typed expressions --------------------------------------------------------------------------
+    -- Well-typed expressions --------------------------------------------------------------------------
 
-  -- another name of the same value
-  fine_as : (x y : ValueCode) (t : Ty) → x ≡ y → Fine y t → Fine x t
-  fine_as x y t same h = subst (λ z. Fine z t) (sym same) h
+    -- another name of the same value
+    fine_as : (x y : ValueCode) (t : Ty) → x ≡ y → Fine y t → Fine x t
+    fine_as x y t same h = subst (λ z. Fine z t) (sym same) h
 
-  runs_as : (x y : ValueCode) → x ≡ y → x.runs ≡ true → y.runs ≡ true
-  runs_as x y same h = subst (λ (z : ValueCode). z.runs ≡ true) same h
+    runs_as : (x y : ValueCode) → x ≡ y → x.runs records ≡ true → y.runs records ≡ true
+    runs_as x y same h = subst (λ (z : ValueCode). z.runs records ≡ true) same h
 
-  not_missing : (x : ValueCode) → x ≡ missing_value None → x.runs ≡ true → ⊥
-  not_missing x same h = absurd (let e = sym (ap (λ (z : ValueCode). z.runs) same) ∙ h in cc)
+    not_missing : (x : ValueCode) → x ≡ missing_value None → x.runs records ≡ true → ⊥
+    not_missing x same h = absurd (let e = sym (ap (λ (z : ValueCode). z.runs records) same) ∙ h in cc)
 
-  -- an access value is a literal here
-  as_access : (x : ValueCode) (a b : ℕ) → Fine x (TyOf.Access a) → Fine x (TyOf.Access b)
-  as_access x a b (inl h) = absurd h.usable.scalar
-  as_access x a b (inr (n, is, cell)) = inr (n, is, cell)
+    -- an access value is a literal here
+    as_access : (x : ValueCode) (a b : ℕ) → Fine x (TyOf.Access a) → Fine x (TyOf.Access b)
+    as_access x a b (inl h) = absurd h.usable.scalar
+    as_access x a b (inr (n, is, cell)) = inr (n, is, cell)
 
-  mutual
-    pub typed_fine : {k : W.Setting} {env : W.Frames} {x : Expr} {t : Ty} → Typed k env x t → (value_code x).runs ≡ true → Fine (value_code x) t
-    typed_fine (T.constant {cell = n} {t = t} scalar cell view) runs = inr (n, value_constant n, cell)
-    typed_fine (T.read {x = x} {t = t} denotes) runs =
-        let same = value_read x t in
-        fine_as _ _ t same (inl (read_own (reached_by x) t (runs_as _ _ same runs)))
-    typed_fine (T.call {s = f} {actuals = actuals} callable gives fits) runs = absurd (not_missing _ (value_call f actuals) runs)
-    typed_fine (T.unary {o = o} {x = x} {t = t} takes h) runs =
-        let same = value_unary o t x in
-        let u = takes_unary o t takes in
-        fine_as _ _ t same (inl (unary_own o t (value_code x) u.0 (usable_as (value_code x) t u.1 (typed_fine h (runs_as _ _ same runs)))))
-    typed_fine (T.chain {x = x} {more = more} {s = s} {t = t} h (T.behind {o = op} {x = y} {t = u} joins right rest)) runs =
-        let o = roll-Operand (record { op = op; ty = u; right = y }) in
-        let is : operator_of o ≡ record { op = op; ty = u; right = value_code y } = operator_roll (record { op = op; ty = u; right = y }) in
-        let same = value_chain x o more ∙ ap (λ z. chain (value_code x) z (map operator_of more)) is in
-        let e = both_true (value_code x).runs ((value_code y).runs && operators_run (map operator_of more)) (runs_as _ _ same runs) in
-        let f = both_true (value_code y).runs (operators_run (map operator_of more)) e.1 in
-        let joined = first_joins op (value_code x) (value_code y) s u joins (typed_fine h e.0) (typed_fine right f.0) in
-        let behind_it = operating rest f.1 (joins_scalar op s u joins) in
-        fine_as _ _ t same (inl (chain_own (value_code x) (record { op = op; ty = u; right = value_code y }) (map operator_of more) t joined.1 joined.0 joined.2 behind_it))
-    typed_fine (T.short {form = form} {x = x} {y = y} {more = more} h g rest) runs =
-        let same = value_short form x y more in
-        let e = both_true (value_code x).runs ((value_code y).runs && values_run (map value_code more)) (runs_as _ _ same runs) in
-        let f = both_true (value_code y).runs (values_run (map value_code more)) e.1 in
-        fine_as _ _ Boolean same (inl (short_own form (value_code x) (value_code y) (map value_code more) (usable_as (value_code x) Boolean tt (typed_fine h e.0))
-        (next_condition form (value_code y) (map value_code more) (usable_as (value_code y) Boolean tt (typed_fine g f.0)) (conditions form rest f.1))))
-    typed_fine (T.convert {x = x} {t = t} number from h) runs = absurd (not_missing _ (value_convert t x) runs)
-    typed_fine (T.as_access {x = x} {a = a} {b = b} from to same h) runs = as_access (value_code x) a b (typed_fine h runs)
-    typed_fine (T.access {v = v} names found designates) runs = absurd (not_missing _ (value_access v) runs)
-    typed_fine (T.allocate {a = a} {t = t} {handle = handle} {value = x} to covers view h g) runs = absurd (not_missing _ (value_new a t handle x) runs)
-    typed_fine (T.subpool {which = which} {x = x} denotes rooted) runs = absurd (not_missing _ (value_subpool which x) runs)
-    typed_fine (T.discriminant {x = x} {i = i} denotes rooted has) runs = absurd (not_missing _ (value_discriminant x i) runs)
+    mutual
+      pub typed_fine : {k : W.Setting} {env : W.Frames} {x : Expr} {t : Ty} → Typed k env x t → (value_code x).runs records ≡ true → Fine (value_code x) t
+      typed_fine (T.constant {cell = n} {t = t} scalar cell view) runs = inr (n, value_constant n, cell)
+      typed_fine (T.read {x = x} {t = t} denotes) runs =
+          let same = value_read x t in
+          fine_as _ _ t same (inl (read_own (reached_by x) t (runs_as _ _ same runs)))
+      typed_fine (T.call {s = f} {actuals = actuals} callable gives fits) runs = absurd (not_missing _ (value_call f actuals) runs)
+      typed_fine (T.unary {o = o} {x = x} {t = t} takes h) runs =
+          let same = value_unary o t x in
+          let u = takes_unary o t takes in
+          fine_as _ _ t same (inl (unary_own o t (value_code x) u.0 (usable_as (value_code x) t u.1 (typed_fine h (runs_as _ _ same runs)))))
+      typed_fine (T.chain {x = x} {more = more} {s = s} {t = t} h (T.behind {o = op} {x = y} {t = u} joins right rest)) runs =
+          let o = roll-Operand (record { op = op; ty = u; right = y }) in
+          let is : operator_of o ≡ record { op = op; ty = u; right = value_code y } = operator_roll (record { op = op; ty = u; right = y }) in
+          let same = value_chain x o more ∙ ap (λ z. chain (value_code x) z (map operator_of more)) is in
+          let e = both_true ((value_code x).runs records) ((value_code y).runs records && operators_run records (map operator_of more)) (runs_as _ _ same runs) in
+          let f = both_true ((value_code y).runs records) (operators_run records (map operator_of more)) e.1 in
+          let joined = first_joins op (value_code x) (value_code y) s u joins (typed_fine h e.0) (typed_fine right f.0) in
+          let behind_it = operating rest f.1 (joins_scalar op s u joins) in
+          fine_as _ _ t same (inl (chain_own (value_code x) (record { op = op; ty = u; right = value_code y }) (map operator_of more) t joined.1 joined.0 joined.2 behind_it))
+      typed_fine (T.short {form = form} {x = x} {y = y} {more = more} h g rest) runs =
+          let same = value_short form x y more in
+          let e = both_true ((value_code x).runs records) ((value_code y).runs records && values_run records (map value_code more)) (runs_as _ _ same runs) in
+          let f = both_true ((value_code y).runs records) (values_run records (map value_code more)) e.1 in
+          fine_as _ _ Boolean same (inl (short_own form (value_code x) (value_code y) (map value_code more) (usable_as (value_code x) Boolean tt (typed_fine h e.0))
+          (next_condition form (value_code y) (map value_code more) (usable_as (value_code y) Boolean tt (typed_fine g f.0)) (conditions form rest f.1))))
+      typed_fine (T.convert {x = x} {t = t} number from h) runs = absurd (not_missing _ (value_convert t x) runs)
+      typed_fine (T.as_access {x = x} {a = a} {b = b} from to same h) runs = as_access (value_code x) a b (typed_fine h runs)
+      typed_fine (T.access {v = v} names found designates) runs = absurd (not_missing _ (value_access v) runs)
+      typed_fine (T.allocate {a = a} {t = t} {handle = handle} {value = x} to covers view h g) runs = absurd (not_missing _ (value_new a t handle x) runs)
+      typed_fine (T.subpool {which = which} {x = x} denotes rooted) runs = absurd (not_missing _ (value_subpool which x) runs)
+      typed_fine (T.discriminant {x = x} {i = i} denotes rooted has) runs = absurd (not_missing _ (value_discriminant x i) runs)
 
-    operating : {k : W.Setting} {env : W.Frames} {s t : Ty} {os : List Operand} → Chains k env s os t → operators_run (map operator_of os) ≡ true → Valid.IsScalar s → Operating (map operator_of os) s t
-    operating (T.ended {t = t}) runs scalar = none_operating t scalar
-    operating (T.behind {o = op} {x = y} {more = more} {s = s} {t = u} {u = t} joins right rest) runs scalar =
-        let o = roll-Operand (record { op = op; ty = u; right = y }) in
-        let is : operator_of o ≡ record { op = op; ty = u; right = value_code y } = operator_roll (record { op = op; ty = u; right = y }) in
-        let e = both_true (operator_of o).right.runs (operators_run (map operator_of more)) runs in
-        let y_runs = sym (ap (λ (z : OperatorCode). z.right.runs) is) ∙ e.0 in
-        subst (λ z. Operating (z ∷ map operator_of more) s t) (sym is)
-        (next_operating (record { op = op; ty = u; right = value_code y }) (map operator_of more) s t (next_joins op s u joins scalar) (usable_as (value_code y) s scalar (typed_fine right y_runs)) (operating rest e.1 (joins_scalar op s u joins)))
+      operating : {k : W.Setting} {env : W.Frames} {s t : Ty} {os : List Operand} → Chains k env s os t → operators_run records (map operator_of os) ≡ true → Valid.IsScalar s → Operating (map operator_of os) s t
+      operating (T.ended {t = t}) runs scalar = none_operating t scalar
+      operating (T.behind {o = op} {x = y} {more = more} {s = s} {t = u} {u = t} joins right rest) runs scalar =
+          let o = roll-Operand (record { op = op; ty = u; right = y }) in
+          let is : operator_of o ≡ record { op = op; ty = u; right = value_code y } = operator_roll (record { op = op; ty = u; right = y }) in
+          let e = both_true ((operator_of o).right.runs records) (operators_run records (map operator_of more)) runs in
+          let y_runs = sym (ap (λ (z : OperatorCode). z.right.runs records) is) ∙ e.0 in
+          subst (λ z. Operating (z ∷ map operator_of more) s t) (sym is)
+          (next_operating (record { op = op; ty = u; right = value_code y }) (map operator_of more) s t (next_joins op s u joins scalar) (usable_as (value_code y) s scalar (typed_fine right y_runs)) (operating rest e.1 (joins_scalar op s u joins)))
 
-    conditions : {k : W.Setting} {env : W.Frames} {xs : List Expr} (form : Shortcut) → Truths k env xs → values_run (map value_code xs) ≡ true → Conditions form (map value_code xs)
-    conditions form T.no_more_truths runs = λ s. none code (KindOf.Operand Boolean ∷ s)
-    conditions form (T.one_more_truth {x = x} {more = more} h rest) runs =
-        let e = both_true (value_code x).runs (values_run (map value_code more)) runs in
-        next_condition form (value_code x) (map value_code more) (usable_as (value_code x) Boolean tt (typed_fine h e.0)) (conditions form rest e.1)
+      conditions : {k : W.Setting} {env : W.Frames} {xs : List Expr} (form : Shortcut) → Truths k env xs → values_run records (map value_code xs) ≡ true → Conditions form (map value_code xs)
+      conditions form T.no_more_truths runs = λ s. none code (KindOf.Operand Boolean ∷ s)
+      conditions form (T.one_more_truth {x = x} {more = more} h rest) runs =
+          let e = both_true ((value_code x).runs records) (values_run records (map value_code more)) runs in
+          next_condition form (value_code x) (map value_code more) (usable_as (value_code x) Boolean tt (typed_fine h e.0)) (conditions form rest e.1)

@@ -180,7 +180,7 @@ as_long (l ∷ ls) = let e = as_long ls in omega (arith, e)
 
 module _ (program : Checked) (code : Code) (laid : IsLaidOut program code) (kinds : HasKinds program code) (run_it : IsRun program) (typed : WellTyped program) where
   parts : (are_procedures program.subprograms ≡ true) × ((bodies program.subprograms).runs program.records ≡ true)
-  parts = let h = both_true _ _ run_it in (h.0, (both_true _ _ h.1).1)
+  parts = both_true _ _ run_it
 
   linked : AreLinked program
   linked = linked_of program typed

@@ -8,8 +8,7 @@ use Rattle.ctl_program.specs.declared.types.Root.TheVariants.{Controlled, Untagg
 use Rattle.ctl_program.specs.declared.types.Component.{Component}
 use Rattle.ctl_program.specs.declared.types.RecordType.{RecordType}
 use Rattle.ctl_meaning.specs.Types.{Tables, Elementary, category_of, components, with_own, of_parent}
-use Rattle.ctl_gen.specs.Values.{is_run_type}
-use Rattle.ctl_gen.specs.Layout.{are_scalar, extends_bare, has_no_components, has_no_parent, is_bare, is_controlled, is_flat, is_plain, is_scalar}
+use Rattle.ctl_gen.specs.Records.{are_scalar, extends_bare, has_no_components, has_no_parent, is_bare, is_controlled, is_flat, is_plain, is_run_type, is_scalar}
 
 -- both hold where their conjunction does
 pub both_true : (a b : Bool) → (a && b) ≡ true → (a ≡ true) × (b ≡ true)
@@ -105,7 +104,7 @@ scalars_if (c ∷ cs) e =
     let g = both_true (is_run_type c.ty) (not (is_some c.default)) h.0 in
     (scalar_if c.ty g.0, absent_if c.default g.1, scalars_if cs h.1)
 
-pub flat_if : (records : List RecordType) (r : RecordType) → is_flat records r ≡ true → IsFlat records r
+pub flat_if : (records : List RecordType) (r : RecordType) → is_flat records (Some r) ≡ true → IsFlat records r
 flat_if records r e =
     let h = both_true (extends_bare records r.parent) (are_scalar r.own) e in
     record { inherits_none = λ n. from_bare records r.parent n h.0; own = scalars_if r.own h.1 }
@@ -113,5 +112,5 @@ flat_if records r e =
 pub plain_if : (k : Tables) (o : Option RecordType) → is_plain k.records o ≡ true → (r : RecordType) × (o ≡ Some r) × IsPlain k r
 plain_if k None e = absurd (cc)
 plain_if k (Some r) e =
-    let h = both_true (is_controlled r.root) (is_flat k.records r) e in
+    let h = both_true (is_controlled r.root) (is_flat k.records (Some r)) e in
     (r, refl, record { controlled = root_if r.root h.0; flat = flat_if k.records r h.1 })

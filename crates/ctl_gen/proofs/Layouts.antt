@@ -3,10 +3,11 @@ use Rattle.std.proofs.Common.{◌≡◌, ℕ, zero, suc, ◌+◌, ◌-◌, List,
 use Rattle.std.specs.Prelude.{slice_get}
 use Rattle.ctl_program.specs.declared.types.RecordType.{RecordType}
 use Rattle.ctl_meaning.specs.Lists.{item_or}
-use Rattle.ctl_meaning.specs.Types.{Tables, components, offset_in, placed, placed_from, with_own, opened_types}
+use Rattle.ctl_meaning.specs.Types.{Tables, offset_in, placed}
 use Rattle.ctl_code.specs.declared.code.Layout.{Layout}
 use Rattle.ctl_code.specs.Table as Table
-use Rattle.ctl_gen.specs.Layout.{AreLayouts, IsLayout, are_flat, count_from, is_flat}
+use Rattle.ctl_gen.specs.Layout.{AreLayouts, IsLayout, count_from}
+use Rattle.ctl_gen.specs.Records.{is_flat}
 use Rattle.ctl_gen.proofs.Known.{IsFlat, both_true, flat_if}
 use Rattle.ctl_gen.proofs.Plain.{offset_flat}
 
@@ -31,35 +32,17 @@ layout_at (x ∷ xs) [] h t r e = absurd h
 layout_at (x ∷ xs) (s ∷ rs) h zero r e = let same : s ≡ r = cc e in (x, refl, subst (λ (y : RecordType). IsLayout x (length y.own)) same h.0)
 layout_at (x ∷ xs) (s ∷ rs) h (suc t) r e = layout_at xs rs h.1 t r e
 
-no_layout : (xs : List Layout) (rs : List RecordType) → AreLayouts xs rs → (t : ℕ) → slice_get rs t ≡ None → slice_get xs t ≡ None
-no_layout [] [] h t e = refl
-no_layout [] (s ∷ rs) h t e = absurd h
-no_layout (x ∷ xs) [] h t e = absurd h
-no_layout (x ∷ xs) (s ∷ rs) h zero e = absurd (cc)
-no_layout (x ∷ xs) (s ∷ rs) h (suc t) e = no_layout xs rs h.1 t e
-
-flat_at : (all rs : List RecordType) → are_flat all rs ≡ true → (t : ℕ) (r : RecordType) → slice_get rs t ≡ Some r → IsFlat all r
-flat_at all [] h t r e = absurd (cc)
-flat_at all (s ∷ rs) h zero r e = let same : s ≡ r = cc e in flat_if all r (subst (λ (y : RecordType). is_flat all y ≡ true) same (both_true (is_flat all s) (are_flat all rs) h).0)
-flat_at all (s ∷ rs) h (suc t) r e = flat_at all rs (both_true (is_flat all s) (are_flat all rs) h).1 t r e
-
 module _ (k : Tables) (xs : List Layout) (laid : AreLayouts xs k.records) where
   pub sizes : (t : ℕ) (r : RecordType) → slice_get k.records t ≡ Some r → Table.size_in (slice_get xs t) ≡ length r.own
   sizes t r e = let x = layout_at xs k.records laid t r e in ap Table.size_in x.1 ∙ x.2.cells
 
-  -- a type that is not in the table has no components
-  none_placed : (t : ℕ) → slice_get k.records t ≡ None → placed k t ≡ []
-  unfolding opened_types
-  none_placed t e = ap (λ o. placed_from k 1 0 (with_own (components (length k.records) k.records) o)) e
-
-  pub places : are_flat k.records k.records ≡ true → (t position : ℕ) → Table.offset_in (slice_get xs t) position ≡ offset_in position (placed k t)
-  unfolding offset_in
-  places flat t position = by (slice_get k.records t) refl
+  pub places : (t position : ℕ) → is_flat k.records (slice_get k.records t) ≡ true → Table.offset_in (slice_get xs t) position ≡ offset_in position (placed k t)
+  places t position flat = by (slice_get k.records t) refl flat
     where
-      by : (o : Option RecordType) → slice_get k.records t ≡ o → Table.offset_in (slice_get xs t) position ≡ offset_in position (placed k t)
-      by None e = ap (λ y. Table.offset_in y position) (no_layout xs k.records laid t e) ∙ sym (ap (offset_in position) (none_placed t e))
-      by (Some r) e =
+      by : (o : Option RecordType) → slice_get k.records t ≡ o → is_flat k.records o ≡ true → Table.offset_in (slice_get xs t) position ≡ offset_in position (placed k t)
+      by None e is = absurd (cc)
+      by (Some r) e is =
           let x = layout_at xs k.records laid t r e in
           ap (λ y. Table.offset_in y position) x.1
           ∙ ap (λ ns. item_or 0 (slice_get ns (position - 1))) x.2.offsets
-          ∙ sym (offset_flat k t r e (flat_at k.records k.records flat t r e) position)
+          ∙ sym (offset_flat k t r e (flat_if k.records r is) position)

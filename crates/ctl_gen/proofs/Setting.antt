@@ -1,5 +1,5 @@
 -- What the simulation of each construct stands on: the tables agree, and bodies behave when they are called.
-use Rattle.std.proofs.Common.{◌≡◌, ℕ, ◌<◌, ◌≤◌, List, [], ◌∷◌, length, Option, Some, None, refl}
+use Rattle.std.proofs.Common.{◌≡◌, ℕ, ◌<◌, ◌≤◌, List, [], ◌∷◌, length, Option, Some, None, true, refl}
 use Rattle.std.specs.Prelude.{slice_get}
 use Rattle.ctl_program.specs.declared.program.Subprogram.{Subprogram}
 use Rattle.ctl_program.specs.declared.types.RecordType.{RecordType}
@@ -19,13 +19,14 @@ use Rattle.ctl_code.specs.Table.{ended, enter_body, offset_of, operation_of, siz
 use Rattle.ctl_code.specs.Steps.{moved, step}
 use Rattle.ctl_code.specs.Valid.{IsInScope, IsValid, kinds_at}
 use Rattle.ctl_code.specs.Windows.{depth}
+use Rattle.ctl_gen.specs.Records.{is_flat}
 use Rattle.ctl_gen.specs.Run.{IsBody}
 use Rattle.ctl_gen.proofs.Worlds.{Each, IsWhole, Since, home}
 use Rattle.ctl_gen.proofs.Follow.{IsRaise, Runs, gives}
 
--- the first cells of components are those of the tables
+-- the first cells of scalar components are those of the tables
 abbrev pub ArePlaced : Tables → Code → Type 0
-ArePlaced k code = (t position : ℕ) → offset_of code t position ≡ offset_in position (placed k t)
+ArePlaced k code = (t position : ℕ) → is_flat k.records (slice_get k.records t) ≡ true → offset_of code t position ≡ offset_in position (placed k t)
 
 -- the machine's table names the operations and the components of the record types, the operations are among these subprograms, and the code
 -- is well formed

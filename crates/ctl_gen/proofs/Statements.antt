@@ -27,7 +27,8 @@ use Rattle.ctl_code.specs.Steps.{moved, step}
 use Rattle.ctl_code.specs.Windows.{depth}
 use Rattle.ctl_gen.specs.Around.{Line, Landing, OutOfMaster, BeforeLoop, Around, behind, land, further as further_on}
 use Rattle.ctl_gen.specs.Values.{ValueCode, value_code}
-use Rattle.ctl_gen.specs.Layout.{ArmCode, ItemCode, MasterCode, StatementCode, all, all_items, arms_code, arms_run, arms_texts, block, block_code, branches, in_master as in_new, inside, is_declared, item_code, leaves_code, turn_code}
+use Rattle.ctl_gen.specs.Layout.{ArmCode, ItemCode, MasterCode, StatementCode, all, all_items, arms_code, arms_run, arms_texts, block, block_code, branches, in_master as in_new, inside, item_code, leaves_code, turn_code}
+use Rattle.ctl_gen.specs.Records.{is_declared}
 use Rattle.ctl_gen.proofs.Known.{both_true, plain_if, scalar_if}
 use Rattle.ctl_gen.proofs.Place.{HasAt, has_front, has_back, Laid, laid_front, laid_back}
 use Rattle.ctl_gen.proofs.Worlds.{home, Each, IsWhole, whole_unset, Since, Kept, home_new, keeps_itself, keeps_on, keeps_open, fits_open}
@@ -146,12 +147,12 @@ module _ (ask : Ask) (k : Tables) (code : Code) (setting : Setting k code) (call
   -- an arm, before what is done where it does not apply
   abbrev pub Guards : ArmCode → Guarding → Type 0
   Guards x m =
-      x.test.runs ≡ true → x.body.runs k.records ≡ true → (n : ℕ) → HasAt code.texts.items n x.body.texts → (caught : ℕ) (other : Act Done) (a : Around) (w0 : World) (d : List ℕ) (place place1 : ℕ) (ks : List Frame) (ops : List ℕ) (c : ℕ) (l : Log) (w : World) → c ≤ bound → Since k code w0 w → Sees d a.stack w0 →
+      x.test.runs k.records ≡ true → x.body.runs k.records ≡ true → (n : ℕ) → HasAt code.texts.items n x.body.texts → (caught : ℕ) (other : Act Done) (a : Around) (w0 : World) (d : List ℕ) (place place1 : ℕ) (ks : List Frame) (ops : List ℕ) (c : ℕ) (l : Log) (w : World) → c ≤ bound → Since k code w0 w → Sees d a.stack w0 →
       Laid code place (turn_code x a n) → Ends ask k code bound d (place + length (turn_code x a n)) place1 ks ops →
       ((c1 : ℕ) (l1 : Log) (w1 : World) → c1 ≤ c → Since k code w0 w1 → Runs ask code (Kept k code w0) 0 0 (at d (place + length (turn_code x a n) + 1) ks ops l1 w1) c1 (arrives (lands a place) d place1 ks ops) (other c1 l1 w1)) →
       Runs ask code (Kept k code w0) 0 0 (at d place ks ops l w) c (arrives (lands a place) d place1 ks ops) (m K d caught other c l w)
 
-  pub guard_runs : (x : ValueCode) (test : Valued) (xs : List StatementCode) (ms : List Doing) → (x.runs ≡ true → (w0 : World) → Value ask k code (Since k code w0) x (test K)) → EachPerforms xs ms → Guards (record { test = x; body = all xs }) (guard test ms)
+  pub guard_runs : (x : ValueCode) (test : Valued) (xs : List StatementCode) (ms : List Doing) → (x.runs k.records ≡ true → (w0 : World) → Value ask k code (Since k code w0) x (test K)) → EachPerforms xs ms → Guards (record { test = x; body = all xs }) (guard test ms)
   unfolding guard
   guard_runs x test xs ms value each runs_test runs_body n texts caught other a w0 d place place1 ks ops c l w le fits sees has ends elses =
       arm_runs ask k code bound 0 1 (omega arith) x (test K) (value runs_test) (λ b. (all xs).code b n) (λ u. do_each K u caught ms) (all_run xs ms each runs_body n texts caught) other a w0 d place place1 ks ops c l w le fits sees has ends elses
@@ -174,7 +175,7 @@ module _ (ask : Ask) (k : Tables) (code : Code) (setting : Setting k code) (call
   further_run [] (m ∷ ms) each runs n texts caught others act does back end place1 size a w0 d ks ops c l w le fits sees here far has last = absurd each
   further_run (x ∷ rest) [] each runs n texts caught others act does back end place1 size a w0 d ks ops c l w le fits sees here far has last = absurd each
   further_run (x ∷ rest) (m ∷ ms) each runs n texts caught others act does back end place1 size a w0 d ks ops c l w le fits sees here far has last =
-      let h = both_true x.test.runs (x.body.runs k.records && arms_run rest k.records) runs in
+      let h = both_true (x.test.runs k.records) (x.body.runs k.records && arms_run rest k.records) runs in
       let g = both_true (x.body.runs k.records) (arms_run rest k.records) h.1 in
       let turn = turn_code x a n in
       let j = length turn in
@@ -214,7 +215,7 @@ module _ (ask : Ask) (k : Tables) (code : Code) (setting : Setting k code) (call
   arms_does [] (m ∷ ms) each runs n texts caught others act does a w0 d place ks ops c l w le fits sees has = absurd each
   arms_does (x ∷ rest) [] each runs n texts caught others act does a w0 d place ks ops c l w le fits sees has = absurd each
   arms_does (x ∷ rest) (m ∷ ms) each runs n texts caught others act does a w0 d place ks ops c l w le fits sees has =
-      let h = both_true x.test.runs (x.body.runs k.records && arms_run rest k.records) runs in
+      let h = both_true (x.test.runs k.records) (x.body.runs k.records && arms_run rest k.records) runs in
       let g = both_true (x.body.runs k.records) (arms_run rest k.records) h.1 in
       let turn = turn_code x a n in
       let j = length turn in

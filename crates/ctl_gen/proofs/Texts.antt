@@ -111,7 +111,7 @@ module _ (ask : Ask) (k : Tables) (code : Code) (placed : ArePlaced k code) (cal
   piece_depth (PieceOf.BooleanImage e) s = refl
 
   -- the image of a value, and what follows it
-  image_runs : (e : Expr) (ty : Ty) (image : ℕ → List ℕ) → (value_code e).runs ≡ true → (f : Result (List ℕ) → Act Done) (s : List Kind) (w0 : World) (d : List ℕ) (place : ℕ) (ks : List Frame) (ops : List ℕ) (c : ℕ) (l : Log) (w : World) (next : Result Done → Log → World → State) → Since k code w0 w → length d ≡ depth s → Laid code place ((value_code e).code (new_operand s) ty s) → ((y c1 : ℕ) (l1 : Log) (w1 : World) → c1 ≤ c → Since k code w0 w1 → Runs ask code (Kept k code w0) 1 1 (transferred (ByRaise y) ks l1 w1) c1 next (f (Leaves (ByRaise y)) c1 l1 w1)) → ((n c1 : ℕ) (l1 : Log) (w1 : World) → c1 ≤ c → Since k code w0 w1 → Runs ask code (Kept k code w0) 1 1 (at d (place + length ((value_code e).code (new_operand s) ty s)) ks (n ∷ ops) l1 w1) c1 next (f (Goes (image n)) c1 l1 w1)) → Runs ask code (Kept k code w0) 1 1 (at d place ks ops l w) c next (bind (ticked (eval e K d >>= (λ x. done (image (scalar_of x)))) c l w) f)
+  image_runs : (e : Expr) (ty : Ty) (image : ℕ → List ℕ) → (value_code e).runs k.records ≡ true → (f : Result (List ℕ) → Act Done) (s : List Kind) (w0 : World) (d : List ℕ) (place : ℕ) (ks : List Frame) (ops : List ℕ) (c : ℕ) (l : Log) (w : World) (next : Result Done → Log → World → State) → Since k code w0 w → length d ≡ depth s → Laid code place ((value_code e).code (new_operand s) ty s) → ((y c1 : ℕ) (l1 : Log) (w1 : World) → c1 ≤ c → Since k code w0 w1 → Runs ask code (Kept k code w0) 1 1 (transferred (ByRaise y) ks l1 w1) c1 next (f (Leaves (ByRaise y)) c1 l1 w1)) → ((n c1 : ℕ) (l1 : Log) (w1 : World) → c1 ≤ c → Since k code w0 w1 → Runs ask code (Kept k code w0) 1 1 (at d (place + length ((value_code e).code (new_operand s) ty s)) ks (n ∷ ops) l1 w1) c1 next (f (Goes (image n)) c1 l1 w1)) → Runs ask code (Kept k code w0) 1 1 (at d place ks ops l w) c next (bind (ticked (eval e K d >>= (λ x. done (image (scalar_of x)))) c l w) f)
   unfolding opened_outcome scalar_of opened_lists
   image_runs e ty image known f s w0 d place ks ops c l w next fits long has leaves more =
       let value = value_since ask k code placed call default e known w0 in
@@ -123,7 +123,7 @@ module _ (ask : Ask) (k : Tables) (code : Code) (placed : ArePlaced k code) (cal
       (λ y c1 l1 w1 lo fits1. added ask code (Kept k code w0) 0 1 1 1 1 (transferred (ByRaise y) ks l1 w1) c1 next (f (Leaves (ByRaise y)) c1 l1 w1) (omega arith) (omega arith) (leaves y c1 l1 w1 lo fits1))))
 
   -- a piece, and what follows it
-  piece_runs : (p : Piece) → piece_is_run p ≡ true → (qs : List TextPart) (rs u : List ℕ) → Holds qs rs u → (f : Result (List ℕ) → Act Done) (s : List Kind) (w0 : World) (d : List ℕ) (place : ℕ) (ks : List Frame) (ops : List ℕ) (c : ℕ) (l : Log) (w : World) (next : Result Done → Log → World → State) → Since k code w0 w → length d ≡ depth s → Laid code place (piece_code p s) → ((y c1 : ℕ) (l1 : Log) (w1 : World) → c1 ≤ c → Since k code w0 w1 → Runs ask code (Kept k code w0) 1 1 (transferred (ByRaise y) ks l1 w1) c1 next (f (Leaves (ByRaise y)) c1 l1 w1)) → ((rs1 x : List ℕ) (c1 : ℕ) (l1 : Log) (w1 : World) → c1 ≤ c → Since k code w0 w1 → Holds (qs ++ part_of p ∷ []) rs1 (u ++ x) → Runs ask code (Kept k code w0) 1 1 (at d (place + length (piece_code p s)) ks (rs1 ++ ops) l1 w1) c1 next (f (Goes x) c1 l1 w1)) → Runs ask code (Kept k code w0) 1 1 (at d place ks (rs ++ ops) l w) c next (bind (eval_piece p K d c l w) f)
+  piece_runs : (p : Piece) → piece_is_run k.records p ≡ true → (qs : List TextPart) (rs u : List ℕ) → Holds qs rs u → (f : Result (List ℕ) → Act Done) (s : List Kind) (w0 : World) (d : List ℕ) (place : ℕ) (ks : List Frame) (ops : List ℕ) (c : ℕ) (l : Log) (w : World) (next : Result Done → Log → World → State) → Since k code w0 w → length d ≡ depth s → Laid code place (piece_code p s) → ((y c1 : ℕ) (l1 : Log) (w1 : World) → c1 ≤ c → Since k code w0 w1 → Runs ask code (Kept k code w0) 1 1 (transferred (ByRaise y) ks l1 w1) c1 next (f (Leaves (ByRaise y)) c1 l1 w1)) → ((rs1 x : List ℕ) (c1 : ℕ) (l1 : Log) (w1 : World) → c1 ≤ c → Since k code w0 w1 → Holds (qs ++ part_of p ∷ []) rs1 (u ++ x) → Runs ask code (Kept k code w0) 1 1 (at d (place + length (piece_code p s)) ks (rs1 ++ ops) l1 w1) c1 next (f (Goes x) c1 l1 w1)) → Runs ask code (Kept k code w0) 1 1 (at d place ks (rs ++ ops) l w) c next (bind (eval_piece p K d c l w) f)
   unfolding literal integer_text boolean_text opened_outcome
   piece_runs (PieceOf.Text t) known qs rs u holds f s w0 d place ks ops c l w next fits long has leaves more =
       let e : place + 0 ≡ place = omega arith in
@@ -155,7 +155,7 @@ module _ (ask : Ask) (k : Tables) (code : Code) (placed : ArePlaced k code) (cal
   printing b n first t ps s = pieces_code ps s ++ (print_of b n first, t) ∷ []
 
   -- the rest of the pieces
-  join_runs : (b : Bool) (n first : ℕ) (t : List Kind) (full : List TextPart) → HasAt code.texts.items n (full ∷ []) → (ps : List Piece) → pieces_are_run ps ≡ true → (qs : List TextPart) (rs u : List ℕ) → Holds qs rs u → qs ++ parts_of ps ≡ full → (s : List Kind) (e : Target) (w0 : World) (d : List ℕ) (place : ℕ) (ks : List Frame) (ops : List ℕ) (c : ℕ) (l : Log) (w : World) → Since k code w0 w → length d ≡ depth s → Laid code place (printing b n first t ps s) → Runs ask code (Kept k code w0) 1 1 (at d place ks (rs ++ ops) l w) c (arrives e d (place + length (printing b n first t ps s)) ks ops) (bind (join_pieces K d (map eval_piece ps) u c l w) (on_goes (printed b)))
+  join_runs : (b : Bool) (n first : ℕ) (t : List Kind) (full : List TextPart) → HasAt code.texts.items n (full ∷ []) → (ps : List Piece) → pieces_are_run k.records ps ≡ true → (qs : List TextPart) (rs u : List ℕ) → Holds qs rs u → qs ++ parts_of ps ≡ full → (s : List Kind) (e : Target) (w0 : World) (d : List ℕ) (place : ℕ) (ks : List Frame) (ops : List ℕ) (c : ℕ) (l : Log) (w : World) → Since k code w0 w → length d ≡ depth s → Laid code place (printing b n first t ps s) → Runs ask code (Kept k code w0) 1 1 (at d place ks (rs ++ ops) l w) c (arrives e d (place + length (printing b n first t ps s)) ks ops) (bind (join_pieces K d (map eval_piece ps) u c l w) (on_goes (printed b)))
   unfolding join_pieces opened_outcome
   join_runs b n first t full texts [] known qs rs u holds same s e w0 d place ks ops c l w fits long has =
       added ask code (Kept k code w0) 0 1 1 1 1 _ c _ _ (omega arith) (omega arith)
@@ -173,7 +173,7 @@ module _ (ask : Ask) (k : Tables) (code : Code) (placed : ArePlaced k code) (cal
       (join_runs b n first t full texts ps (both_true _ _ known).1 (qs ++ part_of p ∷ []) rs1 (u ++ x) holds1 (append_assoc qs (part_of p ∷ []) (parts_of ps) ∙ same) (with_piece p s) e w0 d (place + length (piece_code p s)) ks ops c1 l1 w1 fits1 (long ∙ sym (piece_depth p s)) (laid_back code place (piece_code p s) is has1)))))
 
   -- the pieces in turn, and then the text
-  pub print_runs : (b : Bool) (ps : List Piece) → pieces_are_run ps ≡ true → (n : ℕ) → HasAt code.texts.items n (parts_of ps ∷ []) → Does ask k code bound (λ a. print_code b n ps a.stack) (λ d. ticked (eval_text K d (map eval_piece ps) >>= printed b))
+  pub print_runs : (b : Bool) (ps : List Piece) → pieces_are_run k.records ps ≡ true → (n : ℕ) → HasAt code.texts.items n (parts_of ps ∷ []) → Does ask k code bound (λ a. print_code b n ps a.stack) (λ d. ticked (eval_text K d (map eval_piece ps) >>= printed b))
   unfolding eval_text opened_outcome
   print_runs b [] known n texts a w0 d place ks ops c l w le fits sees has =
       added ask code (Kept k code w0) 1 1 1 0 0 _ c _ _ (omega arith) (omega arith) (added ask code (Kept k code w0) 0 1 1 1 1 _ c _ _ (omega arith) (omega arith)

@@ -25,7 +25,7 @@ use Rattle.ctl_code.specs.Steps.{step, steps, start, machine, end_at, end_of}
 use Rattle.ctl_code.specs.Laws.{IsPrefix, Grows}
 use Rattle.ctl_code.proofs.Logs.{obeys_none, obeys_itself, no_more_than, Stays, steps_obey, grow, stay, meet, ended_stays, agree}
 use Rattle.ctl_gen.specs.Around.{Line}
-use Rattle.ctl_gen.specs.Layout.{are_flat, HasKinds, IsLaidOut, bodies, body_code, entries_from, entry_at, instructions_of, kinds_of, nowhere, operations_of, program_code}
+use Rattle.ctl_gen.specs.Layout.{HasKinds, IsLaidOut, bodies, body_code, entries_from, entry_at, instructions_of, kinds_of, nowhere, operations_of, program_code}
 use Rattle.ctl_gen.proofs.Layouts.{places, sizes}
 use Rattle.ctl_gen.specs.Run.{AreLinked, IsBody, IsRun, IsWritten, are_procedures, is_procedure}
 use Rattle.ctl_gen.proofs.Known.{both_true}
@@ -149,8 +149,8 @@ record Moment (code : Code) (ask : Ask) (clock ticks : ℕ) (o : Outcome) : Type
   why : (clock ≤ n) ⊎ (step ask code (steps ask code n start) ≡ steps ask code n start)
 
 module _ (program : Checked) (code : Code) (laid : IsLaidOut program code) (kinds : HasKinds program code) (valid : IsValid code) (run_it : IsRun program) (linked : AreLinked program) where
-  parts : (are_procedures program.subprograms ≡ true) × (are_flat program.records program.records ≡ true) × ((bodies program.subprograms).runs program.records ≡ true)
-  parts = let h = both_true _ _ run_it in let g = both_true _ _ h.1 in (h.0, g.0, g.1)
+  parts : (are_procedures program.subprograms ≡ true) × ((bodies program.subprograms).runs program.records ≡ true)
+  parts = both_true _ _ run_it
 
   has_whole : Laid code 0 (program_code program)
   has_whole =
@@ -166,7 +166,7 @@ module _ (program : Checked) (code : Code) (laid : IsLaidOut program code) (kind
   setting = record {
     subprograms = program.subprograms;
     valid = valid;
-    places = places (tables_of program) code.layouts.items laid.layouts parts.1;
+    places = places (tables_of program) code.layouts.items laid.layouts;
     sizes = sizes (tables_of program) code.layouts.items laid.layouts;
     initialize = λ t. ap (λ xs. Table.operation_in (λ x. x.initialize) (slice_get xs t)) laid.records ∙ initialize_in program.records t;
     finalize = λ t. ap (λ xs. Table.operation_in (λ x. x.finalize) (slice_get xs t)) laid.records ∙ finalize_in program.records t;
@@ -178,7 +178,7 @@ module _ (program : Checked) (code : Code) (laid : IsLaidOut program code) (kind
   unfolding tables_of
   stands f s here =
       let x = find code code.texts.items program.subprograms 1 0 has_whole.2 has_texts f s here in
-      record { place = x.place; before = x.before; entry = ap (λ es. slice_get es f) laid.entries ∙ x.entry; instructions = x.instructions; texts = x.printed; runs = body_is_run program.records program.subprograms parts.2 f s here; procedure = is_a_procedure program.subprograms parts.0 f s here }
+      record { place = x.place; before = x.before; entry = ap (λ es. slice_get es f) laid.entries ∙ x.entry; instructions = x.instructions; texts = x.printed; runs = body_is_run program.records program.subprograms parts.1 f s here; procedure = is_a_procedure program.subprograms parts.0 f s here }
 
   whole_runs : (ask : Ask) (clock : ℕ) → Runs ask code (Told (tables_of program) code empty_world) 0 1 start clock (returns []) (run program ask clock)
   unfolding run meaning_of setting

@@ -1,3 +1,4 @@
+pub mod Records
 pub mod Around
 pub mod Emitted
 pub mod Values

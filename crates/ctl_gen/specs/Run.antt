@@ -6,7 +6,7 @@ use Rattle.ctl_program.specs.declared.operators.SubprogramKind.TheVariants.{Proc
 use Rattle.ctl_program.specs.declared.program.Subprogram.{Subprogram}
 use Rattle.ctl_program.specs.declared.program.Checked.{Checked}
 use Rattle.ctl_program.specs.declared.types.RecordType.{RecordType}
-use Rattle.ctl_gen.specs.Layout.{are_flat, bodies}
+use Rattle.ctl_gen.specs.Layout.{bodies}
 
 abbrev pub is_procedure : SubprogramKind → Bool
 is_procedure Procedure = true
@@ -18,7 +18,7 @@ are_procedures (s ∷ ss) = is_procedure s.kind && are_procedures ss
 
 -- whether this version runs each construct of a program
 abbrev pub is_run : Checked → Bool
-is_run program = are_procedures program.subprograms && (are_flat program.records program.records && (bodies program.subprograms).runs program.records)
+is_run program = are_procedures program.subprograms && (bodies program.subprograms).runs program.records
 
 abbrev pub IsRun : Checked → Type 0
 IsRun program = IsTrue (is_run program)

@@ -1,12 +1,13 @@
 //! Whether this version runs each construct of a checked program.
 
-ghost use Rattle.std.specs.Prelude.{◌≡◌, [], ◌∷◌, map, option_map, Some};
+ghost use Rattle.std.specs.Prelude.{◌≡◌, [], ◌∷◌, map, option_map, slice_get, Some};
 ghost use Rattle.ctl_gen.specs.Layout as spec;
+ghost use Rattle.ctl_gen.specs.Records as types;
 ghost use Rattle.ctl_gen.specs.Run as whole;
 ghost use Rattle.ctl_gen.specs.Texts as texts;
 ghost use Rattle.ctl_gen.specs.Values as values;
 
-use crate::right::reached_by;
+use crate::right::{Reached, reached_by};
 use ctl_program::expression::{Expr, Name, Operand};
 use ctl_program::operators::SubprogramKind;
 use ctl_program::program::{Checked, Subprogram};
@@ -18,7 +19,6 @@ pub fn is_run(program: &Checked) -> bool
     ensures { result ≡ whole.is_run program.now }
 {
     are_procedures(program.subprograms.as_slice())
-        && are_flat(program.records.as_slice(), program.records.as_slice())
         && bodies(program.records.as_slice(), program.subprograms.as_slice())
 }
 
@@ -48,36 +48,51 @@ fn bodies(records: &[RecordType], subprograms: &[Subprogram]) -> bool
 
 /// Tells whether variables of a type are run.
 fn is_run_type(ty: Ty) -> bool
-    ensures { result ≡ values.is_run_type ty }
+    ensures { result ≡ types.is_run_type ty }
 {
     matches!(ty, Ty::Integer | Ty::Boolean)
 }
 
+/// Tells whether components of the record type of this number are run.
+fn has_flat(records: &[RecordType], number: usize) -> bool
+    ensures { result ≡ types.is_flat records.now (slice_get records.now number) }
+{
+    match records.get(number) {
+        Some(entry) => is_flat(records, entry),
+        None => false,
+    }
+}
+
 /// Tells whether the value of a name is run: of a variable, or of a component of the object in one.
-fn is_read(name: &Name, ty: Ty) -> bool
-    ensures { result ≡ (values.read (values.reached_by name.now) ty).runs }
+fn is_read(name: &Name, ty: Ty, records: &[RecordType]) -> bool
+    ensures { result ≡ (values.read (values.reached_by name.now) ty).runs records.now }
 {
     match reached_by(name) {
-        Some(_) => is_run_type(ty),
+        Some(Reached::Variable(_)) => is_run_type(ty),
+        Some(Reached::Component { record, .. }) => is_run_type(ty) && has_flat(records, record),
         None => false,
     }
 }
 
 /// Tells whether an expression is run.
 #[cycle(values)]
-#[tactic(auto, using(crate::proofs::Layers::value_constant, crate::proofs::Layers::value_read, crate::proofs::Layers::value_call, crate::proofs::Layers::value_unary, crate::proofs::Layers::value_chain, crate::proofs::Layers::value_short, crate::proofs::Layers::value_convert, crate::proofs::Layers::value_access, crate::proofs::Layers::value_new, crate::proofs::Layers::value_subpool, crate::proofs::Layers::value_discriminant))]
-fn value(expression: &Expr) -> bool
-    ensures { result ≡ (values.value_code expression.now).runs }
+#[tactic(auto, using(crate::proofs::Layers::value_constant, crate::proofs::Layers::value_read, crate::proofs::Layers::value_call, crate::proofs::Layers::value_unary, crate::proofs::Layers::chain_runs, crate::proofs::Layers::short_runs, crate::proofs::Layers::value_convert, crate::proofs::Layers::value_access, crate::proofs::Layers::value_new, crate::proofs::Layers::value_subpool, crate::proofs::Layers::value_discriminant))]
+fn value(expression: &Expr, records: &[RecordType]) -> bool
+    ensures { result ≡ (values.value_code expression.now).runs records.now }
 {
     match expression {
         Expr::Constant(_) => true,
-        Expr::Read(name, ty) => is_read(name, *ty),
-        Expr::Unary(_, _, operand) => value(operand.get()),
+        Expr::Read(name, ty) => is_read(name, *ty, records),
+        Expr::Unary(_, _, operand) => value(operand.get(), records),
         Expr::Chain(first, second, more) => {
-            value(first.get()) && operand(second.get()) && operands(more.as_slice())
+            value(first.get(), records)
+                && operand(second.get(), records)
+                && operands(more.as_slice(), records)
         }
         Expr::Short(_, first, second, more) => {
-            value(first.get()) && value(second.get()) && values(more.as_slice())
+            value(first.get(), records)
+                && value(second.get(), records)
+                && values(more.as_slice(), records)
         }
         Expr::Call(..)
         | Expr::Convert(..)
@@ -91,19 +106,19 @@ fn value(expression: &Expr) -> bool
 /// Tells whether the right operand of an operator is run.
 #[cycle(values)]
 #[tactic(auto, using(crate::proofs::Layers::operator_is))]
-fn operand(operand: &Operand) -> bool
-    ensures { result ≡ (values.operator_of operand.now).right.runs }
+fn operand(operand: &Operand, records: &[RecordType]) -> bool
+    ensures { result ≡ (values.operator_of operand.now).right.runs records.now }
 {
-    value(&operand.right)
+    value(&operand.right, records)
 }
 
 /// Tells whether the right operands of operators are run.
 #[cycle(values)]
-fn operands(operands: &[Operand]) -> bool
-    ensures { result ≡ values.operators_run (map values.operator_of operands.now) }
+fn operands(operands: &[Operand], records: &[RecordType]) -> bool
+    ensures { result ≡ values.operators_run records.now (map values.operator_of operands.now) }
 {
     for one in operands {
-        if !operand(one) {
+        if !operand(one, records) {
             return false;
         }
     }
@@ -112,11 +127,11 @@ fn operands(operands: &[Operand]) -> bool
 
 /// Tells whether operands of a short-circuit form are run.
 #[cycle(values)]
-fn values(operands: &[Expr]) -> bool
-    ensures { result ≡ values.values_run (map values.value_code operands.now) }
+fn values(operands: &[Expr], records: &[RecordType]) -> bool
+    ensures { result ≡ values.values_run records.now (map values.value_code operands.now) }
 {
     for one in operands {
-        if !value(one) {
+        if !value(one, records) {
             return false;
         }
     }
@@ -124,22 +139,22 @@ fn values(operands: &[Expr]) -> bool
 }
 
 /// Tells whether a piece of a text is run.
-fn piece(piece: &Piece) -> bool
-    ensures { result ≡ texts.piece_is_run piece.now }
+fn piece(piece: &Piece, records: &[RecordType]) -> bool
+    ensures { result ≡ texts.piece_is_run records.now piece.now }
 {
     match piece {
         Piece::Text(_) => true,
-        Piece::IntegerImage(expression) => value(expression),
-        Piece::BooleanImage(expression) => value(expression),
+        Piece::IntegerImage(expression) => value(expression, records),
+        Piece::BooleanImage(expression) => value(expression, records),
     }
 }
 
 /// Tells whether a text is run.
-fn pieces(pieces: &[Piece]) -> bool
-    ensures { result ≡ texts.pieces_are_run pieces.now }
+fn pieces(pieces: &[Piece], records: &[RecordType]) -> bool
+    ensures { result ≡ texts.pieces_are_run records.now pieces.now }
 {
     for one in pieces {
-        if !piece(one) {
+        if !piece(one, records) {
             return false;
         }
     }
@@ -148,14 +163,14 @@ fn pieces(pieces: &[Piece]) -> bool
 
 /// Tells whether a component is of a type whose variables are run, and has no default expression (RM 3.8).
 fn is_scalar(component: &Component) -> bool
-    ensures { result ≡ spec.is_scalar component.now }
+    ensures { result ≡ types.is_scalar component.now }
 {
     is_run_type(component.ty) && component.default.is_none()
 }
 
 /// Tells whether each of these components is one.
 fn are_scalar(components: &[Component]) -> bool
-    ensures { result ≡ spec.are_scalar components.now }
+    ensures { result ≡ types.are_scalar components.now }
 {
     for component in components {
         if !is_scalar(component) {
@@ -167,14 +182,14 @@ fn are_scalar(components: &[Component]) -> bool
 
 /// Tells whether a type extends none and has no components, as Controlled and Limited_Controlled themselves.
 fn is_bare(entry: &RecordType) -> bool
-    ensures { result ≡ spec.is_bare (Some entry.now) }
+    ensures { result ≡ types.is_bare (Some entry.now) }
 {
     entry.parent.is_none() && entry.own.as_slice().is_empty()
 }
 
 /// Tells whether a type with this parent extends none, or such a type.
 fn extends_bare(records: &[RecordType], parent: Option<usize>) -> bool
-    ensures { result ≡ spec.extends_bare records.now parent }
+    ensures { result ≡ types.extends_bare records.now parent }
 {
     match parent {
         Some(number) => match records.get(number) {
@@ -187,33 +202,21 @@ fn extends_bare(records: &[RecordType], parent: Option<usize>) -> bool
 
 /// Tells whether a record type has scalar components alone, and inherits none (RM 3.8).
 fn is_flat(records: &[RecordType], entry: &RecordType) -> bool
-    ensures { result ≡ spec.is_flat records.now entry.now }
+    ensures { result ≡ types.is_flat records.now (Some entry.now) }
 {
     extends_bare(records, entry.parent) && are_scalar(entry.own.as_slice())
 }
 
-/// Tells whether each of these record types does.
-fn are_flat(all: &[RecordType], records: &[RecordType]) -> bool
-    ensures { result ≡ spec.are_flat all.now records.now }
-{
-    for entry in records {
-        if !is_flat(all, entry) {
-            return false;
-        }
-    }
-    true
-}
-
 /// Tells whether objects of a record type are run: one that extends Controlled or Limited_Controlled by scalar components (RM 7.6).
 fn is_plain(records: &[RecordType], entry: &RecordType) -> bool
-    ensures { result ≡ spec.is_plain records.now (Some entry.now) }
+    ensures { result ≡ types.is_plain records.now (Some entry.now) }
 {
     matches!(entry.root, Root::Controlled) && is_flat(records, entry)
 }
 
 /// Tells whether objects of a type are run.
 fn is_declared(records: &[RecordType], ty: Ty) -> bool
-    ensures { result ≡ spec.is_declared records.now ty }
+    ensures { result ≡ types.is_declared records.now ty }
 {
     match ty {
         Ty::Record(number) => match records.get(number) {
@@ -230,7 +233,7 @@ fn item(records: &[RecordType], item: &Item) -> bool
 {
     match item {
         Item::Object(_, ty, None) => is_declared(records, *ty),
-        Item::Object(_, ty, Some(expression)) => is_run_type(*ty) && value(expression),
+        Item::Object(_, ty, Some(expression)) => is_run_type(*ty) && value(expression, records),
         Item::Silent => true,
         Item::Collections(_) | Item::Pool(..) => false,
     }
@@ -249,18 +252,24 @@ fn items(records: &[RecordType], items: &[Item]) -> bool
 }
 
 /// Tells whether an assignment is run: to a variable, or to a component of the object in one.
-fn is_assigned(name: &Name, expression: &Expr) -> bool
-    ensures { result ≡ (spec.assign (values.reached_by name.now) (values.value_code expression.now)).runs [] }
+fn is_assigned(name: &Name, expression: &Expr, records: &[RecordType]) -> bool
+    ensures { result ≡ (spec.assign (values.reached_by name.now) (values.value_code expression.now)).runs records.now }
 {
-    reached_by(name).is_some() && value(expression)
+    match reached_by(name) {
+        Some(Reached::Variable(_)) => value(expression, records),
+        Some(Reached::Component { record, .. }) => {
+            has_flat(records, record) && value(expression, records)
+        }
+        None => false,
+    }
 }
 
 /// Tells whether the condition of an exit is run, if there is one.
-fn is_exit(condition: &Option<Expr>) -> bool
-    ensures { result ≡ (spec.exit (option_map values.value_code condition.now)).runs [] }
+fn is_exit(condition: &Option<Expr>, records: &[RecordType]) -> bool
+    ensures { result ≡ (spec.exit (option_map values.value_code condition.now)).runs records.now }
 {
     match condition {
-        Some(expression) => value(expression),
+        Some(expression) => value(expression, records),
         None => true,
     }
 }
@@ -280,17 +289,19 @@ fn statement(statement: &Stmt, records: &[RecordType]) -> bool
 {
     match statement {
         Stmt::Null | Stmt::NewLine | Stmt::Raise(_) => true,
-        Stmt::Assign(name, expression) => is_assigned(name, expression),
-        Stmt::Put(text) | Stmt::PutLine(text) => pieces(text.as_slice()),
-        Stmt::Exit(condition) => is_exit(condition),
+        Stmt::Assign(name, expression) => is_assigned(name, expression, records),
+        Stmt::Put(text) | Stmt::PutLine(text) => pieces(text.as_slice(), records),
+        Stmt::Exit(condition) => is_exit(condition, records),
         Stmt::Return(value) => is_return(value),
         Stmt::If(arms, otherwise) => {
             conditional(arms.as_slice(), records) && statements(otherwise.as_slice(), records)
         }
         Stmt::Loop(body) => statements(body.as_slice(), records),
-        Stmt::While(test, body) => value(test) && statements(body.as_slice(), records),
+        Stmt::While(test, body) => value(test, records) && statements(body.as_slice(), records),
         Stmt::For(_, _, low, high, body) => {
-            value(low) && value(high) && statements(body.as_slice(), records)
+            value(low, records)
+                && value(high, records)
+                && statements(body.as_slice(), records)
         }
         Stmt::Block(inside) => master(inside.get(), records),
         Stmt::AssignRecord(..)
@@ -324,7 +335,7 @@ fn statements(statements: &[Stmt], records: &[RecordType]) -> bool
 fn arm(arm: &Arm, records: &[RecordType]) -> bool
     ensures { result ≡ spec.arms_run (spec.arm_code arm.now ∷ []) records.now }
 {
-    value(&arm.test) && statements(arm.body.as_slice(), records)
+    value(&arm.test, records) && statements(arm.body.as_slice(), records)
 }
 
 /// Tells whether arms are run.

@@ -1,6 +1,6 @@
 -- What is left is run as what there was.
 use Rattle.std.proofs.Common.{◌≡◌, drop}
-use Rattle.ctl_gen.specs.Layout.{are_scalar}
+use Rattle.ctl_gen.specs.Records.{are_scalar}
 use Rattle.ctl_gen.proofs.runs.are_scalar.Given as goal
 
 abbrev pub invariant-loop-component : goal.invariant-loop-component

@@ -4,4 +4,4 @@ use Rattle.ctl_gen.specs.Texts.{pieces_are_run}
 use Rattle.ctl_gen.proofs.runs.pieces.Given as goal
 
 abbrev pub invariant-loop-one : goal.invariant-loop-one
-invariant-loop-one l = pieces_are_run (drop l.one-index l.pieces) ≡ pieces_are_run l.pieces
+invariant-loop-one l = pieces_are_run l.records (drop l.one-index l.pieces) ≡ pieces_are_run l.records l.pieces
