@@ -51,3 +51,6 @@ pub mod Given
 pub mod Stored
 pub mod InWindow
 pub mod Stretches
+pub mod Alike
+pub mod Held
+pub mod Laid

@@ -6,7 +6,7 @@ use Rattle.ctl_meaning.specs.World as W
 use Rattle.ctl_meaning.specs.World.{World, Slot, unset, Activation}
 use Rattle.ctl_meaning.specs.Lists.{item_or, opened_lists}
 use Rattle.ctl_meaning.specs.Activations.{slot_in, opened_activations}
-use Rattle.ctl_meaning.specs.Names.{opened_names}
+use Rattle.ctl_meaning.specs.Changes.{opened_changes}
 use Rattle.ctl_code.specs.declared.code.Code.{Code}
 use Rattle.ctl_code.specs.States as T
 use Rattle.ctl_code.specs.Table.{out_of, cell_at}
@@ -109,8 +109,8 @@ beyond_in (m ∷ ms) (act ∷ acts) _ _ bound x slot (newest_master {ks = ks} h 
     slot_of_other x.number m.number slot act acts h.head (is_older ms x m.number b.1 i) ∙ beyond_in ms acts ks _ m.number x slot r b.1 i less
 
 unset_reads_zero : (d : List ℕ) (out slot : ℕ) (w : World) → slot_in (out_of d out) slot w.activations ≡ unset → cell_at d out slot w ≡ 0
-unfolding opened_names opened_lists
-unset_reads_zero d out slot w e = rw e refl
+unfolding opened_changes opened_lists
+unset_reads_zero d out slot w e = ap (λ (x : Slot). x.value) e
 
 pub no_variable_read : (code : Code) (e : Kept) (k : List T.Frame) (ops : List ℕ) (w : World) (d : List ℕ) (out slot : ℕ) → Holds code e k ops w → IsNoVariable d out slot e.masters → cell_at d out slot w ≡ 0
 no_variable_read code e k ops w d out slot h (inl none) = unset_reads_zero d out slot w (ap (λ n. slot_in n slot w.activations) none ∙ not_there 0 slot w.activations (no_zero e.masters w.activations w.ledger.masters e.owned e.next_master h.masters h.below))

@@ -15,6 +15,7 @@ mod leaving;
 mod loops;
 pub mod machine;
 pub mod outcome;
+mod parts;
 mod printing;
 mod showing;
 mod start;
