@@ -1,6 +1,6 @@
 -- The cells of owned objects, as objects come, change and go.
-use Rattle.std.proofs.Common.{◌≡◌, ℕ, zero, suc, ◌+◌, ◌<◌, ◌≤◌, List, [], ◌∷◌, ◌++◌, length, refl, sym, ap, ◌∙◌, subst, arith, map, drop, take, replicate}
-use Rattle.std.proofs.lemmas.List.{length-append, length-replicate, take_all}
+use Rattle.std.proofs.Common.{◌≡◌, ℕ, zero, suc, ◌+◌, ◌≤◌, List, [], ◌∷◌, ◌++◌, length, refl, sym, ap, ◌∙◌, subst, arith, map, drop, take, replicate}
+use Rattle.std.proofs.lemmas.List.{length-replicate, take_all}
 use Rattle.ctl_meaning.specs.World as W
 use Rattle.ctl_machine.specs.declared.frame.Owned.{Owned}
 use Rattle.ctl_machine.specs.Masters.{object_of}
@@ -88,7 +88,7 @@ objects_taken i os parts h =
     let start = first_part (drop i os) (length parts) in
     objects_stay (take i os) 0 start parts (take start parts) (laid_taken i os 0 (length parts) h) (λ first n less. cut_taken first n start parts less)
 
-pub length_taken : (n : ℕ) (xs : List ℕ) → n ≤ length xs → length (take n xs) ≡ n
+pub length_taken : {X : Type 0} (n : ℕ) (xs : List X) → n ≤ length xs → length (take n xs) ≡ n
 length_taken zero xs h = refl
 length_taken (suc n) [] h = absurd (omega (arith, h))
 length_taken (suc n) (x ∷ xs) h = ap (λ c. suc c) (length_taken n xs (omega (arith, h)))

@@ -54,3 +54,7 @@ pub mod Stretches
 pub mod Alike
 pub mod Held
 pub mod Laid
+pub mod PartCells
+pub mod HeldThere
+pub mod Touched
+pub mod PartStored

@@ -17,7 +17,7 @@ use Rattle.ctl_machine.specs.declared.frame.Master.{Master}
 use Rattle.ctl_machine.specs.declared.frame.Mode.TheVariants as ModeOf
 use Rattle.ctl_machine.specs.declared.frame.Owned.{Owned}
 use Rattle.ctl_machine.specs.Masters.{Head, heads_of, first_display, AreMasters, newest_master, AreBelow, IsAmong}
-use Rattle.ctl_machine.specs.Shows.{Sized, Kept, Holds, kept, with_cells}
+use Rattle.ctl_machine.specs.Shows.{Sized, Kept, Holds, kept}
 use Rattle.ctl_machine.specs.Moves.{Before, Makes, GoesOn, here_of}
 use Rattle.ctl_machine.specs.Variables.{IsVariable, IsNoVariable}
 use Rattle.ctl_machine.proofs.Slots.{HaveNo, unwritten, own_written, other_written, is_older}

@@ -1,6 +1,6 @@
 -- What the slots of active masters hold: the objects that were declared there, and for the formal of an operation the object that it was
 -- called for.
-use Rattle.std.specs.Prelude.{◌≡◌, ℕ, zero, suc, ◌<◌, List, [], ◌∷◌, length, drop, take, slice_get, nat_eq, if◌then◌else◌}
+use Rattle.std.specs.Prelude.{◌≡◌, ◌≢◌, ℕ, zero, suc, ◌<◌, List, [], ◌∷◌, Option, Some, None, length, drop, take, slice_get, nat_eq, if◌then◌else◌}
 use Rattle.ctl_meaning.specs.World.{Content, Nothing, Holds, Binds, unset, Activation}
 use Rattle.ctl_meaning.specs.Lists.{item_or}
 use Rattle.ctl_machine.specs.declared.frame.Master.{Master}
@@ -26,3 +26,13 @@ abbrev pub AreHeld : List Master → List Activation → List Owned → Type 0
 AreHeld [] [] owned = Unit {0}
 AreHeld (m ∷ ms) (a ∷ acts) owned = IsHeld m a owned × AreHeld ms acts (take m.owned owned)
 AreHeld _ _ owned = ⊥
+
+-- where the objects of a master end among all of them: where those of the next newer one begin, if there is one
+abbrev pub own_end : Option Master → ℕ → ℕ
+own_end None total = total
+own_end (Some newer) total = newer.owned
+
+-- none of these objects has this number
+abbrev pub Lacks : ℕ → List Owned → Type 0
+Lacks n [] = Unit {0}
+Lacks n (o ∷ os) = (o.number ≢ n) × Lacks n os

@@ -4,10 +4,12 @@
 mod advance;
 mod begin;
 mod calls;
+mod components;
 mod computing;
 mod declare;
 mod engine;
 mod frame;
+mod holders;
 mod initialize;
 mod jumps;
 mod layers;

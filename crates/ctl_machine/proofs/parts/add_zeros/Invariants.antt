@@ -1,4 +1,4 @@
-use Rattle.std.specs.Prelude.{◌≡◌, ◌+◌, ◌≤◌, ◌++◌, replicate, vec_len, vec_capacity}
+use Rattle.std.specs.Prelude.{◌≡◌, ◌+◌, ◌++◌, replicate, vec_len, vec_capacity}
 use Rattle.ctl_machine.proofs.parts.add_zeros.Given as goal
 
 abbrev pub invariant-loop : goal.invariant-loop
