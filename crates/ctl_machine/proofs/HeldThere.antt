@@ -20,7 +20,7 @@ use Rattle.ctl_machine.specs.Masters.{Head, heads_of, AreMasters, newest_master,
 use Rattle.ctl_machine.specs.Holders.{holder_in, formal_content, AreHeld, own_end, Lacks}
 use Rattle.ctl_machine.specs.Variables.{IsNoVariable}
 use Rattle.ctl_machine.specs.Shows.{Kept, Holds, kept}
-use Rattle.ctl_machine.proofs.Lists.{eq_same, eq_differs, get_index, get_right, same_at}
+use Rattle.ctl_machine.proofs.Lists.{eq_same, eq_differs, get_index, get_right}
 use Rattle.ctl_machine.proofs.Links.{get_split}
 use Rattle.ctl_machine.proofs.Slots.{is_older, slot_of_own, slot_of_other}
 use Rattle.ctl_machine.proofs.Reached.{no_variable_slot}
@@ -184,11 +184,6 @@ holder_none os start at slot c h = ap (λ (l : List Owned). holder_in l slot c) 
     drop_short (x ∷ xs) (suc i) (suc j) h = drop_short xs i j (omega (arith, h))
 
 -- Objects by number ----------------------------------------------------------------------------------------
-
-pub lacks_more : (os : List Owned) (at n : ℕ) (o : Owned) → slice_get os at ≡ Some o → o.number ≢ n → Lacks n (drop (suc at) os) → Lacks n (drop at os)
-lacks_more [] at n o e differs h = absurd (cc)
-lacks_more (x ∷ os) zero n o e differs h = ((λ same. differs (ap (λ (z : Owned). z.number) (sym (same_at x o (Some x) refl e)) ∙ same)), h)
-lacks_more (x ∷ os) (suc at) n o e differs h = lacks_more os at n o e differs h
 
 lacking : (parts : List ℕ) (os : List Owned) (n : ℕ) → Lacks n os → object_in n (map (object_of parts) os) ≡ None
 unfolding opened_lists opened_objects

@@ -58,3 +58,4 @@ pub mod PartCells
 pub mod HeldThere
 pub mod Touched
 pub mod PartStored
+pub mod Numbers

@@ -1,9 +1,10 @@
 //! Which object a slot holds, and where it stands among the owned objects.
 
-ghost use Rattle.std.specs.Prelude.{◌≡◌, ◌≤◌, IfSome, IsNone, Some, drop, length, slice_get, take};
+ghost use Rattle.std.specs.Prelude.{◌≡◌, ◌≤◌, ℕ, IfSome, IsNone, Some, drop, length, slice_get, take};
 ghost use Rattle.ctl_code.specs.Table as Table;
 ghost use Rattle.ctl_machine.specs.declared.frame.Owned.{Owned};
 ghost use Rattle.ctl_machine.specs.Holders.{Lacks, formal_content, holder_in};
+ghost use Rattle.ctl_machine.specs.Masters.{RiseBelow};
 
 use crate::frame::Owned;
 
@@ -41,16 +42,24 @@ pub(crate) fn holder(
     formal(subject, slot)
 }
 
-/// Finds the owned object of this number.
+/// Finds the owned object of this number; the numbers rise.
 pub(crate) fn find(owned: &[Owned], number: u64) -> Option<usize>
+    requires { (bound : ℕ) × RiseBelow 1 owned.now bound }
     ensures some { IfSome result (λ at. (o : Owned) × (slice_get owned.now at ≡ Some o) × (o.number ≡ number)) }
     ensures none { IsNone result → Lacks number owned.now }
 {
-    let mut at = owned.len();
-    while at > 0 {
-        at -= 1;
-        if owned[at].number == number {
-            return Some(at);
+    let mut low = 0;
+    let mut high = owned.len();
+    while low < high {
+        let middle = low + (high - low) / 2;
+        let found = owned[middle].number;
+        if found == number {
+            return Some(middle);
+        }
+        if found < number {
+            low = middle + 1;
+        } else {
+            high = middle;
         }
     }
     None

@@ -1,9 +1,10 @@
-use Rattle.std.specs.Prelude.{◌≤◌, length, drop}
-use Rattle.ctl_machine.specs.Holders.{Lacks}
+use Rattle.std.specs.Prelude.{◌≤◌, ◌-◌, length, drop, take}
+use Rattle.ctl_machine.proofs.Numbers.{AreUnder, AreOver}
 use Rattle.ctl_machine.proofs.holders.find.Given as goal
 
-abbrev pub invariant-loop-at : goal.invariant-loop-at
-invariant-loop-at l = (l.at ≤ length l.owned) × Lacks l.number (drop l.at l.owned)
+-- those before have lower numbers, and those behind higher ones
+abbrev pub invariant-loop-low : goal.invariant-loop-low
+invariant-loop-low l = (l.high ≤ length l.owned) × AreUnder l.number (take l.low l.owned) × AreOver l.number (drop l.high l.owned)
 
-abbrev pub decreases-loop-at : goal.decreases-loop-at
-decreases-loop-at l = l.at
+abbrev pub decreases-loop-low : goal.decreases-loop-low
+decreases-loop-low l = l.high - l.low

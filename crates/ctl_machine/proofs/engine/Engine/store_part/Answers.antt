@@ -7,6 +7,7 @@ use Rattle.ctl_machine.specs.declared.engine.Engine.{Engine}
 use Rattle.ctl_machine.specs.declared.frame.Mode.TheVariants.{At}
 use Rattle.ctl_machine.specs.declared.frame.Owned.{Owned}
 use Rattle.ctl_machine.specs.Holders.{Lacks}
+use Rattle.ctl_machine.specs.Masters.{RiseBelow}
 use Rattle.ctl_machine.specs.Parts.{part_written}
 use Rattle.ctl_machine.specs.Shows.{kept}
 use Rattle.ctl_machine.proofs.Links.{got}
@@ -20,6 +21,9 @@ take-value-requires g c = value_within c.args.code.now c.args.self.now c.args.pl
 
 pub take-number-requires : goal.take-number-requires
 take-number-requires g c = number_within c.args.code.now c.args.self.now c.args.place g.s c.args.from.now c.args.at c.requires.0.0 c.requires.0.1 c.requires.0.2 c.requires.0.3
+
+pub find-requires : goal.find-requires
+find-requires g c = (c.args.self.now.given_objects + 1, subst (λ (l : List Owned). RiseBelow 1 l (c.args.self.now.given_objects + 1)) (sym c.as_slice.ensures.value) c.requires.0.3.inside.holds.rise)
 
 pub index-requires : goal.index-requires
 index-requires g c =
