@@ -8,7 +8,6 @@ use Rattle.ctl_program.specs.declared.operators.Direction.{Direction}
 use Rattle.ctl_program.specs.declared.operators.Direction.TheVariants.{Upward, Downward}
 use Rattle.ctl_meaning.specs.World.{World}
 use Rattle.ctl_meaning.specs.Lists.{last_of, opened_lists}
-use Rattle.ctl_meaning.specs.Names.{opened_names}
 use Rattle.ctl_code.specs.declared.kinds.Kind.{Kind}
 use Rattle.ctl_code.specs.declared.kinds.Kind.TheVariants.{Operand}
 use Rattle.ctl_code.specs.declared.code.Code.{Code}
@@ -20,7 +19,7 @@ use Rattle.ctl_code.specs.Windows.{height, variable_at}
 use Rattle.ctl_machine.specs.declared.engine.Engine.{Engine}
 use Rattle.ctl_machine.specs.declared.frame.Mode.TheVariants as ModeOf
 use Rattle.ctl_machine.specs.Masters.{Head, HaveRoom, heads_of, first_display, first_window}
-use Rattle.ctl_machine.specs.Under.{under, tall, laid, cell_in}
+use Rattle.ctl_machine.specs.Under.{under, tall, laid}
 use Rattle.ctl_machine.specs.Shows.{Sized, Kept, Holds, with_cells, kept}
 use Rattle.ctl_machine.specs.Moves.{Inside, Makes, GoesOn}
 use Rattle.ctl_machine.specs.Turns.{counted}
@@ -66,6 +65,8 @@ operand_set code e k above ops w x y at h is =
       below = h.below;
       waits = h.waits;
       objects = h.objects;
+      lie = h.lie;
+      held = h.held;
       rise = h.rise;
       next_master = h.next_master;
       next_object = h.next_object;

@@ -51,3 +51,11 @@ pub mod Given
 pub mod Stored
 pub mod InWindow
 pub mod Stretches
+pub mod Alike
+pub mod Held
+pub mod Laid
+pub mod PartCells
+pub mod HeldThere
+pub mod Touched
+pub mod PartStored
+pub mod Numbers

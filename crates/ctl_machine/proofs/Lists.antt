@@ -1,6 +1,6 @@
 -- Lists that are read and written at a place.
-use Rattle.std.proofs.Common.{◌≡◌, ◌≢◌, ℕ, zero, suc, ◌+◌, ◌<◌, List, [], ◌∷◌, ◌++◌, Some, true, false, length, refl, ap, arith, map}
-use Rattle.std.specs.Prelude.{slice_get, slice_set, option_map, nat_eq}
+use Rattle.std.proofs.Common.{◌≡◌, ◌≢◌, ℕ, zero, suc, ◌+◌, ◌<◌, List, [], ◌∷◌, ◌++◌, Option, Some, None, true, false, length, refl, sym, ap, ◌∙◌, arith, map}
+use Rattle.std.specs.Prelude.{slice_get, slice_index_or, slice_set, option_map, nat_eq}
 use Rattle.std.proofs.lemmas.Bool.Decides.{nat_tests}
 
 pub eq_same : (a b : ℕ) → a ≡ b → nat_eq a b ≡ true
@@ -52,3 +52,16 @@ pub get_map : {X Y : Type 0} (f : X → Y) (xs : List X) (i : ℕ) (x : X) → s
 get_map f [] i x h = absurd (cc)
 get_map f (y ∷ ys) zero x h = ap (λ o. option_map f o) h
 get_map f (y ∷ ys) (suc i) x h = get_map f ys i x h
+
+-- what stands at a place is one thing
+pub same_at : {X : Type 0} (a b : X) (o : Option X) → o ≡ Some a → o ≡ Some b → a ≡ b
+same_at {X} a b o p q = ap (λ (x : Option X). item_of x) (sym p ∙ q)
+  where
+    item_of : Option X → X
+    item_of None = a
+    item_of (Some c) = c
+
+pub get_index : {X : Type 0} (xs : List X) (i : ℕ) (d : X) → i < length xs → slice_get xs i ≡ Some (slice_index_or xs i d)
+get_index [] i d h = absurd (omega (arith, h))
+get_index (x ∷ xs) zero d h = refl
+get_index (x ∷ xs) (suc i) d h = get_index xs i d (omega (arith, h))

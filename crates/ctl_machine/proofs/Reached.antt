@@ -1,12 +1,13 @@
 -- Variables of bodies around, by their links.
 use Rattle.std.proofs.Common.{◌≡◌, ℕ, zero, suc, ◌+◌, ◌-◌, ◌<◌, ◌≤◌, List, [], ◌∷◌, Option, Some, None, length, refl, sym, ap, ◌∙◌, subst, arith, reverse, ◌⊎◌, inl, inr}
-use Rattle.std.specs.Prelude.{slice_get}
+use Rattle.std.specs.Prelude.{slice_get, slice_index_or}
 use Rattle.std.proofs.lemmas.List.{reverse-append, reverse-reverse}
+use Rattle.std.proofs.lemmas.Option.{slice_get_within}
 use Rattle.ctl_meaning.specs.World as W
 use Rattle.ctl_meaning.specs.World.{World, Slot, unset, Activation}
 use Rattle.ctl_meaning.specs.Lists.{item_or, opened_lists}
 use Rattle.ctl_meaning.specs.Activations.{slot_in, opened_activations}
-use Rattle.ctl_meaning.specs.Names.{opened_names}
+use Rattle.ctl_meaning.specs.Changes.{opened_changes}
 use Rattle.ctl_code.specs.declared.code.Code.{Code}
 use Rattle.ctl_code.specs.States as T
 use Rattle.ctl_code.specs.Table.{out_of, cell_at}
@@ -17,8 +18,8 @@ use Rattle.ctl_machine.specs.Masters.{Head, heads_of, AreBelow, AreMasters, newe
 use Rattle.ctl_machine.specs.Links.{AreLinked, IsAtPlace}
 use Rattle.ctl_machine.specs.Shows.{Kept, Holds, kept}
 use Rattle.ctl_machine.specs.Variables.{IsVariable, IsNoVariable}
-use Rattle.ctl_machine.proofs.Lists.{eq_differs}
-use Rattle.ctl_machine.proofs.Links.{get_split, none_around, are_linked}
+use Rattle.ctl_machine.proofs.Lists.{eq_differs, same_at}
+use Rattle.ctl_machine.proofs.Links.{got, get_split, none_around, are_linked}
 use Rattle.ctl_machine.proofs.Places.{out_none, out_more}
 use Rattle.ctl_machine.proofs.Slots.{HaveNo, slot_of_other, slot_of_own, is_older}
 
@@ -51,6 +52,12 @@ out_of_all count out hs e = ap (λ n. out_of (display_from n hs) out) e ∙ ap (
 
 pub linked_in : (code : Code) (e : Engine) (k : List T.Frame) (ops : List ℕ) (w : World) → Holds code (kept e) k ops w → AreLinked e.masters.items (heads_of w.activations)
 linked_in code e k ops w h = subst (λ (l : List Master). AreLinked l (heads_of w.activations)) (reverse-reverse e.masters.items) (are_linked h.masters)
+
+-- the master at a place, as it is read
+pub there_read : (ms : List Master) (i out : ℕ) (d : List ℕ) (m : Master) → ((x : Master) × (slice_get ms i ≡ Some x) × (out_of d out ≡ x.number)) → m ≡ slice_index_or ms i m → (slice_get ms i ≡ Some m) × (out_of d out ≡ m.number)
+there_read ms i out d m there read =
+    let found = got ms i m (slice_get_within ms i there.0 there.1) read in
+    (found, there.2 ∙ ap (λ (x : Master). x.number) (same_at there.0 m (slice_get ms i) there.1 found))
 
 -- an item of the stack is among the masters
 among_reversed : (ms : List Master) (i : ℕ) (m : Master) → slice_get (reverse ms) i ≡ Some m → IsAmong m ms
@@ -109,9 +116,13 @@ beyond_in (m ∷ ms) (act ∷ acts) _ _ bound x slot (newest_master {ks = ks} h 
     slot_of_other x.number m.number slot act acts h.head (is_older ms x m.number b.1 i) ∙ beyond_in ms acts ks _ m.number x slot r b.1 i less
 
 unset_reads_zero : (d : List ℕ) (out slot : ℕ) (w : World) → slot_in (out_of d out) slot w.activations ≡ unset → cell_at d out slot w ≡ 0
-unfolding opened_names opened_lists
-unset_reads_zero d out slot w e = rw e refl
+unfolding opened_changes opened_lists
+unset_reads_zero d out slot w e = ap (λ (x : Slot). x.value) e
+
+-- a slot that no master has holds nothing
+pub no_variable_slot : (code : Code) (e : Kept) (k : List T.Frame) (ops : List ℕ) (w : World) (d : List ℕ) (out slot : ℕ) → Holds code e k ops w → IsNoVariable d out slot e.masters → slot_in (out_of d out) slot w.activations ≡ unset
+no_variable_slot code e k ops w d out slot h (inl none) = ap (λ n. slot_in n slot w.activations) none ∙ not_there 0 slot w.activations (no_zero e.masters w.activations w.ledger.masters e.owned e.next_master h.masters h.below)
+no_variable_slot code e k ops w d out slot h (inr v) = ap (λ n. slot_in n slot w.activations) v.number ∙ beyond_in e.masters w.activations w.ledger.masters e.owned e.next_master v.master slot h.masters h.below v.among v.beyond
 
 pub no_variable_read : (code : Code) (e : Kept) (k : List T.Frame) (ops : List ℕ) (w : World) (d : List ℕ) (out slot : ℕ) → Holds code e k ops w → IsNoVariable d out slot e.masters → cell_at d out slot w ≡ 0
-no_variable_read code e k ops w d out slot h (inl none) = unset_reads_zero d out slot w (ap (λ n. slot_in n slot w.activations) none ∙ not_there 0 slot w.activations (no_zero e.masters w.activations w.ledger.masters e.owned e.next_master h.masters h.below))
-no_variable_read code e k ops w d out slot h (inr v) = unset_reads_zero d out slot w (ap (λ n. slot_in n slot w.activations) v.number ∙ beyond_in e.masters w.activations w.ledger.masters e.owned e.next_master v.master slot h.masters h.below v.among v.beyond)
+no_variable_read code e k ops w d out slot h none = unset_reads_zero d out slot w (no_variable_slot code e k ops w d out slot h none)

@@ -17,10 +17,11 @@ use Rattle.ctl_machine.specs.declared.frame.Master.{Master}
 use Rattle.ctl_machine.specs.declared.frame.Mode.TheVariants as ModeOf
 use Rattle.ctl_machine.specs.declared.frame.Owned.{Owned}
 use Rattle.ctl_machine.specs.Masters.{Head, heads_of, first_display, AreMasters, newest_master, AreBelow, IsAmong}
-use Rattle.ctl_machine.specs.Shows.{Sized, Kept, Holds, kept, with_cells}
+use Rattle.ctl_machine.specs.Shows.{Sized, Kept, Holds, kept}
 use Rattle.ctl_machine.specs.Moves.{Before, Makes, GoesOn, here_of}
 use Rattle.ctl_machine.specs.Variables.{IsVariable, IsNoVariable}
 use Rattle.ctl_machine.proofs.Slots.{HaveNo, unwritten, own_written, other_written, is_older}
+use Rattle.ctl_machine.proofs.Held.{no_number}
 use Rattle.ctl_machine.proofs.Values.{IsTaken, taken, value_put}
 use Rattle.ctl_machine.proofs.Plain.{goes_makes}
 use Rattle.ctl_machine.proofs.Computed.{cell_of, same_value}
@@ -32,12 +33,6 @@ set_beyond : {X : Type 0} (xs : List X) (i : ℕ) (y : X) → length xs ≤ i �
 set_beyond [] i y less = refl
 set_beyond (x ∷ xs) zero y less = absurd (omega (arith, less))
 set_beyond (x ∷ xs) (suc i) y less = ap (λ l. x ∷ l) (set_beyond xs i y (omega (arith, less)))
-
--- numbers of active masters are below this one
-no_number : (ms : List Master) (acts : List Activation) (ks : List W.Master) (owned : List Owned) (n j : ℕ) → AreMasters ms (heads_of acts) ks owned → AreBelow ms n → n ≤ j → HaveNo j acts
-no_number ms [] ks owned n j a b less = tt
-no_number [] (x ∷ acts) ks owned n j a b less = elim a [ ]
-no_number (m ∷ ms) (x ∷ acts) _ _ n j (newest_master {ks = ks} h o r) b less = let i = h.head in let below = b.0 in ((λ same. omega (arith, same, i, below, less)), no_number ms acts ks _ m.number j r b.1 (omega (arith, below, less)))
 
 beyond_written : (ms : List Master) (acts : List Activation) (ks : List W.Master) (owned : List Owned) (bound : ℕ) (x : Master) (slot : ℕ) (y : Slot) → AreMasters ms (heads_of acts) ks owned → AreBelow ms bound → IsAmong x ms → x.slots ≤ slot → change_slot x.number slot y acts ≡ acts
 beyond_written [] acts ks owned bound x slot y a b i less = absurd i

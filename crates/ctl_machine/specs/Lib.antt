@@ -12,3 +12,5 @@ pub mod Initializing
 pub mod Variables
 pub mod Declaring
 pub mod Windows
+pub mod Parts
+pub mod Holders

@@ -32,6 +32,7 @@ impl Engine {
             link: 0,
             depth: 1,
             owned: self.count_owned(),
+            subject: 0,
         };
         self.reserve()?;
         self.open(master, After::Body, entry.place);

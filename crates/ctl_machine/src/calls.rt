@@ -120,6 +120,7 @@ impl Engine {
         ensures objects { self.new.given_objects ≡ self.old.given_objects }
         ensures waiting { vec_len self.new.control ≡ vec_len self.old.control }
         ensures owned { self.new.owned ≡ self.old.owned }
+        ensures parts { self.new.parts ≡ self.old.parts }
     {
         let wanted = base.checked_add(room).ok_or(AllocError)?;
         self.masters.reserve(1)?;
@@ -141,6 +142,7 @@ impl Engine {
         ensures owned { self.new.owned.items ≡ slice_set self.old.owned.items at (begun o) }
         ensures masters { self.new.masters ≡ self.old.masters }
         ensures cells { self.new.cells ≡ self.old.cells }
+        ensures parts { self.new.parts ≡ self.old.parts }
         ensures numbers { (self.new.given_masters ≡ self.old.given_masters) × (self.new.given_objects ≡ self.old.given_objects) }
         ensures events { self.new.events.items ≡ self.old.events.items ++ Finalize (Table.whole_part o.number) Scope ∷ [] }
         ensures picks { self.new.picks.items ≡ self.old.picks.items }
@@ -181,6 +183,7 @@ impl Engine {
             link,
             depth: self.depth_at(link) + 1,
             owned: self.count_owned(),
+            subject: self.owned[at].number,
         };
         self.prepare(base, code.room)?;
         self.begin_layer(at, departure.frame(at));

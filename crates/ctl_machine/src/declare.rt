@@ -11,30 +11,34 @@ ghost use Rattle.ctl_machine.specs.Declaring.{CallsInitialize, with_object};
 
 use crate::engine::Engine;
 use crate::frame::{After, Frame, Life, Master, Mode, Owned};
+use crate::parts::{add_zeros, size_of};
 use crate::showing::{show_life, whole};
 use ctl_code::code::{Code, Entry, Operations};
 use ctl_tree::event::Event;
 use std::alloc::AllocError;
 
 impl Engine {
-    /// Reserves room for an object and for what is shown of it; nothing else changes.
-    fn reserve_object(&mut self) -> Result<(), AllocError>
+    /// Reserves room for an object of so many cells and for what is shown of it; nothing else changes.
+    fn reserve_object(&mut self, size: usize) -> Result<(), AllocError>
         ensures same { GoesOn self.old self.new self.old.mode self.old.cells.items }
         ensures owned { OnOk result (vec_len self.new.owned < vec_capacity self.new.owned) }
+        ensures parts { OnOk result (vec_len self.new.parts + size ≤ vec_capacity self.new.parts) }
         ensures events { OnOk result (vec_len self.new.events < vec_capacity self.new.events) }
         ensures number { self.new.given_objects ≡ self.old.given_objects }
     {
         self.owned.reserve(1)?;
+        self.parts.reserve(size)?;
         self.events.reserve(1)?;
         Ok(())
     }
 
-    /// Creates an object of the newest master, for which there is room, and clears the cell of its slot (RM 3.3.1).
-    fn create(&mut self, newest: Master, slot: usize, record: usize, life: Life)
+    /// Creates an object of the newest master with so many cells, for which there is room, and clears the cell of its slot (RM 3.3.1).
+    fn create(&mut self, newest: Master, slot: usize, record: usize, size: usize, life: Life)
         requires room { vec_len self.old.owned < vec_capacity self.old.owned }
+        requires parts { vec_len self.old.parts + size ≤ vec_capacity self.old.parts }
         requires number { self.old.given_objects + 1 < 2 ^ 64 }
         requires cell { slot < newest.slots → newest.base + slot < length self.old.cells.items }
-        ensures kept { kept self.new ≡ with_object newest slot «record» life (kept self.old) }
+        ensures kept { kept self.new ≡ with_object newest slot «record» size life (kept self.old) }
         ensures masters { self.new.masters ≡ self.old.masters }
         ensures control { self.new.control ≡ self.old.control }
         ensures events { self.new.events ≡ self.old.events }
@@ -44,10 +48,14 @@ impl Engine {
         self.given_objects += 1;
         self.owned.push_reserved(Owned {
             number: self.given_objects,
+            slot,
             record,
             master: newest.number,
+            first: self.parts.as_slice().len(),
+            cells: size,
             life,
         });
+        add_zeros(&mut self.parts, size);
         if slot < newest.slots {
             self.cells[newest.base + slot] = 0;
         }
@@ -72,10 +80,10 @@ impl Engine {
         ensures ok { OnOk result (Makes code.now self.old self.new (Table.by_instr code.now (Some (InstrOf.Declare slot «record»)) s.operands (here_of place s))) }
         ensures err { OnErr result (GoesOn self.old self.new self.old.mode self.old.cells.items) }
     {
-        let _ = code;
+        let size = size_of(code, record);
         let newest = self.newest();
-        self.reserve_object()?;
-        self.create(newest, slot, record, Life::Layer);
+        self.reserve_object(size)?;
+        self.create(newest, slot, record, size, Life::Layer);
         show_life(
             self.alloc,
             &mut self.events,
@@ -87,8 +95,14 @@ impl Engine {
         Ok(())
     }
 
-    /// Makes room for an object, and for the call of its Initialize, whose window begins with this cell and has so many; nothing else changes.
-    fn reserve_initialize(&mut self, base: usize, room: usize) -> Result<(), AllocError>
+    /// Makes room for an object of so many cells, and for the call of its Initialize, whose window begins with this cell and has so many;
+    /// nothing else changes.
+    fn reserve_initialize(
+        &mut self,
+        size: usize,
+        base: usize,
+        room: usize,
+    ) -> Result<(), AllocError>
         ensures ok { OnOk result ((more : List ℕ) × GoesOn self.old self.new self.old.mode (self.old.cells.items ++ more)) }
         ensures err { OnErr result (GoesOn self.old self.new self.old.mode self.old.cells.items) }
         ensures cells { OnOk result (base + room ≤ length self.new.cells.items) }
@@ -96,10 +110,12 @@ impl Engine {
         ensures control { OnOk result (vec_len self.new.control + 2 ≤ vec_capacity self.new.control) }
         ensures events { OnOk result (vec_len self.new.events < vec_capacity self.new.events) }
         ensures owned { OnOk result (vec_len self.new.owned < vec_capacity self.new.owned) }
+        ensures parts { OnOk result (vec_len self.new.parts + size ≤ vec_capacity self.new.parts) }
         ensures number { self.new.given_masters ≡ self.old.given_masters }
         ensures objects { self.new.given_objects ≡ self.old.given_objects }
     {
         self.owned.reserve(1)?;
+        self.parts.reserve(size)?;
         self.prepare(base, room)
     }
 
@@ -127,8 +143,9 @@ impl Engine {
         let base = self.window() + code.kinds.height_at(place, 0);
         let link = self.around(entry.level);
         let depth = self.depth_at(link) + 1;
-        self.reserve_initialize(base, code.room)?;
-        self.create(newest, slot, record, Life::Created);
+        let size = size_of(code, record);
+        self.reserve_initialize(size, base, code.room)?;
+        self.create(newest, slot, record, size, Life::Created);
         self.control.push_reserved(Frame::Initializing(place + 1));
         self.events
             .push_reserved(Event::Initialize(whole(self.alloc, self.given_objects)));
@@ -140,6 +157,7 @@ impl Engine {
             link,
             depth,
             owned: self.count_owned(),
+            subject: self.given_objects,
         };
         self.open(master, After::Body, entry.place);
         Ok(())

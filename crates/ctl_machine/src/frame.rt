@@ -71,6 +71,8 @@ pub struct Master {
     pub depth: usize,
     /// how many objects were owned when it was entered
     pub owned: usize,
+    /// the object that its body was called for, which has the first slot as a formal; 0 where there is none
+    pub subject: u64,
 }
 
 /// How far the life of an owned object has come. Between its creation and its finalization it is a layer of its master (RM 7.6.1).
@@ -82,11 +84,15 @@ pub enum Life {
     Finalized,
 }
 
-/// A declared object of a record type, and its master.
+/// A declared object of a record type, and its master. Its components are so many cells among those of all objects, from `first` on.
 #[derive(Clone, Copy)]
 pub struct Owned {
     pub number: u64,
+    /// the slot of its declaration in its master
+    pub slot: usize,
     pub record: usize,
     pub master: u64,
+    pub first: usize,
+    pub cells: usize,
     pub life: Life,
 }

@@ -13,7 +13,7 @@ ghost use Rattle.ctl_machine.specs.declared.frame.Master.{Master};
 ghost use Rattle.ctl_machine.specs.declared.frame.Mode.TheVariants as ModeOf;
 ghost use Rattle.ctl_machine.specs.declared.frame.Owned.{Owned};
 ghost use Rattle.ctl_code.specs.declared.code.Way.TheVariants as WayOf;
-ghost use Rattle.ctl_machine.specs.Initializing.{IsNewest, Turns, held, new_of};
+ghost use Rattle.ctl_machine.specs.Initializing.{IsNewest, Turns};
 ghost use Rattle.ctl_machine.specs.Moves.{Before, BeforeResuming, GoesOn, Makes, here_of};
 ghost use Rattle.ctl_machine.specs.Shows as Shows;
 

@@ -1,11 +1,12 @@
 //! Instructions that give a number to a scalar object, and that reach a variable of a body around (RM 3.3.1, 8.3).
 
-ghost use Rattle.std.specs.Prelude.{◌≡◌, ◌+◌, ◌^◌, ◌<◌, IfSome, IsNone, List, Some, ℕ, reverse, slice_get};
+ghost use Rattle.std.specs.Prelude.{◌≡◌, ◌+◌, ◌^◌, ◌<◌, IfSome, IsNone, List, Some, reverse, slice_get};
 ghost use Rattle.ctl_code.specs.declared.code.Instr.TheVariants as InstrOf;
 ghost use Rattle.ctl_program.specs.declared.types.Ty.{Ty};
 ghost use Rattle.ctl_code.specs.Table as Table;
 ghost use Rattle.ctl_code.specs.States.{State};
 ghost use Rattle.ctl_code.specs.Valid.{IsValid};
+ghost use Rattle.ctl_machine.specs.declared.frame.Master.{Master};
 ghost use Rattle.ctl_machine.specs.Instructions.{Reaches};
 ghost use Rattle.ctl_machine.specs.Links.{AreLinked};
 ghost use Rattle.ctl_machine.specs.Masters.{Head, first_display, heads_of};
@@ -14,15 +15,15 @@ ghost use Rattle.ctl_machine.specs.Shows.{Holds, kept};
 ghost use Rattle.ctl_machine.specs.Variables.{IsNoVariable, IsVariable};
 
 use crate::engine::Engine;
-use crate::frame::{Master, Mode};
+use crate::frame::Mode;
 use ctl_code::code::{Cell, Code, Instr};
 
 impl Engine {
-    /// Answers the master so many further out than the newest, by the links; None where there is none.
-    fn master_out(&self, out: usize) -> Option<Master>
+    /// Answers the place of the master so many further out than the newest, by the links; None where there is none.
+    pub(crate) fn master_out(&self, out: usize) -> Option<usize>
         ghost hs: { List Head }
         requires { AreLinked self.now.masters.items hs }
-        ensures there { IfSome result (λ m. (i : ℕ) × (slice_get self.now.masters.items i ≡ Some m) × (Table.out_of (first_display hs) out ≡ m.number)) }
+        ensures there { IfSome result (λ i. (m : Master) × (slice_get self.now.masters.items i ≡ Some m) × (Table.out_of (first_display hs) out ≡ m.number)) }
         ensures none { IsNone result → Table.out_of (first_display hs) out ≡ 0 }
     {
         let mut count = self.count_masters();
@@ -30,7 +31,7 @@ impl Engine {
         while count > 0 {
             let master = self.masters[count - 1];
             if left == 0 {
-                return Some(master);
+                return Some(count - 1);
             }
             left -= 1;
             count = master.link;
@@ -46,7 +47,8 @@ impl Engine {
         ensures none { IsNone result → IsNoVariable (first_display (heads_of s.world.activations)) out slot (reverse self.now.masters.items) }
     {
         let _ = code;
-        let master = self.master_out(out)?;
+        let place = self.master_out(out)?;
+        let master = self.masters[place];
         if slot >= master.slots {
             return None;
         }

@@ -10,7 +10,18 @@ use Rattle.ctl_machine.specs.declared.frame.Master.{Master}
 use Rattle.ctl_machine.specs.Shows.{Kept}
 use Rattle.ctl_machine.specs.Departing.{begun}
 use Rattle.ctl_machine.proofs.Called.{linked_by, call_makes, HasBegun, IsFinalizer}
+use Rattle.std.proofs.lemmas.Option.{slice_get_within}
+use Rattle.ctl_machine.specs.declared.frame.Owned.{Owned}
+use Rattle.ctl_machine.proofs.Links.{got}
+use Rattle.ctl_machine.proofs.Resumed.{same_object}
 use Rattle.ctl_machine.proofs.engine.Engine.call_finalize.Goals as goal
+
+pub index-requires : goal.index-requires
+index-requires g c =
+    let object = c.requires.1.0.layer.found in
+    let within = slice_get_within c.args.self.now.owned.items c.args.at g.t.1 object in
+    let many = c.args.self.now.owned.ok.1 in
+    omega (arith, within, many)
 
 pub around-link-requires : goal.around-link-requires
 around-link-requires g c = linked_by c.args.code.now c.args.self.now c.args.departure.failed c.args.departure.pending c.args.departure.after c.requires.1.0.next g.t.0 c.requires.1.0.departs
@@ -42,7 +53,7 @@ returns-clause-ok g c =
     let more = c.in_ok-prepare.ensures.ok.0 in
     let goes = c.in_ok-prepare.ensures.ok.1 in
     let entry = c.args.entry.now in
-    let m : Master = record { number = old.given_masters + 1; window = c.end_of_newest-base.result; base = c.end_of_newest-base.result; slots = entry.slots; link = c.around-link.result; depth = c.depth_at.result + 1; owned = c.count_owned.result } in
+    let m : Master = record { number = old.given_masters + 1; window = c.end_of_newest-base.result; base = c.end_of_newest-base.result; slots = entry.slots; link = c.around-link.result; depth = c.depth_at.result + 1; owned = c.count_owned.result; subject = c.index.result.now.number } in
     let is : IsFinalizer old m entry _ = record { number = refl; window = refl; base = c.end_of_newest-base.ensures; slots = refl; link = c.around-link.ensures.bound; display = c.around-link.ensures.display; depth = ap (λ n. n + 1) c.depth_at.ensures.depth; shallow = let s = c.depth_at.ensures.shallow in omega (arith, s); owned = c.count_owned.ensures } in
     let cells : prepared.cells.items ≡ old.cells.items ++ more = ap (λ (e : Kept). e.cells) goes.kept in
     let has : HasBegun old ready c.args.departure.failed c.args.departure.pending c.args.departure.after c.args.at g.t.1 (old.cells.items ++ more) = record {
@@ -50,12 +61,16 @@ returns-clause-ok g c =
       owned = c.begin_layer.ensures.owned ∙ ap (λ (e : Kept). slice_set e.owned c.args.at (begun g.t.1)) goes.kept;
       masters = ap (λ v. reverse v.items) c.begin_layer.ensures.masters ∙ ap (λ (e : Kept). e.masters) goes.kept;
       cells = ap (λ v. v.items) c.begin_layer.ensures.cells ∙ cells;
+      parts = ap (λ v. v.items) c.begin_layer.ensures.parts ∙ ap (λ v. v.items) c.in_ok-prepare.ensures.parts;
       given_masters = c.begin_layer.ensures.numbers.0 ∙ c.in_ok-prepare.ensures.number;
       given_objects = c.begin_layer.ensures.numbers.1 ∙ c.in_ok-prepare.ensures.objects;
     } in
+    let object = c.requires.1.0.layer.found in
+    let within = slice_get_within old.owned.items c.args.at g.t.1 object in
+    let subject : m.subject ≡ g.t.1.number = ap (λ (o : Owned). o.number) (same_object c.index.result.now g.t.1 (slice_get old.owned.items c.args.at) (got old.owned.items c.args.at c.index.result.now within c.index.ensures) object) in
     call_makes c.args.code.now old ready c.open.new.self c.args.departure.failed c.args.departure.pending c.args.departure.after c.args.at entry g.t.0 g.t.1 m more c.requires.0 c.requires.1.0 is
     (subst (λ (l : List ℕ). c.end_of_newest-base.result + c.args.code.now.room ≤ length l) cells c.in_ok-prepare.ensures.cells)
-    has
+    subject has
     (c.begin_layer.ensures.events ∙ ap (λ (l : List Event). l ++ Finalize (whole_part g.t.1.number) Scope ∷ []) goes.events)
     (c.begin_layer.ensures.picks ∙ goes.picks)
     c.open.ensures

@@ -11,7 +11,7 @@ returns-then-left-eq0-clause-there g c =
     let within = c.loop-count.invariant.0 in
     let found = got c.args.self.now.masters.items (c.loop-count.count - 1) c.index-master.result.now (omega (arith, some, within)) c.index-master.ensures in
     let none : c.loop-count.left ≡ 0 = omega (arith, c.if-left-eq0.true) in
-    (c.loop-count.count - 1, found, sym c.loop-count.invariant.1 ∙ (ap (λ (n : ℕ). out_of (display_from c.loop-count.count g.hs) n) none ∙ out_here c.loop-count.count c.args.self.now.masters.items g.hs c.index-master.result.now c.requires (omega (arith, some)) found))
+    (c.index-master.result.now, found, sym c.loop-count.invariant.1 ∙ (ap (λ (n : ℕ). out_of (display_from c.loop-count.count g.hs) n) none ∙ out_here c.loop-count.count c.args.self.now.masters.items g.hs c.index-master.result.now c.requires (omega (arith, some)) found))
 
 pub loop-count-smaller : goal.loop-count-smaller
 loop-count-smaller g c =

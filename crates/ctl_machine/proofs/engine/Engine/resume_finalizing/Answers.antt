@@ -1,4 +1,4 @@
-use Rattle.std.proofs.Common.{◌≡◌, ◌∷◌, ◌∙◌, List, [], refl, ap, sym, reverse}
+use Rattle.std.proofs.Common.{◌≡◌, ◌∷◌, ◌∙◌, List, [], refl, ap, sym, reverse, arith}
 use Rattle.std.specs.Prelude.{slice_get, slice_set}
 use Rattle.std.proofs.lemmas.List.{reverse-append}
 use Rattle.std.proofs.lemmas.Option.{slice_get_within}
@@ -12,6 +12,22 @@ use Rattle.ctl_machine.proofs.Leaves.{tail_is}
 use Rattle.ctl_machine.proofs.Links.{got}
 use Rattle.ctl_machine.proofs.Resumed.{finalizing_of, resumes_finalizing, same_object}
 use Rattle.ctl_machine.proofs.engine.Engine.resume_finalizing.Goals as goal
+
+pub index-requires : goal.index-requires
+index-requires g c =
+    let old = c.args.self.now in
+    let u = finalizing_of c.args.code.now (kept old) g.s.control g.s.operands g.s.world c.args.at c.requires.1.1.0 c.requires.1.0.holds c.requires.1.1.1 in
+    let within = slice_get_within old.owned.items c.args.at u.object u.found in
+    let many = old.owned.ok.1 in
+    omega (arith, within, many)
+
+pub index_mut-requires : goal.index_mut-requires
+index_mut-requires g c =
+    let old = c.args.self.now in
+    let u = finalizing_of c.args.code.now (kept old) g.s.control g.s.operands g.s.world c.args.at c.requires.1.1.0 c.requires.1.0.holds c.requires.1.1.1 in
+    let within = slice_get_within old.owned.items c.args.at u.object u.found in
+    let many = old.owned.ok.1 in
+    omega (arith, within, many)
 
 pub returns : goal.returns
 returns g c =
@@ -31,7 +47,8 @@ returns g c =
             control = tail_is c.take_last.result (FrameOf.Finalizing at) (reverse c.take_last.new.self.items) top.0 (sym last ∙ top.1);
             masters = refl;
             cells = refl;
-            owned = ap (λ (l : Life). slice_set old.owned.items at (record { number = c.index_mut.result.now.number; «record» = c.index_mut.result.now.record; master = c.index_mut.result.now.master; life = l })) (c.ended.ensures ∙ ap (λ (o : Owned). ended_life o.life) (same_object c.index.result.now c.index_mut.result.now (slice_get old.owned.items at) read found));
+            owned = ap (λ (l : Life). slice_set old.owned.items at (record c.index_mut.result.now { life = l })) (c.ended.ensures ∙ ap (λ (o : Owned). ended_life o.life) (same_object c.index.result.now c.index_mut.result.now (slice_get old.owned.items at) read found));
+            parts = refl;
             given_masters = refl;
             given_objects = refl;
             events = refl;

@@ -1,0 +1,195 @@
+-- The object that a slot of an active master holds is found among the objects that the master owns.
+use Rattle.std.proofs.Common.{◌≡◌, ◌≢◌, ℕ, zero, suc, ◌+◌, ◌<◌, ◌≤◌, List, [], ◌∷◌, ◌++◌, Option, Some, None, length, refl, sym, ap, ◌∙◌, subst, arith, map, reverse, drop, take, ◌⊎◌, inl, inr}
+use Rattle.std.specs.Prelude.{◌-◌, slice_get, slice_index_or, nat_eq, if◌then◌else◌}
+use Rattle.std.proofs.lemmas.List.{reverse-append, reverse-reverse, take_all}
+use Rattle.std.proofs.lemmas.Option.{slice_get_within}
+use Rattle.ctl_meaning.specs.World as W
+use Rattle.ctl_meaning.specs.World.{World, Content, Slot, unset, Activation}
+use Rattle.ctl_meaning.specs.Lists.{opened_lists}
+use Rattle.ctl_meaning.specs.Objects.{object_in, opened_objects}
+use Rattle.ctl_meaning.specs.Activations.{slot_in}
+use Rattle.ctl_meaning.specs.Changes.{object_at, opened_changes}
+use Rattle.ctl_code.specs.declared.code.Code.{Code}
+use Rattle.ctl_code.specs.States as T
+use Rattle.ctl_code.specs.Table.{out_of, holder_at, whole_of}
+use Rattle.ctl_machine.specs.declared.engine.Engine.{Engine}
+use Rattle.ctl_machine.specs.declared.frame.Life.TheVariants as LifeOf
+use Rattle.ctl_machine.specs.declared.frame.Master.{Master}
+use Rattle.ctl_machine.specs.declared.frame.Owned.{Owned}
+use Rattle.ctl_machine.specs.Masters.{Head, heads_of, AreMasters, newest_master, AreBelow, IsAmong, object_of}
+use Rattle.ctl_machine.specs.Holders.{holder_in, formal_content, AreHeld, own_end, Lacks}
+use Rattle.ctl_machine.specs.Variables.{IsNoVariable}
+use Rattle.ctl_machine.specs.Shows.{Kept, Holds, kept}
+use Rattle.ctl_machine.proofs.Lists.{eq_same, eq_differs, get_index, get_right}
+use Rattle.ctl_machine.proofs.Links.{get_split}
+use Rattle.ctl_machine.proofs.Slots.{is_older, slot_of_own, slot_of_other}
+use Rattle.ctl_machine.proofs.Reached.{no_variable_slot}
+use Rattle.ctl_machine.proofs.Laid.{length_taken}
+use Rattle.ctl_machine.proofs.Held.{holder_more}
+use Rattle.ctl_machine.proofs.Created.{drop_more}
+
+-- Where the objects of a master end -------------------------------------------------------------------
+
+-- the objects of a master end here, where so many are owned and these are the masters, the newest first
+abbrev pub EndsOwn : Master → ℕ → List Master → ℕ → Type 0
+EndsOwn x end [] total = ⊥
+EndsOwn x end (m ∷ ms) total = ((m ≡ x) × (end ≡ total)) ⊎ EndsOwn x end ms m.owned
+
+next_end : (xs : List Master) (m : Master) (i total : ℕ) → i ≤ length xs → own_end (slice_get (xs ++ m ∷ []) i) total ≡ own_end (slice_get xs i) m.owned
+next_end [] m zero total h = refl
+next_end [] m (suc i) total h = absurd (omega (arith, h))
+next_end (x ∷ xs) m zero total h = refl
+next_end (x ∷ xs) m (suc i) total h = next_end xs m i total (omega (arith, h))
+
+ends_reversed : (ms : List Master) (i total : ℕ) (x : Master) → slice_get (reverse ms) i ≡ Some x → EndsOwn x (own_end (slice_get (reverse ms) (i + 1)) total) ms total
+ends_reversed [] i total x e = absurd (cc)
+ends_reversed (m ∷ ms) i total x e = by_place (λ f. ends_reversed ms i m.owned x f) (get_split (reverse ms) (m ∷ []) i x (sym (ap (λ (l : List Master). slice_get l i) split) ∙ e))
+  where
+    split : reverse (m ∷ ms) ≡ reverse ms ++ m ∷ []
+    split = reverse-append (m ∷ []) ms
+
+    item_of : Option Master → Master
+    item_of None = m
+    item_of (Some y) = y
+
+    newest : (j : ℕ) → i ≡ length (reverse ms) + j → slice_get (m ∷ []) j ≡ Some x → EndsOwn x (own_end (slice_get (reverse (m ∷ ms)) (i + 1)) total) (m ∷ ms) total
+    newest zero here f = inl (ap (λ (y : Option Master). item_of y) f, ap (λ (l : List Master). own_end (slice_get l (i + 1)) total) split ∙ ap (λ (y : Option Master). own_end y total) (get_right (reverse ms) (m ∷ []) 1 (i + 1) (omega (arith, here))))
+    newest (suc j) here f = absurd (cc)
+
+    by_place : (slice_get (reverse ms) i ≡ Some x → EndsOwn x (own_end (slice_get (reverse ms) (i + 1)) m.owned) ms m.owned) → (slice_get (reverse ms) i ≡ Some x) ⊎ ((j : ℕ) × (i ≡ length (reverse ms) + j) × (slice_get (m ∷ []) j ≡ Some x)) → EndsOwn x (own_end (slice_get (reverse (m ∷ ms)) (i + 1)) total) (m ∷ ms) total
+    by_place older (inl f) =
+        let within = slice_get_within (reverse ms) i x f in
+        let same : own_end (slice_get (reverse (m ∷ ms)) (i + 1)) total ≡ own_end (slice_get (reverse ms) (i + 1)) m.owned = ap (λ (l : List Master). own_end (slice_get l (i + 1)) total) split ∙ next_end (reverse ms) m (i + 1) total (omega (arith, within)) in
+        inr (subst (λ n. EndsOwn x n ms m.owned) (sym same) (older f))
+    by_place older (inr f) = newest f.0 f.1 f.2
+
+ends_own : (xs : List Master) (i total : ℕ) (x : Master) → slice_get xs i ≡ Some x → EndsOwn x (own_end (slice_get xs (i + 1)) total) (reverse xs) total
+ends_own xs i total x e =
+    let twice : reverse (reverse xs) ≡ xs = reverse-reverse xs in
+    subst (λ (l : List Master). EndsOwn x (own_end (slice_get l (i + 1)) total) (reverse xs) total) twice (ends_reversed (reverse xs) i total x (ap (λ (l : List Master). slice_get l i) twice ∙ e))
+
+-- such a master is among them, and its objects end among all of them
+ends_among : (ms : List Master) (x : Master) (end total : ℕ) → EndsOwn x end ms total → IsAmong x ms
+ends_among [] x end total h = absurd h
+ends_among (m ∷ ms) x end total (inl h) = inl h.0
+ends_among (m ∷ ms) x end total (inr h) = inr (ends_among ms x end m.owned h)
+
+ends_within : {ms : List Master} {hs : List Head} {ks : List W.Master} {owned : List Owned} (x : Master) (end : ℕ) → AreMasters ms hs ks owned → EndsOwn x end ms (length owned) → end ≤ length owned
+ends_within {ms = []} x end a h = absurd h
+ends_within {ms = m ∷ ms} x end a (inl h) = let same = h.1 in omega (arith, same)
+ends_within {ms = m ∷ ms} x end (newest_master {owned = owned} g o r) (inr h) =
+    let less = o.owned in
+    let long : length (take m.owned owned) ≡ m.owned = length_taken m.owned owned less in
+    let within = ends_within x end r (subst (λ n. EndsOwn x end ms n) (sym long) h) in
+    omega (arith, less, long, within)
+
+pub own_end_within : (code : Code) (e : Engine) (k : List T.Frame) (ops : List ℕ) (w : World) (i : ℕ) (x : Master) → Holds code (kept e) k ops w → slice_get e.masters.items i ≡ Some x → own_end (slice_get e.masters.items (i + 1)) (length e.owned.items) ≤ length e.owned.items
+own_end_within code e k ops w i x h found = ends_within x _ h.masters (ends_own e.masters.items i (length e.owned.items) x found)
+
+-- What a slot holds --------------------------------------------------------------------------------------
+
+take_less : (os : List Owned) (i j : ℕ) → i ≤ j → take i (take j os) ≡ take i os
+take_less os zero j h = refl
+take_less os (suc i) zero h = absurd (omega (arith, h))
+take_less [] (suc i) (suc j) h = refl
+take_less (o ∷ os) (suc i) (suc j) h = ap (λ (l : List Owned). o ∷ l) (take_less os i j (omega (arith, h)))
+
+content_there : (ms : List Master) (acts : List Activation) (ks : List W.Master) (owned : List Owned) (bound : ℕ) (x : Master) (end slot : ℕ)
+    → AreMasters ms (heads_of acts) ks owned → AreBelow ms bound → AreHeld ms acts owned → EndsOwn x end ms (length owned) → slot < x.slots
+    → (slot_in x.number slot acts).content ≡ holder_in (drop x.owned (take end owned)) slot (formal_content x.subject slot)
+content_there [] acts ks owned bound x end slot a b h ends less = absurd ends
+content_there (m ∷ ms) [] ks owned bound x end slot a b h ends less = absurd h
+content_there (m ∷ ms) (act ∷ acts) _ owned bound x end slot (newest_master g o r) b h (inl ends) less =
+    let same = ends.0 in
+    let many = g.slots in
+    let slots = ap (λ (z : Master). z.slots) same in
+    let all : owned ≡ take end owned = sym (take_all end owned (let t = ends.1 in omega (arith, t))) in
+    ap (λ (y : Slot). y.content) (slot_of_own x.number slot act acts (g.head ∙ ap (λ (z : Master). z.number) same))
+    ∙ (h.0 slot (omega (arith, less, many, slots))
+    ∙ (ap (λ (z : Master). holder_in (drop z.owned owned) slot (formal_content z.subject slot)) same
+    ∙ ap (λ (l : List Owned). holder_in (drop x.owned l) slot (formal_content x.subject slot)) all))
+content_there (m ∷ ms) (act ∷ acts) _ owned bound x end slot (newest_master {ks = ks} g o r) b h (inr ends) less =
+    let own = o.owned in
+    let long : length (take m.owned owned) ≡ m.owned = length_taken m.owned owned own in
+    let ends' : EndsOwn x end ms (length (take m.owned owned)) = subst (λ n. EndsOwn x end ms n) (sym long) ends in
+    let within = ends_within x end r ends' in
+    ap (λ (y : Slot). y.content) (slot_of_other x.number m.number slot act acts g.head (is_older ms x m.number b.1 (ends_among ms x end m.owned ends)))
+    ∙ (content_there ms acts ks (take m.owned owned) m.number x end slot r b.1 h.1 ends' less
+    ∙ ap (λ (l : List Owned). holder_in (drop x.owned l) slot (formal_content x.subject slot)) (take_less owned end m.owned (omega (arith, within, long))))
+
+pub holder_is : (code : Code) (e : Engine) (k : List T.Frame) (ops : List ℕ) (w : World) (d : List ℕ) (out slot i : ℕ) (x : Master) → Holds code (kept e) k ops w → slice_get e.masters.items i ≡ Some x → out_of d out ≡ x.number → slot < x.slots
+    → holder_at d out slot w ≡ whole_of (holder_in (drop x.owned (take (own_end (slice_get e.masters.items (i + 1)) (length e.owned.items)) e.owned.items)) slot (formal_content x.subject slot))
+unfolding opened_changes
+holder_is code e k ops w d out slot i x h found number less =
+    ap (λ n. whole_of (slot_in n slot w.activations).content) number
+    ∙ ap (λ c. whole_of c) (content_there (reverse e.masters.items) w.activations w.ledger.masters e.owned.items (e.given_masters + 1) x _ slot h.masters h.below h.held (ends_own e.masters.items i (length e.owned.items) x found) less)
+
+pub no_holder : (code : Code) (e : Engine) (k : List T.Frame) (ops : List ℕ) (w : World) (d : List ℕ) (out slot : ℕ) → Holds code (kept e) k ops w → IsNoVariable d out slot (reverse e.masters.items) → holder_at d out slot w ≡ None
+unfolding opened_changes
+no_holder code e k ops w d out slot h none = ap (λ (y : Slot). whole_of y.content) (no_variable_slot code (kept e) k ops w d out slot h none)
+
+-- what is read where no object is
+abbrev pub any_owned : Owned
+any_owned = record { number = 0; slot = 0; «record» = 0; master = 0; first = 0; cells = 0; life = LifeOf.Created }
+
+-- The walk from the newest object on ----------------------------------------------------------------------
+
+take_last : (os : List Owned) (i : ℕ) (o : Owned) → slice_get os i ≡ Some o → take (suc i) os ≡ take i os ++ o ∷ []
+take_last [] i o e = absurd (cc)
+take_last (p ∷ os) zero o e = ap (λ (z : Owned). z ∷ []) (ap (λ (y : Option Owned). item_of y) e)
+  where
+    item_of : Option Owned → Owned
+    item_of None = p
+    item_of (Some y) = y
+take_last (p ∷ os) (suc i) o e = ap (λ (l : List Owned). p ∷ l) (take_last os i o e)
+
+-- one object further down
+pub holder_walk : (os : List Owned) (start at slot : ℕ) (o : Owned) (c : Content) → start ≤ at → slice_get os at ≡ Some o → holder_in (drop start (take (suc at) os)) slot c ≡ (if nat_eq o.slot slot then W.Holds o.number else holder_in (drop start (take at os)) slot c)
+holder_walk os start at slot o c less found =
+    let within = slice_get_within os at o found in
+    let long : length (take at os) ≡ at = length_taken at os (omega (arith, within)) in
+    ap (λ (l : List Owned). holder_in (drop start l) slot c) (take_last os at o found)
+    ∙ (ap (λ (l : List Owned). holder_in l slot c) (drop_more (take at os) start o (omega (arith, less, long)))
+    ∙ holder_more (drop start (take at os)) o slot c)
+
+-- the newest of them was declared in the slot, or was not
+pub holder_found : (os : List Owned) (start at slot : ℕ) (d : Owned) (c : Content) → start < at → at ≤ length os → (slice_index_or os (at - 1) d).slot ≡ slot → holder_in (drop start (take at os)) slot c ≡ W.Holds (slice_index_or os (at - 1) d).number
+holder_found os start at slot d c some within same =
+    let o = slice_index_or os (at - 1) d in
+    let last : suc (at - 1) ≡ at = omega (arith, some) in
+    ap (λ n. holder_in (drop start (take n os)) slot c) (sym last)
+    ∙ (holder_walk os start (at - 1) slot o c (omega (arith, some)) (get_index os (at - 1) d (omega (arith, some, within)))
+    ∙ ap (λ b. if b then W.Holds o.number else holder_in (drop start (take (at - 1) os)) slot c) (eq_same o.slot slot same))
+
+pub holder_passed : (os : List Owned) (start at slot : ℕ) (d : Owned) (c : Content) → start < at → at ≤ length os → (slice_index_or os (at - 1) d).slot ≢ slot → holder_in (drop start (take (at - 1) os)) slot c ≡ holder_in (drop start (take at os)) slot c
+holder_passed os start at slot d c some within differs =
+    let o = slice_index_or os (at - 1) d in
+    let last : suc (at - 1) ≡ at = omega (arith, some) in
+    sym (ap (λ n. holder_in (drop start (take n os)) slot c) (sym last)
+    ∙ (holder_walk os start (at - 1) slot o c (omega (arith, some)) (get_index os (at - 1) d (omega (arith, some, within)))
+    ∙ ap (λ b. if b then W.Holds o.number else holder_in (drop start (take (at - 1) os)) slot c) (eq_differs o.slot slot differs)))
+
+pub holder_none : (os : List Owned) (start at slot : ℕ) (c : Content) → at ≤ start → holder_in (drop start (take at os)) slot c ≡ c
+holder_none os start at slot c h = ap (λ (l : List Owned). holder_in l slot c) (drop_short os start at h)
+  where
+    drop_short : (xs : List Owned) (i j : ℕ) → j ≤ i → drop i (take j xs) ≡ []
+    drop_short xs i zero h = none_dropped i
+      where
+        none_dropped : (n : ℕ) → ◌≡◌ {A = List Owned} (drop n []) []
+        none_dropped zero = refl
+        none_dropped (suc n) = refl
+    drop_short [] zero (suc j) h = absurd (omega (arith, h))
+    drop_short [] (suc i) (suc j) h = refl
+    drop_short (x ∷ xs) zero (suc j) h = absurd (omega (arith, h))
+    drop_short (x ∷ xs) (suc i) (suc j) h = drop_short xs i j (omega (arith, h))
+
+-- Objects by number ----------------------------------------------------------------------------------------
+
+lacking : (parts : List ℕ) (os : List Owned) (n : ℕ) → Lacks n os → object_in n (map (object_of parts) os) ≡ None
+unfolding opened_lists opened_objects
+lacking parts [] n h = refl
+lacking parts (o ∷ os) n h = rw (eq_differs o.number n h.0) (lacking parts os n h.1)
+
+pub no_object : (code : Code) (e : Kept) (k : List T.Frame) (ops : List ℕ) (w : World) (n : ℕ) → Holds code e k ops w → Lacks n e.owned → object_at n w ≡ None
+unfolding opened_changes
+no_object code e k ops w n h none = ap (λ (l : List W.Object). object_in n l) h.objects ∙ lacking e.parts e.owned n none

@@ -1,0 +1,66 @@
+//! Which object a slot holds, and where it stands among the owned objects.
+
+ghost use Rattle.std.specs.Prelude.{◌≡◌, ◌≤◌, ℕ, IfSome, IsNone, Some, drop, length, slice_get, take};
+ghost use Rattle.ctl_code.specs.Table as Table;
+ghost use Rattle.ctl_machine.specs.declared.frame.Owned.{Owned};
+ghost use Rattle.ctl_machine.specs.Holders.{Lacks, formal_content, holder_in};
+ghost use Rattle.ctl_machine.specs.Masters.{RiseBelow};
+
+use crate::frame::Owned;
+
+/// Answers the object that a body was called for, if this is the slot of its formal.
+fn formal(subject: u64, slot: usize) -> Option<u64>
+    ensures { result ≡ Table.whole_of (formal_content subject slot) }
+{
+    if slot == 0 && subject > 0 {
+        Some(subject)
+    } else {
+        None
+    }
+}
+
+/// Answers the number of the object that a slot of a master holds: of the newest object that was declared there, among those from one place
+/// up to another, which the master owns, or else of the object that its body was called for.
+pub(crate) fn holder(
+    owned: &[Owned],
+    start: usize,
+    end: usize,
+    slot: usize,
+    subject: u64,
+) -> Option<u64>
+    requires { end ≤ length owned.now }
+    ensures { result ≡ Table.whole_of (holder_in (drop start (take end owned.now)) slot (formal_content subject slot)) }
+{
+    let mut at = end;
+    while at > start {
+        at -= 1;
+        let object = owned[at];
+        if object.slot == slot {
+            return Some(object.number);
+        }
+    }
+    formal(subject, slot)
+}
+
+/// Finds the owned object of this number; the numbers rise.
+pub(crate) fn find(owned: &[Owned], number: u64) -> Option<usize>
+    requires { (bound : ℕ) × RiseBelow 1 owned.now bound }
+    ensures some { IfSome result (λ at. (o : Owned) × (slice_get owned.now at ≡ Some o) × (o.number ≡ number)) }
+    ensures none { IsNone result → Lacks number owned.now }
+{
+    let mut low = 0;
+    let mut high = owned.len();
+    while low < high {
+        let middle = low + (high - low) / 2;
+        let found = owned[middle].number;
+        if found == number {
+            return Some(middle);
+        }
+        if found < number {
+            low = middle + 1;
+        } else {
+            high = middle;
+        }
+    }
+    None
+}

@@ -1,0 +1,84 @@
+//! The cells of owned objects: they lie one object behind another, those of the newest object last (RM 3.8).
+
+ghost use Rattle.std.specs.Prelude.{◌≡◌, ◌+◌, ◌-◌, ◌≤◌, ◌++◌, drop, length, replicate, slice_get, vec_capacity, vec_len};
+ghost use Rattle.ctl_meaning.specs.Lists.{item_or};
+ghost use Rattle.ctl_meaning.specs.Names.{scalar_of};
+ghost use Rattle.ctl_meaning.specs.Objects.{cells_at};
+ghost use Rattle.ctl_code.specs.Table as Table;
+ghost use Rattle.ctl_machine.specs.Masters.{object_of};
+ghost use Rattle.ctl_machine.specs.Parts as Parts;
+
+use crate::frame::Owned;
+use ctl_code::code::Code;
+
+/// Answers how many cells an object of a record type has; none where the code knows no such type.
+pub(crate) fn size_of(code: &Code, record: usize) -> usize
+    ensures { result ≡ Table.size_of code.now «record» }
+{
+    match code.layouts.as_slice().get(record) {
+        Some(layout) => layout.cells,
+        None => 0,
+    }
+}
+
+/// Answers the item of this position, which counts from 1; 0 where there is none.
+#[tactic(auto, unfolding(ctl_meaning::specs::Lists::item_or))]
+fn at_position(offsets: &[usize], position: usize) -> usize
+    ensures { result ≡ item_or 0 (slice_get offsets.now (position - 1)) }
+{
+    match offsets.get(position.saturating_sub(1)) {
+        Some(offset) => *offset,
+        None => 0,
+    }
+}
+
+/// Answers the first cell of the component at this position of a record type (RM 4.1.3), among those of its object.
+pub(crate) fn offset_of(code: &Code, record: usize, position: usize) -> usize
+    ensures { result ≡ Table.offset_of code.now «record» position }
+{
+    match code.layouts.as_slice().get(record) {
+        Some(layout) => at_position(layout.offsets.as_slice(), position),
+        None => 0,
+    }
+}
+
+/// Adds so many cells of 0, for which there is room.
+pub(crate) fn add_zeros(parts: &mut Vec<u64>, count: usize)
+    requires { vec_len parts.old + count ≤ vec_capacity parts.old }
+    ensures { parts.new.items ≡ parts.old.items ++ replicate count 0 }
+{
+    for _ in 0..count {
+        parts.push_reserved(0);
+    }
+}
+
+/// Answers where the cells of the objects from this place on begin; where there is none, all cells end here.
+pub(crate) fn first_part(owned: &[Owned], at: usize, end: usize) -> usize
+    ensures { result ≡ Parts.first_part (drop at owned.now) end }
+{
+    match owned.get(at) {
+        Some(object) => object.first,
+        None => end,
+    }
+}
+
+/// Reads a cell of an object; 0 where the object has no such cell.
+pub(crate) fn read_part(parts: &[u64], object: &Owned, offset: usize) -> u64
+    requires { object.now.first + object.now.cells ≤ length parts.now }
+    ensures { result ≡ scalar_of (cells_at offset 1 (object_of parts.now object.now)) }
+{
+    if offset >= object.cells {
+        return 0;
+    }
+    parts[object.first + offset]
+}
+
+/// Writes a cell of an object; nothing where the object has no such cell.
+pub(crate) fn write_part(parts: &mut [u64], object: &Owned, offset: usize, value: u64)
+    requires { object.now.first + object.now.cells ≤ length parts.old }
+    ensures { parts.new ≡ Parts.part_written object.now offset value parts.old }
+{
+    if offset < object.cells {
+        parts[object.first + offset] = value;
+    }
+}
