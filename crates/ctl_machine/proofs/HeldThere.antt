@@ -1,32 +1,27 @@
 -- The object that a slot of an active master holds is found among the objects that the master owns.
-use Rattle.std.proofs.Common.{◌≡◌, ◌≢◌, ℕ, zero, suc, ◌+◌, ◌<◌, ◌≤◌, List, [], ◌∷◌, ◌++◌, Option, Some, None, length, refl, sym, ap, ◌∙◌, subst, arith, map, reverse, drop, take, ◌⊎◌, inl, inr}
-use Rattle.std.specs.Prelude.{◌-◌, slice_get, slice_index_or, nat_eq, if◌then◌else◌}
+use Rattle.std.proofs.Common.{◌≡◌, ℕ, zero, suc, ◌+◌, ◌<◌, ◌≤◌, List, [], ◌∷◌, ◌++◌, Option, Some, None, length, refl, sym, ap, ◌∙◌, subst, arith, reverse, drop, take, ◌⊎◌, inl, inr}
+use Rattle.std.specs.Prelude.{slice_get}
 use Rattle.std.proofs.lemmas.List.{reverse-append, reverse-reverse, take_all}
 use Rattle.std.proofs.lemmas.Option.{slice_get_within}
 use Rattle.ctl_meaning.specs.World as W
 use Rattle.ctl_meaning.specs.World.{World, Content, Slot, unset, Activation}
-use Rattle.ctl_meaning.specs.Lists.{opened_lists}
-use Rattle.ctl_meaning.specs.Objects.{object_in, opened_objects}
 use Rattle.ctl_meaning.specs.Activations.{slot_in}
-use Rattle.ctl_meaning.specs.Changes.{object_at, opened_changes}
+use Rattle.ctl_meaning.specs.Changes.{opened_changes}
 use Rattle.ctl_code.specs.declared.code.Code.{Code}
 use Rattle.ctl_code.specs.States as T
 use Rattle.ctl_code.specs.Table.{out_of, holder_at, whole_of}
 use Rattle.ctl_machine.specs.declared.engine.Engine.{Engine}
-use Rattle.ctl_machine.specs.declared.frame.Life.TheVariants as LifeOf
 use Rattle.ctl_machine.specs.declared.frame.Master.{Master}
 use Rattle.ctl_machine.specs.declared.frame.Owned.{Owned}
-use Rattle.ctl_machine.specs.Masters.{Head, heads_of, AreMasters, newest_master, AreBelow, IsAmong, object_of}
-use Rattle.ctl_machine.specs.Holders.{holder_in, formal_content, AreHeld, own_end, Lacks}
+use Rattle.ctl_machine.specs.Masters.{Head, heads_of, AreMasters, newest_master, AreBelow, IsAmong}
+use Rattle.ctl_machine.specs.Holders.{holder_in, formal_content, AreHeld, own_end}
 use Rattle.ctl_machine.specs.Variables.{IsNoVariable}
-use Rattle.ctl_machine.specs.Shows.{Kept, Holds, kept}
-use Rattle.ctl_machine.proofs.Lists.{eq_same, eq_differs, get_index, get_right}
+use Rattle.ctl_machine.specs.Shows.{Holds, kept}
+use Rattle.ctl_machine.proofs.Lists.{get_right}
 use Rattle.ctl_machine.proofs.Links.{get_split}
 use Rattle.ctl_machine.proofs.Slots.{is_older, slot_of_own, slot_of_other}
 use Rattle.ctl_machine.proofs.Reached.{no_variable_slot}
 use Rattle.ctl_machine.proofs.Laid.{length_taken}
-use Rattle.ctl_machine.proofs.Held.{holder_more}
-use Rattle.ctl_machine.proofs.Created.{drop_more}
 
 -- Where the objects of a master end -------------------------------------------------------------------
 
@@ -127,69 +122,3 @@ holder_is code e k ops w d out slot i x h found number less =
 pub no_holder : (code : Code) (e : Engine) (k : List T.Frame) (ops : List ℕ) (w : World) (d : List ℕ) (out slot : ℕ) → Holds code (kept e) k ops w → IsNoVariable d out slot (reverse e.masters.items) → holder_at d out slot w ≡ None
 unfolding opened_changes
 no_holder code e k ops w d out slot h none = ap (λ (y : Slot). whole_of y.content) (no_variable_slot code (kept e) k ops w d out slot h none)
-
--- what is read where no object is
-abbrev pub any_owned : Owned
-any_owned = record { number = 0; slot = 0; «record» = 0; master = 0; first = 0; cells = 0; life = LifeOf.Created }
-
--- The walk from the newest object on ----------------------------------------------------------------------
-
-take_last : (os : List Owned) (i : ℕ) (o : Owned) → slice_get os i ≡ Some o → take (suc i) os ≡ take i os ++ o ∷ []
-take_last [] i o e = absurd (cc)
-take_last (p ∷ os) zero o e = ap (λ (z : Owned). z ∷ []) (ap (λ (y : Option Owned). item_of y) e)
-  where
-    item_of : Option Owned → Owned
-    item_of None = p
-    item_of (Some y) = y
-take_last (p ∷ os) (suc i) o e = ap (λ (l : List Owned). p ∷ l) (take_last os i o e)
-
--- one object further down
-pub holder_walk : (os : List Owned) (start at slot : ℕ) (o : Owned) (c : Content) → start ≤ at → slice_get os at ≡ Some o → holder_in (drop start (take (suc at) os)) slot c ≡ (if nat_eq o.slot slot then W.Holds o.number else holder_in (drop start (take at os)) slot c)
-holder_walk os start at slot o c less found =
-    let within = slice_get_within os at o found in
-    let long : length (take at os) ≡ at = length_taken at os (omega (arith, within)) in
-    ap (λ (l : List Owned). holder_in (drop start l) slot c) (take_last os at o found)
-    ∙ (ap (λ (l : List Owned). holder_in l slot c) (drop_more (take at os) start o (omega (arith, less, long)))
-    ∙ holder_more (drop start (take at os)) o slot c)
-
--- the newest of them was declared in the slot, or was not
-pub holder_found : (os : List Owned) (start at slot : ℕ) (d : Owned) (c : Content) → start < at → at ≤ length os → (slice_index_or os (at - 1) d).slot ≡ slot → holder_in (drop start (take at os)) slot c ≡ W.Holds (slice_index_or os (at - 1) d).number
-holder_found os start at slot d c some within same =
-    let o = slice_index_or os (at - 1) d in
-    let last : suc (at - 1) ≡ at = omega (arith, some) in
-    ap (λ n. holder_in (drop start (take n os)) slot c) (sym last)
-    ∙ (holder_walk os start (at - 1) slot o c (omega (arith, some)) (get_index os (at - 1) d (omega (arith, some, within)))
-    ∙ ap (λ b. if b then W.Holds o.number else holder_in (drop start (take (at - 1) os)) slot c) (eq_same o.slot slot same))
-
-pub holder_passed : (os : List Owned) (start at slot : ℕ) (d : Owned) (c : Content) → start < at → at ≤ length os → (slice_index_or os (at - 1) d).slot ≢ slot → holder_in (drop start (take (at - 1) os)) slot c ≡ holder_in (drop start (take at os)) slot c
-holder_passed os start at slot d c some within differs =
-    let o = slice_index_or os (at - 1) d in
-    let last : suc (at - 1) ≡ at = omega (arith, some) in
-    sym (ap (λ n. holder_in (drop start (take n os)) slot c) (sym last)
-    ∙ (holder_walk os start (at - 1) slot o c (omega (arith, some)) (get_index os (at - 1) d (omega (arith, some, within)))
-    ∙ ap (λ b. if b then W.Holds o.number else holder_in (drop start (take (at - 1) os)) slot c) (eq_differs o.slot slot differs)))
-
-pub holder_none : (os : List Owned) (start at slot : ℕ) (c : Content) → at ≤ start → holder_in (drop start (take at os)) slot c ≡ c
-holder_none os start at slot c h = ap (λ (l : List Owned). holder_in l slot c) (drop_short os start at h)
-  where
-    drop_short : (xs : List Owned) (i j : ℕ) → j ≤ i → drop i (take j xs) ≡ []
-    drop_short xs i zero h = none_dropped i
-      where
-        none_dropped : (n : ℕ) → ◌≡◌ {A = List Owned} (drop n []) []
-        none_dropped zero = refl
-        none_dropped (suc n) = refl
-    drop_short [] zero (suc j) h = absurd (omega (arith, h))
-    drop_short [] (suc i) (suc j) h = refl
-    drop_short (x ∷ xs) zero (suc j) h = absurd (omega (arith, h))
-    drop_short (x ∷ xs) (suc i) (suc j) h = drop_short xs i j (omega (arith, h))
-
--- Objects by number ----------------------------------------------------------------------------------------
-
-lacking : (parts : List ℕ) (os : List Owned) (n : ℕ) → Lacks n os → object_in n (map (object_of parts) os) ≡ None
-unfolding opened_lists opened_objects
-lacking parts [] n h = refl
-lacking parts (o ∷ os) n h = rw (eq_differs o.number n h.0) (lacking parts os n h.1)
-
-pub no_object : (code : Code) (e : Kept) (k : List T.Frame) (ops : List ℕ) (w : World) (n : ℕ) → Holds code e k ops w → Lacks n e.owned → object_at n w ≡ None
-unfolding opened_changes
-no_object code e k ops w n h none = ap (λ (l : List W.Object). object_in n l) h.objects ∙ lacking e.parts e.owned n none

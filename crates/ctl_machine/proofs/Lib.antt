@@ -59,3 +59,4 @@ pub mod HeldThere
 pub mod Touched
 pub mod PartStored
 pub mod Numbers
+pub mod Walked

@@ -1,10 +1,18 @@
 -- Owned objects are found by their numbers, which rise.
-use Rattle.std.proofs.Common.{◌≡◌, ℕ, zero, suc, ◌+◌, ◌<◌, ◌≤◌, List, [], ◌∷◌, Some, ap, arith, subst, length, drop, take}
+use Rattle.std.proofs.Common.{◌≡◌, ◌∙◌, ℕ, None, refl, map, zero, suc, ◌+◌, ◌<◌, ◌≤◌, List, [], ◌∷◌, Some, ap, arith, subst, length, drop, take}
 use Rattle.std.specs.Prelude.{slice_get, slice_index_or}
+use Rattle.ctl_meaning.specs.World as W
+use Rattle.ctl_meaning.specs.World.{World}
+use Rattle.ctl_meaning.specs.Lists.{opened_lists}
+use Rattle.ctl_meaning.specs.Objects.{object_in, opened_objects}
+use Rattle.ctl_meaning.specs.Changes.{object_at, opened_changes}
+use Rattle.ctl_code.specs.declared.code.Code.{Code}
+use Rattle.ctl_code.specs.States as T
 use Rattle.ctl_machine.specs.declared.frame.Owned.{Owned}
 use Rattle.ctl_machine.specs.Holders.{Lacks}
-use Rattle.ctl_machine.specs.Masters.{RiseBelow}
-use Rattle.ctl_machine.proofs.Lists.{get_index}
+use Rattle.ctl_machine.specs.Masters.{RiseBelow, object_of}
+use Rattle.ctl_machine.specs.Shows.{Kept, Holds}
+use Rattle.ctl_machine.proofs.Lists.{eq_differs, get_index}
 use Rattle.ctl_machine.proofs.Declared.{same_item, number_above}
 
 -- the numbers of these objects are below this one, or above it
@@ -56,3 +64,13 @@ goes_behind os at n d rise within less =
 
 pub goes_before : (os : List Owned) (at n : ℕ) (d : Owned) → ((bound : ℕ) × RiseBelow 1 os bound) → at < length os → n < (slice_index_or os at d).number → AreOver n (drop at os)
 goes_before os at n d rise within less = over_back os at 1 rise.0 n (slice_index_or os at d) rise.1 (get_index os at d within) less
+
+-- what the table finds where no object has a number
+lacking : (parts : List ℕ) (os : List Owned) (n : ℕ) → Lacks n os → object_in n (map (object_of parts) os) ≡ None
+unfolding opened_lists opened_objects
+lacking parts [] n h = refl
+lacking parts (o ∷ os) n h = rw (eq_differs o.number n h.0) (lacking parts os n h.1)
+
+pub no_object : (code : Code) (e : Kept) (k : List T.Frame) (ops : List ℕ) (w : World) (n : ℕ) → Holds code e k ops w → Lacks n e.owned → object_at n w ≡ None
+unfolding opened_changes
+no_object code e k ops w n h none = ap (λ (l : List W.Object). object_in n l) h.objects ∙ lacking e.parts e.owned n none

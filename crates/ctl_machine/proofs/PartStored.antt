@@ -27,7 +27,7 @@ use Rattle.ctl_machine.specs.Shows.{ShowsMode, Kept, Holds, kept}
 use Rattle.ctl_machine.specs.Moves.{Before, Inside, Makes, GoesOn, here_of}
 use Rattle.ctl_machine.proofs.Computed.{cell_of, same_value}
 use Rattle.ctl_machine.proofs.Finalized.{object_is}
-use Rattle.ctl_machine.proofs.HeldThere.{no_object}
+use Rattle.ctl_machine.proofs.Numbers.{no_object}
 use Rattle.ctl_machine.proofs.Operands.{is_newest}
 use Rattle.ctl_machine.proofs.PartCells.{with_part, part_stored}
 use Rattle.ctl_machine.proofs.Touched.{gone_makes}

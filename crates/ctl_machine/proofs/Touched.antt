@@ -29,7 +29,7 @@ use Rattle.ctl_machine.specs.Parts.{part_in, part_at}
 use Rattle.ctl_machine.specs.Shows.{ShowsMode, Kept, Holds, kept}
 use Rattle.ctl_machine.specs.Moves.{Before, Makes, GoesOn, here_of}
 use Rattle.ctl_machine.proofs.Finalized.{object_is}
-use Rattle.ctl_machine.proofs.HeldThere.{no_object}
+use Rattle.ctl_machine.proofs.Numbers.{no_object}
 use Rattle.ctl_machine.proofs.Plain.{no_operands, put_makes}
 
 -- what the machine uses has ceased to exist

@@ -1,6 +1,6 @@
 use Rattle.std.proofs.Common.{◌+◌, ◌-◌, arith}
 use Rattle.std.specs.Prelude.{◌/◌}
-use Rattle.ctl_machine.proofs.HeldThere.{any_owned}
+use Rattle.ctl_machine.proofs.Walked.{any_owned}
 use Rattle.ctl_machine.proofs.Numbers.{goes_behind, goes_before, none_between}
 use Rattle.ctl_machine.proofs.holders.find.Goals as goal
 

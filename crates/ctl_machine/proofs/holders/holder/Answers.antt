@@ -1,7 +1,7 @@
 use Rattle.std.proofs.Common.{◌∙◌, ap, arith, sym}
 use Rattle.ctl_code.specs.Table.{whole_of}
 use Rattle.ctl_machine.specs.Holders.{formal_content}
-use Rattle.ctl_machine.proofs.HeldThere.{any_owned, holder_found, holder_passed}
+use Rattle.ctl_machine.proofs.Walked.{any_owned, holder_found, holder_passed}
 use Rattle.ctl_machine.proofs.holders.holder.Goals as goal
 
 pub returns-then-object-slot : goal.returns-then-object-slot

@@ -1,0 +1,52 @@
+-- The walk over the objects of a master, from the newest on, to the one that was declared in a slot.
+use Rattle.std.proofs.Common.{◌≡◌, ◌≢◌, ℕ, zero, suc, ◌-◌, ◌<◌, ◌≤◌, List, [], ◌∷◌, ◌++◌, Option, Some, None, length, sym, ap, ◌∙◌, arith, drop, take}
+use Rattle.std.specs.Prelude.{slice_get, slice_index_or, nat_eq, if◌then◌else◌}
+use Rattle.std.proofs.lemmas.Option.{slice_get_within}
+use Rattle.ctl_meaning.specs.World as W
+use Rattle.ctl_meaning.specs.World.{Content}
+use Rattle.ctl_machine.specs.declared.frame.Life.TheVariants as LifeOf
+use Rattle.ctl_machine.specs.declared.frame.Owned.{Owned}
+use Rattle.ctl_machine.specs.Holders.{holder_in}
+use Rattle.ctl_machine.proofs.Lists.{eq_same, eq_differs, get_index}
+use Rattle.ctl_machine.proofs.Laid.{length_taken}
+use Rattle.ctl_machine.proofs.Held.{holder_more}
+use Rattle.ctl_machine.proofs.Created.{drop_more}
+
+-- what is read where no object is
+abbrev pub any_owned : Owned
+any_owned = record { number = 0; slot = 0; «record» = 0; master = 0; first = 0; cells = 0; life = LifeOf.Created }
+
+take_last : (os : List Owned) (i : ℕ) (o : Owned) → slice_get os i ≡ Some o → take (suc i) os ≡ take i os ++ o ∷ []
+take_last [] i o e = absurd (cc)
+take_last (p ∷ os) zero o e = ap (λ (z : Owned). z ∷ []) (ap (λ (y : Option Owned). item_of y) e)
+  where
+    item_of : Option Owned → Owned
+    item_of None = p
+    item_of (Some y) = y
+take_last (p ∷ os) (suc i) o e = ap (λ (l : List Owned). p ∷ l) (take_last os i o e)
+
+-- one object further down
+holder_walk : (os : List Owned) (start at slot : ℕ) (o : Owned) (c : Content) → start ≤ at → slice_get os at ≡ Some o → holder_in (drop start (take (suc at) os)) slot c ≡ (if nat_eq o.slot slot then W.Holds o.number else holder_in (drop start (take at os)) slot c)
+holder_walk os start at slot o c less found =
+    let within = slice_get_within os at o found in
+    let long : length (take at os) ≡ at = length_taken at os (omega (arith, within)) in
+    ap (λ (l : List Owned). holder_in (drop start l) slot c) (take_last os at o found)
+    ∙ (ap (λ (l : List Owned). holder_in l slot c) (drop_more (take at os) start o (omega (arith, less, long)))
+    ∙ holder_more (drop start (take at os)) o slot c)
+
+-- the newest of them was declared in the slot, or was not
+pub holder_found : (os : List Owned) (start at slot : ℕ) (d : Owned) (c : Content) → start < at → at ≤ length os → (slice_index_or os (at - 1) d).slot ≡ slot → holder_in (drop start (take at os)) slot c ≡ W.Holds (slice_index_or os (at - 1) d).number
+holder_found os start at slot d c some within same =
+    let o = slice_index_or os (at - 1) d in
+    let last : suc (at - 1) ≡ at = omega (arith, some) in
+    ap (λ n. holder_in (drop start (take n os)) slot c) (sym last)
+    ∙ (holder_walk os start (at - 1) slot o c (omega (arith, some)) (get_index os (at - 1) d (omega (arith, some, within)))
+    ∙ ap (λ b. if b then W.Holds o.number else holder_in (drop start (take (at - 1) os)) slot c) (eq_same o.slot slot same))
+
+pub holder_passed : (os : List Owned) (start at slot : ℕ) (d : Owned) (c : Content) → start < at → at ≤ length os → (slice_index_or os (at - 1) d).slot ≢ slot → holder_in (drop start (take (at - 1) os)) slot c ≡ holder_in (drop start (take at os)) slot c
+holder_passed os start at slot d c some within differs =
+    let o = slice_index_or os (at - 1) d in
+    let last : suc (at - 1) ≡ at = omega (arith, some) in
+    sym (ap (λ n. holder_in (drop start (take n os)) slot c) (sym last)
+    ∙ (holder_walk os start (at - 1) slot o c (omega (arith, some)) (get_index os (at - 1) d (omega (arith, some, within)))
+    ∙ ap (λ b. if b then W.Holds o.number else holder_in (drop start (take (at - 1) os)) slot c) (eq_differs o.slot slot differs)))
