@@ -1,5 +1,5 @@
 -- What the bytes of a source text are: the program of the tree that they spell, or the first fault.
-use Rattle.std.specs.Prelude.{◌≡◌, ◌⊎◌, ℕ, List, Result, Ok, Err}
+use Rattle.std.specs.Prelude.{◌≡◌, ◌⊎◌, ℕ, List, Result, Err}
 use Rattle.ctl_tree.specs.declared.fault.Fault.{Fault}
 use Rattle.ctl_tree.specs.declared.fault.FaultCode.TheVariants.{Memory}
 use Rattle.ctl_tree.specs.declared.token.Token.{Token}
