@@ -2,7 +2,7 @@
 
 use crate::lines::{
     ADD, AND, BODY_SLOTS, CELL_1, CELL_2, CELL_3, CELL_4, EQUAL, FIRST, Line, MAIN_SLOTS, SECOND,
-    instructions_of, notes_of,
+    instructions_of, layout_of_two, notes_of,
 };
 use ctl_code::code::{Cell, Code, Entry, Instr, Named, Operations, Way};
 use ctl_code::template::{Template, TextPart};
@@ -210,8 +210,62 @@ const EACH_INSTRUCTION: &[Line] = &[
         },
         "fi",
     ),
+    (
+        Instr::Locate {
+            out: 0,
+            slot: 0,
+            record: 0,
+            at: 1,
+        },
+        "f",
+    ),
+    (
+        Instr::FetchPart {
+            out: 0,
+            slot: 0,
+            record: 0,
+            position: 2,
+            ty: Ty::Integer,
+            to: CELL_2,
+        },
+        "fr",
+    ),
+    (
+        Instr::StorePart {
+            from: CELL_2,
+            ty: Ty::Integer,
+            at: 1,
+            record: 0,
+            position: 1,
+        },
+        "fri",
+    ),
     (Instr::Transfer(Way::Raise(0)), "f"),
     (Instr::Transfer(Way::Return), "f"),
+];
+
+/// A component that takes a value where the number of its object is taken for one.
+const NUMBER_FOR_AN_OBJECT: &[Line] = &[
+    (Instr::Start(0), ""),
+    (
+        Instr::Set {
+            value: 1,
+            ty: Ty::Integer,
+            to: CELL_2,
+        },
+        "m",
+    ),
+    (
+        Instr::StorePart {
+            from: FIRST,
+            ty: Ty::Integer,
+            at: 2,
+            record: 0,
+            position: 1,
+        },
+        "mi",
+    ),
+    (Instr::Leave, "m"),
 ];
 
 /// The place of the Finalize there, and one inside a block.
@@ -409,6 +463,7 @@ fn code_of(
                 finalize: Some(finalize)
             },
         ]?,
+        layouts: vec![in alloc; layout_of_two(alloc)?]?,
         texts: vec![in alloc; two_images(alloc)?]?,
         exceptions: vec![in alloc; Text::from_slice(alloc, b"CONSTRAINT_ERROR")?]?,
     })
@@ -445,6 +500,7 @@ fn faults_are_refused(rt: HostRuntime) -> Result<(), Fail> {
         (BRANCH_PAST_THE_END, "a branch past the end"),
         (BOOLEAN_FOR_A_NUMBER, "a Boolean for a number"),
         (NUMBER_FOR_A_BOOLEAN, "a number for a Boolean"),
+        (NUMBER_FOR_AN_OBJECT, "a number for an object"),
         (MISSING_OPERAND, "a missing operand"),
         (ANOTHER_CELL, "an operand in another cell"),
         (NEXT_OUTSIDE, "a next turn without bounds"),

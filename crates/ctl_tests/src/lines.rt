@@ -1,13 +1,13 @@
 //! What the codes of the tests are written with: cells, operators, and lines of an instruction with what stands before it.
 
-use ctl_code::code::{Cell, Instr, Named, Operator};
+use ctl_code::code::{Cell, Instr, Layout, Named, Operator};
 use ctl_code::kinds::{Kind, KindNotes};
 use ctl_program::operators::BinaryOp;
 use ctl_program::types::Ty;
 use std::alloc::{AllocError, Global};
 
 /// An instruction, and what stands in the window before it, the newest last: `m` is the main procedure and `f` another body, `[` a block with
-/// one slot and `{` one with two, `i` and `b` are operands, an Integer and a Boolean.
+/// one slot and `{` one with two, `i` and `b` are operands, an Integer and a Boolean, and `r` is the number of an object of record type 0.
 pub type Line = (Instr, &'static str);
 
 /// How many slots the main procedure has.
@@ -116,6 +116,7 @@ fn kind_of(letter: char) -> Kind {
         '[' => Kind::Block(1),
         '{' => Kind::Block(2),
         'b' => Kind::Operand(Ty::Boolean),
+        'r' => Kind::Operand(Ty::Record(0)),
         _ => Kind::Operand(Ty::Integer),
     }
 }
@@ -142,4 +143,12 @@ pub fn instructions_of(alloc: Global, lines: &[Line]) -> Result<Vec<Instr>, Allo
         instructions.push(*instr)?;
     }
     Ok(instructions)
+}
+
+/// The layout of each record type of the tests: two components of one cell each.
+pub fn layout_of_two(alloc: Global) -> Result<Layout, AllocError> {
+    Ok(Layout {
+        cells: 2,
+        offsets: vec![in alloc; 0, 1]?,
+    })
 }

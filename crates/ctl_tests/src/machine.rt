@@ -2,7 +2,7 @@
 
 use crate::lines::{
     ADD, BODY_SLOTS, CELL_1, CELL_2, CELL_3, CELL_4, DIVIDE, EQUAL, FIRST, Line, MAIN_SLOTS,
-    MODULO, MULTIPLY, OUTER, REMAINDER, instructions_of, notes_of,
+    MODULO, MULTIPLY, OUTER, REMAINDER, instructions_of, layout_of_two, notes_of,
 };
 use ctl_code::code::{Cell, Code, Entry, Instr, Operations};
 use ctl_code::template::{Template, TextPart};
@@ -35,6 +35,80 @@ const TWO_OBJECTS: &[Line] = &[
     (Instr::Leave, "m"),
     (FAREWELL, "f"),
     (Instr::Leave, "f"),
+];
+
+/// A block declares an object, gives its second component a value and prints it.
+const COMPONENT: &[Line] = &[
+    (Instr::Start(0), ""),
+    (
+        Instr::Enter {
+            slots: 1,
+            length: 7,
+        },
+        "m",
+    ),
+    (Instr::Declare { slot: 0, record: 0 }, "m["),
+    (
+        Instr::Locate {
+            out: 0,
+            slot: 0,
+            record: 0,
+            at: 3,
+        },
+        "m[",
+    ),
+    (
+        Instr::Set {
+            value: 5,
+            ty: Ty::Integer,
+            to: CELL_4,
+        },
+        "m[r",
+    ),
+    (
+        Instr::StorePart {
+            from: CELL_4,
+            ty: Ty::Integer,
+            at: 3,
+            record: 0,
+            position: 2,
+        },
+        "m[ri",
+    ),
+    (
+        Instr::FetchPart {
+            out: 0,
+            slot: 0,
+            record: 0,
+            position: 2,
+            ty: Ty::Integer,
+            to: CELL_3,
+        },
+        "m[",
+    ),
+    (Instr::PutLine { text: 1, first: 3 }, "m[i"),
+    (Instr::Leave, "m["),
+    (Instr::Skip(0), "m"),
+    (Instr::Leave, "m"),
+    (FAREWELL, "f"),
+    (Instr::Leave, "f"),
+];
+
+/// A slot that holds no object has no component.
+const NO_OBJECT: &[Line] = &[
+    (Instr::Start(0), ""),
+    (
+        Instr::FetchPart {
+            out: 0,
+            slot: 1,
+            record: 0,
+            position: 1,
+            ty: Ty::Integer,
+            to: FIRST,
+        },
+        "m",
+    ),
+    (Instr::Leave, "m"),
 ];
 
 /// A variable is counted up to 3 in a loop with an exit statement, and its image is printed.
@@ -506,6 +580,7 @@ fn code_of(alloc: Global, lines: &[Line], finalizers: &[usize]) -> Result<Code, 
         room,
         entries,
         records,
+        layouts: vec![in alloc; layout_of_two(alloc)?]?,
         texts: texts_of(alloc)?,
         exceptions: vec![in alloc; Text::from_slice(alloc, b"CONSTRAINT_ERROR")?]?,
     })
@@ -616,6 +691,17 @@ fn a_body_that_is_missing_is_refused(rt: HostRuntime) -> Result<(), Fail> {
     let alloc = rt.alloc();
     let code = code_of(alloc, &[(Instr::Start(7), ""), (Instr::Leave, "m")], &[])?;
     assert!(rt; code.validate().is_none());
+    Ok(())
+}
+
+#[test]
+fn a_component_takes_a_value(rt: HostRuntime) -> Result<(), Fail> {
+    let alloc = rt.alloc();
+    let outcome = outcome_of(alloc, COMPONENT, &[11], 1000)?;
+    let bytes = printed(alloc, &outcome)?;
+    assert!(rt; bytes.as_slice().starts_with(b" 5\n"));
+    let gone = outcome_of(alloc, NO_OBJECT, &[], 1000)?;
+    assert!(rt; matches!(&gone.end, End::Stopped(Stop::UseAfterFree)));
     Ok(())
 }
 

@@ -82,6 +82,13 @@ const EXIT_OF_TWO: &[u8] =
 const EXIT_OF_TWO_TRACE: &str =
     "live 1 m2\ninitialize 2\nprint i\nnewline\nlive 2 m3\nfinalize 2 scope\nprint b\nnewline\nfinalize 1 scope\nprint a\nnewline\nprint out\nnewline\nend done\n";
 
+/// Components of objects, read and assigned to: in the object's own operations, in a block, and from a body around (RM 3.8, 4.1.3, 5.2).
+const COMPONENTS: &[u8] =
+    b"with Ada.Finalization; use Ada.Finalization; with Ada.Text_IO; use Ada.Text_IO; procedure Main is type A is new Controlled with record N : Integer; B : Boolean; end record; overriding procedure Initialize (X : in out A); overriding procedure Finalize (X : in out A); G : Integer := 0; procedure Initialize (X : in out A) is begin G := G + 1; X.N := G; Put (\"i\" & Boolean'Image (X.B)); end Initialize; procedure Finalize (X : in out A) is begin Put_Line (\"f\" & Integer'Image (X.N) & Boolean'Image (X.B)); end Finalize; V : A; begin declare W, U : A; begin W.B := W.N = 2; V.N := U.N * 10; end; V.N := V.N + 1; end Main;";
+
+const COMPONENTS_TRACE: &str =
+    "initialize 2\nprint iFALSE\nlive 2 m1\ninitialize 3\nprint iFALSE\nlive 3 m3\ninitialize 4\nprint iFALSE\nlive 4 m3\nfinalize 4 scope\nprint f 3FALSE\nnewline\nfinalize 3 scope\nprint f 2TRUE\nnewline\nfinalize 2 scope\nprint f 31FALSE\nnewline\nend done\n";
+
 /// A type of which there is no object.
 const TYPE_ALONE: &[u8] =
     b"procedure Main is type R is record N : Integer; end record; begin null; end Main;";
@@ -110,6 +117,7 @@ fn traces_of_runs(rt: HostRuntime) -> Result<(), Fail> {
         (RAISED, 1000, RAISED_TRACE),
         (RETURNED, 1000, RETURNED_TRACE),
         (EXIT_OF_TWO, 1000, EXIT_OF_TWO_TRACE),
+        (COMPONENTS, 1000, COMPONENTS_TRACE),
         (TYPE_ALONE, 1000, "end done\n"),
         (TURNS, 100, "end limit\n"),
     ] {
