@@ -505,9 +505,7 @@ pub fn is_fine(code: &Code, place: usize, instr: &Instr) -> bool
         Instr::Fetch { ty, to, .. } | Instr::FetchPart { ty, to, .. } => {
             is_scalar(ty) && puts(code, place, 0, to, ty)
         }
-        Instr::Locate { record, at, .. } => {
-            puts_operand(code, place, 0, at, Ty::Record(record))
-        }
+        Instr::Locate { record, at, .. } => { puts_operand(code, place, 0, at, Ty::Record(record)) }
         Instr::StorePart {
             from,
             ty,

@@ -8,7 +8,7 @@ use Rattle.ctl_code.specs.declared.code.Layout.{Layout}
 use Rattle.ctl_code.specs.Table as Table
 use Rattle.ctl_gen.specs.Layout.{AreLayouts, IsLayout, count_from}
 use Rattle.ctl_gen.specs.Records.{is_flat}
-use Rattle.ctl_gen.proofs.Known.{IsFlat, both_true, flat_if}
+use Rattle.ctl_gen.proofs.Known.{flat_if}
 use Rattle.ctl_gen.proofs.Plain.{offset_flat}
 
 -- one number more

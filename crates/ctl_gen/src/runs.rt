@@ -299,9 +299,7 @@ fn statement(statement: &Stmt, records: &[RecordType]) -> bool
         Stmt::Loop(body) => statements(body.as_slice(), records),
         Stmt::While(test, body) => value(test, records) && statements(body.as_slice(), records),
         Stmt::For(_, _, low, high, body) => {
-            value(low, records)
-                && value(high, records)
-                && statements(body.as_slice(), records)
+            value(low, records) && value(high, records) && statements(body.as_slice(), records)
         }
         Stmt::Block(inside) => master(inside.get(), records),
         Stmt::AssignRecord(..)

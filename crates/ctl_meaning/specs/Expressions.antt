@@ -3,7 +3,7 @@
 --
 -- What each of them means is one function of what its parts mean: `eval_step` and the like have a line for each construct, in which the
 -- parts stand as acts already; `eval` and the like, below them, take a whole tree by these steps.
-use Rattle.std.specs.Prelude.{ℕ, List, [], ◌∷◌, ◌++◌, length, drop, Option, Some, None, Bool, not, slice_get, replicate}
+use Rattle.std.specs.Prelude.{ℕ, List, [], ◌∷◌, ◌++◌, length, Option, Some, None, Bool, not, slice_get, replicate}
 use Rattle.ctl_program.specs.declared.operators.Shortcut.{Shortcut}
 use Rattle.ctl_program.specs.declared.operators.Shortcut.TheVariants.{AndThen, OrElse}
 use Rattle.ctl_program.specs.declared.operators.CopyStart as CopyStartOf

@@ -7,7 +7,7 @@ use Rattle.ctl_program.specs.declared.expression.Step.TheVariants.{Component, De
 use Rattle.ctl_tree.specs.declared.ending.Stop.TheVariants.{UseAfterFree}
 use Rattle.ctl_meaning.specs.World.{Object, Content, Holds, Binds, Copies, holding, Slot, World}
 use Rattle.ctl_meaning.specs.Lists.{item_or, same_list}
-use Rattle.ctl_meaning.specs.Activations.{master_of, slot_in}
+use Rattle.ctl_meaning.specs.Activations.{master_of}
 use Rattle.ctl_meaning.specs.Objects.{first_cells, cells_at, overwritten}
 use Rattle.ctl_meaning.specs.Changes.{object_at, write_cells, set_slot, slot_at, set_value}
 use Rattle.ctl_meaning.specs.Choice.{Ask}

@@ -1,5 +1,5 @@
 -- Objects by number, their values and states, and where they lie.
-use Rattle.std.specs.Prelude.{ℕ, zero, suc, ◌+◌, List, [], ◌∷◌, ◌++◌, length, Option, Bool, true, false, nat_eq, if◌then◌else◌, take, drop}
+use Rattle.std.specs.Prelude.{ℕ, zero, suc, List, [], ◌∷◌, Option, Bool, true, false, nat_eq, if◌then◌else◌, drop}
 use Rattle.ctl_meaning.specs.World.{Place, Standard, InBlock, InSubpool, Origin, Declared, Allocated, State, Untouched, Finalizing, Finalized, Object}
 use Rattle.ctl_meaning.specs.Lists.{first_with, change_each, contains}
 

@@ -1,4 +1,4 @@
-use Rattle.std.proofs.Common.{◌+◌, drop}
+use Rattle.std.proofs.Common.{drop}
 use Rattle.ctl_code.specs.Kinds.{stack_at}
 use Rattle.ctl_code.specs.Valid.{DropsObject}
 use Rattle.ctl_code.proofs.Shapes.{takes, takes_not}
