@@ -1,8 +1,9 @@
 -- The declaration of an object of a plain type.
-use Rattle.std.proofs.Common.{◌≡◌, ℕ, zero, suc, ◌+◌, ◌<◌, ◌≤◌, List, [], ◌∷◌, length, Option, Some, None, Bool, true, false, refl, sym, ap, ◌∙◌, subst, arith, inr}
+use Rattle.std.proofs.Common.{◌≡◌, ℕ, zero, suc, ◌+◌, ◌<◌, ◌≤◌, List, [], ◌∷◌, length, Option, Some, None, Bool, true, false, refl, sym, ap, ◌∙◌, subst, arith, ◌⊎◌, inl, inr}
 use Rattle.std.specs.Prelude.{replicate, slice_get, ◌&&◌, is_some, nat_eq, if◌then◌else◌}
 use Rattle.ctl_program.specs.declared.types.Ty.TheVariants.{Record}
 use Rattle.ctl_program.specs.declared.types.RecordType.{RecordType}
+use Rattle.ctl_program.specs.declared.types.Root.TheVariants.{Controlled}
 use Rattle.ctl_tree.specs.declared.ending.Stop.TheVariants.{UseAfterFree}
 use Rattle.ctl_tree.specs.declared.event.Event.{Event}
 use Rattle.ctl_tree.specs.declared.event.Event.TheVariants as EventOf
@@ -13,7 +14,7 @@ use Rattle.ctl_meaning.specs.Objects.{change_in, object_in, with_cells, opened_o
 use Rattle.ctl_meaning.specs.Changes.{object_at, create, write_cells, set_slot, add_layer, begin_finalization, end_finalization, home_of, owner_of, opened_changes}
 use Rattle.ctl_meaning.specs.Choice.{Ask, picked}
 use Rattle.ctl_meaning.specs.Outcome.{ByRaise, Result, Goes, Leaves, Out, Gives, Stops, Cut, Act, Done, Fine, add, after_pick, ticked, bind, on_goes, ◌>>=◌, ◌>>◌, done, nothing, tell, show, look, change, told, attempt, when, either, on_some, opened_outcome}
-use Rattle.ctl_meaning.specs.Types.{Tables, Composite, Placed, operation, depth, of_record}
+use Rattle.ctl_meaning.specs.Types.{Tables, Composite, Placed, is_controlled, operation, depth, of_record}
 use Rattle.ctl_meaning.specs.Names.{OfSubprogram, Call, Default, Tools, gone, must_exist, write_part, Returned, opened_names}
 use Rattle.ctl_meaning.specs.Finalization.{whole, no_component, These, component_at, call_operation, after_finalize, own_finalize, in_any_order, finalize_part, finalize, opened_finalization}
 use Rattle.ctl_meaning.specs.Adjustment.{Birth, adjust, adjust_record, birth_of, lives}
@@ -28,10 +29,10 @@ use Rattle.ctl_code.specs.Valid.{IsDeclarable}
 use Rattle.ctl_code.specs.Table as Table
 use Rattle.ctl_code.specs.Table.{defaulted_of, size_of, whole_part, showing, birth, come_to_life, operation_of}
 use Rattle.ctl_code.specs.Steps.{moved, step, stepped}
-use Rattle.ctl_gen.proofs.Known.{IsPlain}
+use Rattle.ctl_gen.proofs.Known.{IsPlain, IsUntagged}
 use Rattle.ctl_gen.proofs.Worlds.{IfFound, Settled, Since, Kept, home, object_fits, created_ty, since_create, since_slot, since_written, since_layer, since_begin, since_end}
 use Rattle.ctl_gen.proofs.Finalize.{initialize_scope}
-use Rattle.ctl_gen.proofs.Plain.{is_controlled_plain, begin_cells_flat, parts_to_finalize_flat, scalar_of_record}
+use Rattle.ctl_gen.proofs.Plain.{is_controlled_plain, not_controlled_plain, no_finalize, no_initialize, begin_cells_flat, parts_to_finalize_flat, scalar_of_record}
 use Rattle.ctl_gen.proofs.Defaults.{AreFilled, Fills, GivesDefaults, filled_length, parts_filled, picked_less, pulled, pulled_rest, rest_length}
 use Rattle.ctl_gen.proofs.Setting.{Setting, tools_with, returns, Told, Sees, Calls, enter_shows}
 use Rattle.ctl_gen.proofs.Cells.{by_code}
@@ -46,6 +47,15 @@ life g (Some o) n p k w = showing (birth g n (last_of p.display)) (At p.display 
 as_life : (code : Code) (n t : ℕ) (y : Option Object) (p : Point) (k : List Frame) (w : World) (l : Log) → moved l (come_to_life code n t y p k w) ≡ moved l (life (operation_of (λ x. x.finalize) code t) y n p k w)
 as_life code n t None p k w l = refl
 as_life code n t (Some o) p k w l = refl
+
+none_chosen : (b : Bool) → (b && false) ≡ false
+none_chosen true = refl
+none_chosen false = refl
+
+-- where the user wrote no Finalize, no birth is shown
+unseen : (code : Code) (n t : ℕ) (y : Option Object) (p : Point) (k : List Frame) (w : World) (l : Log) → operation_of (λ x. x.finalize) code t ≡ None → moved l (Table.by_declaration code None n t y p k w) ≡ moved l (come_to_life code n t y p k w)
+unseen code n t None p k w l e = ap (λ g. moved l (showing (birth g n (last_of p.display)) (Stopped UseAfterFree) k [] w)) (sym e)
+unseen code n t (Some o) p k w l e = refl
 
 module _ (ask : Ask) (k : Tables) (code : Code) (setting : Setting k code) (call : Call) (default : Default) (constants : GivesDefaults k default) (t : ℕ) (r : RecordType) (here : slice_get k.records t ≡ Some r) (plain : IsPlain k r) where
   abbrev K : Tools
@@ -94,19 +104,24 @@ module _ (ask : Ask) (k : Tables) (code : Code) (setting : Setting k code) (call
   unfolding opened_finalization opened_outcome depth opened_lists
   finalize_none n c l w =
       ap (λ ps. add 1 (bind (own_finalize K Failed (These []) (whole n) t c l w) (on_goes (in_any_order K (λ p. of_record (done false) (finalize_part K Failed (These []) (length k.records) (component_at (whole n) p)) p.ty) (length ps) ps)))) (parts_to_finalize_flat k t r here plain.flat K (These []) (whole n) refl)
-      ∙ ap (λ b. add 1 (bind (either (b && false) (attempt (call_operation K (whole n) (operation (λ x. x.finalize) k t) (EventOf.Finalize (whole_part n) Failed)) >>= after_finalize Failed) (done false) c l w) (on_goes (λ b1. done b1)))) (is_controlled_plain k t r here plain)
+      ∙ ap (λ b. add 1 (bind (either b (attempt (call_operation K (whole n) (operation (λ x. x.finalize) k t) (EventOf.Finalize (whole_part n) Failed)) >>= after_finalize Failed) (done false) c l w) (on_goes (λ b1. done b1)))) (none_chosen (is_controlled k t))
 
   clean_up_is : (n e c : ℕ) (l : Log) (w : World) → clean_up K (whole n) t [] e c l w ≡ Gives (Leaves (ByRaise e)) 1 c l (end_finalization n (begin_finalization n w))
   unfolding opened_finalization opened_initialization opened_outcome opened_lists
   clean_up_is n e c l w = ap (λ x. bind (add 0 (bind x (on_goes (λ b. change (end_finalization n) >> done b)))) (on_goes (failed_with e))) (finalize_none n c l (begin_finalization n w))
 
   -- the object's own Initialize, behind those of its components
-  own_is : (g1 g2 : Option ℕ) → operation (λ x. x.initialize) k t ≡ g1 → operation (λ x. x.finalize) k t ≡ g2 → (n m c : ℕ) (l : Log) (w0 w : World) → bind (own_initialize K (whole n) t [] c l w) (on_goes (begun K (birth_of (Declared m) w0) (whole n) t)) ≡ started g2 n m (call_operation K (whole n) g1 (starts n) c l w)
+  own_is : r.root ≡ Controlled → (g1 g2 : Option ℕ) → operation (λ x. x.initialize) k t ≡ g1 → operation (λ x. x.finalize) k t ≡ g2 → (n m c : ℕ) (l : Log) (w0 w : World) → bind (own_initialize K (whole n) t [] c l w) (on_goes (begun K (birth_of (Declared m) w0) (whole n) t)) ≡ started g2 n m (call_operation K (whole n) g1 (starts n) c l w)
   unfolding opened_initialization opened_finalization opened_outcome birth_of lives
-  own_is g1 g2 e1 e2 n m c l w0 w =
-      ap (λ b. bind (either b (λ c1 l1 w1. bind (bind (call_operation K (whole n) (operation (λ x. x.initialize) k t) (starts n) c1 l1 w1) told) (on_goes (begin_next [] begun_with []))) (begun_with []) c l w) (on_goes (λ x. on_some x.failure (when b (alive (operation (λ y. y.finalize) k t) n m)) (clean_up K (whole n) t x.paths)))) (is_controlled_plain k t r here plain)
+  own_is controlled g1 g2 e1 e2 n m c l w0 w =
+      ap (λ b. bind (either b (λ c1 l1 w1. bind (bind (call_operation K (whole n) (operation (λ x. x.initialize) k t) (starts n) c1 l1 w1) told) (on_goes (begin_next [] begun_with []))) (begun_with []) c l w) (on_goes (λ x. on_some x.failure (when b (alive (operation (λ y. y.finalize) k t) n m)) (clean_up K (whole n) t x.paths)))) (is_controlled_plain k t r here controlled)
       ∙ ap (λ x. started (operation (λ y. y.finalize) k t) n m (call_operation K (whole n) x (starts n) c l w)) e1
       ∙ ap (λ x. started x n m (call_operation K (whole n) g1 (starts n) c l w)) e2
+
+  -- an object that is not controlled has none
+  none_is : IsUntagged r → (n m c : ℕ) (l : Log) (w0 w : World) → bind (own_initialize K (whole n) t [] c l w) (on_goes (begun K (birth_of (Declared m) w0) (whole n) t)) ≡ Gives (Goes tt) 0 c l w
+  unfolding opened_initialization opened_outcome
+  none_is untagged n m c l w0 w = ap (λ b. bind (either b (attempt (call_operation K (whole n) (operation (λ x. x.initialize) k t) (starts n)) >>= begin_next [] begun_with []) (begun_with []) c l w) (on_goes (λ x. on_some x.failure (when b (lives K (birth_of (Declared m) w0) (whole n) t)) (clean_up K (whole n) t x.paths)))) (not_controlled_plain k t r here plain.flat untagged)
 
   declare_is : (m slot c : ℕ) (l : Log) (w : World) → declare Composite K m slot (Record t) None c l w ≡ standing w.ledger.next_object m (initialize K (birth_of (Declared m) w) (whole w.ledger.next_object) (Record t) c l (set_slot m slot (holding (Holds w.ledger.next_object)) (create (Record t) (replicate (size_of code t) 0) (Declared m) w)))
   unfolding declare fill opened_outcome
@@ -303,12 +318,18 @@ module _ (ask : Ask) (k : Tables) (code : Code) (setting : Setting k code) (call
         (first ∙ ap (λ x. moved l (Table.by_declaration code (Some f) n t x p ks w)) ey ∙ enter_shows (slice_get code.entries.items f) (starts n) (home_of o.origin w) (holding (Binds n 0 []) ∷ []) (Initializing n t p ∷ ks) l w))))
 
     -- an object whose components have taken their defaults, from the frame that fills it
-    own_runs : (w0 : World) (n : ℕ) (e : Target) (p : Point) (ks : List Frame) (c : ℕ) (l : Log) (w2 w : World) → c ≤ bound → Since k code w0 w → IsOf n w → Runs ask code (Kept k code w0) 4 5 (gives (Filling n t [] p ∷ ks) (Fine Complete) l w) c (arrives e p.display p.place ks p.operands) (standing n (last_of p.display) (bind (own_initialize K (whole n) t [] c l w) (on_goes (begun K (birth_of (Declared (last_of p.display)) w2) (whole n) t))))
-    unfolding picked
-    own_runs w0 n e p ks c l w2 w le fits ty =
+    own_runs : (r.root ≡ Controlled) ⊎ IsUntagged r → (w0 : World) (n : ℕ) (e : Target) (p : Point) (ks : List Frame) (c : ℕ) (l : Log) (w2 w : World) → c ≤ bound → Since k code w0 w → IsOf n w → Runs ask code (Kept k code w0) 4 5 (gives (Filling n t [] p ∷ ks) (Fine Complete) l w) c (arrives e p.display p.place ks p.operands) (standing n (last_of p.display) (bind (own_initialize K (whole n) t [] c l w) (on_goes (begun K (birth_of (Declared (last_of p.display)) w2) (whole n) t))))
+    unfolding picked opened_outcome opened_initialization
+    own_runs (inl controlled) w0 n e p ks c l w2 w le fits ty =
         subst (λ o. Runs ask code (Kept k code w0) 4 5 (gives (Filling n t [] p ∷ ks) (Fine Complete) l w) c (arrives e p.display p.place ks p.operands) (standing n (last_of p.display) o))
-        (sym (own_is (operation (λ x. x.initialize) k t) (operation (λ x. x.finalize) k t) refl refl n (last_of p.display) c l w2 w))
+        (sym (own_is controlled (operation (λ x. x.initialize) k t) (operation (λ x. x.finalize) k t) refl refl n (last_of p.display) c l w2 w))
         (created_runs w0 n e p ks (gives (Filling n t [] p ∷ ks) (Fine Complete) l w) c l w le fits ty (operation (λ x. x.initialize) k t) (object_at n w) refl refl (ap (λ g. moved l (Table.by_declaration code g n t (object_at n w) p ks w)) (setting.initialize t)))
+    own_runs (inr untagged) w0 n e p ks c l w2 w le fits ty =
+        subst (λ o. Runs ask code (Kept k code w0) 4 5 (gives (Filling n t [] p ∷ ks) (Fine Complete) l w) c (arrives e p.display p.place ks p.operands) (standing n (last_of p.display) o))
+        (sym (none_is untagged n (last_of p.display) c l w2 w))
+        (within ask code (Kept k code w0) 3 4 4 5 (gives (Filling n t [] p ∷ ks) (Fine Complete) l w) c (arrives e p.display p.place ks p.operands) (standing n (last_of p.display) (Gives (Goes tt) 0 c l w)) (omega arith) (omega arith)
+        (found_runs w0 n e p ks (gives (Filling n t [] p ∷ ks) (Fine Complete) l w) (gives (Filling n t [] p ∷ ks) (Fine Complete) l w) c c 0 l w (Unit {0}) fits (record { n = 0; falls = omega arith; enough = omega arith; in_time = omega arith; comes = refl; fits = tt }) None (object_at n w) (no_finalize k t r here plain.flat untagged) refl
+        (ap (λ g. moved l (Table.by_declaration code g n t (object_at n w) p ks w)) (setting.initialize t ∙ no_initialize k t r here plain.flat untagged) ∙ unseen code n t (object_at n w) p ks w l (setting.finalize t ∙ no_finalize k t r here plain.flat untagged))))
 
     -- a declaration: its operations are in scope, as the code is well formed
     pub declare_runs : (slot : ℕ) (e : Target) (s : List Kind) (w0 : World) (d : List ℕ) (place : ℕ) (ks : List Frame) (ops : List ℕ) (c : ℕ) (l : Log) (w : World) → c ≤ bound → Since k code w0 w → Sees d s w0 → Laid code place ((InstrOf.Declare slot t, s) ∷ []) → Runs ask code (Kept k code w0) 5 6 (at d place ks ops l w) c (arrives e d (place + 1) ks ops) (declare Composite K (last_of d) slot (Record t) None c l w)
@@ -318,7 +339,7 @@ module _ (ask : Ask) (k : Tables) (code : Code) (setting : Setting k code) (call
         (one_step ask code (Kept k code w0) 4 5 5 6 (at d place ks ops l w) (gives (Filling n t (defaulted_of code t) p ∷ ks) (Fine Complete) l w1) c c (arrives e d (place + 1) ks ops) _ (omega arith) (omega arith) (omega arith) (omega arith)
         (by_code ask code d place ks ops l w (InstrOf.Declare slot t) has.0)
         (fills_runs (length (parts_to_begin K t)) (length k.records) (birth_of (Declared (last_of d)) w) w0 n 4 5 p ks c (arrives e d (place + 1) ks ops) (then_own n (last_of d) w)
-        (λ l1 w2 fits1 ty1. subst (Runs ask code (Kept k code w0) 4 5 (gives (Filling n t [] p ∷ ks) (Fine Complete) l1 w2) c (arrives e d (place + 1) ks ops)) (own_then n (last_of d) c l1 w w2) (own_runs w0 n e p ks c l1 w w2 le fits1 ty1))
+        (λ l1 w2 fits1 ty1. subst (Runs ask code (Kept k code w0) 4 5 (gives (Filling n t [] p ∷ ks) (Fine Complete) l1 w2) c (arrives e d (place + 1) ks ops)) (own_then n (last_of d) c l1 w w2) (own_runs plain.kind w0 n e p ks c l1 w w2 le fits1 ty1))
         l w1 (parts_to_begin K t) (defaulted_of code t) refl filled fits2 typed))
       where
         n : ℕ

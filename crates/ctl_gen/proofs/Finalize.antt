@@ -4,6 +4,7 @@ use Rattle.std.specs.Prelude.{slice_get, ◌&&◌, ◌||◌, nat_eq}
 use Rattle.ctl_program.specs.declared.types.Ty.{Ty}
 use Rattle.ctl_program.specs.declared.types.Ty.TheVariants.{Record}
 use Rattle.ctl_program.specs.declared.types.RecordType.{RecordType}
+use Rattle.ctl_program.specs.declared.types.Root.TheVariants.{Controlled}
 use Rattle.ctl_tree.specs.declared.ending.Stop.TheVariants.{UseAfterFree}
 use Rattle.ctl_tree.specs.declared.event.Event.{Event}
 use Rattle.ctl_tree.specs.declared.event.Event.TheVariants as EventOf
@@ -25,9 +26,9 @@ use Rattle.ctl_code.specs.Table as Table
 use Rattle.ctl_code.specs.Table.{whole_part, operation_of, operation_in}
 use Rattle.ctl_code.specs.Steps.{moved, step}
 use Rattle.ctl_code.specs.Valid.{IsInScope, IsDeclarable}
-use Rattle.ctl_gen.proofs.Known.{IsPlain}
+use Rattle.ctl_gen.proofs.Known.{IsPlain, IsUntagged}
 use Rattle.ctl_gen.proofs.Worlds.{IfFound, Fits, Settled, Since, IsInside, home, object_fits, since_begin, since_end}
-use Rattle.ctl_gen.proofs.Plain.{is_controlled_plain, has_controlled_plain, parts_to_finalize_flat}
+use Rattle.ctl_gen.proofs.Plain.{is_controlled_plain, has_controlled_plain, none_controlled_plain, parts_to_finalize_flat}
 use Rattle.ctl_gen.proofs.Setting.{Setting, tools_with, returns, Told, Sure, Calls, enter_shows}
 use Rattle.ctl_gen.proofs.Follow.{by_raise, Runs, gives, way_of, both, no_step, last_step, stop_step, within, then_step, more_quits, more_halts}
 
@@ -79,7 +80,18 @@ pool_closed k code K n c l w fits =
     ap (λ ps. on_some (first_with (λ p. nat_eq p.object n) ps) (on_some (first_with (λ p. nat_eq p.object n) w.pools.block_pools) (done false) (λ p. shut_pool n >> done false)) (λ p. release_each K p.marks false >>= (λ b. shut_pool n >> done b)) c l w) fits.mark_pools
     ∙ ap (λ ps. on_some (first_with (λ p. nat_eq p.object n) ps) (done false) (λ p. shut_pool n >> done false) c l w) fits.block_pools
 
-module _ (ask : Ask) (k : Tables) (code : Code) (setting : Setting k code) (call : Call) (default : Default) (t : ℕ) (r : RecordType) (here : slice_get k.records t ≡ Some r) (plain : IsPlain k r) where
+-- an object without a controlled part stays as it is
+module _ (ask : Ask) (k : Tables) (code : Code) (call : Call) (default : Default) (t : ℕ) (r : RecordType) (here : slice_get k.records t ≡ Some r) (plain : IsPlain k r) (untagged : IsUntagged r) where
+  untouched_is : (n c : ℕ) (l : Log) (w : World) → Fits k code w → finalize_as (tools_with ask k call default) n (Record t) c l w ≡ Gives (Goes false) 0 c l w
+  unfolding opened_finalization opened_outcome
+  untouched_is n c l w fits =
+      ap (λ b. bind (either b (finalize_object (tools_with ask k call default) Scope (record { number = n; ty = Record t })) (done false) c l w) (on_goes (λ a. close_pool (tools_with ask k call default) n >>= (λ b1. done (a || b1))))) (none_controlled_plain k t r here plain.flat untagged)
+      ∙ ap (λ x. add 0 (bind x (on_goes (λ b1. done (false || b1))))) (pool_closed k code (tools_with ask k call default) n c l w fits)
+
+  pub untouched_runs : (n : ℕ) (w0 : World) (ks : List Frame) (c : ℕ) (l : Log) (w : World) (s0 : State) → Since k code w0 w → step ask code s0 ≡ gives ks (Fine Complete) l w → Runs ask code (Sure k code w0) 3 3 s0 c (tells ks) (finalize_as (tools_with ask k call default) n (Record t) c l w)
+  untouched_runs n w0 ks c l w s0 fits first = subst (Runs ask code (Sure k code w0) 3 3 s0 c (tells ks)) (sym (untouched_is n c l w fits.0)) (last_step ask code (Sure k code w0) 3 3 s0 c 0 (tells ks) (Goes false) l w (omega arith) (tt, fits) first)
+
+module _ (ask : Ask) (k : Tables) (code : Code) (setting : Setting k code) (call : Call) (default : Default) (t : ℕ) (r : RecordType) (here : slice_get k.records t ≡ Some r) (plain : IsPlain k r) (controlled : r.root ≡ Controlled) where
   abbrev K : Tools
   K = tools_with ask k call default
 
@@ -90,7 +102,7 @@ module _ (ask : Ask) (k : Tables) (code : Code) (setting : Setting k code) (call
   unfolding opened_finalization opened_outcome depth
   finalize_is g e n c l w =
       ap (λ ps. add 1 (bind (own_finalize K Scope Every (whole n) t c l w) (on_goes (in_any_order K (λ p. of_record (done false) (finalize_part K Scope Every (length k.records) (component_at (whole n) p)) p.ty) (length ps) ps)))) (parts_to_finalize_flat k t r here plain.flat K Every (whole n) refl)
-      ∙ ap (λ b. add 1 (bind (either (b && true) (λ c1 l1 w1. bind (bind (call_operation K (whole n) (operation (λ x. x.finalize) k t) (ends n) c1 l1 w1) told) (on_goes (after_finalize Scope))) (done false) c l w) (on_goes (λ b1. done b1)))) (is_controlled_plain k t r here plain)
+      ∙ ap (λ b. add 1 (bind (either (b && true) (λ c1 l1 w1. bind (bind (call_operation K (whole n) (operation (λ x. x.finalize) k t) (ends n) c1 l1 w1) told) (on_goes (after_finalize Scope))) (done false) c l w) (on_goes (λ b1. done b1)))) (is_controlled_plain k t r here controlled)
       ∙ ap (λ x. add 1 (bind (bind (bind (call_operation K (whole n) x (ends n) c l w) told) (on_goes (after_finalize Scope))) (on_goes (λ b. done b)))) e
 
   -- an object that exists
@@ -147,7 +159,7 @@ module _ (ask : Ask) (k : Tables) (code : Code) (setting : Setting k code) (call
     pub declared_runs : (n : ℕ) (w0 : World) (ks : List Frame) (c : ℕ) (l : Log) (w : World) (s0 : State) (o : Object) → c ≤ bound → Since k code w0 w → object_at n w ≡ Some o → o.ty ≡ Record t → ((p : Object) → object_at n (begin_finalization n w) ≡ Some p → p.ty ≡ Record t) → step ask code s0 ≡ moved l (Table.finalize_by code (operation_of (λ x. x.finalize) code t) n (object_at n (begin_finalization n w)) ks (begin_finalization n w)) → Runs ask code (Sure k code w0) 3 3 s0 c (tells ks) (finalize_as K n (Record t) c l w)
     unfolding opened_outcome opened_finalization
     declared_runs n w0 ks c l w s0 o le fits at ty ty1 first =
-        subst (λ b. Runs ask code (Sure k code w0) 3 3 s0 c (tells ks) (bind (either b (finalize_object K Scope m) (done false) c l w) (on_goes (λ a. close_pool K n >>= (λ b1. done (a || b1)))))) (sym (has_controlled_plain k t r here plain))
+        subst (λ b. Runs ask code (Sure k code w0) 3 3 s0 c (tells ks) (bind (either b (finalize_object K Scope m) (done false) c l w) (on_goes (λ a. close_pool K n >>= (λ b1. done (a || b1)))))) (sym (has_controlled_plain k t r here controlled))
         (both ask code (Sure k code w0) (Sure k code w0) 3 3 0 0 3 3 s0 c (tells ks) (tells ks) _ _ (omega arith) (omega arith) (omega arith) (object_runs n w0 ks c l w s0 o le fits at ty ty1 first) after)
       where
         m : Member

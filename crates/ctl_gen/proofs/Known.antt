@@ -1,5 +1,6 @@
--- The types of the variables of this version: scalar ones, and controlled record types with scalar components whose defaults are constants.
-use Rattle.std.proofs.Common.{◌≡◌, ℕ, zero, suc, List, [], ◌∷◌, ◌++◌, Option, Some, None, Bool, true, false, refl, ap, ◌∙◌}
+-- The types of the variables of this version: scalar ones, and record types with scalar components whose defaults are constants, controlled
+-- or not tagged.
+use Rattle.std.proofs.Common.{◌≡◌, ℕ, zero, suc, List, [], ◌∷◌, ◌++◌, Option, Some, None, Bool, true, false, refl, ap, ◌∙◌, ◌⊎◌, inl, inr}
 use Rattle.std.specs.Prelude.{slice_get, ◌&&◌}
 use Rattle.ctl_program.specs.declared.types.Ty.{Ty}
 use Rattle.ctl_program.specs.declared.types.Ty.TheVariants.{Integer, Count, Boolean, Address, Handle, Access, Record}
@@ -8,7 +9,7 @@ use Rattle.ctl_program.specs.declared.types.Root.TheVariants.{Controlled, Untagg
 use Rattle.ctl_program.specs.declared.types.Component.{Component}
 use Rattle.ctl_program.specs.declared.types.RecordType.{RecordType}
 use Rattle.ctl_meaning.specs.Types.{Tables, Elementary, category_of, components, with_own, of_parent}
-use Rattle.ctl_gen.specs.Records.{are_scalar, extends_bare, has_no_components, has_no_parent, is_bare, is_controlled, is_flat, is_run_type}
+use Rattle.ctl_gen.specs.Records.{are_scalar, extends_bare, has_no_components, has_no_parent, is_bare, is_flat, is_root_run, is_run_type, is_unwritten}
 use Rattle.ctl_gen.specs.Defaults.{have_constants, is_plain}
 
 -- both hold where their conjunction does
@@ -53,9 +54,15 @@ pub record IsFlat (records : List RecordType) (r : RecordType) : Type 0 where
   pub inherits_none : (n : ℕ) → of_parent [] (components n records) r.parent ≡ []
   pub own : AreScalar r.own
 
--- such a type that extends Controlled, or Limited_Controlled, with constants as defaults (7.6)
+-- a type that is not tagged, and has no operations that the user wrote
+pub record IsUntagged (r : RecordType) : Type 0 where
+  pub root : r.root ≡ Untagged
+  pub initialize : r.operations.initialize ≡ None
+  pub finalize : r.operations.finalize ≡ None
+
+-- a flat type that extends Controlled, or Limited_Controlled (7.6), or is not tagged, with constants as defaults
 pub record IsPlain (k : Tables) (r : RecordType) : Type 0 where
-  pub controlled : r.root ≡ Controlled
+  pub kind : (r.root ≡ Controlled) ⊎ IsUntagged r
   pub flat : IsFlat k.records r
   pub constants : have_constants k.records r.own ≡ true
 
@@ -63,11 +70,17 @@ abbrev pub IsPlainType : Tables → Ty → Type 0
 IsPlainType k (Record t) = (r : RecordType) × (slice_get k.records t ≡ Some r) × IsPlain k r
 IsPlainType k _ = ⊥
 
-root_if : (r : Root) → is_controlled r ≡ true → r ≡ Controlled
-root_if Controlled e = refl
-root_if Untagged e = absurd (cc)
-root_if BlockPool e = absurd (cc)
-root_if MarkPool e = absurd (cc)
+unwritten_if : (o : Option ℕ) → is_unwritten o ≡ true → o ≡ None
+unwritten_if None e = refl
+unwritten_if (Some f) e = absurd (cc)
+
+root_if : (r : RecordType) (x : Root) → r.root ≡ x → is_root_run x r.operations ≡ true → (r.root ≡ Controlled) ⊎ IsUntagged r
+root_if r Controlled is e = inl is
+root_if r Untagged is e =
+    let h = both_true (is_unwritten r.operations.initialize) (is_unwritten r.operations.finalize) e in
+    inr (record { root = is; initialize = unwritten_if r.operations.initialize h.0; finalize = unwritten_if r.operations.finalize h.1 })
+root_if r BlockPool is e = absurd (cc)
+root_if r MarkPool is e = absurd (cc)
 
 pub parent_if : (o : Option ℕ) → has_no_parent o ≡ true → o ≡ None
 parent_if None e = refl
@@ -110,6 +123,6 @@ flat_if records r e =
 pub plain_if : (k : Tables) (o : Option RecordType) → is_plain k.records o ≡ true → (r : RecordType) × (o ≡ Some r) × IsPlain k r
 plain_if k None e = absurd (cc)
 plain_if k (Some r) e =
-    let h = both_true (is_controlled r.root) (is_flat k.records (Some r) && have_constants k.records r.own) e in
+    let h = both_true (is_root_run r.root r.operations) (is_flat k.records (Some r) && have_constants k.records r.own) e in
     let g = both_true (is_flat k.records (Some r)) (have_constants k.records r.own) h.1 in
-    (r, refl, record { controlled = root_if r.root h.0; flat = flat_if k.records r g.0; constants = g.1 })
+    (r, refl, record { kind = root_if r r.root refl h.0; flat = flat_if k.records r g.0; constants = g.1 })

@@ -7,7 +7,7 @@ use Rattle.ctl_meaning.specs.Types.{Tables, offset_in, placed}
 use Rattle.ctl_code.specs.declared.code.Layout.{Layout}
 use Rattle.ctl_code.specs.Table as Table
 use Rattle.ctl_gen.specs.Layout.{AreLayouts, IsLayout, count_from}
-use Rattle.ctl_gen.specs.Records.{is_flat}
+use Rattle.ctl_gen.specs.Records.{is_flat, parts_by}
 use Rattle.ctl_gen.specs.Defaults.{defaulted_from}
 use Rattle.ctl_gen.proofs.Known.{flat_if}
 use Rattle.ctl_gen.proofs.Plain.{offset_flat}
@@ -30,16 +30,19 @@ none_of None h = refl
 none_of (Some n) h = absurd (h n refl)
 
 -- of a type of the table
-layout_at : (xs : List Layout) (rs : List RecordType) → AreLayouts xs rs → (t : ℕ) (r : RecordType) → slice_get rs t ≡ Some r → (x : Layout) × (slice_get xs t ≡ Some x) × IsLayout x r.own
+layout_at : (xs : List Layout) (rs : List RecordType) → AreLayouts xs rs → (t : ℕ) (r : RecordType) → slice_get rs t ≡ Some r → (x : Layout) × (slice_get xs t ≡ Some x) × IsLayout x (parts_by r.root) r.own
 layout_at [] [] h t r e = absurd (cc)
 layout_at [] (s ∷ rs) h t r e = absurd h
 layout_at (x ∷ xs) [] h t r e = absurd h
-layout_at (x ∷ xs) (s ∷ rs) h zero r e = let same : s ≡ r = cc e in (x, refl, subst (λ (y : RecordType). IsLayout x y.own) same h.0)
+layout_at (x ∷ xs) (s ∷ rs) h zero r e = let same : s ≡ r = cc e in (x, refl, subst (λ (y : RecordType). IsLayout x (parts_by y.root) y.own) same h.0)
 layout_at (x ∷ xs) (s ∷ rs) h (suc t) r e = layout_at xs rs h.1 t r e
 
 module _ (k : Tables) (xs : List Layout) (laid : AreLayouts xs k.records) where
   pub sizes : (t : ℕ) (r : RecordType) → slice_get k.records t ≡ Some r → Table.size_in (slice_get xs t) ≡ length r.own
   sizes t r e = let x = layout_at xs k.records laid t r e in ap Table.size_in x.1 ∙ x.2.cells
+
+  pub parts_are : (t : ℕ) (r : RecordType) → slice_get k.records t ≡ Some r → Table.parts_in (slice_get xs t) ≡ parts_by r.root
+  parts_are t r e = let x = layout_at xs k.records laid t r e in ap Table.parts_in x.1 ∙ x.2.parts
 
   pub defaults : (t : ℕ) (r : RecordType) → slice_get k.records t ≡ Some r → Table.defaulted_in (slice_get xs t) ≡ defaulted_from 0 r.own
   defaults t r e = let x = layout_at xs k.records laid t r e in ap Table.defaulted_in x.1 ∙ x.2.defaulted

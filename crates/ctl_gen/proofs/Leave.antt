@@ -1,8 +1,10 @@
 -- A master is left: its layers are finalized, from the newest on, and what it declared is gone.
-use Rattle.std.proofs.Common.{◌≡◌, ℕ, ◌≤◌, List, [], ◌∷◌, Option, Some, None, Bool, true, false, refl, sym, ap, ◌∙◌, subst, arith}
-use Rattle.std.specs.Prelude.{◌||◌, if◌then◌else◌, nat_eq}
+use Rattle.std.proofs.Common.{◌≡◌, ℕ, ◌≤◌, List, [], ◌∷◌, Option, Some, None, Bool, true, false, refl, sym, ap, ◌∙◌, subst, arith, ◌⊎◌, inl, inr}
+use Rattle.std.specs.Prelude.{◌||◌, if◌then◌else◌, nat_eq, slice_get}
 use Rattle.ctl_program.specs.declared.types.Ty.{Ty}
 use Rattle.ctl_program.specs.declared.types.Ty.TheVariants.{Integer, Count, Boolean, Address, Handle, Access, Record}
+use Rattle.ctl_program.specs.declared.types.RecordType.{RecordType}
+use Rattle.ctl_program.specs.declared.types.Root.TheVariants.{Controlled}
 use Rattle.ctl_tree.specs.declared.ending.Stop.TheVariants.{UseAfterFree}
 use Rattle.ctl_meaning.specs.World.{Object, Layer, Single, Sets, Log, World}
 use Rattle.ctl_meaning.specs.Lists.{first_with, change_each, opened_lists}
@@ -19,12 +21,13 @@ use Rattle.ctl_meaning.specs.Masters as Masters
 use Rattle.ctl_meaning.specs.Masters.{Left, finalize_layer, leave_layers, left}
 use Rattle.ctl_code.specs.declared.code.Code.{Code}
 use Rattle.ctl_code.specs.States.{After, Frame, Leaving, State}
-use Rattle.ctl_code.specs.Table.{behind, finalize_declared, next_layer, says_failed}
+use Rattle.ctl_code.specs.Table.{behind, finalize_declared, finalize_parts, next_layer, parts_of, says_failed}
 use Rattle.ctl_code.specs.Steps.{moved, step}
-use Rattle.ctl_gen.proofs.Known.{IsPlainType}
+use Rattle.ctl_gen.specs.Records.{parts_by}
+use Rattle.ctl_gen.proofs.Known.{IsPlain, IsPlainType, IsUntagged}
 use Rattle.ctl_gen.proofs.Worlds.{Each, IfFound, IsSingle, Settled, Since, object_fits, layers_fit, since_take, since_close}
 use Rattle.ctl_gen.proofs.Setting.{Setting, tools_with, Calls, Told, Sure}
-use Rattle.ctl_gen.proofs.Finalize.{finalize_as, declared_runs, handed, tells}
+use Rattle.ctl_gen.proofs.Finalize.{finalize_as, declared_runs, untouched_runs, handed, tells}
 use Rattle.ctl_gen.proofs.Follow.{Runs, way_of, both, added, stop_step, end_step, bind_bind}
 
 -- where the end of a master leads
@@ -56,6 +59,11 @@ module _ (ask : Ask) (k : Tables) (code : Code) (setting : Setting k code) (call
   abbrev rest : ℕ → List Layer → Result Done → Bool → Result Bool → Act Left
   rest m xs r failed s c l w = bind (on_goes (λ b. leave_layers K m xs (failed || b)) s c l w) (on_goes (left m r))
 
+  -- a declared object of a record type, by whether it has a controlled part
+  record_runs : (t n : ℕ) (w0 : World) (ks : List Frame) (c : ℕ) (l : Log) (w : World) (s0 : State) (o : Object) → c ≤ bound → Since k code w0 w → object_at n w ≡ Some o → o.ty ≡ Record t → (r : RecordType) → slice_get k.records t ≡ Some r → IsPlain k r → (r.root ≡ Controlled) ⊎ IsUntagged r → step ask code s0 ≡ moved l (finalize_parts code (parts_of code t) n t ks w) → Runs ask code (Sure k code w0) 3 3 s0 c (tells ks) (finalize_as K n (Record t) c l w)
+  record_runs t n w0 ks c l w s0 o le fits at is r here plain (inl controlled) e = declared_runs ask k code setting call default t r here plain controlled bound calls n w0 ks c l w s0 o le fits at is (λ p at1. keeps_ty n w o p at at1 ∙ is) (e ∙ ap (λ p. moved l (finalize_parts code p n t ks w)) (setting.parts t r here ∙ ap parts_by controlled))
+  record_runs t n w0 ks c l w s0 o le fits at is r here plain (inr untagged) e = untouched_runs ask k code call default t r here plain untagged n w0 ks c l w s0 fits (e ∙ ap (λ p. moved l (finalize_parts code p n t ks w)) (setting.parts t r here ∙ ap parts_by untagged.root))
+
   -- a declared object that is found, or not, from the step that looks for it
   found_runs : (n : ℕ) (w0 : World) (ks : List Frame) (c : ℕ) (l : Log) (w : World) (s0 : State) → c ≤ bound → Since k code w0 w → (y : Option Object) → object_at n w ≡ y → IfFound (Settled k code w.ledger.next_master w.activations) y → step ask code s0 ≡ moved l (finalize_declared code n y ks w) → Runs ask code (Sure k code w0) 3 3 s0 c (tells ks) (on_some y gone (λ o. finalize_as K n o.ty) c l w)
   unfolding opened_outcome gone
@@ -66,7 +74,7 @@ module _ (ask : Ask) (k : Tables) (code : Code) (setting : Setting k code) (call
       goal x = Runs ask code (Sure k code w0) 3 3 s0 c (tells ks) x
 
       by : (ty : Ty) → o.ty ≡ ty → IsPlainType k ty → step ask code s0 ≡ moved l (finalize_declared code n (Some (record o { ty = ty })) ks w) → Runs ask code (Sure k code w0) 3 3 s0 c (tells ks) (finalize_as K n ty c l w)
-      by (Record t) is known1 e = declared_runs ask k code setting call default t known1.0 known1.1 known1.2 bound calls n w0 ks c l w s0 o le fits at is (λ p at1. keeps_ty n w o p at at1 ∙ is) e
+      by (Record t) is known1 e = record_runs t n w0 ks c l w s0 o le fits at is known1.0 known1.1 known1.2 known1.2.kind e
       by Integer is known1 e = absurd known1
       by Boolean is known1 e = absurd known1
       by Count is known1 e = absurd known1

@@ -1,6 +1,6 @@
--- What the meaning comes to for record types with scalar components alone: where the components lie, and for controlled ones that none of
--- them is finalized.
-use Rattle.std.proofs.Common.{◌≡◌, ℕ, zero, suc, ◌+◌, ◌-◌, ◌≤◌, ◌<◌, List, [], ◌∷◌, ◌++◌, length, Some, Bool, true, false, refl, sym, ap, ◌∙◌, arith, replicate}
+-- What the meaning comes to for record types with scalar components alone: where the components lie, that none of them is finalized, and
+-- whether the whole is controlled.
+use Rattle.std.proofs.Common.{◌≡◌, ℕ, zero, suc, ◌+◌, ◌-◌, ◌≤◌, ◌<◌, List, [], ◌∷◌, ◌++◌, length, Some, None, Bool, true, false, refl, sym, ap, ◌∙◌, arith, replicate}
 use Rattle.std.specs.Prelude.{slice_get, nat_eq, is_some, if◌then◌else◌, ◌&&◌, ◌||◌}
 use Rattle.std.proofs.lemmas.Bool.{eqb-true, eqb-false, ne_eqb}
 use Rattle.ctl_program.specs.declared.types.Ty.{Ty}
@@ -8,12 +8,13 @@ use Rattle.ctl_program.specs.declared.types.Ty.TheVariants as TyOf
 use Rattle.ctl_program.specs.declared.types.Ty.TheVariants.{Record}
 use Rattle.ctl_program.specs.declared.types.Component.{Component}
 use Rattle.ctl_program.specs.declared.types.RecordType.{RecordType}
+use Rattle.ctl_program.specs.declared.types.Root.TheVariants.{Controlled}
 use Rattle.ctl_meaning.specs.Lists.{item_or, opened_lists, keep, any_of}
-use Rattle.ctl_meaning.specs.Types.{Tables, Placed, opened_types, with_own, of_parent, components, offset_in, placed, placed_from, is_controlled, has_controlled, has_default, controlled_within, is_tagged_root, root_in, begin_cells, cells_of, cells_within, total, of_record}
+use Rattle.ctl_meaning.specs.Types.{Tables, Placed, opened_types, with_own, of_parent, components, offset_in, placed, placed_from, is_controlled, has_controlled, has_default, controlled_within, is_tagged_root, root_in, begin_cells, cells_of, cells_within, total, of_record, operation, operation_in}
 use Rattle.ctl_meaning.specs.Names.{Tools}
 use Rattle.ctl_meaning.specs.Finalization.{Chosen, Spot, component_at, has_chosen, parts_to_finalize}
 use Rattle.ctl_gen.specs.Layout.{count_from}
-use Rattle.ctl_gen.proofs.Known.{AreScalar, IsFlat, IsPlain, IsScalar}
+use Rattle.ctl_gen.proofs.Known.{AreScalar, IsFlat, IsScalar, IsUntagged}
 
 -- Scalar components -------------------------------------------------------------------------------
 
@@ -108,13 +109,46 @@ module _ (k : Tables) (t : ℕ) (r : RecordType) (at : slice_get k.records t ≡
   unfolding parts_to_finalize
   parts_to_finalize_flat K want s same = ap (λ x. keep (λ p. has_controlled x p.ty && has_chosen (component_at s p).path want) (placed x t)) same ∙ ap (keep _) placed_flat ∙ none_finalized k (λ p. has_chosen (component_at s p).path want) 1 0 r.own flat.own
 
--- Controlled types --------------------------------------------------------------------------------
+-- Controlled types, and others --------------------------------------------------------------------
 
-module _ (k : Tables) (t : ℕ) (r : RecordType) (at : slice_get k.records t ≡ Some r) (plain : IsPlain k r) where
+module _ (k : Tables) (t : ℕ) (r : RecordType) (at : slice_get k.records t ≡ Some r) (controlled : r.root ≡ Controlled) where
+  tagged : is_tagged_root (root_in (slice_get k.records t)) ≡ true
+  unfolding is_tagged_root root_in
+  tagged = ap (λ x. is_tagged_root (root_in x)) at ∙ ap is_tagged_root controlled
+
   pub is_controlled_plain : is_controlled k t ≡ true
   unfolding opened_types
-  is_controlled_plain = ap (λ x. is_tagged_root (root_in x)) at ∙ ap is_tagged_root plain.controlled
+  is_controlled_plain = tagged
 
   pub has_controlled_plain : has_controlled k (Record t) ≡ true
   unfolding opened_types
-  has_controlled_plain = ap (λ b. b || any_of (λ x. of_record false (controlled_within (length k.records) k.records) x.ty) (components (suc (length k.records)) k.records t)) (ap (λ x. is_tagged_root (root_in x)) at ∙ ap is_tagged_root plain.controlled)
+  has_controlled_plain = ap (λ b. b || any_of (λ x. of_record false (controlled_within (length k.records) k.records) x.ty) (components (suc (length k.records)) k.records t)) tagged
+
+scalar_none : (f : ℕ → Bool) (cs : List Component) → AreScalar cs → any_of (λ (x : Component). of_record false f x.ty) cs ≡ false
+unfolding any_of
+scalar_none f [] h = refl
+scalar_none f (c ∷ cs) h = ap (λ b. b || any_of (λ (x : Component). of_record false f x.ty) cs) (scalar_of_record false f c.ty h.0) ∙ scalar_none f cs h.1
+
+module _ (k : Tables) (t : ℕ) (r : RecordType) (at : slice_get k.records t ≡ Some r) (flat : IsFlat k.records r) (untagged : IsUntagged r) where
+  not_tagged : is_tagged_root (root_in (slice_get k.records t)) ≡ false
+  unfolding is_tagged_root root_in
+  not_tagged = ap (λ x. is_tagged_root (root_in x)) at ∙ ap is_tagged_root untagged.root
+
+  pub not_controlled_plain : is_controlled k t ≡ false
+  unfolding opened_types
+  not_controlled_plain = not_tagged
+
+  pub none_controlled_plain : has_controlled k (Record t) ≡ false
+  unfolding opened_types
+  none_controlled_plain =
+      ap (λ b. b || any_of (λ x. of_record false (controlled_within (length k.records) k.records) x.ty) (components (suc (length k.records)) k.records t)) not_tagged
+      ∙ (ap (any_of (λ x. of_record false (controlled_within (length k.records) k.records) x.ty)) (own_within k t r at flat (length k.records))
+      ∙ scalar_none (controlled_within (length k.records) k.records) r.own flat.own)
+
+  pub no_initialize : operation (λ x. x.initialize) k t ≡ None
+  unfolding operation operation_in
+  no_initialize = ap (operation_in (λ x. x.initialize)) at ∙ untagged.initialize
+
+  pub no_finalize : operation (λ x. x.finalize) k t ≡ None
+  unfolding operation operation_in
+  no_finalize = ap (operation_in (λ x. x.finalize)) at ∙ untagged.finalize

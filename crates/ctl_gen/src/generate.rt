@@ -6,14 +6,15 @@ ghost use Rattle.ctl_well_typed.specs.Programs.{WellTyped};
 ghost use Rattle.ctl_gen.specs.Correct.{Behaves};
 ghost use Rattle.ctl_gen.specs.Run.{AreLinked, IsRun};
 ghost use Rattle.ctl_gen.specs.Defaults.{constant_of};
+ghost use Rattle.ctl_gen.specs.Records as types;
 ghost use Rattle.ctl_gen.specs.Layout.{AreLayouts, HasKinds, IsLaidOut, IsLayout, entry_at, operations_of};
 
 use crate::emit::Emitter;
 use crate::right::constant;
-use ctl_code::code::{Code, Defaulted, Entry, Instr, Layout, Operations};
+use ctl_code::code::{Code, Defaulted, Entry, Instr, Layout, Operations, Parts};
 use ctl_code::valid::ValidCode;
 use ctl_program::program::{Checked, Subprogram};
-use ctl_program::types::{Component, RecordType};
+use ctl_program::types::{Component, RecordType, Root};
 use ctl_tree::fault::{Fault, FaultCode};
 use ctl_tree::text::Text;
 use std::alloc::{AllocError, Global};
@@ -113,9 +114,20 @@ fn default_of(component: &Component) -> Option<u64>
     }
 }
 
-/// Gives the layout of a record type with these components, of one cell each.
-fn layout_of(alloc: Global, components: &[Component]) -> Result<Layout, AllocError>
-    ensures { IfOk result (λ layout. IsLayout layout components.now) }
+/// Tells whether the objects of a type with scalar components have a controlled part: where it is tagged, they are controlled themselves
+/// (RM 7.6).
+fn parts_by(root: Root) -> Parts
+    ensures { result ≡ types.parts_by root }
+{
+    match root {
+        Root::Untagged => Parts::Plain,
+        Root::Controlled | Root::BlockPool | Root::MarkPool => Parts::Controlled,
+    }
+}
+
+/// Gives the layout of a record type with such parts and these components, of one cell each.
+fn layout_of(alloc: Global, parts: Parts, components: &[Component]) -> Result<Layout, AllocError>
+    ensures { IfOk result (λ layout. IsLayout layout parts components.now) }
 {
     let mut offsets = Vec::new(alloc);
     let mut defaulted = Vec::new(alloc);
@@ -126,6 +138,7 @@ fn layout_of(alloc: Global, components: &[Component]) -> Result<Layout, AllocErr
         }
     }
     Ok(Layout {
+        parts,
         cells: components.len(),
         offsets,
         defaulted,
@@ -138,7 +151,8 @@ fn layouts_of(alloc: Global, records: &[RecordType]) -> Result<Vec<Layout>, Allo
 {
     let mut all = Vec::new(alloc);
     for record in records {
-        all.push(layout_of(alloc, record.own.as_slice())?)?;
+        let parts = parts_by(record.root);
+        all.push(layout_of(alloc, parts, record.own.as_slice())?)?;
     }
     Ok(all)
 }

@@ -223,12 +223,24 @@ fn have_constants(components: &[Component], records: &[RecordType]) -> bool
     true
 }
 
-/// Tells whether objects of a record type are run: one that extends Controlled or Limited_Controlled by scalar components whose defaults
-/// are constants (RM 7.6).
+/// Tells whether a type extends Controlled or Limited_Controlled (RM 7.6), or is not tagged and has none of their operations.
+fn is_root_run(entry: &RecordType) -> bool
+    ensures { result ≡ types.is_root_run entry.now.root entry.now.operations }
+{
+    match entry.root {
+        Root::Controlled => true,
+        Root::Untagged => {
+            entry.operations.initialize.is_none() && entry.operations.finalize.is_none()
+        }
+        Root::BlockPool | Root::MarkPool => false,
+    }
+}
+
+/// Tells whether objects of a record type are run: one with scalar components whose defaults are constants (RM 3.8).
 fn is_plain(records: &[RecordType], entry: &RecordType) -> bool
     ensures { result ≡ defaults.is_plain records.now (Some entry.now) }
 {
-    matches!(entry.root, Root::Controlled)
+    is_root_run(entry)
         && is_flat(records, entry)
         && have_constants(entry.own.as_slice(), records)
 }
