@@ -47,7 +47,10 @@ pub enum Frame {
     },
     /// the components of the newest owned object that are still to take their defaults, and the place where its declaration goes on
     /// (RM 3.8, 7.6)
-    Filling { left: Left, place: usize },
+    Filling {
+        left: Left,
+        place: usize,
+    },
     /// the Initialize of the newest owned object, and the place where its declaration goes on (RM 7.6)
     Initializing(usize),
     /// the Finalize of an owned object, by its place

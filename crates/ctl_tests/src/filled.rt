@@ -12,17 +12,35 @@ use ctl_tree::request::Order;
 use std::alloc::{AllocError, Global};
 use std::test::Fail;
 
-/// Reads the component at a position of the object in the block's slot.
-const fn fetch(position: usize) -> Instr {
-    Instr::FetchPart {
-        out: 0,
-        slot: 0,
-        record: 0,
-        position,
-        ty: Ty::Integer,
-        to: CELL_3,
-    }
-}
+/// Reads the first component of the object in the block's slot.
+const FETCH_FIRST: Instr = Instr::FetchPart {
+    out: 0,
+    slot: 0,
+    record: 0,
+    position: 1,
+    ty: Ty::Integer,
+    to: CELL_3,
+};
+
+/// Reads the second one.
+const FETCH_SECOND: Instr = Instr::FetchPart {
+    out: 0,
+    slot: 0,
+    record: 0,
+    position: 2,
+    ty: Ty::Integer,
+    to: CELL_3,
+};
+
+/// Reads the third one.
+const FETCH_THIRD: Instr = Instr::FetchPart {
+    out: 0,
+    slot: 0,
+    record: 0,
+    position: 3,
+    ty: Ty::Integer,
+    to: CELL_3,
+};
 
 /// Prints the number that was read.
 const PUT: Instr = Instr::PutLine { text: 1, first: 3 };
@@ -41,11 +59,11 @@ const THREE_COMPONENTS: &[Line] = &[
         "m",
     ),
     (Instr::Declare { slot: 0, record: 0 }, "m["),
-    (fetch(1), "m["),
+    (FETCH_FIRST, "m["),
     (PUT, "m[i"),
-    (fetch(2), "m["),
+    (FETCH_SECOND, "m["),
     (PUT, "m[i"),
-    (fetch(3), "m["),
+    (FETCH_THIRD, "m["),
     (PUT, "m[i"),
     (Instr::Leave, "m["),
     (Instr::Skip(0), "m"),

@@ -763,7 +763,7 @@ fn a_zero_divisor_raises_and_finalizes(rt: HostRuntime) -> Result<(), Fail> {
     let shown = outcome_shown(alloc, &outcome)?;
     assert_eq!(rt;
         shown.as_str(),
-        "live-1-m2 finalize-1-scope print newline raised picks=0 steps=11"
+        "live-1-m2 finalize-1-scope print newline raised picks=0 steps=12"
     );
     Ok(())
 }
@@ -775,7 +775,7 @@ fn an_overflow_raises_and_finalizes(rt: HostRuntime) -> Result<(), Fail> {
     let shown = outcome_shown(alloc, &outcome)?;
     assert_eq!(rt;
         shown.as_str(),
-        "live-1-m2 finalize-1-scope print newline raised picks=0 steps=12"
+        "live-1-m2 finalize-1-scope print newline raised picks=0 steps=13"
     );
     Ok(())
 }
