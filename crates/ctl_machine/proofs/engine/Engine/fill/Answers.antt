@@ -1,18 +1,18 @@
-use Rattle.ctl_machine.specs.Parts.{part_written}
-use Rattle.ctl_machine.proofs.Filled.{is_filling, fills_one}
-use Rattle.ctl_machine.proofs.engine.Engine.fill.Goals as goal
 use Rattle.std.proofs.Common.{◌≡◌, ◌∙◌, ◌++◌, ◌-◌, List, ℕ, ap, arith, length, refl, sym}
-use Rattle.std.proofs.lemmas.Option.{slice_get_within}
 use Rattle.std.specs.Vec.{with_items}
+use Rattle.std.proofs.lemmas.Option.{slice_get_within}
 use Rattle.std.proofs.lemmas.List.{with_items_is}
 use Rattle.ctl_code.specs.declared.code.Defaulted.{Defaulted}
 use Rattle.ctl_code.specs.Table.{defaulted_of}
 use Rattle.ctl_machine.specs.declared.frame.Frame.{Frame}
 use Rattle.ctl_machine.specs.declared.frame.Frame.TheVariants as FrameOf
+use Rattle.ctl_machine.specs.Parts.{part_written}
 use Rattle.ctl_machine.specs.Shows.{kept}
 use Rattle.ctl_machine.specs.Departing.{with_top}
 use Rattle.ctl_machine.specs.Filling.{noted_among}
+use Rattle.ctl_machine.proofs.Filled.{is_filling, fills_one}
 use Rattle.ctl_machine.proofs.PartCells.{lies_within, length_part}
+use Rattle.ctl_machine.proofs.engine.Engine.fill.Goals as goal
 
 pub defaulted_at-component-requires : goal.defaulted_at-component-requires
 defaulted_at-component-requires g c =
