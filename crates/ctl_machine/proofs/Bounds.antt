@@ -70,6 +70,7 @@ operand_set code e k above ops w x y at h is =
       rise = h.rise;
       next_master = h.next_master;
       next_object = h.next_object;
+      left = h.left;
     }
 
 -- What a turn finds -------------------------------------------------------------------------------------

@@ -38,6 +38,7 @@ numbered code e k ops w h = record {
   rise = rise_further e.owned 1 e.next_object h.rise;
   next_master = h.next_master;
   next_object = ap (λ n. n + 1) h.next_object;
+  left = h.left;
 }
 
 numbered_heads : (w : World) → heads_of (take_object_number w).activations ≡ heads_of w.activations

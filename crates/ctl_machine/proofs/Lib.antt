@@ -42,10 +42,11 @@ pub mod Begun
 pub mod Newest
 pub mod Innermost
 pub mod Initialized
+pub mod Stages
 pub mod AfterInitialize
 pub mod Reached
 pub mod Objects
-pub mod Births
+pub mod Newborn
 pub mod InitializeCalled
 pub mod Given
 pub mod Stored
@@ -60,3 +61,6 @@ pub mod Touched
 pub mod PartStored
 pub mod Numbers
 pub mod Walked
+pub mod Intervals
+pub mod StillLeft
+pub mod Filled

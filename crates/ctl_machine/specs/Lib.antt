@@ -14,3 +14,4 @@ pub mod Declaring
 pub mod Windows
 pub mod Parts
 pub mod Holders
+pub mod Filling

@@ -1,17 +1,20 @@
 //! Instructions that reach components of objects, or find the object of a slot (RM 4.1.3, 5.2).
 
-ghost use Rattle.std.specs.Prelude.{◌≡◌, ◌+◌, ◌^◌, ◌<◌, ℕ, Some, length, slice_get};
+ghost use Rattle.std.specs.Prelude.{◌≡◌, ◌+◌, ◌^◌, ◌<◌, ℕ, IfNone, IfSome, Some, length, slice_get};
 ghost use Rattle.ctl_code.specs.declared.code.Instr.TheVariants as InstrOf;
 ghost use Rattle.ctl_program.specs.declared.types.Ty.{Ty};
 ghost use Rattle.ctl_code.specs.Table as Table;
 ghost use Rattle.ctl_code.specs.States.{State};
 ghost use Rattle.ctl_code.specs.Valid.{IsValid};
+ghost use Rattle.ctl_machine.specs.declared.frame.Mode.TheVariants as ModeOf;
 ghost use Rattle.ctl_machine.specs.Holders.{own_end};
 ghost use Rattle.ctl_machine.specs.Instructions.{Touches};
 ghost use Rattle.ctl_machine.specs.Masters.{first_display, heads_of};
-ghost use Rattle.ctl_machine.specs.Moves.{Before, Makes, here_of};
+ghost use Rattle.ctl_machine.specs.Moves.{Before, GoesOn, Makes, here_of};
 ghost use Rattle.ctl_machine.specs.Parts.{part_at};
 ghost use Rattle.ctl_machine.specs.Shows.{Holds, kept};
+ghost use Rattle.ctl_machine.specs.Windows.{Comes};
+ghost use Rattle.ctl_tree.specs.declared.ending.Stop.TheVariants as StopOf;
 
 use crate::engine::Engine;
 use crate::frame::Mode;
@@ -65,7 +68,8 @@ impl Engine {
         Some(read_part(self.parts.as_slice(), &object, offset))
     }
 
-    /// Puts the value of such a component; where there is no such object, the program is erroneous (RM 13.11.2).
+    /// Puts the value of such a component, and answers what comes next; where there is no such object, the program is erroneous (RM 13.11.2),
+    /// and nothing changes.
     fn fetch_part(
         &mut self,
         code: &Code,
@@ -74,44 +78,68 @@ impl Engine {
         offset: usize,
         to: &Cell,
         place: usize,
-    )
+    ) -> Option<usize>
         ghost s: { State }
         requires valid { IsValid code.now }
         requires before { (t : ℕ) × (position : ℕ) × (ty : Ty) × Before code.now self.old place (InstrOf.FetchPart out slot t position ty to.now) s }
         requires place { place + 1 < 2 ^ 64 }
-        ensures { (t position : ℕ) (ty : Ty) → offset ≡ Table.offset_of code.now t position → Makes code.now self.old self.new (Table.by_instr code.now (Some (InstrOf.FetchPart out slot t position ty to.now)) s.operands (here_of place s)) }
+        ensures passed { (t position : ℕ) (ty : Ty) → offset ≡ Table.offset_of code.now t position → IfSome result (λ next. (self.new.mode ≡ ModeOf.At next) × Makes code.now self.old self.new (Table.by_instr code.now (Some (InstrOf.FetchPart out slot t position ty to.now)) s.operands (here_of place s))) }
+        ensures left { IfNone result (GoesOn self.old self.new self.old.mode self.old.cells.items) }
+        ensures gone { (t position : ℕ) (ty : Ty) → offset ≡ Table.offset_of code.now t position → IfNone result (Comes code.now self.new (ModeOf.Stopped StopOf.UseAfterFree) self.new.cells.items (Table.by_instr code.now (Some (InstrOf.FetchPart out slot t position ty to.now)) s.operands (here_of place s))) }
     {
         match self.read_component(code, out, slot, offset) {
-            Some(value) => self.put(value, to, place),
-            None => self.go_on(Mode::Stopped(Stop::UseAfterFree)),
+            Some(value) => {
+                self.put(value, to, place);
+                Some(place + 1)
+            }
+            None => None,
         }
     }
 
-    /// Puts the number of the object that this slot holds, as a new operand in this cell; where there is none, the program is erroneous
-    /// (RM 13.11.2).
-    fn locate(&mut self, code: &Code, out: usize, slot: usize, at: usize, place: usize)
+    /// Puts the number of the object that this slot holds, as a new operand in this cell, and answers what comes next; where there is none,
+    /// the program is erroneous (RM 13.11.2), and nothing changes.
+    fn locate(
+        &mut self,
+        code: &Code,
+        out: usize,
+        slot: usize,
+        at: usize,
+        place: usize,
+    ) -> Option<usize>
         ghost s: { State }
         requires valid { IsValid code.now }
         requires before { (t : ℕ) × Before code.now self.old place (InstrOf.Locate out slot t at) s }
         requires place { place + 1 < 2 ^ 64 }
-        ensures { (t : ℕ) → Makes code.now self.old self.new (Table.by_instr code.now (Some (InstrOf.Locate out slot t at)) s.operands (here_of place s)) }
+        ensures passed { (t : ℕ) → IfSome result (λ next. (self.new.mode ≡ ModeOf.At next) × Makes code.now self.old self.new (Table.by_instr code.now (Some (InstrOf.Locate out slot t at)) s.operands (here_of place s))) }
+        ensures left { IfNone result (GoesOn self.old self.new self.old.mode self.old.cells.items) }
+        ensures gone { (t : ℕ) → IfNone result (Comes code.now self.new (ModeOf.Stopped StopOf.UseAfterFree) self.new.cells.items (Table.by_instr code.now (Some (InstrOf.Locate out slot t at)) s.operands (here_of place s))) }
     {
         match self.holder_out(code, out, slot) {
             Some(number) => {
                 let named = Named::Operand;
                 self.put(number, &Cell { at, named }, place);
+                Some(place + 1)
             }
-            None => self.go_on(Mode::Stopped(Stop::UseAfterFree)),
+            None => None,
         }
     }
 
     /// Gives a component of the object whose number is the newest operand, in this cell, the value of a cell, by the first cell of the
-    /// component; where there is no such object, the program is erroneous (RM 13.11.2).
-    fn store_part(&mut self, code: &Code, from: &Cell, at: usize, offset: usize, place: usize)
+    /// component, and answers what comes next; where there is no such object, the program is erroneous (RM 13.11.2), and nothing changes.
+    fn store_part(
+        &mut self,
+        code: &Code,
+        from: &Cell,
+        at: usize,
+        offset: usize,
+        place: usize,
+    ) -> Option<usize>
         ghost s: { State }
         requires before { (t : ℕ) × (position : ℕ) × (ty : Ty) × Before code.now self.old place (InstrOf.StorePart from.now ty at t position) s }
         requires place { place + 1 < 2 ^ 64 }
-        ensures { (t position : ℕ) (ty : Ty) → offset ≡ Table.offset_of code.now t position → Makes code.now self.old self.new (Table.by_instr code.now (Some (InstrOf.StorePart from.now ty at t position)) s.operands (here_of place s)) }
+        ensures passed { (t position : ℕ) (ty : Ty) → offset ≡ Table.offset_of code.now t position → IfSome result (λ next. (self.new.mode ≡ ModeOf.At next) × Makes code.now self.old self.new (Table.by_instr code.now (Some (InstrOf.StorePart from.now ty at t position)) s.operands (here_of place s))) }
+        ensures left { IfNone result (GoesOn self.old self.new self.old.mode self.old.cells.items) }
+        ensures gone { (t position : ℕ) (ty : Ty) → offset ≡ Table.offset_of code.now t position → IfNone result (Comes code.now self.new (ModeOf.Stopped StopOf.UseAfterFree) self.new.cells.items (Table.by_instr code.now (Some (InstrOf.StorePart from.now ty at t position)) s.operands (here_of place s))) }
     {
         let _ = code;
         let value = self.take(from);
@@ -122,20 +150,24 @@ impl Engine {
                 let object = self.owned[found];
                 write_part(self.parts.as_mut_slice(), &object, offset, value);
                 self.mode = Mode::At(place + 1);
+                Some(place + 1)
             }
-            None => self.go_on(Mode::Stopped(Stop::UseAfterFree)),
+            None => None,
         }
     }
 
-    /// Executes this instruction, which stands at this place and reaches a component, or finds the object of a slot.
+    /// Executes this instruction, which stands at this place and reaches a component, or finds the object of a slot, and answers what comes
+    /// next; where there is no such object, the program is erroneous (RM 13.11.2), and nothing changes.
     #[inline(always)]
-    pub(crate) fn touch(&mut self, code: &Code, instr: &Instr, place: usize)
+    pub(crate) fn touch_object(&mut self, code: &Code, instr: &Instr, place: usize) -> Option<usize>
         ghost s: { State }
         requires valid { IsValid code.now }
         requires before { Before code.now self.old place instr.now s }
         requires touches { Touches instr.now }
         requires place { place + 1 < 2 ^ 64 }
-        ensures { Makes code.now self.old self.new (Table.by_instr code.now (Some instr.now) s.operands (here_of place s)) }
+        ensures passed { IfSome result (λ next. (self.new.mode ≡ ModeOf.At next) × Makes code.now self.old self.new (Table.by_instr code.now (Some instr.now) s.operands (here_of place s))) }
+        ensures left { IfNone result (GoesOn self.old self.new self.old.mode self.old.cells.items) }
+        ensures gone { IfNone result (Comes code.now self.new (ModeOf.Stopped StopOf.UseAfterFree) self.new.cells.items (Table.by_instr code.now (Some instr.now) s.operands (here_of place s))) }
     {
         match instr {
             Instr::FetchPart {
@@ -147,7 +179,7 @@ impl Engine {
                 ..
             } => {
                 let offset = offset_of(code, *record, *position);
-                self.fetch_part(code, *out, *slot, offset, to, place);
+                self.fetch_part(code, *out, *slot, offset, to, place)
             }
             Instr::Locate { out, slot, at, .. } => self.locate(code, *out, *slot, *at, place),
             Instr::StorePart {
@@ -158,9 +190,25 @@ impl Engine {
                 ..
             } => {
                 let offset = offset_of(code, *record, *position);
-                self.store_part(code, from, *at, offset, place);
+                self.store_part(code, from, *at, offset, place)
             }
             _ => unreachable!(),
+        }
+    }
+
+    /// Executes this instruction, which stands at this place and reaches a component, or finds the object of a slot; where there is no such
+    /// object, the program is erroneous (RM 13.11.2).
+    pub(crate) fn touch(&mut self, code: &Code, instr: &Instr, place: usize)
+        ghost s: { State }
+        requires valid { IsValid code.now }
+        requires before { Before code.now self.old place instr.now s }
+        requires touches { Touches instr.now }
+        requires place { place + 1 < 2 ^ 64 }
+        ensures { Makes code.now self.old self.new (Table.by_instr code.now (Some instr.now) s.operands (here_of place s)) }
+    {
+        match self.touch_object(code, instr, place) {
+            Some(_) => (),
+            None => self.go_on(Mode::Stopped(Stop::UseAfterFree)),
         }
     }
 }

@@ -25,6 +25,13 @@ pub enum After {
     Body,
 }
 
+/// Components that are still to take their defaults: of those of a record type that have one, from `first` on and before `last`.
+#[derive(Clone, Copy)]
+pub struct Left {
+    pub first: usize,
+    pub last: usize,
+}
+
 /// What waits on the control stack.
 #[derive(Clone, Copy)]
 pub enum Frame {
@@ -37,6 +44,12 @@ pub enum Frame {
         pending: Completion,
         after: After,
         next: usize,
+    },
+    /// the components of the newest owned object that are still to take their defaults, and the place where its declaration goes on
+    /// (RM 3.8, 7.6)
+    Filling {
+        left: Left,
+        place: usize,
     },
     /// the Initialize of the newest owned object, and the place where its declaration goes on (RM 7.6)
     Initializing(usize),

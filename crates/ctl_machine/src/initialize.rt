@@ -1,26 +1,26 @@
 //! Objects of record types are declared (RM 3.3.1, 7.6).
 
-ghost use Rattle.std.specs.Prelude.{◌≡◌, ◌+◌, ◌-◌, ◌^◌, ◌<◌, ◌≤◌, [], ◌∷◌, ◌++◌, List, OnErr, OnOk, Some, length, reverse, slice_get, vec_capacity, vec_len};
-ghost use Rattle.ctl_code.specs.declared.code.Instr.TheVariants as InstrOf;
+ghost use Rattle.std.specs.Prelude.{◌≡◌, ◌+◌, ◌^◌, ◌<◌, [], ◌∷◌, List, OnErr, OnOk, length, reverse, vec_capacity, vec_len};
 ghost use Rattle.ctl_code.specs.Table as Table;
-ghost use Rattle.ctl_code.specs.States.{State};
-ghost use Rattle.ctl_code.specs.States.{Giving};
+ghost use Rattle.ctl_meaning.specs.Outcome.{Tried};
+ghost use Rattle.ctl_code.specs.States.{Giving, Handed, State};
 ghost use Rattle.ctl_code.specs.Valid.{IsValid};
 ghost use Rattle.ctl_machine.specs.declared.frame.Frame.{Frame};
 ghost use Rattle.ctl_machine.specs.declared.frame.Frame.TheVariants as FrameOf;
 ghost use Rattle.ctl_machine.specs.declared.frame.Life.TheVariants as LifeOf;
-ghost use Rattle.ctl_machine.specs.declared.frame.Master.{Master};
 ghost use Rattle.ctl_machine.specs.declared.frame.Mode.TheVariants as ModeOf;
 ghost use Rattle.ctl_machine.specs.declared.frame.Owned.{Owned};
 ghost use Rattle.ctl_code.specs.declared.code.Way.TheVariants as WayOf;
-ghost use Rattle.ctl_machine.specs.Initializing.{IsNewest, Turns};
-ghost use Rattle.ctl_machine.specs.Moves.{Before, BeforeResuming, GoesOn, Makes, here_of};
+ghost use Rattle.ctl_machine.specs.Initializing.{HasInitialize, IsFull, IsNewest, Turns};
+ghost use Rattle.ctl_machine.specs.Moves.{BeforeResuming, GoesOn, Makes};
 ghost use Rattle.ctl_machine.specs.Shows as Shows;
 
+use crate::calls::replace_top;
 use crate::engine::Engine;
-use crate::frame::{Ended, Life, Mode};
-use crate::showing::show_life;
-use ctl_code::code::{Code, Way};
+use crate::frame::{After, Ended, Frame, Life, Master, Mode, Owned};
+use crate::showing::{show_life, whole};
+use ctl_code::code::{Code, Entry, Way};
+use ctl_tree::event::Event;
 use std::alloc::AllocError;
 
 impl Engine {
@@ -58,6 +58,68 @@ impl Engine {
         let newest = self.count_owned() - 1;
         self.owned[newest].life = Life::Finalized;
         self.mode = Mode::Transfers(Way::Raise(exception));
+    }
+
+    /// Calls the Initialize of the newest owned object, which the user wrote for its type, with this body (RM 7.6). No component is left
+    /// that is to take its default, and the declaration goes on at this place; unchanged where memory is refused.
+    fn call_initialize(
+        &mut self,
+        code: &Code,
+        object: &Owned,
+        entry: &Entry,
+        place: usize,
+    ) -> Result<(), AllocError>
+        ghost s: { State }
+        requires valid { IsValid code.now }
+        requires before { BeforeResuming code.now self.old s }
+        requires full { IsFull self.old place }
+        requires newest { IsNewest self.old object.now }
+        requires number { self.old.given_masters + 1 < 2 ^ 64 }
+        requires body { HasInitialize code.now object.now.record entry.now }
+        ensures ok { OnOk result ((ended : Tried Handed) → Makes code.now self.old self.new (Table.act code.now (Giving ended) s.control s.operands s.world 0)) }
+        ensures err { OnErr result (GoesOn self.old self.new self.old.mode self.old.cells.items) }
+    {
+        let base = self.window() + code.kinds.height_at(place, 0);
+        let link = self.around(entry.level);
+        let depth = self.depth_at(link) + 1;
+        self.prepare(base, code.room)?;
+        replace_top(&mut self.control, Frame::Initializing(place));
+        self.events
+            .push_reserved(Event::Initialize(whole(self.alloc, object.number)));
+        let master = Master {
+            number: self.given_masters + 1,
+            window: base,
+            base,
+            slots: entry.slots,
+            link,
+            depth,
+            owned: self.count_owned(),
+            subject: object.number,
+        };
+        self.open(master, After::Body, entry.place);
+        Ok(())
+    }
+
+    /// Goes on with the newest owned object, of which no component is left that is to take its default: its Initialize is called, or it
+    /// comes to life where the user wrote none for its type (RM 7.6). Its declaration goes on at this place; unchanged where memory is
+    /// refused.
+    pub(crate) fn initialize(&mut self, code: &Code, place: usize) -> Result<(), AllocError>
+        ghost s: { State }
+        requires valid { IsValid code.now }
+        requires before { BeforeResuming code.now self.old s }
+        requires full { IsFull self.old place }
+        requires number { self.old.given_masters + 1 < 2 ^ 64 }
+        ensures ok { OnOk result ((ended : Tried Handed) → Makes code.now self.old self.new (Table.act code.now (Giving ended) s.control s.operands s.world 0)) }
+        ensures err { OnErr result (GoesOn self.old self.new self.old.mode self.old.cells.items) }
+    {
+        let object = self.newest_object();
+        if let Some(body) = code.records[object.record].initialize {
+            return self.call_initialize(code, &object, &code.entries[body], place);
+        }
+        self.events.reserve(1)?;
+        let _ = self.control.take_last();
+        self.bring_to_life(code, place);
+        Ok(())
     }
 
     /// Goes on behind the Initialize of the newest owned object, which has ended so (RM 7.6): the object is a layer of its master, or the

@@ -8,6 +8,7 @@ mod components;
 mod computing;
 mod declare;
 mod engine;
+mod filling;
 mod frame;
 mod holders;
 mod initialize;

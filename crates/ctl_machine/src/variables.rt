@@ -13,6 +13,7 @@ ghost use Rattle.ctl_machine.specs.Masters.{Head, first_display, heads_of};
 ghost use Rattle.ctl_machine.specs.Moves.{Before, Makes, here_of};
 ghost use Rattle.ctl_machine.specs.Shows.{Holds, kept};
 ghost use Rattle.ctl_machine.specs.Variables.{IsNoVariable, IsVariable};
+ghost use Rattle.ctl_machine.specs.Windows.{IsGoing, moded};
 
 use crate::engine::Engine;
 use crate::frame::Mode;
@@ -79,18 +80,20 @@ impl Engine {
         self.put(value, to, place);
     }
 
-    /// Takes the next object number for a scalar object (RM 3.3.1).
+    /// Takes the next object number for a scalar object (RM 3.3.1); answers what comes next, which is not yet written back.
     #[inline(always)]
-    pub(crate) fn number(&mut self, code: &Code, place: usize)
+    pub(crate) fn number(&mut self, code: &Code, place: usize) -> Mode
         ghost s: { State }
         requires before { Before code.now self.old place InstrOf.Number s }
         requires place { place + 1 < 2 ^ 64 }
         requires number { self.old.given_objects + 1 < 2 ^ 64 }
-        ensures { Makes code.now self.old self.new (Table.by_instr code.now (Some InstrOf.Number) s.operands (here_of place s)) }
+        ensures makes { Makes code.now self.old (moded self.new result) (Table.by_instr code.now (Some InstrOf.Number) s.operands (here_of place s)) }
+        ensures going { IsGoing result }
+        ensures masters { self.new.masters ≡ self.old.masters }
     {
         let _ = code;
         self.given_objects += 1;
-        self.mode = Mode::At(place + 1);
+        Mode::At(place + 1)
     }
 
     /// Gives a variable of a body around the value of a cell; where there is none, nothing takes it.
@@ -111,7 +114,7 @@ impl Engine {
         }
     }
 
-    /// Executes this instruction, which stands at this place and gives a number or reaches a variable of a body around.
+    /// Executes this instruction, which stands at this place and reaches a variable of a body around.
     #[inline(always)]
     pub(crate) fn reach(&mut self, code: &Code, instr: &Instr, place: usize)
         ghost s: { State }
@@ -119,11 +122,9 @@ impl Engine {
         requires before { Before code.now self.old place instr.now s }
         requires reaches { Reaches instr.now }
         requires place { place + 1 < 2 ^ 64 }
-        requires number { self.old.given_objects + 1 < 2 ^ 64 }
         ensures { Makes code.now self.old self.new (Table.by_instr code.now (Some instr.now) s.operands (here_of place s)) }
     {
         match instr {
-            Instr::Number => self.number(code, place),
             Instr::Fetch { out, slot, to, .. } => self.fetch(code, *out, *slot, to, place),
             Instr::Store {
                 from,

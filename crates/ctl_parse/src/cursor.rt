@@ -1,6 +1,6 @@
 //! Where the parser stands, and the reading of single tokens.
 
-ghost use Rattle.std.specs.Prelude.{◌≡◌, ◌+◌, ◌<◌, ◌^◌, ◌∷◌, [], MatchOption, true, false};
+ghost use Rattle.std.specs.Prelude.{◌≡◌, ◌+◌, ◌<◌, ◌^◌, ◌∷◌, [], IfOk, MatchOption, true, false};
 ghost use Rattle.ctl_grammar.specs.Form.{Node, none, leaf, at, word, keep};
 ghost use Rattle.ctl_grammar.specs.Grammar.{spot};
 ghost use Rattle.ctl_parse.specs.Reads.{Appends, Opened, Reads, Refuses, Stops, Unopened, sees};
@@ -10,7 +10,7 @@ use ctl_grammar::refused::{Reason, Refused};
 use ctl_tree::span::Span;
 use ctl_tree::token::{Kind, Token};
 use sqlite_items::Items;
-use std::alloc::Global;
+use std::alloc::{AllocError, Global};
 
 /// What is left of the tokens, how many more constructs may be opened, and the fault, once one is met.
 ///
@@ -135,8 +135,22 @@ impl<'a> Parser<'a> {
     pub(crate) fn push<T: Drop>(&mut self, all: &mut Items<T>, item: T)
         ensures { Appends all.old item all.new self.old self.new }
     {
-        if all.push(item).is_err() {
+        if all.is_empty() {
+            match list_of(self.alloc, item) {
+                Ok(list) => *all = list,
+                Err(_) => self.refuse(),
+            }
+        } else if all.push(item).is_err() {
             self.refuse();
         }
     }
+}
+
+/// Makes a list of one item, with space for no more: most lists of a tree have one item, and items are large.
+fn list_of<T: Drop>(alloc: Global, item: T) -> Result<Items<T>, AllocError>
+    ensures { IfOk result (λ list. list ≡ item ∷ []) }
+{
+    let mut list = Items::from_vec(Vec::with_capacity(alloc, 1)?);
+    list.push(item)?;
+    Ok(list)
 }

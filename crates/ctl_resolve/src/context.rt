@@ -5,6 +5,7 @@ ghost use Rattle.ctl_resolve.specs.Whole as spec;
 
 use crate::copies::{identifier, identifiers};
 use crate::library::{Unit, is_among, unit_itself, with_ancestors};
+use crate::lists::room_for;
 use crate::names::{note_meaning, way_meaning, way_of};
 use crate::view::{Meaning, View, Way};
 use ctl_syntax::denoted::{Denoted, LibraryName};
@@ -242,7 +243,7 @@ fn path(alloc: Global, of: &Mark<Identifier>) -> Result<Mark<Identifier>, AllocE
 fn paths(alloc: Global, all: &[Mark<Identifier>]) -> Result<Items<Mark<Identifier>>, AllocError>
     ensures { IfOk result (λ ms. ms ≡ all.now) }
 {
-    let mut copies = Items::new(alloc);
+    let mut copies = room_for(alloc, all.len())?;
     for one in all {
         copies.push(path(alloc, one)?)?;
     }
@@ -264,7 +265,7 @@ fn clause(alloc: Global, of: &Context) -> Result<Context, AllocError>
 pub fn clauses(alloc: Global, all: &[Context]) -> Result<Items<Context>, AllocError>
     ensures { IfOk result (λ cs. cs ≡ all.now) }
 {
-    let mut copies = Items::new(alloc);
+    let mut copies = room_for(alloc, all.len())?;
     for one in all {
         copies.push(clause(alloc, one)?)?;
     }

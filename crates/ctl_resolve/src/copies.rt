@@ -4,6 +4,7 @@ ghost use Rattle.std.specs.Prelude.{◌≡◌, IfOk, drop};
 ghost use Rattle.ctl_resolve.specs.Table as table;
 ghost use Rattle.ctl_resolve.specs.Expressions as spec;
 
+use crate::lists::room_for;
 use ctl_syntax::expression::Expression;
 use ctl_syntax::name::{Identifier, Suffix};
 use sqlite_items::Items;
@@ -46,7 +47,7 @@ pub fn identifier_or_none(
 pub fn identifiers(alloc: Global, all: &[Identifier]) -> Result<Items<Identifier>, AllocError>
     ensures { IfOk result (λ ids. ids ≡ all.now) }
 {
-    let mut copies = Items::new(alloc);
+    let mut copies = room_for(alloc, all.len())?;
     for one in all {
         copies.push(identifier(alloc, one)?)?;
     }

@@ -9,6 +9,7 @@ ghost use Rattle.ctl_resolve.specs.Declarations as spec;
 
 use crate::copies::{folded, identifier};
 use crate::library::operation_named;
+use crate::lists::room_for;
 use crate::notes::note_if;
 use crate::table::is_overridden;
 use crate::view::{Declaration, Known, Role, Sought, Stage, View};
@@ -142,7 +143,7 @@ pub fn new_names(
 ) -> Result<Items<Definition>, AllocError>
     ensures { Names (spec.new_names ids.now) view.old result view.new }
 {
-    let mut definitions = Items::new(alloc);
+    let mut definitions = room_for(alloc, ids.len())?;
     for id in ids {
         definitions.push(new_name(alloc, view, Stage::Complete, id)?)?;
     }

@@ -9,6 +9,7 @@ ghost use Rattle.ctl_resolve.specs.declared.view.Usage.TheVariants as usage;
 
 use crate::copies::folded;
 use crate::declarations::behind;
+use crate::lists::room_for;
 use crate::names::mark;
 use crate::notes::note_if;
 use crate::table::Table;
@@ -60,7 +61,7 @@ fn marks(
 ) -> Result<Items<Mark<Use>>, AllocError>
     ensures { Names (each (expressions.mark usage.Plain) [] all.now) view.old result view.new }
 {
-    let mut resolved = Items::new(alloc);
+    let mut resolved = room_for(alloc, all.len())?;
     for one in all {
         resolved.push(mark(alloc, view, Usage::Plain, one)?)?;
     }

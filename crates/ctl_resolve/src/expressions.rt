@@ -5,6 +5,7 @@ ghost use Rattle.ctl_resolve.specs.Naming.{Names, each, optional};
 ghost use Rattle.ctl_resolve.specs.Expressions as spec;
 
 use crate::copies::{identifier, leading};
+use crate::lists::room_for;
 use crate::names::{mark, used};
 use crate::view::{Usage, View};
 use ctl_syntax::denoted::Use;
@@ -91,7 +92,7 @@ fn expressions(
 ) -> Result<Items<Expression<Use>>, AllocError>
     ensures { Names (each spec.expression [] all.now) view.old result view.new }
 {
-    let mut resolved = Items::new(alloc);
+    let mut resolved = room_for(alloc, all.len())?;
     for one in all {
         resolved.push(expression(alloc, view, one)?)?;
     }
@@ -123,7 +124,7 @@ fn operands(
 ) -> Result<Items<Operand<Expression<Use>>>, AllocError>
     ensures { Names (each spec.named_operand [] all.now) view.old result view.new }
 {
-    let mut resolved = Items::new(alloc);
+    let mut resolved = room_for(alloc, all.len())?;
     for one in all {
         resolved.push(operand(alloc, view, one)?)?;
     }
@@ -155,7 +156,7 @@ fn suffixes(
 ) -> Result<Items<Suffix<Expression<Use>>>, AllocError>
     ensures { Names (each spec.named_suffix [] (drop from all.now)) view.old result view.new }
 {
-    let mut resolved = Items::new(alloc);
+    let mut resolved = room_for(alloc, all.len().saturating_sub(from))?;
     for at in from..all.len() {
         resolved.push(suffix(alloc, view, &all[at])?)?;
     }

@@ -9,6 +9,7 @@ pub mod declarations;
 pub mod ends;
 pub mod expressions;
 pub mod library;
+mod lists;
 pub mod names;
 pub mod notes;
 pub mod objects;

@@ -8,6 +8,7 @@ ghost use Rattle.ctl_resolve.specs.Parts as parts;
 use crate::copies::identifier_or_none;
 use crate::declarations::{hide, hide_each, new_name, new_names};
 use crate::expressions::{expression, expression_or_none};
+use crate::lists::room_for;
 use crate::names::{mark, used};
 use crate::notes::cut;
 use crate::view::{Stage, Usage, View};
@@ -39,7 +40,7 @@ fn associations(
 ) -> Result<Items<Association<Use>>, AllocError>
     ensures { Names (spec.associations all.now) view.old result view.new }
 {
-    let mut resolved = Items::new(alloc);
+    let mut resolved = room_for(alloc, all.len())?;
     for one in all {
         resolved.push(association(alloc, view, one)?)?;
     }

@@ -8,6 +8,7 @@ ghost use Rattle.ctl_resolve.specs.Parts as spec;
 use crate::declarations::{hide, new_name, new_names};
 use crate::ends::{choices, note_choices, note_unfinished};
 use crate::expressions::{expression, expression_or_none, name};
+use crate::lists::room_for;
 use crate::names::mark;
 use crate::notes::{behind_body, cut, enter_master, enter_region, leave, set_stage};
 use crate::objects::{instance, objects, storage_pool};
@@ -53,7 +54,7 @@ fn items(
 ) -> Result<Items<Item<Definition, Use>>, AllocError>
     ensures { Names (each spec.item_of [] all.now) view.old result view.new }
 {
-    let mut resolved = Items::new(alloc);
+    let mut resolved = room_for(alloc, all.len())?;
     for one in all {
         resolved.push(item(alloc, view, one)?)?;
     }
@@ -148,7 +149,7 @@ fn statements(
 ) -> Result<Items<Statement<Definition, Use>>, AllocError>
     ensures { Names (each spec.statement [] all.now) view.old result view.new }
 {
-    let mut resolved = Items::new(alloc);
+    let mut resolved = room_for(alloc, all.len())?;
     for one in all {
         resolved.push(statement(alloc, view, one)?)?;
     }
@@ -279,7 +280,7 @@ fn branches(
 ) -> Result<Items<Branch<Statement<Definition, Use>, Use>>, AllocError>
     ensures { Names (each spec.named_branch [] all.now) view.old result view.new }
 {
-    let mut resolved = Items::new(alloc);
+    let mut resolved = room_for(alloc, all.len())?;
     for one in all {
         resolved.push(guarded(alloc, view, one)?)?;
     }
@@ -295,7 +296,7 @@ fn handlers(
 ) -> Result<Items<Handler<Statement<Definition, Use>, Use>>, AllocError>
     ensures { Names (each spec.named_handler [] all.now) view.old result view.new }
 {
-    let mut resolved = Items::new(alloc);
+    let mut resolved = room_for(alloc, all.len())?;
     for one in all {
         resolved.push(handler(alloc, view, one)?)?;
     }

@@ -9,6 +9,7 @@ ghost use Rattle.ctl_resolve.specs.Declarations as spec;
 use crate::copies::{folded, identifier};
 use crate::declarations::{hide_each, new_names, next, own_found};
 use crate::library::operation_named;
+use crate::lists::room_for;
 use crate::names::{mark, meaning};
 use crate::notes::{cut, enter_master, leave, note_if, set_stage};
 use crate::view::{Filing, Known, Meaning, Role, Sought, Stage, Usage, View};
@@ -195,7 +196,7 @@ fn formals(
 ) -> Result<Items<Formal<Definition, Use>>, AllocError>
     ensures { Names (each spec.formal [] all.now) view.old result view.new }
 {
-    let mut resolved = Items::new(alloc);
+    let mut resolved = room_for(alloc, all.len())?;
     for one in all {
         resolved.push(formal(alloc, view, one)?)?;
     }

@@ -6,6 +6,7 @@ ghost use Rattle.ctl_resolve.specs.Declarations as spec;
 
 use crate::copies::identifiers;
 use crate::expressions::expression_or_none;
+use crate::lists::room_for;
 use crate::names::mark;
 use crate::notes::set_stage;
 use crate::subprograms::mark_or_none;
@@ -43,7 +44,7 @@ fn components(
 ) -> Result<Items<Components<Use>>, AllocError>
     ensures { Names (spec.components all.now) view.old result view.new }
 {
-    let mut resolved = Items::new(alloc);
+    let mut resolved = room_for(alloc, all.len())?;
     for one in all {
         resolved.push(component(alloc, view, one)?)?;
     }

@@ -4,6 +4,8 @@
 #[cfg(test)]
 mod code;
 #[cfg(test)]
+mod filled;
+#[cfg(test)]
 mod lex;
 #[cfg(test)]
 mod lines;

@@ -145,10 +145,11 @@ pub fn instructions_of(alloc: Global, lines: &[Line]) -> Result<Vec<Instr>, Allo
     Ok(instructions)
 }
 
-/// The layout of each record type of the tests: two components of one cell each.
+/// The layout of each record type of the tests: two components of one cell each, without defaults.
 pub fn layout_of_two(alloc: Global) -> Result<Layout, AllocError> {
     Ok(Layout {
         cells: 2,
         offsets: vec![in alloc; 0, 1]?,
+        defaulted: Vec::new(alloc),
     })
 }

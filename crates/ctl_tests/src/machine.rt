@@ -4,7 +4,7 @@ use crate::lines::{
     ADD, BODY_SLOTS, CELL_1, CELL_2, CELL_3, CELL_4, DIVIDE, EQUAL, FIRST, Line, MAIN_SLOTS,
     MODULO, MULTIPLY, OUTER, REMAINDER, instructions_of, layout_of_two, notes_of,
 };
-use ctl_code::code::{Cell, Code, Entry, Instr, Operations};
+use ctl_code::code::{Cell, Code, Entry, Instr, Layout, Operations};
 use ctl_code::template::{Template, TextPart};
 use ctl_code::valid::ValidCode;
 use ctl_machine::machine::Machine;
@@ -511,7 +511,7 @@ const BODY_IN_ITS_HOME: &[Line] = &[
 ];
 
 /// Prints a line, in a body without operands.
-const FAREWELL: Instr = Instr::PutLine { text: 0, first: 1 };
+pub const FAREWELL: Instr = Instr::PutLine { text: 0, first: 1 };
 
 /// Puts the first variable of the main procedure, in the body of another.
 const FETCH_OUTER: Instr = Instr::Fetch {
@@ -551,8 +551,13 @@ fn texts_of(alloc: Global) -> Result<Vec<Template>, AllocError> {
 }
 
 /// The code of these lines: the main procedure stands behind the first of them, and at each of these places the Finalize of a record
-/// type.
-fn code_of(alloc: Global, lines: &[Line], finalizers: &[usize]) -> Result<Code, AllocError> {
+/// type. The first record type has this layout.
+fn code_with(
+    alloc: Global,
+    lines: &[Line],
+    finalizers: &[usize],
+    layout: Layout,
+) -> Result<Code, AllocError> {
     let mut entries = vec![in alloc;
         Entry {
             level: 0,
@@ -580,19 +585,38 @@ fn code_of(alloc: Global, lines: &[Line], finalizers: &[usize]) -> Result<Code, 
         room,
         entries,
         records,
-        layouts: vec![in alloc; layout_of_two(alloc)?]?,
+        layouts: vec![in alloc; layout]?,
         texts: texts_of(alloc)?,
         exceptions: vec![in alloc; Text::from_slice(alloc, b"CONSTRAINT_ERROR")?]?,
     })
 }
 
-/// Such code, which is well formed.
-fn valid_code_of(alloc: Global, lines: &[Line], finalizers: &[usize]) -> Result<ValidCode, Fail> {
-    let code = code_of(alloc, lines, finalizers)?;
+/// Such code, whose record type has two components without defaults.
+fn code_of(alloc: Global, lines: &[Line], finalizers: &[usize]) -> Result<Code, AllocError> {
+    code_with(alloc, lines, finalizers, layout_of_two(alloc)?)
+}
+
+/// Code that is well formed.
+fn validated(code: Code) -> Result<ValidCode, Fail> {
     match code.validate() {
         Some(valid) => Ok(valid),
         None => Err(Fail::new("the code is not well formed")),
     }
+}
+
+/// The code of these lines, which is well formed, where the first record type has this layout.
+pub fn valid_code_with(
+    alloc: Global,
+    lines: &[Line],
+    finalizers: &[usize],
+    layout: Layout,
+) -> Result<ValidCode, Fail> {
+    validated(code_with(alloc, lines, finalizers, layout)?)
+}
+
+/// The code of these lines, which is well formed.
+fn valid_code_of(alloc: Global, lines: &[Line], finalizers: &[usize]) -> Result<ValidCode, Fail> {
+    validated(code_of(alloc, lines, finalizers)?)
 }
 
 /// One thing that was shown, as a word.
@@ -631,7 +655,7 @@ fn outcome_shown(alloc: Global, outcome: &Outcome) -> Result<String, AllocError>
 }
 
 /// What a run has printed.
-fn printed(alloc: Global, outcome: &Outcome) -> Result<Vec<u8>, AllocError> {
+pub fn printed(alloc: Global, outcome: &Outcome) -> Result<Vec<u8>, AllocError> {
     let mut bytes = Vec::new(alloc);
     for event in outcome.events.as_slice() {
         match event {
@@ -668,7 +692,7 @@ fn objects_are_finalized_newest_first(rt: HostRuntime) -> Result<(), Fail> {
     let shown = outcome_shown(alloc, &outcome)?;
     assert_eq!(rt;
         shown.as_str(),
-        "live-1-m2 live-2-m2 finalize-2-scope print newline finalize-1-scope print newline done picks=0 steps=14"
+        "live-1-m2 live-2-m2 finalize-2-scope print newline finalize-1-scope print newline done picks=0 steps=16"
     );
     Ok(())
 }
@@ -678,11 +702,11 @@ fn a_run_ends_at_its_limit(rt: HostRuntime) -> Result<(), Fail> {
     let alloc = rt.alloc();
     let code = valid_code_of(alloc, TWO_OBJECTS, &[7])?;
     let mut machine = Machine::new(alloc, &code, Order::Oldest)?;
-    assert_eq!(rt; machine.run(3), Progress::Running);
+    assert_eq!(rt; machine.run(5), Progress::Running);
     assert_eq!(rt; machine.step(), Progress::Running);
     let outcome = machine.finish();
     let shown = outcome_shown(alloc, &outcome)?;
-    assert_eq!(rt; shown.as_str(), "live-1-m2 live-2-m2 limit picks=0 steps=4");
+    assert_eq!(rt; shown.as_str(), "live-1-m2 live-2-m2 limit picks=0 steps=6");
     Ok(())
 }
 
@@ -739,7 +763,7 @@ fn a_zero_divisor_raises_and_finalizes(rt: HostRuntime) -> Result<(), Fail> {
     let shown = outcome_shown(alloc, &outcome)?;
     assert_eq!(rt;
         shown.as_str(),
-        "live-1-m2 finalize-1-scope print newline raised picks=0 steps=11"
+        "live-1-m2 finalize-1-scope print newline raised picks=0 steps=12"
     );
     Ok(())
 }
@@ -751,7 +775,7 @@ fn an_overflow_raises_and_finalizes(rt: HostRuntime) -> Result<(), Fail> {
     let shown = outcome_shown(alloc, &outcome)?;
     assert_eq!(rt;
         shown.as_str(),
-        "live-1-m2 finalize-1-scope print newline raised picks=0 steps=12"
+        "live-1-m2 finalize-1-scope print newline raised picks=0 steps=13"
     );
     Ok(())
 }

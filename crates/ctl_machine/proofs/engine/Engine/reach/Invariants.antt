@@ -1,8 +1,5 @@
 use Rattle.ctl_machine.proofs.engine.Engine.reach.Given as goal
 
-abbrev pub ghost-number : goal.ghost-number
-ghost-number g a = g.s
-
 abbrev pub ghost-fetch : goal.ghost-fetch
 ghost-fetch g a = g.s
 

@@ -43,8 +43,8 @@ write_part-requires g c =
     let same = ap (λ (l : List ℕ). length l) c.as_mut_slice.ensures.value in
     omega (arith, lies, same)
 
-pub returns-in-Some : goal.returns-in-Some
-returns-in-Some g c =
+pub returns-in-Some-clause-passed : goal.returns-in-Some-clause-passed
+returns-in-Some-clause-passed g c = λ t position ty same.
     let old = c.args.self.now in
     let some = c.in-Some.ensures.some in
     let owned = old.owned.items in
@@ -57,13 +57,15 @@ returns-in-Some g c =
     let new : Engine = record old { mode = At (c.args.place + 1); parts = with_items old.parts row } in
     let written : row ≡ part_written o c.args.offset c.take-value.result parts = c.write_part.ensures ∙ ap (λ (l : List ℕ). part_written o c.args.offset c.take-value.result l) c.as_mut_slice.ensures.value in
     let long : length row ≡ length parts = ap (λ (l : List ℕ). length l) written ∙ length_part o c.args.offset c.take-value.result parts in
-    let are : (with_items old.parts row).items ≡ row = with_items_is old.parts row (long ∙ sym old.parts.ok.0) in
-    part_makes c.args.code.now old new c.args.place g.s c.args.from.now c.args.at c.requires.0.0 c.requires.0.1 c.args.offset c.take-value.result c.take-number.result c.in-Some.found c.requires.0.2 o c.requires.0.3 c.take-value.ensures c.take-number.ensures read number
-    refl
-    (ap (λ (l : List ℕ). record (kept old) { parts = l }) (are ∙ written))
-    refl refl
+    let are : (with_items old.parts row).items ≡ row = with_items_is old.parts row (long ∙ sym old.parts.ok.0) in (
+      refl,
+      part_makes c.args.code.now old new c.args.place g.s c.args.from.now c.args.at c.requires.0.0 c.requires.0.1 c.args.offset c.take-value.result c.take-number.result c.in-Some.found c.requires.0.2 o c.requires.0.3 c.take-value.ensures c.take-number.ensures read number
+          refl
+          (ap (λ (l : List ℕ). record (kept old) { parts = l }) (are ∙ written))
+          refl refl t position ty same,
+    )
 
-pub returns-in-None : goal.returns-in-None
-returns-in-None g c =
+pub returns-in-None-clause-gone : goal.returns-in-None-clause-gone
+returns-in-None-clause-gone g c = λ t position ty same new goes.
     let none : Lacks c.take-number.result c.args.self.now.owned.items = subst (λ (l : List Owned). Lacks c.take-number.result l) c.as_slice.ensures.value (c.in-None.ensures.none refl) in
-    store_gone c.args.code.now c.args.self.now c.go_on.new.self c.args.place g.s c.args.from.now c.args.at c.requires.0.0 c.requires.0.1 c.args.offset c.take-number.result c.requires.0.2 c.requires.0.3 c.take-number.ensures none c.go_on.ensures
+    store_gone c.args.code.now c.args.self.now new c.args.place g.s c.args.from.now c.args.at c.requires.0.0 c.requires.0.1 c.args.offset c.take-number.result c.requires.0.2 c.requires.0.3 c.take-number.ensures none goes t position ty same

@@ -1,10 +1,4 @@
 use Rattle.ctl_machine.proofs.engine.Engine.touch.Given as goal
 
-abbrev pub ghost-fetch_part : goal.ghost-fetch_part
-ghost-fetch_part g a = g.s
-
-abbrev pub ghost-locate : goal.ghost-locate
-ghost-locate g a = g.s
-
-abbrev pub ghost-store_part : goal.ghost-store_part
-ghost-store_part g a = g.s
+abbrev pub ghost-touch_object : goal.ghost-touch_object
+ghost-touch_object g a = g.s

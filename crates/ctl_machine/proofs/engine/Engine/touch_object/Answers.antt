@@ -1,0 +1,27 @@
+use Rattle.std.proofs.Common.{◌≡◌, Some, sym, subst}
+use Rattle.std.specs.Prelude.{IfNone, IfSome}
+use Rattle.ctl_tree.specs.declared.ending.Stop.TheVariants.{UseAfterFree}
+use Rattle.ctl_code.specs.declared.code.Instr.{Instr}
+use Rattle.ctl_code.specs.Table.{by_instr}
+use Rattle.ctl_machine.specs.declared.frame.Mode.TheVariants.{At, Stopped}
+use Rattle.ctl_machine.specs.Moves.{Makes, here_of}
+use Rattle.ctl_machine.specs.Windows.{Comes}
+use Rattle.ctl_machine.proofs.engine.Engine.touch_object.Goals as goal
+
+pub returns-in-FetchPart-clause-passed : goal.returns-in-FetchPart-clause-passed
+returns-in-FetchPart-clause-passed g c = subst (λ (i : Instr). IfSome c.fetch_part.result (λ next. (c.fetch_part.new.self.mode ≡ At next) × Makes c.args.code.now c.args.self.now c.fetch_part.new.self (by_instr c.args.code.now (Some i) g.s.operands (here_of c.args.place g.s)))) (sym c.in-FetchPart.is) (c.fetch_part.ensures.passed c.in-FetchPart.record c.in-FetchPart.position c.in-FetchPart.ty c.offset_of-offset.ensures)
+
+pub returns-in-FetchPart-clause-gone : goal.returns-in-FetchPart-clause-gone
+returns-in-FetchPart-clause-gone g c = subst (λ (i : Instr). IfNone c.fetch_part.result (Comes c.args.code.now c.fetch_part.new.self (Stopped UseAfterFree) c.fetch_part.new.self.cells.items (by_instr c.args.code.now (Some i) g.s.operands (here_of c.args.place g.s)))) (sym c.in-FetchPart.is) (c.fetch_part.ensures.gone c.in-FetchPart.record c.in-FetchPart.position c.in-FetchPart.ty c.offset_of-offset.ensures)
+
+pub returns-in-Locate-clause-passed : goal.returns-in-Locate-clause-passed
+returns-in-Locate-clause-passed g c = subst (λ (i : Instr). IfSome c.locate.result (λ next. (c.locate.new.self.mode ≡ At next) × Makes c.args.code.now c.args.self.now c.locate.new.self (by_instr c.args.code.now (Some i) g.s.operands (here_of c.args.place g.s)))) (sym c.in-Locate.is) (c.locate.ensures.passed c.in-Locate.record)
+
+pub returns-in-Locate-clause-gone : goal.returns-in-Locate-clause-gone
+returns-in-Locate-clause-gone g c = subst (λ (i : Instr). IfNone c.locate.result (Comes c.args.code.now c.locate.new.self (Stopped UseAfterFree) c.locate.new.self.cells.items (by_instr c.args.code.now (Some i) g.s.operands (here_of c.args.place g.s)))) (sym c.in-Locate.is) (c.locate.ensures.gone c.in-Locate.record)
+
+pub returns-in-StorePart-clause-passed : goal.returns-in-StorePart-clause-passed
+returns-in-StorePart-clause-passed g c = subst (λ (i : Instr). IfSome c.store_part.result (λ next. (c.store_part.new.self.mode ≡ At next) × Makes c.args.code.now c.args.self.now c.store_part.new.self (by_instr c.args.code.now (Some i) g.s.operands (here_of c.args.place g.s)))) (sym c.in-StorePart.is) (c.store_part.ensures.passed c.in-StorePart.record c.in-StorePart.position c.in-StorePart.ty c.offset_of-offset-in-StorePart.ensures)
+
+pub returns-in-StorePart-clause-gone : goal.returns-in-StorePart-clause-gone
+returns-in-StorePart-clause-gone g c = subst (λ (i : Instr). IfNone c.store_part.result (Comes c.args.code.now c.store_part.new.self (Stopped UseAfterFree) c.store_part.new.self.cells.items (by_instr c.args.code.now (Some i) g.s.operands (here_of c.args.place g.s)))) (sym c.in-StorePart.is) (c.store_part.ensures.gone c.in-StorePart.record c.in-StorePart.position c.in-StorePart.ty c.offset_of-offset-in-StorePart.ensures)

@@ -1,0 +1,10 @@
+use Rattle.ctl_machine.proofs.engine.Engine.touch_object.Given as goal
+
+abbrev pub ghost-fetch_part : goal.ghost-fetch_part
+ghost-fetch_part g a = g.s
+
+abbrev pub ghost-locate : goal.ghost-locate
+ghost-locate g a = g.s
+
+abbrev pub ghost-store_part : goal.ghost-store_part
+ghost-store_part g a = g.s
