@@ -89,7 +89,11 @@ TEXTS = [
     ("procedure Main is task T; begin null; end Main;", 12, 1, 19),
     # a broken rule on names comes before a construct that is left out, wherever they stand
     ("procedure Main is begin Put_Line (\"x\"); end Main;", 20, 1, 25),
-    (ITEM + "type R is record N : Integer; end record; X : R; begin null; end Main;", 12, 1, 19),
+    (ITEM + "type R is record N : Integer; end record; type Q is record X : R; end record; Y : Q; begin null; end Main;", 12, 1, 61),
+    # a record that is not tagged is run where its components are
+    (ITEM + "type R is record N : Integer; B : Boolean := True; end record; X : R; begin X.N := 1; end Main;", ACCEPTED, 1, 1),
+    (ITEM + "type R is limited record N : Integer; end record; X : R; begin X.N := 1; end Main;", ACCEPTED, 1, 1),
+    (ITEM + "type R is record N : Integer; end record; X, Y : R; begin X := Y; end Main;", 12, 1, 1),
     # a type that no object has does nothing when it is elaborated
     (ITEM + "type R is record N : Integer; end record; begin null; end Main;", ACCEPTED, 1, 1),
     (ITEM + "type R is record N : Integer; end record; begin X := 1; end Main;", 20, 1, 67),

@@ -11,7 +11,7 @@ use Rattle.ctl_syntax.specs.declared.expression.Expression.TheOpen.{Expression-F
 use Rattle.ctl_syntax.specs.declared.item.Association.{Association}
 use Rattle.ctl_syntax.specs.declared.item.Components.{Components}
 use Rattle.ctl_syntax.specs.declared.item.Definition.{Definition as Type_definition}
-use Rattle.ctl_syntax.specs.declared.item.Definition.TheVariants.{Extension}
+use Rattle.ctl_syntax.specs.declared.item.Definition.TheVariants.{Extension, Record}
 use Rattle.ctl_syntax.specs.declared.item.Objects.{Objects}
 use Rattle.ctl_syntax.specs.declared.item.Specification.{Specification}
 use Rattle.ctl_slice.specs.declared.construct.Support.{Support}
@@ -72,8 +72,9 @@ abbrev pub are_plain : List (Components Use) → Bool
 are_plain [] = true
 are_plain (c ∷ cs) = is_plain c && are_plain cs
 
--- a type that extends Controlled or Limited_Controlled by such components
+-- a record of such components (3.8), or a type that extends Controlled or Limited_Controlled by them (7.6)
 abbrev pub of_type : Type_definition Use → Support
+of_type (Record limitation components) = support_when (are_plain components)
 of_type (Extension parent added) = support_when (are_plain added && is_controlled parent.first.denoted)
 of_type d = LeftOut
 

@@ -81,11 +81,13 @@ fn are_plain(added: &[Components<Use>]) -> bool
     true
 }
 
-/// Judges a type: one that extends Controlled or Limited_Controlled by such components alone is run (RM 7.6).
+/// Judges a type: a record with such components alone is run (RM 3.8), and so is one that extends Controlled or Limited_Controlled by them
+/// (RM 7.6).
 pub(crate) fn of_type(definition: &TypeDefinition<Use>) -> Support
     ensures { result ≡ spec.of_type definition.now }
 {
     match definition {
+        TypeDefinition::Record(_, components) => support_when(are_plain(components.as_slice())),
         TypeDefinition::Extension(parent, added) => {
             support_when(are_plain(added.as_slice()) && is_controlled(parent.first.denoted))
         }
