@@ -104,16 +104,19 @@ TEXTS = [
     (CONTROLLED + "type T is new Controlled with null record; X, Y : T; begin X := Y; end Main;", 12, 1, 46),
     (CONTROLLED + "type T is new Controlled with null record; X : T; Y : T := X; begin X := Y; end Main;", 12, 1, 114),
     (CONTROLLED + "type T is new Controlled with null record; X, Y : T; begin X := Y; X := 1; end Main;", 30, 1, 136),
-    # components of Integer and Boolean without defaults are run, in objects of controlled types; others are left out at their type, but
-    # where no object has that type
+    # components of Integer and Boolean are run, in objects of controlled types, where their defaults are constants; others are left out at
+    # their type, but where no object has that type
     (
         CONTROLLED + "type T is new Controlled with record N : Integer; B : Boolean; end record; X : T; begin X.N := 1; X.B := X.N = 1; end Main;",
         ACCEPTED,
         1,
         1,
     ),
-    (CONTROLLED + "type T is new Controlled with record N : Integer := 1; end record; begin null; end Main;", ACCEPTED, 1, 1),
-    (CONTROLLED + "type T is new Controlled with record N : Integer := 1; end record; X : T; begin null; end Main;", 12, 1, 64),
+    (CONTROLLED + "type T is new Controlled with record N : Integer := 1; B : Boolean := True; end record; X : T; begin null; end Main;", ACCEPTED, 1, 1),
+    (CONTROLLED + "type T is new Controlled with record N : Integer := 1 + 1; end record; begin null; end Main;", ACCEPTED, 1, 1),
+    (CONTROLLED + "type T is new Controlled with record N : Integer := 1 + 1; end record; X : T; begin null; end Main;", 12, 1, 64),
+    (CONTROLLED + "K : Integer; type T is new Controlled with record N : Integer := K; end record; X : T; begin null; end Main;", 12, 1, 77),
+    (CONTROLLED + "type T is new Controlled with record N : Integer := True; end record; X : T; begin null; end Main;", 30, 1, 116),
     (
         CONTROLLED
         + "type T is new Controlled with record N : Integer; end record; type U is new T with record M : Integer; end record; X : U;"

@@ -28,6 +28,7 @@ use Rattle.ctl_gen.proofs.StatementLayers.{master_is}
 use Rattle.ctl_gen.proofs.Place.{HasAt, Laid}
 use Rattle.ctl_gen.proofs.Worlds.{Each, IsWhole, whole_unset, Since, fits_empty, keeps_itself}
 use Rattle.ctl_gen.proofs.Setting.{Setting, returns, Told, Calls}
+use Rattle.ctl_gen.proofs.Defaults.{GivesDefaults}
 use Rattle.ctl_gen.proofs.Cells.{by_code}
 use Rattle.ctl_gen.proofs.Leave.{leaves}
 use Rattle.ctl_gen.proofs.Executed.{master_does}
@@ -63,7 +64,7 @@ whole_rest zero xs h = h
 whole_rest (suc n) [] h = tt
 whole_rest (suc n) (x ∷ xs) h = whole_rest n xs h.1
 
-module _ (ask : Ask) (p : Meaning) (code : Code) (setting : Setting p.tables code) (bodies : (f : ℕ) (s : Subprogram) → slice_get setting.subprograms f ≡ Some s → Stands p.tables code f s) (meant : (f : ℕ) (s : Subprogram) → slice_get setting.subprograms f ≡ Some s → slice_get p.routines f ≡ Some (routine_of s)) where
+module _ (ask : Ask) (p : Meaning) (code : Code) (setting : Setting p.tables code) (bodies : (f : ℕ) (s : Subprogram) → slice_get setting.subprograms f ≡ Some s → Stands p.tables code f s) (meant : (f : ℕ) (s : Subprogram) → slice_get setting.subprograms f ≡ Some s → slice_get p.routines f ≡ Some (routine_of s)) (constants : (call : Names.Call) → GivesDefaults p.tables (default_in p.defaults (expression_tools ask p call))) where
   abbrev k : Tables
   k = p.tables
 
@@ -104,7 +105,7 @@ module _ (ask : Ask) (p : Meaning) (code : Code) (setting : Setting p.tables cod
       subst (λ o. Runs ask code (Told k code w0) 0 1 s0 c0 (returns ks) o) (sym (ap (λ y. on_some y gone (run_routine (tools_with ask p call) env actuals) c l w) (meant f s here)))
       (subst (λ (b : SubprogramKind). Runs ask code (Told k code w0) 0 1 s0 c0 (returns ks) (bind (in_master (tools_with ask p call) (take s.level env) (slots_for (body_of s.body) actuals) inner c l w) (on_goes (λ (y : Left). returned b y.slots y.result)))) (sym x.procedure)
       (both ask code (Told k code w0) (Told k code w0) 0 1 0 0 0 1 s0 c0 (leaves AfterBody ks) (returns ks) _ (on_goes (λ (y : Left). returned Procedure y.slots y.result)) (omega arith) (omega arith) (omega arith)
-      ((master_does ask k code setting call (default_in p.defaults (expression_tools ask p call)) bound calls s.body).inside x.runs x.before x.texts 0 (KindOf.Body s.level (master_code s.body).slots) [] w0 (take s.level env) (slots_for (body_of s.body) actuals) AfterBody ks c0 c l w s0 x.place le lo hi fits long (whole_slots s actuals whole) x.instructions (first ∙ entered f s x env actuals ks l w))
+      ((master_does ask k code setting call (default_in p.defaults (expression_tools ask p call)) (constants call) bound calls s.body).inside x.runs x.before x.texts 0 (KindOf.Body s.level (master_code s.body).slots) [] w0 (take s.level env) (slots_for (body_of s.body) actuals) AfterBody ks c0 c l w s0 x.place le lo hi fits long (whole_slots s actuals whole) x.instructions (first ∙ entered f s x env actuals ks l w))
       (λ r c1 l1 w1 lo1 fits1. behind_call w0 ks r c1 l1 w1 fits1)))
 
   -- an execution takes one from the clock, and is a tick

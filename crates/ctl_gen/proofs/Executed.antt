@@ -29,6 +29,7 @@ use Rattle.ctl_gen.specs.Layout.{StatementCode, all, all_items, arm_code, assign
 use Rattle.ctl_gen.proofs.Known.{both_true}
 use Rattle.ctl_gen.proofs.TreeLayers.{arm_roll, master_roll, statement_roll}
 use Rattle.ctl_gen.proofs.Setting.{Setting, Calls, tools_with}
+use Rattle.ctl_gen.proofs.Defaults.{GivesDefaults}
 use Rattle.ctl_gen.proofs.Worlds.{Fits, Since, Kept, whole_at}
 use Rattle.ctl_gen.proofs.Cells.{by_code}
 use Rattle.ctl_gen.proofs.Expressions.{Value}
@@ -48,25 +49,25 @@ handled_not_run true true e = absurd (cc)
 handled_not_run true false e = absurd (cc)
 handled_not_run false b e = absurd (cc)
 
-module _ (ask : Ask) (k : Tables) (code : Code) (setting : Setting k code) (call : Names.Call) (default : Default) (bound : ℕ) (calls : Calls ask k code setting bound call) where
+module _ (ask : Ask) (k : Tables) (code : Code) (setting : Setting k code) (call : Names.Call) (default : Default) (constants : GivesDefaults k default) (bound : ℕ) (calls : Calls ask k code setting bound call) where
   abbrev K : Tools
   K = tools_with ask k call default
 
   abbrev Performs : StatementCode → Doing → Type 0
-  Performs = S.Performs ask k code setting call default bound calls
+  Performs = S.Performs ask k code setting call default constants bound calls
 
   abbrev pub Does : Stmt → Type 0
   Does s = Performs (statement_code s) (exec s)
 
   abbrev Guards : Arm → Type 0
-  Guards a = S.Guards ask k code setting call default bound calls (arm_code a) (arm_of a)
+  Guards a = S.Guards ask k code setting call default constants bound calls (arm_code a) (arm_of a)
 
   abbrev Handles : Handler → Type 0
   Handles h = Unit {0}
 
   -- a master of this version, whose code does what it means
   abbrev pub IsMaster : Master → Type 0
-  IsMaster m = S.Mastered ask k code setting call default bound calls (master_code m) (body_of m)
+  IsMaster m = S.Mastered ask k code setting call default constants bound calls (master_code m) (body_of m)
 
   abbrev StmtToo : Type 0
   StmtToo = (s : Stmt) × Does s
@@ -89,17 +90,17 @@ module _ (ask : Ask) (k : Tables) (code : Code) (setting : Setting k code) (call
   abbrev bare_master : Master-F StmtToo ArmToo HandlerToo MasterToo → Master-F Stmt Arm Handler Master
   bare_master = map-Master StmtToo ArmToo HandlerToo MasterToo Stmt Arm Handler Master (λ e. e.0) (λ e. e.0) (λ e. e.0) (λ e. e.0)
 
-  statements_too : (xs : List StmtToo) → S.EachPerforms ask k code setting call default bound calls (map statement_code (map (λ x. x.0) xs)) (map exec (map (λ x. x.0) xs))
+  statements_too : (xs : List StmtToo) → S.EachPerforms ask k code setting call default constants bound calls (map statement_code (map (λ x. x.0) xs)) (map exec (map (λ x. x.0) xs))
   statements_too [] = tt
   statements_too (x ∷ xs) = (x.1, statements_too xs)
 
-  arms_too : (xs : List ArmToo) → S.EachGuards ask k code setting call default bound calls (map arm_code (map (λ x. x.0) xs)) (map arm_of (map (λ x. x.0) xs))
+  arms_too : (xs : List ArmToo) → S.EachGuards ask k code setting call default constants bound calls (map arm_code (map (λ x. x.0) xs)) (map arm_of (map (λ x. x.0) xs))
   arms_too [] = tt
   arms_too (x ∷ xs) = (x.1, arms_too xs)
 
   -- statements in turn
   each_does : (xs : List StmtToo) → Performs (all (map statement_code (map (λ x. x.0) xs))) (λ j env caught. do_each j env caught (map exec (map (λ x. x.0) xs)))
-  each_does xs = S.all_run ask k code setting call default bound calls (map statement_code (map (λ x. x.0) xs)) (map exec (map (λ x. x.0) xs)) (statements_too xs)
+  each_does xs = S.all_run ask k code setting call default constants bound calls (map statement_code (map (λ x. x.0) xs)) (map exec (map (λ x. x.0) xs)) (statements_too xs)
 
   -- a value, in the worlds since any
   means : (e : Expr) → (value_code e).runs k.records ≡ true → (w0 : World) → Value ask k code (Since k code w0) (value_code e) (eval e K)
@@ -139,7 +140,7 @@ module _ (ask : Ask) (k : Tables) (code : Code) (setting : Setting k code) (call
 
   stmt_rolled : (y : Stmt-F StmtToo ArmToo HandlerToo MasterToo) → Does (roll-Stmt (bare_stmt y))
   unfolding null_doing put put_line new_line raise_new loop_plainly loop_while loop_for opened_outcome
-  stmt_rolled Stmt-F.Null = does Stmt-F.Null _ _ (statement_roll Stmt-F.Null) (exec_roll Stmt-F.Null) (λ runs n texts caught a w0 d place ks ops c l w le fits sees has. S.still_there ask k code setting call default bound calls 1 (lands a place) w0 d place ks ops c l w fits)
+  stmt_rolled Stmt-F.Null = does Stmt-F.Null _ _ (statement_roll Stmt-F.Null) (exec_roll Stmt-F.Null) (λ runs n texts caught a w0 d place ks ops c l w le fits sees has. S.still_there ask k code setting call default constants bound calls 1 (lands a place) w0 d place ks ops c l w fits)
   stmt_rolled (Stmt-F.Assign x e) = does (Stmt-F.Assign x e) _ _ (statement_roll (Stmt-F.Assign x e)) (exec_roll (Stmt-F.Assign x e)) (assign_does (reached_by x) (eval_name x) e (name_finds ask k code setting.places call default (λ w. Fits k code w) (whole_at k code) x))
   stmt_rolled (Stmt-F.Put ps) = does (Stmt-F.Put ps) _ _ (statement_roll (Stmt-F.Put ps)) (exec_roll (Stmt-F.Put ps)) (λ runs n texts caught. print_runs ask k code setting.places call default bound false ps runs n texts)
   stmt_rolled (Stmt-F.PutLine ps) = does (Stmt-F.PutLine ps) _ _ (statement_roll (Stmt-F.PutLine ps)) (exec_roll (Stmt-F.PutLine ps)) (λ runs n texts caught. print_runs ask k code setting.places call default bound true ps runs n texts)
@@ -149,7 +150,7 @@ module _ (ask : Ask) (k : Tables) (code : Code) (setting : Setting k code) (call
   stmt_rolled (Stmt-F.Return o) = does (Stmt-F.Return o) _ _ (statement_roll (Stmt-F.Return o)) (exec_roll (Stmt-F.Return o)) (return_does o)
   stmt_rolled (Stmt-F.If arms others) =
       let y = Stmt-F.If (map (λ e. e.0) arms) (map (λ e. e.0) others) in
-      does y _ _ (statement_roll y) (exec_roll y) (S.branches_run ask k code setting call default bound calls _ _ _ _ (arms_too arms) (statements_too others))
+      does y _ _ (statement_roll y) (exec_roll y) (S.branches_run ask k code setting call default constants bound calls _ _ _ _ (arms_too arms) (statements_too others))
   stmt_rolled (Stmt-F.Loop body) =
       let y = Stmt-F.Loop (map (λ e. e.0) body) in
       does y _ _ (statement_roll y) (exec_roll y) (λ runs n texts caught. loop_runs ask k code bound (λ a. (all (map statement_code (map (λ e. e.0) body))).code a n) (λ v. do_each K v caught (map exec (map (λ e. e.0) body))) (each_does body runs n texts caught))
@@ -166,7 +167,7 @@ module _ (ask : Ask) (k : Tables) (code : Code) (setting : Setting k code) (call
       let h = both_true _ _ runs in
       let g = both_true _ _ h.1 in
       for_runs ask k code setting.valid bound x way (value_code low) (value_code high) (eval low K) (eval high K) (means low h.0) (means high g.0) (λ a. (all (map statement_code (map (λ z. z.0) body))).code a n) (λ v. do_each K v caught (map exec (map (λ z. z.0) body))) (each_does body g.1 n texts caught))
-  stmt_rolled (Stmt-F.Block m) = does (Stmt-F.Block m.0) _ _ (statement_roll (Stmt-F.Block m.0)) (exec_roll (Stmt-F.Block m.0)) (S.block_runs ask k code setting call default bound calls (master_code m.0) (body_of m.0) m.1)
+  stmt_rolled (Stmt-F.Block m) = does (Stmt-F.Block m.0) _ _ (statement_roll (Stmt-F.Block m.0)) (exec_roll (Stmt-F.Block m.0)) (S.block_runs ask k code setting call default constants bound calls (master_code m.0) (body_of m.0) m.1)
   stmt_rolled (Stmt-F.AssignRecord x t a) = missing_does (Stmt-F.AssignRecord x t a) (statement_roll (Stmt-F.AssignRecord x t a))
   stmt_rolled (Stmt-F.Call f xs) = missing_does (Stmt-F.Call f xs) (statement_roll (Stmt-F.Call f xs))
   stmt_rolled (Stmt-F.Nothing x) = missing_does (Stmt-F.Nothing x) (statement_roll (Stmt-F.Nothing x))
@@ -179,21 +180,21 @@ module _ (ask : Ask) (k : Tables) (code : Code) (setting : Setting k code) (call
 
   arm_rolled : (y : Arm-F StmtToo ArmToo HandlerToo MasterToo) → Guards (roll-Arm (bare_arm y))
   arm_rolled y =
-      subst (λ z. S.Guards ask k code setting call default bound calls z (arm_of (roll-Arm (bare_arm y)))) (sym (arm_roll (bare_arm y)))
-      (subst (λ m. S.Guards ask k code setting call default bound calls (record { test = value_code y.test; body = all (map statement_code (map (λ x. x.0) y.body)) }) m) (sym (guarding_roll (bare_arm y)))
-      (S.guard_runs ask k code setting call default bound calls (value_code y.test) (eval y.test) (map statement_code (map (λ x. x.0) y.body)) (map exec (map (λ x. x.0) y.body)) (means y.test) (statements_too y.body)))
+      subst (λ z. S.Guards ask k code setting call default constants bound calls z (arm_of (roll-Arm (bare_arm y)))) (sym (arm_roll (bare_arm y)))
+      (subst (λ m. S.Guards ask k code setting call default constants bound calls (record { test = value_code y.test; body = all (map statement_code (map (λ x. x.0) y.body)) }) m) (sym (guarding_roll (bare_arm y)))
+      (S.guard_runs ask k code setting call default constants bound calls (value_code y.test) (eval y.test) (map statement_code (map (λ x. x.0) y.body)) (map exec (map (λ x. x.0) y.body)) (means y.test) (statements_too y.body)))
 
   -- the handlers of a master: this version runs none
-  with_handlers : (items : List Item) (body : List StmtToo) (handlers : List HandlerToo) → S.Masters ask k code setting call default bound calls (inside (all_items (map item_code items)) (all (map statement_code (map (λ x. x.0) body))) (has_no_handlers (map no_code (map (λ x. x.0) handlers)))) (within (map elaborate_item items) (map exec (map (λ x. x.0) body)) (map handler_of (map (λ x. x.0) handlers)))
-  with_handlers items body [] runs = S.master_runs ask k code setting call default bound calls items (map statement_code (map (λ x. x.0) body)) (map exec (map (λ x. x.0) body)) (statements_too body) runs
+  with_handlers : (items : List Item) (body : List StmtToo) (handlers : List HandlerToo) → S.Masters ask k code setting call default constants bound calls (inside (all_items (map item_code items)) (all (map statement_code (map (λ x. x.0) body))) (has_no_handlers (map no_code (map (λ x. x.0) handlers)))) (within (map elaborate_item items) (map exec (map (λ x. x.0) body)) (map handler_of (map (λ x. x.0) handlers)))
+  with_handlers items body [] runs = S.master_runs ask k code setting call default constants bound calls items (map statement_code (map (λ x. x.0) body)) (map exec (map (λ x. x.0) body)) (statements_too body) runs
   with_handlers items body (h ∷ hs) runs = absurd (handled_not_run ((all_items (map item_code items)).runs k.records) ((all (map statement_code (map (λ x. x.0) body))).runs k.records) runs)
 
   master_rolled : (y : Master-F StmtToo ArmToo HandlerToo MasterToo) → IsMaster (roll-Master (bare_master y))
   master_rolled y =
       let same = master_roll (bare_master y) in
       let means = body_roll (bare_master y) in
-      subst (λ z. S.Mastered ask k code setting call default bound calls z (body_of (roll-Master (bare_master y)))) (sym same)
-      (subst (λ b. S.Mastered ask k code setting call default bound calls (record { slots = y.slots; inside = inside (all_items (map item_code y.items)) (all (map statement_code (map (λ x. x.0) y.body))) (has_no_handlers (map no_code (map (λ x. x.0) y.handlers))) }) b) (sym means)
+      subst (λ z. S.Mastered ask k code setting call default constants bound calls z (body_of (roll-Master (bare_master y)))) (sym same)
+      (subst (λ b. S.Mastered ask k code setting call default constants bound calls (record { slots = y.slots; inside = inside (all_items (map item_code y.items)) (all (map statement_code (map (λ x. x.0) y.body))) (has_no_handlers (map no_code (map (λ x. x.0) y.handlers))) }) b) (sym means)
       (record { slots = refl; inside = with_handlers y.items y.body y.handlers }))
 
   -- Whole trees ---------------------------------------------------------------------------------------

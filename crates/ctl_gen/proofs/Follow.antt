@@ -288,6 +288,12 @@ add_add t u (Gives r v c l w) = let e : t + u + v ≡ t + (u + v) = omega arith 
 add_add t u (Stops why v l) = let e : t + u + v ≡ t + (u + v) = omega arith in ap (λ n. Stops why n l) e
 add_add t u (Cut v c l) = let e : t + u + v ≡ t + (u + v) = omega arith in ap (λ n. Cut n c l) e
 
+pub add_none : {A : Type 0} (o : Out A) → add 0 o ≡ o
+unfolding add
+add_none (Gives r t c l w) = let e : 0 + t ≡ t = omega arith in ap (λ n. Gives r n c l w) e
+add_none (Stops why t l) = let e : 0 + t ≡ t = omega arith in ap (λ n. Stops why n l) e
+add_none (Cut t c l) = let e : 0 + t ≡ t = omega arith in ap (λ n. Cut n c l) e
+
 pub bind_add : {A B : Type 0} (t : ℕ) (o : Out A) (g : Result A → Act B) → bind (add t o) g ≡ add t (bind o g)
 unfolding add bind
 bind_add t (Gives r u c l w) g = add_add t u (g r c l w)

@@ -1,6 +1,6 @@
--- The types of the variables of this version: scalar ones, and controlled record types with scalar components.
+-- The types of the variables of this version: scalar ones, and controlled record types with scalar components whose defaults are constants.
 use Rattle.std.proofs.Common.{◌≡◌, ℕ, zero, suc, List, [], ◌∷◌, ◌++◌, Option, Some, None, Bool, true, false, refl, ap, ◌∙◌}
-use Rattle.std.specs.Prelude.{slice_get, not, is_some, ◌&&◌}
+use Rattle.std.specs.Prelude.{slice_get, ◌&&◌}
 use Rattle.ctl_program.specs.declared.types.Ty.{Ty}
 use Rattle.ctl_program.specs.declared.types.Ty.TheVariants.{Integer, Count, Boolean, Address, Handle, Access, Record}
 use Rattle.ctl_program.specs.declared.types.Root.{Root}
@@ -8,7 +8,8 @@ use Rattle.ctl_program.specs.declared.types.Root.TheVariants.{Controlled, Untagg
 use Rattle.ctl_program.specs.declared.types.Component.{Component}
 use Rattle.ctl_program.specs.declared.types.RecordType.{RecordType}
 use Rattle.ctl_meaning.specs.Types.{Tables, Elementary, category_of, components, with_own, of_parent}
-use Rattle.ctl_gen.specs.Records.{are_scalar, extends_bare, has_no_components, has_no_parent, is_bare, is_controlled, is_flat, is_plain, is_run_type, is_scalar}
+use Rattle.ctl_gen.specs.Records.{are_scalar, extends_bare, has_no_components, has_no_parent, is_bare, is_controlled, is_flat, is_run_type}
+use Rattle.ctl_gen.specs.Defaults.{have_constants, is_plain}
 
 -- both hold where their conjunction does
 pub both_true : (a b : Bool) → (a && b) ≡ true → (a ≡ true) × (b ≡ true)
@@ -41,20 +42,22 @@ scalar_if Handle e = absurd (cc)
 scalar_if (Access a) e = absurd (cc)
 scalar_if (Record t) e = absurd (cc)
 
--- scalar components without default expressions (3.8)
+-- scalar components (3.8)
 abbrev pub AreScalar : List Component → Type 0
 AreScalar [] = Unit {0}
-AreScalar (c ∷ cs) = IsScalar c.ty × (c.default ≡ None) × AreScalar cs
+AreScalar (c ∷ cs) = IsScalar c.ty × AreScalar cs
 
 -- a type with scalar components alone, that inherits none
 pub record IsFlat (records : List RecordType) (r : RecordType) : Type 0 where
+  pub bare : extends_bare records r.parent ≡ true
   pub inherits_none : (n : ℕ) → of_parent [] (components n records) r.parent ≡ []
   pub own : AreScalar r.own
 
--- such a type that extends Controlled, or Limited_Controlled (7.6)
+-- such a type that extends Controlled, or Limited_Controlled, with constants as defaults (7.6)
 pub record IsPlain (k : Tables) (r : RecordType) : Type 0 where
   pub controlled : r.root ≡ Controlled
   pub flat : IsFlat k.records r
+  pub constants : have_constants k.records r.own ≡ true
 
 abbrev pub IsPlainType : Tables → Ty → Type 0
 IsPlainType k (Record t) = (r : RecordType) × (slice_get k.records t ≡ Some r) × IsPlain k r
@@ -66,11 +69,11 @@ root_if Untagged e = absurd (cc)
 root_if BlockPool e = absurd (cc)
 root_if MarkPool e = absurd (cc)
 
-parent_if : (o : Option ℕ) → has_no_parent o ≡ true → o ≡ None
+pub parent_if : (o : Option ℕ) → has_no_parent o ≡ true → o ≡ None
 parent_if None e = refl
 parent_if (Some t) e = absurd (cc)
 
-components_if : (cs : List Component) → has_no_components cs ≡ true → cs ≡ []
+pub components_if : (cs : List Component) → has_no_components cs ≡ true → cs ≡ []
 components_if [] e = refl
 components_if (c ∷ cs) e = absurd (cc)
 
@@ -93,24 +96,20 @@ unfolding of_parent
 from_bare records None n e = refl
 from_bare records (Some p) n e = bare_components records p n e
 
-absent_if : {A : Type 0} (o : Option A) → not (is_some o) ≡ true → o ≡ None
-absent_if None e = refl
-absent_if (Some a) e = absurd (cc)
-
 scalars_if : (cs : List Component) → are_scalar cs ≡ true → AreScalar cs
 scalars_if [] e = tt
 scalars_if (c ∷ cs) e =
-    let h = both_true (is_scalar c) (are_scalar cs) e in
-    let g = both_true (is_run_type c.ty) (not (is_some c.default)) h.0 in
-    (scalar_if c.ty g.0, absent_if c.default g.1, scalars_if cs h.1)
+    let h = both_true (is_run_type c.ty) (are_scalar cs) e in
+    (scalar_if c.ty h.0, scalars_if cs h.1)
 
 pub flat_if : (records : List RecordType) (r : RecordType) → is_flat records (Some r) ≡ true → IsFlat records r
 flat_if records r e =
     let h = both_true (extends_bare records r.parent) (are_scalar r.own) e in
-    record { inherits_none = λ n. from_bare records r.parent n h.0; own = scalars_if r.own h.1 }
+    record { bare = h.0; inherits_none = λ n. from_bare records r.parent n h.0; own = scalars_if r.own h.1 }
 
 pub plain_if : (k : Tables) (o : Option RecordType) → is_plain k.records o ≡ true → (r : RecordType) × (o ≡ Some r) × IsPlain k r
 plain_if k None e = absurd (cc)
 plain_if k (Some r) e =
-    let h = both_true (is_controlled r.root) (is_flat k.records (Some r)) e in
-    (r, refl, record { controlled = root_if r.root h.0; flat = flat_if k.records r h.1 })
+    let h = both_true (is_controlled r.root) (is_flat k.records (Some r) && have_constants k.records r.own) e in
+    let g = both_true (is_flat k.records (Some r)) (have_constants k.records r.own) h.1 in
+    (r, refl, record { controlled = root_if r.root h.0; flat = flat_if k.records r g.0; constants = g.1 })

@@ -14,6 +14,8 @@ pub mod TreeLayers
 pub mod Worlds
 pub mod Setting
 pub mod Evaluated
+pub mod Defaults
+pub mod Rows
 pub mod Does
 pub mod Loops
 pub mod Assign

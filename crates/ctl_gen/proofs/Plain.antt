@@ -1,5 +1,5 @@
 -- What the meaning comes to for record types with scalar components alone: where the components lie, and for controlled ones that none of
--- them is initialized or finalized.
+-- them is finalized.
 use Rattle.std.proofs.Common.{◌≡◌, ℕ, zero, suc, ◌+◌, ◌-◌, ◌≤◌, ◌<◌, List, [], ◌∷◌, ◌++◌, length, Some, Bool, true, false, refl, sym, ap, ◌∙◌, arith, replicate}
 use Rattle.std.specs.Prelude.{slice_get, nat_eq, is_some, if◌then◌else◌, ◌&&◌, ◌||◌}
 use Rattle.std.proofs.lemmas.Bool.{eqb-true, eqb-false, ne_eqb}
@@ -9,16 +9,15 @@ use Rattle.ctl_program.specs.declared.types.Ty.TheVariants.{Record}
 use Rattle.ctl_program.specs.declared.types.Component.{Component}
 use Rattle.ctl_program.specs.declared.types.RecordType.{RecordType}
 use Rattle.ctl_meaning.specs.Lists.{item_or, opened_lists, keep, any_of}
-use Rattle.ctl_meaning.specs.Types.{Tables, Placed, opened_types, with_own, of_parent, components, offset_in, placed, placed_from, is_controlled, has_controlled, has_default, controlled_within, is_tagged_root, root_in, begin_cells, cells_of, cells_within, total, of_record, is_initialized}
+use Rattle.ctl_meaning.specs.Types.{Tables, Placed, opened_types, with_own, of_parent, components, offset_in, placed, placed_from, is_controlled, has_controlled, has_default, controlled_within, is_tagged_root, root_in, begin_cells, cells_of, cells_within, total, of_record}
 use Rattle.ctl_meaning.specs.Names.{Tools}
 use Rattle.ctl_meaning.specs.Finalization.{Chosen, Spot, component_at, has_chosen, parts_to_finalize}
-use Rattle.ctl_meaning.specs.Initialization.{parts_to_begin}
 use Rattle.ctl_gen.specs.Layout.{count_from}
 use Rattle.ctl_gen.proofs.Known.{AreScalar, IsFlat, IsPlain, IsScalar}
 
 -- Scalar components -------------------------------------------------------------------------------
 
-scalar_of_record : {A : Type 0} (d : A) (f : ℕ → A) (ty : Ty) → IsScalar ty → of_record d f ty ≡ d
+pub scalar_of_record : {A : Type 0} (d : A) (f : ℕ → A) (ty : Ty) → IsScalar ty → of_record d f ty ≡ d
 unfolding of_record
 scalar_of_record d f TyOf.Integer h = refl
 scalar_of_record d f TyOf.Boolean h = refl
@@ -34,10 +33,10 @@ unfolding total
 scalar_total f [] h = refl
 scalar_total f (c ∷ cs) h =
     let one = scalar_of_record 1 f c.ty h.0 in
-    let rest = scalar_total f cs h.2 in
+    let rest = scalar_total f cs h.1 in
     omega (arith, one, rest)
 
-one_cell_each : (k : Tables) (ty : Ty) → IsScalar ty → cells_of k ty ≡ 1
+pub one_cell_each : (k : Tables) (ty : Ty) → IsScalar ty → cells_of k ty ≡ 1
 unfolding cells_of
 one_cell_each k ty h = scalar_of_record 1 _ ty h
 
@@ -50,7 +49,7 @@ offset_from k first start position (c ∷ cs) h le =
     (λ lt.
     let step : suc (position - (first + 1)) ≡ position - first = omega (arith, lt) in
     ap (λ n. offset_in position (placed_from k (first + 1) (start + n) cs)) (one_cell_each k c.ty h.0)
-    ∙ offset_from k (first + 1) (start + 1) position cs h.2 (omega (arith, lt))
+    ∙ offset_from k (first + 1) (start + 1) position cs h.1 (omega (arith, lt))
     ∙ ap (λ n. item_or 0 (slice_get (count_from start (suc (length cs))) n)) step)
   where
     by : (b : Bool) → nat_eq position first ≡ b → (first < position → offset_in position (placed_from k (first + 1) (start + cells_of k c.ty) cs) ≡ item_or 0 (slice_get (count_from start (suc (length cs))) (position - first))) → (if b then start else offset_in position (placed_from k (first + 1) (start + cells_of k c.ty) cs)) ≡ item_or 0 (slice_get (count_from start (suc (length cs))) (position - first))
@@ -63,24 +62,14 @@ unfolding offset_in placed_from
 no_first k first start [] h = refl
 no_first k first start (c ∷ cs) h = ap (λ b. if b then start else offset_in 0 (placed_from k (first + 1) (start + cells_of k c.ty) cs)) (ne_eqb 0 first (λ e. omega (arith, e, h))) ∙ no_first k (first + 1) (start + cells_of k c.ty) cs (omega arith)
 
--- none of them is initialized, and none finalized (7.6)
-scalar_not_controlled : (k : Tables) (ty : Ty) → IsScalar ty → has_controlled k ty ≡ false
+-- none of them is finalized, and by its type none is initialized (7.6)
+pub scalar_not_controlled : (k : Tables) (ty : Ty) → IsScalar ty → has_controlled k ty ≡ false
 unfolding has_controlled
 scalar_not_controlled k ty h = scalar_of_record false _ ty h
 
-scalar_not_defaulted : (k : Tables) (ty : Ty) → IsScalar ty → has_default k ty ≡ false
+pub scalar_not_defaulted : (k : Tables) (ty : Ty) → IsScalar ty → has_default k ty ≡ false
 unfolding has_default
 scalar_not_defaulted k ty h = scalar_of_record false _ ty h
-
-none_initialized : (k : Tables) (position offset : ℕ) (cs : List Component) → AreScalar cs → keep (is_initialized k) (placed_from k position offset cs) ≡ []
-unfolding placed_from is_initialized opened_lists
-none_initialized k position offset [] h = refl
-none_initialized k position offset (c ∷ cs) h =
-    let x : Placed = record { position = position; offset = offset; ty = c.ty; defaulted = is_some c.default } in
-    let rest = keep (is_initialized k) (placed_from k (position + 1) (offset + cells_of k c.ty) cs) in
-    ap (λ b. if b then x ∷ rest else rest)
-    (ap (λ o. (is_some o || has_controlled k c.ty) || has_default k c.ty) h.1 ∙ ap (λ x. x || has_default k c.ty) (scalar_not_controlled k c.ty h.0) ∙ scalar_not_defaulted k c.ty h.0)
-    ∙ none_initialized k (position + 1) (offset + cells_of k c.ty) cs h.2
 
 none_finalized : (k : Tables) (chosen : Placed → Bool) (position offset : ℕ) (cs : List Component) → AreScalar cs → keep (λ p. has_controlled k p.ty && chosen p) (placed_from k position offset cs) ≡ []
 unfolding placed_from opened_lists
@@ -89,7 +78,7 @@ none_finalized k chosen position offset (c ∷ cs) h =
     let x : Placed = record { position = position; offset = offset; ty = c.ty; defaulted = is_some c.default } in
     let rest = keep (λ p. has_controlled k p.ty && chosen p) (placed_from k (position + 1) (offset + cells_of k c.ty) cs) in
     ap (λ b. if b && chosen x then x ∷ rest else rest) (scalar_not_controlled k c.ty h.0)
-    ∙ none_finalized k chosen (position + 1) (offset + cells_of k c.ty) cs h.2
+    ∙ none_finalized k chosen (position + 1) (offset + cells_of k c.ty) cs h.1
 
 -- Flat types --------------------------------------------------------------------------------------
 
@@ -114,10 +103,6 @@ module _ (k : Tables) (t : ℕ) (r : RecordType) (at : slice_get k.records t ≡
   pub begin_cells_flat : begin_cells k (Record t) ≡ replicate (length r.own) 0
   unfolding opened_types
   begin_cells_flat = ap (λ cs. replicate (total (of_record 1 (cells_within (length k.records) k.records)) cs) 0) (own_within (length k.records)) ∙ ap (λ n. replicate n 0) (scalar_total (cells_within (length k.records) k.records) r.own flat.own)
-
-  pub parts_to_begin_flat : (K : Tools) → K.tables ≡ k → parts_to_begin K t ≡ []
-  unfolding parts_to_begin
-  parts_to_begin_flat K same = ap (λ x. keep (is_initialized x) (placed x t)) same ∙ ap (keep (is_initialized k)) placed_flat ∙ none_initialized k 1 0 r.own flat.own
 
   pub parts_to_finalize_flat : (K : Tools) (want : Chosen) (s : Spot) → K.tables ≡ k → parts_to_finalize K want s t ≡ []
   unfolding parts_to_finalize

@@ -15,11 +15,12 @@ use Rattle.ctl_code.specs.declared.code.Instr.TheVariants as InstrOf
 use Rattle.ctl_code.specs.declared.code.Code.{Code}
 use Rattle.ctl_code.specs.declared.kinds.Kind.{Kind}
 use Rattle.ctl_code.specs.States.{Frame, State}
-use Rattle.ctl_code.specs.Table.{ended, enter_body, offset_of, operation_of, size_of}
+use Rattle.ctl_code.specs.Table.{defaulted_of, ended, enter_body, offset_of, operation_of, size_of}
 use Rattle.ctl_code.specs.Steps.{moved, step}
 use Rattle.ctl_code.specs.Valid.{IsInScope, IsValid, kinds_at}
 use Rattle.ctl_code.specs.Windows.{depth}
 use Rattle.ctl_gen.specs.Records.{is_flat}
+use Rattle.ctl_gen.specs.Defaults.{defaulted_from}
 use Rattle.ctl_gen.specs.Run.{IsBody}
 use Rattle.ctl_gen.proofs.Worlds.{Each, IsWhole, Since, home}
 use Rattle.ctl_gen.proofs.Follow.{IsRaise, Runs, gives}
@@ -35,6 +36,7 @@ pub record Setting (k : Tables) (code : Code) : Type 0 where
   pub valid : IsValid code
   pub places : ArePlaced k code
   pub sizes : (t : ℕ) (r : RecordType) → slice_get k.records t ≡ Some r → size_of code t ≡ length r.own
+  pub defaults : (t : ℕ) (r : RecordType) → slice_get k.records t ≡ Some r → defaulted_of code t ≡ defaulted_from 0 r.own
   pub initialize : (t : ℕ) → operation_of (λ x. x.initialize) code t ≡ operation (λ x. x.initialize) k t
   pub finalize : (t : ℕ) → operation_of (λ x. x.finalize) code t ≡ operation (λ x. x.finalize) k t
   pub initialize_body : (t f : ℕ) → operation (λ x. x.initialize) k t ≡ Some f → IsBody subprograms f

@@ -28,11 +28,12 @@ use Rattle.ctl_code.specs.Windows.{depth}
 use Rattle.ctl_gen.specs.Around.{Line, Landing, OutOfMaster, BeforeLoop, Around, behind, land, further as further_on}
 use Rattle.ctl_gen.specs.Values.{ValueCode, value_code}
 use Rattle.ctl_gen.specs.Layout.{ArmCode, ItemCode, MasterCode, StatementCode, all, all_items, arms_code, arms_run, arms_texts, block, block_code, branches, in_master as in_new, inside, item_code, leaves_code, turn_code}
-use Rattle.ctl_gen.specs.Records.{is_declared}
+use Rattle.ctl_gen.specs.Defaults.{is_declared}
 use Rattle.ctl_gen.proofs.Known.{both_true, plain_if, scalar_if}
 use Rattle.ctl_gen.proofs.Place.{HasAt, has_front, has_back, Laid, laid_front, laid_back}
 use Rattle.ctl_gen.proofs.Worlds.{home, Each, IsWhole, whole_unset, Since, Kept, home_new, keeps_itself, keeps_on, keeps_open, fits_open}
 use Rattle.ctl_gen.proofs.Setting.{Setting, tools_with, Sees, Told, Calls}
+use Rattle.ctl_gen.proofs.Defaults.{GivesDefaults}
 use Rattle.ctl_gen.proofs.Cells.{by_code}
 use Rattle.ctl_gen.proofs.Does.{Does}
 use Rattle.ctl_gen.proofs.Declare.{declare_runs}
@@ -65,7 +66,7 @@ next_after env slots w = refl
 pub continues : (e : Landing) (n place : ℕ) (d : List ℕ) (q : ℕ) (ks : List Frame) (ops : List ℕ) (r : Result Done) (l : Log) (w : World) → arrives (target_of (further_on n e) (place + n)) d q ks ops r l w ≡ arrives (target_of e place) d q ks ops r l w
 continues e n place d q ks ops r l w = ap (λ x. arrives x d q ks ops r l w) (landing_further e n place)
 
-module _ (ask : Ask) (k : Tables) (code : Code) (setting : Setting k code) (call : Names.Call) (default : Default) (bound : ℕ) (calls : Calls ask k code setting bound call) where
+module _ (ask : Ask) (k : Tables) (code : Code) (setting : Setting k code) (call : Names.Call) (default : Default) (constants : GivesDefaults k default) (bound : ℕ) (calls : Calls ask k code setting bound call) where
   abbrev K : Tools
   K = tools_with ask k call default
 
@@ -96,7 +97,7 @@ module _ (ask : Ask) (k : Tables) (code : Code) (setting : Setting k code) (call
   unfolding object if_given category_of opened_outcome
   bare_object slot (Record t) runs a w0 d place ks ops c l w le fits sees has =
       let known = plain_if k (slice_get k.records t) runs in
-      added ask code (Kept k code w0) 1 4 5 0 0 _ c (arrives (lands a place) d (place + 1) ks ops) _ (omega arith) (omega arith) (added ask code (Kept k code w0) 0 4 5 4 5 _ c (arrives (lands a place) d (place + 1) ks ops) _ (omega arith) (omega arith) (declare_runs ask k code setting call default t known.0 known.1 known.2 bound calls slot (lands a place) a.stack w0 d place ks ops c l w le fits sees has))
+      added ask code (Kept k code w0) 1 5 6 0 0 _ c (arrives (lands a place) d (place + 1) ks ops) _ (omega arith) (omega arith) (added ask code (Kept k code w0) 0 5 6 5 6 _ c (arrives (lands a place) d (place + 1) ks ops) _ (omega arith) (omega arith) (declare_runs ask k code setting call default constants t known.0 known.1 known.2 bound calls slot (lands a place) a.stack w0 d place ks ops c l w le fits sees has))
   bare_object slot Integer runs a w0 d place ks ops c l w le fits sees has = scalar_runs ask k code setting.valid bound call default slot Integer tt a w0 d place ks ops c l w le fits sees has
   bare_object slot Boolean runs a w0 d place ks ops c l w le fits sees has = scalar_runs ask k code setting.valid bound call default slot Boolean tt a w0 d place ks ops c l w le fits sees has
   bare_object slot Count runs a w0 d place ks ops c l w le fits sees has = absurd (cc)

@@ -26,7 +26,8 @@ use Rattle.ctl_code.specs.Laws.{IsPrefix, Grows}
 use Rattle.ctl_code.proofs.Logs.{obeys_none, obeys_itself, no_more_than, Stays, steps_obey, grow, stay, meet, ended_stays, agree}
 use Rattle.ctl_gen.specs.Around.{Line}
 use Rattle.ctl_gen.specs.Layout.{HasKinds, IsLaidOut, bodies, body_code, entries_from, entry_at, instructions_of, kinds_of, nowhere, operations_of, program_code}
-use Rattle.ctl_gen.proofs.Layouts.{places, sizes}
+use Rattle.ctl_gen.proofs.Layouts.{defaults, places, sizes}
+use Rattle.ctl_gen.proofs.Rows.{gives_defaults}
 use Rattle.ctl_gen.specs.Run.{AreLinked, IsBody, IsRun, IsWritten, are_procedures, is_procedure}
 use Rattle.ctl_gen.proofs.Known.{both_true}
 use Rattle.ctl_gen.specs.Correct.{HasReached, RunsAs, Behaves}
@@ -168,6 +169,7 @@ module _ (program : Checked) (code : Code) (laid : IsLaidOut program code) (kind
     valid = valid;
     places = places (tables_of program) code.layouts.items laid.layouts;
     sizes = sizes (tables_of program) code.layouts.items laid.layouts;
+    defaults = defaults (tables_of program) code.layouts.items laid.layouts;
     initialize = λ t. ap (λ xs. Table.operation_in (λ x. x.initialize) (slice_get xs t)) laid.records ∙ initialize_in program.records t;
     finalize = λ t. ap (λ xs. Table.operation_in (λ x. x.finalize) (slice_get xs t)) laid.records ∙ finalize_in program.records t;
     initialize_body = λ t f e. initialize_written program.subprograms (slice_get program.records t) (linked.initialize t) f e;
@@ -182,7 +184,7 @@ module _ (program : Checked) (code : Code) (laid : IsLaidOut program code) (kind
 
   whole_runs : (ask : Ask) (clock : ℕ) → Runs ask code (Told (tables_of program) code empty_world) 0 1 start clock (returns []) (run program ask clock)
   unfolding run meaning_of setting
-  whole_runs ask clock = main_runs ask (meaning_of program) code setting stands (routine_at program.subprograms) program.main linked.main.0 linked.main.1 (valid.each 0 (InstrOf.Start program.main) [] has_whole.0 has_whole.1).1 has_whole.0 clock
+  whole_runs ask clock = main_runs ask (meaning_of program) code setting stands (routine_at program.subprograms) (λ call. gives_defaults ask (meaning_of program) code setting.places call refl) program.main linked.main.0 linked.main.1 (valid.each 0 (InstrOf.Start program.main) [] has_whole.0 has_whole.1).1 has_whole.0 clock
 
   moment_of : (ask : Ask) (clock : ℕ) (o : Out Returned) → Runs ask code (Told (tables_of program) code empty_world) 0 1 start clock (returns []) o → Moment code ask clock (outcome_of program.exceptions o).ticks (outcome_of program.exceptions o)
   unfolding outcome_of

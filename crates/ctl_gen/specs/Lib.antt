@@ -2,6 +2,7 @@ pub mod Records
 pub mod Around
 pub mod Emitted
 pub mod Values
+pub mod Defaults
 pub mod Texts
 pub mod Layout
 pub mod Run

@@ -5,13 +5,15 @@ ghost use Rattle.ctl_tree.specs.declared.fault.FaultCode.TheVariants.{LeftOut, M
 ghost use Rattle.ctl_well_typed.specs.Programs.{WellTyped};
 ghost use Rattle.ctl_gen.specs.Correct.{Behaves};
 ghost use Rattle.ctl_gen.specs.Run.{AreLinked, IsRun};
+ghost use Rattle.ctl_gen.specs.Defaults.{constant_of};
 ghost use Rattle.ctl_gen.specs.Layout.{AreLayouts, HasKinds, IsLaidOut, IsLayout, entry_at, operations_of};
 
 use crate::emit::Emitter;
-use ctl_code::code::{Code, Entry, Instr, Layout, Operations};
+use crate::right::constant;
+use ctl_code::code::{Code, Defaulted, Entry, Instr, Layout, Operations};
 use ctl_code::valid::ValidCode;
 use ctl_program::program::{Checked, Subprogram};
-use ctl_program::types::RecordType;
+use ctl_program::types::{Component, RecordType};
 use ctl_tree::fault::{Fault, FaultCode};
 use ctl_tree::text::Text;
 use std::alloc::{AllocError, Global};
@@ -101,17 +103,32 @@ fn records_of(alloc: Global, records: &[RecordType]) -> Result<Vec<Operations>, 
     Ok(all)
 }
 
-/// Gives the layout of a record type with so many components of one cell each.
-fn layout_of(alloc: Global, count: usize) -> Result<Layout, AllocError>
-    ensures { IfOk result (λ layout. IsLayout layout count) }
+/// Gives the constant that is the default of a component, if it has one (RM 3.8).
+fn default_of(component: &Component) -> Option<u64>
+    ensures { result ≡ constant_of component.now }
+{
+    match &component.default {
+        Some(default) => constant(default),
+        None => None,
+    }
+}
+
+/// Gives the layout of a record type with these components, of one cell each.
+fn layout_of(alloc: Global, components: &[Component]) -> Result<Layout, AllocError>
+    ensures { IfOk result (λ layout. IsLayout layout components.now) }
 {
     let mut offsets = Vec::new(alloc);
-    for offset in 0..count {
+    let mut defaulted = Vec::new(alloc);
+    for (offset, component) in components.iter().enumerate() {
         offsets.push(offset)?;
+        if let Some(value) = default_of(component) {
+            defaulted.push(Defaulted { offset, value })?;
+        }
     }
     Ok(Layout {
-        cells: count,
+        cells: components.len(),
         offsets,
+        defaulted,
     })
 }
 
@@ -121,7 +138,7 @@ fn layouts_of(alloc: Global, records: &[RecordType]) -> Result<Vec<Layout>, Allo
 {
     let mut all = Vec::new(alloc);
     for record in records {
-        all.push(layout_of(alloc, record.own.as_slice().len())?)?;
+        all.push(layout_of(alloc, record.own.as_slice())?)?;
     }
     Ok(all)
 }

@@ -1,13 +1,14 @@
 //! Whether this version runs each construct of a checked program.
 
 ghost use Rattle.std.specs.Prelude.{◌≡◌, [], ◌∷◌, map, option_map, slice_get, Some};
+ghost use Rattle.ctl_gen.specs.Defaults as defaults;
 ghost use Rattle.ctl_gen.specs.Layout as spec;
 ghost use Rattle.ctl_gen.specs.Records as types;
 ghost use Rattle.ctl_gen.specs.Run as whole;
 ghost use Rattle.ctl_gen.specs.Texts as texts;
 ghost use Rattle.ctl_gen.specs.Values as values;
 
-use crate::right::{Reached, reached_by};
+use crate::right::{Reached, constant, reached_by};
 use ctl_program::expression::{Expr, Name, Operand};
 use ctl_program::operators::SubprogramKind;
 use ctl_program::program::{Checked, Subprogram};
@@ -161,19 +162,12 @@ fn pieces(pieces: &[Piece], records: &[RecordType]) -> bool
     true
 }
 
-/// Tells whether a component is of a type whose variables are run, and has no default expression (RM 3.8).
-fn is_scalar(component: &Component) -> bool
-    ensures { result ≡ types.is_scalar component.now }
-{
-    is_run_type(component.ty) && component.default.is_none()
-}
-
-/// Tells whether each of these components is one.
+/// Tells whether each of these components is of a type whose variables are run (RM 3.8).
 fn are_scalar(components: &[Component]) -> bool
     ensures { result ≡ types.are_scalar components.now }
 {
     for component in components {
-        if !is_scalar(component) {
+        if !is_run_type(component.ty) {
             return false;
         }
     }
@@ -207,16 +201,41 @@ fn is_flat(records: &[RecordType], entry: &RecordType) -> bool
     extends_bare(records, entry.parent) && are_scalar(entry.own.as_slice())
 }
 
-/// Tells whether objects of a record type are run: one that extends Controlled or Limited_Controlled by scalar components (RM 7.6).
-fn is_plain(records: &[RecordType], entry: &RecordType) -> bool
-    ensures { result ≡ types.is_plain records.now (Some entry.now) }
+/// Tells whether a component has no default, or a constant (RM 3.8).
+fn may_default(component: &Component, records: &[RecordType]) -> bool
+    ensures { result ≡ defaults.may_default records.now (option_map values.value_code component.now.default) }
 {
-    matches!(entry.root, Root::Controlled) && is_flat(records, entry)
+    match &component.default {
+        Some(default) => value(default, records) && constant(default).is_some(),
+        None => true,
+    }
+}
+
+/// Tells whether the defaults of these components are constants.
+fn have_constants(components: &[Component], records: &[RecordType]) -> bool
+    ensures { result ≡ defaults.have_constants records.now components.now }
+{
+    for component in components {
+        if !may_default(component, records) {
+            return false;
+        }
+    }
+    true
+}
+
+/// Tells whether objects of a record type are run: one that extends Controlled or Limited_Controlled by scalar components whose defaults
+/// are constants (RM 7.6).
+fn is_plain(records: &[RecordType], entry: &RecordType) -> bool
+    ensures { result ≡ defaults.is_plain records.now (Some entry.now) }
+{
+    matches!(entry.root, Root::Controlled)
+        && is_flat(records, entry)
+        && have_constants(entry.own.as_slice(), records)
 }
 
 /// Tells whether objects of a type are run.
 fn is_declared(records: &[RecordType], ty: Ty) -> bool
-    ensures { result ≡ types.is_declared records.now ty }
+    ensures { result ≡ defaults.is_declared records.now ty }
 {
     match ty {
         Ty::Record(number) => match records.get(number) {

@@ -4,9 +4,10 @@ use Rattle.ctl_grammar.specs.Spelling.{same_name}
 use Rattle.ctl_syntax.specs.declared.denoted.Definition.{Definition}
 use Rattle.ctl_syntax.specs.declared.denoted.Denoted.{Denoted}
 use Rattle.ctl_syntax.specs.declared.denoted.Denoted.TheVariants.{Declared, Library}
-use Rattle.ctl_syntax.specs.declared.denoted.LibraryName.TheVariants.{Integer, Boolean, Put, PutLine, NewLine, Controlled, LimitedControlled}
+use Rattle.ctl_syntax.specs.declared.denoted.LibraryName.TheVariants.{Integer, Boolean, True, False, Put, PutLine, NewLine, Controlled, LimitedControlled}
 use Rattle.ctl_syntax.specs.declared.denoted.Use.{Use}
-use Rattle.ctl_syntax.specs.declared.expression.Expression.{Expression}
+use Rattle.ctl_syntax.specs.declared.expression.Expression.{Expression, out-Expression}
+use Rattle.ctl_syntax.specs.declared.expression.Expression.TheOpen.{Expression-F}
 use Rattle.ctl_syntax.specs.declared.item.Association.{Association}
 use Rattle.ctl_syntax.specs.declared.item.Components.{Components}
 use Rattle.ctl_syntax.specs.declared.item.Definition.{Definition as Type_definition}
@@ -43,9 +44,29 @@ is_scalar (Library Integer) = true
 is_scalar (Library Boolean) = true
 is_scalar d = false
 
--- components of a scalar type, without a default expression (3.8)
+-- True or False (3.5.3)
+abbrev pub is_truth : Denoted → Bool
+is_truth (Library True) = true
+is_truth (Library False) = true
+is_truth d = false
+
+-- a numeric literal, True or False: one layer of an expression (2.4)
+abbrev pub literal_layer : {A : Type 0} → Expression-F Use A → Bool
+literal_layer (Expression-F.Number place n) = true
+literal_layer (Expression-F.Name place name) = is_truth name.first.denoted && is_empty name.suffixes
+literal_layer e = false
+
+abbrev pub is_literal : Expression Use → Bool
+is_literal e = literal_layer (out-Expression Use e)
+
+-- no default expression, or such a literal
+abbrev pub may_default : Option (Expression Use) → Bool
+may_default None = true
+may_default (Some e) = is_literal e
+
+-- components of a scalar type, with such a default (3.8)
 abbrev pub is_plain : Components Use → Bool
-is_plain c = is_scalar c.mark.first.denoted && is_absent c.default
+is_plain c = is_scalar c.mark.first.denoted && may_default c.default
 
 abbrev pub are_plain : List (Components Use) → Bool
 are_plain [] = true

@@ -5,6 +5,7 @@ ghost use Rattle.ctl_slice.specs.Constructs as spec;
 
 use ctl_grammar::spelling::is_same_name;
 use ctl_syntax::denoted::{Definition, Denoted, LibraryName, Use};
+use ctl_syntax::expression::Expression;
 use ctl_syntax::item::{Components, Definition as TypeDefinition, Objects, Specification};
 
 /// Whether this version runs a construct.
@@ -34,11 +35,38 @@ pub(crate) fn of_heading(heading: &Specification<Definition, Use>) -> Support
     support_when(is_run)
 }
 
-/// Tells whether components are of a scalar type, without a default expression (RM 3.8).
+/// Tells whether this is True or False (RM 3.5.3).
+fn is_truth(denoted: Denoted) -> bool
+    ensures { result ≡ spec.is_truth denoted }
+{
+    matches!(
+        denoted,
+        Denoted::Library(LibraryName::True | LibraryName::False)
+    )
+}
+
+/// Tells whether an expression is a numeric literal, True or False (RM 2.4, 3.5.3).
+fn is_literal(expression: &Expression<Use>) -> bool
+    ensures { result ≡ spec.is_literal expression.now }
+{
+    match expression {
+        Expression::Number(..) => true,
+        Expression::Name(_, name) => {
+            is_truth(name.first.denoted) && name.suffixes.as_slice().is_empty()
+        }
+        _ => false,
+    }
+}
+
+/// Tells whether components are of a scalar type, without a default expression or with a literal (RM 3.8).
 fn is_plain(components: &Components<Use>) -> bool
     ensures { result ≡ spec.is_plain components.now }
 {
-    is_scalar(components.mark.first.denoted) && components.default.is_none()
+    is_scalar(components.mark.first.denoted)
+        && match &components.default {
+            Some(default) => is_literal(default),
+            None => true,
+        }
 }
 
 /// Tells whether all of these are.

@@ -29,6 +29,10 @@ const TWO_OBJECTS_OUTPUT: &str = "i\nin\nb\na\nout\n";
 const TWO_OBJECTS_TRACE: &str =
     "live 1 m2\ninitialize 2\nprint i\nnewline\nlive 2 m2\nprint in\nnewline\nfinalize 2 scope\nprint b\nnewline\nfinalize 1 scope\nprint a\nnewline\nprint out\nnewline\nend done\n";
 
+/// An object whose type has three components with defaults and one without.
+const DEFAULTS: &str =
+    "with Ada.Finalization; use Ada.Finalization; procedure Main is type A is new Controlled with record N : Integer := 4; B : Boolean; C : Boolean := True; M : Integer := 7; end record; overriding procedure Finalize (X : in out A); procedure Finalize (X : in out A) is begin null; end Finalize; begin declare V : A; begin null; end; end Main;";
+
 /// A writer over memory that takes at most so many bytes at a time, and so many in all; then it takes none, or answers
 /// an error. A flush may fail, as that of a buffer before a full device.
 #[derive(Drop)]
@@ -106,6 +110,16 @@ fn run_job(alloc: Global, show: Show, steps: u64) -> Job {
     }
 }
 
+/// A job to run a file in an order, and to show the trace.
+fn order_job(alloc: Global, order: Order) -> Job {
+    Job::Run {
+        file: String::new(alloc),
+        show: Show::Trace,
+        order,
+        steps: 1000,
+    }
+}
+
 /// The status of a job on what a reader gives, with these outputs.
 fn serve_on<R: Read + Drop, W: Write, E: Write>(
     alloc: Global,
@@ -126,6 +140,26 @@ fn served(alloc: Global, job: Job, source: &str) -> Result<String, Fail> {
     let out = String::from_utf8(out).map_err(|_| "no text")?;
     let err = String::from_utf8(err).map_err(|_| "no text")?;
     Ok(format!(in alloc; "{status}|{out}|{err}")?)
+}
+
+/// Each component that takes its default is chosen among those that are left: a choice among three, one among two, and none (RM 7.6).
+#[test]
+fn choices_are_told_by_order(rt: HostRuntime) -> Result<(), Fail> {
+    let alloc = rt.alloc();
+    for (order, wanted) in [
+        (
+            Order::Newest,
+            "0|live 1 m2\nfinalize 1 scope\nend done\n|adactl: picks 2,1\n",
+        ),
+        (
+            Order::Oldest,
+            "0|live 1 m2\nfinalize 1 scope\nend done\n|adactl: picks 0,0\n",
+        ),
+    ] {
+        let got = served(alloc, order_job(alloc, order), DEFAULTS)?;
+        assert_eq!(rt; got.as_str(), wanted, "by order");
+    }
+    Ok(())
 }
 
 #[test]

@@ -89,6 +89,14 @@ const COMPONENTS: &[u8] =
 const COMPONENTS_TRACE: &str =
     "initialize 2\nprint iFALSE\nlive 2 m1\ninitialize 3\nprint iFALSE\nlive 3 m3\ninitialize 4\nprint iFALSE\nlive 4 m3\nfinalize 4 scope\nprint f 3FALSE\nnewline\nfinalize 3 scope\nprint f 2TRUE\nnewline\nfinalize 2 scope\nprint f 31FALSE\nnewline\nend done\n";
 
+/// Components with defaults: each takes its own before the object's Initialize is called, and an object without one comes to life after them
+/// (RM 3.8, 7.6).
+const DEFAULTS: &[u8] =
+    b"with Ada.Finalization; use Ada.Finalization; with Ada.Text_IO; use Ada.Text_IO; procedure Main is type A is new Controlled with record N : Integer := 4; B : Boolean; C : Boolean := True; M : Integer := 7; end record; overriding procedure Initialize (X : in out A); overriding procedure Finalize (X : in out A); procedure Initialize (X : in out A) is begin Put_Line (\"i\" & Integer'Image (X.N) & Boolean'Image (X.B) & Boolean'Image (X.C) & Integer'Image (X.M)); X.N := 5; end Initialize; procedure Finalize (X : in out A) is begin Put_Line (\"f\" & Integer'Image (X.N)); end Finalize; type D is new Limited_Controlled with record N : Integer := 2; end record; V : A; W : D; begin Put_Line (Integer'Image (V.M + W.N)); end Main;";
+
+const DEFAULTS_TRACE: &str =
+    "initialize 1\nprint i 4FALSETRUE 7\nnewline\nlive 1 m1\nprint  9\nnewline\nfinalize 1 scope\nprint f 5\nnewline\nend done\n";
+
 /// A type of which there is no object.
 const TYPE_ALONE: &[u8] =
     b"procedure Main is type R is record N : Integer; end record; begin null; end Main;";
@@ -118,6 +126,7 @@ fn traces_of_runs(rt: HostRuntime) -> Result<(), Fail> {
         (RETURNED, 1000, RETURNED_TRACE),
         (EXIT_OF_TWO, 1000, EXIT_OF_TWO_TRACE),
         (COMPONENTS, 1000, COMPONENTS_TRACE),
+        (DEFAULTS, 1000, DEFAULTS_TRACE),
         (TYPE_ALONE, 1000, "end done\n"),
         (TURNS, 100, "end limit\n"),
     ] {

@@ -1,4 +1,4 @@
-use Rattle.std.proofs.Common.{◌≡◌, ◌+◌, List, [], ◌∷◌, ◌++◌, length, drop, sym, ap, ◌∙◌, subst, append_assoc, append-nil}
+use Rattle.std.proofs.Common.{◌≡◌, ◌+◌, List, [], ◌∷◌, ◌++◌, drop, sym, ap, ◌∙◌, subst, append_assoc, append-nil}
 use Rattle.std.proofs.lemmas.List.{drop_all}
 use Rattle.ctl_program.specs.declared.types.RecordType.{RecordType}
 use Rattle.ctl_code.specs.declared.code.Layout.{Layout}
@@ -16,7 +16,7 @@ loop-record-preserved c = λ more h.
     let i = c.loop-record.record-index in
     let r = c.record-item.result in
     let x = c.in_ok-layout_of.field-0 in
-    let one : IsLayout x (length r.own) = subst (λ cs. IsLayout x (length cs)) c.as_slice.ensures c.in_ok-layout_of.ensures in
+    let one : IsLayout x r.own = subst (IsLayout x) c.as_slice.ensures c.in_ok-layout_of.ensures in
     let there : r ∷ drop (i + 1) rs ≡ drop i rs = turn_of (λ zs. zs) rs i r c.loop-record-test.true c.record-item.is in
     subst (λ (xs : List Layout). AreLayouts xs rs) (sym (ap (λ (xs : List Layout). xs ++ more) c.in_ok-push.ensures.items ∙ append_assoc all (x ∷ []) more))
     (c.loop-record.invariant (x ∷ more) (subst (λ (zs : List RecordType). AreLayouts (x ∷ more) zs) there (one, h)))
