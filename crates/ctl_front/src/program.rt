@@ -18,8 +18,10 @@ use std::alloc::Global;
 pub fn program_of(alloc: Global, source: &[u8]) -> Result<Checked, Fault>
     ensures { Answers source.now result }
 {
-    let tree = tree_of(alloc, source)?;
-    let (tree, broken) = named(alloc, &tree)?;
+    let written = tree_of(alloc, source)?;
+    let (tree, broken) = named(alloc, &written)?;
+    // A tree is large: the written one goes before the program is made.
+    drop(written);
     check(alloc, &tree, broken.names, broken.uses)
 }
 

@@ -9,7 +9,7 @@ use Rattle.ctl_tree.specs.declared.event.Event.{Event}
 use Rattle.ctl_tree.specs.declared.event.Event.TheVariants as EventOf
 use Rattle.ctl_tree.specs.declared.event.Cause.TheVariants.{Failed}
 use Rattle.ctl_meaning.specs.World.{Object, Declared, Single, Holds, Binds, holding, Log, World}
-use Rattle.ctl_meaning.specs.Lists.{change_each, first_with, last_of, pull_item, pull_rest, opened_lists}
+use Rattle.ctl_meaning.specs.Lists.{first_with, last_of, pull_item, pull_rest, opened_lists}
 use Rattle.ctl_meaning.specs.Objects.{change_in, object_in, with_cells, opened_objects}
 use Rattle.ctl_meaning.specs.Changes.{object_at, create, write_cells, set_slot, add_layer, begin_finalization, end_finalization, home_of, owner_of, opened_changes}
 use Rattle.ctl_meaning.specs.Choice.{Ask, picked}

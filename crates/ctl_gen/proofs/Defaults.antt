@@ -1,20 +1,19 @@
 -- The components that default initialization chooses among, beside those that the layout names: each takes its constant (3.8, 7.6).
 use Rattle.std.proofs.Common.{◌≡◌, ℕ, zero, suc, ◌+◌, ◌<◌, List, [], ◌∷◌, length, Option, Some, None, Bool, true, false, refl, sym, ap, ◌∙◌, subst, arith}
-use Rattle.std.specs.Prelude.{slice_get, is_some, option_map, nat_lt, if◌then◌else◌, ◌&&◌, ◌||◌}
+use Rattle.std.specs.Prelude.{slice_get, is_some, option_map, nat_lt, if◌then◌else◌, ◌||◌}
 use Rattle.std.proofs.lemmas.Bool.{ltb-true}
 use Rattle.ctl_program.specs.declared.expression.Expr.{Expr}
 use Rattle.ctl_program.specs.declared.types.Component.{Component}
 use Rattle.ctl_program.specs.declared.types.RecordType.{RecordType}
 use Rattle.ctl_meaning.specs.World.{Log, World}
-use Rattle.ctl_meaning.specs.Lists.{keep, pull_item, pull_rest, opened_lists}
+use Rattle.ctl_meaning.specs.Lists.{keep, pull_item, pull_rest}
 use Rattle.ctl_meaning.specs.Choice.{Ask, accepted, noted, picked}
 use Rattle.ctl_meaning.specs.Outcome.{Goes, Gives}
 use Rattle.ctl_meaning.specs.Types.{Tables, Placed, cells_of, has_controlled, has_default, is_initialized, placed, placed_from}
 use Rattle.ctl_meaning.specs.Names.{Default, Tools}
 use Rattle.ctl_meaning.specs.Initialization.{parts_to_begin}
 use Rattle.ctl_code.specs.declared.code.Defaulted.{Defaulted}
-use Rattle.ctl_gen.specs.declared.right.Right.{Right}
-use Rattle.ctl_gen.specs.Values.{ValueCode, value_code}
+use Rattle.ctl_gen.specs.Values.{value_code}
 use Rattle.ctl_gen.specs.Defaults.{constant_by, constant_in, constant_of, defaulted_before, defaulted_from, have_constants, may_default}
 use Rattle.ctl_gen.proofs.Known.{both_true, AreScalar, IsPlain, IsScalar}
 use Rattle.ctl_gen.proofs.Plain.{one_cell_each, placed_flat, scalar_not_controlled, scalar_not_defaulted}

@@ -1,14 +1,13 @@
 -- The default expressions of the components of a type, as the meaning finds them, and what those come to that are constants (3.8).
 use Rattle.std.proofs.Common.{◌≡◌, ℕ, zero, suc, ◌+◌, ◌-◌, List, [], ◌∷◌, ◌++◌, map, Option, Some, None, true, refl, sym, ap, ◌∙◌, subst, arith, append_assoc, append-nil}
-use Rattle.std.specs.Prelude.{slice_get, is_some, option_map, ◌&&◌}
+use Rattle.std.specs.Prelude.{slice_get, is_some, option_map}
 use Rattle.ctl_program.specs.declared.expression.Expr.{Expr}
 use Rattle.ctl_program.specs.declared.types.Component.{Component}
 use Rattle.ctl_program.specs.declared.types.RecordType.{RecordType}
-use Rattle.ctl_meaning.specs.World.{Log, World}
 use Rattle.ctl_meaning.specs.Lists.{item_or}
 use Rattle.ctl_meaning.specs.Choice.{Ask}
 use Rattle.ctl_meaning.specs.Outcome.{Goes, Gives, on_some}
-use Rattle.ctl_meaning.specs.Types.{Tables, of_parent}
+use Rattle.ctl_meaning.specs.Types.{of_parent}
 use Rattle.ctl_meaning.specs.Names.{Call, gone}
 use Rattle.ctl_meaning.specs.Expressions.{Valued, eval}
 use Rattle.ctl_meaning.specs.Run.{Meaning, row_of, own_defaults, defaults_from, default_at, default_in, expression_tools}
@@ -17,11 +16,11 @@ use Rattle.ctl_gen.specs.declared.right.Right.{Right}
 use Rattle.ctl_gen.specs.declared.right.Right.TheVariants as RightOf
 use Rattle.ctl_gen.specs.Values.{value_code}
 use Rattle.ctl_gen.specs.Records.{extends_bare, has_no_components, has_no_parent, is_bare}
-use Rattle.ctl_gen.specs.Defaults.{constant_by, constant_in, constant_of, have_constants, may_default}
-use Rattle.ctl_gen.proofs.Known.{both_true, components_if, parent_if, IsPlain}
+use Rattle.ctl_gen.specs.Defaults.{constant_by, constant_in, have_constants, may_default}
+use Rattle.ctl_gen.proofs.Known.{both_true, components_if, parent_if}
 use Rattle.ctl_gen.proofs.Setting.{ArePlaced}
 use Rattle.ctl_gen.proofs.Evaluated.{value_since}
-use Rattle.ctl_gen.proofs.Defaults.{GivesConstant, GivesDefaults}
+use Rattle.ctl_gen.proofs.Defaults.{GivesDefaults}
 
 -- Rows ------------------------------------------------------------------------------------------
 
