@@ -120,7 +120,7 @@ module _ (ask : Ask) (k : Tables) (code : Code) (setting : Setting k code) (call
 
   -- an object that is not controlled has none
   none_is : IsUntagged r → (n m c : ℕ) (l : Log) (w0 w : World) → bind (own_initialize K (whole n) t [] c l w) (on_goes (begun K (birth_of (Declared m) w0) (whole n) t)) ≡ Gives (Goes tt) 0 c l w
-  unfolding opened_initialization opened_outcome
+  unfolding opened_initialization opened_finalization opened_outcome
   none_is untagged n m c l w0 w = ap (λ b. bind (either b (attempt (call_operation K (whole n) (operation (λ x. x.initialize) k t) (starts n)) >>= begin_next [] begun_with []) (begun_with []) c l w) (on_goes (λ x. on_some x.failure (when b (lives K (birth_of (Declared m) w0) (whole n) t)) (clean_up K (whole n) t x.paths)))) (not_controlled_plain k t r here plain.flat untagged)
 
   declare_is : (m slot c : ℕ) (l : Log) (w : World) → declare Composite K m slot (Record t) None c l w ≡ standing w.ledger.next_object m (initialize K (birth_of (Declared m) w) (whole w.ledger.next_object) (Record t) c l (set_slot m slot (holding (Holds w.ledger.next_object)) (create (Record t) (replicate (size_of code t) 0) (Declared m) w)))

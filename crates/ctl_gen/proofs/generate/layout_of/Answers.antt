@@ -42,6 +42,7 @@ returns c =
     let below = c.loop-offset.auto.offset-end in
     let rest : drop i cs ≡ [] = drop_all i cs above in
     record {
+      parts = refl;
       cells = refl;
       offsets = c.loop-offset.invariant.0 ∙ ap (count_from 0) (omega (arith, above, below));
       defaulted = sym (append-nil c.loop-offset.defaulted.items) ∙ (ap (λ zs. c.loop-offset.defaulted.items ++ defaulted_from i zs) (sym rest) ∙ c.loop-offset.invariant.1);

@@ -2,6 +2,7 @@ use Rattle.std.proofs.Common.{◌≡◌, ◌+◌, List, [], ◌∷◌, ◌++◌,
 use Rattle.std.proofs.lemmas.List.{drop_all}
 use Rattle.ctl_program.specs.declared.types.RecordType.{RecordType}
 use Rattle.ctl_code.specs.declared.code.Layout.{Layout}
+use Rattle.ctl_gen.specs.Records.{parts_by}
 use Rattle.ctl_gen.specs.Layout.{AreLayouts, IsLayout}
 use Rattle.ctl_gen.proofs.Emission.{turn_of}
 use Rattle.ctl_gen.proofs.generate.layouts_of.Goals as goal
