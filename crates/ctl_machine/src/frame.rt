@@ -91,6 +91,7 @@ pub struct Master {
 /// How far the life of an owned object has come. Between its creation and its finalization it is a layer of its master (RM 7.6.1).
 #[derive(Clone, Copy)]
 pub enum Life {
+    /// not finalized, and no layer: not yet, or no more, where none of its parts is controlled and its master is left
     Created,
     Layer,
     Finalizing,
