@@ -37,7 +37,7 @@ pub struct Left {
 pub enum Frame {
     /// the statements of a master
     InMaster(After),
-    /// the layers of a master that are still to be finalized: no owned object from `next` on is one. Whether a finalization failed, and
+    /// the layers of a master that are still to be left: no owned object from `next` on is one. Whether a finalization failed, and
     /// how its statements were completed (RM 7.6.1)
     Leaving {
         failed: bool,

@@ -1,4 +1,5 @@
-//! The layers of a master: its owned objects, which are finalized one by one, the newest first (RM 7.6.1).
+//! The layers of a master: its owned objects, which are left one by one, the newest first, and finalized where some part of them is
+//! controlled (RM 7.6.1).
 
 ghost use Rattle.std.specs.Prelude.{◌≡◌, ◌<◌, [], ◌∷◌, List, IfNone, IfSome, None, Some, drop, reverse, slice_get, vec_len};
 ghost use Rattle.ctl_meaning.specs.Outcome.{Fine};
