@@ -37,7 +37,7 @@ pub struct Left {
 pub enum Frame {
     /// the statements of a master
     InMaster(After),
-    /// the layers of a master that are still to be finalized: no owned object from `next` on is one. Whether a finalization failed, and
+    /// the layers of a master that are still to be left: no owned object from `next` on is one. Whether a finalization failed, and
     /// how its statements were completed (RM 7.6.1)
     Leaving {
         failed: bool,
@@ -91,6 +91,7 @@ pub struct Master {
 /// How far the life of an owned object has come. Between its creation and its finalization it is a layer of its master (RM 7.6.1).
 #[derive(Clone, Copy)]
 pub enum Life {
+    /// not finalized, and no layer: not yet, or no more, where none of its parts is controlled and its master is left
     Created,
     Layer,
     Finalizing,

@@ -1,4 +1,5 @@
-//! The layers of a master: its owned objects, which are finalized one by one, the newest first (RM 7.6.1).
+//! The layers of a master: its owned objects, which are left one by one, the newest first, and finalized where some part of them is
+//! controlled (RM 7.6.1).
 
 ghost use Rattle.std.specs.Prelude.{◌≡◌, ◌<◌, [], ◌∷◌, List, IfNone, IfSome, None, Some, drop, reverse, slice_get, vec_len};
 ghost use Rattle.ctl_meaning.specs.Outcome.{Fine};
@@ -7,7 +8,8 @@ ghost use Rattle.ctl_code.specs.Table as Table;
 ghost use Rattle.ctl_code.specs.Valid.{IsRecord, IsValid};
 ghost use Rattle.ctl_machine.specs.declared.frame.Frame.{Frame};
 ghost use Rattle.ctl_machine.specs.declared.frame.Frame.TheVariants as FrameOf;
-ghost use Rattle.ctl_machine.specs.Departing.{Finalizes, IsFinalizeOf, IsNewestLayer, ended_life};
+ghost use Rattle.ctl_machine.specs.Departing.{IsFinalizeOf, IsNewestLayer, TakesOut, ended_life};
+ghost use Rattle.ctl_machine.specs.Initializing.{in_life};
 ghost use Rattle.ctl_machine.specs.Masters.{layers_from, rising_layers};
 ghost use Rattle.ctl_machine.specs.Moves.{BeforeResuming, Makes};
 ghost use Rattle.ctl_machine.specs.Shows as Shows;
@@ -91,15 +93,15 @@ impl Engine {
         None
     }
 
-    /// Finalizes the object at this place at once, the newest layer of the master that is left so: the user wrote no Finalize for its
-    /// type, so nothing is executed (RM 7.6.1).
-    pub(crate) fn finalize_at_once(&mut self, departure: Departure, at: usize)
+    /// Takes the object at this place out of the layers of the master that is left so, of which it is the newest, and leaves it in this
+    /// life: nothing is executed for it (RM 7.6.1).
+    pub(crate) fn take_out(&mut self, departure: Departure, at: usize, life: Life)
         ghost o: { Owned }
         requires found { slice_get self.old.owned.items at ≡ Some o }
         requires waiting { 0 < vec_len self.old.control }
-        ensures { Finalizes self.old self.new departure.failed departure.pending departure.after at o }
+        ensures { TakesOut self.old self.new departure.failed departure.pending departure.after at (in_life life o) }
     {
-        self.owned[at].life = Life::Finalized;
+        self.owned[at].life = life;
         replace_top(&mut self.control, departure.frame(at));
         self.mode = Mode::Giving(Ended::Complete);
     }

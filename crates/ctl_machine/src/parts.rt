@@ -6,10 +6,10 @@ ghost use Rattle.ctl_meaning.specs.Names.{scalar_of};
 ghost use Rattle.ctl_meaning.specs.Objects.{cells_at};
 ghost use Rattle.ctl_code.specs.Table as Table;
 ghost use Rattle.ctl_machine.specs.Masters.{object_of};
-ghost use Rattle.ctl_machine.specs.Parts as Parts;
+ghost use Rattle.ctl_machine.specs.Parts as Cells;
 
 use crate::frame::Owned;
-use ctl_code::code::{Code, Defaulted};
+use ctl_code::code::{Code, Defaulted, Parts};
 
 /// Answers how many cells an object of a record type has; none where the code knows no such type.
 pub(crate) fn size_of(code: &Code, record: usize) -> usize
@@ -18,6 +18,16 @@ pub(crate) fn size_of(code: &Code, record: usize) -> usize
     match code.layouts.as_slice().get(record) {
         Some(layout) => layout.cells,
         None => 0,
+    }
+}
+
+/// Answers whether some part of the objects of a record type is controlled (RM 7.6.1); none where the code knows no such type.
+pub(crate) fn parts_of(code: &Code, record: usize) -> Parts
+    ensures { result ≡ Table.parts_of code.now «record» }
+{
+    match code.layouts.as_slice().get(record) {
+        Some(layout) => layout.parts,
+        None => Parts::Plain,
     }
 }
 
@@ -75,7 +85,7 @@ pub(crate) fn add_zeros(parts: &mut Vec<u64>, count: usize)
 
 /// Answers where the cells of the objects from this place on begin; where there is none, all cells end here.
 pub(crate) fn first_part(owned: &[Owned], at: usize, end: usize) -> usize
-    ensures { result ≡ Parts.first_part (drop at owned.now) end }
+    ensures { result ≡ Cells.first_part (drop at owned.now) end }
 {
     match owned.get(at) {
         Some(object) => object.first,
@@ -97,7 +107,7 @@ pub(crate) fn read_part(parts: &[u64], object: &Owned, offset: usize) -> u64
 /// Writes a cell of an object; nothing where the object has no such cell.
 pub(crate) fn write_part(parts: &mut [u64], object: &Owned, offset: usize, value: u64)
     requires { object.now.first + object.now.cells ≤ length parts.old }
-    ensures { parts.new ≡ Parts.part_written object.now offset value parts.old }
+    ensures { parts.new ≡ Cells.part_written object.now offset value parts.old }
 {
     if offset < object.cells {
         parts[object.first + offset] = value;

@@ -2,7 +2,7 @@
 
 use crate::lines::{CELL_3, Line};
 use crate::machine::{FAREWELL, printed, valid_code_with};
-use ctl_code::code::{Defaulted, Instr, Layout};
+use ctl_code::code::{Defaulted, Instr, Layout, Parts};
 use ctl_code::valid::ValidCode;
 use ctl_machine::machine::Machine;
 use ctl_machine::outcome::{Outcome, Progress};
@@ -88,13 +88,14 @@ const DEFAULTS: [Defaulted; 3] = [
     },
 ];
 
-/// The code of these lines, where so many of the components, the first ones, have defaults.
-fn code_with_defaults(alloc: Global, count: usize) -> Result<ValidCode, Fail> {
+/// The code of these lines, where objects have such parts, and so many of the components, the first ones, have defaults.
+fn code_with_defaults(alloc: Global, parts: Parts, count: usize) -> Result<ValidCode, Fail> {
     let mut defaulted = Vec::new(alloc);
     for component in DEFAULTS.iter().take(count) {
         defaulted.push(*component)?;
     }
     let layout = Layout {
+        parts,
         cells: 3,
         offsets: vec![in alloc; 0, 1, 2]?,
         defaulted,
@@ -117,7 +118,7 @@ fn outcome_of(
 #[test]
 fn the_order_chooses_among_the_components_that_are_left(rt: HostRuntime) -> Result<(), Fail> {
     let alloc = rt.alloc();
-    let code = code_with_defaults(alloc, 3)?;
+    let code = code_with_defaults(alloc, Parts::Controlled, 3)?;
     let orders: [(Order, &[u64]); 2] = [(Order::Newest, &[2, 1]), (Order::Oldest, &[0, 0])];
     for (order, picks) in orders {
         let outcome = outcome_of(alloc, &code, order, 1000)?;
@@ -131,7 +132,7 @@ fn the_order_chooses_among_the_components_that_are_left(rt: HostRuntime) -> Resu
 #[test]
 fn one_component_is_no_choice(rt: HostRuntime) -> Result<(), Fail> {
     let alloc = rt.alloc();
-    let code = code_with_defaults(alloc, 1)?;
+    let code = code_with_defaults(alloc, Parts::Controlled, 1)?;
     for order in [Order::Newest, Order::Oldest] {
         let outcome = outcome_of(alloc, &code, order, 1000)?;
         assert_eq!(rt; outcome.picks.len(), 0);
@@ -144,7 +145,7 @@ fn one_component_is_no_choice(rt: HostRuntime) -> Result<(), Fail> {
 #[test]
 fn each_component_costs_a_step(rt: HostRuntime) -> Result<(), Fail> {
     let alloc = rt.alloc();
-    let code = code_with_defaults(alloc, 3)?;
+    let code = code_with_defaults(alloc, Parts::Controlled, 3)?;
     let mut machine = Machine::new(alloc, &code, Order::Newest)?;
     assert_eq!(rt; machine.run(4), Progress::Running);
     let outcome = machine.finish();
@@ -156,11 +157,24 @@ fn each_component_costs_a_step(rt: HostRuntime) -> Result<(), Fail> {
     Ok(())
 }
 
+/// The machine goes by the layout: after the birth of the object there are only the three lines, and nothing that the Finalize prints.
+#[test]
+fn an_object_without_a_controlled_part_is_not_finalized(rt: HostRuntime) -> Result<(), Fail> {
+    let alloc = rt.alloc();
+    let code = code_with_defaults(alloc, Parts::Plain, 3)?;
+    let outcome = outcome_of(alloc, &code, Order::Newest, 1000)?;
+    assert!(rt; matches!(&outcome.end, End::Done));
+    assert_eq!(rt; outcome.events.len(), 7);
+    let bytes = printed(alloc, &outcome)?;
+    assert_eq!(rt; bytes.as_slice(), b" 10\n 20\n 30\n".as_slice());
+    Ok(())
+}
+
 /// Where `rt try --test --fail-alloc N` refuses one of the machine's growths, the outcome is that of the steps before it.
 #[test]
 fn a_refused_step_changes_nothing(rt: HostRuntime) -> Result<(), Fail> {
     let alloc = rt.alloc();
-    let code = code_with_defaults(alloc, 3)?;
+    let code = code_with_defaults(alloc, Parts::Controlled, 3)?;
     let outcome = outcome_of(alloc, &code, Order::Oldest, 1000)?;
     if matches!(&outcome.end, End::HostMemory) {
         let before = outcome_of(alloc, &code, Order::Oldest, outcome.steps)?;

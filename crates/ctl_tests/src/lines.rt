@@ -1,6 +1,6 @@
 //! What the codes of the tests are written with: cells, operators, and lines of an instruction with what stands before it.
 
-use ctl_code::code::{Cell, Instr, Layout, Named, Operator};
+use ctl_code::code::{Cell, Instr, Layout, Named, Operator, Parts};
 use ctl_code::kinds::{Kind, KindNotes};
 use ctl_program::operators::BinaryOp;
 use ctl_program::types::Ty;
@@ -145,9 +145,10 @@ pub fn instructions_of(alloc: Global, lines: &[Line]) -> Result<Vec<Instr>, Allo
     Ok(instructions)
 }
 
-/// The layout of each record type of the tests: two components of one cell each, without defaults.
+/// The layout of each record type of the tests, whose objects are finalized: two components of one cell each, without defaults.
 pub fn layout_of_two(alloc: Global) -> Result<Layout, AllocError> {
     Ok(Layout {
+        parts: Parts::Controlled,
         cells: 2,
         offsets: vec![in alloc; 0, 1]?,
         defaulted: Vec::new(alloc),

@@ -550,6 +550,15 @@ fn texts_of(alloc: Global) -> Result<Vec<Template>, AllocError> {
     Ok(texts)
 }
 
+/// The layouts of so many record types, of which the first has this one.
+fn layouts_of(alloc: Global, first: Layout, count: usize) -> Result<Vec<Layout>, AllocError> {
+    let mut layouts = vec![in alloc; first]?;
+    for _ in 1..count {
+        layouts.push(layout_of_two(alloc)?)?;
+    }
+    Ok(layouts)
+}
+
 /// The code of these lines: the main procedure stands behind the first of them, and at each of these places the Finalize of a record
 /// type. The first record type has this layout.
 fn code_with(
@@ -585,7 +594,7 @@ fn code_with(
         room,
         entries,
         records,
-        layouts: vec![in alloc; layout]?,
+        layouts: layouts_of(alloc, layout, finalizers.len())?,
         texts: texts_of(alloc)?,
         exceptions: vec![in alloc; Text::from_slice(alloc, b"CONSTRAINT_ERROR")?]?,
     })
