@@ -92,7 +92,7 @@ const COMPONENTS_TRACE: &str =
 /// Components with defaults: each takes its own before the object's Initialize is called, and an object without one comes to life after them
 /// (RM 3.8, 7.6).
 const DEFAULTS: &[u8] =
-    b"with Ada.Finalization; use Ada.Finalization; with Ada.Text_IO; use Ada.Text_IO; procedure Main is type A is new Controlled with record N : Integer := 4; B : Boolean; C : Boolean := True; M : Integer := 7; end record; overriding procedure Initialize (X : in out A); overriding procedure Finalize (X : in out A); procedure Initialize (X : in out A) is begin Put_Line (\"i\" & Integer'Image (X.N) & Boolean'Image (X.B) & Boolean'Image (X.C) & Integer'Image (X.M)); X.N := 5; end Initialize; procedure Finalize (X : in out A) is begin Put_Line (\"f\" & Integer'Image (X.N)); end Finalize; type D is new Limited_Controlled with record N : Integer := 2; end record; V : A; W : D; begin Put_Line (Integer'Image (V.M + W.N)); end Main;";
+    b"with Ada.Finalization; use Ada.Finalization; with Ada.Text_IO; use Ada.Text_IO; procedure Main is type A is new Controlled with record N : Integer := 4; B : Boolean; C : Boolean := True; M : Integer := 7; end record; type D is new Limited_Controlled with record N : Integer := 2; end record; overriding procedure Initialize (X : in out A); overriding procedure Finalize (X : in out A); procedure Initialize (X : in out A) is begin Put_Line (\"i\" & Integer'Image (X.N) & Boolean'Image (X.B) & Boolean'Image (X.C) & Integer'Image (X.M)); X.N := 5; end Initialize; procedure Finalize (X : in out A) is begin Put_Line (\"f\" & Integer'Image (X.N)); end Finalize; V : A; W : D; begin Put_Line (Integer'Image (V.M + W.N)); end Main;";
 
 const DEFAULTS_TRACE: &str =
     "initialize 1\nprint i 4FALSETRUE 7\nnewline\nlive 1 m1\nprint  9\nnewline\nfinalize 1 scope\nprint f 5\nnewline\nend done\n";
@@ -115,7 +115,7 @@ fn traces_of_runs(rt: HostRuntime) -> Result<(), Fail> {
         (EMPTY, 1000, "end done\n"),
         (EMPTY, 0, "end limit\n"),
         (TWO_OBJECTS, 1000, TWO_OBJECTS_TRACE),
-        (ENDLESS, 2, "live 1 m1\nend limit\n"),
+        (ENDLESS, 3, "live 1 m1\nend limit\n"),
         (EXIT, 1000, EXIT_TRACE),
         (OVERFLOW, 1000, OVERFLOW_TRACE),
         (COUNTED, 1000, COUNTED_TRACE),
