@@ -240,9 +240,7 @@ fn is_root_run(entry: &RecordType) -> bool
 fn is_plain(records: &[RecordType], entry: &RecordType) -> bool
     ensures { result ≡ defaults.is_plain records.now (Some entry.now) }
 {
-    is_root_run(entry)
-        && is_flat(records, entry)
-        && have_constants(entry.own.as_slice(), records)
+    is_root_run(entry) && is_flat(records, entry) && have_constants(entry.own.as_slice(), records)
 }
 
 /// Tells whether objects of a type are run.
