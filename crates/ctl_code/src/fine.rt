@@ -93,6 +93,7 @@ fn is_declarable(code: &Code, masters: usize, number: usize) -> bool
         Some(operations) => {
             is_in_scope(code, masters, operations.initialize)
                 && is_in_scope(code, masters, operations.finalize)
+                && is_in_scope(code, masters, operations.adjust)
         }
         None => false,
     }
@@ -437,6 +438,16 @@ fn is_declare_fine(code: &Code, place: usize, number: usize) -> bool
     is_declarable(code, code.kinds.depth_at(place), number) && leads_on(code, place, 0, None)
 }
 
+/// Checks the declaration of an object with the value of another one, whose number stands in this cell (RM 3.3.1).
+fn is_copy_fine(code: &Code, place: usize, number: usize, at: usize) -> bool
+    requires { place + 1 < 2 ^ 64 }
+    ensures { let stack = stack_at code.now.kinds place in
+        IsTrue result ↔ (IsDeclarable code.now (depth stack) number × DropsObject code.now place at number stack) }
+{
+    is_declarable(code, code.kinds.depth_at(place), number)
+        && drops_object(code, place, 0, at, number)
+}
+
 /// Checks an operator with two operands (RM 4.5).
 fn is_binary_fine(code: &Code, place: usize, instr: &Instr) -> bool
     requires { place + 1 < 2 ^ 64 }
@@ -499,6 +510,7 @@ pub fn is_fine(code: &Code, place: usize, instr: &Instr) -> bool
         Instr::Leave => is_at_end(code, place),
         Instr::Transfer(way) => is_transfer_fine(code, place, way),
         Instr::Declare { slot: _, record } => is_declare_fine(code, place, record),
+        Instr::DeclareCopy { record, at, .. } => is_copy_fine(code, place, record, at),
         Instr::Number | Instr::NewLine => leads_on(code, place, 0, None),
         Instr::Set { value, ty, to } => is_cell_of(ty, value) && puts(code, place, 0, to, ty),
         Instr::Move { from, ty, to } => is_scalar(ty) && passes(code, place, 0, from, ty, to, ty),

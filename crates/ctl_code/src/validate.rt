@@ -53,10 +53,13 @@ fn may_be_entry(code: &Code, number: Option<usize>) -> bool
 
 /// Tells whether each operation of a record type has a body (RM 7.6).
 fn are_records_fine(code: &Code) -> bool
-    ensures { IsTrue result ↔ ((t : ℕ) (o : Operations) → slice_get code.now.records.items t ≡ Some o → MayBeEntry code.now o.initialize × MayBeEntry code.now o.finalize) }
+    ensures { IsTrue result ↔ ((t : ℕ) (o : Operations) → slice_get code.now.records.items t ≡ Some o → MayBeEntry code.now o.initialize × MayBeEntry code.now o.finalize × MayBeEntry code.now o.adjust) }
 {
     for operations in &code.records {
-        if !may_be_entry(code, operations.initialize) || !may_be_entry(code, operations.finalize) {
+        if !may_be_entry(code, operations.initialize)
+            || !may_be_entry(code, operations.finalize)
+            || !may_be_entry(code, operations.adjust)
+        {
             return false;
         }
     }
@@ -78,10 +81,13 @@ fn takes_object(code: &Code, number: Option<usize>) -> bool
 
 /// Tells whether each operation of a record type has a slot for its object (RM 7.6).
 fn are_formals_fine(code: &Code) -> bool
-    ensures { IsTrue result ↔ ((t : ℕ) (o : Operations) → slice_get code.now.records.items t ≡ Some o → TakesObject code.now o.initialize × TakesObject code.now o.finalize) }
+    ensures { IsTrue result ↔ ((t : ℕ) (o : Operations) → slice_get code.now.records.items t ≡ Some o → TakesObject code.now o.initialize × TakesObject code.now o.finalize × TakesObject code.now o.adjust) }
 {
     for operations in &code.records {
-        if !takes_object(code, operations.initialize) || !takes_object(code, operations.finalize) {
+        if !takes_object(code, operations.initialize)
+            || !takes_object(code, operations.finalize)
+            || !takes_object(code, operations.adjust)
+        {
             return false;
         }
     }

@@ -5,4 +5,4 @@ use Rattle.ctl_code.specs.Valid.{TakesObject}
 use Rattle.ctl_code.proofs.validate.are_formals_fine.Given as goal
 
 abbrev pub invariant-loop-operations : goal.invariant-loop-operations
-invariant-loop-operations l = (t : ℕ) (o : Operations) → t < l.operations-index → slice_get l.code.records.items t ≡ Some o → TakesObject l.code o.initialize × TakesObject l.code o.finalize
+invariant-loop-operations l = (t : ℕ) (o : Operations) → t < l.operations-index → slice_get l.code.records.items t ≡ Some o → TakesObject l.code o.initialize × TakesObject l.code o.finalize × TakesObject l.code o.adjust

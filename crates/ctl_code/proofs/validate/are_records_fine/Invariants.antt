@@ -5,4 +5,4 @@ use Rattle.ctl_code.specs.Valid.{MayBeEntry}
 use Rattle.ctl_code.proofs.validate.are_records_fine.Given as goal
 
 abbrev pub invariant-loop-operations : goal.invariant-loop-operations
-invariant-loop-operations l = (t : ℕ) (o : Operations) → t < l.operations-index → slice_get l.code.records.items t ≡ Some o → MayBeEntry l.code o.initialize × MayBeEntry l.code o.finalize
+invariant-loop-operations l = (t : ℕ) (o : Operations) → t < l.operations-index → slice_get l.code.records.items t ≡ Some o → MayBeEntry l.code o.initialize × MayBeEntry l.code o.finalize × MayBeEntry l.code o.adjust
