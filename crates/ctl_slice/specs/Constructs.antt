@@ -20,9 +20,9 @@ use Rattle.ctl_slice.specs.declared.construct.Support.TheVariants.{Run, LeftOut}
 abbrev pub support_when : Bool → Support
 support_when is_run = if is_run then Run else LeftOut
 
--- Initialize and Finalize of a controlled type (7.6)
+-- Initialize, Adjust and Finalize of a controlled type (7.6)
 abbrev pub of_heading : Specification Definition Use → Support
-of_heading s = support_when (same_name s.name.identifier.text (codes "initialize") || same_name s.name.identifier.text (codes "finalize"))
+of_heading s = support_when (same_name s.name.identifier.text (codes "initialize") || (same_name s.name.identifier.text (codes "adjust") || same_name s.name.identifier.text (codes "finalize")))
 
 -- Controlled or Limited_Controlled (7.6)
 abbrev pub is_controlled : Denoted → Bool
@@ -33,10 +33,6 @@ is_controlled d = false
 abbrev pub is_empty : {A : Type 0} → List A → Bool
 is_empty [] = true
 is_empty (x ∷ xs) = false
-
-abbrev pub is_absent : {A : Type 0} → Option A → Bool
-is_absent None = true
-is_absent (Some a) = false
 
 -- Integer or Boolean (3.5.3, 3.5.4)
 abbrev pub is_scalar : Denoted → Bool
@@ -78,13 +74,13 @@ of_type (Record limitation components) = support_when (are_plain components)
 of_type (Extension parent added) = support_when (are_plain added && is_controlled parent.first.denoted)
 of_type d = LeftOut
 
--- objects of this type, with these discriminants and this value: of a type of the text without either, and of a scalar one (3.3.1)
-abbrev pub of_objects_as : Denoted → List (Association Use) → Option (Expression Use) → Support
-of_objects_as (Declared number level) discriminants value = support_when (is_empty discriminants && is_absent value)
-of_objects_as d discriminants value = support_when (is_scalar d)
+-- objects of this type, with these discriminants: of a type of the text without any, and of a scalar one (3.3.1)
+abbrev pub of_objects_as : Denoted → List (Association Use) → Support
+of_objects_as (Declared number level) discriminants = support_when (is_empty discriminants)
+of_objects_as d discriminants = support_when (is_scalar d)
 
 abbrev pub of_objects : Objects Definition Use → Support
-of_objects o = of_objects_as o.mark.first.denoted o.discriminants o.value
+of_objects o = of_objects_as o.mark.first.denoted o.discriminants
 
 -- calls of Put, Put_Line and New_Line (A.10.7)
 abbrev pub is_output : Denoted → Bool

@@ -26,12 +26,14 @@ fn support_when(is_run: bool) -> Support
     }
 }
 
-/// Judges a heading: Initialize and Finalize of a controlled type are run (RM 7.6).
+/// Judges a heading: Initialize, Adjust and Finalize of a controlled type are run (RM 7.6).
 pub(crate) fn of_heading(heading: &Specification<Definition, Use>) -> Support
     ensures { result ≡ spec.of_heading heading.now }
 {
     let name = heading.name.identifier.text.as_bytes();
-    let is_run = is_same_name(name, b"initialize") || is_same_name(name, b"finalize");
+    let is_run = is_same_name(name, b"initialize")
+        || is_same_name(name, b"adjust")
+        || is_same_name(name, b"finalize");
     support_when(is_run)
 }
 
@@ -115,13 +117,13 @@ fn is_scalar(denoted: Denoted) -> bool
     )
 }
 
-/// Judges objects: scalar ones are run, and others of a declared type without a value (RM 3.3.1).
+/// Judges objects: scalar ones are run, and others of a declared type without discriminants (RM 3.3.1).
 pub(crate) fn of_objects(objects: &Objects<Definition, Use>) -> Support
     ensures { result ≡ spec.of_objects objects.now }
 {
     match objects.mark.first.denoted {
         Denoted::Declared(_, _) => {
-            support_when(objects.discriminants.as_slice().is_empty() && objects.value.is_none())
+            support_when(objects.discriminants.as_slice().is_empty())
         }
         denoted => support_when(is_scalar(denoted)),
     }
