@@ -22,6 +22,8 @@ pub mod Finalized
 pub mod Tops
 pub mod Called
 pub mod Frames
+pub mod Copied
+pub mod CopyDeclared
 pub mod Created
 pub mod Leaves
 pub mod Steps

@@ -1,18 +1,20 @@
 //! Objects of record types are declared (RM 3.3.1).
 
-ghost use Rattle.std.specs.Prelude.{◌≡◌, ◌+◌, ◌-◌, ◌^◌, ◌<◌, ◌≤◌, OnErr, OnOk, Some, length, vec_capacity, vec_len};
+ghost use Rattle.std.specs.Prelude.{◌≡◌, ◌+◌, ◌-◌, ◌^◌, ◌<◌, ◌≤◌, [], ◌++◌, OnErr, OnOk, Some, length, vec_capacity, vec_len};
 ghost use Rattle.ctl_code.specs.declared.code.Instr.TheVariants as InstrOf;
 ghost use Rattle.ctl_code.specs.Table as Table;
 ghost use Rattle.ctl_code.specs.States.{State};
 ghost use Rattle.ctl_code.specs.Valid.{IsValid};
 ghost use Rattle.ctl_machine.specs.Moves.{Before, GoesOn, Makes, here_of};
 ghost use Rattle.ctl_machine.specs.Shows.{kept};
-ghost use Rattle.ctl_machine.specs.Declaring.{with_object};
+ghost use Rattle.ctl_machine.specs.Declaring.{with_row};
 
 use crate::engine::Engine;
 use crate::frame::{Ended, Frame, Left, Life, Master, Mode, Owned};
-use crate::parts::{add_zeros, count_defaulted, size_of};
-use ctl_code::code::Code;
+use crate::holders::find;
+use crate::parts::{add_copy, add_zeros, count_defaulted, size_of};
+use ctl_code::code::{Beginning, Cell, Code, Named};
+use ctl_tree::ending::Stop;
 use std::alloc::AllocError;
 
 impl Engine {
@@ -30,14 +32,15 @@ impl Engine {
         Ok(())
     }
 
-    /// Creates an object of the newest master with so many cells, for which there is room, and clears the cell of its slot (RM 3.3.1).
+    /// Creates an object of the newest master with so many cells, for which there is room and which are still to be added, and clears the
+    /// cell of its slot (RM 3.3.1).
     fn create(&mut self, newest: Master, slot: usize, record: usize, size: usize)
         requires room { vec_len self.old.owned < vec_capacity self.old.owned }
-        requires parts { vec_len self.old.parts + size ≤ vec_capacity self.old.parts }
         requires number { self.old.given_objects + 1 < 2 ^ 64 }
         requires cell { slot < newest.slots → newest.base + slot < length self.old.cells.items }
-        ensures kept { kept self.new ≡ with_object newest slot «record» size (kept self.old) }
+        ensures kept { kept self.new ≡ with_row newest slot «record» size [] (kept self.old) }
         ensures masters { self.new.masters ≡ self.old.masters }
+        ensures parts { self.new.parts ≡ self.old.parts }
         ensures control { self.new.control ≡ self.old.control }
         ensures events { self.new.events ≡ self.old.events }
         ensures picks { self.new.picks ≡ self.old.picks }
@@ -52,7 +55,6 @@ impl Engine {
             cells: size,
             life: Life::Created,
         });
-        add_zeros(&mut self.parts, size);
         if slot < newest.slots {
             self.cells[newest.base + slot] = 0;
         }
@@ -80,12 +82,55 @@ impl Engine {
         let size = size_of(code, record);
         self.reserve_object(size)?;
         self.create(newest, slot, record, size);
+        add_zeros(&mut self.parts, size);
         let left = Left {
             first: 0,
             last: count_defaulted(code, record),
         };
         self.control.push_reserved(Frame::Filling {
+            how: Beginning::ByDefault,
             left,
+            place: place + 1,
+        });
+        self.mode = Mode::Giving(Ended::Complete);
+        Ok(())
+    }
+
+    /// Declares an object of a record type with the value of the object whose number is the newest operand, in this cell (RM 3.3.1): it is
+    /// created and takes the value, and its Adjust is to come (RM 7.6). Where there is no such object, the program is erroneous
+    /// (RM 13.11.2). Unchanged where memory is refused.
+    #[inline(never)]
+    pub(crate) fn declare_copy(
+        &mut self,
+        code: &Code,
+        slot: usize,
+        record: usize,
+        at: usize,
+        place: usize,
+    ) -> Result<(), AllocError>
+        ghost s: { State }
+        requires valid { IsValid code.now }
+        requires before { Before code.now self.old place (InstrOf.DeclareCopy slot «record» at) s }
+        requires place { place + 1 < 2 ^ 64 }
+        requires objects { self.old.given_objects + 1 < 2 ^ 64 }
+        ensures ok { OnOk result (Makes code.now self.old self.new (Table.by_instr code.now (Some (InstrOf.DeclareCopy slot «record» at)) s.operands (here_of place s))) }
+        ensures err { OnErr result (GoesOn self.old self.new self.old.mode self.old.cells.items) }
+    {
+        let newest = self.newest();
+        let named = Named::Operand;
+        let number = self.take(&Cell { at, named });
+        let Some(found) = find(self.owned.as_slice(), number) else {
+            self.mode = Mode::Stopped(Stop::UseAfterFree);
+            return Ok(());
+        };
+        let source = self.owned[found];
+        let size = size_of(code, record);
+        self.reserve_object(size)?;
+        self.create(newest, slot, record, size);
+        add_copy(&mut self.parts, &source, size);
+        self.control.push_reserved(Frame::Filling {
+            how: Beginning::ByCopy,
+            left: Left { first: 0, last: 0 },
             place: place + 1,
         });
         self.mode = Mode::Giving(Ended::Complete);

@@ -14,7 +14,7 @@ use crate::calls::replace_top;
 use crate::engine::Engine;
 use crate::frame::{Ended, Frame, Left, Mode};
 use crate::parts::{defaulted_at, write_part};
-use ctl_code::code::Code;
+use ctl_code::code::{Beginning, Code};
 use ctl_tree::request::Order;
 use std::alloc::AllocError;
 
@@ -82,12 +82,13 @@ impl Engine {
         &mut self,
         code: &Code,
         order: Order,
+        how: Beginning,
         left: Left,
         place: usize,
     ) -> Result<(), AllocError>
         ghost s: { State }
         requires before { BeforeResuming code.now self.old s }
-        requires top { (fs : List Frame) × (reverse self.old.control.items ≡ FrameOf.Filling left place ∷ fs) }
+        requires top { (fs : List Frame) × (reverse self.old.control.items ≡ FrameOf.Filling how left place ∷ fs) }
         requires some { left.first < left.last }
         ensures ok { OnOk result ((ended : Tried Handed) → Resumes code.now self.old self.new order ended s) }
         ensures err { OnErr result (GoesOn self.old self.new self.old.mode self.old.cells.items) }
@@ -106,6 +107,7 @@ impl Engine {
         replace_top(
             &mut self.control,
             Frame::Filling {
+                how,
                 left: chosen.rest,
                 place,
             },
@@ -114,26 +116,28 @@ impl Engine {
         Ok(())
     }
 
-    /// Goes on with the newest owned object, of which these components are left: one of them, by the order, takes its default, or else the
-    /// object is initialized, and its declaration goes on at this place (RM 7.6); unchanged where memory is refused.
+    /// Goes on with the newest owned object, which begins so, and of which these components are left: one of them, by the order, takes its
+    /// default, or else the object is initialized or adjusted, and its declaration goes on at this place (RM 7.6); unchanged where memory
+    /// is refused.
     pub(crate) fn resume_filling(
         &mut self,
         code: &Code,
         order: Order,
+        how: Beginning,
         left: Left,
         place: usize,
     ) -> Result<(), AllocError>
         ghost s: { State }
         requires valid { IsValid code.now }
         requires before { BeforeResuming code.now self.old s }
-        requires top { (fs : List Frame) × (reverse self.old.control.items ≡ FrameOf.Filling left place ∷ fs) }
+        requires top { (fs : List Frame) × (reverse self.old.control.items ≡ FrameOf.Filling how left place ∷ fs) }
         requires number { self.old.given_masters + 1 < 2 ^ 64 }
         ensures ok { OnOk result ((ended : Tried Handed) → Resumes code.now self.old self.new order ended s) }
         ensures err { OnErr result (GoesOn self.old self.new self.old.mode self.old.cells.items) }
     {
         if left.first == left.last {
-            return self.initialize(code, place);
+            return self.initialize(code, how, place);
         }
-        self.fill(code, order, left, place)
+        self.fill(code, order, how, left, place)
     }
 }

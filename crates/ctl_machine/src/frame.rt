@@ -1,6 +1,6 @@
 //! Where the machine is, what waits on the control stack, the active masters, and the objects that they own.
 
-use ctl_code::code::Way;
+use ctl_code::code::{Beginning, Way};
 use ctl_tree::ending::Stop;
 
 /// How the statements of a master are completed (RM 7.6.1).
@@ -45,14 +45,18 @@ pub enum Frame {
         after: After,
         next: usize,
     },
-    /// the components of the newest owned object that are still to take their defaults, and the place where its declaration goes on
-    /// (RM 3.8, 7.6)
+    /// how the newest owned object begins, its components that are still to take their defaults, and the place where its declaration
+    /// goes on (RM 3.8, 7.6)
     Filling {
+        how: Beginning,
         left: Left,
         place: usize,
     },
-    /// the Initialize of the newest owned object, and the place where its declaration goes on (RM 7.6)
-    Initializing(usize),
+    /// the Initialize of the newest owned object, or its Adjust, and the place where its declaration goes on (RM 7.6)
+    Initializing {
+        how: Beginning,
+        place: usize,
+    },
     /// the Finalize of an owned object, by its place
     Finalizing(usize),
 }

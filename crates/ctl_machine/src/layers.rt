@@ -20,7 +20,7 @@ use crate::frame::{Completion, Ended, Life, Master, Mode, Owned};
 use ctl_code::code::{Code, Entry, Way};
 
 /// The number of Program_Error in the table of exceptions (RM 11.1).
-const PROGRAM_ERROR: usize = 1;
+pub(crate) const PROGRAM_ERROR: usize = 1;
 
 impl Life {
     /// Answers how far the life has come where a finalization has ended.

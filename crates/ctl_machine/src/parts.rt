@@ -83,6 +83,18 @@ pub(crate) fn add_zeros(parts: &mut Vec<u64>, count: usize)
     }
 }
 
+/// Adds the first cells of an object again, so many, for which there is room; one that the object does not have counts as 0.
+pub(crate) fn add_copy(parts: &mut Vec<u64>, source: &Owned, count: usize)
+    requires room { vec_len parts.old + count ≤ vec_capacity parts.old }
+    requires source { source.now.first + source.now.cells ≤ vec_len parts.old }
+    ensures { parts.new.items ≡ parts.old.items ++ cells_at 0 count (object_of parts.old.items source.now) }
+{
+    for at in 0..count {
+        let value = read_part(parts.as_slice(), source, at);
+        parts.push_reserved(value);
+    }
+}
+
 /// Answers where the cells of the objects from this place on begin; where there is none, all cells end here.
 pub(crate) fn first_part(owned: &[Owned], at: usize, end: usize) -> usize
     ensures { result ≡ Cells.first_part (drop at owned.now) end }

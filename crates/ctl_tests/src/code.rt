@@ -460,6 +460,7 @@ fn code_of(
         records: vec![in alloc;
             Operations {
                 initialize: None,
+                adjust: None,
                 finalize: Some(finalize)
             },
         ]?,

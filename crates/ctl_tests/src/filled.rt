@@ -1,8 +1,8 @@
-//! Components of a declared object take their defaults, one chosen after another.
+//! Components of a declared object take their defaults, one chosen after another, or the object takes a copy of another's value.
 
-use crate::lines::{CELL_3, Line};
-use crate::machine::{FAREWELL, printed, valid_code_with};
-use ctl_code::code::{Defaulted, Instr, Layout, Parts};
+use crate::lines::{CELL_3, CELL_4, Line};
+use crate::machine::{FAREWELL, outcome_shown, printed, valid_code_with, valid_code_with_adjust};
+use ctl_code::code::{Defaulted, Instr, Layout, Parts, Way};
 use ctl_code::valid::ValidCode;
 use ctl_machine::machine::Machine;
 use ctl_machine::outcome::{Outcome, Progress};
@@ -72,6 +72,94 @@ const THREE_COMPONENTS: &[Line] = &[
     (Instr::Leave, "f"),
 ];
 
+/// Finds the object in the first slot of a block with two, whose value is to be copied.
+const LOCATE_SOURCE: Instr = Instr::Locate {
+    out: 0,
+    slot: 0,
+    record: 0,
+    at: 4,
+};
+
+/// Declares an object with its value in the second slot.
+const COPY: Instr = Instr::DeclareCopy {
+    slot: 1,
+    record: 0,
+    at: 4,
+};
+
+/// Reads the first component of the new object.
+const FETCH_COPIED_FIRST: Instr = Instr::FetchPart {
+    out: 0,
+    slot: 1,
+    record: 0,
+    position: 1,
+    ty: Ty::Integer,
+    to: CELL_4,
+};
+
+/// Reads the third one.
+const FETCH_COPIED_THIRD: Instr = Instr::FetchPart {
+    out: 0,
+    slot: 1,
+    record: 0,
+    position: 3,
+    ty: Ty::Integer,
+    to: CELL_4,
+};
+
+/// Prints the number that was read.
+const PUT_COPIED: Instr = Instr::PutLine { text: 1, first: 4 };
+
+/// Where the Adjust of the record type stands.
+const ADJUST: usize = 12;
+
+/// A block declares an object, and another one with its value, of which it prints two components; the Adjust prints a line.
+const COPIED: &[Line] = &[
+    (Instr::Start(0), ""),
+    (
+        Instr::Enter {
+            slots: 2,
+            length: 8,
+        },
+        "m",
+    ),
+    (Instr::Declare { slot: 0, record: 0 }, "m{"),
+    (LOCATE_SOURCE, "m{"),
+    (COPY, "m{r"),
+    (FETCH_COPIED_FIRST, "m{"),
+    (PUT_COPIED, "m{i"),
+    (FETCH_COPIED_THIRD, "m{"),
+    (PUT_COPIED, "m{i"),
+    (Instr::Leave, "m{"),
+    (Instr::Skip(0), "m"),
+    (Instr::Leave, "m"),
+    (FAREWELL, "f"),
+    (Instr::Leave, "f"),
+];
+
+/// Where the Adjust stands that raises.
+const RAISING: usize = 8;
+
+/// A block declares an object, and another one with its value; the Adjust raises Constraint_Error.
+const RAISED: &[Line] = &[
+    (Instr::Start(0), ""),
+    (
+        Instr::Enter {
+            slots: 2,
+            length: 4,
+        },
+        "m",
+    ),
+    (Instr::Declare { slot: 0, record: 0 }, "m{"),
+    (LOCATE_SOURCE, "m{"),
+    (COPY, "m{r"),
+    (Instr::Leave, "m{"),
+    (Instr::Skip(0), "m"),
+    (Instr::Leave, "m"),
+    (Instr::Transfer(Way::Raise(0)), "f"),
+    (Instr::Leave, "f"),
+];
+
 /// The defaults of the components.
 const DEFAULTS: [Defaulted; 3] = [
     Defaulted {
@@ -88,18 +176,23 @@ const DEFAULTS: [Defaulted; 3] = [
     },
 ];
 
-/// The code of these lines, where objects have such parts, and so many of the components, the first ones, have defaults.
-fn code_with_defaults(alloc: Global, parts: Parts, count: usize) -> Result<ValidCode, Fail> {
+/// A layout with such parts and three components, of which so many, the first ones, have defaults.
+fn layout_of_three(alloc: Global, parts: Parts, count: usize) -> Result<Layout, AllocError> {
     let mut defaulted = Vec::new(alloc);
     for component in DEFAULTS.iter().take(count) {
         defaulted.push(*component)?;
     }
-    let layout = Layout {
+    Ok(Layout {
         parts,
         cells: 3,
         offsets: vec![in alloc; 0, 1, 2]?,
         defaulted,
-    };
+    })
+}
+
+/// The code of these lines, where objects have such parts, and so many of the components, the first ones, have defaults.
+fn code_with_defaults(alloc: Global, parts: Parts, count: usize) -> Result<ValidCode, Fail> {
+    let layout = layout_of_three(alloc, parts, count)?;
     valid_code_with(alloc, THREE_COMPONENTS, &[FINALIZE], layout)
 }
 
@@ -167,6 +260,40 @@ fn an_object_without_a_controlled_part_is_not_finalized(rt: HostRuntime) -> Resu
     assert_eq!(rt; outcome.events.len(), 7);
     let bytes = printed(alloc, &outcome)?;
     assert_eq!(rt; bytes.as_slice(), b" 10\n 20\n 30\n".as_slice());
+    Ok(())
+}
+
+/// The components of the new object are not chosen among: it takes the cells of the other one, and its Adjust is called and shown.
+#[test]
+fn a_copied_object_has_the_value_of_its_source(rt: HostRuntime) -> Result<(), Fail> {
+    let alloc = rt.alloc();
+    let layout = layout_of_three(alloc, Parts::Controlled, 3)?;
+    let code = valid_code_with_adjust(alloc, COPIED, ADJUST, layout)?;
+    let outcome = outcome_of(alloc, &code, Order::Oldest, 1000)?;
+    let bytes = printed(alloc, &outcome)?;
+    assert_eq!(rt; bytes.as_slice(), b"bye\n 10\n 30\n".as_slice());
+    assert_eq!(rt; outcome.picks.as_slice(), [0, 0].as_slice());
+    let shown = outcome_shown(alloc, &outcome)?;
+    assert!(rt;
+        shown
+            .as_str()
+            .starts_with("adjust-2 print newline print newline print newline ")
+    );
+    Ok(())
+}
+
+#[test]
+fn an_adjust_that_raises_makes_program_error(rt: HostRuntime) -> Result<(), Fail> {
+    let alloc = rt.alloc();
+    let layout = layout_of_three(alloc, Parts::Controlled, 1)?;
+    let code = valid_code_with_adjust(alloc, RAISED, RAISING, layout)?;
+    let outcome = outcome_of(alloc, &code, Order::Newest, 1000)?;
+    let End::Raised(name) = &outcome.end else {
+        return Err(Fail::new("the run does not end by an exception"));
+    };
+    assert_eq!(rt; name.as_bytes(), b"PROGRAM_ERROR".as_slice());
+    let shown = outcome_shown(alloc, &outcome)?;
+    assert!(rt; shown.as_str().starts_with("adjust-2 raised "));
     Ok(())
 }
 

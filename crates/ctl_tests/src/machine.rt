@@ -578,6 +578,7 @@ fn code_with(
     for place in finalizers {
         records.push(Operations {
             initialize: None,
+            adjust: None,
             finalize: Some(entries.len()),
         })?;
         entries.push(Entry {
@@ -623,6 +624,27 @@ pub fn valid_code_with(
     validated(code_with(alloc, lines, finalizers, layout)?)
 }
 
+/// The code of these lines, which is well formed, where the first record type has this layout, and the body at this place is its Adjust.
+/// Exceptions are Constraint_Error and Program_Error.
+pub fn valid_code_with_adjust(
+    alloc: Global,
+    lines: &[Line],
+    adjust: usize,
+    layout: Layout,
+) -> Result<ValidCode, Fail> {
+    let mut code = code_with(alloc, lines, &[adjust], layout)?;
+    code.records = vec![in alloc;
+        Operations {
+            initialize: None,
+            adjust: Some(1),
+            finalize: None
+        },
+    ]?;
+    code.exceptions
+        .push(Text::from_slice(alloc, b"PROGRAM_ERROR")?)?;
+    validated(code)
+}
+
 /// The code of these lines, which is well formed.
 fn valid_code_of(alloc: Global, lines: &[Line], finalizers: &[usize]) -> Result<ValidCode, Fail> {
     validated(code_of(alloc, lines, finalizers)?)
@@ -636,13 +658,14 @@ fn event_shown(alloc: Global, event: &Event) -> Result<String, AllocError> {
         Event::Live(part, Owner::Master(master)) => {
             format!(in alloc; "live-{}-m{master}", part.object)
         }
+        Event::Adjust(part) => format!(in alloc; "adjust-{}", part.object),
         Event::Finalize(part, cause) => format!(in alloc; "finalize-{}-{cause}", part.object),
         _ => "other".to_string(alloc),
     }
 }
 
 /// What a run came to, in one line.
-fn outcome_shown(alloc: Global, outcome: &Outcome) -> Result<String, AllocError> {
+pub fn outcome_shown(alloc: Global, outcome: &Outcome) -> Result<String, AllocError> {
     let mut line = String::new(alloc);
     for event in outcome.events.as_slice() {
         let shown = event_shown(alloc, event)?;

@@ -18,7 +18,7 @@ pub defaulted_at-component-requires : goal.defaulted_at-component-requires
 defaulted_at-component-requires g c =
     let code = c.args.code.now in
     let o = c.newest_object-object.result in
-    let f = is_filling code c.args.self.now c.args.left c.args.place g.s o c.requires.0 c.requires.1.0 c.newest_object-object.ensures in
+    let f = is_filling code c.args.self.now c.args.how c.args.left c.args.place g.s o c.requires.0 c.requires.1.0 c.newest_object-object.ensures in
     let chosen = c.choose-chosen.ensures.chosen (defaulted_of code o.record) f.left f.are in
     let d : Defaulted = record { offset = 0; value = 0 } in
     slice_get_within (defaulted_of code o.record) c.choose-chosen.result.at _ (chosen.chosen d)
@@ -40,14 +40,14 @@ returns-clause-ok g c = λ ended.
     let pick = c.choose-chosen.result.pick in
     let o = c.newest_object-object.result in
     let x = c.defaulted_at-component.result in
-    let f = is_filling code old those c.args.place g.s o c.requires.0 c.requires.1.0 c.newest_object-object.ensures in
+    let f = is_filling code old c.args.how those c.args.place g.s o c.requires.0 c.requires.1.0 c.newest_object-object.ensures in
     let parts = old.parts.items in
     let row = c.write_part.new.parts in
     let written : row ≡ part_written o x.offset x.value parts = c.write_part.ensures ∙ ap (λ (l : List ℕ). part_written o x.offset x.value l) c.as_mut_slice.ensures.value in
     let long : length row ≡ length parts = ap (λ (l : List ℕ). length l) written ∙ length_part o x.offset x.value parts in
     let are : (with_items old.parts row).items ≡ row = with_items_is old.parts row (long ∙ sym old.parts.ok.0) in
-    let frame = FrameOf.Filling rest c.args.place in
-    fills_one code old _ those rest c.args.place pick c.choose-chosen.result.at g.s o x c.args.order ended c.requires.0 f c.newest_object-object.ensures c.requires.1.1 c.defaulted_at-component.ensures
+    let frame = FrameOf.Filling c.args.how rest c.args.place in
+    fills_one code old _ c.args.how those rest c.args.place pick c.choose-chosen.result.at g.s o x c.args.order ended c.requires.0 f c.newest_object-object.ensures c.requires.1.1 c.defaulted_at-component.ensures
     (c.choose-chosen.ensures.chosen (defaulted_of code o.record)) c.choose-chosen.ensures.pick
     (record {
       mode = refl;
