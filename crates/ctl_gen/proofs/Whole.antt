@@ -91,6 +91,11 @@ unfolding operation_in
 initialize_written subprograms None h f e = absurd (cc)
 initialize_written subprograms (Some r) h f e = subst (IsWritten subprograms) e (h r refl)
 
+adjust_written : (subprograms : List Subprogram) (o : Option RecordType) → ((r : RecordType) → o ≡ Some r → IsWritten subprograms r.operations.adjust) → (f : ℕ) → operation_in (λ x. x.adjust) o ≡ Some f → IsBody subprograms f
+unfolding operation_in
+adjust_written subprograms None h f e = absurd (cc)
+adjust_written subprograms (Some r) h f e = subst (IsWritten subprograms) e (h r refl)
+
 finalize_written : (subprograms : List Subprogram) (o : Option RecordType) → ((r : RecordType) → o ≡ Some r → IsWritten subprograms r.operations.finalize) → (f : ℕ) → operation_in (λ x. x.finalize) o ≡ Some f → IsBody subprograms f
 unfolding operation_in
 finalize_written subprograms None h f e = absurd (cc)
@@ -101,6 +106,12 @@ unfolding operation_in
 initialize_in [] t = refl
 initialize_in (r ∷ rs) zero = refl
 initialize_in (r ∷ rs) (suc t) = initialize_in rs t
+
+adjust_in : (rs : List RecordType) (t : ℕ) → Table.operation_in (λ x. x.adjust) (slice_get (operations_of rs) t) ≡ operation_in (λ x. x.adjust) (slice_get rs t)
+unfolding operation_in
+adjust_in [] t = refl
+adjust_in (r ∷ rs) zero = refl
+adjust_in (r ∷ rs) (suc t) = adjust_in rs t
 
 finalize_in : (rs : List RecordType) (t : ℕ) → Table.operation_in (λ x. x.finalize) (slice_get (operations_of rs) t) ≡ operation_in (λ x. x.finalize) (slice_get rs t)
 unfolding operation_in
@@ -172,8 +183,10 @@ module _ (program : Checked) (code : Code) (laid : IsLaidOut program code) (kind
     parts = parts_are (tables_of program) code.layouts.items laid.layouts;
     defaults = defaults (tables_of program) code.layouts.items laid.layouts;
     initialize = λ t. ap (λ xs. Table.operation_in (λ x. x.initialize) (slice_get xs t)) laid.records ∙ initialize_in program.records t;
+    adjust = λ t. ap (λ xs. Table.operation_in (λ x. x.adjust) (slice_get xs t)) laid.records ∙ adjust_in program.records t;
     finalize = λ t. ap (λ xs. Table.operation_in (λ x. x.finalize) (slice_get xs t)) laid.records ∙ finalize_in program.records t;
     initialize_body = λ t f e. initialize_written program.subprograms (slice_get program.records t) (linked.initialize t) f e;
+    adjust_body = λ t f e. adjust_written program.subprograms (slice_get program.records t) (linked.adjust t) f e;
     finalize_body = λ t f e. finalize_written program.subprograms (slice_get program.records t) (linked.finalize t) f e;
   }
 

@@ -36,4 +36,5 @@ IsWritten subprograms (Some f) = IsBody subprograms f
 pub record AreLinked (program : Checked) : Type 0 where
   pub main : IsBody program.subprograms program.main
   pub initialize : (t : ℕ) (r : RecordType) → slice_get program.records t ≡ Some r → IsWritten program.subprograms r.operations.initialize
+  pub adjust : (t : ℕ) (r : RecordType) → slice_get program.records t ≡ Some r → IsWritten program.subprograms r.operations.adjust
   pub finalize : (t : ℕ) (r : RecordType) → slice_get program.records t ≡ Some r → IsWritten program.subprograms r.operations.finalize

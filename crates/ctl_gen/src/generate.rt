@@ -98,6 +98,7 @@ fn records_of(alloc: Global, records: &[RecordType]) -> Result<Vec<Operations>, 
     for record in records {
         all.push(Operations {
             initialize: record.operations.initialize,
+            adjust: record.operations.adjust,
             finalize: record.operations.finalize,
         })?;
     }
