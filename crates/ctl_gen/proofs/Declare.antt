@@ -29,7 +29,7 @@ use Rattle.ctl_code.specs.States.{Complete, At, Stopped, Point, Frame, Filling, 
 use Rattle.ctl_code.specs.declared.kinds.Kind.{Kind}
 use Rattle.ctl_code.specs.Valid.{IsDeclarable}
 use Rattle.ctl_code.specs.Table as Table
-use Rattle.ctl_code.specs.Table.{defaulted_of, first_call, raised_in, size_of, whole_part, showing, birth, come_to_life, operation_of}
+use Rattle.ctl_code.specs.Table.{defaulted_of, first_call, raised_in, size_of, whole_part, showing, birth, come_to_life, operation_of, with_object}
 use Rattle.ctl_code.specs.Steps.{moved, step, stepped}
 use Rattle.ctl_gen.proofs.Known.{IsPlain, IsUntagged}
 use Rattle.ctl_gen.proofs.Worlds.{IfFound, Settled, Since, Kept, home, object_fits, created_ty, since_create, since_slot, since_written, since_layer, since_begin, since_end}
@@ -55,7 +55,7 @@ none_chosen true = refl
 none_chosen false = refl
 
 -- where the user wrote no Finalize, no birth is shown
-unseen : (how : Beginning) (code : Code) (n t : ℕ) (y : Option Object) (p : Point) (k : List Frame) (w : World) (l : Log) → operation_of (λ x. x.finalize) code t ≡ None → moved l (Table.by_declaration code how None n t y p k w) ≡ moved l (come_to_life code n t y p k w)
+pub unseen : (how : Beginning) (code : Code) (n t : ℕ) (y : Option Object) (p : Point) (k : List Frame) (w : World) (l : Log) → operation_of (λ x. x.finalize) code t ≡ None → moved l (Table.by_declaration code how None n t y p k w) ≡ moved l (come_to_life code n t y p k w)
 unseen how code n t None p k w l e = ap (λ g. moved l (showing (birth g n (last_of p.display)) (Stopped UseAfterFree) k [] w)) (sym e)
 unseen how code n t (Some o) p k w l e = refl
 
@@ -64,23 +64,23 @@ module _ (ask : Ask) (k : Tables) (code : Code) (setting : Setting k code) (call
   K = tools_with ask k call default
 
   -- an object with a user-written Finalize comes to life
-  abbrev alive : Option ℕ → ℕ → ℕ → Act Done
+  abbrev pub alive : Option ℕ → ℕ → ℕ → Act Done
   alive g n m = either (is_some g) (show (EventOf.Live (whole_part n) (owner_of (Declared m)))) nothing
 
   -- where its Initialize or its Adjust raised, it is finalized, and nothing in it is complete
-  abbrev given_up : Beginning → ℕ → ℕ → Act Done
+  abbrev pub given_up : Beginning → ℕ → ℕ → Act Done
   given_up how n e c l w = Gives (Leaves (ByRaise (raised_in how e))) 1 c l (end_finalization n (begin_finalization n w))
 
-  abbrev ended_in : Beginning → Option ℕ → ℕ → ℕ → Tried Done → Act Done
+  abbrev pub ended_in : Beginning → Option ℕ → ℕ → ℕ → Tried Done → Act Done
   ended_in how g n m (Fine a) = alive g n m
   ended_in how g n m (Raised e) = given_up how n e
 
   -- what becomes of an object after its Initialize or its Adjust
-  abbrev started : Beginning → Option ℕ → ℕ → ℕ → Out Done → Out Done
+  abbrev pub started : Beginning → Option ℕ → ℕ → ℕ → Out Done → Out Done
   started how g n m x = bind (bind x told) (on_goes (ended_in how g n m))
 
   -- what becomes of an object after its initialization
-  abbrev standing : ℕ → ℕ → Out Done → Out Done
+  abbrev pub standing : ℕ → ℕ → Out Done → Out Done
   standing n m x = bind (add 0 (bind x (on_goes (λ _. must_exist n)))) (on_goes (λ _. change (add_layer m (Single n))))
 
   -- what follows the initialization of the components
@@ -107,7 +107,7 @@ module _ (ask : Ask) (k : Tables) (code : Code) (setting : Setting k code) (call
   unfolding unless_failed opened_outcome
   own_then n m c l w0 w = standing_plain n m (bind (own_initialize K (whole n) t [] c l w) (on_goes (begun K (birth_of (Declared m) w0) (whole n) t)))
 
-  finalize_none : (n c : ℕ) (l : Log) (w : World) → finalize K Failed (These []) (whole n) t c l w ≡ Gives (Goes false) 1 c l w
+  pub finalize_none : (n c : ℕ) (l : Log) (w : World) → finalize K Failed (These []) (whole n) t c l w ≡ Gives (Goes false) 1 c l w
   unfolding opened_finalization opened_outcome depth opened_lists
   finalize_none n c l w =
       ap (λ ps. add 1 (bind (own_finalize K Failed (These []) (whole n) t c l w) (on_goes (in_any_order K (λ p. of_record (done false) (finalize_part K Failed (These []) (length k.records) (component_at (whole n) p)) p.ty) (length ps) ps)))) (parts_to_finalize_flat k t r here plain.flat K (These []) (whole n) refl)
@@ -157,7 +157,7 @@ module _ (ask : Ask) (k : Tables) (code : Code) (setting : Setting k code) (call
   standing_at y n m x = bind (add 0 (bind x (on_goes (λ _ c l w. on_some y gone (λ _. nothing) c l w)))) (on_goes (λ _. change (add_layer m (Single n))))
 
   -- an object comes to life, from the step that looks for it
-  found_runs : (how : Beginning) (w0 : World) (n : ℕ) (e : Target) (p : Point) (ks : List Frame) (s0 state : State) (c c1 τ : ℕ) (l : Log) (w : World) (X : Type 0) → Since k code w0 w → Comes ask code 2 s0 c τ c1 state X → (h : Option ℕ) (y : Option Object) → operation (λ x. x.finalize) k t ≡ h → object_at n w ≡ y → step ask code state ≡ moved l (come_to_life code n t (object_at n w) p ks w) → Runs ask code (Kept k code w0) 3 4 s0 c (arrives e p.display p.place ks p.operands) (standing n (last_of p.display) (started how h n (last_of p.display) (Gives (Goes tt) τ c1 l w)))
+  pub found_runs : (how : Beginning) (w0 : World) (n : ℕ) (e : Target) (p : Point) (ks : List Frame) (s0 state : State) (c c1 τ : ℕ) (l : Log) (w : World) (X : Type 0) → Since k code w0 w → Comes ask code 2 s0 c τ c1 state X → (h : Option ℕ) (y : Option Object) → operation (λ x. x.finalize) k t ≡ h → object_at n w ≡ y → step ask code state ≡ moved l (come_to_life code n t (object_at n w) p ks w) → Runs ask code (Kept k code w0) 3 4 s0 c (arrives e p.display p.place ks p.operands) (standing n (last_of p.display) (started how h n (last_of p.display) (Gives (Goes tt) τ c1 l w)))
   unfolding picked opened_outcome opened_initialization opened_names
   found_runs how w0 n e p ks s0 state c c1 τ l w X fits z h y eh ey first = found h y ey after
     where
@@ -188,7 +188,7 @@ module _ (ask : Ask) (k : Tables) (code : Code) (setting : Setting k code) (call
   begun_runs how w0 n e p ks s0 c (Cut τ c1 l) z = more_halts ask code (Kept k code w0) 2 4 s0 c τ _ l (omega arith) z
 
   -- an object of this type, if it exists
-  abbrev IsOf : ℕ → World → Type 0
+  abbrev pub IsOf : ℕ → World → Type 0
   IsOf n w = (o : Object) → object_at n w ≡ Some o → o.ty ≡ Record t
 
   written_of : (n offset : ℕ) (v : List ℕ) (os : List Object) (o : Object) → ((x : Object) → object_in n os ≡ Some x → x.ty ≡ Record t) → object_in n (change_in n (with_cells offset v) os) ≡ Some o → o.ty ≡ Record t
@@ -203,7 +203,7 @@ module _ (ask : Ask) (k : Tables) (code : Code) (setting : Setting k code) (call
           sym (ap (λ (x : Object). x.ty) same) ∙ g y refl
       one false is g more e1 = more g (sym (ap (λ b. if b then Some y else object_in n (change_in n (with_cells offset v) os)) is) ∙ e1)
 
-  is_of_written : (n offset : ℕ) (v : List ℕ) (w : World) → IsOf n w → IsOf n (write_cells n offset v w)
+  pub is_of_written : (n offset : ℕ) (v : List ℕ) (w : World) → IsOf n w → IsOf n (write_cells n offset v w)
   unfolding opened_changes opened_objects
   is_of_written n offset v w h o e = written_of n offset v w.objects o h e
 
@@ -313,9 +313,25 @@ module _ (ask : Ask) (k : Tables) (code : Code) (setting : Setting k code) (call
                   (one_step ask code (Kept k code w0) b h (b + 1) (h + 1) s0 (gives (Filling ByDefault n t (pull_rest a.0 (x ∷ xs)) p ∷ ks) (Fine Complete) a.1 w1) c c next (bind more after) (omega arith) (omega arith) (omega arith) (omega arith) go
                   (others a.1 w1 (pull_rest a.0 (q ∷ qs)) (pull_rest a.0 (x ∷ xs)) (rest_length a.0 count (q ∷ qs) less long) (pulled_rest default t a.0 (q ∷ qs) (x ∷ xs) filled) (since_written k code n (pull_item x a.0 (x ∷ xs)).offset ((pull_item x a.0 (x ∷ xs)).value ∷ []) w0 w fits) (is_of_written n (pull_item x a.0 (x ∷ xs)).offset ((pull_item x a.0 (x ∷ xs)).value ∷ []) w ty)))))
 
+  -- the worlds with a new object, whose operations are in scope
+  pub created_fits : (slot : ℕ) (s : List Kind) (w0 : World) (d : List ℕ) (w : World) → IsDeclarable code (length d) t → Since k code w0 w → Sees d s w0 → Since k code w0 (with_object code d slot t w)
+  created_fits slot s w0 d w declarable fits sees = since_slot k code (last_of d) slot (holding (Holds w.ledger.next_object)) w0 _ tt (since_create k code (Record t) (replicate (size_of code t) 0) (last_of d) w0 w (r, here, plain) old inside fits)
+    where
+      old : last_of d < w.ledger.next_master
+      old = omega (arith, sees.old, fits.1.later)
+
+      same : home (last_of d) w.activations ≡ d
+      same = fits.1.homes (last_of d) sees.old ∙ sees.home
+
+      inside : IsDeclarable code (length (home (last_of d) w.activations)) t
+      inside = subst (λ (x : List ℕ). IsDeclarable code (length x) t) (sym same) declarable
+
+  pub created_is : (slot : ℕ) (w0 : World) (d : List ℕ) (w : World) → Since k code w0 w → IsOf w.ledger.next_object (with_object code d slot t w)
+  created_is slot w0 d w fits o at1 = created_ty k code (Record t) (replicate (size_of code t) 0) (last_of d) slot w fits.0 o at1
+
   module _ (bound : ℕ) (calls : Calls ask k code setting bound call) where
     -- a declaration, from the step that creates its object
-    created_runs : (how : Beginning) (w0 : World) (n : ℕ) (e : Target) (p : Point) (ks : List Frame) (s0 : State) (c : ℕ) (l : Log) (w : World) → c ≤ bound → Since k code w0 w → ((o : Object) → object_at n w ≡ Some o → o.ty ≡ Record t) → (g : Option ℕ) (y : Option Object) → operation (first_of how) k t ≡ g → object_at n w ≡ y → step ask code s0 ≡ moved l (Table.by_declaration code how g n t (object_at n w) p ks w) → Runs ask code (Kept k code w0) 4 5 s0 c (arrives e p.display p.place ks p.operands) (standing n (last_of p.display) (started how (operation (λ x. x.finalize) k t) n (last_of p.display) (call_operation K (whole n) g (first_call how n) c l w)))
+    pub created_runs : (how : Beginning) (w0 : World) (n : ℕ) (e : Target) (p : Point) (ks : List Frame) (s0 : State) (c : ℕ) (l : Log) (w : World) → c ≤ bound → Since k code w0 w → ((o : Object) → object_at n w ≡ Some o → o.ty ≡ Record t) → (g : Option ℕ) (y : Option Object) → operation (first_of how) k t ≡ g → object_at n w ≡ y → step ask code s0 ≡ moved l (Table.by_declaration code how g n t (object_at n w) p ks w) → Runs ask code (Kept k code w0) 4 5 s0 c (arrives e p.display p.place ks p.operands) (standing n (last_of p.display) (started how (operation (λ x. x.finalize) k t) n (last_of p.display) (call_operation K (whole n) g (first_call how n) c l w)))
     unfolding opened_outcome opened_finalization opened_names opened_initialization
     created_runs how w0 n e p ks s0 c l w le fits ty None None eg ey first = subst (λ x. Runs ask code (Kept k code w0) 4 5 s0 c (arrives e p.display p.place ks p.operands) (standing n (last_of p.display) (started how (operation (λ z. z.finalize) k t) n (last_of p.display) (add 1 (on_some x gone (λ _. nothing) c l w))))) (sym ey) (stop_step ask code (Kept k code w0) 4 5 s0 _ c 1 (arrives e p.display p.place ks p.operands) UseAfterFree l (omega arith) (first ∙ ap (λ x. moved l (Table.by_declaration code how None n t x p ks w)) ey) refl refl)
     created_runs how w0 n e p ks s0 c l w le fits ty None (Some o) eg ey first =
@@ -366,20 +382,11 @@ module _ (ask : Ask) (k : Tables) (code : Code) (setting : Setting k code) (call
         w1 : World
         w1 = set_slot (last_of d) slot (holding (Holds w.ledger.next_object)) (create (Record t) (replicate (size_of code t) 0) (Declared (last_of d)) w)
 
-        old : last_of d < w.ledger.next_master
-        old = omega (arith, sees.old, fits.1.later)
-
-        same : home (last_of d) w.activations ≡ d
-        same = fits.1.homes (last_of d) sees.old ∙ sees.home
-
         filled : AreFilled default t (parts_to_begin K t) (defaulted_of code t)
         filled = subst (AreFilled default t (parts_to_begin K t)) (sym (setting.defaults t r here)) (parts_filled k default t r here plain constants K refl)
 
-        inside : IsDeclarable code (length (home (last_of d) w.activations)) t
-        inside = subst (λ x. IsDeclarable code x t) (sym (ap length same ∙ sees.long)) (setting.valid.each place (InstrOf.Declare slot t) s has.0 has.1).0
+        fits2 : Since k code w0 (with_object code d slot t w)
+        fits2 = created_fits slot s w0 d w (subst (λ x. IsDeclarable code x t) (sym sees.long) (setting.valid.each place (InstrOf.Declare slot t) s has.0 has.1).0) fits sees
 
-        fits2 : Since k code w0 (set_slot (last_of d) slot (holding (Holds w.ledger.next_object)) (create (Record t) (replicate (size_of code t) 0) (Declared (last_of d)) w))
-        fits2 = since_slot k code (last_of d) slot (holding (Holds n)) w0 _ tt (since_create k code (Record t) (replicate (size_of code t) 0) (last_of d) w0 w (r, here, plain) old inside fits)
-
-        typed : (o : Object) → object_at w.ledger.next_object (set_slot (last_of d) slot (holding (Holds w.ledger.next_object)) (create (Record t) (replicate (size_of code t) 0) (Declared (last_of d)) w)) ≡ Some o → o.ty ≡ Record t
-        typed o at1 = created_ty k code (Record t) (replicate (size_of code t) 0) (last_of d) slot w fits.0 o at1
+        typed : IsOf w.ledger.next_object (with_object code d slot t w)
+        typed = created_is slot w0 d w fits
