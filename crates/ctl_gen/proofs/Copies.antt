@@ -1,5 +1,5 @@
 -- The declaration of an object of a plain type that takes the value of a variable.
-use Rattle.std.proofs.Common.{◌≡◌, ℕ, zero, suc, ◌+◌, ◌≤◌, List, [], ◌∷◌, ◌++◌, length, map, Option, Some, None, Bool, true, false, refl, sym, ap, ◌∙◌, subst, arith, ◌⊎◌, inl, inr}
+use Rattle.std.proofs.Common.{◌≡◌, ℕ, zero, suc, ◌+◌, ◌≤◌, List, [], ◌∷◌, length, map, Option, Some, None, Bool, true, false, refl, sym, ap, ◌∙◌, subst, arith, ◌⊎◌, inl, inr}
 use Rattle.std.specs.Prelude.{replicate, slice_get, is_some, nat_eq}
 use Rattle.std.proofs.lemmas.Bool.{eqb-true}
 use Rattle.ctl_program.specs.declared.types.Ty.{Ty}
@@ -24,11 +24,11 @@ use Rattle.ctl_meaning.specs.Objects.{cells_at}
 use Rattle.ctl_meaning.specs.Changes.{object_at, slot_at, create, write_cells, set_slot, begin_finalization, end_finalization, owner_of}
 use Rattle.ctl_meaning.specs.Choice.{Ask, picked}
 use Rattle.ctl_meaning.specs.Outcome.{program_error, ByExit, ByReturn, ByRaise, Goes, Leaves, Out, Gives, Stops, Cut, Act, Done, Fine, add, bind, on_goes, ◌>>=◌, ◌>>◌, done, nothing, raise, tell, show, change, ticked, told, attempt, either, on_some, opened_outcome}
-use Rattle.ctl_meaning.specs.Types.{Tables, Category, Composite, category_of, operation, depth, of_record, cells_of}
+use Rattle.ctl_meaning.specs.Types.{Tables, Category, Composite, category_of, operation, operation_in, depth, of_record, cells_of}
 use Rattle.ctl_meaning.specs.Names.{Found, found_in, find_var, Call, Default, Tools, gone, existing, read_found, read_part, write_part, walk, begins_as}
 use Rattle.ctl_meaning.specs.Expressions.{Naming, Valued, eval, eval_name, eval_step, name_step as name_meaning, var_part, if_given}
 use Rattle.ctl_meaning.specs.Finalization.{whole, component_at, part_of, call_operation, opened_finalization}
-use Rattle.ctl_meaning.specs.Adjustment.{Birth, Adjusted, birth_of, unadjusted, adjust, adjust_record, adjust_part, adjust_each, own_adjust, after_adjust, adjusted, opened_adjustment}
+use Rattle.ctl_meaning.specs.Adjustment.{Birth, birth_of, unadjusted, adjust, adjust_record, adjust_part, adjust_each, own_adjust, after_adjust, adjusted, opened_adjustment}
 use Rattle.ctl_meaning.specs.Initialization.{fill}
 use Rattle.ctl_meaning.specs.Masters.{declare, object}
 use Rattle.ctl_meaning.proofs.Trees.{eval_roll, name_roll}
@@ -40,20 +40,21 @@ use Rattle.ctl_code.specs.States.{Complete, Point, Frame, Filling, State}
 use Rattle.ctl_code.specs.Valid.{IsDeclarable}
 use Rattle.ctl_code.specs.Windows.{height}
 use Rattle.ctl_code.specs.Table as Table
-use Rattle.ctl_code.specs.Table.{by_locate, first_call, size_of, whole_of, whole_part, with_object}
+use Rattle.ctl_code.specs.Table.{by_locate, first_call, first_operation, operation_of, size_of, whole_of, whole_part, with_object}
 use Rattle.ctl_code.specs.Steps.{moved, step}
 use Rattle.ctl_gen.specs.declared.right.Reached.{Reached}
 use Rattle.ctl_gen.specs.declared.right.Reached.TheVariants as ReachedOf
 use Rattle.ctl_gen.specs.declared.right.Right.TheVariants as RightOf
-use Rattle.ctl_gen.specs.Around.{Around, out_to}
+use Rattle.ctl_gen.specs.Around.{out_to}
+use Rattle.ctl_gen.specs.Records.{adjust_by}
 use Rattle.ctl_gen.specs.Values.{ValueCode, behind_steps, copied, read, reached_by, value_code, variable_by}
 use Rattle.ctl_gen.specs.Layout.{copy_of}
 use Rattle.ctl_gen.proofs.Known.{IsPlain, IsUntagged}
 use Rattle.ctl_gen.proofs.TreeLayers.{value_roll, reached_roll}
 use Rattle.ctl_gen.proofs.Worlds.{HoldsWhole, Since, Kept, since_written, whole_at}
-use Rattle.ctl_gen.proofs.Plain.{begin_cells_flat, cells_flat, controlled_parts_flat, is_controlled_plain, not_controlled_plain, no_adjust, no_finalize}
+use Rattle.ctl_gen.proofs.Plain.{begin_cells_flat, cells_flat, controlled_parts_flat, is_controlled_plain, not_controlled_plain, no_finalize}
 use Rattle.ctl_gen.proofs.Defaults.{GivesDefaults}
-use Rattle.ctl_gen.proofs.Setting.{Setting, Calls, Sees, first_is, first_of, tools_with}
+use Rattle.ctl_gen.proofs.Setting.{Setting, Calls, Sees, first_of, tools_with}
 use Rattle.ctl_gen.proofs.Cells.{by_code, here, out_is}
 use Rattle.ctl_gen.proofs.Place.{Laid}
 use Rattle.ctl_gen.proofs.Components.{content_of}
@@ -273,6 +274,14 @@ module _ (ask : Ask) (k : Tables) (code : Code) (setting : Setting k code) (call
   object_is slot d m i (Copies v) c l w h = absurd h
   object_is slot d m i (Gathers n) c l w h = refl
 
+  -- the table names the Adjust of a tagged type
+  adjust_named : r.root ≡ Controlled → operation_of (first_operation ByCopy) code t ≡ operation (first_of ByCopy) k t
+  unfolding operation operation_in
+  adjust_named controlled = setting.adjust t r record_is ∙ ap (λ x. adjust_by x r.operations.adjust) controlled ∙ sym (ap (operation_in (first_of ByCopy)) record_is)
+
+  not_adjusted : IsUntagged r → operation_of (first_operation ByCopy) code t ≡ None
+  not_adjusted untagged = setting.adjust t r record_is ∙ ap (λ x. adjust_by x r.operations.adjust) untagged.root
+
   -- What its code does -------------------------------------------------------------------------------
 
   module _ (bound : ℕ) (calls : Calls ask k code setting bound call) where
@@ -285,14 +294,14 @@ module _ (ask : Ask) (k : Tables) (code : Code) (setting : Setting k code) (call
         let g = operation (first_of ByCopy) k t in
         subst (λ o. Runs ask code (Kept k code w0) 4 5 (gives (Filling ByCopy n t [] p ∷ ks) (Fine Complete) l w) c (arrives e p.display p.place ks p.operands) (standing n (last_of p.display) o))
         (sym (adjust_is (born m w2) n c l w ∙ own_is controlled g refl n m c l w2 w ∙ as_started n m w2 (call_operation K (whole n) g (first_call ByCopy n) c l w)))
-        (D.created_runs ask k code setting call default constants t r record_is plain bound calls ByCopy w0 n e p ks s0 c l w le fits ty g (object_at n w) refl refl (ap (λ f. moved l (Table.by_declaration code ByCopy f n t (object_at n w) p ks w)) (first_is k code setting ByCopy t)))
+        (D.created_runs ask k code setting call default constants t r record_is plain bound calls ByCopy (adjust_named controlled) w0 n e p ks s0 c l w le fits ty g (object_at n w) refl refl (ap (λ f. moved l (Table.by_declaration code ByCopy f n t (object_at n w) p ks w)) (adjust_named controlled)))
     own_runs (inr untagged) w0 n e p ks c l w2 w le fits ty =
         let s0 = gives (Filling ByCopy n t [] p ∷ ks) (Fine Complete) l w in
         subst (λ o. Runs ask code (Kept k code w0) 4 5 (gives (Filling ByCopy n t [] p ∷ ks) (Fine Complete) l w) c (arrives e p.display p.place ks p.operands) (standing n (last_of p.display) o))
         (sym (adjust_is (born (last_of p.display) w2) n c l w ∙ none_is untagged n (last_of p.display) c l w2 w))
         (within ask code (Kept k code w0) 3 4 4 5 s0 c (arrives e p.display p.place ks p.operands) (standing n (last_of p.display) (Gives (Goes tt) 0 c l w)) (omega arith) (omega arith)
         (D.found_runs ask k code setting call default constants t r record_is plain ByCopy w0 n e p ks s0 s0 c c 0 l w (Unit {0}) fits (record { n = 0; falls = omega arith; enough = omega arith; in_time = omega arith; comes = refl; fits = tt }) None (object_at n w) (no_finalize k t r record_is plain.flat untagged) refl
-        (ap (λ f. moved l (Table.by_declaration code ByCopy f n t (object_at n w) p ks w)) (setting.adjust t ∙ no_adjust k t r record_is plain.flat untagged) ∙ D.unseen ByCopy code n t (object_at n w) p ks w l (setting.finalize t ∙ no_finalize k t r record_is plain.flat untagged))))
+        (ap (λ f. moved l (Table.by_declaration code ByCopy f n t (object_at n w) p ks w)) (not_adjusted untagged) ∙ D.unseen ByCopy code n t (object_at n w) p ks w l (setting.finalize t ∙ no_finalize k t r record_is plain.flat untagged))))
 
     -- a new object takes a value, from the step that creates it
     taken_runs : (w0 : World) (n : ℕ) (v : List ℕ) (e : Target) (p : Point) (ks : List Frame) (s0 : State) (c : ℕ) (l : Log) (w2 w : World) → c ≤ bound → Since k code w0 w → IsOf n w → step ask code s0 ≡ moved l (Table.take_value n t v (object_at n w) p ks w) → Runs ask code (Kept k code w0) 5 6 s0 c (arrives e p.display p.place ks p.operands) (taking n (last_of p.display) v w2 c l w)

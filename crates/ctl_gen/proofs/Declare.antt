@@ -23,20 +23,20 @@ use Rattle.ctl_meaning.specs.Masters.{declare}
 use Rattle.ctl_code.specs.declared.code.Instr.TheVariants as InstrOf
 use Rattle.ctl_code.specs.declared.code.Code.{Code}
 use Rattle.ctl_code.specs.declared.code.Beginning.{Beginning}
-use Rattle.ctl_code.specs.declared.code.Beginning.TheVariants.{ByDefault, ByCopy}
+use Rattle.ctl_code.specs.declared.code.Beginning.TheVariants.{ByDefault}
 use Rattle.ctl_code.specs.declared.code.Defaulted.{Defaulted}
 use Rattle.ctl_code.specs.States.{Complete, At, Stopped, Point, Frame, Filling, Initializing, State, Move}
 use Rattle.ctl_code.specs.declared.kinds.Kind.{Kind}
 use Rattle.ctl_code.specs.Valid.{IsDeclarable}
 use Rattle.ctl_code.specs.Table as Table
-use Rattle.ctl_code.specs.Table.{defaulted_of, first_call, raised_in, size_of, whole_part, showing, birth, come_to_life, operation_of, with_object}
+use Rattle.ctl_code.specs.Table.{defaulted_of, first_call, first_operation, raised_in, size_of, whole_part, showing, birth, come_to_life, operation_of, with_object}
 use Rattle.ctl_code.specs.Steps.{moved, step, stepped}
 use Rattle.ctl_gen.proofs.Known.{IsPlain, IsUntagged}
 use Rattle.ctl_gen.proofs.Worlds.{IfFound, Settled, Since, Kept, home, object_fits, created_ty, since_create, since_slot, since_written, since_layer, since_begin, since_end}
 use Rattle.ctl_gen.proofs.Finalize.{first_scope}
 use Rattle.ctl_gen.proofs.Plain.{is_controlled_plain, not_controlled_plain, no_finalize, no_initialize, begin_cells_flat, parts_to_finalize_flat, scalar_of_record}
 use Rattle.ctl_gen.proofs.Defaults.{AreFilled, Fills, GivesDefaults, filled_length, parts_filled, picked_less, pulled, pulled_rest, rest_length}
-use Rattle.ctl_gen.proofs.Setting.{Setting, first_body, first_is, first_of, tools_with, returns, Told, Sees, Calls, enter_shows}
+use Rattle.ctl_gen.proofs.Setting.{Setting, first_body, first_of, tools_with, returns, Told, Sees, Calls, enter_shows}
 use Rattle.ctl_gen.proofs.Cells.{by_code}
 use Rattle.ctl_gen.proofs.Place.{Laid}
 use Rattle.ctl_gen.proofs.Follow.{by_raise, gives, Comes, Runs, added, add_none, bind_add, bind_bind, one_step, within, Target, at, arrives, stop_step, then_step, then_stops, more_quits, more_halts}
@@ -331,21 +331,21 @@ module _ (ask : Ask) (k : Tables) (code : Code) (setting : Setting k code) (call
 
   module _ (bound : ℕ) (calls : Calls ask k code setting bound call) where
     -- a declaration, from the step that creates its object
-    pub created_runs : (how : Beginning) (w0 : World) (n : ℕ) (e : Target) (p : Point) (ks : List Frame) (s0 : State) (c : ℕ) (l : Log) (w : World) → c ≤ bound → Since k code w0 w → ((o : Object) → object_at n w ≡ Some o → o.ty ≡ Record t) → (g : Option ℕ) (y : Option Object) → operation (first_of how) k t ≡ g → object_at n w ≡ y → step ask code s0 ≡ moved l (Table.by_declaration code how g n t (object_at n w) p ks w) → Runs ask code (Kept k code w0) 4 5 s0 c (arrives e p.display p.place ks p.operands) (standing n (last_of p.display) (started how (operation (λ x. x.finalize) k t) n (last_of p.display) (call_operation K (whole n) g (first_call how n) c l w)))
+    pub created_runs : (how : Beginning) → operation_of (first_operation how) code t ≡ operation (first_of how) k t → (w0 : World) (n : ℕ) (e : Target) (p : Point) (ks : List Frame) (s0 : State) (c : ℕ) (l : Log) (w : World) → c ≤ bound → Since k code w0 w → ((o : Object) → object_at n w ≡ Some o → o.ty ≡ Record t) → (g : Option ℕ) (y : Option Object) → operation (first_of how) k t ≡ g → object_at n w ≡ y → step ask code s0 ≡ moved l (Table.by_declaration code how g n t (object_at n w) p ks w) → Runs ask code (Kept k code w0) 4 5 s0 c (arrives e p.display p.place ks p.operands) (standing n (last_of p.display) (started how (operation (λ x. x.finalize) k t) n (last_of p.display) (call_operation K (whole n) g (first_call how n) c l w)))
     unfolding opened_outcome opened_finalization opened_names opened_initialization
-    created_runs how w0 n e p ks s0 c l w le fits ty None None eg ey first = subst (λ x. Runs ask code (Kept k code w0) 4 5 s0 c (arrives e p.display p.place ks p.operands) (standing n (last_of p.display) (started how (operation (λ z. z.finalize) k t) n (last_of p.display) (add 1 (on_some x gone (λ _. nothing) c l w))))) (sym ey) (stop_step ask code (Kept k code w0) 4 5 s0 _ c 1 (arrives e p.display p.place ks p.operands) UseAfterFree l (omega arith) (first ∙ ap (λ x. moved l (Table.by_declaration code how None n t x p ks w)) ey) refl refl)
-    created_runs how w0 n e p ks s0 c l w le fits ty None (Some o) eg ey first =
+    created_runs how named w0 n e p ks s0 c l w le fits ty None None eg ey first = subst (λ x. Runs ask code (Kept k code w0) 4 5 s0 c (arrives e p.display p.place ks p.operands) (standing n (last_of p.display) (started how (operation (λ z. z.finalize) k t) n (last_of p.display) (add 1 (on_some x gone (λ _. nothing) c l w))))) (sym ey) (stop_step ask code (Kept k code w0) 4 5 s0 _ c 1 (arrives e p.display p.place ks p.operands) UseAfterFree l (omega arith) (first ∙ ap (λ x. moved l (Table.by_declaration code how None n t x p ks w)) ey) refl refl)
+    created_runs how named w0 n e p ks s0 c l w le fits ty None (Some o) eg ey first =
         subst (λ x. Runs ask code (Kept k code w0) 4 5 s0 c (arrives e p.display p.place ks p.operands) (standing n (last_of p.display) (started how (operation (λ z. z.finalize) k t) n (last_of p.display) (add 1 (on_some x gone (λ _. nothing) c l w))))) (sym ey)
         (within ask code (Kept k code w0) 3 4 4 5 s0 c (arrives e p.display p.place ks p.operands) (standing n (last_of p.display) (started how (operation (λ z. z.finalize) k t) n (last_of p.display) (Gives (Goes tt) 1 c l w))) (omega arith) (omega arith)
         (found_runs how w0 n e p ks s0 s0 c c 1 l w (Unit {0}) fits (record { n = 0; falls = omega arith; enough = omega arith; in_time = omega arith; comes = refl; fits = tt }) (operation (λ x. x.finalize) k t) (Some o) refl ey (first ∙ ap (λ x. moved l (Table.by_declaration code how None n t x p ks w)) ey ∙ ap (λ x. moved l (come_to_life code n t x p ks w)) (sym ey))))
-    created_runs how w0 n e p ks s0 c l w le fits ty (Some f) None eg ey first = subst (λ x. Runs ask code (Kept k code w0) 4 5 s0 c (arrives e p.display p.place ks p.operands) (standing n (last_of p.display) (started how (operation (λ z. z.finalize) k t) n (last_of p.display) (on_some x gone (λ o1. look (λ w1. show (first_call how n) >> call (OfSubprogram f (holding (Binds n 0 []) ∷ [])) (home_of o1.origin w1) >> nothing)) c l w)))) (sym ey) (stop_step ask code (Kept k code w0) 4 5 s0 _ c 0 (arrives e p.display p.place ks p.operands) UseAfterFree l (omega arith) (first ∙ ap (λ x. moved l (Table.by_declaration code how (Some f) n t x p ks w)) ey) refl refl)
-    created_runs how w0 n e p ks s0 c l w le fits ty (Some f) (Some o) eg ey first =
+    created_runs how named w0 n e p ks s0 c l w le fits ty (Some f) None eg ey first = subst (λ x. Runs ask code (Kept k code w0) 4 5 s0 c (arrives e p.display p.place ks p.operands) (standing n (last_of p.display) (started how (operation (λ z. z.finalize) k t) n (last_of p.display) (on_some x gone (λ o1. look (λ w1. show (first_call how n) >> call (OfSubprogram f (holding (Binds n 0 []) ∷ [])) (home_of o1.origin w1) >> nothing)) c l w)))) (sym ey) (stop_step ask code (Kept k code w0) 4 5 s0 _ c 0 (arrives e p.display p.place ks p.operands) UseAfterFree l (omega arith) (first ∙ ap (λ x. moved l (Table.by_declaration code how (Some f) n t x p ks w)) ey) refl refl)
+    created_runs how named w0 n e p ks s0 c l w le fits ty (Some f) (Some o) eg ey first =
         let body = first_body k code setting how t f eg in
         let settled = subst (IfFound (Settled k code w.ledger.next_master w.activations)) ey (object_fits k code n w fits.0) in
         subst (λ x. Runs ask code (Kept k code w0) 4 5 s0 c (arrives e p.display p.place ks p.operands) (standing n (last_of p.display) (started how (operation (λ z. z.finalize) k t) n (last_of p.display) x))) (sym (call_is f n c (first_call how n) l w o ey))
         (within ask code (Kept k code w0) 3 4 4 5 s0 c (arrives e p.display p.place ks p.operands) (standing n (last_of p.display) (started how (operation (λ z. z.finalize) k t) n (last_of p.display) (bind (add 0 (call (OfSubprogram f (holding (Binds n 0 []) ∷ [])) (home_of o.origin w) c (tell (first_call how n) l) w)) (on_goes (λ _. nothing))))) (omega arith) (omega arith)
         (begun_runs how w0 n e p ks s0 c (call (OfSubprogram f (holding (Binds n 0 []) ∷ [])) (home_of o.origin w) c (tell (first_call how n) l) w)
-        (calls.runs f body.0 body.1 w0 (home_of o.origin w) (holding (Binds n 0 []) ∷ []) (Initializing how n t p ∷ ks) c (tell (first_call how n) l) w s0 le fits (first_scope how k code w o t f (ty o ey) settled (first_is k code setting how t ∙ eg)) (tt, tt)
+        (calls.runs f body.0 body.1 w0 (home_of o.origin w) (holding (Binds n 0 []) ∷ []) (Initializing how n t p ∷ ks) c (tell (first_call how n) l) w s0 le fits (first_scope how k code w o t f (ty o ey) settled (named ∙ eg)) (tt, tt)
         (first ∙ ap (λ x. moved l (Table.by_declaration code how (Some f) n t x p ks w)) ey ∙ enter_shows (slice_get code.entries.items f) (first_call how n) (home_of o.origin w) (holding (Binds n 0 []) ∷ []) (Initializing how n t p ∷ ks) l w))))
 
     -- an object whose components have taken their defaults, from the frame that fills it
@@ -354,7 +354,7 @@ module _ (ask : Ask) (k : Tables) (code : Code) (setting : Setting k code) (call
     own_runs (inl controlled) w0 n e p ks c l w2 w le fits ty =
         subst (λ o. Runs ask code (Kept k code w0) 4 5 (gives (Filling ByDefault n t [] p ∷ ks) (Fine Complete) l w) c (arrives e p.display p.place ks p.operands) (standing n (last_of p.display) o))
         (sym (own_is controlled (operation (λ x. x.initialize) k t) (operation (λ x. x.finalize) k t) refl refl n (last_of p.display) c l w2 w))
-        (created_runs ByDefault w0 n e p ks (gives (Filling ByDefault n t [] p ∷ ks) (Fine Complete) l w) c l w le fits ty (operation (λ x. x.initialize) k t) (object_at n w) refl refl (ap (λ g. moved l (Table.by_declaration code ByDefault g n t (object_at n w) p ks w)) (setting.initialize t)))
+        (created_runs ByDefault (setting.initialize t) w0 n e p ks (gives (Filling ByDefault n t [] p ∷ ks) (Fine Complete) l w) c l w le fits ty (operation (λ x. x.initialize) k t) (object_at n w) refl refl (ap (λ g. moved l (Table.by_declaration code ByDefault g n t (object_at n w) p ks w)) (setting.initialize t)))
     own_runs (inr untagged) w0 n e p ks c l w2 w le fits ty =
         subst (λ o. Runs ask code (Kept k code w0) 4 5 (gives (Filling ByDefault n t [] p ∷ ks) (Fine Complete) l w) c (arrives e p.display p.place ks p.operands) (standing n (last_of p.display) o))
         (sym (none_is untagged n (last_of p.display) c l w2 w))

@@ -58,7 +58,6 @@ pub record IsFlat (records : List RecordType) (r : RecordType) : Type 0 where
 pub record IsUntagged (r : RecordType) : Type 0 where
   pub root : r.root ≡ Untagged
   pub initialize : r.operations.initialize ≡ None
-  pub adjust : r.operations.adjust ≡ None
   pub finalize : r.operations.finalize ≡ None
 
 -- a flat type that extends Controlled, or Limited_Controlled (7.6), or is not tagged, with constants as defaults
@@ -78,9 +77,8 @@ unwritten_if (Some f) e = absurd (cc)
 root_if : (r : RecordType) (x : Root) → r.root ≡ x → is_root_run x r.operations ≡ true → (r.root ≡ Controlled) ⊎ IsUntagged r
 root_if r Controlled is e = inl is
 root_if r Untagged is e =
-    let h = both_true (is_unwritten r.operations.initialize) (is_unwritten r.operations.adjust && is_unwritten r.operations.finalize) e in
-    let g = both_true (is_unwritten r.operations.adjust) (is_unwritten r.operations.finalize) h.1 in
-    inr (record { root = is; initialize = unwritten_if r.operations.initialize h.0; adjust = unwritten_if r.operations.adjust g.0; finalize = unwritten_if r.operations.finalize g.1 })
+    let h = both_true (is_unwritten r.operations.initialize) (is_unwritten r.operations.finalize) e in
+    inr (record { root = is; initialize = unwritten_if r.operations.initialize h.0; finalize = unwritten_if r.operations.finalize h.1 })
 root_if r BlockPool is e = absurd (cc)
 root_if r MarkPool is e = absurd (cc)
 

@@ -167,10 +167,6 @@ module _ (k : Tables) (t : ℕ) (r : RecordType) (at : slice_get k.records t ≡
   unfolding operation operation_in
   no_initialize = ap (operation_in (λ x. x.initialize)) at ∙ untagged.initialize
 
-  pub no_adjust : operation (λ x. x.adjust) k t ≡ None
-  unfolding operation operation_in
-  no_adjust = ap (operation_in (λ x. x.adjust)) at ∙ untagged.adjust
-
   pub no_finalize : operation (λ x. x.finalize) k t ≡ None
   unfolding operation operation_in
   no_finalize = ap (operation_in (λ x. x.finalize)) at ∙ untagged.finalize

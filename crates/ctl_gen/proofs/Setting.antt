@@ -18,11 +18,11 @@ use Rattle.ctl_code.specs.declared.code.Instr.TheVariants as InstrOf
 use Rattle.ctl_code.specs.declared.code.Code.{Code}
 use Rattle.ctl_code.specs.declared.kinds.Kind.{Kind}
 use Rattle.ctl_code.specs.States.{Frame, State}
-use Rattle.ctl_code.specs.Table.{defaulted_of, ended, enter_body, first_operation, offset_of, operation_of, parts_of, size_of}
+use Rattle.ctl_code.specs.Table.{defaulted_of, ended, enter_body, offset_of, operation_of, parts_of, size_of}
 use Rattle.ctl_code.specs.Steps.{moved, step}
 use Rattle.ctl_code.specs.Valid.{IsInScope, IsValid, kinds_at}
 use Rattle.ctl_code.specs.Windows.{depth}
-use Rattle.ctl_gen.specs.Records.{is_flat, parts_by}
+use Rattle.ctl_gen.specs.Records.{adjust_by, is_flat, parts_by}
 use Rattle.ctl_gen.specs.Defaults.{defaulted_from}
 use Rattle.ctl_gen.specs.Run.{IsBody}
 use Rattle.ctl_gen.proofs.Worlds.{Each, IsWhole, Since, home}
@@ -42,7 +42,7 @@ pub record Setting (k : Tables) (code : Code) : Type 0 where
   pub parts : (t : ℕ) (r : RecordType) → slice_get k.records t ≡ Some r → parts_of code t ≡ parts_by r.root
   pub defaults : (t : ℕ) (r : RecordType) → slice_get k.records t ≡ Some r → defaulted_of code t ≡ defaulted_from 0 r.own
   pub initialize : (t : ℕ) → operation_of (λ x. x.initialize) code t ≡ operation (λ x. x.initialize) k t
-  pub adjust : (t : ℕ) → operation_of (λ x. x.adjust) code t ≡ operation (λ x. x.adjust) k t
+  pub adjust : (t : ℕ) (r : RecordType) → slice_get k.records t ≡ Some r → operation_of (λ x. x.adjust) code t ≡ adjust_by r.root r.operations.adjust
   pub finalize : (t : ℕ) → operation_of (λ x. x.finalize) code t ≡ operation (λ x. x.finalize) k t
   pub initialize_body : (t f : ℕ) → operation (λ x. x.initialize) k t ≡ Some f → IsBody subprograms f
   pub adjust_body : (t f : ℕ) → operation (λ x. x.adjust) k t ≡ Some f → IsBody subprograms f
@@ -52,10 +52,6 @@ pub record Setting (k : Tables) (code : Code) : Type 0 where
 abbrev pub first_of : Beginning → Operations → Option ℕ
 first_of ByDefault x = x.initialize
 first_of ByCopy x = x.adjust
-
-pub first_is : (k : Tables) (code : Code) → Setting k code → (how : Beginning) (t : ℕ) → operation_of (first_operation how) code t ≡ operation (first_of how) k t
-first_is k code setting ByDefault t = setting.initialize t
-first_is k code setting ByCopy t = setting.adjust t
 
 pub first_body : (k : Tables) (code : Code) (setting : Setting k code) (how : Beginning) (t f : ℕ) → operation (first_of how) k t ≡ Some f → IsBody setting.subprograms f
 first_body k code setting ByDefault t f e = setting.initialize_body t f e

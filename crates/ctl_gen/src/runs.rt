@@ -231,9 +231,7 @@ fn is_root_run(entry: &RecordType) -> bool
     match entry.root {
         Root::Controlled => true,
         Root::Untagged => {
-            entry.operations.initialize.is_none()
-                && entry.operations.adjust.is_none()
-                && entry.operations.finalize.is_none()
+            entry.operations.initialize.is_none() && entry.operations.finalize.is_none()
         }
         Root::BlockPool | Root::MarkPool => false,
     }

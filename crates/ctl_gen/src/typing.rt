@@ -61,8 +61,8 @@ pub fn copied(record: usize, value: &Expr) -> Option<Var>
 {
     let same = is_of(record, type_of(value));
     match right_of(value) {
-        Right::Variable(variable) => { if same { Some(variable) } else { None } }
-        Right::Constant(_) | Right::Evaluated => None,
+        Right::Variable(variable) if same => Some(variable),
+        Right::Variable(_) | Right::Constant(_) | Right::Evaluated => None,
     }
 }
 
