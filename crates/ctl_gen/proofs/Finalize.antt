@@ -19,11 +19,13 @@ use Rattle.ctl_meaning.specs.Types.{Tables, operation, depth, of_record}
 use Rattle.ctl_meaning.specs.Names.{OfSubprogram, Returned, Call, Default, Tools, gone, opened_names}
 use Rattle.ctl_meaning.specs.Finalization.{whole, Every, component_at, call_operation, after_finalize, own_finalize, in_any_order, finalize_part, finalize, finalize_object, finalize_if_controlled, opened_finalization}
 use Rattle.ctl_meaning.specs.Storage.{close_pool, shut_pool, release_each, opened_storage}
+use Rattle.ctl_code.specs.declared.code.Beginning.{Beginning}
+use Rattle.ctl_code.specs.declared.code.Beginning.TheVariants.{ByDefault, ByCopy}
 use Rattle.ctl_code.specs.declared.code.Operations.{Operations}
 use Rattle.ctl_code.specs.declared.code.Code.{Code}
 use Rattle.ctl_code.specs.States.{Handed, Complete, FinalizationFailed, Frame, Finalizing, State}
 use Rattle.ctl_code.specs.Table as Table
-use Rattle.ctl_code.specs.Table.{whole_part, operation_of, operation_in}
+use Rattle.ctl_code.specs.Table.{whole_part, first_operation, operation_of, operation_in}
 use Rattle.ctl_code.specs.Steps.{moved, step}
 use Rattle.ctl_code.specs.Valid.{IsInScope, IsDeclarable}
 use Rattle.ctl_gen.proofs.Known.{IsPlain, IsUntagged}
@@ -55,11 +57,15 @@ finalize_scope k code w o t f ty h op =
     let same : inside.0.finalize ≡ Some f = sym (ap (λ (x : Option Operations). operation_in (λ y. y.finalize) x) inside.1) ∙ op in
     subst (λ d. IsInScope code (length d) (Some f)) (sym (home_is k code w o h)) (subst (IsInScope code (length (home h.master w.activations))) same inside.3)
 
-pub initialize_scope : (k : Tables) (code : Code) (w : World) (o : Object) (t f : ℕ) → o.ty ≡ Record t → Settled k code w.ledger.next_master w.activations o → operation_of (λ x. x.initialize) code t ≡ Some f → IsInScope code (length (home_of o.origin w)) (Some f)
-initialize_scope k code w o t f ty h op =
+declarable_first : (code : Code) (n t : ℕ) (how : Beginning) → (inside : IsDeclarable code n t) → IsInScope code n (first_operation how inside.0)
+declarable_first code n t ByDefault inside = inside.2
+declarable_first code n t ByCopy inside = inside.4
+
+pub first_scope : (how : Beginning) (k : Tables) (code : Code) (w : World) (o : Object) (t f : ℕ) → o.ty ≡ Record t → Settled k code w.ledger.next_master w.activations o → operation_of (first_operation how) code t ≡ Some f → IsInScope code (length (home_of o.origin w)) (Some f)
+first_scope how k code w o t f ty h op =
     let inside : IsDeclarable code (length (home h.master w.activations)) t = subst (λ y. IsInside code y (length (home h.master w.activations))) ty h.inside in
-    let same : inside.0.initialize ≡ Some f = sym (ap (λ (x : Option Operations). operation_in (λ y. y.initialize) x) inside.1) ∙ op in
-    subst (λ d. IsInScope code (length d) (Some f)) (sym (home_is k code w o h)) (subst (IsInScope code (length (home h.master w.activations))) same inside.2)
+    let same : first_operation how inside.0 ≡ Some f = sym (ap (λ (x : Option Operations). operation_in (first_operation how) x) inside.1) ∙ op in
+    subst (λ d. IsInScope code (length d) (Some f)) (sym (home_is k code w o h)) (subst (IsInScope code (length (home h.master w.activations))) same (declarable_first code _ t how inside))
 
 -- an object that exists is finalized by its own type, and closes then if it is a pool
 abbrev pub finalize_as : Tools → ℕ → Ty → Act Bool

@@ -28,9 +28,9 @@ use Rattle.ctl_gen.specs.Around.{behind, local_at}
 use Rattle.ctl_gen.specs.declared.right.Reached.{Reached}
 use Rattle.ctl_gen.specs.declared.right.Reached.TheVariants as ReachedOf
 use Rattle.ctl_gen.proofs.Components.{part_formed}
-use Rattle.ctl_gen.specs.Values.{ValueCode, value_code, reached_by}
+use Rattle.ctl_gen.specs.Values.{ValueCode, copied, value_code, reached_by}
 use Rattle.ctl_gen.specs.Records.{is_run_type}
-use Rattle.ctl_gen.specs.Layout.{ArmCode, ItemCode, MasterCode, StatementCode, all, all_items, arm_code, arms_run, assign, block, exit, return, has_no_handlers, in_master, inside, item_code, master_code, missing_statement, no_code, statement_code, tested}
+use Rattle.ctl_gen.specs.Layout.{ArmCode, ItemCode, MasterCode, StatementCode, all, all_items, arm_code, arms_run, assign, block, exit, return, has_no_handlers, in_master, inside, item_code, master_code, missing_statement, no_code, statement_code, tested, valued, with_value}
 use Rattle.ctl_gen.proofs.Known.{both_true}
 use Rattle.ctl_gen.proofs.TreeLayers.{arm_roll, layer_of, master_roll}
 use Rattle.ctl_gen.proofs.Place.{HasAt}
@@ -38,7 +38,7 @@ use Rattle.ctl_gen.proofs.Formed.{both, both_at, Formed, FormedAt, none, one}
 use Rattle.ctl_gen.proofs.FormedAround.{Agrees, agrees_inside, leave_behind, leaves_formed, newest_there}
 use Rattle.ctl_gen.proofs.FormedArms.{GoodArms, branches_stay}
 use Rattle.ctl_gen.proofs.FormedLines.{block_formed}
-use Rattle.ctl_gen.proofs.FormedStatements.{MayDeclare, Stays, all_stay, assign_formed, declaration_formed, for_stays, leaves_stay, leaves_when_stay, loop_stays, tested_turns, valued_formed}
+use Rattle.ctl_gen.proofs.FormedStatements.{MayDeclare, Stays, all_stay, assign_formed, copy_formed, declaration_formed, for_stays, leaves_stay, leaves_when_stay, loop_stays, tested_turns, valued_formed}
 use Rattle.ctl_gen.proofs.FormedTexts.{print_formed}
 use Rattle.ctl_gen.proofs.FormedTypes.{run_scalar}
 use Rattle.ctl_gen.proofs.FormedValues.{Fine, typed_fine, usable_as, value_usable}
@@ -68,14 +68,26 @@ module _ (code : Code) (records : List RecordType) (k : W.Setting) (declarable :
   filled : (env : W.Frames) (slot : ℕ) (h : W.Holding) (s : List Kind) → Fills env slot h → Agrees env s → (at : ℕ) × (variable_at s 0 slot ≡ Some at)
   filled env slot h s (D.fills names) agrees = agrees.slots (record { level = length env; slot = slot }) h names refl
 
+  valued_good : (slot : ℕ) (ty : Ty) (x : ValueCode) (s : List Kind) → (at : ℕ) × (variable_at s 0 slot ≡ Some at) → (x.runs records ≡ true → Fine code x ty) → (valued slot ty x).runs records ≡ true → Formed code ((valued slot ty x).code s) s (Some s)
+  valued_good slot ty x s cell fine runs =
+      let g = both_true (is_run_type ty) (x.runs records) runs in
+      valued_formed code slot cell.0 ty x s cell.1 (usable_as code x ty (run_scalar ty g.0) (fine g.1))
+
+  -- a declaration with a value
+  given_good : (env : W.Frames) (slot : ℕ) (ty : Ty) (e : Expr) {s : List Kind} → W.InView k env ty → (at : ℕ) × (variable_at s 0 slot ≡ Some at) → ((value_code e).runs records ≡ true → Fine code (value_code e) ty) → (with_value slot ty (value_code e)).runs records ≡ true → Agrees env s → Formed code ((with_value slot ty (value_code e)).code s) s (Some s)
+  given_good env slot (Record t) e {s} view cell fine runs agrees = copy_formed code records slot t (copied t (value_code e)) s runs (subst (λ n. IsDeclarable code n t) (sym agrees.deep) (declarable env t view))
+  given_good env slot Integer e {s} view cell fine runs agrees = valued_good slot Integer (value_code e) s cell fine runs
+  given_good env slot Count e {s} view cell fine runs agrees = valued_good slot Count (value_code e) s cell fine runs
+  given_good env slot Boolean e {s} view cell fine runs agrees = valued_good slot Boolean (value_code e) s cell fine runs
+  given_good env slot Address e {s} view cell fine runs agrees = valued_good slot Address (value_code e) s cell fine runs
+  given_good env slot Handle e {s} view cell fine runs agrees = valued_good slot Handle (value_code e) s cell fine runs
+  given_good env slot (Access a) e {s} view cell fine runs agrees = valued_good slot (Access a) (value_code e) s cell fine runs
+
   object_good : (env : W.Frames) (slot : ℕ) (ty : Ty) (o : Option Expr) → Fills env slot (W.Declared ty) → W.InView k env ty → Perhaps k env o ty → GoodItem env (item_code (Object slot ty o))
   object_good env slot ty None fresh view T.left_out runs s agrees =
       let cell = filled env slot (W.Declared ty) s fresh agrees in
       declaration_formed code records slot cell.0 ty s runs cell.1 (subst (λ n. MayDeclare code n ty) (sym agrees.deep) (may_declare env ty view))
-  object_good env slot ty (Some e) fresh view (T.given h) runs s agrees =
-      let g = both_true (is_run_type ty) ((value_code e).runs records) runs in
-      let cell = filled env slot (W.Declared ty) s fresh agrees in
-      valued_formed code slot cell.0 ty (value_code e) s cell.1 (usable_as code (value_code e) ty (run_scalar ty g.0) (typed_fine code records h g.1))
+  object_good env slot ty (Some e) fresh view (T.given h) runs s agrees = given_good env slot ty e view (filled env slot (W.Declared ty) s fresh agrees) (typed_fine code records h) runs agrees
 
   item_good : {env : W.Frames} {x : Item} → Elaborated k env x → GoodItem env (item_code x)
   item_good {env} (D.object {number = slot} {t = ty} {value = o} fresh view perhaps) = object_good env slot ty o fresh view perhaps

@@ -11,11 +11,11 @@ use Rattle.ctl_code.specs.declared.kinds.Kind.TheVariants.{Operand}
 use Rattle.ctl_code.specs.declared.code.Instr.TheVariants as InstrOf
 use Rattle.ctl_code.specs.declared.code.Code.{Code}
 use Rattle.ctl_code.specs.declared.template.TextPart.{TextPart}
-use Rattle.ctl_code.specs.Windows.{depth, variable_at}
+use Rattle.ctl_code.specs.Windows.{depth, height, variable_at}
 use Rattle.ctl_code.specs.Valid.{IsCellOf, IsDeclarable, Leads}
 use Rattle.ctl_gen.specs.Around.{Line, Around, behind, local_at, local_cell, new_operand, newest_at, newest_cell, out_to}
 use Rattle.ctl_gen.specs.Values.{ValueCode, held, value_type}
-use Rattle.ctl_gen.specs.Layout.{StatementCode, all, assign_code, bounds_code, declaration, for, in_loop, leaves_code, loop, scalar_code, test_code, test_held, test_length, tested_code, turns_code, valued_code, with_bounds}
+use Rattle.ctl_gen.specs.Layout.{StatementCode, all, assign_code, bounds_code, copy, declaration, for, in_loop, leaves_code, loop, scalar_code, test_code, test_held, test_length, tested_code, turns_code, valued_code, with_bounds}
 use Rattle.ctl_gen.specs.Defaults.{is_declared}
 use Rattle.ctl_gen.proofs.Place.{HasAt}
 use Rattle.ctl_gen.proofs.Place as Place
@@ -56,6 +56,17 @@ module _ (code : Code) where
   declaration_formed records slot at Address s runs there may = absurd (cc)
   declaration_formed records slot at Handle s runs there may = absurd (cc)
   declaration_formed records slot at (Access a) s runs there may = absurd (cc)
+
+  -- one with the value of a variable of its record type
+  pub copy_formed : (records : List RecordType) (slot t : ℕ) (o : Option Var) (s : List Kind) → (copy slot t o).runs records ≡ true → IsDeclarable code (depth s) t → Formed code ((copy slot t o).code s) s (Some s)
+  copy_formed records slot t None s runs may = absurd (cc)
+  copy_formed records slot t (Some v) s runs may =
+      let over = Operand (Record t) ∷ s in
+      let locate = InstrOf.Locate (out_to s v) v.slot t (height s) in
+      let declare = InstrOf.DeclareCopy slot t (height s) in
+      both code ((locate, s) ∷ []) ((declare, over) ∷ []) s over (Some s)
+      (one code locate s (Some over) (λ p next. (refl, next)))
+      (one code declare over (Some s) (λ p next. (may, (s, refl, (refl, next)))))
 
   -- Statements -------------------------------------------------------------------------------------
 

@@ -3,6 +3,8 @@ use Rattle.std.proofs.Common.{◌<◌, ◌≡◌, ℕ, zero, suc, ◌+◌, ◌�
 use Rattle.std.specs.Prelude.{slice_get}
 use Rattle.std.proofs.lemmas.List.{length-take}
 use Rattle.ctl_program.specs.declared.types.RecordType.{RecordType}
+use Rattle.ctl_program.specs.declared.types.Root.{Root}
+use Rattle.ctl_program.specs.declared.types.Root.TheVariants.{BlockPool, Controlled, MarkPool, Untagged}
 use Rattle.ctl_program.specs.declared.program.Subprogram.{Subprogram}
 use Rattle.ctl_program.specs.declared.program.Checked.{Checked}
 use Rattle.ctl_well_typed.specs.Setting as W
@@ -16,6 +18,7 @@ use Rattle.ctl_code.specs.declared.code.Code.{Code}
 use Rattle.ctl_code.specs.Valid.{IsBegun, IsDeclarable, IsEntry, IsFine, IsInScope, IsValid, Leads, MayBeEntry, TakesObject}
 use Rattle.ctl_gen.specs.Around.{Line, Around, behind}
 use Rattle.ctl_gen.specs.Layout.{bodies, body_code, entries_from, entry_at, HasKinds, in_body, instructions_of, IsLaidOut, kinds_of, master_code, nowhere, operations_in, operations_of, program_code}
+use Rattle.ctl_gen.specs.Records.{adjust_by}
 use Rattle.ctl_gen.specs.Run.{AreLinked, IsBody, IsRun, IsWritten, are_procedures}
 use Rattle.ctl_gen.proofs.Known.{both_true}
 use Rattle.ctl_gen.proofs.Place.{HasAt, has_all}
@@ -34,6 +37,13 @@ alike A B (z ∷ xs) (y ∷ ys) e zero x h = (y, refl)
 alike A B (z ∷ xs) (y ∷ ys) e (suc n) x h = alike A B xs ys (omega (arith, e)) n x h
 
 -- each type has its operations
+-- what holds of no operation and of one that the user wrote
+adjust_has : (P : Option ℕ → Type 0) (x : Root) (o : Option ℕ) → P None → P o → P (adjust_by x o)
+adjust_has P Untagged o none some = none
+adjust_has P Controlled o none some = some
+adjust_has P BlockPool o none some = some
+adjust_has P MarkPool o none some = some
+
 operations_at : (rs : List RecordType) (t : ℕ) (r : RecordType) → slice_get rs t ≡ Some r → slice_get (operations_of rs) t ≡ Some (operations_in r)
 operations_at [] t r e = absurd (cc)
 operations_at (x ∷ rs) zero r e = let same : x ≡ r = cc e in ap (λ (y : RecordType). Some (operations_in y)) same
@@ -112,6 +122,9 @@ module _ (program : Checked) (typed : WellTyped program) where
   initialize_written : (t : ℕ) (r : RecordType) (home : W.Frames) → slice_get program.records t ≡ Some r → slice_get typed.k.record_homes t ≡ Some home → MayBeOperation home r.operations.initialize
   initialize_written t r home e at = overrides home t [] r.operations.initialize (typed.each_record t r home e at).operations.initialize
 
+  adjust_written : (t : ℕ) (r : RecordType) (home : W.Frames) → slice_get program.records t ≡ Some r → slice_get typed.k.record_homes t ≡ Some home → MayBeOperation home r.operations.adjust
+  adjust_written t r home e at = overrides home t [] r.operations.adjust (typed.each_record t r home e at).operations.adjust
+
   finalize_written : (t : ℕ) (r : RecordType) (home : W.Frames) → slice_get program.records t ≡ Some r → slice_get typed.k.record_homes t ≡ Some home → MayBeOperation home r.operations.finalize
   finalize_written t r home e at = overrides home t [] r.operations.finalize (typed.each_record t r home e at).operations.finalize
 
@@ -119,6 +132,7 @@ module _ (program : Checked) (typed : WellTyped program) where
   linked_of = record {
     main = let s = called [] program.main _ typed.main in (s.body, s.found);
     initialize = λ t r e. let home = home_of t r e in written home.0 r.operations.initialize (initialize_written t r home.0 e home.1);
+    adjust = λ t r e. let home = home_of t r e in written home.0 r.operations.adjust (adjust_written t r home.0 e home.1);
     finalize = λ t r e. let home = home_of t r e in written home.0 r.operations.finalize (finalize_written t r home.0 e home.1);
   }
 
@@ -200,21 +214,25 @@ module _ (program : Checked) (code : Code) (laid : IsLaidOut program code) (kind
   operations_there : (t : ℕ) (r : RecordType) → slice_get program.records t ≡ Some r → slice_get code.records.items t ≡ Some (operations_in r)
   operations_there t r h = ap (λ os. slice_get os t) laid.records ∙ operations_at program.records t r h
 
-  records_of : (t : ℕ) (o : Operations) → slice_get code.records.items t ≡ Some o → MayBeEntry code o.initialize × MayBeEntry code o.finalize
+  records_of : (t : ℕ) (o : Operations) → slice_get code.records.items t ≡ Some o → MayBeEntry code o.initialize × MayBeEntry code o.finalize × MayBeEntry code o.adjust
   records_of t o h =
       let x = operations_from program.records t o (sym (ap (λ os. slice_get os t) laid.records) ∙ h) in
-      subst (λ (z : Operations). MayBeEntry code z.initialize × MayBeEntry code z.finalize) x.2 (may_be_entry x.0.operations.initialize (linked.initialize t x.0 x.1), may_be_entry x.0.operations.finalize (linked.finalize t x.0 x.1))
+      subst (λ (z : Operations). MayBeEntry code z.initialize × MayBeEntry code z.finalize × MayBeEntry code z.adjust) x.2
+      (may_be_entry x.0.operations.initialize (linked.initialize t x.0 x.1), may_be_entry x.0.operations.finalize (linked.finalize t x.0 x.1), adjust_has (MayBeEntry code) x.0.root x.0.operations.adjust tt (may_be_entry x.0.operations.adjust (linked.adjust t x.0 x.1)))
 
   takes_object : (home : W.Frames) (o : Option ℕ) → MayBeOperation program typed home o → TakesObject code o
   takes_object home None h = tt
   takes_object home (Some f) h = let x = entry_of f h.body h.found in (entry_at x.0 h.body, x.1, h.slots)
 
-  formals_of : (t : ℕ) (o : Operations) → slice_get code.records.items t ≡ Some o → TakesObject code o.initialize × TakesObject code o.finalize
+  formals_of : (t : ℕ) (o : Operations) → slice_get code.records.items t ≡ Some o → TakesObject code o.initialize × TakesObject code o.finalize × TakesObject code o.adjust
   formals_of t o h =
       let x = operations_from program.records t o (sym (ap (λ os. slice_get os t) laid.records) ∙ h) in
       let home = home_of program typed t x.0 x.1 in
-      subst (λ (z : Operations). TakesObject code z.initialize × TakesObject code z.finalize) x.2
-      (takes_object home.0 x.0.operations.initialize (initialize_written program typed t x.0 home.0 x.1 home.1), takes_object home.0 x.0.operations.finalize (finalize_written program typed t x.0 home.0 x.1 home.1))
+      subst (λ (z : Operations). TakesObject code z.initialize × TakesObject code z.finalize × TakesObject code z.adjust) x.2 (
+        takes_object home.0 x.0.operations.initialize (initialize_written program typed t x.0 home.0 x.1 home.1),
+        takes_object home.0 x.0.operations.finalize (finalize_written program typed t x.0 home.0 x.1 home.1),
+        adjust_has (TakesObject code) x.0.root x.0.operations.adjust tt (takes_object home.0 x.0.operations.adjust (adjust_written program typed t x.0 home.0 x.1 home.1)),
+      )
 
   -- an operation that can be called at its type's home is in scope inside it
   in_scope : (home env : W.Frames) (o : Option ℕ) → W.Encloses home env → MayBeOperation program typed home o → IsInScope code (length env) o
@@ -232,6 +250,7 @@ module _ (program : Checked) (code : Code) (laid : IsLaidOut program code) (kind
         operations_there t h.is e,
         in_scope h.home env h.is.operations.initialize h.encloses (initialize_written program typed t h.is h.home e h.at_home),
         in_scope h.home env h.is.operations.finalize h.encloses (finalize_written program typed t h.is h.home e h.at_home),
+        adjust_has (IsInScope code (length env)) h.is.root h.is.operations.adjust tt (in_scope h.home env h.is.operations.adjust h.encloses (adjust_written program typed t h.is h.home e h.at_home)),
       )
 
   raisable : (x : ℕ) → x < typed.k.exceptions → x < length code.exceptions.items

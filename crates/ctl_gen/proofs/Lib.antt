@@ -23,6 +23,7 @@ pub mod Branches
 pub mod Finalize
 pub mod Leave
 pub mod Declare
+pub mod Copies
 pub mod Texts
 pub mod Statements
 pub mod Ranges

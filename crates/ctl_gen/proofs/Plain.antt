@@ -13,6 +13,7 @@ use Rattle.ctl_meaning.specs.Lists.{item_or, opened_lists, keep, any_of}
 use Rattle.ctl_meaning.specs.Types.{Tables, Placed, opened_types, with_own, of_parent, components, offset_in, placed, placed_from, is_controlled, has_controlled, has_default, controlled_within, is_tagged_root, root_in, begin_cells, cells_of, cells_within, total, of_record, operation, operation_in}
 use Rattle.ctl_meaning.specs.Names.{Tools}
 use Rattle.ctl_meaning.specs.Finalization.{Chosen, Spot, component_at, has_chosen, parts_to_finalize}
+use Rattle.ctl_meaning.specs.Adjustment.{controlled_parts}
 use Rattle.ctl_gen.specs.Layout.{count_from}
 use Rattle.ctl_gen.proofs.Known.{AreScalar, IsFlat, IsScalar, IsUntagged}
 
@@ -81,6 +82,15 @@ none_finalized k chosen position offset (c ∷ cs) h =
     ap (λ b. if b && chosen x then x ∷ rest else rest) (scalar_not_controlled k c.ty h.0)
     ∙ none_finalized k chosen (position + 1) (offset + cells_of k c.ty) cs h.1
 
+none_adjusted : (k : Tables) (position offset : ℕ) (cs : List Component) → AreScalar cs → keep (λ p. has_controlled k p.ty) (placed_from k position offset cs) ≡ []
+unfolding placed_from opened_lists
+none_adjusted k position offset [] h = refl
+none_adjusted k position offset (c ∷ cs) h =
+    let x : Placed = record { position = position; offset = offset; ty = c.ty; defaulted = is_some c.default } in
+    let rest = keep (λ p. has_controlled k p.ty) (placed_from k (position + 1) (offset + cells_of k c.ty) cs) in
+    ap (λ b. if b then x ∷ rest else rest) (scalar_not_controlled k c.ty h.0)
+    ∙ none_adjusted k (position + 1) (offset + cells_of k c.ty) cs h.1
+
 -- Flat types --------------------------------------------------------------------------------------
 
 module _ (k : Tables) (t : ℕ) (r : RecordType) (at : slice_get k.records t ≡ Some r) (flat : IsFlat k.records r) where
@@ -104,6 +114,14 @@ module _ (k : Tables) (t : ℕ) (r : RecordType) (at : slice_get k.records t ≡
   pub begin_cells_flat : begin_cells k (Record t) ≡ replicate (length r.own) 0
   unfolding opened_types
   begin_cells_flat = ap (λ cs. replicate (total (of_record 1 (cells_within (length k.records) k.records)) cs) 0) (own_within (length k.records)) ∙ ap (λ n. replicate n 0) (scalar_total (cells_within (length k.records) k.records) r.own flat.own)
+
+  pub cells_flat : cells_of k (Record t) ≡ length r.own
+  unfolding opened_types
+  cells_flat = ap (total (of_record 1 (cells_within (length k.records) k.records))) (own_within (length k.records)) ∙ scalar_total (cells_within (length k.records) k.records) r.own flat.own
+
+  pub controlled_parts_flat : (K : Tools) → K.tables ≡ k → controlled_parts K t ≡ []
+  unfolding controlled_parts
+  controlled_parts_flat K same = ap (λ x. keep (λ p. has_controlled x p.ty) (placed x t)) same ∙ ap (keep _) placed_flat ∙ none_adjusted k 1 0 r.own flat.own
 
   pub parts_to_finalize_flat : (K : Tools) (want : Chosen) (s : Spot) → K.tables ≡ k → parts_to_finalize K want s t ≡ []
   unfolding parts_to_finalize

@@ -2,6 +2,7 @@
 use Rattle.std.proofs.Common.{◌≡◌, ℕ, ◌<◌, ◌≤◌, List, [], ◌∷◌, length, Option, Some, None, true, refl}
 use Rattle.std.specs.Prelude.{slice_get}
 use Rattle.ctl_program.specs.declared.program.Subprogram.{Subprogram}
+use Rattle.ctl_program.specs.declared.types.Operations.{Operations}
 use Rattle.ctl_program.specs.declared.types.RecordType.{RecordType}
 use Rattle.ctl_tree.specs.declared.event.Event.{Event}
 use Rattle.ctl_meaning.specs.World.{Log, World, Slot}
@@ -10,6 +11,8 @@ use Rattle.ctl_meaning.specs.Choice.{Ask}
 use Rattle.ctl_meaning.specs.Outcome.{Way, Result, tell}
 use Rattle.ctl_meaning.specs.Types.{Tables, offset_in, operation, placed}
 use Rattle.ctl_meaning.specs.Names.{OfSubprogram, Call, Default, Tools}
+use Rattle.ctl_code.specs.declared.code.Beginning.{Beginning}
+use Rattle.ctl_code.specs.declared.code.Beginning.TheVariants.{ByDefault, ByCopy}
 use Rattle.ctl_code.specs.declared.code.Entry.{Entry}
 use Rattle.ctl_code.specs.declared.code.Instr.TheVariants as InstrOf
 use Rattle.ctl_code.specs.declared.code.Code.{Code}
@@ -19,7 +22,7 @@ use Rattle.ctl_code.specs.Table.{defaulted_of, ended, enter_body, offset_of, ope
 use Rattle.ctl_code.specs.Steps.{moved, step}
 use Rattle.ctl_code.specs.Valid.{IsInScope, IsValid, kinds_at}
 use Rattle.ctl_code.specs.Windows.{depth}
-use Rattle.ctl_gen.specs.Records.{is_flat, parts_by}
+use Rattle.ctl_gen.specs.Records.{adjust_by, is_flat, parts_by}
 use Rattle.ctl_gen.specs.Defaults.{defaulted_from}
 use Rattle.ctl_gen.specs.Run.{IsBody}
 use Rattle.ctl_gen.proofs.Worlds.{Each, IsWhole, Since, home}
@@ -39,9 +42,20 @@ pub record Setting (k : Tables) (code : Code) : Type 0 where
   pub parts : (t : ℕ) (r : RecordType) → slice_get k.records t ≡ Some r → parts_of code t ≡ parts_by r.root
   pub defaults : (t : ℕ) (r : RecordType) → slice_get k.records t ≡ Some r → defaulted_of code t ≡ defaulted_from 0 r.own
   pub initialize : (t : ℕ) → operation_of (λ x. x.initialize) code t ≡ operation (λ x. x.initialize) k t
+  pub adjust : (t : ℕ) (r : RecordType) → slice_get k.records t ≡ Some r → operation_of (λ x. x.adjust) code t ≡ adjust_by r.root r.operations.adjust
   pub finalize : (t : ℕ) → operation_of (λ x. x.finalize) code t ≡ operation (λ x. x.finalize) k t
   pub initialize_body : (t f : ℕ) → operation (λ x. x.initialize) k t ≡ Some f → IsBody subprograms f
+  pub adjust_body : (t f : ℕ) → operation (λ x. x.adjust) k t ≡ Some f → IsBody subprograms f
   pub finalize_body : (t f : ℕ) → operation (λ x. x.finalize) k t ≡ Some f → IsBody subprograms f
+
+-- the operation that is called once an object has begun (7.6)
+abbrev pub first_of : Beginning → Operations → Option ℕ
+first_of ByDefault x = x.initialize
+first_of ByCopy x = x.adjust
+
+pub first_body : (k : Tables) (code : Code) (setting : Setting k code) (how : Beginning) (t f : ℕ) → operation (first_of how) k t ≡ Some f → IsBody setting.subprograms f
+first_body k code setting ByDefault t f e = setting.initialize_body t f e
+first_body k code setting ByCopy t f e = setting.adjust_body t f e
 
 -- what evaluates with these executions
 abbrev pub tools_with : Ask → Tables → Call → Default → Tools

@@ -3,6 +3,8 @@ use Rattle.std.proofs.Common.{◌≡◌, ℕ, ◌+◌, ◌-◌, ◌<◌, ◌≤�
 use Rattle.std.specs.Prelude.{slice_get, replicate, ◌&&◌, if◌then◌else◌}
 use Rattle.ctl_program.specs.declared.types.Ty.{Ty}
 use Rattle.ctl_program.specs.declared.types.Ty.TheVariants.{Integer, Count, Boolean, Address, Handle, Access, Record}
+use Rattle.ctl_program.specs.declared.types.Var.{Var}
+use Rattle.ctl_program.specs.declared.expression.Expr.{Expr}
 use Rattle.ctl_program.specs.declared.statement.Item.{Item}
 use Rattle.ctl_program.specs.declared.statement.Item.TheVariants.{Collections, Object, Pool, Silent}
 use Rattle.ctl_meaning.specs.World.{Slot, unset, Log, World}
@@ -26,8 +28,8 @@ use Rattle.ctl_code.specs.Table.{behind as goes_behind, on_at, transfers}
 use Rattle.ctl_code.specs.Steps.{moved, step}
 use Rattle.ctl_code.specs.Windows.{depth}
 use Rattle.ctl_gen.specs.Around.{Line, Landing, OutOfMaster, BeforeLoop, Around, behind, land, further as further_on}
-use Rattle.ctl_gen.specs.Values.{ValueCode, value_code}
-use Rattle.ctl_gen.specs.Layout.{ArmCode, ItemCode, MasterCode, StatementCode, all, all_items, arms_code, arms_run, arms_texts, block, block_code, branches, in_master as in_new, inside, item_code, leaves_code, turn_code}
+use Rattle.ctl_gen.specs.Values.{ValueCode, copied, value_code}
+use Rattle.ctl_gen.specs.Layout.{ArmCode, ItemCode, MasterCode, StatementCode, all, all_items, arms_code, arms_run, arms_texts, block, block_code, branches, copy, in_master as in_new, inside, item_code, leaves_code, turn_code, valued, with_value}
 use Rattle.ctl_gen.specs.Defaults.{is_declared}
 use Rattle.ctl_gen.proofs.Known.{both_true, plain_if, scalar_if}
 use Rattle.ctl_gen.proofs.Place.{HasAt, has_front, has_back, Laid, laid_front, laid_back}
@@ -37,6 +39,7 @@ use Rattle.ctl_gen.proofs.Defaults.{GivesDefaults}
 use Rattle.ctl_gen.proofs.Cells.{by_code}
 use Rattle.ctl_gen.proofs.Does.{Does}
 use Rattle.ctl_gen.proofs.Declare.{declare_runs}
+use Rattle.ctl_gen.proofs.Copies.{copy_does}
 use Rattle.ctl_gen.proofs.Assign.{scalar_runs, valued_runs}
 use Rattle.ctl_gen.proofs.Expressions.{Value}
 use Rattle.ctl_gen.proofs.Evaluated.{value_since}
@@ -105,12 +108,32 @@ module _ (ask : Ask) (k : Tables) (code : Code) (setting : Setting k code) (call
   bare_object slot Handle runs a w0 d place ks ops c l w le fits sees has = absurd (cc)
   bare_object slot (Access t) runs a w0 d place ks ops c l w le fits sees has = absurd (cc)
 
-  item_elaborates : (x : Item) → Elaborates (item_code x) (elaborate_item x)
-  unfolding object silent if_given opened_outcome
-  item_elaborates (Object slot ty None) runs = bare_object slot ty runs
-  item_elaborates (Object slot ty (Some e)) runs =
+  -- a declaration with a value
+  valued_object : (slot : ℕ) (ty : Ty) (e : Expr) → (valued slot ty (value_code e)).runs k.records ≡ true → Does ask k code bound (λ a. (valued slot ty (value_code e)).code a.stack) (λ d. object slot ty (Some (eval e)) K d (last_of d))
+  unfolding object if_given opened_outcome
+  valued_object slot ty e runs =
       let h = both_true _ _ runs in
       valued_runs ask k code setting.valid bound call default slot ty (value_code e) (eval e K) (scalar_if ty h.0) (value_since ask k code setting.places call default e h.1)
+
+  copied_object : (slot t : ℕ) (e : Expr) (o : Option Var) → copied t (value_code e) ≡ o → (copy slot t o).runs k.records ≡ true → Does ask k code bound (λ a. (copy slot t o).code a.stack) (λ d. object slot (Record t) (Some (eval e)) K d (last_of d))
+  copied_object slot t e None is runs = absurd (cc)
+  copied_object slot t e (Some v) is runs =
+      let known = plain_if k (slice_get k.records t) runs in
+      copy_does ask k code setting call default constants t known.0 known.1 known.2 bound calls slot v e is
+
+  given_object : (slot : ℕ) (ty : Ty) (e : Expr) → (with_value slot ty (value_code e)).runs k.records ≡ true → Does ask k code bound (λ a. (with_value slot ty (value_code e)).code a.stack) (λ d. object slot ty (Some (eval e)) K d (last_of d))
+  given_object slot (Record t) e runs = copied_object slot t e (copied t (value_code e)) refl runs
+  given_object slot Integer e runs = valued_object slot Integer e runs
+  given_object slot Boolean e runs = valued_object slot Boolean e runs
+  given_object slot Count e runs = valued_object slot Count e runs
+  given_object slot Address e runs = valued_object slot Address e runs
+  given_object slot Handle e runs = valued_object slot Handle e runs
+  given_object slot (Access t) e runs = valued_object slot (Access t) e runs
+
+  item_elaborates : (x : Item) → Elaborates (item_code x) (elaborate_item x)
+  unfolding silent opened_outcome
+  item_elaborates (Object slot ty None) runs = bare_object slot ty runs
+  item_elaborates (Object slot ty (Some e)) runs = given_object slot ty e runs
   item_elaborates Silent runs = λ a w0 d place ks ops c l w le fits sees has. still_there 1 (lands a place) w0 d place ks ops c l w fits
   item_elaborates (Collections accesses) runs = absurd (cc)
   item_elaborates (Pool slot t ds) runs = absurd (cc)

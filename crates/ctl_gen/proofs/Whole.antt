@@ -28,6 +28,7 @@ use Rattle.ctl_gen.specs.Around.{Line}
 use Rattle.ctl_gen.specs.Layout.{HasKinds, IsLaidOut, bodies, body_code, entries_from, entry_at, instructions_of, kinds_of, nowhere, operations_of, program_code}
 use Rattle.ctl_gen.proofs.Layouts.{defaults, parts_are, places, sizes}
 use Rattle.ctl_gen.proofs.Rows.{gives_defaults}
+use Rattle.ctl_gen.specs.Records.{adjust_by}
 use Rattle.ctl_gen.specs.Run.{AreLinked, IsBody, IsRun, IsWritten, are_procedures, is_procedure}
 use Rattle.ctl_gen.proofs.Known.{both_true}
 use Rattle.ctl_gen.specs.Correct.{HasReached, RunsAs, Behaves}
@@ -91,6 +92,11 @@ unfolding operation_in
 initialize_written subprograms None h f e = absurd (cc)
 initialize_written subprograms (Some r) h f e = subst (IsWritten subprograms) e (h r refl)
 
+adjust_written : (subprograms : List Subprogram) (o : Option RecordType) → ((r : RecordType) → o ≡ Some r → IsWritten subprograms r.operations.adjust) → (f : ℕ) → operation_in (λ x. x.adjust) o ≡ Some f → IsBody subprograms f
+unfolding operation_in
+adjust_written subprograms None h f e = absurd (cc)
+adjust_written subprograms (Some r) h f e = subst (IsWritten subprograms) e (h r refl)
+
 finalize_written : (subprograms : List Subprogram) (o : Option RecordType) → ((r : RecordType) → o ≡ Some r → IsWritten subprograms r.operations.finalize) → (f : ℕ) → operation_in (λ x. x.finalize) o ≡ Some f → IsBody subprograms f
 unfolding operation_in
 finalize_written subprograms None h f e = absurd (cc)
@@ -101,6 +107,11 @@ unfolding operation_in
 initialize_in [] t = refl
 initialize_in (r ∷ rs) zero = refl
 initialize_in (r ∷ rs) (suc t) = initialize_in rs t
+
+adjust_in : (rs : List RecordType) (t : ℕ) (r : RecordType) → slice_get rs t ≡ Some r → Table.operation_in (λ x. x.adjust) (slice_get (operations_of rs) t) ≡ adjust_by r.root r.operations.adjust
+adjust_in [] t r e = absurd (cc)
+adjust_in (x ∷ rs) zero r e = let same : x ≡ r = cc e in ap (λ (y : RecordType). adjust_by y.root y.operations.adjust) same
+adjust_in (x ∷ rs) (suc t) r e = adjust_in rs t r e
 
 finalize_in : (rs : List RecordType) (t : ℕ) → Table.operation_in (λ x. x.finalize) (slice_get (operations_of rs) t) ≡ operation_in (λ x. x.finalize) (slice_get rs t)
 unfolding operation_in
@@ -172,8 +183,10 @@ module _ (program : Checked) (code : Code) (laid : IsLaidOut program code) (kind
     parts = parts_are (tables_of program) code.layouts.items laid.layouts;
     defaults = defaults (tables_of program) code.layouts.items laid.layouts;
     initialize = λ t. ap (λ xs. Table.operation_in (λ x. x.initialize) (slice_get xs t)) laid.records ∙ initialize_in program.records t;
+    adjust = λ t r e. ap (λ xs. Table.operation_in (λ x. x.adjust) (slice_get xs t)) laid.records ∙ adjust_in program.records t r e;
     finalize = λ t. ap (λ xs. Table.operation_in (λ x. x.finalize) (slice_get xs t)) laid.records ∙ finalize_in program.records t;
     initialize_body = λ t f e. initialize_written program.subprograms (slice_get program.records t) (linked.initialize t) f e;
+    adjust_body = λ t f e. adjust_written program.subprograms (slice_get program.records t) (linked.adjust t) f e;
     finalize_body = λ t f e. finalize_written program.subprograms (slice_get program.records t) (linked.finalize t) f e;
   }
 

@@ -1,5 +1,6 @@
--- The programs that this version runs: blocks, objects of types that extend Controlled by scalar components, of Integer and of Boolean, their
--- Initialize and Finalize, expressions over constants, variables and components, assignments to variables and components, texts with images, and control.
+-- The programs that this version runs: blocks, objects of types that extend Controlled by scalar components, also ones that take the value of a
+-- variable of their type, of Integer and of Boolean, their Initialize, Adjust and Finalize, expressions over constants, variables and
+-- components, assignments to variables and components, texts with images, and control.
 use Rattle.std.specs.Prelude.{◌≡◌, ℕ, List, [], ◌∷◌, slice_get, Option, Some, None, Bool, true, false, ◌&&◌, IsTrue}
 use Rattle.ctl_program.specs.declared.operators.SubprogramKind.{SubprogramKind}
 use Rattle.ctl_program.specs.declared.operators.SubprogramKind.TheVariants.{Procedure}
@@ -36,4 +37,5 @@ IsWritten subprograms (Some f) = IsBody subprograms f
 pub record AreLinked (program : Checked) : Type 0 where
   pub main : IsBody program.subprograms program.main
   pub initialize : (t : ℕ) (r : RecordType) → slice_get program.records t ≡ Some r → IsWritten program.subprograms r.operations.initialize
+  pub adjust : (t : ℕ) (r : RecordType) → slice_get program.records t ≡ Some r → IsWritten program.subprograms r.operations.adjust
   pub finalize : (t : ℕ) (r : RecordType) → slice_get program.records t ≡ Some r → IsWritten program.subprograms r.operations.finalize

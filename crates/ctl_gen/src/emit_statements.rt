@@ -14,7 +14,7 @@ ghost use Rattle.ctl_gen.specs.Layout as spec;
 
 use crate::emit::Emitter;
 use crate::right::{Reached, reached_by};
-use crate::typing::value_type;
+use crate::typing::{copied, value_type};
 use ctl_code::code::{Instr, Way};
 use ctl_code::kinds::Kind;
 use ctl_program::expression::{Expr, Name};
@@ -74,8 +74,47 @@ impl Emitter {
     {
         match value {
             None => self.declaration(slot, ty),
-            Some(value) => self.valued(slot, ty, value),
+            Some(value) => self.with_value(slot, ty, value),
         }
+    }
+
+    /// Emits the declaration of an object with a value: of a record type, or of an elementary one.
+    fn with_value(&mut self, slot: usize, ty: Ty, value: &Expr) -> Result<(), AllocError>
+        ensures { OnOk result (self.new ≡ lined (spec.with_value slot ty (values.value_code value.now)).code self.old) }
+    {
+        match ty {
+            Ty::Record(record) => self.copy(slot, record, value),
+            Ty::Integer | Ty::Count | Ty::Boolean | Ty::Address | Ty::Handle | Ty::Access(_) => {
+                self.valued(slot, ty, value)
+            }
+        }
+    }
+
+    /// Emits the declaration of an object of a record type with the value of a variable: the object in that is found first (RM 3.3.1).
+    fn copy(&mut self, slot: usize, record: usize, value: &Expr) -> Result<(), AllocError>
+        ensures { OnOk result (self.new ≡ lined (spec.copy slot «record» (values.copied «record» (values.value_code value.now))).code self.old) }
+    {
+        let Some(of) = copied(record, value) else {
+            return self.put(Instr::Missing);
+        };
+        let (out, from, at) = (self.out_to(of), of.slot, self.height());
+        self.put(Instr::Locate {
+            out,
+            slot: from,
+            record,
+            at,
+        })?;
+        self.declare_copy(slot, record, at)
+    }
+
+    /// Emits the declaration of an object over the number of the one whose value it takes, a new operand in this cell.
+    fn declare_copy(&mut self, slot: usize, record: usize, at: usize) -> Result<(), AllocError>
+        ensures { OnOk result (self.new ≡ lined (spec.copy_code slot «record» at) self.old) }
+    {
+        self.enter(Kind::Operand(Ty::Record(record)))?;
+        self.put(Instr::DeclareCopy { slot, record, at })?;
+        self.leave();
+        Ok(())
     }
 
     /// Emits the declaration of an object without a value: of a record type, or an elementary one.
@@ -97,7 +136,7 @@ impl Emitter {
 
     /// Emits the declaration of an elementary variable with a value.
     fn valued(&mut self, slot: usize, ty: Ty, value: &Expr) -> Result<(), AllocError>
-        ensures { OnOk result (self.new ≡ lined (spec.object slot ty (Some (values.value_code value.now))).code self.old) }
+        ensures { OnOk result (self.new ≡ lined (spec.valued slot ty (values.value_code value.now)).code self.old) }
     {
         let Some(to) = self.newest_cell(slot) else {
             return self.put(Instr::Missing);

@@ -90,6 +90,16 @@ fn entry_of(emitter: &Emitter, subprogram: &Subprogram) -> Entry
     }
 }
 
+/// Gives the Adjust that is called for the objects of a type: where it is not tagged they are not controlled, and none is (RM 7.6).
+fn adjust_by(root: Root, adjust: Option<usize>) -> Option<usize>
+    ensures { result ≡ types.adjust_by root adjust }
+{
+    match root {
+        Root::Untagged => None,
+        Root::Controlled | Root::BlockPool | Root::MarkPool => adjust,
+    }
+}
+
 /// Gives the operations of record types.
 fn records_of(alloc: Global, records: &[RecordType]) -> Result<Vec<Operations>, AllocError>
     ensures { IfOk result (λ all. all.items ≡ operations_of records.now) }
@@ -98,6 +108,7 @@ fn records_of(alloc: Global, records: &[RecordType]) -> Result<Vec<Operations>, 
     for record in records {
         all.push(Operations {
             initialize: record.operations.initialize,
+            adjust: adjust_by(record.root, record.operations.adjust),
             finalize: record.operations.finalize,
         })?;
     }

@@ -1,6 +1,6 @@
 //! Whether this version runs each construct of a checked program.
 
-ghost use Rattle.std.specs.Prelude.{◌≡◌, [], ◌∷◌, map, option_map, slice_get, Some};
+ghost use Rattle.std.specs.Prelude.{◌≡◌, ℕ, [], ◌∷◌, map, option_map, slice_get, Some};
 ghost use Rattle.ctl_gen.specs.Defaults as defaults;
 ghost use Rattle.ctl_gen.specs.Layout as spec;
 ghost use Rattle.ctl_gen.specs.Records as types;
@@ -9,6 +9,7 @@ ghost use Rattle.ctl_gen.specs.Texts as texts;
 ghost use Rattle.ctl_gen.specs.Values as values;
 
 use crate::right::{Reached, constant, reached_by};
+use crate::typing::copied;
 use ctl_program::expression::{Expr, Name, Operand};
 use ctl_program::operators::SubprogramKind;
 use ctl_program::program::{Checked, Subprogram};
@@ -243,16 +244,43 @@ fn is_plain(records: &[RecordType], entry: &RecordType) -> bool
     is_root_run(entry) && is_flat(records, entry) && have_constants(entry.own.as_slice(), records)
 }
 
+/// Tells whether objects of the record type of this number are run.
+fn has_plain(records: &[RecordType], number: usize) -> bool
+    ensures { result ≡ defaults.is_plain records.now (slice_get records.now number) }
+{
+    match records.get(number) {
+        Some(entry) => is_plain(records, entry),
+        None => false,
+    }
+}
+
 /// Tells whether objects of a type are run.
 fn is_declared(records: &[RecordType], ty: Ty) -> bool
     ensures { result ≡ defaults.is_declared records.now ty }
 {
     match ty {
-        Ty::Record(number) => match records.get(number) {
-            Some(entry) => is_plain(records, entry),
-            None => false,
-        },
+        Ty::Record(number) => has_plain(records, number),
         _ => is_run_type(ty),
+    }
+}
+
+/// Tells whether an object of a record type may begin with this value: that of a variable of the type (RM 3.3.1).
+fn is_copied(records: &[RecordType], number: usize, expression: &Expr) -> bool
+    ensures { result ≡ (spec.copy 0 number (values.copied number (values.value_code expression.now))).runs records.now }
+{
+    match copied(number, expression) {
+        Some(_) => has_plain(records, number),
+        None => false,
+    }
+}
+
+/// Tells whether a declaration with this value is run, in each slot.
+fn is_given(records: &[RecordType], ty: Ty, expression: &Expr) -> bool
+    ensures { (slot : ℕ) → result ≡ (spec.with_value slot ty (values.value_code expression.now)).runs records.now }
+{
+    match ty {
+        Ty::Record(number) => is_copied(records, number, expression),
+        _ => is_run_type(ty) && value(expression, records),
     }
 }
 
@@ -262,7 +290,7 @@ fn item(records: &[RecordType], item: &Item) -> bool
 {
     match item {
         Item::Object(_, ty, None) => is_declared(records, *ty),
-        Item::Object(_, ty, Some(expression)) => is_run_type(*ty) && value(expression, records),
+        Item::Object(_, ty, Some(expression)) => is_given(records, *ty, expression),
         Item::Silent => true,
         Item::Collections(_) | Item::Pool(..) => false,
     }

@@ -3,9 +3,10 @@
 ghost use Rattle.std.specs.Prelude.{◌≡◌, map};
 ghost use Rattle.ctl_gen.specs.Values as spec;
 
+use crate::right::{Right, right_of};
 use ctl_program::expression::{Expr, Operand};
 use ctl_program::operators::BinaryOp;
-use ctl_program::types::Ty;
+use ctl_program::types::{Ty, Var};
 
 /// Gives the type of a value; a constant has none of its own.
 #[tactic(auto, using(crate::proofs::Layers::value_constant, crate::proofs::Layers::read_own, crate::proofs::Layers::value_call, crate::proofs::Layers::value_unary, crate::proofs::Layers::value_chain, crate::proofs::Layers::operator_is, crate::proofs::Layers::value_short, crate::proofs::Layers::value_convert, crate::proofs::Layers::value_access, crate::proofs::Layers::value_new, crate::proofs::Layers::value_subpool, crate::proofs::Layers::value_discriminant))]
@@ -42,6 +43,27 @@ pub fn value_type(expression: &Expr) -> Ty
     ensures { result ≡ spec.value_type (spec.value_code expression.now) }
 {
     type_of(expression).unwrap_or(Ty::Integer)
+}
+
+/// Tells whether a value of this type is of the record type of this number.
+fn is_of(record: usize, ty: Option<Ty>) -> bool
+    ensures { result ≡ spec.is_of «record» ty }
+{
+    match ty {
+        Some(Ty::Record(number)) => number == record,
+        _ => false,
+    }
+}
+
+/// Gives the variable of a record type that a value is, if it is one (RM 3.3.1).
+pub fn copied(record: usize, value: &Expr) -> Option<Var>
+    ensures { result ≡ spec.copied «record» (spec.value_code value.now) }
+{
+    let same = is_of(record, type_of(value));
+    match right_of(value) {
+        Right::Variable(variable) if same => Some(variable),
+        Right::Variable(_) | Right::Constant(_) | Right::Evaluated => None,
+    }
 }
 
 /// Gives the type of the first operand of a chain.
