@@ -122,9 +122,7 @@ pub(crate) fn of_objects(objects: &Objects<Definition, Use>) -> Support
     ensures { result ≡ spec.of_objects objects.now }
 {
     match objects.mark.first.denoted {
-        Denoted::Declared(_, _) => {
-            support_when(objects.discriminants.as_slice().is_empty())
-        }
+        Denoted::Declared(_, _) => { support_when(objects.discriminants.as_slice().is_empty()) }
         denoted => support_when(is_scalar(denoted)),
     }
 }
