@@ -167,8 +167,8 @@ fn faults_of_texts(rt: HostRuntime) -> Result<(), Fail> {
         ),
         // an object of a type that is not run; its type stands first
         (
-            b"procedure Main is type R is record N : Integer; end record; X : R; begin null; end Main;",
-            "1:19: 12 LEFT_OUT",
+            b"procedure Main is type R is record N : Integer; end record; type Q is record X : R; end record; Y : Q; begin null; end Main;",
+            "1:61: 12 LEFT_OUT",
         ),
         // a rule on names or types is judged before a construct is left out, wherever they stand
         (
