@@ -2,7 +2,7 @@
 //! stands what it leaves.
 
 ghost use Rattle.std.specs.Prelude.{◌≡◌, ◌↔◌, ℕ, ◌+◌, ◌-◌, ◌<◌, ◌≤◌, ◌^◌, ◌∷◌, [], drop, length, reverse, slice_get, IsTrue, List, MatchOption, Some};
-ghost use Rattle.ctl_program.specs.declared.types.Ty.TheVariants.{Boolean, Integer};
+ghost use Rattle.ctl_program.specs.declared.types.Ty.TheVariants.{Boolean, Integer, Record};
 ghost use Rattle.ctl_code.specs.declared.kinds.Kind.{Kind};
 ghost use Rattle.ctl_code.specs.declared.kinds.Kind.TheVariants.{Block, Operand};
 ghost use Rattle.ctl_program.specs.declared.operators.Direction.{Direction};
@@ -10,7 +10,7 @@ ghost use Rattle.ctl_code.specs.declared.code.Cell.{Cell};
 ghost use Rattle.ctl_code.specs.declared.code.Operator.{Operator};
 ghost use Rattle.ctl_code.specs.declared.code.Instr.TheVariants as I;
 ghost use Rattle.ctl_code.specs.Kinds.{changed, stack_at};
-ghost use Rattle.ctl_code.specs.Valid.{Bounded, DropsObject, IsAtEnd, IsDeclarable, IsEntry, IsFine, IsInScope, IsText, Leads, Puts, Taken, Takes, Under};
+ghost use Rattle.ctl_code.specs.Valid.{Bounded, DropsObject, IsAtEnd, IsDeclarable, IsEntry, IsFine, IsInScope, IsText, Leads, Puts, Taken, Takes, Under, outermost};
 ghost use Rattle.ctl_code.specs.Windows.{depth, height, variable_at};
 
 use crate::code::{Cell, Code, Instr, Named, Operator, Way};
@@ -448,6 +448,19 @@ fn is_copy_fine(code: &Code, place: usize, number: usize, at: usize) -> bool
         && drops_object(code, place, 0, at, number)
 }
 
+/// How many masters every object is declared in at least: the main procedure's own.
+const OUTERMOST: usize = 1;
+
+/// Checks the assignment to an object, whose number stands in this cell, of the value of another one (RM 5.2).
+fn is_assign_fine(code: &Code, place: usize, from: Cell, at: usize, number: usize) -> bool
+    requires { place + 1 < 2 ^ 64 }
+    ensures { let stack = stack_at code.now.kinds place in
+        IsTrue result ↔ (IsDeclarable code.now outermost number × Takes from (Record number) stack (DropsObject code.now place at number)) }
+{
+    is_declarable(code, OUTERMOST, number)
+        && stores_part(code, place, from, Ty::Record(number), at, number)
+}
+
 /// Checks an operator with two operands (RM 4.5).
 fn is_binary_fine(code: &Code, place: usize, instr: &Instr) -> bool
     requires { place + 1 < 2 ^ 64 }
@@ -525,6 +538,7 @@ pub fn is_fine(code: &Code, place: usize, instr: &Instr) -> bool
             record,
             ..
         } => is_scalar(ty) && stores_part(code, place, from, ty, at, record),
+        Instr::Assign { from, at, record } => is_assign_fine(code, place, from, at, record),
         Instr::Store { from, ty, .. } => is_scalar(ty) && drops(code, place, from, ty),
         Instr::Unary { op, ty, from, to } => is_unary_of(op, ty)
             && passes(code, place, 0, from, ty, to, ty),
