@@ -146,7 +146,7 @@ module _ (ask : Ask) (k : Tables) (code : Code) (placed_so : ArePlaced k code) w
         by None first = stop_step ask code Worlds 8 8 s0 _ c 2 (landed to d (place + 1) ks ops) UseAfterFree l (omega arith) first refl refl
         by (Some y) first = last_step ask code Worlds 8 8 s0 c 2 (landed to d (place + 1) ks ops) (Goes (cells_at offset 1 y)) l w (omega arith) fits (first ∙ put_there to (cells_at offset 1 y) d place ks ops l w)
 
-    pub component_value : ((n i : ℕ) (w : World) → Fits w → IsWhole (slot_at n i w)) → (v : Var) (t position : ℕ) → is_flat k.records (slice_get k.records t) ≡ true → (find : List ℕ → Act Found) → Touches k v t position find → (ty : Ty) → IsScalar ty → Value ask k code Fits (read (Some (ReachedOf.Component v t position)) ty) (λ d. ticked (find d >>= read_found (cells_of k ty)))
+    pub component_value : ((n i : ℕ) (w : World) → Fits w → IsWhole (slot_at n i w)) → (v : Var) (t position : ℕ) → is_flat k.records t ≡ true → (find : List ℕ → Act Found) → Touches k v t position find → (ty : Ty) → IsScalar ty → Value ask k code Fits (read (Some (ReachedOf.Component v t position)) ty) (λ d. ticked (find d >>= read_found (cells_of k ty)))
     unfolding read_found opened_outcome
     component_value whole v t position flat find touches ty scalar = record {
       cell = λ d c l w. subst (IsCell Any) (sym (reads_it d c l w)) (cell_read (master_of d v) v.slot offset position (content_of d v w) c l w);
@@ -191,7 +191,7 @@ module _ (ask : Ask) (k : Tables) (code : Code) (placed_so : ArePlaced k code) w
   assigns_whole act m i offset position (Copies v) d c l w h = absurd h
   assigns_whole act m i offset position (Gathers n) d c l w h = refl
 
-  module _ (bound : ℕ) (v : Var) (t position : ℕ) (flat : is_flat k.records (slice_get k.records t) ≡ true) (y : ValueCode) (act : List ℕ → Act (List ℕ)) (value : (w0 : World) → Value ask k code (Since k code w0) y act) where
+  module _ (bound : ℕ) (v : Var) (t position : ℕ) (flat : is_flat k.records t ≡ true) (y : ValueCode) (act : List ℕ → Act (List ℕ)) (value : (w0 : World) → Value ask k code (Since k code w0) y act) where
     abbrev offset : ℕ
     offset = offset_in position (placed k t)
 

@@ -168,7 +168,7 @@ module _ (K : Tools) where
       (λ x y is. subst (λ z. Denotes (roll-Name z)) is (name_rolled y))
       (λ x y is. tt)
 
-module _ (ask : Ask) (k : Tables) (code : Code) (setting : Setting k code) (call : Call) (default : Default) (constants : GivesDefaults k default) (t : ℕ) (r : RecordType) (record_is : slice_get k.records t ≡ Some r) (plain : IsPlain k r) where
+module _ (ask : Ask) (k : Tables) (code : Code) (setting : Setting k code) (call : Call) (default : Default) (constants : GivesDefaults k default) (t : ℕ) (r : RecordType) (record_is : slice_get k.records t ≡ Some r) (plain : IsPlain k t r) where
   abbrev K : Tools
   K = tools_with ask k call default
 
@@ -190,7 +190,7 @@ module _ (ask : Ask) (k : Tables) (code : Code) (setting : Setting k code) (call
   adjust_is : (b : Option Birth) (n c : ℕ) (l : Log) (w : World) → adjust K b (whole n) (Record t) c l w ≡ bind (own_adjust K b (whole n) t unadjusted c l w) (on_goes (adjusted K b (whole n) t))
   unfolding adjust adjust_record adjust_part adjust_each of_record depth opened_outcome
   adjust_is b n c l w =
-      ap (λ ps. bind (bind (adjust_each K (λ p a. of_record (done a) (λ u. adjust_part K b (length k.records) (component_at (whole n) p) u a) p.ty) (length ps) ps unadjusted c l w) (on_goes (own_adjust K b (whole n) t))) (on_goes (adjusted K b (whole n) t))) (controlled_parts_flat k t r record_is plain.flat K refl)
+      ap (λ ps. bind (bind (adjust_each K (λ p a. of_record (done a) (λ u. adjust_part K b (length k.records) (component_at (whole n) p) u a) p.ty) (length ps) ps unadjusted c l w) (on_goes (own_adjust K b (whole n) t))) (on_goes (adjusted K b (whole n) t))) (controlled_parts_flat k t plain.components plain.flat K refl)
       ∙ ap (λ o. bind o (on_goes (adjusted K b (whole n) t))) (add_none (own_adjust K b (whole n) t unadjusted c l w))
 
   -- after its Adjust, as the meaning says it
@@ -232,7 +232,7 @@ module _ (ask : Ask) (k : Tables) (code : Code) (setting : Setting k code) (call
   none_is : IsUntagged r → (n m c : ℕ) (l : Log) (w0 w : World) → bind (own_adjust K (born m w0) (whole n) t unadjusted c l w) (on_goes (adjusted K (born m w0) (whole n) t)) ≡ Gives (Goes tt) 0 c l w
   unfolding own_adjust adjusted unadjusted opened_outcome
   none_is untagged n m c l w0 w =
-      ap (λ q. bind (either q (attempt (call_operation K (whole n) (operation (λ x. x.adjust) k t) (EventOf.Adjust (part_of (whole n)))) >>= after_adjust K (born m w0) (whole n) t unadjusted) (done unadjusted) c l w) (on_goes (adjusted K (born m w0) (whole n) t))) (not_controlled_plain k t r record_is plain.flat untagged)
+      ap (λ q. bind (either q (attempt (call_operation K (whole n) (operation (λ x. x.adjust) k t) (EventOf.Adjust (part_of (whole n)))) >>= after_adjust K (born m w0) (whole n) t unadjusted) (done unadjusted) c l w) (on_goes (adjusted K (born m w0) (whole n) t))) (not_controlled_plain k t r record_is plain.components plain.flat untagged)
 
   -- What the declaration means -----------------------------------------------------------------------
 
@@ -244,7 +244,7 @@ module _ (ask : Ask) (k : Tables) (code : Code) (setting : Setting k code) (call
   unfolding declare fill opened_outcome
   declare_is slot d v c l w =
       ap (λ cells. taking w.ledger.next_object (last_of d) v w c l (set_slot (last_of d) slot (holding (Holds w.ledger.next_object)) (create (Record t) cells (Declared (last_of d)) w)))
-      (begin_cells_flat k t r record_is plain.flat ∙ ap (λ i. replicate i 0) (sym (setting.sizes t r record_is)))
+      (begin_cells_flat k t plain.components plain.flat ∙ ap (λ i. replicate i 0) (sym (setting.sizes t plain.components plain.flat.has.row)))
 
   -- the value of an object that is found, or not
   abbrev given_by : ℕ → List ℕ → Option Object → Act Done
@@ -262,7 +262,7 @@ module _ (ask : Ask) (k : Tables) (code : Code) (setting : Setting k code) (call
   read_at : (slot : ℕ) (d : List ℕ) (c : ℕ) (l : Log) (w : World) (y : Option Object) → add 1 (bind (bind (add 1 (add 1 (on_some y gone (λ o. done (cells_at 0 (cells_of k (Record t)) o)) c l w))) (on_goes (λ v. done (Some v)))) (on_goes (declare Composite K (last_of d) slot (Record t)))) ≡ add 1 (add 2 (given_by slot d y c l w))
   unfolding gone opened_outcome
   read_at slot d c l w None = refl
-  read_at slot d c l w (Some o) = ap (λ i. add 1 (add 2 (declare Composite K (last_of d) slot (Record t) (Some (cells_at 0 i o)) c l w))) (cells_flat k t r record_is plain.flat ∙ sym (setting.sizes t r record_is))
+  read_at slot d c l w (Some o) = ap (λ i. add 1 (add 2 (declare Composite K (last_of d) slot (Record t) (Some (cells_at 0 i o)) c l w))) (cells_flat k t plain.components plain.flat ∙ sym (setting.sizes t plain.components plain.flat.has.row))
 
   object_is : (slot : ℕ) (d : List ℕ) (m i : ℕ) (x : Content) (c : ℕ) (l : Log) (w : World) → HoldsWhole x → found_then slot d (found_in m i x c l w) ≡ copying slot d (whole_of x) c l w
   unfolding found_in walk read_found read_part existing gone opened_outcome
@@ -300,8 +300,8 @@ module _ (ask : Ask) (k : Tables) (code : Code) (setting : Setting k code) (call
         subst (λ o. Runs ask code (Kept k code w0) 4 5 (gives (Filling ByCopy n t [] p ∷ ks) (Fine Complete) l w) c (arrives e p.display p.place ks p.operands) (standing n (last_of p.display) o))
         (sym (adjust_is (born (last_of p.display) w2) n c l w ∙ none_is untagged n (last_of p.display) c l w2 w))
         (within ask code (Kept k code w0) 3 4 4 5 s0 c (arrives e p.display p.place ks p.operands) (standing n (last_of p.display) (Gives (Goes tt) 0 c l w)) (omega arith) (omega arith)
-        (D.found_runs ask k code setting call default constants t r record_is plain ByCopy w0 n e p ks s0 s0 c c 0 l w (Unit {0}) fits (record { n = 0; falls = omega arith; enough = omega arith; in_time = omega arith; comes = refl; fits = tt }) None (object_at n w) (no_finalize k t r record_is plain.flat untagged) refl
-        (ap (λ f. moved l (Table.by_declaration code ByCopy f n t (object_at n w) p ks w)) (not_adjusted untagged) ∙ D.unseen ByCopy code n t (object_at n w) p ks w l (setting.finalize t ∙ no_finalize k t r record_is plain.flat untagged))))
+        (D.found_runs ask k code setting call default constants t r record_is plain ByCopy w0 n e p ks s0 s0 c c 0 l w (Unit {0}) fits (record { n = 0; falls = omega arith; enough = omega arith; in_time = omega arith; comes = refl; fits = tt }) None (object_at n w) (no_finalize k t r record_is plain.components plain.flat untagged) refl
+        (ap (λ f. moved l (Table.by_declaration code ByCopy f n t (object_at n w) p ks w)) (not_adjusted untagged) ∙ D.unseen ByCopy code n t (object_at n w) p ks w l (setting.finalize t ∙ no_finalize k t r record_is plain.components plain.flat untagged))))
 
     -- a new object takes a value, from the step that creates it
     taken_runs : (w0 : World) (n : ℕ) (v : List ℕ) (e : Target) (p : Point) (ks : List Frame) (s0 : State) (c : ℕ) (l : Log) (w2 w : World) → c ≤ bound → Since k code w0 w → IsOf n w → step ask code s0 ≡ moved l (Table.take_value n t v (object_at n w) p ks w) → Runs ask code (Kept k code w0) 5 6 s0 c (arrives e p.display p.place ks p.operands) (taking n (last_of p.display) v w2 c l w)

@@ -59,7 +59,7 @@ pub unseen : (how : Beginning) (code : Code) (n t : ℕ) (y : Option Object) (p 
 unseen how code n t None p k w l e = ap (λ g. moved l (showing (birth g n (last_of p.display)) (Stopped UseAfterFree) k [] w)) (sym e)
 unseen how code n t (Some o) p k w l e = refl
 
-module _ (ask : Ask) (k : Tables) (code : Code) (setting : Setting k code) (call : Call) (default : Default) (constants : GivesDefaults k default) (t : ℕ) (r : RecordType) (here : slice_get k.records t ≡ Some r) (plain : IsPlain k r) where
+module _ (ask : Ask) (k : Tables) (code : Code) (setting : Setting k code) (call : Call) (default : Default) (constants : GivesDefaults k default) (t : ℕ) (r : RecordType) (here : slice_get k.records t ≡ Some r) (plain : IsPlain k t r) where
   abbrev K : Tools
   K = tools_with ask k call default
 
@@ -110,7 +110,7 @@ module _ (ask : Ask) (k : Tables) (code : Code) (setting : Setting k code) (call
   pub finalize_none : (n c : ℕ) (l : Log) (w : World) → finalize K Failed (These []) (whole n) t c l w ≡ Gives (Goes false) 1 c l w
   unfolding opened_finalization opened_outcome depth opened_lists
   finalize_none n c l w =
-      ap (λ ps. add 1 (bind (own_finalize K Failed (These []) (whole n) t c l w) (on_goes (in_any_order K (λ p. of_record (done false) (finalize_part K Failed (These []) (length k.records) (component_at (whole n) p)) p.ty) (length ps) ps)))) (parts_to_finalize_flat k t r here plain.flat K (These []) (whole n) refl)
+      ap (λ ps. add 1 (bind (own_finalize K Failed (These []) (whole n) t c l w) (on_goes (in_any_order K (λ p. of_record (done false) (finalize_part K Failed (These []) (length k.records) (component_at (whole n) p)) p.ty) (length ps) ps)))) (parts_to_finalize_flat k t plain.components plain.flat K (These []) (whole n) refl)
       ∙ ap (λ b. add 1 (bind (either b (attempt (call_operation K (whole n) (operation (λ x. x.finalize) k t) (EventOf.Finalize (whole_part n) Failed)) >>= after_finalize Failed) (done false) c l w) (on_goes (λ b1. done b1)))) (none_chosen (is_controlled k t))
 
   clean_up_is : (n e c : ℕ) (l : Log) (w : World) → clean_up K (whole n) t [] e c l w ≡ Gives (Leaves (ByRaise e)) 1 c l (end_finalization n (begin_finalization n w))
@@ -142,11 +142,11 @@ module _ (ask : Ask) (k : Tables) (code : Code) (setting : Setting k code) (call
   -- an object that is not controlled has none
   none_is : IsUntagged r → (n m c : ℕ) (l : Log) (w0 w : World) → bind (own_initialize K (whole n) t [] c l w) (on_goes (begun K (birth_of (Declared m) w0) (whole n) t)) ≡ Gives (Goes tt) 0 c l w
   unfolding opened_initialization opened_finalization opened_outcome
-  none_is untagged n m c l w0 w = ap (λ b. bind (either b (attempt (call_operation K (whole n) (operation (λ x. x.initialize) k t) (first_call ByDefault n)) >>= begin_next [] begun_with []) (begun_with []) c l w) (on_goes (λ x. on_some x.failure (when b (lives K (birth_of (Declared m) w0) (whole n) t)) (clean_up K (whole n) t x.paths)))) (not_controlled_plain k t r here plain.flat untagged)
+  none_is untagged n m c l w0 w = ap (λ b. bind (either b (attempt (call_operation K (whole n) (operation (λ x. x.initialize) k t) (first_call ByDefault n)) >>= begin_next [] begun_with []) (begun_with []) c l w) (on_goes (λ x. on_some x.failure (when b (lives K (birth_of (Declared m) w0) (whole n) t)) (clean_up K (whole n) t x.paths)))) (not_controlled_plain k t r here plain.components plain.flat untagged)
 
   declare_is : (m slot c : ℕ) (l : Log) (w : World) → declare Composite K m slot (Record t) None c l w ≡ standing w.ledger.next_object m (initialize K (birth_of (Declared m) w) (whole w.ledger.next_object) (Record t) c l (set_slot m slot (holding (Holds w.ledger.next_object)) (create (Record t) (replicate (size_of code t) 0) (Declared m) w)))
   unfolding declare fill opened_outcome
-  declare_is m slot c l w = ap (λ cells. standing w.ledger.next_object m (initialize K (birth_of (Declared m) w) (whole w.ledger.next_object) (Record t) c l (set_slot m slot (holding (Holds w.ledger.next_object)) (create (Record t) cells (Declared m) w)))) (begin_cells_flat k t r here plain.flat ∙ ap (λ i. replicate i 0) (sym (setting.sizes t r here)))
+  declare_is m slot c l w = ap (λ cells. standing w.ledger.next_object m (initialize K (birth_of (Declared m) w) (whole w.ledger.next_object) (Record t) c l (set_slot m slot (holding (Holds w.ledger.next_object)) (create (Record t) cells (Declared m) w)))) (begin_cells_flat k t plain.components plain.flat ∙ ap (λ i. replicate i 0) (sym (setting.sizes t plain.components plain.flat.has.row)))
 
   call_is : (f n c : ℕ) (e : Event) (l : Log) (w : World) (o : Object) → object_at n w ≡ Some o → call_operation K (whole n) (Some f) e c l w ≡ bind (add 0 (call (OfSubprogram f (holding (Binds n 0 []) ∷ [])) (home_of o.origin w) c (tell e l) w)) (on_goes (λ _. nothing))
   unfolding opened_finalization opened_outcome opened_names
@@ -359,8 +359,8 @@ module _ (ask : Ask) (k : Tables) (code : Code) (setting : Setting k code) (call
         subst (λ o. Runs ask code (Kept k code w0) 4 5 (gives (Filling ByDefault n t [] p ∷ ks) (Fine Complete) l w) c (arrives e p.display p.place ks p.operands) (standing n (last_of p.display) o))
         (sym (none_is untagged n (last_of p.display) c l w2 w))
         (within ask code (Kept k code w0) 3 4 4 5 (gives (Filling ByDefault n t [] p ∷ ks) (Fine Complete) l w) c (arrives e p.display p.place ks p.operands) (standing n (last_of p.display) (Gives (Goes tt) 0 c l w)) (omega arith) (omega arith)
-        (found_runs ByDefault w0 n e p ks (gives (Filling ByDefault n t [] p ∷ ks) (Fine Complete) l w) (gives (Filling ByDefault n t [] p ∷ ks) (Fine Complete) l w) c c 0 l w (Unit {0}) fits (record { n = 0; falls = omega arith; enough = omega arith; in_time = omega arith; comes = refl; fits = tt }) None (object_at n w) (no_finalize k t r here plain.flat untagged) refl
-        (ap (λ g. moved l (Table.by_declaration code ByDefault g n t (object_at n w) p ks w)) (setting.initialize t ∙ no_initialize k t r here plain.flat untagged) ∙ unseen ByDefault code n t (object_at n w) p ks w l (setting.finalize t ∙ no_finalize k t r here plain.flat untagged))))
+        (found_runs ByDefault w0 n e p ks (gives (Filling ByDefault n t [] p ∷ ks) (Fine Complete) l w) (gives (Filling ByDefault n t [] p ∷ ks) (Fine Complete) l w) c c 0 l w (Unit {0}) fits (record { n = 0; falls = omega arith; enough = omega arith; in_time = omega arith; comes = refl; fits = tt }) None (object_at n w) (no_finalize k t r here plain.components plain.flat untagged) refl
+        (ap (λ g. moved l (Table.by_declaration code ByDefault g n t (object_at n w) p ks w)) (setting.initialize t ∙ no_initialize k t r here plain.components plain.flat untagged) ∙ unseen ByDefault code n t (object_at n w) p ks w l (setting.finalize t ∙ no_finalize k t r here plain.components plain.flat untagged))))
 
     -- a declaration: its operations are in scope, as the code is well formed
     pub declare_runs : (slot : ℕ) (e : Target) (s : List Kind) (w0 : World) (d : List ℕ) (place : ℕ) (ks : List Frame) (ops : List ℕ) (c : ℕ) (l : Log) (w : World) → c ≤ bound → Since k code w0 w → Sees d s w0 → Laid code place ((InstrOf.Declare slot t, s) ∷ []) → Runs ask code (Kept k code w0) 5 6 (at d place ks ops l w) c (arrives e d (place + 1) ks ops) (declare Composite K (last_of d) slot (Record t) None c l w)
@@ -383,7 +383,7 @@ module _ (ask : Ask) (k : Tables) (code : Code) (setting : Setting k code) (call
         w1 = set_slot (last_of d) slot (holding (Holds w.ledger.next_object)) (create (Record t) (replicate (size_of code t) 0) (Declared (last_of d)) w)
 
         filled : AreFilled default t (parts_to_begin K t) (defaulted_of code t)
-        filled = subst (AreFilled default t (parts_to_begin K t)) (sym (setting.defaults t r here)) (parts_filled k default t r here plain constants K refl)
+        filled = subst (AreFilled default t (parts_to_begin K t)) (sym (setting.defaults t plain.components plain.flat.has.row)) (parts_filled k default t r here plain constants K refl)
 
         fits2 : Since k code w0 (with_object code d slot t w)
         fits2 = created_fits slot s w0 d w (subst (λ x. IsDeclarable code x t) (sym sees.long) (setting.valid.each place (InstrOf.Declare slot t) s has.0 has.1).0) fits sees

@@ -23,7 +23,7 @@ abbrev pub GivesConstant : Default → ℕ → ℕ → ℕ → Type 0
 GivesConstant default t position n = (env : List ℕ) (c : ℕ) (l : Log) (w : World) → default t position env c l w ≡ Gives (Goes (n ∷ [])) 1 c l w
 
 abbrev pub GivesDefaults : Tables → Default → Type 0
-GivesDefaults k default = (t : ℕ) (r : RecordType) → slice_get k.records t ≡ Some r → IsPlain k r → (i : ℕ) (x : Component) (n : ℕ) → slice_get r.own i ≡ Some x → constant_of x ≡ Some n → GivesConstant default t (i + 1) n
+GivesDefaults k default = (t : ℕ) (r : RecordType) → slice_get k.records t ≡ Some r → (plain : IsPlain k t r) → (i : ℕ) (x : Component) (n : ℕ) → slice_get plain.components i ≡ Some x → constant_of x ≡ Some n → GivesConstant default t (i + 1) n
 
 -- a component that takes its default, and what the layout says of it
 pub record Fills (default : Default) (t : ℕ) (p : Placed) (x : Defaulted) : Type 0 where
@@ -136,9 +136,9 @@ module _ (k : Tables) (default : Default) (t : ℕ) where
       let rest = initialized_from (position + 1) (offset + 1) cs scalar.1 h.1 (λ i x n at e. let later : position + suc i ≡ position + 1 + i = omega arith in subst (λ p. GivesConstant default t p n) later (gives (suc i) x n at e)) in
       with_first position offset c cs scalar.0 h.0 (λ n e. subst (λ p. GivesConstant default t p n) first (gives 0 c n refl e)) rest
 
-  pub parts_filled : (r : RecordType) → slice_get k.records t ≡ Some r → IsPlain k r → GivesDefaults k default → (K : Tools) → K.tables ≡ k → AreFilled default t (parts_to_begin K t) (defaulted_from 0 r.own)
+  pub parts_filled : (r : RecordType) → slice_get k.records t ≡ Some r → (plain : IsPlain k t r) → GivesDefaults k default → (K : Tools) → K.tables ≡ k → AreFilled default t (parts_to_begin K t) (defaulted_from 0 plain.components)
   unfolding parts_to_begin
   parts_filled r at plain given K same =
-      subst (λ x. AreFilled default t (keep (is_initialized x) (placed x t)) (defaulted_from 0 r.own)) (sym same)
-      (subst (λ ps. AreFilled default t (keep (is_initialized k) ps) (defaulted_from 0 r.own)) (sym (placed_flat k t r at plain.flat))
-      (initialized_from 1 0 r.own plain.flat.own plain.constants (λ i x n here is. let p : i + 1 ≡ 1 + i = omega arith in subst (λ q. GivesConstant default t q n) p (given t r at plain i x n here is))))
+      subst (λ x. AreFilled default t (keep (is_initialized x) (placed x t)) (defaulted_from 0 plain.components)) (sym same)
+      (subst (λ ps. AreFilled default t (keep (is_initialized k) ps) (defaulted_from 0 plain.components)) (sym (placed_flat k t plain.components plain.flat))
+      (initialized_from 1 0 plain.components plain.flat.scalar plain.constants (λ i x n here is. let p : i + 1 ≡ 1 + i = omega arith in subst (λ q. GivesConstant default t q n) p (given t r at plain i x n here is))))

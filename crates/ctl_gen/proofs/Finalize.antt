@@ -87,17 +87,17 @@ pool_closed k code K n c l w fits =
     ∙ ap (λ ps. on_some (first_with (λ p. nat_eq p.object n) ps) (done false) (λ p. shut_pool n >> done false) c l w) fits.block_pools
 
 -- an object without a controlled part stays as it is
-module _ (ask : Ask) (k : Tables) (code : Code) (call : Call) (default : Default) (t : ℕ) (r : RecordType) (here : slice_get k.records t ≡ Some r) (plain : IsPlain k r) (untagged : IsUntagged r) where
+module _ (ask : Ask) (k : Tables) (code : Code) (call : Call) (default : Default) (t : ℕ) (r : RecordType) (here : slice_get k.records t ≡ Some r) (plain : IsPlain k t r) (untagged : IsUntagged r) where
   untouched_is : (n c : ℕ) (l : Log) (w : World) → Fits k code w → finalize_as (tools_with ask k call default) n (Record t) c l w ≡ Gives (Goes false) 0 c l w
   unfolding opened_finalization opened_outcome
   untouched_is n c l w fits =
-      ap (λ b. bind (either b (finalize_object (tools_with ask k call default) Scope (record { number = n; ty = Record t })) (done false) c l w) (on_goes (λ a. close_pool (tools_with ask k call default) n >>= (λ b1. done (a || b1))))) (none_controlled_plain k t r here plain.flat untagged)
+      ap (λ b. bind (either b (finalize_object (tools_with ask k call default) Scope (record { number = n; ty = Record t })) (done false) c l w) (on_goes (λ a. close_pool (tools_with ask k call default) n >>= (λ b1. done (a || b1))))) (none_controlled_plain k t r here plain.components plain.flat untagged)
       ∙ ap (λ x. add 0 (bind x (on_goes (λ b1. done (false || b1))))) (pool_closed k code (tools_with ask k call default) n c l w fits)
 
   pub untouched_runs : (n : ℕ) (w0 : World) (ks : List Frame) (c : ℕ) (l : Log) (w : World) (s0 : State) → Since k code w0 w → step ask code s0 ≡ gives ks (Fine Complete) l w → Runs ask code (Sure k code w0) 3 3 s0 c (tells ks) (finalize_as (tools_with ask k call default) n (Record t) c l w)
   untouched_runs n w0 ks c l w s0 fits first = subst (Runs ask code (Sure k code w0) 3 3 s0 c (tells ks)) (sym (untouched_is n c l w fits.0)) (last_step ask code (Sure k code w0) 3 3 s0 c 0 (tells ks) (Goes false) l w (omega arith) (tt, fits) first)
 
-module _ (ask : Ask) (k : Tables) (code : Code) (setting : Setting k code) (call : Call) (default : Default) (t : ℕ) (r : RecordType) (here : slice_get k.records t ≡ Some r) (plain : IsPlain k r) (controlled : r.root ≡ Controlled) where
+module _ (ask : Ask) (k : Tables) (code : Code) (setting : Setting k code) (call : Call) (default : Default) (t : ℕ) (r : RecordType) (here : slice_get k.records t ≡ Some r) (plain : IsPlain k t r) (controlled : r.root ≡ Controlled) where
   abbrev K : Tools
   K = tools_with ask k call default
 
@@ -107,7 +107,7 @@ module _ (ask : Ask) (k : Tables) (code : Code) (setting : Setting k code) (call
   finalize_is : (g : Option ℕ) → operation (λ x. x.finalize) k t ≡ g → (n c : ℕ) (l : Log) (w : World) → finalize K Scope Every (whole n) t c l w ≡ add 1 (bind (bind (bind (call_operation K (whole n) g (ends n) c l w) told) (on_goes (after_finalize Scope))) (on_goes (λ b. done b)))
   unfolding opened_finalization opened_outcome depth
   finalize_is g e n c l w =
-      ap (λ ps. add 1 (bind (own_finalize K Scope Every (whole n) t c l w) (on_goes (in_any_order K (λ p. of_record (done false) (finalize_part K Scope Every (length k.records) (component_at (whole n) p)) p.ty) (length ps) ps)))) (parts_to_finalize_flat k t r here plain.flat K Every (whole n) refl)
+      ap (λ ps. add 1 (bind (own_finalize K Scope Every (whole n) t c l w) (on_goes (in_any_order K (λ p. of_record (done false) (finalize_part K Scope Every (length k.records) (component_at (whole n) p)) p.ty) (length ps) ps)))) (parts_to_finalize_flat k t plain.components plain.flat K Every (whole n) refl)
       ∙ ap (λ b. add 1 (bind (either (b && true) (λ c1 l1 w1. bind (bind (call_operation K (whole n) (operation (λ x. x.finalize) k t) (ends n) c1 l1 w1) told) (on_goes (after_finalize Scope))) (done false) c l w) (on_goes (λ b1. done b1)))) (is_controlled_plain k t r here controlled)
       ∙ ap (λ x. add 1 (bind (bind (bind (call_operation K (whole n) x (ends n) c l w) told) (on_goes (after_finalize Scope))) (on_goes (λ b. done b)))) e
 

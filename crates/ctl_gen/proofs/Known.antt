@@ -1,6 +1,6 @@
 -- The types of the variables of this version: scalar ones, and record types with scalar components whose defaults are constants, controlled
 -- or not tagged.
-use Rattle.std.proofs.Common.{◌≡◌, ℕ, zero, suc, List, [], ◌∷◌, ◌++◌, Option, Some, None, Bool, true, false, refl, ap, ◌∙◌, ◌⊎◌, inl, inr}
+use Rattle.std.proofs.Common.{◌≡◌, ℕ, List, [], ◌∷◌, ◌++◌, Option, Some, None, Bool, true, false, refl, ap, ◌∙◌, subst, ◌⊎◌, inl, inr}
 use Rattle.std.specs.Prelude.{slice_get, ◌&&◌}
 use Rattle.ctl_program.specs.declared.types.Ty.{Ty}
 use Rattle.ctl_program.specs.declared.types.Ty.TheVariants.{Integer, Count, Boolean, Address, Handle, Access, Record}
@@ -8,15 +8,11 @@ use Rattle.ctl_program.specs.declared.types.Root.{Root}
 use Rattle.ctl_program.specs.declared.types.Root.TheVariants.{Controlled, Untagged, BlockPool, MarkPool}
 use Rattle.ctl_program.specs.declared.types.Component.{Component}
 use Rattle.ctl_program.specs.declared.types.RecordType.{RecordType}
-use Rattle.ctl_meaning.specs.Types.{Tables, Elementary, category_of, components, with_own, of_parent}
-use Rattle.ctl_gen.specs.Records.{are_scalar, extends_bare, has_no_components, has_no_parent, is_bare, is_flat, is_root_run, is_run_type, is_unwritten}
+use Rattle.ctl_meaning.specs.Types.{Tables, Elementary, category_of}
+use Rattle.ctl_gen.specs.Records.{are_scalar, each_extension, has_root_run, is_flat, is_root_run, is_run_type, is_unwritten}
 use Rattle.ctl_gen.specs.Defaults.{have_constants, is_plain}
-
--- both hold where their conjunction does
-pub both_true : (a b : Bool) → (a && b) ≡ true → (a ≡ true) × (b ≡ true)
-both_true true true e = (refl, refl)
-both_true true false e = absurd (cc)
-both_true false b e = absurd (cc)
+pub use Rattle.ctl_gen.proofs.Extensions.{both_true}
+use Rattle.ctl_gen.proofs.Extensions.{HasComponents, extends_all, same_components}
 
 abbrev pub IsScalar : Ty → Type 0
 IsScalar Integer = Unit {0}
@@ -48,11 +44,10 @@ abbrev pub AreScalar : List Component → Type 0
 AreScalar [] = Unit {0}
 AreScalar (c ∷ cs) = IsScalar c.ty × AreScalar cs
 
--- a type with scalar components alone, that inherits none
-pub record IsFlat (records : List RecordType) (r : RecordType) : Type 0 where
-  pub bare : extends_bare records r.parent ≡ true
-  pub inherits_none : (n : ℕ) → of_parent [] (components n records) r.parent ≡ []
-  pub own : AreScalar r.own
+-- a type of the table with these components, which are scalar
+pub record IsFlat (records : List RecordType) (t : ℕ) (cs : List Component) : Type 0 where
+  pub has : HasComponents records t cs
+  pub scalar : AreScalar cs
 
 -- a type that is not tagged, and has no operations that the user wrote
 pub record IsUntagged (r : RecordType) : Type 0 where
@@ -60,14 +55,15 @@ pub record IsUntagged (r : RecordType) : Type 0 where
   pub initialize : r.operations.initialize ≡ None
   pub finalize : r.operations.finalize ≡ None
 
--- a flat type that extends Controlled, or Limited_Controlled (7.6), or is not tagged, with constants as defaults
-pub record IsPlain (k : Tables) (r : RecordType) : Type 0 where
+-- a flat type that descends from Controlled, or Limited_Controlled (7.6), or is not tagged, with constants as defaults
+pub record IsPlain (k : Tables) (t : ℕ) (r : RecordType) : Type 0 where
   pub kind : (r.root ≡ Controlled) ⊎ IsUntagged r
-  pub flat : IsFlat k.records r
-  pub constants : have_constants k.records r.own ≡ true
+  pub components : List Component
+  pub flat : IsFlat k.records t components
+  pub constants : have_constants k.records components ≡ true
 
 abbrev pub IsPlainType : Tables → Ty → Type 0
-IsPlainType k (Record t) = (r : RecordType) × (slice_get k.records t ≡ Some r) × IsPlain k r
+IsPlainType k (Record t) = (r : RecordType) × (slice_get k.records t ≡ Some r) × IsPlain k t r
 IsPlainType k _ = ⊥
 
 unwritten_if : (o : Option ℕ) → is_unwritten o ≡ true → o ≡ None
@@ -82,47 +78,35 @@ root_if r Untagged is e =
 root_if r BlockPool is e = absurd (cc)
 root_if r MarkPool is e = absurd (cc)
 
-pub parent_if : (o : Option ℕ) → has_no_parent o ≡ true → o ≡ None
-parent_if None e = refl
-parent_if (Some t) e = absurd (cc)
-
-pub components_if : (cs : List Component) → has_no_components cs ≡ true → cs ≡ []
-components_if [] e = refl
-components_if (c ∷ cs) e = absurd (cc)
-
--- a bare type has no components
-bare_has_none : (inherited : ℕ → List Component) (o : Option RecordType) → is_bare o ≡ true → with_own inherited o ≡ []
-unfolding with_own of_parent
-bare_has_none inherited None e = refl
-bare_has_none inherited (Some r) e =
-    let h = both_true (has_no_parent r.parent) (has_no_components r.own) e in
-    ap (λ p. of_parent [] inherited p ++ r.own) (parent_if r.parent h.0) ∙ components_if r.own h.1
-
-bare_components : (records : List RecordType) (p n : ℕ) → is_bare (slice_get records p) ≡ true → components n records p ≡ []
-unfolding components
-bare_components records p zero e = refl
-bare_components records p (suc n) e = bare_has_none (components n records) (slice_get records p) e
-
--- so nothing is inherited from one
-from_bare : (records : List RecordType) (o : Option ℕ) (n : ℕ) → extends_bare records o ≡ true → of_parent [] (components n records) o ≡ []
-unfolding of_parent
-from_bare records None n e = refl
-from_bare records (Some p) n e = bare_components records p n e
-
 scalars_if : (cs : List Component) → are_scalar cs ≡ true → AreScalar cs
 scalars_if [] e = tt
 scalars_if (c ∷ cs) e =
     let h = both_true (is_run_type c.ty) (are_scalar cs) e in
     (scalar_if c.ty h.0, scalars_if cs h.1)
 
-pub flat_if : (records : List RecordType) (r : RecordType) → is_flat records (Some r) ≡ true → IsFlat records r
-flat_if records r e =
-    let h = both_true (extends_bare records r.parent) (are_scalar r.own) e in
-    record { bare = h.0; inherits_none = λ n. from_bare records r.parent n h.0; own = scalars_if r.own h.1 }
+scalars_both : (xs ys : List Component) → AreScalar xs → AreScalar ys → AreScalar (xs ++ ys)
+scalars_both [] ys h g = g
+scalars_both (x ∷ xs) ys h g = (h.0, scalars_both xs ys h.1 g)
 
-pub plain_if : (k : Tables) (o : Option RecordType) → is_plain k.records o ≡ true → (r : RecordType) × (o ≡ Some r) × IsPlain k r
-plain_if k None e = absurd (cc)
-plain_if k (Some r) e =
-    let h = both_true (is_root_run r.root r.operations) (is_flat k.records (Some r) && have_constants k.records r.own) e in
-    let g = both_true (is_flat k.records (Some r)) (have_constants k.records r.own) h.1 in
-    (r, refl, record { kind = root_if r r.root refl h.0; flat = flat_if k.records r g.0; constants = g.1 })
+pub flat_if : (records : List RecordType) (t : ℕ) → is_flat records t ≡ true → (cs : List Component) × IsFlat records t cs
+flat_if records t e = let x = extends_all are_scalar AreScalar scalars_if tt scalars_both records t e in (x.0, record { has = x.1; scalar = x.2 })
+
+constants_both : (records : List RecordType) (xs ys : List Component) → have_constants records xs ≡ true → have_constants records ys ≡ true → have_constants records (xs ++ ys) ≡ true
+constants_both records [] ys h g = g
+constants_both records (x ∷ xs) ys h g =
+    let first = both_true _ (have_constants records xs) h in
+    ap (λ b. b && have_constants records (xs ++ ys)) first.0 ∙ constants_both records xs ys first.1 g
+
+root_in : (o : Option RecordType) → has_root_run o ≡ true → (r : RecordType) × (o ≡ Some r) × ((r.root ≡ Controlled) ⊎ IsUntagged r)
+root_in None e = absurd (cc)
+root_in (Some r) e = (r, refl, root_if r r.root refl e)
+
+pub plain_if : (k : Tables) (t : ℕ) → is_plain k.records t ≡ true → (r : RecordType) × (slice_get k.records t ≡ Some r) × IsPlain k t r
+plain_if k t e =
+    let h = both_true (has_root_run (slice_get k.records t)) (is_flat k.records t && each_extension (have_constants k.records) k.records t) e in
+    let g = both_true (is_flat k.records t) (each_extension (have_constants k.records) k.records t) h.1 in
+    let r = root_in (slice_get k.records t) h.0 in
+    let flat = flat_if k.records t g.0 in
+    let x = extends_all (have_constants k.records) (λ cs. have_constants k.records cs ≡ true) (λ cs i. i) refl (constants_both k.records) k.records t g.1 in
+    let constants = subst (λ cs. have_constants k.records cs ≡ true) (same_components k.records t x.0 flat.0 x.1 flat.1.has) x.2 in
+    (r.0, r.1, record { kind = r.2; components = flat.0; flat = flat.1; constants = constants })

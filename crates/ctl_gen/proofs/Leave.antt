@@ -60,7 +60,7 @@ module _ (ask : Ask) (k : Tables) (code : Code) (setting : Setting k code) (call
   rest m xs r failed s c l w = bind (on_goes (λ b. leave_layers K m xs (failed || b)) s c l w) (on_goes (left m r))
 
   -- a declared object of a record type, by whether it has a controlled part
-  record_runs : (t n : ℕ) (w0 : World) (ks : List Frame) (c : ℕ) (l : Log) (w : World) (s0 : State) (o : Object) → c ≤ bound → Since k code w0 w → object_at n w ≡ Some o → o.ty ≡ Record t → (r : RecordType) → slice_get k.records t ≡ Some r → IsPlain k r → (r.root ≡ Controlled) ⊎ IsUntagged r → step ask code s0 ≡ moved l (finalize_parts code (parts_of code t) n t ks w) → Runs ask code (Sure k code w0) 3 3 s0 c (tells ks) (finalize_as K n (Record t) c l w)
+  record_runs : (t n : ℕ) (w0 : World) (ks : List Frame) (c : ℕ) (l : Log) (w : World) (s0 : State) (o : Object) → c ≤ bound → Since k code w0 w → object_at n w ≡ Some o → o.ty ≡ Record t → (r : RecordType) → slice_get k.records t ≡ Some r → IsPlain k t r → (r.root ≡ Controlled) ⊎ IsUntagged r → step ask code s0 ≡ moved l (finalize_parts code (parts_of code t) n t ks w) → Runs ask code (Sure k code w0) 3 3 s0 c (tells ks) (finalize_as K n (Record t) c l w)
   record_runs t n w0 ks c l w s0 o le fits at is r here plain (inl controlled) e = declared_runs ask k code setting call default t r here plain controlled bound calls n w0 ks c l w s0 o le fits at is (λ p at1. keeps_ty n w o p at at1 ∙ is) (e ∙ ap (λ p. moved l (finalize_parts code p n t ks w)) (setting.parts t r here ∙ ap parts_by controlled))
   record_runs t n w0 ks c l w s0 o le fits at is r here plain (inr untagged) e = untouched_runs ask k code call default t r here plain untagged n w0 ks c l w s0 fits (e ∙ ap (λ p. moved l (finalize_parts code p n t ks w)) (setting.parts t r here ∙ ap parts_by untagged.root))
 

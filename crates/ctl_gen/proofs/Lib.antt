@@ -1,6 +1,7 @@
 pub mod Layers
 pub mod Layouts
 pub mod StatementLayers
+pub mod Extensions
 pub mod Known
 pub mod Place
 pub mod Follow

@@ -10,7 +10,7 @@ use Rattle.ctl_program.specs.declared.types.Component.{Component}
 use Rattle.ctl_program.specs.declared.types.RecordType.{RecordType}
 use Rattle.ctl_program.specs.declared.types.Root.TheVariants.{Controlled}
 use Rattle.ctl_meaning.specs.Lists.{item_or, opened_lists, keep, any_of}
-use Rattle.ctl_meaning.specs.Types.{Tables, Placed, opened_types, with_own, of_parent, components, offset_in, placed, placed_from, is_controlled, has_controlled, has_default, controlled_within, is_tagged_root, root_in, begin_cells, cells_of, cells_within, total, of_record, operation, operation_in}
+use Rattle.ctl_meaning.specs.Types.{Tables, Placed, opened_types, components, offset_in, placed, placed_from, is_controlled, has_controlled, has_default, controlled_within, is_tagged_root, root_in, begin_cells, cells_of, cells_within, total, of_record, operation, operation_in}
 use Rattle.ctl_meaning.specs.Names.{Tools}
 use Rattle.ctl_meaning.specs.Finalization.{Chosen, Spot, component_at, has_chosen, parts_to_finalize}
 use Rattle.ctl_meaning.specs.Adjustment.{controlled_parts}
@@ -93,39 +93,38 @@ none_adjusted k position offset (c ∷ cs) h =
 
 -- Flat types --------------------------------------------------------------------------------------
 
-module _ (k : Tables) (t : ℕ) (r : RecordType) (at : slice_get k.records t ≡ Some r) (flat : IsFlat k.records r) where
-  own_within : (n : ℕ) → components (suc n) k.records t ≡ r.own
-  unfolding components with_own of_parent
-  own_within n = ap (with_own (components n k.records)) at ∙ ap (λ cs. cs ++ r.own) (flat.inherits_none n)
+module _ (k : Tables) (t : ℕ) (cs : List Component) (flat : IsFlat k.records t cs) where
+  all_within : components (suc (length k.records)) k.records t ≡ cs
+  all_within = flat.has.found (suc (length k.records)) (let lt = flat.has.within in omega (arith, lt))
 
-  pub placed_flat : placed k t ≡ placed_from k 1 0 r.own
+  pub placed_flat : placed k t ≡ placed_from k 1 0 cs
   unfolding opened_types
-  placed_flat = ap (placed_from k 1 0) (own_within (length k.records))
+  placed_flat = ap (placed_from k 1 0) all_within
 
-  pub offset_flat : (position : ℕ) → offset_in position (placed k t) ≡ item_or 0 (slice_get (count_from 0 (length r.own)) (position - 1))
+  pub offset_flat : (position : ℕ) → offset_in position (placed k t) ≡ item_or 0 (slice_get (count_from 0 (length cs)) (position - 1))
   unfolding opened_lists
-  offset_flat zero = ap (offset_in 0) placed_flat ∙ no_first k 1 0 r.own (omega arith) ∙ sym (begins r.own)
+  offset_flat zero = ap (offset_in 0) placed_flat ∙ no_first k 1 0 cs (omega arith) ∙ sym (begins cs)
     where
-      begins : (cs : List Component) → item_or 0 (slice_get (count_from 0 (length cs)) 0) ≡ 0
+      begins : (xs : List Component) → item_or 0 (slice_get (count_from 0 (length xs)) 0) ≡ 0
       begins [] = refl
-      begins (c ∷ cs) = refl
-  offset_flat (suc n) = ap (offset_in (suc n)) placed_flat ∙ offset_from k 1 0 (suc n) r.own flat.own (omega arith)
+      begins (x ∷ xs) = refl
+  offset_flat (suc n) = ap (offset_in (suc n)) placed_flat ∙ offset_from k 1 0 (suc n) cs flat.scalar (omega arith)
 
-  pub begin_cells_flat : begin_cells k (Record t) ≡ replicate (length r.own) 0
+  pub begin_cells_flat : begin_cells k (Record t) ≡ replicate (length cs) 0
   unfolding opened_types
-  begin_cells_flat = ap (λ cs. replicate (total (of_record 1 (cells_within (length k.records) k.records)) cs) 0) (own_within (length k.records)) ∙ ap (λ n. replicate n 0) (scalar_total (cells_within (length k.records) k.records) r.own flat.own)
+  begin_cells_flat = ap (λ cs. replicate (total (of_record 1 (cells_within (length k.records) k.records)) cs) 0) all_within ∙ ap (λ n. replicate n 0) (scalar_total (cells_within (length k.records) k.records) cs flat.scalar)
 
-  pub cells_flat : cells_of k (Record t) ≡ length r.own
+  pub cells_flat : cells_of k (Record t) ≡ length cs
   unfolding opened_types
-  cells_flat = ap (total (of_record 1 (cells_within (length k.records) k.records))) (own_within (length k.records)) ∙ scalar_total (cells_within (length k.records) k.records) r.own flat.own
+  cells_flat = ap (total (of_record 1 (cells_within (length k.records) k.records))) all_within ∙ scalar_total (cells_within (length k.records) k.records) cs flat.scalar
 
   pub controlled_parts_flat : (K : Tools) → K.tables ≡ k → controlled_parts K t ≡ []
   unfolding controlled_parts
-  controlled_parts_flat K same = ap (λ x. keep (λ p. has_controlled x p.ty) (placed x t)) same ∙ ap (keep _) placed_flat ∙ none_adjusted k 1 0 r.own flat.own
+  controlled_parts_flat K same = ap (λ x. keep (λ p. has_controlled x p.ty) (placed x t)) same ∙ ap (keep _) placed_flat ∙ none_adjusted k 1 0 cs flat.scalar
 
   pub parts_to_finalize_flat : (K : Tools) (want : Chosen) (s : Spot) → K.tables ≡ k → parts_to_finalize K want s t ≡ []
   unfolding parts_to_finalize
-  parts_to_finalize_flat K want s same = ap (λ x. keep (λ p. has_controlled x p.ty && has_chosen (component_at s p).path want) (placed x t)) same ∙ ap (keep _) placed_flat ∙ none_finalized k (λ p. has_chosen (component_at s p).path want) 1 0 r.own flat.own
+  parts_to_finalize_flat K want s same = ap (λ x. keep (λ p. has_controlled x p.ty && has_chosen (component_at s p).path want) (placed x t)) same ∙ ap (keep _) placed_flat ∙ none_finalized k (λ p. has_chosen (component_at s p).path want) 1 0 cs flat.scalar
 
 -- Controlled types, and others --------------------------------------------------------------------
 
@@ -147,7 +146,7 @@ unfolding any_of
 scalar_none f [] h = refl
 scalar_none f (c ∷ cs) h = ap (λ b. b || any_of (λ (x : Component). of_record false f x.ty) cs) (scalar_of_record false f c.ty h.0) ∙ scalar_none f cs h.1
 
-module _ (k : Tables) (t : ℕ) (r : RecordType) (at : slice_get k.records t ≡ Some r) (flat : IsFlat k.records r) (untagged : IsUntagged r) where
+module _ (k : Tables) (t : ℕ) (r : RecordType) (at : slice_get k.records t ≡ Some r) (cs : List Component) (flat : IsFlat k.records t cs) (untagged : IsUntagged r) where
   not_tagged : is_tagged_root (root_in (slice_get k.records t)) ≡ false
   unfolding is_tagged_root root_in
   not_tagged = ap (λ x. is_tagged_root (root_in x)) at ∙ ap is_tagged_root untagged.root
@@ -160,8 +159,8 @@ module _ (k : Tables) (t : ℕ) (r : RecordType) (at : slice_get k.records t ≡
   unfolding opened_types
   none_controlled_plain =
       ap (λ b. b || any_of (λ x. of_record false (controlled_within (length k.records) k.records) x.ty) (components (suc (length k.records)) k.records t)) not_tagged
-      ∙ (ap (any_of (λ x. of_record false (controlled_within (length k.records) k.records) x.ty)) (own_within k t r at flat (length k.records))
-      ∙ scalar_none (controlled_within (length k.records) k.records) r.own flat.own)
+      ∙ (ap (any_of (λ x. of_record false (controlled_within (length k.records) k.records) x.ty)) (all_within k t cs flat)
+      ∙ scalar_none (controlled_within (length k.records) k.records) cs flat.scalar)
 
   pub no_initialize : operation (λ x. x.initialize) k t ≡ None
   unfolding operation operation_in

@@ -15,9 +15,9 @@ use Rattle.ctl_code.specs.declared.code.Code.{Code}
 use Rattle.ctl_gen.specs.declared.right.Right.{Right}
 use Rattle.ctl_gen.specs.declared.right.Right.TheVariants as RightOf
 use Rattle.ctl_gen.specs.Values.{value_code}
-use Rattle.ctl_gen.specs.Records.{extends_bare, has_no_components, has_no_parent, is_bare}
+use Rattle.ctl_gen.specs.Records.{component_rows, inherited, none_if_absent, rows_from}
 use Rattle.ctl_gen.specs.Defaults.{constant_by, constant_in, have_constants, may_default}
-use Rattle.ctl_gen.proofs.Known.{both_true, components_if, parent_if}
+use Rattle.ctl_gen.proofs.Known.{both_true}
 use Rattle.ctl_gen.proofs.Setting.{ArePlaced}
 use Rattle.ctl_gen.proofs.Evaluated.{value_since}
 use Rattle.ctl_gen.proofs.Defaults.{GivesDefaults}
@@ -27,50 +27,38 @@ use Rattle.ctl_gen.proofs.Defaults.{GivesDefaults}
 abbrev Row : Type 0
 Row = List (Option Valued)
 
--- the row of each type that inherits no component has its own
-abbrev HaveRows : List RecordType → List RecordType → List Row → Type 0
-HaveRows all [] [] = Unit {0}
-HaveRows all (r ∷ rs) (x ∷ xs) = (extends_bare all r.parent ≡ true → x ≡ own_defaults r) × HaveRows all rs xs
-HaveRows all _ _ = ⊥
+abbrev defaults_in : List Component → Row
+defaults_in cs = map (λ (c : Component). option_map eval c.default) cs
 
-have_more : (all rs : List RecordType) (xs : List Row) (r : RecordType) (x : Row) → (extends_bare all r.parent ≡ true → x ≡ own_defaults r) → HaveRows all rs xs → HaveRows all (rs ++ r ∷ []) (xs ++ x ∷ [])
-have_more all [] [] r x is h = (is, tt)
-have_more all [] (y ∷ xs) r x is h = absurd h
-have_more all (s ∷ rs) [] r x is h = absurd h
-have_more all (s ∷ rs) (y ∷ xs) r x is h = (h.0, have_more all rs xs r x is h.1)
+defaults_both : (xs ys : List Component) → defaults_in (xs ++ ys) ≡ defaults_in xs ++ defaults_in ys
+defaults_both [] ys = refl
+defaults_both (x ∷ xs) ys = ap (λ (zs : Row). option_map eval x.default ∷ zs) (defaults_both xs ys)
 
--- that of a bare type is empty
-bare_row : (all : List RecordType) (r : RecordType) (x : Row) → (extends_bare all r.parent ≡ true → x ≡ own_defaults r) → is_bare (Some r) ≡ true → x ≡ []
-bare_row all r x is bare =
-    let h = both_true (has_no_parent r.parent) (has_no_components r.own) bare in
-    is (ap (extends_bare all) (parent_if r.parent h.0)) ∙ ap (λ cs. map (λ (c : Component). option_map eval c.default) cs) (components_if r.own h.1)
-
-bare_at : (all before rest : List RecordType) (rows : List Row) (p : ℕ) → HaveRows all before rows → is_bare (slice_get (before ++ rest) p) ≡ true → row_of rows p ≡ []
+-- the row of a type has the defaults of its components
+row_in : (rows : List (List Component)) (p : ℕ) → row_of (map defaults_in rows) p ≡ defaults_in (none_if_absent (slice_get rows p))
 unfolding row_of item_or
-bare_at all [] rest [] p h bare = refl
-bare_at all [] rest (x ∷ rows) p h bare = absurd h
-bare_at all (r ∷ before) rest [] p h bare = absurd h
-bare_at all (r ∷ before) rest (x ∷ rows) zero h bare = bare_row all r x h.0 bare
-bare_at all (r ∷ before) rest (x ∷ rows) (suc p) h bare = bare_at all before rest rows p h.1 bare
+row_in [] p = refl
+row_in (cs ∷ rows) zero = refl
+row_in (cs ∷ rows) (suc p) = row_in rows p
 
-inherits_row : (all before rest : List RecordType) (rows : List Row) (o : Option ℕ) → all ≡ before ++ rest → HaveRows all before rows → extends_bare all o ≡ true → of_parent [] (row_of rows) o ≡ []
+from_parent : (rows : List (List Component)) (o : Option ℕ) → of_parent [] (row_of (map defaults_in rows)) o ≡ defaults_in (inherited rows o)
 unfolding of_parent
-inherits_row all before rest rows None e h bare = refl
-inherits_row all before rest rows (Some p) e h bare = bare_at all before rest rows p h (subst (λ rs. is_bare (slice_get rs p) ≡ true) e bare)
+from_parent rows None = refl
+from_parent rows (Some p) = row_in rows p
 
-have_all : (all before rest : List RecordType) (rows : List Row) → all ≡ before ++ rest → HaveRows all before rows → HaveRows all all (defaults_from rows rest)
+one_row_more : (rows : List (List Component)) (cs : List Component) → map defaults_in (rows ++ cs ∷ []) ≡ map defaults_in rows ++ defaults_in cs ∷ []
+one_row_more [] cs = refl
+one_row_more (x ∷ rows) cs = ap (λ (zs : List Row). defaults_in x ∷ zs) (one_row_more rows cs)
+
+all_rows : (rows : List (List Component)) (rs : List RecordType) → defaults_from (map defaults_in rows) rs ≡ map defaults_in (rows_from rows rs)
 unfolding defaults_from
-have_all all before [] rows e h = subst (λ rs. HaveRows all rs rows) (sym (e ∙ append-nil before)) h
-have_all all before (r ∷ rest) rows e h =
-    have_all all (before ++ r ∷ []) rest (rows ++ (of_parent [] (row_of rows) r.parent ++ own_defaults r) ∷ []) (e ∙ sym (append_assoc before (r ∷ []) rest))
-    (have_more all before rows r _ (λ bare. ap (λ (x : Row). x ++ own_defaults r) (inherits_row all before (r ∷ rest) rows r.parent e h bare)) h)
-
-row_at : (all rs : List RecordType) (xs : List Row) (t : ℕ) (r : RecordType) → HaveRows all rs xs → slice_get rs t ≡ Some r → extends_bare all r.parent ≡ true → row_of xs t ≡ own_defaults r
-unfolding row_of item_or
-row_at all [] xs t r h at bare = absurd (cc)
-row_at all (s ∷ rs) [] t r h at bare = absurd h
-row_at all (s ∷ rs) (x ∷ xs) zero r h at bare = let same : s ≡ r = cc at in subst (λ (y : RecordType). extends_bare all y.parent ≡ true → x ≡ own_defaults y) same h.0 bare
-row_at all (s ∷ rs) (x ∷ xs) (suc t) r h at bare = row_at all rs xs t r h.1 at bare
+all_rows rows [] = refl
+all_rows rows (r ∷ rs) =
+    let row = inherited rows r.parent ++ r.own in
+    ap (λ (zs : Row). defaults_from (map defaults_in rows ++ (zs ++ own_defaults r) ∷ []) rs) (from_parent rows r.parent)
+    ∙ (ap (λ (zs : Row). defaults_from (map defaults_in rows ++ zs ∷ []) rs) (sym (defaults_both (inherited rows r.parent) r.own))
+    ∙ (ap (λ (zs : List Row). defaults_from zs rs) (sym (one_row_more rows row))
+    ∙ all_rows (rows ++ row ∷ []) rs))
 
 -- Constants -------------------------------------------------------------------------------------
 
@@ -94,12 +82,12 @@ module _ (ask : Ask) (p : Meaning) (code : Code) (placed : ArePlaced p.tables co
   unfolding default_in default_at expression_tools item_or on_some
   gives_defaults t r at plain i x n here is env c l w =
       ap (λ o. on_some (item_or None (slice_get o (i + 1 - 1))) gone (λ (e : Valued). e (expression_tools ask p call) env) c l w) row
-      ∙ (ap (λ j. on_some (item_or None (slice_get (own_defaults r) j)) gone (λ (e : Valued). e (expression_tools ask p call) env) c l w) back
-      ∙ (ap (λ o. on_some (item_or None o) gone (λ (e : Valued). e (expression_tools ask p call) env) c l w) (default_of r.own i x here)
-      ∙ by x.default (may_at p.tables.records r.own i x plain.constants here) is))
+      ∙ (ap (λ j. on_some (item_or None (slice_get (defaults_in plain.components) j)) gone (λ (e : Valued). e (expression_tools ask p call) env) c l w) back
+      ∙ (ap (λ o. on_some (item_or None o) gone (λ (e : Valued). e (expression_tools ask p call) env) c l w) (default_of plain.components i x here)
+      ∙ by x.default (may_at p.tables.records plain.components i x plain.constants here) is))
     where
-      row : row_of p.defaults t ≡ own_defaults r
-      row = ap (λ z. row_of z t) rows ∙ row_at p.tables.records p.tables.records (defaults_from [] p.tables.records) t r (have_all p.tables.records [] p.tables.records [] refl tt) at plain.flat.bare
+      row : row_of p.defaults t ≡ defaults_in plain.components
+      row = ap (λ z. row_of z t) (rows ∙ all_rows [] p.tables.records) ∙ (row_in (component_rows p.tables.records) t ∙ ap (λ o. defaults_in (none_if_absent o)) plain.flat.has.row)
 
       back : i + 1 - 1 ≡ i
       back = omega arith

@@ -2,6 +2,7 @@
 use Rattle.std.proofs.Common.{◌≡◌, ℕ, ◌<◌, ◌≤◌, List, [], ◌∷◌, length, Option, Some, None, true, refl}
 use Rattle.std.specs.Prelude.{slice_get}
 use Rattle.ctl_program.specs.declared.program.Subprogram.{Subprogram}
+use Rattle.ctl_program.specs.declared.types.Component.{Component}
 use Rattle.ctl_program.specs.declared.types.Operations.{Operations}
 use Rattle.ctl_program.specs.declared.types.RecordType.{RecordType}
 use Rattle.ctl_tree.specs.declared.event.Event.{Event}
@@ -22,7 +23,7 @@ use Rattle.ctl_code.specs.Table.{defaulted_of, ended, enter_body, offset_of, ope
 use Rattle.ctl_code.specs.Steps.{moved, step}
 use Rattle.ctl_code.specs.Valid.{IsInScope, IsValid, kinds_at}
 use Rattle.ctl_code.specs.Windows.{depth}
-use Rattle.ctl_gen.specs.Records.{adjust_by, is_flat, parts_by}
+use Rattle.ctl_gen.specs.Records.{adjust_by, component_rows, is_flat, parts_by}
 use Rattle.ctl_gen.specs.Defaults.{defaulted_from}
 use Rattle.ctl_gen.specs.Run.{IsBody}
 use Rattle.ctl_gen.proofs.Worlds.{Each, IsWhole, Since, home}
@@ -30,7 +31,7 @@ use Rattle.ctl_gen.proofs.Follow.{IsRaise, Runs, gives}
 
 -- the first cells of scalar components are those of the tables
 abbrev pub ArePlaced : Tables → Code → Type 0
-ArePlaced k code = (t position : ℕ) → is_flat k.records (slice_get k.records t) ≡ true → offset_of code t position ≡ offset_in position (placed k t)
+ArePlaced k code = (t position : ℕ) → is_flat k.records t ≡ true → offset_of code t position ≡ offset_in position (placed k t)
 
 -- the machine's table names the operations and the components of the record types, the operations are among these subprograms, and the code
 -- is well formed
@@ -38,9 +39,9 @@ pub record Setting (k : Tables) (code : Code) : Type 0 where
   pub subprograms : List Subprogram
   pub valid : IsValid code
   pub places : ArePlaced k code
-  pub sizes : (t : ℕ) (r : RecordType) → slice_get k.records t ≡ Some r → size_of code t ≡ length r.own
+  pub sizes : (t : ℕ) (cs : List Component) → slice_get (component_rows k.records) t ≡ Some cs → size_of code t ≡ length cs
   pub parts : (t : ℕ) (r : RecordType) → slice_get k.records t ≡ Some r → parts_of code t ≡ parts_by r.root
-  pub defaults : (t : ℕ) (r : RecordType) → slice_get k.records t ≡ Some r → defaulted_of code t ≡ defaulted_from 0 r.own
+  pub defaults : (t : ℕ) (cs : List Component) → slice_get (component_rows k.records) t ≡ Some cs → defaulted_of code t ≡ defaulted_from 0 cs
   pub initialize : (t : ℕ) → operation_of (λ x. x.initialize) code t ≡ operation (λ x. x.initialize) k t
   pub adjust : (t : ℕ) (r : RecordType) → slice_get k.records t ≡ Some r → operation_of (λ x. x.adjust) code t ≡ adjust_by r.root r.operations.adjust
   pub finalize : (t : ℕ) → operation_of (λ x. x.finalize) code t ≡ operation (λ x. x.finalize) k t

@@ -99,7 +99,7 @@ module _ (ask : Ask) (k : Tables) (code : Code) (setting : Setting k code) (call
   bare_object : (slot : ℕ) (ty : Ty) → is_declared k.records ty ≡ true → Does ask k code bound (λ a. (item_code (Object slot ty None)).code a.stack) (λ d. object slot ty None K d (last_of d))
   unfolding object if_given category_of opened_outcome
   bare_object slot (Record t) runs a w0 d place ks ops c l w le fits sees has =
-      let known = plain_if k (slice_get k.records t) runs in
+      let known = plain_if k t runs in
       added ask code (Kept k code w0) 1 5 6 0 0 _ c (arrives (lands a place) d (place + 1) ks ops) _ (omega arith) (omega arith) (added ask code (Kept k code w0) 0 5 6 5 6 _ c (arrives (lands a place) d (place + 1) ks ops) _ (omega arith) (omega arith) (declare_runs ask k code setting call default constants t known.0 known.1 known.2 bound calls slot (lands a place) a.stack w0 d place ks ops c l w le fits sees has))
   bare_object slot Integer runs a w0 d place ks ops c l w le fits sees has = scalar_runs ask k code setting.valid bound call default slot Integer tt a w0 d place ks ops c l w le fits sees has
   bare_object slot Boolean runs a w0 d place ks ops c l w le fits sees has = scalar_runs ask k code setting.valid bound call default slot Boolean tt a w0 d place ks ops c l w le fits sees has
@@ -118,7 +118,7 @@ module _ (ask : Ask) (k : Tables) (code : Code) (setting : Setting k code) (call
   copied_object : (slot t : ℕ) (e : Expr) (o : Option Var) → copied t (value_code e) ≡ o → (copy slot t o).runs k.records ≡ true → Does ask k code bound (λ a. (copy slot t o).code a.stack) (λ d. object slot (Record t) (Some (eval e)) K d (last_of d))
   copied_object slot t e None is runs = absurd (cc)
   copied_object slot t e (Some v) is runs =
-      let known = plain_if k (slice_get k.records t) runs in
+      let known = plain_if k t runs in
       copy_does ask k code setting call default constants t known.0 known.1 known.2 bound calls slot v e is
 
   given_object : (slot : ℕ) (ty : Ty) (e : Expr) → (with_value slot ty (value_code e)).runs k.records ≡ true → Does ask k code bound (λ a. (with_value slot ty (value_code e)).code a.stack) (λ d. object slot ty (Some (eval e)) K d (last_of d))

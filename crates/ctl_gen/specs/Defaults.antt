@@ -8,7 +8,7 @@ use Rattle.ctl_code.specs.declared.code.Defaulted.{Defaulted}
 use Rattle.ctl_gen.specs.declared.right.Right.{Right}
 use Rattle.ctl_gen.specs.declared.right.Right.TheVariants as RightOf
 use Rattle.ctl_gen.specs.Values.{ValueCode, value_code}
-use Rattle.ctl_gen.specs.Records.{is_flat, is_root_run, is_run_type}
+use Rattle.ctl_gen.specs.Records.{each_extension, has_root_run, is_flat, is_run_type}
 
 -- the constant that an expression is, if it is one
 abbrev pub constant_by : Right → Option ℕ
@@ -32,14 +32,13 @@ abbrev pub have_constants : List RecordType → List Component → Bool
 have_constants records [] = true
 have_constants records (c ∷ cs) = may_default records (option_map value_code c.default) && have_constants records cs
 
--- such a type with scalar components whose defaults are constants
-abbrev pub is_plain : List RecordType → Option RecordType → Bool
-is_plain records None = false
-is_plain records (Some r) = is_root_run r.root r.operations && (is_flat records (Some r) && have_constants records r.own)
+-- such a type with scalar components whose defaults are constants, inherited ones too
+abbrev pub is_plain : List RecordType → ℕ → Bool
+is_plain records t = has_root_run (slice_get records t) && (is_flat records t && each_extension (have_constants records) records t)
 
 -- such a type of the table, or a scalar one
 abbrev pub is_declared : List RecordType → Ty → Bool
-is_declared records (Record t) = is_plain records (slice_get records t)
+is_declared records (Record t) = is_plain records t
 is_declared records ty = is_run_type ty
 
 -- the components of these that have defaults, where the first has this cell

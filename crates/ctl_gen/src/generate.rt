@@ -1,13 +1,15 @@
 //! The code of a whole program.
 
-ghost use Rattle.std.specs.Prelude.{◌≡◌, ◌⊎◌, IfErr, IfOk, length};
+ghost use Rattle.std.specs.Prelude.{◌≡◌, ◌⊎◌, ◌<◌, ◌^◌, ◌++◌, List, IfErr, IfOk, length};
 ghost use Rattle.ctl_tree.specs.declared.fault.FaultCode.TheVariants.{LeftOut, Memory};
 ghost use Rattle.ctl_well_typed.specs.Programs.{WellTyped};
 ghost use Rattle.ctl_gen.specs.Correct.{Behaves};
 ghost use Rattle.ctl_gen.specs.Run.{AreLinked, IsRun};
-ghost use Rattle.ctl_gen.specs.Defaults.{constant_of};
+ghost use Rattle.ctl_gen.specs.Defaults.{constant_of, defaulted_from};
 ghost use Rattle.ctl_gen.specs.Records as types;
-ghost use Rattle.ctl_gen.specs.Layout.{AreLayouts, HasKinds, IsLaidOut, IsLayout, entry_at, operations_of};
+ghost use Rattle.ctl_gen.specs.Records.{component_rows};
+ghost use Rattle.ctl_gen.specs.Layout as spec;
+ghost use Rattle.ctl_gen.specs.Layout.{AreLayouts, HasKinds, IsLaidOut, IsLayout, count_from, entry_at, operations_of};
 
 use crate::emit::Emitter;
 use crate::right::constant;
@@ -136,34 +138,99 @@ fn parts_by(root: Root) -> Parts
     }
 }
 
-/// Gives the layout of a record type with such parts and these components, of one cell each.
-fn layout_of(alloc: Global, parts: Parts, components: &[Component]) -> Result<Layout, AllocError>
-    ensures { IfOk result (λ layout. IsLayout layout parts components.now) }
+/// Counts the cells that a type inherits from its parent, where one of these layouts is the parent's (RM 3.9.1).
+fn cells_inherited(layouts: &[Layout], parent: Option<usize>) -> usize
+    ensures cells { result ≡ spec.cells_inherited (spec.parent_layout layouts.now parent) }
+    ensures bound { result < 2 ^ 63 }
 {
-    let mut offsets = Vec::new(alloc);
-    let mut defaulted = Vec::new(alloc);
-    for (offset, component) in components.iter().enumerate() {
-        offsets.push(offset)?;
+    let Some(number) = parent else {
+        return 0;
+    };
+    match layouts.get(number) {
+        Some(layout) => layout.offsets.as_slice().len(),
+        None => 0,
+    }
+}
+
+/// Copies components with defaults.
+fn copied(alloc: Global, components: &[Defaulted]) -> Result<Vec<Defaulted>, AllocError>
+    ensures { IfOk result (λ all. all.items ≡ components.now) }
+{
+    let mut all = Vec::new(alloc);
+    for component in components {
+        all.push(*component)?;
+    }
+    Ok(all)
+}
+
+/// Gives the components with defaults that a type inherits from its parent, where one of these layouts is the parent's (RM 3.9.1).
+fn defaults_inherited(
+    alloc: Global,
+    layouts: &[Layout],
+    parent: Option<usize>,
+) -> Result<Vec<Defaulted>, AllocError>
+    ensures { IfOk result (λ all. all.items ≡ spec.defaults_inherited (spec.parent_layout layouts.now parent)) }
+{
+    let Some(number) = parent else {
+        return Ok(Vec::new(alloc));
+    };
+    match layouts.get(number) {
+        Some(layout) => copied(alloc, layout.defaulted.as_slice()),
+        None => Ok(Vec::new(alloc)),
+    }
+}
+
+/// Gives so many numbers, from 0.
+fn numbers_to(alloc: Global, count: usize) -> Result<Vec<usize>, AllocError>
+    ensures { IfOk result (λ all. all.items ≡ count_from 0 count) }
+{
+    let mut all = Vec::new(alloc);
+    for number in 0..count {
+        all.push(number)?;
+    }
+    Ok(all)
+}
+
+/// Gives the layout of a record type with such parts: behind so many inherited cells, with these defaults, stand its own components, of one
+/// cell each (RM 3.8, 3.9.1).
+fn layout_of(
+    alloc: Global,
+    parts: Parts,
+    first: usize,
+    inherited: Vec<Defaulted>,
+    own: &[Component],
+) -> Result<Layout, AllocError>
+    requires { first < 2 ^ 63 }
+    ensures { IfOk result (λ layout. (cs : List Component) → first ≡ length cs → inherited.items ≡ defaulted_from 0 cs → IsLayout layout parts (cs ++ own.now)) }
+{
+    let mut defaulted = inherited;
+    for (index, component) in own.iter().enumerate() {
         if let Some(value) = default_of(component) {
-            defaulted.push(Defaulted { offset, value })?;
+            defaulted.push(Defaulted {
+                offset: first + index,
+                value,
+            })?;
         }
     }
+    let cells = first + own.len();
     Ok(Layout {
         parts,
-        cells: components.len(),
-        offsets,
+        cells,
+        offsets: numbers_to(alloc, cells)?,
         defaulted,
     })
 }
 
 /// Gives the layouts of record types.
 fn layouts_of(alloc: Global, records: &[RecordType]) -> Result<Vec<Layout>, AllocError>
-    ensures { IfOk result (λ all. AreLayouts all.items records.now) }
+    ensures { IfOk result (λ all. AreLayouts all.items records.now (component_rows records.now)) }
 {
     let mut all = Vec::new(alloc);
     for record in records {
         let parts = parts_by(record.root);
-        all.push(layout_of(alloc, parts, record.own.as_slice())?)?;
+        let first = cells_inherited(all.as_slice(), record.parent);
+        let inherited = defaults_inherited(alloc, all.as_slice(), record.parent)?;
+        all.push(layout_of(alloc, parts, first, inherited, record.own.as_slice())?)?;
     }
     Ok(all)
 }

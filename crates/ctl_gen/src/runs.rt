@@ -55,23 +55,13 @@ fn is_run_type(ty: Ty) -> bool
     matches!(ty, Ty::Integer | Ty::Boolean)
 }
 
-/// Tells whether components of the record type of this number are run.
-fn has_flat(records: &[RecordType], number: usize) -> bool
-    ensures { result ≡ types.is_flat records.now (slice_get records.now number) }
-{
-    match records.get(number) {
-        Some(entry) => is_flat(records, entry),
-        None => false,
-    }
-}
-
 /// Tells whether the value of a name is run: of a variable, or of a component of the object in one.
 fn is_read(name: &Name, ty: Ty, records: &[RecordType]) -> bool
     ensures { result ≡ (values.read (values.reached_by name.now) ty).runs records.now }
 {
     match reached_by(name) {
         Some(Reached::Variable(_)) => is_run_type(ty),
-        Some(Reached::Component { record, .. }) => is_run_type(ty) && has_flat(records, record),
+        Some(Reached::Component { record, .. }) => is_run_type(ty) && is_flat(records, record),
         None => false,
     }
 }
@@ -175,31 +165,22 @@ fn are_scalar(components: &[Component]) -> bool
     true
 }
 
-/// Tells whether a type extends none and has no components, as Controlled and Limited_Controlled themselves.
-fn is_bare(entry: &RecordType) -> bool
-    ensures { result ≡ types.is_bare (Some entry.now) }
+/// Tells whether the record type of this number has scalar components alone, inherited ones too (RM 3.8, 3.9.1).
+fn is_flat(records: &[RecordType], number: usize) -> bool
+    ensures { result ≡ types.is_flat records.now number }
 {
-    entry.parent.is_none() && entry.own.as_slice().is_empty()
-}
-
-/// Tells whether a type with this parent extends none, or such a type.
-fn extends_bare(records: &[RecordType], parent: Option<usize>) -> bool
-    ensures { result ≡ types.extends_bare records.now parent }
-{
-    match parent {
-        Some(number) => match records.get(number) {
-            Some(entry) => is_bare(entry),
-            None => false,
-        },
-        None => true,
+    let mut at = number;
+    while let Some(entry) = records.get(at) {
+        if !are_scalar(entry.own.as_slice()) {
+            return false;
+        }
+        match entry.parent {
+            None => return true,
+            Some(parent) if parent < at => at = parent,
+            Some(_) => return false,
+        }
     }
-}
-
-/// Tells whether a record type has scalar components alone, and inherits none (RM 3.8).
-fn is_flat(records: &[RecordType], entry: &RecordType) -> bool
-    ensures { result ≡ types.is_flat records.now (Some entry.now) }
-{
-    extends_bare(records, entry.parent) && are_scalar(entry.own.as_slice())
+    false
 }
 
 /// Tells whether a component has no default, or a constant (RM 3.8).
@@ -224,7 +205,7 @@ fn have_constants(components: &[Component], records: &[RecordType]) -> bool
     true
 }
 
-/// Tells whether a type extends Controlled or Limited_Controlled (RM 7.6), or is not tagged and has none of their operations.
+/// Tells whether a type descends from Controlled or Limited_Controlled (RM 7.6), or is not tagged and has none of their operations.
 fn is_root_run(entry: &RecordType) -> bool
     ensures { result ≡ types.is_root_run entry.now.root entry.now.operations }
 {
@@ -237,19 +218,32 @@ fn is_root_run(entry: &RecordType) -> bool
     }
 }
 
-/// Tells whether objects of a record type are run: one with scalar components whose defaults are constants (RM 3.8).
-fn is_plain(records: &[RecordType], entry: &RecordType) -> bool
-    ensures { result ≡ defaults.is_plain records.now (Some entry.now) }
+/// Tells whether the defaults of the components of a record type, inherited ones too, are constants (RM 3.8, 3.9.1).
+fn has_constants(records: &[RecordType], number: usize) -> bool
+    ensures { result ≡ types.each_extension (defaults.have_constants records.now) records.now number }
 {
-    is_root_run(entry) && is_flat(records, entry) && have_constants(entry.own.as_slice(), records)
+    let mut at = number;
+    while let Some(entry) = records.get(at) {
+        if !have_constants(entry.own.as_slice(), records) {
+            return false;
+        }
+        match entry.parent {
+            None => return true,
+            Some(parent) if parent < at => at = parent,
+            Some(_) => return false,
+        }
+    }
+    false
 }
 
-/// Tells whether objects of the record type of this number are run.
-fn has_plain(records: &[RecordType], number: usize) -> bool
-    ensures { result ≡ defaults.is_plain records.now (slice_get records.now number) }
+/// Tells whether objects of the record type of this number are run: one with scalar components whose defaults are constants (RM 3.8).
+fn is_plain(records: &[RecordType], number: usize) -> bool
+    ensures { result ≡ defaults.is_plain records.now number }
 {
     match records.get(number) {
-        Some(entry) => is_plain(records, entry),
+        Some(entry) => {
+            is_root_run(entry) && is_flat(records, number) && has_constants(records, number)
+        }
         None => false,
     }
 }
@@ -259,7 +253,7 @@ fn is_declared(records: &[RecordType], ty: Ty) -> bool
     ensures { result ≡ defaults.is_declared records.now ty }
 {
     match ty {
-        Ty::Record(number) => has_plain(records, number),
+        Ty::Record(number) => is_plain(records, number),
         _ => is_run_type(ty),
     }
 }
@@ -269,7 +263,7 @@ fn is_copied(records: &[RecordType], number: usize, expression: &Expr) -> bool
     ensures { result ≡ (spec.copy 0 number (values.copied number (values.value_code expression.now))).runs records.now }
 {
     match copied(number, expression) {
-        Some(_) => has_plain(records, number),
+        Some(_) => is_plain(records, number),
         None => false,
     }
 }
@@ -315,7 +309,7 @@ fn is_assigned(name: &Name, expression: &Expr, records: &[RecordType]) -> bool
     match reached_by(name) {
         Some(Reached::Variable(_)) => value(expression, records),
         Some(Reached::Component { record, .. }) => {
-            has_flat(records, record) && value(expression, records)
+            is_flat(records, record) && value(expression, records)
         }
         None => false,
     }

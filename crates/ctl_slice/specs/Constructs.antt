@@ -24,11 +24,12 @@ support_when is_run = if is_run then Run else LeftOut
 abbrev pub of_heading : Specification Definition Use → Support
 of_heading s = support_when (same_name s.name.identifier.text (codes "initialize") || (same_name s.name.identifier.text (codes "adjust") || same_name s.name.identifier.text (codes "finalize")))
 
--- Controlled or Limited_Controlled (7.6)
-abbrev pub is_controlled : Denoted → Bool
-is_controlled (Library Controlled) = true
-is_controlled (Library LimitedControlled) = true
-is_controlled d = false
+-- Controlled or Limited_Controlled (7.6), or a type of the text, which is judged where it is declared
+abbrev pub may_be_extended : Denoted → Bool
+may_be_extended (Library Controlled) = true
+may_be_extended (Library LimitedControlled) = true
+may_be_extended (Declared number level) = true
+may_be_extended d = false
 
 abbrev pub is_empty : {A : Type 0} → List A → Bool
 is_empty [] = true
@@ -68,10 +69,10 @@ abbrev pub are_plain : List (Components Use) → Bool
 are_plain [] = true
 are_plain (c ∷ cs) = is_plain c && are_plain cs
 
--- a record of such components (3.8), or a type that extends Controlled or Limited_Controlled by them (7.6)
+-- a record of such components (3.8), or a type that extends such a type by them (3.9.1)
 abbrev pub of_type : Type_definition Use → Support
 of_type (Record limitation components) = support_when (are_plain components)
-of_type (Extension parent added) = support_when (are_plain added && is_controlled parent.first.denoted)
+of_type (Extension parent added) = support_when (are_plain added && may_be_extended parent.first.denoted)
 of_type d = LeftOut
 
 -- objects of this type, with these discriminants: of a type of the text without any, and of a scalar one (3.3.1)

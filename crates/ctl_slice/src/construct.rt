@@ -83,27 +83,28 @@ fn are_plain(added: &[Components<Use>]) -> bool
     true
 }
 
-/// Judges a type: a record with such components alone is run (RM 3.8), and so is one that extends Controlled or Limited_Controlled by them
-/// (RM 7.6).
+/// Judges a type: a record with such components alone is run (RM 3.8), and so is one that extends Controlled, Limited_Controlled or a type of
+/// the text by them (RM 3.9.1, 7.6).
 pub(crate) fn of_type(definition: &TypeDefinition<Use>) -> Support
     ensures { result ≡ spec.of_type definition.now }
 {
     match definition {
         TypeDefinition::Record(_, components) => support_when(are_plain(components.as_slice())),
         TypeDefinition::Extension(parent, added) => {
-            support_when(are_plain(added.as_slice()) && is_controlled(parent.first.denoted))
+            support_when(are_plain(added.as_slice()) && may_be_extended(parent.first.denoted))
         }
         _ => Support::LeftOut,
     }
 }
 
-/// Tells whether this is Controlled or Limited_Controlled (RM 7.6).
-fn is_controlled(denoted: Denoted) -> bool
-    ensures { result ≡ spec.is_controlled denoted }
+/// Tells whether this is Controlled or Limited_Controlled (RM 7.6), or a type of the text, which is judged where it is declared.
+fn may_be_extended(denoted: Denoted) -> bool
+    ensures { result ≡ spec.may_be_extended denoted }
 {
     matches!(
         denoted,
         Denoted::Library(LibraryName::Controlled | LibraryName::LimitedControlled)
+            | Denoted::Declared(..)
     )
 }
 
