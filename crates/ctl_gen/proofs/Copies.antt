@@ -50,7 +50,8 @@ use Rattle.ctl_gen.specs.Records.{adjust_by}
 use Rattle.ctl_gen.specs.Values.{ValueCode, behind_steps, copied, read, reached_by, value_code, variable_by}
 use Rattle.ctl_gen.specs.Layout.{copy_of}
 use Rattle.ctl_gen.proofs.Known.{IsPlain, IsUntagged}
-use Rattle.ctl_gen.proofs.TreeLayers.{value_roll, reached_roll}
+use Rattle.ctl_gen.proofs.Sources.{copied_means}
+use Rattle.ctl_gen.proofs.Adjust as A
 use Rattle.ctl_gen.proofs.Worlds.{HoldsWhole, Since, Kept, since_written, whole_at}
 use Rattle.ctl_gen.proofs.Plain.{begin_cells_flat, cells_flat, controlled_parts_flat, is_controlled_plain, not_controlled_plain, no_finalize}
 use Rattle.ctl_gen.proofs.Defaults.{GivesDefaults}
@@ -61,112 +62,6 @@ use Rattle.ctl_gen.proofs.Components.{content_of}
 use Rattle.ctl_gen.proofs.Does.{Does}
 use Rattle.ctl_gen.proofs.Follow.{gives, Runs, Target, add_none, added, arrives, at, lands, one_step, stop_step, within}
 use Rattle.ctl_gen.proofs.Declare as D
-
--- What is copied ----------------------------------------------------------------------------------
-
--- what a variable of some category denotes behind these steps
-abbrev find_by : Tools → List Step → Category → Var → List ℕ → Act Found
-find_by K ss c v d = var_part c d v >>= walk K ss
-
--- the value of this type that is found so
-abbrev read_by : Tools → Ty → (List ℕ → Act Found) → List ℕ → Act (List ℕ)
-read_by K ty find d = ticked (find d >>= read_found (cells_of K.tables ty))
-
--- the value of the object in a variable of a record type is read
-abbrev read_whole : Tools → ℕ → Var → List ℕ → Act (List ℕ)
-read_whole K t v = read_by K (Record t) (find_by K [] Composite v)
-
--- a value that is one of a variable of a record type
-abbrev IsRead : Option Reached → Ty → ℕ → Var → Type 0
-IsRead o ty t v = (o ≡ Some (ReachedOf.Variable v)) × (ty ≡ Record t)
-
-is_read : (o : Option Reached) (ty : Ty) (t : ℕ) (v : Var) → copied t (read o ty) ≡ Some v → IsRead o ty t v
-is_read None ty t v is = absurd (cc is)
-is_read (Some (ReachedOf.Component x u position)) ty t v is = absurd (cc is)
-is_read (Some (ReachedOf.Variable x)) (Record u) t v is = by (nat_eq u t) refl is
-  where
-    by : (b : Bool) → nat_eq u t ≡ b → variable_by (RightOf.Variable x) b ≡ Some v → IsRead (Some (ReachedOf.Variable x)) (Record u) t v
-    by true e h = let same : x ≡ v = cc h in (ap (λ y. Some (ReachedOf.Variable y)) same, ap Record (eqb-true u t e))
-    by false e h = absurd (cc h)
-is_read (Some (ReachedOf.Variable x)) Integer t v is = absurd (cc is)
-is_read (Some (ReachedOf.Variable x)) Count t v is = absurd (cc is)
-is_read (Some (ReachedOf.Variable x)) Boolean t v is = absurd (cc is)
-is_read (Some (ReachedOf.Variable x)) Address t v is = absurd (cc is)
-is_read (Some (ReachedOf.Variable x)) Handle t v is = absurd (cc is)
-is_read (Some (ReachedOf.Variable x)) (Access a) t v is = absurd (cc is)
-
-module _ (K : Tools) where
-  abbrev IsCopied : Expr → Type 0
-  IsCopied e = (t : ℕ) (v : Var) → copied t (value_code e) ≡ Some v → eval e K ≡ read_whole K t v
-
-  -- a name that is a variable
-  abbrev Denotes : Name → Type 0
-  Denotes n = (v : Var) → reached_by n ≡ Some (ReachedOf.Variable v) → eval_name n Composite K ≡ find_by K [] Composite v
-
-  abbrev ActualToo : Type 0
-  ActualToo = (a : Actual) × Unit {0}
-
-  abbrev ExprToo : Type 0
-  ExprToo = (e : Expr) × IsCopied e
-
-  abbrev NameToo : Type 0
-  NameToo = (n : Name) × Denotes n
-
-  abbrev OperandToo : Type 0
-  OperandToo = (o : Operand) × Unit {0}
-
-  abbrev bare_expr : Expr-F ActualToo ExprToo NameToo OperandToo → Expr-F Actual Expr Name Operand
-  bare_expr = map-Expr ActualToo ExprToo NameToo OperandToo Actual Expr Name Operand (λ e. e.0) (λ e. e.0) (λ e. e.0) (λ e. e.0)
-
-  abbrev bare_name : Name-F ActualToo ExprToo NameToo OperandToo → Name-F Actual Expr Name Operand
-  bare_name = map-Name ActualToo ExprToo NameToo OperandToo Actual Expr Name Operand (λ e. e.0) (λ e. e.0) (λ e. e.0) (λ e. e.0)
-
-  behind_it : (x : Var) (ss : List Step) (v : Var) → behind_steps x ss ≡ Some (ReachedOf.Variable v) → find_by K ss (begins_as ss Composite) x ≡ find_by K [] Composite v
-  unfolding begins_as
-  behind_it x [] v is = let same : x ≡ v = cc is in ap (find_by K [] Composite) same
-  behind_it x (Component t position ∷ []) v is = absurd (cc is)
-  behind_it x (Component t position ∷ s ∷ ss) v is = absurd (cc is)
-  behind_it x (Dereference ∷ ss) v is = absurd (cc is)
-  behind_it x (Narrow t ∷ ss) v is = absurd (cc is)
-
-  name_rolled : (y : Name-F ActualToo ExprToo NameToo OperandToo) → Denotes (roll-Name (bare_name y))
-  unfolding name_meaning
-  name_rolled (Name-F.Variable x ss) v is = ap (λ (m : Naming). m Composite K) (name_roll (Name-F.Variable x ss)) ∙ behind_it x ss v (sym (reached_roll (Name-F.Variable x ss)) ∙ is)
-  name_rolled (Name-F.Given e ss) v is = absurd (let e1 = sym (reached_roll (Name-F.Given e.0 ss)) ∙ is in cc e1)
-
-  not_copied : (y : Expr-F Actual Expr Name Operand) (x : ValueCode) → value_code (roll-Expr y) ≡ x → ((t : ℕ) → copied t x ≡ None) → IsCopied (roll-Expr y)
-  not_copied y x same none t v is = absurd (let e = sym (none t) ∙ sym (ap (copied t) same) ∙ is in cc e)
-
-  reads : (n : Name) (ty : Ty) → Denotes n → (t : ℕ) (v : Var) → copied t (read (reached_by n) ty) ≡ Some v → eval_step (Expr-F.Read (eval_name n) ty) K ≡ read_whole K t v
-  unfolding eval_step category_of
-  reads n ty denotes t v is =
-      let h = is_read (reached_by n) ty t v is in
-      ap (λ (u : Ty). read_by K u (eval_name n (category_of u) K)) h.1
-      ∙ ap (read_by K (Record t)) (denotes v h.0)
-
-  expr_rolled : (y : Expr-F ActualToo ExprToo NameToo OperandToo) → IsCopied (roll-Expr (bare_expr y))
-  expr_rolled (Expr-F.Constant n) = not_copied (Expr-F.Constant n) _ (value_roll (Expr-F.Constant n)) (λ t. refl)
-  expr_rolled (Expr-F.Read n ty) = λ t v is. ap (λ (m : Valued). m K) (eval_roll (Expr-F.Read n.0 ty)) ∙ reads n.0 ty n.1 t v (sym (ap (copied t) (value_roll (Expr-F.Read n.0 ty))) ∙ is)
-  expr_rolled (Expr-F.Unary op ty e) = not_copied (Expr-F.Unary op ty e.0) _ (value_roll (Expr-F.Unary op ty e.0)) (λ t. refl)
-  expr_rolled (Expr-F.Chain e o os) = let y = Expr-F.Chain e.0 o.0 (map (λ z. z.0) os) in not_copied y _ (value_roll y) (λ t. refl)
-  expr_rolled (Expr-F.Short form e f es) = let y = Expr-F.Short form e.0 f.0 (map (λ z. z.0) es) in not_copied y _ (value_roll y) (λ t. refl)
-  expr_rolled (Expr-F.Call f xs) = let y = Expr-F.Call f (map (λ z. z.0) xs) in not_copied y _ (value_roll y) (λ t. refl)
-  expr_rolled (Expr-F.Convert ty e) = not_copied (Expr-F.Convert ty e.0) _ (value_roll (Expr-F.Convert ty e.0)) (λ t. refl)
-  expr_rolled (Expr-F.Access v) = not_copied (Expr-F.Access v) _ (value_roll (Expr-F.Access v)) (λ t. refl)
-  expr_rolled (Expr-F.New access ty None None) = not_copied (Expr-F.New access ty None None) _ (value_roll (Expr-F.New access ty None None)) (λ t. refl)
-  expr_rolled (Expr-F.New access ty None (Some v)) = not_copied (Expr-F.New access ty None (Some v.0)) _ (value_roll (Expr-F.New access ty None (Some v.0))) (λ t. refl)
-  expr_rolled (Expr-F.New access ty (Some h) None) = not_copied (Expr-F.New access ty (Some h.0) None) _ (value_roll (Expr-F.New access ty (Some h.0) None)) (λ t. refl)
-  expr_rolled (Expr-F.New access ty (Some h) (Some v)) = not_copied (Expr-F.New access ty (Some h.0) (Some v.0)) _ (value_roll (Expr-F.New access ty (Some h.0) (Some v.0))) (λ t. refl)
-  expr_rolled (Expr-F.Subpool which n) = not_copied (Expr-F.Subpool which n.0) _ (value_roll (Expr-F.Subpool which n.0)) (λ t. refl)
-  expr_rolled (Expr-F.Discriminant n i) = not_copied (Expr-F.Discriminant n.0 i) _ (value_roll (Expr-F.Discriminant n.0 i)) (λ t. refl)
-
-  -- what a value means that is copied
-  copied_means : (e : Expr) → IsCopied e
-  copied_means = ind-Expr (λ a. Unit {0}) IsCopied Denotes (λ o. Unit {0})
-      (λ x y is. tt)
-      (λ x y is. subst (λ z. IsCopied (roll-Expr z)) is (expr_rolled y))
-      (λ x y is. subst (λ z. Denotes (roll-Name z)) is (name_rolled y))
-      (λ x y is. tt)
 
 module _ (ask : Ask) (k : Tables) (code : Code) (setting : Setting k code) (call : Call) (default : Default) (constants : GivesDefaults k default) (t : ℕ) (r : RecordType) (record_is : slice_get k.records t ≡ Some r) (plain : IsPlain k r) where
   abbrev K : Tools
@@ -186,16 +81,9 @@ module _ (ask : Ask) (k : Tables) (code : Code) (setting : Setting k code) (call
   abbrev born : ℕ → World → Option Birth
   born m w = Some (birth_of (Declared m) w)
 
-  -- no component has one
-  adjust_is : (b : Option Birth) (n c : ℕ) (l : Log) (w : World) → adjust K b (whole n) (Record t) c l w ≡ bind (own_adjust K b (whole n) t unadjusted c l w) (on_goes (adjusted K b (whole n) t))
-  unfolding adjust adjust_record adjust_part adjust_each of_record depth opened_outcome
-  adjust_is b n c l w =
-      ap (λ ps. bind (bind (adjust_each K (λ p a. of_record (done a) (λ u. adjust_part K b (length k.records) (component_at (whole n) p) u a) p.ty) (length ps) ps unadjusted c l w) (on_goes (own_adjust K b (whole n) t))) (on_goes (adjusted K b (whole n) t))) (controlled_parts_flat k t r record_is plain.flat K refl)
-      ∙ ap (λ o. bind o (on_goes (adjusted K b (whole n) t))) (add_none (own_adjust K b (whole n) t unadjusted c l w))
-
   -- after its Adjust, as the meaning says it
   abbrev settled : ℕ → ℕ → World → Out Done → Out Done
-  settled n m w0 x = bind (bind (bind x told) (on_goes (after_adjust K (born m w0) (whole n) t unadjusted))) (on_goes (adjusted K (born m w0) (whole n) t))
+  settled n m w0 x = A.settled ask k code setting call default t r record_is plain (born m w0) n x
 
   cleaned_up : (b : Birth) (n e c : ℕ) (l : Log) (w : World) → adjusted K (Some b) (whole n) t (record { failed = true; paths = [] }) c l w ≡ D.given_up ask k code setting call default constants t r record_is plain ByCopy n e c l w
   unfolding opened_adjustment opened_finalization opened_outcome opened_lists
@@ -220,19 +108,6 @@ module _ (ask : Ask) (k : Tables) (code : Code) (setting : Setting k code) (call
       ap (add (τ + 0 + 0)) (cleaned_up (birth_of (Declared m) w0) n e c l w) ∙ ap (λ i. add i (D.given_up ask k code setting call default constants t r record_is plain ByCopy n e c l w)) same
   as_started n m w0 (Stops why τ l) = refl
   as_started n m w0 (Cut τ c l) = refl
-
-  -- the object's own Adjust
-  own_is : r.root ≡ Controlled → (g : Option ℕ) → operation (first_of ByCopy) k t ≡ g → (n m c : ℕ) (l : Log) (w0 w : World) → bind (own_adjust K (born m w0) (whole n) t unadjusted c l w) (on_goes (adjusted K (born m w0) (whole n) t)) ≡ settled n m w0 (call_operation K (whole n) g (first_call ByCopy n) c l w)
-  unfolding own_adjust part_of whole opened_outcome
-  own_is controlled g e n m c l w0 w =
-      ap (λ q. bind (either q (λ c1 l1 w1. bind (bind (call_operation K (whole n) (operation (first_of ByCopy) k t) (first_call ByCopy n) c1 l1 w1) told) (on_goes (after_adjust K (born m w0) (whole n) t unadjusted))) (done unadjusted) c l w) (on_goes (adjusted K (born m w0) (whole n) t))) (is_controlled_plain k t r record_is controlled)
-      ∙ ap (λ f. settled n m w0 (call_operation K (whole n) f (first_call ByCopy n) c l w)) e
-
-  -- an object that is not controlled has none
-  none_is : IsUntagged r → (n m c : ℕ) (l : Log) (w0 w : World) → bind (own_adjust K (born m w0) (whole n) t unadjusted c l w) (on_goes (adjusted K (born m w0) (whole n) t)) ≡ Gives (Goes tt) 0 c l w
-  unfolding own_adjust adjusted unadjusted opened_outcome
-  none_is untagged n m c l w0 w =
-      ap (λ q. bind (either q (attempt (call_operation K (whole n) (operation (λ x. x.adjust) k t) (EventOf.Adjust (part_of (whole n)))) >>= after_adjust K (born m w0) (whole n) t unadjusted) (done unadjusted) c l w) (on_goes (adjusted K (born m w0) (whole n) t))) (not_controlled_plain k t r record_is plain.flat untagged)
 
   -- What the declaration means -----------------------------------------------------------------------
 
@@ -274,14 +149,6 @@ module _ (ask : Ask) (k : Tables) (code : Code) (setting : Setting k code) (call
   object_is slot d m i (Copies v) c l w h = absurd h
   object_is slot d m i (Gathers n) c l w h = refl
 
-  -- the table names the Adjust of a tagged type
-  adjust_named : r.root ≡ Controlled → operation_of (first_operation ByCopy) code t ≡ operation (first_of ByCopy) k t
-  unfolding operation operation_in
-  adjust_named controlled = setting.adjust t r record_is ∙ ap (λ x. adjust_by x r.operations.adjust) controlled ∙ sym (ap (operation_in (first_of ByCopy)) record_is)
-
-  not_adjusted : IsUntagged r → operation_of (first_operation ByCopy) code t ≡ None
-  not_adjusted untagged = setting.adjust t r record_is ∙ ap (λ x. adjust_by x r.operations.adjust) untagged.root
-
   -- What its code does -------------------------------------------------------------------------------
 
   module _ (bound : ℕ) (calls : Calls ask k code setting bound call) where
@@ -293,15 +160,15 @@ module _ (ask : Ask) (k : Tables) (code : Code) (setting : Setting k code) (call
         let s0 = gives (Filling ByCopy n t [] p ∷ ks) (Fine Complete) l w in
         let g = operation (first_of ByCopy) k t in
         subst (λ o. Runs ask code (Kept k code w0) 4 5 (gives (Filling ByCopy n t [] p ∷ ks) (Fine Complete) l w) c (arrives e p.display p.place ks p.operands) (standing n (last_of p.display) o))
-        (sym (adjust_is (born m w2) n c l w ∙ own_is controlled g refl n m c l w2 w ∙ as_started n m w2 (call_operation K (whole n) g (first_call ByCopy n) c l w)))
-        (D.created_runs ask k code setting call default constants t r record_is plain bound calls ByCopy (adjust_named controlled) w0 n e p ks s0 c l w le fits ty g (object_at n w) refl refl (ap (λ f. moved l (Table.by_declaration code ByCopy f n t (object_at n w) p ks w)) (adjust_named controlled)))
+        (sym (A.adjust_is ask k code setting call default t r record_is plain (born m w2) n c l w ∙ A.own_is ask k code setting call default t r record_is plain controlled (born m w2) g refl n c l w ∙ as_started n m w2 (call_operation K (whole n) g (first_call ByCopy n) c l w)))
+        (D.created_runs ask k code setting call default constants t r record_is plain bound calls ByCopy (A.adjust_named ask k code setting call default t r record_is plain controlled) w0 n e p ks s0 c l w le fits ty g (object_at n w) refl refl (ap (λ f. moved l (Table.by_declaration code ByCopy f n t (object_at n w) p ks w)) (A.adjust_named ask k code setting call default t r record_is plain controlled)))
     own_runs (inr untagged) w0 n e p ks c l w2 w le fits ty =
         let s0 = gives (Filling ByCopy n t [] p ∷ ks) (Fine Complete) l w in
         subst (λ o. Runs ask code (Kept k code w0) 4 5 (gives (Filling ByCopy n t [] p ∷ ks) (Fine Complete) l w) c (arrives e p.display p.place ks p.operands) (standing n (last_of p.display) o))
-        (sym (adjust_is (born (last_of p.display) w2) n c l w ∙ none_is untagged n (last_of p.display) c l w2 w))
+        (sym (A.adjust_is ask k code setting call default t r record_is plain (born (last_of p.display) w2) n c l w ∙ A.none_is ask k code setting call default t r record_is plain untagged (born (last_of p.display) w2) n c l w))
         (within ask code (Kept k code w0) 3 4 4 5 s0 c (arrives e p.display p.place ks p.operands) (standing n (last_of p.display) (Gives (Goes tt) 0 c l w)) (omega arith) (omega arith)
         (D.found_runs ask k code setting call default constants t r record_is plain ByCopy w0 n e p ks s0 s0 c c 0 l w (Unit {0}) fits (record { n = 0; falls = omega arith; enough = omega arith; in_time = omega arith; comes = refl; fits = tt }) None (object_at n w) (no_finalize k t r record_is plain.flat untagged) refl
-        (ap (λ f. moved l (Table.by_declaration code ByCopy f n t (object_at n w) p ks w)) (not_adjusted untagged) ∙ D.unseen ByCopy code n t (object_at n w) p ks w l (setting.finalize t ∙ no_finalize k t r record_is plain.flat untagged))))
+        (ap (λ f. moved l (Table.by_declaration code ByCopy f n t (object_at n w) p ks w)) (A.not_adjusted ask k code setting call default t r record_is plain untagged) ∙ D.unseen ByCopy code n t (object_at n w) p ks w l (setting.finalize t ∙ no_finalize k t r record_is plain.flat untagged))))
 
     -- a new object takes a value, from the step that creates it
     taken_runs : (w0 : World) (n : ℕ) (v : List ℕ) (e : Target) (p : Point) (ks : List Frame) (s0 : State) (c : ℕ) (l : Log) (w2 w : World) → c ≤ bound → Since k code w0 w → IsOf n w → step ask code s0 ≡ moved l (Table.take_value n t v (object_at n w) p ks w) → Runs ask code (Kept k code w0) 5 6 s0 c (arrives e p.display p.place ks p.operands) (taking n (last_of p.display) v w2 c l w)
