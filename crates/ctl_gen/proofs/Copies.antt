@@ -1,19 +1,11 @@
 -- The declaration of an object of a plain type that takes the value of a variable.
-use Rattle.std.proofs.Common.{◌≡◌, ℕ, zero, suc, ◌+◌, ◌≤◌, List, [], ◌∷◌, length, map, Option, Some, None, Bool, true, false, refl, sym, ap, ◌∙◌, subst, arith, ◌⊎◌, inl, inr}
-use Rattle.std.specs.Prelude.{replicate, slice_get, is_some, nat_eq}
-use Rattle.std.proofs.lemmas.Bool.{eqb-true}
-use Rattle.ctl_program.specs.declared.types.Ty.{Ty}
-use Rattle.ctl_program.specs.declared.types.Ty.TheVariants.{Integer, Count, Boolean, Address, Handle, Access, Record}
+use Rattle.std.proofs.Common.{◌≡◌, ℕ, zero, suc, ◌+◌, ◌≤◌, List, [], ◌∷◌, length, Option, Some, None, Bool, true, false, refl, sym, ap, ◌∙◌, subst, arith, ◌⊎◌, inl, inr}
+use Rattle.std.specs.Prelude.{replicate, slice_get, is_some}
+use Rattle.ctl_program.specs.declared.types.Ty.TheVariants.{Record}
 use Rattle.ctl_program.specs.declared.types.Var.{Var}
 use Rattle.ctl_program.specs.declared.types.RecordType.{RecordType}
 use Rattle.ctl_program.specs.declared.types.Root.TheVariants.{Controlled}
-use Rattle.ctl_program.specs.declared.expression.Expr.{Expr, roll-Expr, map-Expr, ind-Expr}
-use Rattle.ctl_program.specs.declared.expression.Name.{Name, roll-Name, map-Name}
-use Rattle.ctl_program.specs.declared.expression.Actual.{Actual}
-use Rattle.ctl_program.specs.declared.expression.Operand.{Operand}
-use Rattle.ctl_program.specs.declared.expression.Actual.TheOpen.{Expr-F, Name-F}
-use Rattle.ctl_program.specs.declared.expression.Step.{Step}
-use Rattle.ctl_program.specs.declared.expression.Step.TheVariants.{Component, Dereference, Narrow}
+use Rattle.ctl_program.specs.declared.expression.Expr.{Expr}
 use Rattle.ctl_tree.specs.declared.ending.Stop.TheVariants.{UseAfterFree}
 use Rattle.ctl_tree.specs.declared.event.Event.{Event}
 use Rattle.ctl_tree.specs.declared.event.Event.TheVariants as EventOf
@@ -23,15 +15,14 @@ use Rattle.ctl_meaning.specs.Activations.{master_of}
 use Rattle.ctl_meaning.specs.Objects.{cells_at}
 use Rattle.ctl_meaning.specs.Changes.{object_at, slot_at, create, write_cells, set_slot, begin_finalization, end_finalization, owner_of}
 use Rattle.ctl_meaning.specs.Choice.{Ask, picked}
-use Rattle.ctl_meaning.specs.Outcome.{program_error, ByExit, ByReturn, ByRaise, Goes, Leaves, Out, Gives, Stops, Cut, Act, Done, Fine, add, bind, on_goes, ◌>>=◌, ◌>>◌, done, nothing, raise, tell, show, change, ticked, told, attempt, either, on_some, opened_outcome}
-use Rattle.ctl_meaning.specs.Types.{Tables, Category, Composite, category_of, operation, operation_in, depth, of_record, cells_of}
-use Rattle.ctl_meaning.specs.Names.{Found, found_in, find_var, Call, Default, Tools, gone, existing, read_found, read_part, write_part, walk, begins_as}
-use Rattle.ctl_meaning.specs.Expressions.{Naming, Valued, eval, eval_name, eval_step, name_step as name_meaning, var_part, if_given}
-use Rattle.ctl_meaning.specs.Finalization.{whole, component_at, part_of, call_operation, opened_finalization}
-use Rattle.ctl_meaning.specs.Adjustment.{Birth, birth_of, unadjusted, adjust, adjust_record, adjust_part, adjust_each, own_adjust, after_adjust, adjusted, opened_adjustment}
+use Rattle.ctl_meaning.specs.Outcome.{program_error, ByExit, ByReturn, ByRaise, Goes, Leaves, Out, Gives, Stops, Cut, Act, Done, Fine, add, bind, on_goes, ◌>>=◌, ◌>>◌, done, nothing, raise, tell, show, change, ticked, either, on_some, opened_outcome}
+use Rattle.ctl_meaning.specs.Types.{Tables, Composite, category_of, operation, cells_of}
+use Rattle.ctl_meaning.specs.Names.{Found, found_in, find_var, Call, Default, Tools, gone, existing, read_found, read_part, write_part, walk}
+use Rattle.ctl_meaning.specs.Expressions.{eval, var_part, if_given}
+use Rattle.ctl_meaning.specs.Finalization.{whole, call_operation, opened_finalization}
+use Rattle.ctl_meaning.specs.Adjustment.{Birth, birth_of, adjust, adjusted, opened_adjustment}
 use Rattle.ctl_meaning.specs.Initialization.{fill}
 use Rattle.ctl_meaning.specs.Masters.{declare, object}
-use Rattle.ctl_meaning.proofs.Trees.{eval_roll, name_roll}
 use Rattle.ctl_code.specs.declared.code.Beginning.TheVariants.{ByCopy}
 use Rattle.ctl_code.specs.declared.code.Instr.TheVariants as InstrOf
 use Rattle.ctl_code.specs.declared.code.Code.{Code}
@@ -40,20 +31,16 @@ use Rattle.ctl_code.specs.States.{Complete, Point, Frame, Filling, State}
 use Rattle.ctl_code.specs.Valid.{IsDeclarable}
 use Rattle.ctl_code.specs.Windows.{height}
 use Rattle.ctl_code.specs.Table as Table
-use Rattle.ctl_code.specs.Table.{by_locate, first_call, first_operation, operation_of, size_of, whole_of, whole_part, with_object}
+use Rattle.ctl_code.specs.Table.{by_locate, first_call, size_of, whole_of, whole_part, with_object}
 use Rattle.ctl_code.specs.Steps.{moved, step}
-use Rattle.ctl_gen.specs.declared.right.Reached.{Reached}
-use Rattle.ctl_gen.specs.declared.right.Reached.TheVariants as ReachedOf
-use Rattle.ctl_gen.specs.declared.right.Right.TheVariants as RightOf
 use Rattle.ctl_gen.specs.Around.{out_to}
-use Rattle.ctl_gen.specs.Records.{adjust_by}
-use Rattle.ctl_gen.specs.Values.{ValueCode, behind_steps, copied, read, reached_by, value_code, variable_by}
+use Rattle.ctl_gen.specs.Values.{copied, value_code}
 use Rattle.ctl_gen.specs.Layout.{copy_of}
 use Rattle.ctl_gen.proofs.Known.{IsPlain, IsUntagged}
 use Rattle.ctl_gen.proofs.Sources.{copied_means}
 use Rattle.ctl_gen.proofs.Adjust as A
 use Rattle.ctl_gen.proofs.Worlds.{HoldsWhole, Since, Kept, since_written, whole_at}
-use Rattle.ctl_gen.proofs.Plain.{begin_cells_flat, cells_flat, controlled_parts_flat, is_controlled_plain, not_controlled_plain, no_finalize}
+use Rattle.ctl_gen.proofs.Plain.{begin_cells_flat, cells_flat, no_finalize}
 use Rattle.ctl_gen.proofs.Defaults.{GivesDefaults}
 use Rattle.ctl_gen.proofs.Setting.{Setting, Calls, Sees, first_of, tools_with}
 use Rattle.ctl_gen.proofs.Cells.{by_code, here, out_is}

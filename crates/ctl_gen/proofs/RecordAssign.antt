@@ -1,6 +1,6 @@
 -- The assignment of the object in one variable to the object in another: its code is what is emitted, is well formed, and does what the
 -- program means (5.2, 7.6).
-use Rattle.std.proofs.Common.{◌≡◌, ℕ, ◌+◌, ◌≤◌, List, [], ◌∷◌, ◌++◌, length, Option, Some, None, Bool, true, false, refl, sym, ap, ◌∙◌, subst, arith, ◌⊎◌, inl, inr}
+use Rattle.std.proofs.Common.{◌≡◌, ℕ, ◌+◌, ◌≤◌, List, [], ◌∷◌, length, Option, Some, None, Bool, true, false, refl, sym, ap, ◌∙◌, subst, arith, ◌⊎◌, inl, inr}
 use Rattle.std.specs.Prelude.{slice_get, nat_eq, if◌then◌else◌, ◌&&◌}
 use Rattle.ctl_program.specs.declared.types.Ty.TheVariants.{Record}
 use Rattle.ctl_program.specs.declared.types.Var.{Var}
@@ -16,9 +16,9 @@ use Rattle.ctl_meaning.specs.Activations.{master_of}
 use Rattle.ctl_meaning.specs.Objects.{cells_at}
 use Rattle.ctl_meaning.specs.Changes.{object_at, slot_at, write_cells, home_of}
 use Rattle.ctl_meaning.specs.Choice.{Ask, picked}
-use Rattle.ctl_meaning.specs.Outcome.{Way, ByRaise, Result, Goes, Leaves, Out, Gives, Stops, Cut, Act, Done, Fine, add, bind, on_goes, ◌>>=◌, ◌>>◌, done, nothing, tell, show, look, change, ticked, told, either, when, on_some, opened_outcome}
+use Rattle.ctl_meaning.specs.Outcome.{Result, Goes, Leaves, Out, Gives, Stops, Cut, Act, Done, Fine, add, bind, on_goes, ◌>>=◌, ◌>>◌, done, nothing, tell, show, look, change, ticked, told, either, when, on_some, opened_outcome}
 use Rattle.ctl_meaning.specs.Types.{Tables, Composite, cells_of, has_controlled, operation}
-use Rattle.ctl_meaning.specs.Names.{Found, InObject, OfSubprogram, Returned, Call, Default, Tools, existing, gone, read_found, read_part, same_found, write_found, write_part}
+use Rattle.ctl_meaning.specs.Names.{InObject, OfSubprogram, Returned, Call, Default, Tools, existing, gone, read_found, read_part, same_found, write_found, write_part, opened_names}
 use Rattle.ctl_meaning.specs.Finalization.{Every, whole, call_operation, after_finalize, finalize, opened_finalization}
 use Rattle.ctl_meaning.specs.Adjustment.{adjust, opened_adjustment}
 use Rattle.ctl_meaning.specs.Statements.{assign_record as assign_found, overwrite, spot_of}
@@ -34,11 +34,11 @@ use Rattle.ctl_code.specs.States.{Complete, Point, Frame, Assigning, State}
 use Rattle.ctl_code.specs.Valid.{IsDeclarable, IsInScope, outermost}
 use Rattle.ctl_code.specs.Windows.{height}
 use Rattle.ctl_code.specs.Table as Table
-use Rattle.ctl_code.specs.Table.{by_locate, first_call, first_operation, operation_in, operation_of, size_of, whole_of, whole_part}
+use Rattle.ctl_code.specs.Table.{by_locate, first_call, operation_in, operation_of, size_of, whole_of, whole_part}
 use Rattle.ctl_code.specs.Steps.{moved, step}
 use Rattle.ctl_gen.specs.declared.right.Reached.{Reached}
 use Rattle.ctl_gen.specs.declared.right.Reached.TheVariants as ReachedOf
-use Rattle.ctl_gen.specs.Around.{Around, new_operand, out_to}
+use Rattle.ctl_gen.specs.Around.{new_operand, out_to}
 use Rattle.ctl_gen.specs.Emitted.{Emitted, lined, one, standing, stated}
 use Rattle.ctl_gen.specs.Layout.{assign_record, record_code, take_over_code}
 use Rattle.ctl_gen.proofs.Known.{IsPlain, IsUntagged}
@@ -49,7 +49,7 @@ use Rattle.ctl_gen.proofs.Formed as F
 use Rattle.ctl_gen.proofs.Worlds.{Fits, IfFound, Settled, Since, Kept, object_fits, since_written, whole_at, written_there}
 use Rattle.ctl_gen.proofs.Plain.{cells_flat, has_controlled_plain, no_finalize, none_controlled_plain}
 use Rattle.ctl_gen.proofs.Defaults.{GivesDefaults}
-use Rattle.ctl_gen.proofs.Setting.{Setting, Calls, Sees, Told, enter_shows, first_of, returns, tools_with}
+use Rattle.ctl_gen.proofs.Setting.{Setting, Calls, Told, enter_shows, first_of, returns, tools_with}
 use Rattle.ctl_gen.proofs.Cells.{by_code, here, out_is}
 use Rattle.ctl_gen.proofs.Place.{Laid}
 use Rattle.ctl_gen.proofs.Components.{content_of}

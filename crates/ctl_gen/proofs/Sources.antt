@@ -1,12 +1,10 @@
 -- What it means to find the object in a variable of a record type: a value that is copied, and a name and an actual that are such a variable.
-use Rattle.std.proofs.Common.{◌≡◌, ℕ, zero, suc, ◌+◌, ◌≤◌, List, [], ◌∷◌, length, map, Option, Some, None, Bool, true, false, refl, sym, ap, ◌∙◌, subst, arith, ◌⊎◌, inl, inr}
-use Rattle.std.specs.Prelude.{replicate, slice_get, is_some, nat_eq}
+use Rattle.std.proofs.Common.{◌≡◌, ℕ, zero, suc, List, [], ◌∷◌, map, Option, Some, None, Bool, true, false, refl, sym, ap, ◌∙◌, subst}
+use Rattle.std.specs.Prelude.{nat_eq}
 use Rattle.std.proofs.lemmas.Bool.{eqb-true}
 use Rattle.ctl_program.specs.declared.types.Ty.{Ty}
 use Rattle.ctl_program.specs.declared.types.Ty.TheVariants.{Integer, Count, Boolean, Address, Handle, Access, Record}
 use Rattle.ctl_program.specs.declared.types.Var.{Var}
-use Rattle.ctl_program.specs.declared.types.RecordType.{RecordType}
-use Rattle.ctl_program.specs.declared.types.Root.TheVariants.{Controlled}
 use Rattle.ctl_program.specs.declared.expression.Expr.{Expr, roll-Expr, map-Expr, ind-Expr}
 use Rattle.ctl_program.specs.declared.expression.Name.{Name, roll-Name, map-Name, ind-Name}
 use Rattle.ctl_program.specs.declared.expression.Actual.{Actual, roll-Actual, map-Actual, ind-Actual}
@@ -15,52 +13,22 @@ use Rattle.ctl_program.specs.declared.expression.Actual.TheOpen.{Actual-F, Expr-
 use Rattle.ctl_program.specs.declared.expression.Step.{Step}
 use Rattle.ctl_program.specs.declared.expression.Step.TheVariants.{Component, Dereference, Narrow}
 use Rattle.ctl_tree.specs.declared.ending.Stop.TheVariants.{UseAfterFree}
-use Rattle.ctl_tree.specs.declared.event.Event.{Event}
-use Rattle.ctl_tree.specs.declared.event.Event.TheVariants as EventOf
-use Rattle.ctl_meaning.specs.World.{Object, Content, Nothing, Holds, Binds, Copies, Gathers, Declared, holding, Log, World}
-use Rattle.ctl_meaning.specs.Lists.{last_of, opened_lists}
+use Rattle.ctl_meaning.specs.World.{Content, Nothing, Holds, Binds, Copies, Gathers, Log, World}
 use Rattle.ctl_meaning.specs.Activations.{master_of}
-use Rattle.ctl_meaning.specs.Objects.{cells_at}
-use Rattle.ctl_meaning.specs.Changes.{object_at, slot_at, create, write_cells, set_slot, begin_finalization, end_finalization, owner_of}
-use Rattle.ctl_meaning.specs.Choice.{Ask, picked}
-use Rattle.ctl_meaning.specs.Outcome.{program_error, ByExit, ByReturn, ByRaise, Goes, Leaves, Out, Gives, Stops, Cut, Act, Done, Fine, add, bind, on_goes, ◌>>=◌, ◌>>◌, done, nothing, raise, tell, show, change, ticked, told, attempt, either, on_some, opened_outcome}
-use Rattle.ctl_meaning.specs.Types.{Tables, Category, Composite, category_of, operation, operation_in, depth, of_record, cells_of}
-use Rattle.ctl_meaning.specs.Names.{Found, InObject, found_in, find_var, Call, Default, Tools, gone, existing, read_found, read_part, write_part, walk, begins_as}
+use Rattle.ctl_meaning.specs.Outcome.{Goes, Gives, Stops, Act, add, bind, on_goes, ◌>>=◌, ◌>>◌, ticked, opened_outcome}
+use Rattle.ctl_meaning.specs.Types.{Category, Composite, category_of, cells_of}
+use Rattle.ctl_meaning.specs.Names.{Found, InObject, found_in, find_var, Call, Tools, gone, read_found, walk, begins_as}
 use Rattle.ctl_meaning.specs.Expressions.{Naming, Supplied, Valued, eval, eval_name, eval_step, name_step as name_meaning, actual_step as actual_meaning, supply, var_part}
-use Rattle.ctl_meaning.specs.Finalization.{whole, component_at, part_of, call_operation, opened_finalization}
-use Rattle.ctl_meaning.specs.Adjustment.{Birth, birth_of, unadjusted, adjust, adjust_record, adjust_part, adjust_each, own_adjust, after_adjust, adjusted, opened_adjustment}
-use Rattle.ctl_meaning.specs.Initialization.{fill}
-use Rattle.ctl_meaning.specs.Masters.{declare, object}
 use Rattle.ctl_meaning.proofs.Trees.{actual_roll, eval_roll, name_roll}
-use Rattle.ctl_code.specs.declared.code.Beginning.TheVariants.{ByCopy}
-use Rattle.ctl_code.specs.declared.code.Instr.TheVariants as InstrOf
-use Rattle.ctl_code.specs.declared.code.Code.{Code}
-use Rattle.ctl_code.specs.declared.kinds.Kind.{Kind}
-use Rattle.ctl_code.specs.States.{Complete, Point, Frame, Filling, State}
-use Rattle.ctl_code.specs.Valid.{IsDeclarable}
-use Rattle.ctl_code.specs.Windows.{height}
-use Rattle.ctl_code.specs.Table as Table
-use Rattle.ctl_code.specs.Table.{by_locate, first_call, first_operation, operation_of, size_of, whole_of, whole_part, with_object}
-use Rattle.ctl_code.specs.Steps.{moved, step}
+use Rattle.ctl_code.specs.Table.{whole_of}
 use Rattle.ctl_gen.specs.declared.right.Reached.{Reached}
 use Rattle.ctl_gen.specs.declared.right.Reached.TheVariants as ReachedOf
 use Rattle.ctl_gen.specs.declared.right.Right.TheVariants as RightOf
-use Rattle.ctl_gen.specs.Around.{out_to}
-use Rattle.ctl_gen.specs.Records.{adjust_by}
 use Rattle.ctl_gen.specs.Values.{ValueCode, behind_steps, copied, read, reached_by, sourced, value_code, variable_by}
-use Rattle.ctl_gen.specs.Layout.{copy_of}
-use Rattle.ctl_gen.proofs.Known.{IsPlain, IsUntagged}
 use Rattle.ctl_gen.proofs.TreeLayers.{value_roll, reached_roll, sourced_roll}
-use Rattle.ctl_gen.proofs.Worlds.{HoldsWhole, Since, Kept, since_written, whole_at}
-use Rattle.ctl_gen.proofs.Plain.{begin_cells_flat, cells_flat, controlled_parts_flat, is_controlled_plain, not_controlled_plain, no_finalize}
-use Rattle.ctl_gen.proofs.Defaults.{GivesDefaults}
-use Rattle.ctl_gen.proofs.Setting.{Setting, Calls, Sees, first_of, tools_with}
-use Rattle.ctl_gen.proofs.Cells.{by_code, here, out_is}
-use Rattle.ctl_gen.proofs.Place.{Laid}
+use Rattle.ctl_gen.proofs.Worlds.{HoldsWhole}
 use Rattle.ctl_gen.proofs.Components.{content_of}
-use Rattle.ctl_gen.proofs.Does.{Does}
-use Rattle.ctl_gen.proofs.Follow.{gives, Runs, Target, add_none, added, arrives, at, lands, one_step, stop_step, within}
-use Rattle.ctl_gen.proofs.Declare as D
+use Rattle.ctl_gen.proofs.Follow.{at}
 
 -- what a variable of some category denotes behind these steps
 abbrev pub find_by : Tools → List Step → Category → Var → List ℕ → Act Found
@@ -168,7 +136,9 @@ module _ (K : Tools) where
   -- the name of an actual
   part_sources : (n : Name) → Denotes n → (v : Var) → reached_by n ≡ Some (ReachedOf.Variable v) → (actual_meaning (Actual-F.Part (eval_name n))).source K ≡ (λ d. ticked (find_by K [] Composite v d))
   unfolding actual_meaning
-  part_sources n denotes v is = ap (λ (find : List ℕ → Act Found) (d : List ℕ). ticked (find d)) (denotes v is)
+  part_sources n denotes v is =
+      let at_node : (List ℕ → Act Found) → List ℕ → Act Found = λ find d. ticked (find d) in
+      ap at_node (denotes v is)
 
   actual_rolled : (y : Actual-F ActualToo ExprToo NameToo OperandToo) → Sources (roll-Actual (bare_actual y))
   actual_rolled (Actual-F.Part n) v is = ap (λ (m : Supplied). m.source K) (actual_roll (Actual-F.Part n.0)) ∙ part_sources n.0 n.1 v (sym (sourced_roll (Actual-F.Part n.0)) ∙ is)
