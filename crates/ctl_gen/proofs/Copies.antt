@@ -1,5 +1,5 @@
 -- The declaration of an object of a plain type that takes the value of a variable.
-use Rattle.std.proofs.Common.{◌≡◌, ℕ, zero, suc, ◌+◌, ◌≤◌, List, [], ◌∷◌, length, Option, Some, None, Bool, true, false, refl, sym, ap, ◌∙◌, subst, arith, ◌⊎◌, inl, inr}
+use Rattle.std.proofs.Common.{◌≡◌, ℕ, ◌+◌, ◌≤◌, List, [], ◌∷◌, length, Option, Some, None, Bool, true, false, refl, sym, ap, ◌∙◌, subst, arith, ◌⊎◌, inl, inr}
 use Rattle.std.specs.Prelude.{replicate, slice_get, is_some}
 use Rattle.ctl_program.specs.declared.types.Ty.TheVariants.{Record}
 use Rattle.ctl_program.specs.declared.types.Var.{Var}
@@ -9,7 +9,7 @@ use Rattle.ctl_program.specs.declared.expression.Expr.{Expr}
 use Rattle.ctl_tree.specs.declared.ending.Stop.TheVariants.{UseAfterFree}
 use Rattle.ctl_tree.specs.declared.event.Event.{Event}
 use Rattle.ctl_tree.specs.declared.event.Event.TheVariants as EventOf
-use Rattle.ctl_meaning.specs.World.{Object, Content, Nothing, Holds, Binds, Copies, Gathers, Declared, holding, Log, World}
+use Rattle.ctl_meaning.specs.World.{Object, Holds, Declared, holding, Log, World}
 use Rattle.ctl_meaning.specs.Lists.{last_of, opened_lists}
 use Rattle.ctl_meaning.specs.Activations.{master_of}
 use Rattle.ctl_meaning.specs.Objects.{cells_at}
@@ -17,8 +17,8 @@ use Rattle.ctl_meaning.specs.Changes.{object_at, slot_at, create, write_cells, s
 use Rattle.ctl_meaning.specs.Choice.{Ask, picked}
 use Rattle.ctl_meaning.specs.Outcome.{program_error, ByExit, ByReturn, ByRaise, Goes, Leaves, Out, Gives, Stops, Cut, Act, Done, Fine, add, bind, on_goes, ◌>>=◌, ◌>>◌, done, nothing, raise, tell, show, change, ticked, either, on_some, opened_outcome}
 use Rattle.ctl_meaning.specs.Types.{Tables, Composite, category_of, operation, cells_of}
-use Rattle.ctl_meaning.specs.Names.{Found, found_in, find_var, Call, Default, Tools, gone, existing, read_found, read_part, write_part, walk}
-use Rattle.ctl_meaning.specs.Expressions.{eval, var_part, if_given}
+use Rattle.ctl_meaning.specs.Names.{Found, Call, Default, Tools, gone, existing, read_found, read_part, write_part}
+use Rattle.ctl_meaning.specs.Expressions.{eval, if_given}
 use Rattle.ctl_meaning.specs.Finalization.{whole, call_operation, opened_finalization}
 use Rattle.ctl_meaning.specs.Adjustment.{Birth, birth_of, adjust, adjusted, opened_adjustment}
 use Rattle.ctl_meaning.specs.Initialization.{fill}
@@ -37,9 +37,9 @@ use Rattle.ctl_gen.specs.Around.{out_to}
 use Rattle.ctl_gen.specs.Values.{copied, value_code}
 use Rattle.ctl_gen.specs.Layout.{copy_of}
 use Rattle.ctl_gen.proofs.Known.{IsPlain, IsUntagged}
-use Rattle.ctl_gen.proofs.Sources.{copied_means}
+use Rattle.ctl_gen.proofs.Sources.{copied_means, finds_whole, whole_found}
 use Rattle.ctl_gen.proofs.Adjust as A
-use Rattle.ctl_gen.proofs.Worlds.{HoldsWhole, Since, Kept, since_written, whole_at}
+use Rattle.ctl_gen.proofs.Worlds.{Since, Kept, since_written, whole_at}
 use Rattle.ctl_gen.proofs.Plain.{begin_cells_flat, cells_flat, no_finalize}
 use Rattle.ctl_gen.proofs.Defaults.{GivesDefaults}
 use Rattle.ctl_gen.proofs.Setting.{Setting, Calls, Sees, first_of, tools_with}
@@ -119,22 +119,17 @@ module _ (ask : Ask) (k : Tables) (code : Code) (setting : Setting k code) (call
 
   -- what was found is read, and declares an object
   abbrev found_then : ℕ → List ℕ → Out Found → Out Done
-  found_then slot d o = add 1 (bind (bind (add 1 (bind (bind (add 1 o) (on_goes (walk K []))) (on_goes (read_found (cells_of k (Record t)))))) (on_goes (λ v. done (Some v)))) (on_goes (declare Composite K (last_of d) slot (Record t))))
+  found_then slot d o = add 1 (bind (bind (add 1 (bind o (on_goes (read_found (cells_of k (Record t)))))) (on_goes (λ v. done (Some v)))) (on_goes (declare Composite K (last_of d) slot (Record t))))
 
   read_at : (slot : ℕ) (d : List ℕ) (c : ℕ) (l : Log) (w : World) (y : Option Object) → add 1 (bind (bind (add 1 (add 1 (on_some y gone (λ o. done (cells_at 0 (cells_of k (Record t)) o)) c l w))) (on_goes (λ v. done (Some v)))) (on_goes (declare Composite K (last_of d) slot (Record t)))) ≡ add 1 (add 2 (given_by slot d y c l w))
   unfolding gone opened_outcome
   read_at slot d c l w None = refl
   read_at slot d c l w (Some o) = ap (λ i. add 1 (add 2 (declare Composite K (last_of d) slot (Record t) (Some (cells_at 0 i o)) c l w))) (cells_flat k t r record_is plain.flat ∙ sym (setting.sizes t r record_is))
 
-  object_is : (slot : ℕ) (d : List ℕ) (m i : ℕ) (x : Content) (c : ℕ) (l : Log) (w : World) → HoldsWhole x → found_then slot d (found_in m i x c l w) ≡ copying slot d (whole_of x) c l w
-  unfolding found_in walk read_found read_part existing gone opened_outcome
-  object_is slot d m i Nothing c l w h = refl
-  object_is slot d m i (Holds n) c l w h = read_at slot d c l w (object_at n w)
-  object_is slot d m i (Binds n zero []) c l w h = read_at slot d c l w (object_at n w)
-  object_is slot d m i (Binds n zero (y ∷ path)) c l w h = absurd h
-  object_is slot d m i (Binds n (suc at) path) c l w h = absurd h
-  object_is slot d m i (Copies v) c l w h = absurd h
-  object_is slot d m i (Gathers n) c l w h = refl
+  object_is : (slot : ℕ) (d : List ℕ) (o : Option ℕ) (c : ℕ) (l : Log) (w : World) → found_then slot d (whole_found o c l w) ≡ copying slot d o c l w
+  unfolding read_found read_part existing gone opened_outcome
+  object_is slot d None c l w = refl
+  object_is slot d (Some n) c l w = read_at slot d c l w (object_at n w)
 
   -- What its code does -------------------------------------------------------------------------------
 
@@ -194,14 +189,15 @@ module _ (ask : Ask) (k : Tables) (code : Code) (setting : Setting k code) (call
         (given_runs slot (height s) n e s w0 d (place + 1) ks ops c l w le fits sees declarable has.2.0)))
 
     pub copy_does : (slot : ℕ) (v : Var) (e : Expr) → copied t (value_code e) ≡ Some v → Does ask k code bound (λ a. copy_of slot t v a.stack) (λ d. object slot (Record t) (Some (eval e)) K d (last_of d))
-    unfolding object if_given category_of var_part find_var opened_outcome
+    unfolding object if_given category_of opened_outcome
     copy_does slot v e is a w0 d place ks ops c l w le fits sees has =
         let s = a.stack in
         let x = content_of d v w in
         let there : place + 1 + 1 ≡ place + length (copy_of slot t v a.stack) = omega arith in
         subst (λ o. Runs ask code (Kept k code w0) 0 0 (at d place ks ops l w) c (arrives (lands a place) d (place + length (copy_of slot t v a.stack)) ks ops) o)
         (sym (ap (λ (f : List ℕ → Act (List ℕ)). ticked ((f d >>= (λ u. done (Some u))) >>= declare Composite K (last_of d) slot (Record t)) c l w) (copied_means K e t v is)
-        ∙ object_is slot d (master_of d v) v.slot x c l w (whole_at k code (master_of d v) v.slot w fits.0)))
+        ∙ ap (found_then slot d) (finds_whole K v d c l w (whole_at k code (master_of d v) v.slot w fits.0))
+        ∙ object_is slot d (whole_of x) c l w))
         (subst (λ p. Runs ask code (Kept k code w0) 0 0 (at d place ks ops l w) c (arrives (lands a place) d p ks ops) (copying slot d (whole_of x) c l w)) there
         (copy_runs (whole_of x) slot v (lands a place) s w0 d place ks ops c l w le fits sees has
         (by_code ask code d place ks ops l w (InstrOf.Locate (out_to s v) v.slot t (height s)) has.0

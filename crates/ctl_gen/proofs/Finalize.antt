@@ -51,22 +51,31 @@ home_is : (k : Tables) (code : Code) (w : World) (o : Object) → (h : Settled k
 unfolding opened_changes
 home_is k code w o h = ap (λ x. home (home_master w x) w.activations) h.origin
 
--- an operation of its type is in scope there
-pub finalize_scope : (k : Tables) (code : Code) (w : World) (o : Object) (t f : ℕ) → o.ty ≡ Record t → Settled k code w.ledger.next_master w.activations o → operation_of (λ x. x.finalize) code t ≡ Some f → IsInScope code (length (home_of o.origin w)) (Some f)
-finalize_scope k code w o t f ty h op =
-    let inside : IsDeclarable code (length (home h.master w.activations)) t = subst (λ y. IsInside code y (length (home h.master w.activations))) ty h.inside in
+-- an operation of a type whose operations are declared in so many masters
+pub finalize_in : (code : Code) (n t f : ℕ) → IsDeclarable code n t → operation_of (λ x. x.finalize) code t ≡ Some f → IsInScope code n (Some f)
+finalize_in code n t f inside op =
     let same : inside.0.finalize ≡ Some f = sym (ap (λ (x : Option Operations). operation_in (λ y. y.finalize) x) inside.1) ∙ op in
-    subst (λ d. IsInScope code (length d) (Some f)) (sym (home_is k code w o h)) (subst (IsInScope code (length (home h.master w.activations))) same inside.3)
+    subst (IsInScope code n) same inside.3
 
 declarable_first : (code : Code) (n t : ℕ) (how : Beginning) → (inside : IsDeclarable code n t) → IsInScope code n (first_operation how inside.0)
 declarable_first code n t ByDefault inside = inside.2
 declarable_first code n t ByCopy inside = inside.4
 
+pub first_in : (how : Beginning) (code : Code) (n t f : ℕ) → IsDeclarable code n t → operation_of (first_operation how) code t ≡ Some f → IsInScope code n (Some f)
+first_in how code n t f inside op =
+    let same : first_operation how inside.0 ≡ Some f = sym (ap (λ (x : Option Operations). operation_in (first_operation how) x) inside.1) ∙ op in
+    subst (IsInScope code n) same (declarable_first code n t how inside)
+
+-- an operation of its type is in scope there
+pub finalize_scope : (k : Tables) (code : Code) (w : World) (o : Object) (t f : ℕ) → o.ty ≡ Record t → Settled k code w.ledger.next_master w.activations o → operation_of (λ x. x.finalize) code t ≡ Some f → IsInScope code (length (home_of o.origin w)) (Some f)
+finalize_scope k code w o t f ty h op =
+    let inside : IsDeclarable code (length (home h.master w.activations)) t = subst (λ y. IsInside code y (length (home h.master w.activations))) ty h.inside in
+    subst (λ d. IsInScope code (length d) (Some f)) (sym (home_is k code w o h)) (finalize_in code _ t f inside op)
+
 pub first_scope : (how : Beginning) (k : Tables) (code : Code) (w : World) (o : Object) (t f : ℕ) → o.ty ≡ Record t → Settled k code w.ledger.next_master w.activations o → operation_of (first_operation how) code t ≡ Some f → IsInScope code (length (home_of o.origin w)) (Some f)
 first_scope how k code w o t f ty h op =
     let inside : IsDeclarable code (length (home h.master w.activations)) t = subst (λ y. IsInside code y (length (home h.master w.activations))) ty h.inside in
-    let same : first_operation how inside.0 ≡ Some f = sym (ap (λ (x : Option Operations). operation_in (first_operation how) x) inside.1) ∙ op in
-    subst (λ d. IsInScope code (length d) (Some f)) (sym (home_is k code w o h)) (subst (IsInScope code (length (home h.master w.activations))) same (declarable_first code _ t how inside))
+    subst (λ d. IsInScope code (length d) (Some f)) (sym (home_is k code w o h)) (first_in how code _ t f inside op)
 
 -- one that is declared in the main procedure's own master at the most is in scope wherever an object was declared
 pub outermost_scope : (k : Tables) (code : Code) (w : World) (o : Object) (f : ℕ) → Settled k code w.ledger.next_master w.activations o → IsInScope code outermost (Some f) → IsInScope code (length (home_of o.origin w)) (Some f)

@@ -31,10 +31,10 @@ use Rattle.ctl_code.specs.declared.kinds.Kind.{Kind}
 use Rattle.ctl_code.specs.declared.kinds.Kind.TheVariants.{Operand}
 use Rattle.ctl_code.specs.Kinds.{below_newest}
 use Rattle.ctl_code.specs.States.{Complete, Point, Frame, Assigning, State}
-use Rattle.ctl_code.specs.Valid.{IsDeclarable, IsInScope, outermost}
+use Rattle.ctl_code.specs.Valid.{IsDeclarable, outermost}
 use Rattle.ctl_code.specs.Windows.{height}
 use Rattle.ctl_code.specs.Table as Table
-use Rattle.ctl_code.specs.Table.{by_locate, first_call, operation_in, operation_of, size_of, whole_of, whole_part}
+use Rattle.ctl_code.specs.Table.{by_locate, first_call, operation_of, size_of, whole_of, whole_part}
 use Rattle.ctl_code.specs.Steps.{moved, step}
 use Rattle.ctl_gen.specs.declared.right.Reached.{Reached}
 use Rattle.ctl_gen.specs.declared.right.Reached.TheVariants as ReachedOf
@@ -54,7 +54,7 @@ use Rattle.ctl_gen.proofs.Cells.{by_code, here, out_is}
 use Rattle.ctl_gen.proofs.Place.{Laid}
 use Rattle.ctl_gen.proofs.Components.{content_of}
 use Rattle.ctl_gen.proofs.Sources.{find_by, finds_whole, whole_found}
-use Rattle.ctl_gen.proofs.Finalize.{finalize_is, outermost_scope}
+use Rattle.ctl_gen.proofs.Finalize.{finalize_in, finalize_is, first_in, outermost_scope}
 use Rattle.ctl_gen.proofs.Adjust as A
 use Rattle.ctl_gen.proofs.Declare as D
 use Rattle.ctl_gen.proofs.Does.{Does}
@@ -199,17 +199,6 @@ module _ (ask : Ask) (k : Tables) (code : Code) (setting : Setting k code) (call
   adjust_over w0 n e p ks s0 c (Cut τ c1 l) z = more_halts ask code (Kept k code w0) 2 3 s0 c τ _ l (omega arith) z
 
   module _ (bound : ℕ) (calls : Calls ask k code setting bound call) (declarable : IsDeclarable code outermost t) where
-    -- the operations of the type are in scope
-    finalize_scope : (f : ℕ) → operation_of (λ x. x.finalize) code t ≡ Some f → IsInScope code outermost (Some f)
-    finalize_scope f op =
-        let same : declarable.0.finalize ≡ Some f = sym (ap (operation_in (λ x. x.finalize)) declarable.1) ∙ op in
-        subst (IsInScope code outermost) same declarable.3
-
-    adjust_scope : (f : ℕ) → operation_of (λ x. x.adjust) code t ≡ Some f → IsInScope code outermost (Some f)
-    adjust_scope f op =
-        let same : declarable.0.adjust ≡ Some f = sym (ap (operation_in (λ x. x.adjust)) declarable.1) ∙ op in
-        subst (IsInScope code outermost) same declarable.4
-
     -- an object that exists is adjusted, from the step that looks for its Adjust
     adjusts : (r.root ≡ Controlled) ⊎ IsUntagged r → (w0 : World) (n : ℕ) (e : Target) (p : Point) (ks : List Frame) (s0 : State) (c : ℕ) (l : Log) (w : World) (o : Object) → c ≤ bound → Since k code w0 w → object_at n w ≡ Some o → step ask code s0 ≡ moved l (Table.adjust_taken code n t p ks w) → Runs ask code (Kept k code w0) 3 3 s0 c (arrives e p.display p.place ks p.operands) (adjust K None (whole n) (Record t) c l w)
     unfolding opened_finalization opened_names opened_outcome opened_adjustment
@@ -233,7 +222,7 @@ module _ (ask : Ask) (k : Tables) (code : Code) (setting : Setting k code) (call
             let home = subst (IfFound (Settled k code w.ledger.next_master w.activations)) there (object_fits k code n w fits.0) in
             subst (λ x. Runs ask code (Kept k code w0) 3 3 s0 c (arrives e p.display p.place ks p.operands) (settled n x)) (sym (D.call_is ask k code setting call default constants t r record_is plain f n c (first_call ByCopy n) l w o there))
             (adjust_over w0 n e p ks s0 c (call (OfSubprogram f (holding (Binds n 0 []) ∷ [])) (home_of o.origin w) c (tell (first_call ByCopy n) l) w)
-            (calls.runs f body.0 body.1 w0 (home_of o.origin w) (holding (Binds n 0 []) ∷ []) (Assigning n t None p ∷ ks) c (tell (first_call ByCopy n) l) w s0 le fits (outermost_scope k code w o f home (adjust_scope f (named ∙ op))) (tt, tt)
+            (calls.runs f body.0 body.1 w0 (home_of o.origin w) (holding (Binds n 0 []) ∷ []) (Assigning n t None p ∷ ks) c (tell (first_call ByCopy n) l) w s0 le fits (outermost_scope k code w o f home (first_in ByCopy code outermost t f declarable (named ∙ op))) (tt, tt)
             (go ∙ enter_shows (slice_get code.entries.items f) (first_call ByCopy n) (home_of o.origin w) (holding (Binds n 0 []) ∷ []) (Assigning n t None p ∷ ks) l w)))
 
     -- an object takes a value, from the step that looks for it
@@ -282,7 +271,7 @@ module _ (ask : Ask) (k : Tables) (code : Code) (setting : Setting k code) (call
             subst goal (sym (D.call_is ask k code setting call default constants t r record_is plain f n c (ends n) l w o there))
             (both ask code (Kept k code w0) (Kept k code w0) 3 3 3 3 6 6 s0 c (finalizing e n v p ks) (arrives e p.display p.place ks p.operands) _ (then_takes n v) (omega arith) (omega arith) (omega arith)
             (finalize_over w0 n v e p ks s0 c (call (OfSubprogram f (holding (Binds n 0 []) ∷ [])) (home_of o.origin w) c (tell (ends n) l) w)
-            (calls.runs f body.0 body.1 w0 (home_of o.origin w) (holding (Binds n 0 []) ∷ []) (Assigning n t (Some v) p ∷ ks) c (tell (ends n) l) w s0 le fits (outermost_scope k code w o f home (finalize_scope f (setting.finalize t ∙ op))) (tt, tt)
+            (calls.runs f body.0 body.1 w0 (home_of o.origin w) (holding (Binds n 0 []) ∷ []) (Assigning n t (Some v) p ∷ ks) c (tell (ends n) l) w s0 le fits (outermost_scope k code w o f home (finalize_in code outermost t f declarable (setting.finalize t ∙ op))) (tt, tt)
             (go ∙ ap (λ y. moved l (Table.finalize_target code (Some f) n t v y p ks w)) there ∙ enter_shows (slice_get code.entries.items f) (ends n) (home_of o.origin w) (holding (Binds n 0 []) ∷ []) (Assigning n t (Some v) p ∷ ks) l w)))
             then_on)
 

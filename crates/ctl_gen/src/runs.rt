@@ -255,11 +255,14 @@ fn has_plain(records: &[RecordType], number: usize) -> bool
     }
 }
 
+/// How many masters every object is declared in at least: the main procedure's own.
+const OUTERMOST: usize = 1;
+
 /// Tells whether a type is one of the library, or of the main procedure's own declarative part.
 fn is_outermost(entry: &RecordType) -> bool
     ensures { result ≡ defaults.is_outermost (Some entry.now) }
 {
-    entry.level <= 1
+    entry.level <= OUTERMOST
 }
 
 /// Tells whether an object of the record type of this number takes the value of another one as a whole (RM 5.2).
