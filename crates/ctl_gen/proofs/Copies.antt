@@ -1,37 +1,28 @@
 -- The declaration of an object of a plain type that takes the value of a variable.
-use Rattle.std.proofs.Common.{◌≡◌, ℕ, zero, suc, ◌+◌, ◌≤◌, List, [], ◌∷◌, length, map, Option, Some, None, Bool, true, false, refl, sym, ap, ◌∙◌, subst, arith, ◌⊎◌, inl, inr}
-use Rattle.std.specs.Prelude.{replicate, slice_get, is_some, nat_eq}
-use Rattle.std.proofs.lemmas.Bool.{eqb-true}
-use Rattle.ctl_program.specs.declared.types.Ty.{Ty}
-use Rattle.ctl_program.specs.declared.types.Ty.TheVariants.{Integer, Count, Boolean, Address, Handle, Access, Record}
+use Rattle.std.proofs.Common.{◌≡◌, ℕ, ◌+◌, ◌≤◌, List, [], ◌∷◌, length, Option, Some, None, Bool, true, false, refl, sym, ap, ◌∙◌, subst, arith, ◌⊎◌, inl, inr}
+use Rattle.std.specs.Prelude.{replicate, slice_get, is_some}
+use Rattle.ctl_program.specs.declared.types.Ty.TheVariants.{Record}
 use Rattle.ctl_program.specs.declared.types.Var.{Var}
 use Rattle.ctl_program.specs.declared.types.RecordType.{RecordType}
 use Rattle.ctl_program.specs.declared.types.Root.TheVariants.{Controlled}
-use Rattle.ctl_program.specs.declared.expression.Expr.{Expr, roll-Expr, map-Expr, ind-Expr}
-use Rattle.ctl_program.specs.declared.expression.Name.{Name, roll-Name, map-Name}
-use Rattle.ctl_program.specs.declared.expression.Actual.{Actual}
-use Rattle.ctl_program.specs.declared.expression.Operand.{Operand}
-use Rattle.ctl_program.specs.declared.expression.Actual.TheOpen.{Expr-F, Name-F}
-use Rattle.ctl_program.specs.declared.expression.Step.{Step}
-use Rattle.ctl_program.specs.declared.expression.Step.TheVariants.{Component, Dereference, Narrow}
+use Rattle.ctl_program.specs.declared.expression.Expr.{Expr}
 use Rattle.ctl_tree.specs.declared.ending.Stop.TheVariants.{UseAfterFree}
 use Rattle.ctl_tree.specs.declared.event.Event.{Event}
 use Rattle.ctl_tree.specs.declared.event.Event.TheVariants as EventOf
-use Rattle.ctl_meaning.specs.World.{Object, Content, Nothing, Holds, Binds, Copies, Gathers, Declared, holding, Log, World}
+use Rattle.ctl_meaning.specs.World.{Object, Holds, Declared, holding, Log, World}
 use Rattle.ctl_meaning.specs.Lists.{last_of, opened_lists}
 use Rattle.ctl_meaning.specs.Activations.{master_of}
 use Rattle.ctl_meaning.specs.Objects.{cells_at}
 use Rattle.ctl_meaning.specs.Changes.{object_at, slot_at, create, write_cells, set_slot, begin_finalization, end_finalization, owner_of}
 use Rattle.ctl_meaning.specs.Choice.{Ask, picked}
-use Rattle.ctl_meaning.specs.Outcome.{program_error, ByExit, ByReturn, ByRaise, Goes, Leaves, Out, Gives, Stops, Cut, Act, Done, Fine, add, bind, on_goes, ◌>>=◌, ◌>>◌, done, nothing, raise, tell, show, change, ticked, told, attempt, either, on_some, opened_outcome}
-use Rattle.ctl_meaning.specs.Types.{Tables, Category, Composite, category_of, operation, operation_in, depth, of_record, cells_of}
-use Rattle.ctl_meaning.specs.Names.{Found, found_in, find_var, Call, Default, Tools, gone, existing, read_found, read_part, write_part, walk, begins_as}
-use Rattle.ctl_meaning.specs.Expressions.{Naming, Valued, eval, eval_name, eval_step, name_step as name_meaning, var_part, if_given}
-use Rattle.ctl_meaning.specs.Finalization.{whole, component_at, part_of, call_operation, opened_finalization}
-use Rattle.ctl_meaning.specs.Adjustment.{Birth, birth_of, unadjusted, adjust, adjust_record, adjust_part, adjust_each, own_adjust, after_adjust, adjusted, opened_adjustment}
+use Rattle.ctl_meaning.specs.Outcome.{program_error, ByExit, ByReturn, ByRaise, Goes, Leaves, Out, Gives, Stops, Cut, Act, Done, Fine, add, bind, on_goes, ◌>>=◌, ◌>>◌, done, nothing, raise, tell, show, change, ticked, either, on_some, opened_outcome}
+use Rattle.ctl_meaning.specs.Types.{Tables, Composite, category_of, operation, cells_of}
+use Rattle.ctl_meaning.specs.Names.{Found, Call, Default, Tools, gone, existing, read_found, read_part, write_part}
+use Rattle.ctl_meaning.specs.Expressions.{eval, if_given}
+use Rattle.ctl_meaning.specs.Finalization.{whole, call_operation, opened_finalization}
+use Rattle.ctl_meaning.specs.Adjustment.{Birth, birth_of, adjust, adjusted, opened_adjustment}
 use Rattle.ctl_meaning.specs.Initialization.{fill}
 use Rattle.ctl_meaning.specs.Masters.{declare, object}
-use Rattle.ctl_meaning.proofs.Trees.{eval_roll, name_roll}
 use Rattle.ctl_code.specs.declared.code.Beginning.TheVariants.{ByCopy}
 use Rattle.ctl_code.specs.declared.code.Instr.TheVariants as InstrOf
 use Rattle.ctl_code.specs.declared.code.Code.{Code}
@@ -40,19 +31,16 @@ use Rattle.ctl_code.specs.States.{Complete, Point, Frame, Filling, State}
 use Rattle.ctl_code.specs.Valid.{IsDeclarable}
 use Rattle.ctl_code.specs.Windows.{height}
 use Rattle.ctl_code.specs.Table as Table
-use Rattle.ctl_code.specs.Table.{by_locate, first_call, first_operation, operation_of, size_of, whole_of, whole_part, with_object}
+use Rattle.ctl_code.specs.Table.{by_locate, first_call, size_of, whole_of, whole_part, with_object}
 use Rattle.ctl_code.specs.Steps.{moved, step}
-use Rattle.ctl_gen.specs.declared.right.Reached.{Reached}
-use Rattle.ctl_gen.specs.declared.right.Reached.TheVariants as ReachedOf
-use Rattle.ctl_gen.specs.declared.right.Right.TheVariants as RightOf
 use Rattle.ctl_gen.specs.Around.{out_to}
-use Rattle.ctl_gen.specs.Records.{adjust_by}
-use Rattle.ctl_gen.specs.Values.{ValueCode, behind_steps, copied, read, reached_by, value_code, variable_by}
+use Rattle.ctl_gen.specs.Values.{copied, value_code}
 use Rattle.ctl_gen.specs.Layout.{copy_of}
 use Rattle.ctl_gen.proofs.Known.{IsPlain, IsUntagged}
-use Rattle.ctl_gen.proofs.TreeLayers.{value_roll, reached_roll}
-use Rattle.ctl_gen.proofs.Worlds.{HoldsWhole, Since, Kept, since_written, whole_at}
-use Rattle.ctl_gen.proofs.Plain.{begin_cells_flat, cells_flat, controlled_parts_flat, is_controlled_plain, not_controlled_plain, no_finalize}
+use Rattle.ctl_gen.proofs.Sources.{copied_means, finds_whole, whole_found}
+use Rattle.ctl_gen.proofs.Adjust as A
+use Rattle.ctl_gen.proofs.Worlds.{Since, Kept, since_written, whole_at}
+use Rattle.ctl_gen.proofs.Plain.{begin_cells_flat, cells_flat, no_finalize}
 use Rattle.ctl_gen.proofs.Defaults.{GivesDefaults}
 use Rattle.ctl_gen.proofs.Setting.{Setting, Calls, Sees, first_of, tools_with}
 use Rattle.ctl_gen.proofs.Cells.{by_code, here, out_is}
@@ -61,112 +49,6 @@ use Rattle.ctl_gen.proofs.Components.{content_of}
 use Rattle.ctl_gen.proofs.Does.{Does}
 use Rattle.ctl_gen.proofs.Follow.{gives, Runs, Target, add_none, added, arrives, at, lands, one_step, stop_step, within}
 use Rattle.ctl_gen.proofs.Declare as D
-
--- What is copied ----------------------------------------------------------------------------------
-
--- what a variable of some category denotes behind these steps
-abbrev find_by : Tools → List Step → Category → Var → List ℕ → Act Found
-find_by K ss c v d = var_part c d v >>= walk K ss
-
--- the value of this type that is found so
-abbrev read_by : Tools → Ty → (List ℕ → Act Found) → List ℕ → Act (List ℕ)
-read_by K ty find d = ticked (find d >>= read_found (cells_of K.tables ty))
-
--- the value of the object in a variable of a record type is read
-abbrev read_whole : Tools → ℕ → Var → List ℕ → Act (List ℕ)
-read_whole K t v = read_by K (Record t) (find_by K [] Composite v)
-
--- a value that is one of a variable of a record type
-abbrev IsRead : Option Reached → Ty → ℕ → Var → Type 0
-IsRead o ty t v = (o ≡ Some (ReachedOf.Variable v)) × (ty ≡ Record t)
-
-is_read : (o : Option Reached) (ty : Ty) (t : ℕ) (v : Var) → copied t (read o ty) ≡ Some v → IsRead o ty t v
-is_read None ty t v is = absurd (cc is)
-is_read (Some (ReachedOf.Component x u position)) ty t v is = absurd (cc is)
-is_read (Some (ReachedOf.Variable x)) (Record u) t v is = by (nat_eq u t) refl is
-  where
-    by : (b : Bool) → nat_eq u t ≡ b → variable_by (RightOf.Variable x) b ≡ Some v → IsRead (Some (ReachedOf.Variable x)) (Record u) t v
-    by true e h = let same : x ≡ v = cc h in (ap (λ y. Some (ReachedOf.Variable y)) same, ap Record (eqb-true u t e))
-    by false e h = absurd (cc h)
-is_read (Some (ReachedOf.Variable x)) Integer t v is = absurd (cc is)
-is_read (Some (ReachedOf.Variable x)) Count t v is = absurd (cc is)
-is_read (Some (ReachedOf.Variable x)) Boolean t v is = absurd (cc is)
-is_read (Some (ReachedOf.Variable x)) Address t v is = absurd (cc is)
-is_read (Some (ReachedOf.Variable x)) Handle t v is = absurd (cc is)
-is_read (Some (ReachedOf.Variable x)) (Access a) t v is = absurd (cc is)
-
-module _ (K : Tools) where
-  abbrev IsCopied : Expr → Type 0
-  IsCopied e = (t : ℕ) (v : Var) → copied t (value_code e) ≡ Some v → eval e K ≡ read_whole K t v
-
-  -- a name that is a variable
-  abbrev Denotes : Name → Type 0
-  Denotes n = (v : Var) → reached_by n ≡ Some (ReachedOf.Variable v) → eval_name n Composite K ≡ find_by K [] Composite v
-
-  abbrev ActualToo : Type 0
-  ActualToo = (a : Actual) × Unit {0}
-
-  abbrev ExprToo : Type 0
-  ExprToo = (e : Expr) × IsCopied e
-
-  abbrev NameToo : Type 0
-  NameToo = (n : Name) × Denotes n
-
-  abbrev OperandToo : Type 0
-  OperandToo = (o : Operand) × Unit {0}
-
-  abbrev bare_expr : Expr-F ActualToo ExprToo NameToo OperandToo → Expr-F Actual Expr Name Operand
-  bare_expr = map-Expr ActualToo ExprToo NameToo OperandToo Actual Expr Name Operand (λ e. e.0) (λ e. e.0) (λ e. e.0) (λ e. e.0)
-
-  abbrev bare_name : Name-F ActualToo ExprToo NameToo OperandToo → Name-F Actual Expr Name Operand
-  bare_name = map-Name ActualToo ExprToo NameToo OperandToo Actual Expr Name Operand (λ e. e.0) (λ e. e.0) (λ e. e.0) (λ e. e.0)
-
-  behind_it : (x : Var) (ss : List Step) (v : Var) → behind_steps x ss ≡ Some (ReachedOf.Variable v) → find_by K ss (begins_as ss Composite) x ≡ find_by K [] Composite v
-  unfolding begins_as
-  behind_it x [] v is = let same : x ≡ v = cc is in ap (find_by K [] Composite) same
-  behind_it x (Component t position ∷ []) v is = absurd (cc is)
-  behind_it x (Component t position ∷ s ∷ ss) v is = absurd (cc is)
-  behind_it x (Dereference ∷ ss) v is = absurd (cc is)
-  behind_it x (Narrow t ∷ ss) v is = absurd (cc is)
-
-  name_rolled : (y : Name-F ActualToo ExprToo NameToo OperandToo) → Denotes (roll-Name (bare_name y))
-  unfolding name_meaning
-  name_rolled (Name-F.Variable x ss) v is = ap (λ (m : Naming). m Composite K) (name_roll (Name-F.Variable x ss)) ∙ behind_it x ss v (sym (reached_roll (Name-F.Variable x ss)) ∙ is)
-  name_rolled (Name-F.Given e ss) v is = absurd (let e1 = sym (reached_roll (Name-F.Given e.0 ss)) ∙ is in cc e1)
-
-  not_copied : (y : Expr-F Actual Expr Name Operand) (x : ValueCode) → value_code (roll-Expr y) ≡ x → ((t : ℕ) → copied t x ≡ None) → IsCopied (roll-Expr y)
-  not_copied y x same none t v is = absurd (let e = sym (none t) ∙ sym (ap (copied t) same) ∙ is in cc e)
-
-  reads : (n : Name) (ty : Ty) → Denotes n → (t : ℕ) (v : Var) → copied t (read (reached_by n) ty) ≡ Some v → eval_step (Expr-F.Read (eval_name n) ty) K ≡ read_whole K t v
-  unfolding eval_step category_of
-  reads n ty denotes t v is =
-      let h = is_read (reached_by n) ty t v is in
-      ap (λ (u : Ty). read_by K u (eval_name n (category_of u) K)) h.1
-      ∙ ap (read_by K (Record t)) (denotes v h.0)
-
-  expr_rolled : (y : Expr-F ActualToo ExprToo NameToo OperandToo) → IsCopied (roll-Expr (bare_expr y))
-  expr_rolled (Expr-F.Constant n) = not_copied (Expr-F.Constant n) _ (value_roll (Expr-F.Constant n)) (λ t. refl)
-  expr_rolled (Expr-F.Read n ty) = λ t v is. ap (λ (m : Valued). m K) (eval_roll (Expr-F.Read n.0 ty)) ∙ reads n.0 ty n.1 t v (sym (ap (copied t) (value_roll (Expr-F.Read n.0 ty))) ∙ is)
-  expr_rolled (Expr-F.Unary op ty e) = not_copied (Expr-F.Unary op ty e.0) _ (value_roll (Expr-F.Unary op ty e.0)) (λ t. refl)
-  expr_rolled (Expr-F.Chain e o os) = let y = Expr-F.Chain e.0 o.0 (map (λ z. z.0) os) in not_copied y _ (value_roll y) (λ t. refl)
-  expr_rolled (Expr-F.Short form e f es) = let y = Expr-F.Short form e.0 f.0 (map (λ z. z.0) es) in not_copied y _ (value_roll y) (λ t. refl)
-  expr_rolled (Expr-F.Call f xs) = let y = Expr-F.Call f (map (λ z. z.0) xs) in not_copied y _ (value_roll y) (λ t. refl)
-  expr_rolled (Expr-F.Convert ty e) = not_copied (Expr-F.Convert ty e.0) _ (value_roll (Expr-F.Convert ty e.0)) (λ t. refl)
-  expr_rolled (Expr-F.Access v) = not_copied (Expr-F.Access v) _ (value_roll (Expr-F.Access v)) (λ t. refl)
-  expr_rolled (Expr-F.New access ty None None) = not_copied (Expr-F.New access ty None None) _ (value_roll (Expr-F.New access ty None None)) (λ t. refl)
-  expr_rolled (Expr-F.New access ty None (Some v)) = not_copied (Expr-F.New access ty None (Some v.0)) _ (value_roll (Expr-F.New access ty None (Some v.0))) (λ t. refl)
-  expr_rolled (Expr-F.New access ty (Some h) None) = not_copied (Expr-F.New access ty (Some h.0) None) _ (value_roll (Expr-F.New access ty (Some h.0) None)) (λ t. refl)
-  expr_rolled (Expr-F.New access ty (Some h) (Some v)) = not_copied (Expr-F.New access ty (Some h.0) (Some v.0)) _ (value_roll (Expr-F.New access ty (Some h.0) (Some v.0))) (λ t. refl)
-  expr_rolled (Expr-F.Subpool which n) = not_copied (Expr-F.Subpool which n.0) _ (value_roll (Expr-F.Subpool which n.0)) (λ t. refl)
-  expr_rolled (Expr-F.Discriminant n i) = not_copied (Expr-F.Discriminant n.0 i) _ (value_roll (Expr-F.Discriminant n.0 i)) (λ t. refl)
-
-  -- what a value means that is copied
-  copied_means : (e : Expr) → IsCopied e
-  copied_means = ind-Expr (λ a. Unit {0}) IsCopied Denotes (λ o. Unit {0})
-      (λ x y is. tt)
-      (λ x y is. subst (λ z. IsCopied (roll-Expr z)) is (expr_rolled y))
-      (λ x y is. subst (λ z. Denotes (roll-Name z)) is (name_rolled y))
-      (λ x y is. tt)
 
 module _ (ask : Ask) (k : Tables) (code : Code) (setting : Setting k code) (call : Call) (default : Default) (constants : GivesDefaults k default) (t : ℕ) (r : RecordType) (record_is : slice_get k.records t ≡ Some r) (plain : IsPlain k t r) where
   abbrev K : Tools
@@ -186,16 +68,9 @@ module _ (ask : Ask) (k : Tables) (code : Code) (setting : Setting k code) (call
   abbrev born : ℕ → World → Option Birth
   born m w = Some (birth_of (Declared m) w)
 
-  -- no component has one
-  adjust_is : (b : Option Birth) (n c : ℕ) (l : Log) (w : World) → adjust K b (whole n) (Record t) c l w ≡ bind (own_adjust K b (whole n) t unadjusted c l w) (on_goes (adjusted K b (whole n) t))
-  unfolding adjust adjust_record adjust_part adjust_each of_record depth opened_outcome
-  adjust_is b n c l w =
-      ap (λ ps. bind (bind (adjust_each K (λ p a. of_record (done a) (λ u. adjust_part K b (length k.records) (component_at (whole n) p) u a) p.ty) (length ps) ps unadjusted c l w) (on_goes (own_adjust K b (whole n) t))) (on_goes (adjusted K b (whole n) t))) (controlled_parts_flat k t plain.components plain.flat K refl)
-      ∙ ap (λ o. bind o (on_goes (adjusted K b (whole n) t))) (add_none (own_adjust K b (whole n) t unadjusted c l w))
-
   -- after its Adjust, as the meaning says it
   abbrev settled : ℕ → ℕ → World → Out Done → Out Done
-  settled n m w0 x = bind (bind (bind x told) (on_goes (after_adjust K (born m w0) (whole n) t unadjusted))) (on_goes (adjusted K (born m w0) (whole n) t))
+  settled n m w0 x = A.settled ask k code setting call default t r record_is plain (born m w0) n x
 
   cleaned_up : (b : Birth) (n e c : ℕ) (l : Log) (w : World) → adjusted K (Some b) (whole n) t (record { failed = true; paths = [] }) c l w ≡ D.given_up ask k code setting call default constants t r record_is plain ByCopy n e c l w
   unfolding opened_adjustment opened_finalization opened_outcome opened_lists
@@ -221,19 +96,6 @@ module _ (ask : Ask) (k : Tables) (code : Code) (setting : Setting k code) (call
   as_started n m w0 (Stops why τ l) = refl
   as_started n m w0 (Cut τ c l) = refl
 
-  -- the object's own Adjust
-  own_is : r.root ≡ Controlled → (g : Option ℕ) → operation (first_of ByCopy) k t ≡ g → (n m c : ℕ) (l : Log) (w0 w : World) → bind (own_adjust K (born m w0) (whole n) t unadjusted c l w) (on_goes (adjusted K (born m w0) (whole n) t)) ≡ settled n m w0 (call_operation K (whole n) g (first_call ByCopy n) c l w)
-  unfolding own_adjust part_of whole opened_outcome
-  own_is controlled g e n m c l w0 w =
-      ap (λ q. bind (either q (λ c1 l1 w1. bind (bind (call_operation K (whole n) (operation (first_of ByCopy) k t) (first_call ByCopy n) c1 l1 w1) told) (on_goes (after_adjust K (born m w0) (whole n) t unadjusted))) (done unadjusted) c l w) (on_goes (adjusted K (born m w0) (whole n) t))) (is_controlled_plain k t r record_is controlled)
-      ∙ ap (λ f. settled n m w0 (call_operation K (whole n) f (first_call ByCopy n) c l w)) e
-
-  -- an object that is not controlled has none
-  none_is : IsUntagged r → (n m c : ℕ) (l : Log) (w0 w : World) → bind (own_adjust K (born m w0) (whole n) t unadjusted c l w) (on_goes (adjusted K (born m w0) (whole n) t)) ≡ Gives (Goes tt) 0 c l w
-  unfolding own_adjust adjusted unadjusted opened_outcome
-  none_is untagged n m c l w0 w =
-      ap (λ q. bind (either q (attempt (call_operation K (whole n) (operation (λ x. x.adjust) k t) (EventOf.Adjust (part_of (whole n)))) >>= after_adjust K (born m w0) (whole n) t unadjusted) (done unadjusted) c l w) (on_goes (adjusted K (born m w0) (whole n) t))) (not_controlled_plain k t r record_is plain.components plain.flat untagged)
-
   -- What the declaration means -----------------------------------------------------------------------
 
   -- the new object takes this value
@@ -257,30 +119,17 @@ module _ (ask : Ask) (k : Tables) (code : Code) (setting : Setting k code) (call
 
   -- what was found is read, and declares an object
   abbrev found_then : ℕ → List ℕ → Out Found → Out Done
-  found_then slot d o = add 1 (bind (bind (add 1 (bind (bind (add 1 o) (on_goes (walk K []))) (on_goes (read_found (cells_of k (Record t)))))) (on_goes (λ v. done (Some v)))) (on_goes (declare Composite K (last_of d) slot (Record t))))
+  found_then slot d o = add 1 (bind (bind (add 1 (bind o (on_goes (read_found (cells_of k (Record t)))))) (on_goes (λ v. done (Some v)))) (on_goes (declare Composite K (last_of d) slot (Record t))))
 
   read_at : (slot : ℕ) (d : List ℕ) (c : ℕ) (l : Log) (w : World) (y : Option Object) → add 1 (bind (bind (add 1 (add 1 (on_some y gone (λ o. done (cells_at 0 (cells_of k (Record t)) o)) c l w))) (on_goes (λ v. done (Some v)))) (on_goes (declare Composite K (last_of d) slot (Record t)))) ≡ add 1 (add 2 (given_by slot d y c l w))
   unfolding gone opened_outcome
   read_at slot d c l w None = refl
   read_at slot d c l w (Some o) = ap (λ i. add 1 (add 2 (declare Composite K (last_of d) slot (Record t) (Some (cells_at 0 i o)) c l w))) (cells_flat k t plain.components plain.flat ∙ sym (setting.sizes t plain.components plain.flat.has.row))
 
-  object_is : (slot : ℕ) (d : List ℕ) (m i : ℕ) (x : Content) (c : ℕ) (l : Log) (w : World) → HoldsWhole x → found_then slot d (found_in m i x c l w) ≡ copying slot d (whole_of x) c l w
-  unfolding found_in walk read_found read_part existing gone opened_outcome
-  object_is slot d m i Nothing c l w h = refl
-  object_is slot d m i (Holds n) c l w h = read_at slot d c l w (object_at n w)
-  object_is slot d m i (Binds n zero []) c l w h = read_at slot d c l w (object_at n w)
-  object_is slot d m i (Binds n zero (y ∷ path)) c l w h = absurd h
-  object_is slot d m i (Binds n (suc at) path) c l w h = absurd h
-  object_is slot d m i (Copies v) c l w h = absurd h
-  object_is slot d m i (Gathers n) c l w h = refl
-
-  -- the table names the Adjust of a tagged type
-  adjust_named : r.root ≡ Controlled → operation_of (first_operation ByCopy) code t ≡ operation (first_of ByCopy) k t
-  unfolding operation operation_in
-  adjust_named controlled = setting.adjust t r record_is ∙ ap (λ x. adjust_by x r.operations.adjust) controlled ∙ sym (ap (operation_in (first_of ByCopy)) record_is)
-
-  not_adjusted : IsUntagged r → operation_of (first_operation ByCopy) code t ≡ None
-  not_adjusted untagged = setting.adjust t r record_is ∙ ap (λ x. adjust_by x r.operations.adjust) untagged.root
+  object_is : (slot : ℕ) (d : List ℕ) (o : Option ℕ) (c : ℕ) (l : Log) (w : World) → found_then slot d (whole_found o c l w) ≡ copying slot d o c l w
+  unfolding read_found read_part existing gone opened_outcome
+  object_is slot d None c l w = refl
+  object_is slot d (Some n) c l w = read_at slot d c l w (object_at n w)
 
   -- What its code does -------------------------------------------------------------------------------
 
@@ -293,15 +142,15 @@ module _ (ask : Ask) (k : Tables) (code : Code) (setting : Setting k code) (call
         let s0 = gives (Filling ByCopy n t [] p ∷ ks) (Fine Complete) l w in
         let g = operation (first_of ByCopy) k t in
         subst (λ o. Runs ask code (Kept k code w0) 4 5 (gives (Filling ByCopy n t [] p ∷ ks) (Fine Complete) l w) c (arrives e p.display p.place ks p.operands) (standing n (last_of p.display) o))
-        (sym (adjust_is (born m w2) n c l w ∙ own_is controlled g refl n m c l w2 w ∙ as_started n m w2 (call_operation K (whole n) g (first_call ByCopy n) c l w)))
-        (D.created_runs ask k code setting call default constants t r record_is plain bound calls ByCopy (adjust_named controlled) w0 n e p ks s0 c l w le fits ty g (object_at n w) refl refl (ap (λ f. moved l (Table.by_declaration code ByCopy f n t (object_at n w) p ks w)) (adjust_named controlled)))
+        (sym (A.adjust_is ask k code setting call default t r record_is plain (born m w2) n c l w ∙ A.own_is ask k code setting call default t r record_is plain controlled (born m w2) g refl n c l w ∙ as_started n m w2 (call_operation K (whole n) g (first_call ByCopy n) c l w)))
+        (D.created_runs ask k code setting call default constants t r record_is plain bound calls ByCopy (A.adjust_named ask k code setting call default t r record_is plain controlled) w0 n e p ks s0 c l w le fits ty g (object_at n w) refl refl (ap (λ f. moved l (Table.by_declaration code ByCopy f n t (object_at n w) p ks w)) (A.adjust_named ask k code setting call default t r record_is plain controlled)))
     own_runs (inr untagged) w0 n e p ks c l w2 w le fits ty =
         let s0 = gives (Filling ByCopy n t [] p ∷ ks) (Fine Complete) l w in
         subst (λ o. Runs ask code (Kept k code w0) 4 5 (gives (Filling ByCopy n t [] p ∷ ks) (Fine Complete) l w) c (arrives e p.display p.place ks p.operands) (standing n (last_of p.display) o))
-        (sym (adjust_is (born (last_of p.display) w2) n c l w ∙ none_is untagged n (last_of p.display) c l w2 w))
+        (sym (A.adjust_is ask k code setting call default t r record_is plain (born (last_of p.display) w2) n c l w ∙ A.none_is ask k code setting call default t r record_is plain untagged (born (last_of p.display) w2) n c l w))
         (within ask code (Kept k code w0) 3 4 4 5 s0 c (arrives e p.display p.place ks p.operands) (standing n (last_of p.display) (Gives (Goes tt) 0 c l w)) (omega arith) (omega arith)
         (D.found_runs ask k code setting call default constants t r record_is plain ByCopy w0 n e p ks s0 s0 c c 0 l w (Unit {0}) fits (record { n = 0; falls = omega arith; enough = omega arith; in_time = omega arith; comes = refl; fits = tt }) None (object_at n w) (no_finalize k t r record_is plain.components plain.flat untagged) refl
-        (ap (λ f. moved l (Table.by_declaration code ByCopy f n t (object_at n w) p ks w)) (not_adjusted untagged) ∙ D.unseen ByCopy code n t (object_at n w) p ks w l (setting.finalize t ∙ no_finalize k t r record_is plain.components plain.flat untagged))))
+        (ap (λ f. moved l (Table.by_declaration code ByCopy f n t (object_at n w) p ks w)) (A.not_adjusted ask k code setting call default t r record_is plain untagged) ∙ D.unseen ByCopy code n t (object_at n w) p ks w l (setting.finalize t ∙ no_finalize k t r record_is plain.components plain.flat untagged))))
 
     -- a new object takes a value, from the step that creates it
     taken_runs : (w0 : World) (n : ℕ) (v : List ℕ) (e : Target) (p : Point) (ks : List Frame) (s0 : State) (c : ℕ) (l : Log) (w2 w : World) → c ≤ bound → Since k code w0 w → IsOf n w → step ask code s0 ≡ moved l (Table.take_value n t v (object_at n w) p ks w) → Runs ask code (Kept k code w0) 5 6 s0 c (arrives e p.display p.place ks p.operands) (taking n (last_of p.display) v w2 c l w)
@@ -340,14 +189,15 @@ module _ (ask : Ask) (k : Tables) (code : Code) (setting : Setting k code) (call
         (given_runs slot (height s) n e s w0 d (place + 1) ks ops c l w le fits sees declarable has.2.0)))
 
     pub copy_does : (slot : ℕ) (v : Var) (e : Expr) → copied t (value_code e) ≡ Some v → Does ask k code bound (λ a. copy_of slot t v a.stack) (λ d. object slot (Record t) (Some (eval e)) K d (last_of d))
-    unfolding object if_given category_of var_part find_var opened_outcome
+    unfolding object if_given category_of opened_outcome
     copy_does slot v e is a w0 d place ks ops c l w le fits sees has =
         let s = a.stack in
         let x = content_of d v w in
         let there : place + 1 + 1 ≡ place + length (copy_of slot t v a.stack) = omega arith in
         subst (λ o. Runs ask code (Kept k code w0) 0 0 (at d place ks ops l w) c (arrives (lands a place) d (place + length (copy_of slot t v a.stack)) ks ops) o)
         (sym (ap (λ (f : List ℕ → Act (List ℕ)). ticked ((f d >>= (λ u. done (Some u))) >>= declare Composite K (last_of d) slot (Record t)) c l w) (copied_means K e t v is)
-        ∙ object_is slot d (master_of d v) v.slot x c l w (whole_at k code (master_of d v) v.slot w fits.0)))
+        ∙ ap (found_then slot d) (finds_whole K v d c l w (whole_at k code (master_of d v) v.slot w fits.0))
+        ∙ object_is slot d (whole_of x) c l w))
         (subst (λ p. Runs ask code (Kept k code w0) 0 0 (at d place ks ops l w) c (arrives (lands a place) d p ks ops) (copying slot d (whole_of x) c l w)) there
         (copy_runs (whole_of x) slot v (lands a place) s w0 d place ks ops c l w le fits sees has
         (by_code ask code d place ks ops l w (InstrOf.Locate (out_to s v) v.slot t (height s)) has.0

@@ -148,7 +148,7 @@ module _ (ask : Ask) (k : Tables) (code : Code) (setting : Setting k code) (call
   unfolding declare fill opened_outcome
   declare_is m slot c l w = ap (λ cells. standing w.ledger.next_object m (initialize K (birth_of (Declared m) w) (whole w.ledger.next_object) (Record t) c l (set_slot m slot (holding (Holds w.ledger.next_object)) (create (Record t) cells (Declared m) w)))) (begin_cells_flat k t plain.components plain.flat ∙ ap (λ i. replicate i 0) (sym (setting.sizes t plain.components plain.flat.has.row)))
 
-  call_is : (f n c : ℕ) (e : Event) (l : Log) (w : World) (o : Object) → object_at n w ≡ Some o → call_operation K (whole n) (Some f) e c l w ≡ bind (add 0 (call (OfSubprogram f (holding (Binds n 0 []) ∷ [])) (home_of o.origin w) c (tell e l) w)) (on_goes (λ _. nothing))
+  pub call_is : (f n c : ℕ) (e : Event) (l : Log) (w : World) (o : Object) → object_at n w ≡ Some o → call_operation K (whole n) (Some f) e c l w ≡ bind (add 0 (call (OfSubprogram f (holding (Binds n 0 []) ∷ [])) (home_of o.origin w) c (tell e l) w)) (on_goes (λ _. nothing))
   unfolding opened_finalization opened_outcome opened_names
   call_is f n c e l w o at = ap (λ x. on_some x gone (λ o1. look (λ w1. show e >> call (OfSubprogram f (holding (Binds n 0 []) ∷ [])) (home_of o1.origin w1) >> nothing)) c l w) at
 
@@ -315,7 +315,7 @@ module _ (ask : Ask) (k : Tables) (code : Code) (setting : Setting k code) (call
 
   -- the worlds with a new object, whose operations are in scope
   pub created_fits : (slot : ℕ) (s : List Kind) (w0 : World) (d : List ℕ) (w : World) → IsDeclarable code (length d) t → Since k code w0 w → Sees d s w0 → Since k code w0 (with_object code d slot t w)
-  created_fits slot s w0 d w declarable fits sees = since_slot k code (last_of d) slot (holding (Holds w.ledger.next_object)) w0 _ tt (since_create k code (Record t) (replicate (size_of code t) 0) (last_of d) w0 w (r, here, plain) old inside fits)
+  created_fits slot s w0 d w declarable fits sees = since_slot k code (last_of d) slot (holding (Holds w.ledger.next_object)) w0 _ tt (since_create k code (Record t) (replicate (size_of code t) 0) (last_of d) w0 w (r, here, plain) old inside deep fits)
     where
       old : last_of d < w.ledger.next_master
       old = omega (arith, sees.old, fits.1.later)
@@ -325,6 +325,9 @@ module _ (ask : Ask) (k : Tables) (code : Code) (setting : Setting k code) (call
 
       inside : IsDeclarable code (length (home (last_of d) w.activations)) t
       inside = subst (λ (x : List ℕ). IsDeclarable code (length x) t) (sym same) declarable
+
+      deep : 1 ≤ length (home (last_of d) w.activations)
+      deep = subst (λ (x : List ℕ). 1 ≤ length x) (sym same) sees.deep
 
   pub created_is : (slot : ℕ) (w0 : World) (d : List ℕ) (w : World) → Since k code w0 w → IsOf w.ledger.next_object (with_object code d slot t w)
   created_is slot w0 d w fits o at1 = created_ty k code (Record t) (replicate (size_of code t) 0) (last_of d) slot w fits.0 o at1

@@ -1,6 +1,7 @@
 -- The code of each statement and of each master that this version runs does what it means.
 use Rattle.std.proofs.Common.{◌≡◌, ℕ, ◌+◌, List, [], ◌∷◌, map, Option, Some, None, Bool, true, false, refl, sym, ap, ◌∙◌, subst, arith, option_map}
 use Rattle.std.specs.Prelude.{◌&&◌}
+use Rattle.ctl_program.specs.declared.types.Var.{Var}
 use Rattle.ctl_program.specs.declared.expression.Expr.{Expr}
 use Rattle.ctl_program.specs.declared.statement.Item.{Item}
 use Rattle.ctl_program.specs.declared.statement.Stmt.{Stmt, roll-Stmt, map-Stmt}
@@ -11,22 +12,22 @@ use Rattle.ctl_program.specs.declared.statement.Master.{Master, Master-F, roll-M
 use Rattle.ctl_tree.specs.declared.event.Event.TheVariants.{Newline}
 use Rattle.ctl_meaning.specs.World.{World}
 use Rattle.ctl_meaning.specs.Choice.{Ask}
-use Rattle.ctl_meaning.specs.Outcome.{Goes, tell, opened_outcome, ByExit, ByReturn, ByRaise, leave_by, Leaves}
-use Rattle.ctl_meaning.specs.Types.{Tables, Elementary}
-use Rattle.ctl_meaning.specs.Names.{Default, Tools}
+use Rattle.ctl_meaning.specs.Outcome.{Act, ◌>>=◌, ticked, Goes, tell, opened_outcome, ByExit, ByReturn, ByRaise, leave_by, Leaves}
+use Rattle.ctl_meaning.specs.Types.{Tables, Composite, Elementary}
+use Rattle.ctl_meaning.specs.Names.{Default, Found, Tools}
 use Rattle.ctl_meaning.specs.Names as Names
-use Rattle.ctl_meaning.specs.Expressions.{eval, eval_name, Naming}
+use Rattle.ctl_meaning.specs.Expressions.{Naming, Supplied, eval, eval_name, supply}
 use Rattle.ctl_meaning.specs.Masters.{elaborate_item}
-use Rattle.ctl_meaning.specs.Statements.{Doing, arm_of, assign as assign_doing, body_of, do_each, exec, exit as exit_doing, handler_of, loop_for, loop_plainly, loop_while, new_line, null as null_doing, put, put_line, raise_new, return as return_doing, within}
+use Rattle.ctl_meaning.specs.Statements.{Doing, arm_of, assign as assign_doing, assign_part, assign_record as assign_found, body_of, do_each, exec, exit as exit_doing, handler_of, loop_for, loop_plainly, loop_while, new_line, null as null_doing, put, put_line, raise_new, return as return_doing, within}
 use Rattle.ctl_meaning.proofs.Trees.{exec_roll, arm_roll as guarding_roll, master_roll as body_roll}
 use Rattle.ctl_code.specs.declared.code.Code.{Code}
 use Rattle.ctl_code.specs.declared.code.Instr.TheVariants as InstrOf
 use Rattle.ctl_code.specs.declared.code.Way.TheVariants as WayOf
 use Rattle.ctl_gen.specs.declared.right.Reached.{Reached}
 use Rattle.ctl_gen.specs.declared.right.Reached.TheVariants as ReachedOf
-use Rattle.ctl_gen.specs.Values.{value_code, reached_by}
-use Rattle.ctl_gen.specs.Layout.{StatementCode, all, all_items, arm_code, assign, exit, return, has_no_handlers, inside, item_code, master_code, missing_statement, no_code, statement_code, leaves_code}
-use Rattle.ctl_gen.proofs.Known.{both_true}
+use Rattle.ctl_gen.specs.Values.{value_code, reached_by, sourced}
+use Rattle.ctl_gen.specs.Layout.{StatementCode, all, all_items, arm_code, assign, assign_record, record_code, exit, return, has_no_handlers, inside, item_code, master_code, missing_statement, no_code, statement_code, leaves_code}
+use Rattle.ctl_gen.proofs.Known.{both_true, plain_if}
 use Rattle.ctl_gen.proofs.TreeLayers.{arm_roll, master_roll, statement_roll}
 use Rattle.ctl_gen.proofs.Setting.{Setting, Calls, tools_with}
 use Rattle.ctl_gen.proofs.Defaults.{GivesDefaults}
@@ -35,6 +36,8 @@ use Rattle.ctl_gen.proofs.Cells.{by_code}
 use Rattle.ctl_gen.proofs.Expressions.{Value}
 use Rattle.ctl_gen.proofs.Evaluated.{Reaches, name_finds, value_since}
 use Rattle.ctl_gen.proofs.Components.{part_does}
+use Rattle.ctl_gen.proofs.Sources.{find_by, name_means, source_means}
+use Rattle.ctl_gen.proofs.RecordAssign.{record_does}
 use Rattle.ctl_gen.proofs.Assign.{assign_runs}
 use Rattle.ctl_gen.proofs.Texts.{print_runs}
 use Rattle.ctl_gen.proofs.Branches.{only_if_runs, paid}
@@ -123,6 +126,18 @@ module _ (ask : Ask) (k : Tables) (code : Code) (setting : Setting k code) (call
       let h = both_true _ _ runs in
       part_does ask k code setting.places bound v t position h.0 (value_code e) (eval e K) (means e h.1) (find Elementary K) (reaches (ReachedOf.Component v t position) refl)
 
+  record_assign_does : (o : Option Reached) (t : ℕ) (q : Option Reached) (find : Naming) (x : Supplied) → ((v : Var) → o ≡ Some (ReachedOf.Variable v) → find Composite K ≡ find_by K [] Composite v) → ((v : Var) → q ≡ Some (ReachedOf.Variable v) → x.source K ≡ (λ d. ticked (find_by K [] Composite v d))) → Performs (assign_record o t q) (assign_part find t x)
+  unfolding assign_part
+  record_assign_does None t q find x target source runs n texts caught = absurd (cc)
+  record_assign_does (Some (ReachedOf.Component v u position)) t q find x target source runs n texts caught = absurd (cc)
+  record_assign_does (Some (ReachedOf.Variable v)) t None find x target source runs n texts caught = absurd (cc)
+  record_assign_does (Some (ReachedOf.Variable v)) t (Some (ReachedOf.Component y u position)) find x target source runs n texts caught = absurd (cc)
+  record_assign_does (Some (ReachedOf.Variable v)) t (Some (ReachedOf.Variable u)) find x target source runs n texts caught =
+      let known = plain_if k t (both_true _ _ runs).0 in
+      subst (λ (find1 : List ℕ → Act Found). DoesIn 0 ask k code bound (λ a. record_code v t u a.stack) (λ d. ticked (find1 d >>= (λ f. x.source K d >>= assign_found K t f)))) (sym (target v refl))
+      (subst (λ (find2 : List ℕ → Act Found). DoesIn 0 ask k code bound (λ a. record_code v t u a.stack) (λ d. ticked (find_by K [] Composite v d >>= (λ f. find2 d >>= assign_found K t f)))) (sym (source u refl))
+      (record_does ask k code setting call default constants t known.0 known.1 known.2 bound calls v u))
+
   -- one step to where control lands
   exits : DoesIn 1 ask k code bound leaves_code (λ d. leave_by ByExit)
   unfolding opened_outcome
@@ -168,7 +183,7 @@ module _ (ask : Ask) (k : Tables) (code : Code) (setting : Setting k code) (call
       let g = both_true _ _ h.1 in
       for_runs ask k code setting.valid bound x way (value_code low) (value_code high) (eval low K) (eval high K) (means low h.0) (means high g.0) (λ a. (all (map statement_code (map (λ z. z.0) body))).code a n) (λ v. do_each K v caught (map exec (map (λ z. z.0) body))) (each_does body g.1 n texts caught))
   stmt_rolled (Stmt-F.Block m) = does (Stmt-F.Block m.0) _ _ (statement_roll (Stmt-F.Block m.0)) (exec_roll (Stmt-F.Block m.0)) (S.block_runs ask k code setting call default constants bound calls (master_code m.0) (body_of m.0) m.1)
-  stmt_rolled (Stmt-F.AssignRecord x t a) = missing_does (Stmt-F.AssignRecord x t a) (statement_roll (Stmt-F.AssignRecord x t a))
+  stmt_rolled (Stmt-F.AssignRecord x t a) = does (Stmt-F.AssignRecord x t a) _ _ (statement_roll (Stmt-F.AssignRecord x t a)) (exec_roll (Stmt-F.AssignRecord x t a)) (record_assign_does (reached_by x) t (sourced a) (eval_name x) (supply a) (name_means K x) (source_means K a))
   stmt_rolled (Stmt-F.Call f xs) = missing_does (Stmt-F.Call f xs) (statement_roll (Stmt-F.Call f xs))
   stmt_rolled (Stmt-F.Nothing x) = missing_does (Stmt-F.Nothing x) (statement_roll (Stmt-F.Nothing x))
   stmt_rolled (Stmt-F.Dispatch op x) = missing_does (Stmt-F.Dispatch op x) (statement_roll (Stmt-F.Dispatch op x))

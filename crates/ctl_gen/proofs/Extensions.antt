@@ -89,10 +89,11 @@ module _ (p : List Component → Bool) (Q : List Component → Type 0) (each : (
   extended n t r (Some q) is at own before e =
       let h = both_true (nat_lt q t) (holds_within p n records q) e in
       let less = ltb-true q t h.0 in
-      let x = before q h.1 in
-      (x.0 ++ r.own,
-      inherits records t r x.0 at (λ m lt. ap (of_parent [] (components m records)) is ∙ x.1.found m (omega (arith, lt, less))) (λ rows same. ap (inherited rows) is ∙ ap none_if_absent (sym (same q less) ∙ x.1.row)),
-      both x.0 r.own x.2 own)
+      let x = before q h.1 in (
+        x.0 ++ r.own,
+        inherits records t r x.0 at (λ m lt. ap (of_parent [] (components m records)) is ∙ x.1.found m (omega (arith, lt, less))) (λ rows same. ap (inherited rows) is ∙ ap none_if_absent (sym (same q less) ∙ x.1.row)),
+        both x.0 r.own x.2 own,
+      )
 
   extends_within : (n t : ℕ) → holds_within p n records t ≡ true → Extends t
   extends_within zero t e = absurd (cc)

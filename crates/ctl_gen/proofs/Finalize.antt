@@ -8,6 +8,7 @@ use Rattle.ctl_program.specs.declared.types.Root.TheVariants.{Controlled}
 use Rattle.ctl_tree.specs.declared.ending.Stop.TheVariants.{UseAfterFree}
 use Rattle.ctl_tree.specs.declared.event.Event.{Event}
 use Rattle.ctl_tree.specs.declared.event.Event.TheVariants as EventOf
+use Rattle.ctl_tree.specs.declared.event.Cause.{Cause}
 use Rattle.ctl_tree.specs.declared.event.Cause.TheVariants.{Scope}
 use Rattle.ctl_meaning.specs.World.{Object, Member, Log, World, Binds, holding}
 use Rattle.ctl_meaning.specs.Lists.{first_with, opened_lists}
@@ -27,7 +28,7 @@ use Rattle.ctl_code.specs.States.{Handed, Complete, FinalizationFailed, Frame, F
 use Rattle.ctl_code.specs.Table as Table
 use Rattle.ctl_code.specs.Table.{whole_part, first_operation, operation_of, operation_in}
 use Rattle.ctl_code.specs.Steps.{moved, step}
-use Rattle.ctl_code.specs.Valid.{IsInScope, IsDeclarable}
+use Rattle.ctl_code.specs.Valid.{IsInScope, IsDeclarable, outermost}
 use Rattle.ctl_gen.proofs.Known.{IsPlain, IsUntagged}
 use Rattle.ctl_gen.proofs.Worlds.{IfFound, Fits, Settled, Since, IsInside, home, object_fits, since_begin, since_end}
 use Rattle.ctl_gen.proofs.Plain.{is_controlled_plain, has_controlled_plain, none_controlled_plain, parts_to_finalize_flat}
@@ -50,22 +51,38 @@ home_is : (k : Tables) (code : Code) (w : World) (o : Object) → (h : Settled k
 unfolding opened_changes
 home_is k code w o h = ap (λ x. home (home_master w x) w.activations) h.origin
 
--- an operation of its type is in scope there
-pub finalize_scope : (k : Tables) (code : Code) (w : World) (o : Object) (t f : ℕ) → o.ty ≡ Record t → Settled k code w.ledger.next_master w.activations o → operation_of (λ x. x.finalize) code t ≡ Some f → IsInScope code (length (home_of o.origin w)) (Some f)
-finalize_scope k code w o t f ty h op =
-    let inside : IsDeclarable code (length (home h.master w.activations)) t = subst (λ y. IsInside code y (length (home h.master w.activations))) ty h.inside in
+-- an operation of a type whose operations are declared in so many masters
+pub finalize_in : (code : Code) (n t f : ℕ) → IsDeclarable code n t → operation_of (λ x. x.finalize) code t ≡ Some f → IsInScope code n (Some f)
+finalize_in code n t f inside op =
     let same : inside.0.finalize ≡ Some f = sym (ap (λ (x : Option Operations). operation_in (λ y. y.finalize) x) inside.1) ∙ op in
-    subst (λ d. IsInScope code (length d) (Some f)) (sym (home_is k code w o h)) (subst (IsInScope code (length (home h.master w.activations))) same inside.3)
+    subst (IsInScope code n) same inside.3
 
 declarable_first : (code : Code) (n t : ℕ) (how : Beginning) → (inside : IsDeclarable code n t) → IsInScope code n (first_operation how inside.0)
 declarable_first code n t ByDefault inside = inside.2
 declarable_first code n t ByCopy inside = inside.4
 
+pub first_in : (how : Beginning) (code : Code) (n t f : ℕ) → IsDeclarable code n t → operation_of (first_operation how) code t ≡ Some f → IsInScope code n (Some f)
+first_in how code n t f inside op =
+    let same : first_operation how inside.0 ≡ Some f = sym (ap (λ (x : Option Operations). operation_in (first_operation how) x) inside.1) ∙ op in
+    subst (IsInScope code n) same (declarable_first code n t how inside)
+
+-- an operation of its type is in scope there
+pub finalize_scope : (k : Tables) (code : Code) (w : World) (o : Object) (t f : ℕ) → o.ty ≡ Record t → Settled k code w.ledger.next_master w.activations o → operation_of (λ x. x.finalize) code t ≡ Some f → IsInScope code (length (home_of o.origin w)) (Some f)
+finalize_scope k code w o t f ty h op =
+    let inside : IsDeclarable code (length (home h.master w.activations)) t = subst (λ y. IsInside code y (length (home h.master w.activations))) ty h.inside in
+    subst (λ d. IsInScope code (length d) (Some f)) (sym (home_is k code w o h)) (finalize_in code _ t f inside op)
+
 pub first_scope : (how : Beginning) (k : Tables) (code : Code) (w : World) (o : Object) (t f : ℕ) → o.ty ≡ Record t → Settled k code w.ledger.next_master w.activations o → operation_of (first_operation how) code t ≡ Some f → IsInScope code (length (home_of o.origin w)) (Some f)
 first_scope how k code w o t f ty h op =
     let inside : IsDeclarable code (length (home h.master w.activations)) t = subst (λ y. IsInside code y (length (home h.master w.activations))) ty h.inside in
-    let same : first_operation how inside.0 ≡ Some f = sym (ap (λ (x : Option Operations). operation_in (first_operation how) x) inside.1) ∙ op in
-    subst (λ d. IsInScope code (length d) (Some f)) (sym (home_is k code w o h)) (subst (IsInScope code (length (home h.master w.activations))) same (declarable_first code _ t how inside))
+    subst (λ d. IsInScope code (length d) (Some f)) (sym (home_is k code w o h)) (first_in how code _ t f inside op)
+
+-- one that is declared in the main procedure's own master at the most is in scope wherever an object was declared
+pub outermost_scope : (k : Tables) (code : Code) (w : World) (o : Object) (f : ℕ) → Settled k code w.ledger.next_master w.activations o → IsInScope code outermost (Some f) → IsInScope code (length (home_of o.origin w)) (Some f)
+outermost_scope k code w o f h scope =
+    let deep : 1 ≤ length (home_of o.origin w) = subst (λ (d : List ℕ). 1 ≤ length d) (sym (home_is k code w o h)) h.deep in
+    let level = scope.2 in
+    (scope.0, scope.1, omega (arith, level, deep))
 
 -- an object that exists is finalized by its own type, and closes then if it is a pool
 abbrev pub finalize_as : Tools → ℕ → Ty → Act Bool
@@ -104,19 +121,21 @@ module _ (ask : Ask) (k : Tables) (code : Code) (setting : Setting k code) (call
   abbrev ends : ℕ → Event
   ends n = EventOf.Finalize (whole_part n) Scope
 
-  finalize_is : (g : Option ℕ) → operation (λ x. x.finalize) k t ≡ g → (n c : ℕ) (l : Log) (w : World) → finalize K Scope Every (whole n) t c l w ≡ add 1 (bind (bind (bind (call_operation K (whole n) g (ends n) c l w) told) (on_goes (after_finalize Scope))) (on_goes (λ b. done b)))
+  -- for whatever cause, and no component has one
+  pub finalize_is : (cause : Cause) (g : Option ℕ) → operation (λ x. x.finalize) k t ≡ g → (n c : ℕ) (l : Log) (w : World) → finalize K cause Every (whole n) t c l w ≡ add 1 (bind (bind (bind (call_operation K (whole n) g (EventOf.Finalize (whole_part n) cause) c l w) told) (on_goes (after_finalize cause))) (on_goes (λ b. done b)))
   unfolding opened_finalization opened_outcome depth
-  finalize_is g e n c l w =
-      ap (λ ps. add 1 (bind (own_finalize K Scope Every (whole n) t c l w) (on_goes (in_any_order K (λ p. of_record (done false) (finalize_part K Scope Every (length k.records) (component_at (whole n) p)) p.ty) (length ps) ps)))) (parts_to_finalize_flat k t plain.components plain.flat K Every (whole n) refl)
-      ∙ ap (λ b. add 1 (bind (either (b && true) (λ c1 l1 w1. bind (bind (call_operation K (whole n) (operation (λ x. x.finalize) k t) (ends n) c1 l1 w1) told) (on_goes (after_finalize Scope))) (done false) c l w) (on_goes (λ b1. done b1)))) (is_controlled_plain k t r here controlled)
-      ∙ ap (λ x. add 1 (bind (bind (bind (call_operation K (whole n) x (ends n) c l w) told) (on_goes (after_finalize Scope))) (on_goes (λ b. done b)))) e
+  finalize_is cause g e n c l w =
+      let shown = EventOf.Finalize (whole_part n) cause in
+      ap (λ ps. add 1 (bind (own_finalize K cause Every (whole n) t c l w) (on_goes (in_any_order K (λ p. of_record (done false) (finalize_part K cause Every (length k.records) (component_at (whole n) p)) p.ty) (length ps) ps)))) (parts_to_finalize_flat k t plain.components plain.flat K Every (whole n) refl)
+      ∙ ap (λ b. add 1 (bind (either (b && true) (λ c1 l1 w1. bind (bind (call_operation K (whole n) (operation (λ x. x.finalize) k t) shown c1 l1 w1) told) (on_goes (after_finalize cause))) (done false) c l w) (on_goes (λ b1. done b1)))) (is_controlled_plain k t r here controlled)
+      ∙ ap (λ x. add 1 (bind (bind (bind (call_operation K (whole n) x shown c l w) told) (on_goes (after_finalize cause))) (on_goes (λ b. done b)))) e
 
   -- an object that exists
   object_is : (g : Option ℕ) → operation (λ x. x.finalize) k t ≡ g → (n c : ℕ) (l : Log) (w : World) (o : Object) → object_at n w ≡ Some o → finalize_object K Scope (record { number = n; ty = Record t }) c l w ≡ unwritten n (call_operation K (whole n) g (ends n) c l (begin_finalization n w))
   unfolding opened_finalization opened_outcome opened_names of_record
   object_is g e n c l w o at =
       ap (λ x. bind (bind (on_some x gone (λ _. nothing) c l w) (on_goes (λ _. change (begin_finalization n)))) (on_goes (λ _. finalize K Scope Every (whole n) t >>= (λ b. change (end_finalization n) >> done b)))) at
-      ∙ ap (λ x. add 0 (bind x (on_goes (λ b. change (end_finalization n) >> done b)))) (finalize_is g e n c l (begin_finalization n w))
+      ∙ ap (λ x. add 0 (bind x (on_goes (λ b. change (end_finalization n) >> done b)))) (finalize_is Scope g e n c l (begin_finalization n w))
 
   call_is : (f n c : ℕ) (l : Log) (w : World) (o : Object) → object_at n w ≡ Some o → call_operation K (whole n) (Some f) (ends n) c l w ≡ bind (add 0 (call (OfSubprogram f (holding (Binds n 0 []) ∷ [])) (home_of o.origin w) c (tell (ends n) l) w)) (on_goes (λ _. nothing))
   unfolding opened_finalization opened_outcome opened_names

@@ -1,6 +1,6 @@
 -- The code of each well-typed statement and master is well formed.
 use Rattle.std.proofs.Common.{◌<◌, ◌≡◌, ℕ, ◌+◌, List, [], ◌∷◌, ◌++◌, length, map, Bool, true, false, Option, Some, None, option_map, refl, sym, ap, ◌∙◌, subst, arith}
-use Rattle.std.specs.Prelude.{◌&&◌}
+use Rattle.std.specs.Prelude.{◌&&◌, slice_get}
 use Rattle.ctl_program.specs.declared.types.Ty.{Ty}
 use Rattle.ctl_program.specs.declared.types.Ty.TheVariants.{Integer, Count, Boolean, Address, Handle, Access, Record}
 use Rattle.ctl_program.specs.declared.types.Var.{Var}
@@ -23,14 +23,16 @@ use Rattle.ctl_code.specs.declared.code.Instr.TheVariants as InstrOf
 use Rattle.ctl_code.specs.declared.code.Way.TheVariants as WayOf
 use Rattle.ctl_code.specs.declared.code.Code.{Code}
 use Rattle.ctl_code.specs.Windows.{variable_at}
-use Rattle.ctl_code.specs.Valid.{IsAtEnd, IsDeclarable}
+use Rattle.ctl_code.specs.Valid.{IsAtEnd, IsDeclarable, outermost}
 use Rattle.ctl_gen.specs.Around.{behind, local_at}
 use Rattle.ctl_gen.specs.declared.right.Reached.{Reached}
 use Rattle.ctl_gen.specs.declared.right.Reached.TheVariants as ReachedOf
 use Rattle.ctl_gen.proofs.Components.{part_formed}
-use Rattle.ctl_gen.specs.Values.{ValueCode, copied, value_code, reached_by}
+use Rattle.ctl_gen.proofs.RecordAssign.{record_formed}
+use Rattle.ctl_gen.specs.Values.{ValueCode, copied, sourced, value_code, reached_by}
 use Rattle.ctl_gen.specs.Records.{is_run_type}
-use Rattle.ctl_gen.specs.Layout.{ArmCode, ItemCode, MasterCode, StatementCode, all, all_items, arm_code, arms_run, assign, block, exit, return, has_no_handlers, in_master, inside, item_code, master_code, missing_statement, no_code, statement_code, tested, valued, with_value}
+use Rattle.ctl_gen.specs.Defaults.{is_outermost}
+use Rattle.ctl_gen.specs.Layout.{ArmCode, ItemCode, MasterCode, StatementCode, all, all_items, arm_code, arms_run, assign, assign_record, block, exit, return, has_no_handlers, in_master, inside, item_code, master_code, missing_statement, no_code, statement_code, tested, valued, with_value}
 use Rattle.ctl_gen.proofs.Known.{both_true}
 use Rattle.ctl_gen.proofs.TreeLayers.{arm_roll, layer_of, master_roll}
 use Rattle.ctl_gen.proofs.Place.{HasAt}
@@ -49,7 +51,8 @@ slots_told (D.master {f = f} {is = items} {body = body} {hs = hs} elaborated don
     ap (λ (z : MasterCode). z.slots) (master_roll (record { slots = length f; items = items; body = body; handlers = hs }))
 
 -- the operations of each record type that is declared around a place are declared there too
-module _ (code : Code) (records : List RecordType) (k : W.Setting) (declarable : (env : W.Frames) (t : ℕ) → W.HasRecord k env t → IsDeclarable code (length env) t) (raisable : (x : ℕ) → x < k.exceptions → x < length code.exceptions.items) where
+-- and those of one of the main procedure's own declarative part inside its master
+module _ (code : Code) (records : List RecordType) (k : W.Setting) (declarable : (env : W.Frames) (t : ℕ) → W.HasRecord k env t → IsDeclarable code (length env) t) (assignable : (t : ℕ) → is_outermost (slice_get records t) ≡ true → IsDeclarable code outermost t) (raisable : (x : ℕ) → x < k.exceptions → x < length code.exceptions.items) where
   -- Items ------------------------------------------------------------------------------------------
 
   may_declare : (env : W.Frames) (ty : Ty) → W.InView k env ty → MayDeclare code (length env) ty
@@ -116,6 +119,13 @@ module _ (code : Code) (records : List RecordType) (k : W.Setting) (declarable :
   assign_good env None x t fine runs a n p agrees texts can = absurd (cc)
   assign_good env (Some (ReachedOf.Component v u position)) x t fine runs a n p agrees texts can = part_formed code v u position x a.stack (value_usable code x t (fine (both_true _ _ runs).1)) p
   assign_good env (Some (ReachedOf.Variable v)) x t fine runs a n p agrees texts can = assign_formed code (local_at a.stack v) v x a.stack refl (value_usable code x t (fine runs)) p
+
+  record_good : (env : W.Frames) (o : Option Reached) (t : ℕ) (q : Option Reached) → GoodStatement env (assign_record o t q)
+  record_good env None t q runs a n p agrees texts can = absurd (cc)
+  record_good env (Some (ReachedOf.Component v u position)) t q runs a n p agrees texts can = absurd (cc)
+  record_good env (Some (ReachedOf.Variable v)) t None runs a n p agrees texts can = absurd (cc)
+  record_good env (Some (ReachedOf.Variable v)) t (Some (ReachedOf.Component x u position)) runs a n p agrees texts can = absurd (cc)
+  record_good env (Some (ReachedOf.Variable v)) t (Some (ReachedOf.Variable x)) runs a n p agrees texts can = record_formed code v x t a.stack (assignable t (both_true _ _ runs).1) p
 
   leaving_good : {env : W.Frames} (o : Option Expr) → Perhaps k env o Boolean → GoodStatement env (exit (option_map value_code o))
   leaving_good {env} None T.left_out runs = leaves_stay code env
@@ -188,7 +198,7 @@ module _ (code : Code) (records : List RecordType) (k : W.Setting) (declarable :
         (usable_as code (value_code high) Integer tt (typed_fine code records to g.0))
         (each_good h g.1))
     statement_good {env} (D.block {m = m} {f = f} h) = good_as env _ _ (layer_of _ (sym (rolls-Block m))) (block_good env f (master_code m) (slots_told h) (master_good h))
-    statement_good {env} (D.assign_record {x = x} {t = t} {v = v} denotes fits) = not_missing env _ (layer_of _ (sym (rolls-AssignRecord x t v)))
+    statement_good {env} (D.assign_record {x = x} {t = t} {v = v} denotes fits) = good_as env _ _ (layer_of _ (sym (rolls-AssignRecord x t v))) (record_good env (reached_by x) t (sourced v))
     statement_good {env} (D.call {s = f} {actuals = actuals} callable gives fits) = not_missing env _ (layer_of _ (sym (rolls-Call f actuals)))
     statement_good {env} (D.nothing_done {x = x} views) = not_missing env _ (layer_of _ (sym (rolls-Nothing x)))
     statement_good {env} (D.dispatch {o = o} {x = x} views) = not_missing env _ (layer_of _ (sym (rolls-Dispatch o x)))

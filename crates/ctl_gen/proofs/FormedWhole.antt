@@ -2,6 +2,7 @@
 use Rattle.std.proofs.Common.{◌<◌, ◌≡◌, ℕ, zero, suc, ◌+◌, ◌≤◌, List, [], ◌∷◌, ◌++◌, length, map, Option, Some, None, true, refl, sym, ap, ◌∙◌, subst, arith, take}
 use Rattle.std.specs.Prelude.{slice_get}
 use Rattle.std.proofs.lemmas.List.{length-take}
+use Rattle.std.proofs.lemmas.Bool.{leb-true}
 use Rattle.ctl_program.specs.declared.types.RecordType.{RecordType}
 use Rattle.ctl_program.specs.declared.types.Root.{Root}
 use Rattle.ctl_program.specs.declared.types.Root.TheVariants.{BlockPool, Controlled, MarkPool, Untagged}
@@ -15,9 +16,10 @@ use Rattle.ctl_code.specs.declared.code.Instr.{Instr}
 use Rattle.ctl_code.specs.declared.code.Entry.{Entry}
 use Rattle.ctl_code.specs.declared.code.Operations.{Operations}
 use Rattle.ctl_code.specs.declared.code.Code.{Code}
-use Rattle.ctl_code.specs.Valid.{IsBegun, IsDeclarable, IsEntry, IsFine, IsInScope, IsValid, Leads, MayBeEntry, TakesObject}
+use Rattle.ctl_code.specs.Valid.{IsBegun, IsDeclarable, IsEntry, IsFine, IsInScope, IsValid, Leads, MayBeEntry, TakesObject, outermost}
 use Rattle.ctl_gen.specs.Around.{Line, Around, behind}
 use Rattle.ctl_gen.specs.Layout.{bodies, body_code, entries_from, entry_at, HasKinds, in_body, instructions_of, IsLaidOut, kinds_of, master_code, nowhere, operations_in, operations_of, program_code}
+use Rattle.ctl_gen.specs.Defaults.{is_outermost}
 use Rattle.ctl_gen.specs.Records.{adjust_by}
 use Rattle.ctl_gen.specs.Run.{AreLinked, IsBody, IsRun, IsWritten, are_procedures}
 use Rattle.ctl_gen.proofs.Known.{both_true}
@@ -234,24 +236,37 @@ module _ (program : Checked) (code : Code) (laid : IsLaidOut program code) (kind
         adjust_has (TakesObject code) x.0.root x.0.operations.adjust tt (takes_object home.0 x.0.operations.adjust (adjust_written program typed t x.0 home.0 x.1 home.1)),
       )
 
-  -- an operation that can be called at its type's home is in scope inside it
-  in_scope : (home env : W.Frames) (o : Option ℕ) → W.Encloses home env → MayBeOperation program typed home o → IsInScope code (length env) o
-  in_scope home env None e h = tt
-  in_scope home env (Some f) e h =
+  -- an operation that can be called at its type's home is in scope in as many masters as are around that
+  in_scope : (home : W.Frames) (masters : ℕ) (o : Option ℕ) → length home ≤ masters → MayBeOperation program typed home o → IsInScope code masters o
+  in_scope home masters None least h = tt
+  in_scope home masters (Some f) least h =
       let x = entry_of f h.body h.found in
-      let least = not_more home env e in
       let level = h.level in
       (entry_at x.0 h.body, x.1, omega (arith, least, level))
 
+  declarable_in : (masters t : ℕ) (r : RecordType) (home : W.Frames) → length home ≤ masters → slice_get program.records t ≡ Some r → slice_get typed.k.record_homes t ≡ Some home → IsDeclarable code masters t
+  declarable_in masters t r home least e at = (
+    operations_in r,
+    operations_there t r e,
+    in_scope home masters r.operations.initialize least (initialize_written program typed t r home e at),
+    in_scope home masters r.operations.finalize least (finalize_written program typed t r home e at),
+    adjust_has (IsInScope code masters) r.root r.operations.adjust tt (in_scope home masters r.operations.adjust least (adjust_written program typed t r home e at)),
+  )
+
   declarable : (env : W.Frames) (t : ℕ) → W.HasRecord typed.k env t → IsDeclarable code (length env) t
-  declarable env t h =
-      let e = sym (ap (λ rs. slice_get rs t) typed.fits.records) ∙ h.found in (
-        operations_in h.is,
-        operations_there t h.is e,
-        in_scope h.home env h.is.operations.initialize h.encloses (initialize_written program typed t h.is h.home e h.at_home),
-        in_scope h.home env h.is.operations.finalize h.encloses (finalize_written program typed t h.is h.home e h.at_home),
-        adjust_has (IsInScope code (length env)) h.is.root h.is.operations.adjust tt (in_scope h.home env h.is.operations.adjust h.encloses (adjust_written program typed t h.is h.home e h.at_home)),
-      )
+  declarable env t h = declarable_in (length env) t h.is h.home (not_more h.home env h.encloses) (sym (ap (λ rs. slice_get rs t) typed.fits.records) ∙ h.found) h.at_home
+
+  -- the level of a type says how many masters are around it
+  assignable : (t : ℕ) → is_outermost (slice_get program.records t) ≡ true → IsDeclarable code outermost t
+  assignable t e = by (slice_get program.records t) refl e
+    where
+      by : (o : Option RecordType) → slice_get program.records t ≡ o → is_outermost o ≡ true → IsDeclarable code outermost t
+      by None there outer = absurd (cc)
+      by (Some r) there outer =
+          let home = home_of program typed t r there in
+          let level = (typed.each_record t r home.0 there home.1).level in
+          let few : r.level ≤ outermost = leb-true r.level outermost outer in
+          declarable_in outermost t r home.0 (omega (arith, level, few)) there home.1
 
   raisable : (x : ℕ) → x < typed.k.exceptions → x < length code.exceptions.items
   raisable x known = let all = ap (λ (names : List (List ℕ)). length names) laid.exceptions in omega (arith, known, typed.fits.exceptions, all)
@@ -269,7 +284,7 @@ module _ (program : Checked) (code : Code) (laid : IsLaidOut program code) (kind
       let frame = map W.OfFormal is.formals ++ h.others in
       let slots = (master_code s.body).slots in
       let over = subst (λ m. Agrees (is.home ++ frame ∷ []) (Body s.level m ∷ [])) (sym (slots_told h.body)) (agrees_body is.home frame s.level h.level) in
-      master_good code program.records typed.k declarable raisable h.body runs (Body s.level slots) [] n p over texts tt
+      master_good code program.records typed.k declarable assignable raisable h.body runs (Body s.level slots) [] n p over texts tt
 
   good : (f : ℕ) (s : Subprogram) → slice_get program.subprograms f ≡ Some s → GoodBody code program.records s
   good f s e =

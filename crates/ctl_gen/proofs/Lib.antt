@@ -22,9 +22,12 @@ pub mod Loops
 pub mod Assign
 pub mod Branches
 pub mod Finalize
+pub mod Sources
+pub mod Adjust
 pub mod Leave
 pub mod Declare
 pub mod Copies
+pub mod RecordAssign
 pub mod Texts
 pub mod Statements
 pub mod Ranges

@@ -146,7 +146,7 @@ module _ (ask : Ask) (k : Tables) (code : Code) (valid : IsValid code) (bound : 
   counted_turn x act does s v z again e w0 d start place ks over ops c l w s0 le fits sees has lands first going logged more =
       let b = x (in_loop (with_bounds s)) in
       let w1 = set_value (master_of d v) v.slot (cell_of z) w in
-      let sees1 : Sees d (with_bounds s) w0 = record { old = sees.old; home = sees.home; long = sees.long } in
+      let sees1 : Sees d (with_bounds s) w0 = record { old = sees.old; home = sees.home; long = sees.long; deep = sees.deep } in
       within ask code (Kept k code w0) 0 1 1 1 s0 c (arrives e d place ks ops) _ (omega arith) (omega arith)
       (turn_runs ask k code bound (set_loop d v z >> act d) (turned again) w0 (arrives (On (start - 1)) d (start + length b) ks over) (arrives e d place ks ops) s0 (at d start ks over l w1) c l w first going logged
       (λ c1 lo. added ask code (Kept k code w0) 0 0 0 0 0 (at d start ks over l w1) c1 (arrives (On (start - 1)) d (start + length b) ks over) (act d c1 l w1) (omega arith) (omega arith) (does (in_loop (with_bounds s)) w0 d start ks over c1 l w1 (omega (arith, lo, le)) (since_value k code (master_of d v) v.slot (cell_of z) w0 w fits) sees1 has))

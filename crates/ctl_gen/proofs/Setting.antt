@@ -62,11 +62,12 @@ first_body k code setting ByCopy t f e = setting.adjust_body t f e
 abbrev pub tools_with : Ask → Tables → Call → Default → Tools
 tools_with ask k call default = record { ask = ask; tables = k; call = call; default = default }
 
--- a display is seen: that of its last master, which is older than the next one; it has as many masters as stand around
+-- a display is seen: that of its last master, which is older than the next one; it has as many masters as stand around, at least one
 pub record Sees (d : List ℕ) (s : List Kind) (w : World) : Type 0 where
   pub old : last_of d < w.ledger.next_master
   pub home : home (last_of d) w.activations ≡ d
   pub long : length d ≡ depth s
+  pub deep : 1 ≤ length d
 
 -- what an execution gives to the frame that waits for it
 abbrev pub returns : {A : Type 0} → List Frame → Result A → Log → World → State

@@ -349,6 +349,7 @@ module _ (ask : Ask) (k : Tables) (code : Code) (setting : Setting k code) (call
         old = subst (λ z. z < w2.ledger.next_master) (sym (last_is env m)) (omega (arith, next));
         home = ap (λ z. home z w2.activations) (last_is env m) ∙ home_new k code env slots w;
         long = length-append env (m ∷ []) ∙ long;
+        deep = omega (arith, length-append env (m ∷ []));
       }
 
       since : (w1 : World) → Since k code (open_master env slots w) w1 → Since k code w0 w1

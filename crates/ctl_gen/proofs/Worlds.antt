@@ -1,5 +1,6 @@
 -- The worlds of the programs of this version: each object is of a plain record type, and was declared in an active master, inside those
--- around the operations of its type; each layer is one object, no record is copied, and there is no pool.
+-- around the operations of its type and inside the main procedure's own one; each layer is one object, no record is copied, and there is no
+-- pool.
 use Rattle.std.proofs.Common.{◌≡◌, ℕ, zero, suc, ◌+◌, ◌<◌, ◌≤◌, List, [], ◌∷◌, ◌++◌, length, Option, Some, None, Bool, true, false, refl, sym, ap, ◌∙◌, subst, arith}
 use Rattle.std.specs.Prelude.{if◌then◌else◌, nat_eq, not, drop, slice_get, slice_set, replicate}
 use Rattle.std.proofs.lemmas.Bool.{eqb-true, eqb-false, eq-eqb, ne_eqb}
@@ -158,6 +159,23 @@ all_but_newest : (xs : List Layer) → Each IsSingle xs → Each IsSingle (drop 
 all_but_newest [] h = tt
 all_but_newest (x ∷ xs) h = h.1
 
+-- Objects ---------------------------------------------------------------------------------------------
+
+written_in : (n offset : ℕ) (v : List ℕ) (os : List Object) (o : Object) → object_in n os ≡ Some o → (p : Object) × (object_in n (change_in n (with_cells offset v) os) ≡ Some p)
+unfolding opened_objects opened_lists
+written_in n offset v [] o e = absurd (cc e)
+written_in n offset v (y ∷ os) o e = one (nat_eq y.number n) refl (λ e1. written_in n offset v os o e1) e
+  where
+    one : (b : Bool) → nat_eq y.number n ≡ b → (object_in n os ≡ Some o → (p : Object) × (object_in n (change_in n (with_cells offset v) os) ≡ Some p)) → (if b then Some y else object_in n os) ≡ Some o
+        → (p : Object) × (first_with (λ z. nat_eq z.number n) ((if b then with_cells offset v y else y) ∷ change_in n (with_cells offset v) os) ≡ Some p)
+    one true is more e1 = (with_cells offset v y, ap (λ b. if b then Some (with_cells offset v y) else object_in n (change_in n (with_cells offset v) os)) is)
+    one false is more e1 = let x = more e1 in (x.0, ap (λ b. if b then Some y else object_in n (change_in n (with_cells offset v) os)) is ∙ x.1)
+
+-- an object whose cells are written is still there
+pub written_there : (n offset : ℕ) (v : List ℕ) (w : World) (o : Object) → object_at n w ≡ Some o → (p : Object) × (object_at n (write_cells n offset v w) ≡ Some p)
+unfolding opened_changes opened_objects
+written_there n offset v w o e = written_in n offset v w.objects o e
+
 -- Worlds ----------------------------------------------------------------------------------------------
 
 -- the operations of a type are declared in so many masters
@@ -173,6 +191,8 @@ module _ (k : Tables) (code : Code) where
     pub origin : o.origin ≡ Declared master
     pub old : master < next
     pub inside : IsInside code o.ty (length (home master as'))
+    -- the main procedure's own master stands around it, if it is not that
+    pub deep : 1 ≤ length (home master as')
 
   pub record Fits (w : World) : Type 0 where
     pub objects : Each (Settled w.ledger.next_master w.activations) w.objects
@@ -200,7 +220,7 @@ module _ (k : Tables) (code : Code) where
   keeps_on w0 w w1 a b = record { later = omega (arith, a.later, b.later); homes = λ n lt. b.homes n (omega (arith, lt, a.later)) ∙ a.homes n lt }
 
   settled_in : (next next1 : ℕ) (as' bs : List Activation) → next ≤ next1 → ((n : ℕ) → n < next → home n bs ≡ home n as') → (o : Object) → Settled next as' o → Settled next1 bs o
-  settled_in next next1 as' bs le same o h = record { plain = h.plain; master = h.master; origin = h.origin; old = omega (arith, h.old, le); inside = subst (λ d. IsInside code o.ty (length d)) (sym (same h.master h.old)) h.inside }
+  settled_in next next1 as' bs le same o h = record { plain = h.plain; master = h.master; origin = h.origin; old = omega (arith, h.old, le); inside = subst (λ d. IsInside code o.ty (length d)) (sym (same h.master h.old)) h.inside; deep = subst (λ (d : List ℕ). 1 ≤ length d) (sym (same h.master h.old)) h.deep }
 
   pub object_fits : (n : ℕ) (w : World) → Fits w → IfFound (Settled w.ledger.next_master w.activations) (object_at n w)
   unfolding object_at object_in
@@ -250,10 +270,10 @@ module _ (k : Tables) (code : Code) where
   unfolding set_value
   since_value n i x w0 w h = since_slot n i _ w0 w (whole_at n i w h.0) h
 
-  pub fits_create : (ty : Ty) (cells : List ℕ) (m : ℕ) (w : World) → IsPlainType k ty → m < w.ledger.next_master → IsInside code ty (length (home m w.activations)) → Fits w → Fits (create ty cells (Declared m) w)
+  pub fits_create : (ty : Ty) (cells : List ℕ) (m : ℕ) (w : World) → IsPlainType k ty → m < w.ledger.next_master → IsInside code ty (length (home m w.activations)) → 1 ≤ length (home m w.activations) → Fits w → Fits (create ty cells (Declared m) w)
   unfolding opened_changes opened_ledger
-  fits_create ty cells m w known old inside h = record {
-    objects = each_and (Settled w.ledger.next_master w.activations) w.objects _ (record { plain = known; master = m; origin = refl; old = old; inside = inside }) h.objects;
+  fits_create ty cells m w known old inside deep h = record {
+    objects = each_and (Settled w.ledger.next_master w.activations) w.objects _ (record { plain = known; master = m; origin = refl; old = old; inside = inside; deep = deep }) h.objects;
     numbers = each_and (λ o. o.number < w.ledger.next_object + 1) w.objects _ (omega arith) (each_all (λ o. o.number < w.ledger.next_object) (λ o. o.number < w.ledger.next_object + 1) (λ o lt. omega (arith, lt)) w.objects h.numbers);
     masters = h.masters;
     slots = h.slots;
@@ -261,9 +281,9 @@ module _ (k : Tables) (code : Code) where
     mark_pools = h.mark_pools;
   }
 
-  pub since_create : (ty : Ty) (cells : List ℕ) (m : ℕ) (w0 w : World) → IsPlainType k ty → m < w.ledger.next_master → IsInside code ty (length (home m w.activations)) → Since w0 w → Since w0 (create ty cells (Declared m) w)
+  pub since_create : (ty : Ty) (cells : List ℕ) (m : ℕ) (w0 w : World) → IsPlainType k ty → m < w.ledger.next_master → IsInside code ty (length (home m w.activations)) → 1 ≤ length (home m w.activations) → Since w0 w → Since w0 (create ty cells (Declared m) w)
   unfolding opened_changes opened_ledger
-  since_create ty cells m w0 w known old inside h = (fits_create ty cells m w known old inside h.0, record { later = h.1.later; homes = h.1.homes })
+  since_create ty cells m w0 w known old inside deep h = (fits_create ty cells m w known old inside deep h.0, record { later = h.1.later; homes = h.1.homes })
 
   pub since_layer : (m n : ℕ) (w0 w : World) → Since w0 w → Since w0 (add_layer m (Single n) w)
   unfolding opened_changes opened_ledger
@@ -298,7 +318,7 @@ module _ (k : Tables) (code : Code) where
       by false = refl
 
   settled_as : (next : ℕ) (as' : List Activation) (o p : Object) → p.ty ≡ o.ty → p.origin ≡ o.origin → Settled next as' o → Settled next as' p
-  settled_as next as' o p ty origin h = record { plain = subst (IsPlainType k) (sym ty) h.plain; master = h.master; origin = origin ∙ h.origin; old = h.old; inside = subst (λ t. IsInside code t (length (home h.master as'))) (sym ty) h.inside }
+  settled_as next as' o p ty origin h = record { plain = subst (IsPlainType k) (sym ty) h.plain; master = h.master; origin = origin ∙ h.origin; old = h.old; inside = subst (λ t. IsInside code t (length (home h.master as'))) (sym ty) h.inside; deep = h.deep }
 
   pub since_begin : (n : ℕ) (w0 w : World) → Since w0 w → Since w0 (begin_finalization n w)
   unfolding opened_changes opened_objects
@@ -360,7 +380,7 @@ module _ (k : Tables) (code : Code) where
       other (Allocated s p) n is e = absurd (cc)
 
       left : (o : Object) → not (ends_with m w o.origin) ≡ true → Settled w.ledger.next_master w.activations o → Settled w.ledger.next_master (keep (λ a. not (nat_eq a.master m)) w.activations) o
-      left o e y = record { plain = y.plain; master = y.master; origin = y.origin; old = y.old; inside = subst (λ d. IsInside code o.ty (length d)) (sym (home_kept y.master m (other o.origin y.master y.origin e) w.activations)) y.inside }
+      left o e y = record { plain = y.plain; master = y.master; origin = y.origin; old = y.old; inside = subst (λ d. IsInside code o.ty (length d)) (sym (home_kept y.master m (other o.origin y.master y.origin e) w.activations)) y.inside; deep = subst (λ (d : List ℕ). 1 ≤ length d) (sym (home_kept y.master m (other o.origin y.master y.origin e) w.activations)) y.deep }
 
   -- a master that is younger than a world
   pub since_close : (m : ℕ) (w0 w : World) → w0.ledger.next_master ≤ m → Since w0 w → Since w0 (close_master m w)
@@ -385,7 +405,7 @@ module _ (k : Tables) (code : Code) where
   fits_written : (n offset : ℕ) (v : List ℕ) (w : World) → Fits w → Fits (write_cells n offset v w)
   unfolding opened_changes change_in with_cells
   fits_written n offset v w h = record {
-    objects = each_changed (Settled w.ledger.next_master w.activations) _ (with_cells offset v) (λ o y. record { plain = y.plain; master = y.master; origin = y.origin; old = y.old; inside = y.inside }) w.objects h.objects;
+    objects = each_changed (Settled w.ledger.next_master w.activations) _ (with_cells offset v) (λ o y. record { plain = y.plain; master = y.master; origin = y.origin; old = y.old; inside = y.inside; deep = y.deep }) w.objects h.objects;
     numbers = each_changed (λ o. o.number < w.ledger.next_object) _ (with_cells offset v) (λ o y. y) w.objects h.numbers;
     masters = h.masters;
     slots = h.slots;

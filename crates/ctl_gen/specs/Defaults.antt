@@ -1,10 +1,12 @@
--- The record types whose objects this version declares, and the defaults of their components: constants, which stand in the layout (3.8).
-use Rattle.std.specs.Prelude.{ℕ, ◌+◌, List, [], ◌∷◌, slice_get, option_map, Option, Some, None, Bool, true, false, is_some, ◌&&◌}
+-- The record types whose objects this version declares, and those whose objects it assigns to; the defaults of their components: constants,
+-- which stand in the layout (3.8).
+use Rattle.std.specs.Prelude.{ℕ, ◌+◌, List, [], ◌∷◌, slice_get, option_map, Option, Some, None, Bool, true, false, is_some, ◌&&◌, nat_le}
 use Rattle.ctl_program.specs.declared.types.Ty.{Ty}
 use Rattle.ctl_program.specs.declared.types.Ty.TheVariants.{Record}
 use Rattle.ctl_program.specs.declared.types.Component.{Component}
 use Rattle.ctl_program.specs.declared.types.RecordType.{RecordType}
 use Rattle.ctl_code.specs.declared.code.Defaulted.{Defaulted}
+use Rattle.ctl_code.specs.Valid.{outermost}
 use Rattle.ctl_gen.specs.declared.right.Right.{Right}
 use Rattle.ctl_gen.specs.declared.right.Right.TheVariants as RightOf
 use Rattle.ctl_gen.specs.Values.{ValueCode, value_code}
@@ -40,6 +42,15 @@ is_plain records t = has_root_run (slice_get records t) && (is_flat records t &&
 abbrev pub is_declared : List RecordType → Ty → Bool
 is_declared records (Record t) = is_plain records t
 is_declared records ty = is_run_type ty
+
+-- a type of the library, or of the main procedure's own declarative part: wherever an object was declared, its operations are in scope (7.6)
+abbrev pub is_outermost : Option RecordType → Bool
+is_outermost None = false
+is_outermost (Some r) = nat_le r.level outermost
+
+-- one of them whose objects are declared: an object of it takes the value of another one as a whole (5.2)
+abbrev pub is_assignable : List RecordType → ℕ → Bool
+is_assignable records t = is_plain records t && is_outermost (slice_get records t)
 
 -- the components of these that have defaults, where the first has this cell
 abbrev pub defaulted_before : ℕ → Option ℕ → List Defaulted → List Defaulted

@@ -13,11 +13,11 @@ ghost use Rattle.ctl_gen.specs.Texts as texts;
 ghost use Rattle.ctl_gen.specs.Layout as spec;
 
 use crate::emit::Emitter;
-use crate::right::{Reached, reached_by};
+use crate::right::{Reached, reached_by, sourced};
 use crate::typing::{copied, value_type};
 use ctl_code::code::{Instr, Way};
 use ctl_code::kinds::Kind;
-use ctl_program::expression::{Expr, Name};
+use ctl_program::expression::{Actual, Expr, Name};
 use ctl_program::operators::Direction;
 use ctl_program::program::Subprogram;
 use ctl_program::statement::{Arm, Item, Master, Piece, Stmt};
@@ -166,6 +166,7 @@ impl Emitter {
         match statement {
             Stmt::Null => Ok(()),
             Stmt::Assign(name, value) => self.assign(name, value),
+            Stmt::AssignRecord(name, record, value) => self.assign_record(name, *record, value),
             Stmt::Put(pieces) => self.print(false, pieces.as_slice()),
             Stmt::PutLine(pieces) => self.print(true, pieces.as_slice()),
             Stmt::NewLine => self.put(Instr::NewLine),
@@ -184,8 +185,7 @@ impl Emitter {
                 self.for_loop(body.as_slice(), *parameter, *way, low, high)
             }
             Stmt::Block(master) => self.block(master.get(), landing),
-            Stmt::AssignRecord(..)
-            | Stmt::Call(..)
+            Stmt::Call(..)
             | Stmt::Nothing(_)
             | Stmt::Dispatch(..)
             | Stmt::LibraryAllocate(..)
@@ -281,6 +281,70 @@ impl Emitter {
                 )
             }
         }
+    }
+
+    /// Emits the assignment of a record to what a name denotes (RM 5.2).
+    fn assign_record(
+        &mut self,
+        name: &Name,
+        record: usize,
+        value: &Actual,
+    ) -> Result<(), AllocError>
+        ensures { OnOk result (self.new ≡ stated (spec.assign_record (values.reached_by name.now) «record» (values.sourced value.now)) None self.old) }
+    {
+        match reached_by(name) {
+            Some(Reached::Variable(target)) => self.assign_object(target, record, value),
+            Some(Reached::Component { .. }) | None => self.put(Instr::Missing),
+        }
+    }
+
+    /// Emits the assignment of a record to the object in a variable.
+    fn assign_object(
+        &mut self,
+        target: Var,
+        record: usize,
+        value: &Actual,
+    ) -> Result<(), AllocError>
+        ensures { OnOk result (self.new ≡ stated (spec.assign_object target «record» (values.sourced value.now)) None self.old) }
+    {
+        match sourced(value) {
+            Some(Reached::Variable(source)) => self.overwrite(target, record, source),
+            Some(Reached::Component { .. }) | None => self.put(Instr::Missing),
+        }
+    }
+
+    /// Emits the assignment of the object in one variable to the object in another: the target is found before the source (RM 5.2).
+    fn overwrite(&mut self, target: Var, record: usize, source: Var) -> Result<(), AllocError>
+        ensures { OnOk result (self.new ≡ lined (spec.record_code target «record» source) self.old) }
+    {
+        let (out, slot, at) = (self.out_to(target), target.slot, self.height());
+        self.put(Instr::Locate {
+            out,
+            slot,
+            record,
+            at,
+        })?;
+        self.enter(Kind::Operand(Ty::Record(record)))?;
+        self.take_over(at, record, source)?;
+        self.leave();
+        Ok(())
+    }
+
+    /// Emits what gives the object whose number is the newest operand, in this cell, the value of the object in a variable.
+    fn take_over(&mut self, at: usize, record: usize, source: Var) -> Result<(), AllocError>
+        ensures { OnOk result (self.new ≡ lined (spec.take_over_code at «record» source) self.old) }
+    {
+        let (out, slot, from) = (self.out_to(source), source.slot, self.new_operand());
+        self.put(Instr::Locate {
+            out,
+            slot,
+            record,
+            at: from.at,
+        })?;
+        self.enter(Kind::Operand(Ty::Record(record)))?;
+        self.put(Instr::Assign { from, at, record })?;
+        self.leave();
+        Ok(())
     }
 
     /// Adds what an exit statement is.

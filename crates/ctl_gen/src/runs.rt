@@ -1,6 +1,7 @@
 //! Whether this version runs each construct of a checked program.
 
 ghost use Rattle.std.specs.Prelude.{◌≡◌, ℕ, [], ◌∷◌, map, option_map, slice_get, Some};
+ghost use Rattle.ctl_program.specs.declared.types.Var.{Var};
 ghost use Rattle.ctl_gen.specs.Defaults as defaults;
 ghost use Rattle.ctl_gen.specs.Layout as spec;
 ghost use Rattle.ctl_gen.specs.Records as types;
@@ -8,9 +9,9 @@ ghost use Rattle.ctl_gen.specs.Run as whole;
 ghost use Rattle.ctl_gen.specs.Texts as texts;
 ghost use Rattle.ctl_gen.specs.Values as values;
 
-use crate::right::{Reached, constant, reached_by};
+use crate::right::{Reached, constant, reached_by, sourced};
 use crate::typing::copied;
-use ctl_program::expression::{Expr, Name, Operand};
+use ctl_program::expression::{Actual, Expr, Name, Operand};
 use ctl_program::operators::SubprogramKind;
 use ctl_program::program::{Checked, Subprogram};
 use ctl_program::statement::{Arm, Item, Master, Piece, Stmt};
@@ -248,6 +249,26 @@ fn is_plain(records: &[RecordType], number: usize) -> bool
     }
 }
 
+/// How many masters every object is declared in at least: the main procedure's own.
+const OUTERMOST: usize = 1;
+
+/// Tells whether a type is one of the library, or of the main procedure's own declarative part.
+fn is_outermost(entry: &RecordType) -> bool
+    ensures { result ≡ defaults.is_outermost (Some entry.now) }
+{
+    entry.level <= OUTERMOST
+}
+
+/// Tells whether an object of the record type of this number takes the value of another one as a whole (RM 5.2).
+fn is_assignable(records: &[RecordType], number: usize) -> bool
+    ensures { result ≡ defaults.is_assignable records.now number }
+{
+    match records.get(number) {
+        Some(entry) => is_plain(records, number) && is_outermost(entry),
+        None => false,
+    }
+}
+
 /// Tells whether objects of a type are run.
 fn is_declared(records: &[RecordType], ty: Ty) -> bool
     ensures { result ≡ defaults.is_declared records.now ty }
@@ -315,6 +336,26 @@ fn is_assigned(name: &Name, expression: &Expr, records: &[RecordType]) -> bool
     }
 }
 
+/// Tells whether an assignment to the object in a variable of a record type is run: of the object in a variable.
+fn is_object_assigned(number: usize, value: &Actual, records: &[RecordType]) -> bool
+    ensures { (target : Var) → result ≡ (spec.assign_object target number (values.sourced value.now)).runs records.now }
+{
+    match sourced(value) {
+        Some(Reached::Variable(_)) => is_assignable(records, number),
+        Some(Reached::Component { .. }) | None => false,
+    }
+}
+
+/// Tells whether an assignment of a record is run.
+fn is_record_assigned(name: &Name, number: usize, value: &Actual, records: &[RecordType]) -> bool
+    ensures { result ≡ (spec.assign_record (values.reached_by name.now) number (values.sourced value.now)).runs records.now }
+{
+    match reached_by(name) {
+        Some(Reached::Variable(_)) => is_object_assigned(number, value, records),
+        Some(Reached::Component { .. }) | None => false,
+    }
+}
+
 /// Tells whether the condition of an exit is run, if there is one.
 fn is_exit(condition: &Option<Expr>, records: &[RecordType]) -> bool
     ensures { result ≡ (spec.exit (option_map values.value_code condition.now)).runs records.now }
@@ -341,6 +382,9 @@ fn statement(statement: &Stmt, records: &[RecordType]) -> bool
     match statement {
         Stmt::Null | Stmt::NewLine | Stmt::Raise(_) => true,
         Stmt::Assign(name, expression) => is_assigned(name, expression, records),
+        Stmt::AssignRecord(name, number, value) => {
+            is_record_assigned(name, *number, value, records)
+        }
         Stmt::Put(text) | Stmt::PutLine(text) => pieces(text.as_slice(), records),
         Stmt::Exit(condition) => is_exit(condition, records),
         Stmt::Return(value) => is_return(value),
@@ -353,8 +397,7 @@ fn statement(statement: &Stmt, records: &[RecordType]) -> bool
             value(low, records) && value(high, records) && statements(body.as_slice(), records)
         }
         Stmt::Block(inside) => master(inside.get(), records),
-        Stmt::AssignRecord(..)
-        | Stmt::Call(..)
+        Stmt::Call(..)
         | Stmt::Nothing(_)
         | Stmt::Dispatch(..)
         | Stmt::LibraryAllocate(..)

@@ -1,7 +1,5 @@
 use Rattle.std.proofs.Common.{◌≡◌, ◌+◌, List, [], ◌∷◌, ◌++◌, drop, refl, sym, ap, ◌∙◌, subst, append_assoc, append-nil}
 use Rattle.std.proofs.lemmas.List.{drop_all}
-use Rattle.ctl_program.specs.declared.types.Component.{Component}
-use Rattle.ctl_program.specs.declared.types.RecordType.{RecordType}
 use Rattle.ctl_code.specs.declared.code.Layout.{Layout}
 use Rattle.ctl_gen.specs.Records.{component_rows, inherited, parts_by, rows_from}
 use Rattle.ctl_gen.specs.Layout.{AreLayouts, IsLayout, cells_inherited, defaults_inherited, parent_layout}
@@ -28,13 +26,14 @@ loop-record-preserved c =
     let cells = c.cells_inherited-first.ensures.cells ∙ (ap (λ xs. cells_inherited (parent_layout xs r.parent)) c.as_slice.ensures.value ∙ from.cells) in
     let defaulted = c.in_ok-inherited.ensures ∙ (ap (λ xs. defaults_inherited (parent_layout xs r.parent)) c.as_slice-in-loop-record.ensures.value ∙ from.defaulted) in
     let one : IsLayout x (parts_by r.root) (cs ++ r.own) =
-        subst (λ ys. IsLayout x (parts_by r.root) (cs ++ ys)) c.as_slice-in-loop-record-2.ensures (subst (λ p. IsLayout x p (cs ++ c.as_slice-in-loop-record-2.result.now)) c.parts_by-parts.ensures (c.in_ok-layout_of.ensures cs cells defaulted)) in
-    let there : r ∷ drop (i + 1) rs ≡ drop i rs = turn_of (λ zs. zs) rs i r c.loop-record-test.true c.record-item.is in
-    (done ++ r ∷ [],
-    rows ++ (cs ++ r.own) ∷ [],
-    subst (λ (xs : List Layout). AreLayouts xs (done ++ r ∷ []) (rows ++ (cs ++ r.own) ∷ [])) (sym c.in_ok-push.ensures.items) (laid_more all done rows x r (cs ++ r.own) laid one),
-    append_assoc done (r ∷ []) (drop (i + 1) rs) ∙ (ap (λ zs. done ++ zs) there ∙ h.3),
-    ap (rows_from rows) there ∙ h.4)
+    subst (λ ys. IsLayout x (parts_by r.root) (cs ++ ys)) c.as_slice-in-loop-record-2.ensures (subst (λ p. IsLayout x p (cs ++ c.as_slice-in-loop-record-2.result.now)) c.parts_by-parts.ensures (c.in_ok-layout_of.ensures cs cells defaulted)) in
+    let there : r ∷ drop (i + 1) rs ≡ drop i rs = turn_of (λ zs. zs) rs i r c.loop-record-test.true c.record-item.is in (
+      done ++ r ∷ [],
+      rows ++ (cs ++ r.own) ∷ [],
+      subst (λ (xs : List Layout). AreLayouts xs (done ++ r ∷ []) (rows ++ (cs ++ r.own) ∷ [])) (sym c.in_ok-push.ensures.items) (laid_more all done rows x r (cs ++ r.own) laid one),
+      append_assoc done (r ∷ []) (drop (i + 1) rs) ∙ (ap (λ zs. done ++ zs) there ∙ h.3),
+      ap (rows_from rows) there ∙ h.4,
+    )
 
 pub returns : goal.returns
 returns c =
