@@ -15,7 +15,7 @@ use Rattle.ctl_meaning.specs.Adjustment.{Birth, unadjusted, adjust, adjust_recor
 use Rattle.ctl_code.specs.declared.code.Beginning.TheVariants.{ByCopy}
 use Rattle.ctl_code.specs.declared.code.Code.{Code}
 use Rattle.ctl_code.specs.Table.{first_call, first_operation, operation_of}
-use Rattle.ctl_gen.specs.Records.{adjust_by}
+use Rattle.ctl_layout.specs.Records.{adjust_by}
 use Rattle.ctl_gen.proofs.Known.{IsPlain, IsUntagged}
 use Rattle.ctl_gen.proofs.Plain.{controlled_parts_flat, is_controlled_plain, not_controlled_plain}
 use Rattle.ctl_gen.proofs.Setting.{Setting, first_of, tools_with}

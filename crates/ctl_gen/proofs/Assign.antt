@@ -24,9 +24,9 @@ use Rattle.ctl_code.specs.Steps.{moved}
 use Rattle.ctl_code.specs.Table.{out_of, on, with_cell}
 use Rattle.ctl_code.specs.Valid.{IsValid}
 use Rattle.ctl_code.specs.Windows.{variable_at}
-use Rattle.ctl_gen.specs.Around.{Around, local_at, local_cell, newest_cell, out_to}
-use Rattle.ctl_gen.specs.Values.{ValueCode, held, value_type}
-use Rattle.ctl_gen.specs.Layout.{assign_code, store_code, scalar_code, valued_code}
+use Rattle.ctl_layout.specs.Around.{Around, local_at, local_cell, newest_cell, out_to}
+use Rattle.ctl_layout.specs.Values.{ValueCode, held, value_type}
+use Rattle.ctl_layout.specs.Layout.{assign_code, store_code, scalar_code, valued_code}
 use Rattle.ctl_gen.proofs.Known.{IsScalar}
 use Rattle.ctl_gen.proofs.Place.{Laid, laid_front, laid_back}
 use Rattle.ctl_gen.proofs.Worlds.{Fits, Since, Kept, since_value, since_number}

@@ -23,8 +23,8 @@ use Rattle.ctl_code.specs.States.{AfterBody, Frame, InMaster, State}
 use Rattle.ctl_code.specs.Table.{behind, enter_body}
 use Rattle.ctl_code.specs.Valid.{IsInScope}
 use Rattle.ctl_code.specs.Steps.{moved, step, start}
-use Rattle.ctl_gen.specs.Layout.{MasterCode, body_code, entry_at, master_code, nowhere}
-use Rattle.ctl_gen.proofs.StatementLayers.{master_is}
+use Rattle.ctl_layout.specs.Layout.{MasterCode, body_code, entry_at, master_code, nowhere}
+use Rattle.ctl_layout.proofs.StatementLayers.{master_is}
 use Rattle.ctl_gen.proofs.Place.{HasAt, Laid}
 use Rattle.ctl_gen.proofs.Worlds.{Each, IsWhole, whole_unset, Since, fits_empty, keeps_itself}
 use Rattle.ctl_gen.proofs.Setting.{Setting, returns, Told, Calls}

@@ -14,9 +14,9 @@ use Rattle.ctl_code.specs.declared.code.Instr.TheVariants as InstrOf
 use Rattle.ctl_code.specs.declared.code.Code.{Code}
 use Rattle.ctl_code.specs.States.{Frame, State}
 use Rattle.ctl_code.specs.Steps.{step, steps}
-use Rattle.ctl_gen.specs.Around.{Line, Around, behind}
-use Rattle.ctl_gen.specs.Values.{ValueCode, held}
-use Rattle.ctl_gen.specs.Layout.{test_code, test_length}
+use Rattle.ctl_layout.specs.Around.{Line, Around, behind}
+use Rattle.ctl_layout.specs.Values.{ValueCode, held}
+use Rattle.ctl_layout.specs.Layout.{test_code, test_length}
 use Rattle.ctl_gen.proofs.Place.{Laid, laid_front, laid_back}
 use Rattle.ctl_gen.proofs.Worlds.{Since, Kept}
 use Rattle.ctl_gen.proofs.Setting.{Sees}

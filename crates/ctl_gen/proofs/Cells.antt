@@ -22,7 +22,7 @@ use Rattle.ctl_code.specs.States.{Frame, State}
 use Rattle.ctl_code.specs.Table.{Here, cell_at, with_cell, out_of, taking, put, by_instr}
 use Rattle.ctl_code.specs.Steps.{moved, step}
 use Rattle.ctl_code.specs.Windows.{depth}
-use Rattle.ctl_gen.specs.Around.{out_to}
+use Rattle.ctl_layout.specs.Around.{out_to}
 use Rattle.ctl_gen.proofs.Follow.{IsRaise, at, transferred}
 
 abbrev pub here : List ℕ → ℕ → List Frame → World → Here

@@ -25,12 +25,12 @@ use Rattle.ctl_code.specs.States.{Frame, State}
 use Rattle.ctl_code.specs.Steps.{moved, step}
 use Rattle.ctl_code.specs.Table.{by_fetch_part, by_locate, by_store_part, fetched, holder_at, offset_of, stored, whole_of}
 use Rattle.ctl_code.specs.Windows.{height}
-use Rattle.ctl_gen.specs.declared.right.Reached.TheVariants as ReachedOf
-use Rattle.ctl_gen.specs.Around.{Around, out_to}
+use Rattle.ctl_layout.specs.declared.right.Reached.TheVariants as ReachedOf
+use Rattle.ctl_layout.specs.Around.{Around, out_to}
 use Rattle.ctl_gen.specs.Emitted.{Emitted, holding, lined, one, standing, stated, taking}
-use Rattle.ctl_gen.specs.Records.{is_flat}
-use Rattle.ctl_gen.specs.Values.{ValueCode, held, read, value_type}
-use Rattle.ctl_gen.specs.Layout.{assign, part_code, store_part_code, stored_part}
+use Rattle.ctl_layout.specs.Records.{is_flat}
+use Rattle.ctl_layout.specs.Values.{ValueCode, held, read, value_type}
+use Rattle.ctl_layout.specs.Layout.{assign, part_code, store_part_code, stored_part}
 use Rattle.ctl_gen.proofs.Emission.{lined_both}
 use Rattle.ctl_gen.proofs.EmittedValues.{operand_taken, over_operand}
 use Rattle.ctl_gen.proofs.Formed.{Formed, both}

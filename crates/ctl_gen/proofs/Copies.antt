@@ -33,9 +33,9 @@ use Rattle.ctl_code.specs.Windows.{height}
 use Rattle.ctl_code.specs.Table as Table
 use Rattle.ctl_code.specs.Table.{by_locate, first_call, size_of, whole_of, whole_part, with_object}
 use Rattle.ctl_code.specs.Steps.{moved, step}
-use Rattle.ctl_gen.specs.Around.{out_to}
-use Rattle.ctl_gen.specs.Values.{copied, value_code}
-use Rattle.ctl_gen.specs.Layout.{copy_of}
+use Rattle.ctl_layout.specs.Around.{out_to}
+use Rattle.ctl_layout.specs.Values.{copied, value_code}
+use Rattle.ctl_layout.specs.Layout.{copy_of}
 use Rattle.ctl_gen.proofs.Known.{IsPlain, IsUntagged}
 use Rattle.ctl_gen.proofs.Sources.{copied_means, finds_whole, whole_found}
 use Rattle.ctl_gen.proofs.Adjust as A

@@ -13,8 +13,8 @@ use Rattle.ctl_meaning.specs.Types.{Tables, Placed, cells_of, has_controlled, ha
 use Rattle.ctl_meaning.specs.Names.{Default, Tools}
 use Rattle.ctl_meaning.specs.Initialization.{parts_to_begin}
 use Rattle.ctl_code.specs.declared.code.Defaulted.{Defaulted}
-use Rattle.ctl_gen.specs.Values.{value_code}
-use Rattle.ctl_gen.specs.Defaults.{constant_by, constant_in, constant_of, defaulted_before, defaulted_from, have_constants, may_default}
+use Rattle.ctl_layout.specs.Values.{value_code}
+use Rattle.ctl_layout.specs.Defaults.{constant_by, constant_in, constant_of, defaulted_before, defaulted_from, have_constants, may_default}
 use Rattle.ctl_gen.proofs.Known.{both_true, AreScalar, IsPlain, IsScalar}
 use Rattle.ctl_gen.proofs.Plain.{one_cell_each, placed_flat, scalar_not_controlled, scalar_not_defaulted}
 

@@ -6,7 +6,7 @@ use Rattle.ctl_meaning.specs.Outcome.{Act, Done}
 use Rattle.ctl_meaning.specs.Types.{Tables}
 use Rattle.ctl_code.specs.declared.code.Code.{Code}
 use Rattle.ctl_code.specs.States.{Frame}
-use Rattle.ctl_gen.specs.Around.{Line, Around}
+use Rattle.ctl_layout.specs.Around.{Line, Around}
 use Rattle.ctl_gen.proofs.Place.{Laid}
 use Rattle.ctl_gen.proofs.Worlds.{Since, Kept}
 use Rattle.ctl_gen.proofs.Setting.{Sees}

@@ -7,9 +7,9 @@ use Rattle.ctl_code.specs.declared.code.Instr.TheVariants.{Start}
 use Rattle.ctl_code.specs.declared.kinds.Kind.{Kind}
 use Rattle.ctl_code.specs.declared.kinds.Kind.TheVariants.{Body}
 use Rattle.ctl_code.specs.Kinds.{below_newest}
-use Rattle.ctl_gen.specs.Around.{OutOfMaster}
+use Rattle.ctl_layout.specs.Around.{OutOfMaster}
 use Rattle.ctl_gen.specs.Emitted.{Emitted, appended, around, lined, none_emitted, one, standing, stated}
-use Rattle.ctl_gen.specs.Layout.{bodies, body_code, entries_from, entry_at, instructions_of, kinds_of, master_code, program_code}
+use Rattle.ctl_layout.specs.Layout.{bodies, body_code, entries_from, entry_at, instructions_of, kinds_of, master_code, program_code}
 use Rattle.ctl_gen.proofs.Emission.{count_more, nothing, stands, stands_before, stands_behind, standing_is, texts_more}
 use Rattle.ctl_gen.proofs.EmittedStatements.{next_statement}
 

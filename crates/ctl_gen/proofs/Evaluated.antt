@@ -19,13 +19,13 @@ use Rattle.ctl_meaning.proofs.Trees.{eval_roll, name_roll, operand_roll}
 use Rattle.ctl_code.specs.declared.code.Code.{Code}
 use Rattle.ctl_program.specs.declared.expression.Step.{Step}
 use Rattle.ctl_program.specs.declared.expression.Step.TheVariants.{Component, Dereference, Narrow}
-use Rattle.ctl_gen.specs.declared.right.Reached.{Reached}
-use Rattle.ctl_gen.specs.declared.right.Reached.TheVariants as ReachedOf
-use Rattle.ctl_gen.specs.Values.{ValueCode, behind_steps, OperatorCode, missing_value, operator_of, operators_run, read, value_code, values_run, reached_by}
+use Rattle.ctl_layout.specs.declared.right.Reached.{Reached}
+use Rattle.ctl_layout.specs.declared.right.Reached.TheVariants as ReachedOf
+use Rattle.ctl_layout.specs.Values.{ValueCode, behind_steps, OperatorCode, missing_value, operator_of, operators_run, read, value_code, values_run, reached_by}
 use Rattle.ctl_gen.proofs.Known.{IsScalar, both_true, scalar_elementary, scalar_if}
 use Rattle.ctl_gen.proofs.Worlds.{IsWhole, Since, whole_at}
 use Rattle.ctl_gen.proofs.Components.{Touches, component_value, content_of, stepped}
-use Rattle.ctl_gen.proofs.TreeLayers.{value_roll, reached_roll, operator_roll}
+use Rattle.ctl_layout.proofs.TreeLayers.{value_roll, reached_roll, operator_roll}
 use Rattle.ctl_gen.proofs.Setting.{ArePlaced, tools_with}
 use Rattle.ctl_gen.proofs.Expressions as X
 

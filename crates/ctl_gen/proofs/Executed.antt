@@ -23,12 +23,12 @@ use Rattle.ctl_meaning.proofs.Trees.{exec_roll, arm_roll as guarding_roll, maste
 use Rattle.ctl_code.specs.declared.code.Code.{Code}
 use Rattle.ctl_code.specs.declared.code.Instr.TheVariants as InstrOf
 use Rattle.ctl_code.specs.declared.code.Way.TheVariants as WayOf
-use Rattle.ctl_gen.specs.declared.right.Reached.{Reached}
-use Rattle.ctl_gen.specs.declared.right.Reached.TheVariants as ReachedOf
-use Rattle.ctl_gen.specs.Values.{value_code, reached_by, sourced}
-use Rattle.ctl_gen.specs.Layout.{StatementCode, all, all_items, arm_code, assign, assign_record, record_code, exit, return, has_no_handlers, inside, item_code, master_code, missing_statement, no_code, statement_code, leaves_code}
+use Rattle.ctl_layout.specs.declared.right.Reached.{Reached}
+use Rattle.ctl_layout.specs.declared.right.Reached.TheVariants as ReachedOf
+use Rattle.ctl_layout.specs.Values.{value_code, reached_by, sourced}
+use Rattle.ctl_layout.specs.Layout.{StatementCode, all, all_items, arm_code, assign, assign_record, record_code, exit, return, has_no_handlers, inside, item_code, master_code, missing_statement, no_code, statement_code, leaves_code}
 use Rattle.ctl_gen.proofs.Known.{both_true, plain_if}
-use Rattle.ctl_gen.proofs.TreeLayers.{arm_roll, master_roll, statement_roll}
+use Rattle.ctl_layout.proofs.TreeLayers.{arm_roll, master_roll, statement_roll}
 use Rattle.ctl_gen.proofs.Setting.{Setting, Calls, tools_with}
 use Rattle.ctl_gen.proofs.Defaults.{GivesDefaults}
 use Rattle.ctl_gen.proofs.Worlds.{Fits, Since, Kept, whole_at}

@@ -29,12 +29,12 @@ use Rattle.ctl_code.specs.States.{Frame, State}
 use Rattle.ctl_code.specs.Table.{by_result, by_binary, by_decision, cell_at}
 use Rattle.ctl_code.specs.Steps.{moved, step}
 use Rattle.ctl_code.specs.Windows.{depth, height}
-use Rattle.ctl_gen.specs.declared.right.Reached.TheVariants as ReachedOf
-use Rattle.ctl_gen.specs.declared.right.Right.{Right}
-use Rattle.ctl_gen.specs.declared.right.Right.TheVariants as RightOf
-use Rattle.ctl_gen.specs.Around.{Line, new_operand, local_at, local_cell, out_to}
-use Rattle.ctl_gen.specs.Values.{ValueCode, OperatorCode, Held, held, held_by, evaluated, in_cell, left_held, operator_for, binary_code, operator_by, operator_code, operators_code, other_code, others_code, moved_to, constant, read, read_from, unary_code, chain, first_type, short}
-use Rattle.ctl_gen.specs.Values.{unary as unary_value_code}
+use Rattle.ctl_layout.specs.declared.right.Reached.TheVariants as ReachedOf
+use Rattle.ctl_layout.specs.declared.right.Right.{Right}
+use Rattle.ctl_layout.specs.declared.right.Right.TheVariants as RightOf
+use Rattle.ctl_layout.specs.Around.{Line, new_operand, local_at, local_cell, out_to}
+use Rattle.ctl_layout.specs.Values.{ValueCode, OperatorCode, Held, held, held_by, evaluated, in_cell, left_held, operator_for, binary_code, operator_by, operator_code, operators_code, other_code, others_code, moved_to, constant, read, read_from, unary_code, chain, first_type, short}
+use Rattle.ctl_layout.specs.Values.{unary as unary_value_code}
 use Rattle.ctl_gen.proofs.Known.{IsScalar}
 use Rattle.ctl_gen.proofs.Values.{scalar_cells}
 use Rattle.ctl_gen.proofs.Place.{Laid, laid_front, laid_back}

@@ -7,7 +7,7 @@ use Rattle.ctl_meaning.specs.Choice.{Ask}
 use Rattle.ctl_meaning.specs.Outcome.{completes_loop, raised_by, Way, ByExit, ByReturn, ByRaise, Result, Goes, Leaves, Out, Gives, Stops, Cut, Act, Done, Tried, add, bind, on_goes, given}
 use Rattle.ctl_code.specs.declared.code.Code.{Code}
 use Rattle.ctl_code.specs.States.{Handed, Mode, At, Transfers, Giving, Stopped, Stuck, Frame, State}
-use Rattle.ctl_gen.specs.Around.{Landing, OutOfMaster, BeforeLoop, Around, further as further_on}
+use Rattle.ctl_layout.specs.Around.{Landing, OutOfMaster, BeforeLoop, Around, further as further_on}
 use Rattle.ctl_code.specs.Steps.{step, steps}
 
 -- the machine has neither ended nor come to an ill-formed state

@@ -4,7 +4,7 @@ use Rattle.ctl_code.specs.declared.kinds.Kind.{Kind}
 use Rattle.ctl_code.specs.declared.code.Instr.{Instr}
 use Rattle.ctl_code.specs.declared.code.Code.{Code}
 use Rattle.ctl_code.specs.Valid.{IsFine, Leads}
-use Rattle.ctl_gen.specs.Around.{Line}
+use Rattle.ctl_layout.specs.Around.{Line}
 
 module _ (code : Code) where
   -- what is known of the place behind a stretch

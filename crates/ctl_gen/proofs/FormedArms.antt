@@ -6,8 +6,8 @@ use Rattle.ctl_code.specs.declared.code.Instr.{Instr}
 use Rattle.ctl_code.specs.declared.code.Instr.TheVariants as InstrOf
 use Rattle.ctl_code.specs.declared.code.Code.{Code}
 use Rattle.ctl_code.specs.Valid.{IsFine, Leads}
-use Rattle.ctl_gen.specs.Around.{Around, behind}
-use Rattle.ctl_gen.specs.Layout.{ArmCode, StatementCode, arm_with, arms_code, arms_texts, branches, rest_code, turn_code}
+use Rattle.ctl_layout.specs.Around.{Around, behind}
+use Rattle.ctl_layout.specs.Layout.{ArmCode, StatementCode, arm_with, arms_code, arms_texts, branches, rest_code, turn_code}
 use Rattle.ctl_gen.proofs.Place.{HasAt}
 use Rattle.ctl_gen.proofs.Place as Place
 use Rattle.ctl_gen.proofs.Formed.{both_at, FormedAt, Has, has_back, has_end, leads_at}

@@ -12,8 +12,8 @@ use Rattle.ctl_code.specs.declared.kinds.Kind.TheVariants.{Operand, Block, Body}
 use Rattle.ctl_code.specs.declared.code.Code.{Code}
 use Rattle.ctl_code.specs.Windows.{depth, height, slot_over, variable_at}
 use Rattle.ctl_code.specs.Valid.{IsAtEnd, IsFine, Leads}
-use Rattle.ctl_gen.specs.Around.{Landing, OutOfMaster, BeforeLoop, Around, behind, land, further, newest_at, out_to}
-use Rattle.ctl_gen.specs.Layout.{leaves_code}
+use Rattle.ctl_layout.specs.Around.{Landing, OutOfMaster, BeforeLoop, Around, behind, land, further, newest_at, out_to}
+use Rattle.ctl_layout.specs.Layout.{leaves_code}
 use Rattle.ctl_gen.proofs.Place.{has_all}
 use Rattle.ctl_gen.proofs.Formed.{FormedAt, leads_at}
 

@@ -10,9 +10,9 @@ use Rattle.ctl_code.specs.declared.code.Instr.TheVariants as InstrOf
 use Rattle.ctl_code.specs.declared.code.Code.{Code}
 use Rattle.ctl_code.specs.Windows.{height, variable_at}
 use Rattle.ctl_code.specs.Valid.{IsFine, Leads}
-use Rattle.ctl_gen.specs.Around.{Line, Around}
-use Rattle.ctl_gen.specs.Values.{Held}
-use Rattle.ctl_gen.specs.Layout.{leaves_code, loop_code, test_held, turns_code, with_bounds}
+use Rattle.ctl_layout.specs.Around.{Line, Around}
+use Rattle.ctl_layout.specs.Values.{Held}
+use Rattle.ctl_layout.specs.Layout.{leaves_code, loop_code, test_held, turns_code, with_bounds}
 use Rattle.ctl_gen.proofs.Formed.{both_at, fine_both, FormedAt, has_back, has_front, leads_at}
 use Rattle.ctl_gen.proofs.FormedValues.{Found}
 

@@ -24,17 +24,17 @@ use Rattle.ctl_code.specs.declared.code.Way.TheVariants as WayOf
 use Rattle.ctl_code.specs.declared.code.Code.{Code}
 use Rattle.ctl_code.specs.Windows.{variable_at}
 use Rattle.ctl_code.specs.Valid.{IsAtEnd, IsDeclarable, outermost}
-use Rattle.ctl_gen.specs.Around.{behind, local_at}
-use Rattle.ctl_gen.specs.declared.right.Reached.{Reached}
-use Rattle.ctl_gen.specs.declared.right.Reached.TheVariants as ReachedOf
+use Rattle.ctl_layout.specs.Around.{behind, local_at}
+use Rattle.ctl_layout.specs.declared.right.Reached.{Reached}
+use Rattle.ctl_layout.specs.declared.right.Reached.TheVariants as ReachedOf
 use Rattle.ctl_gen.proofs.Components.{part_formed}
 use Rattle.ctl_gen.proofs.RecordAssign.{record_formed}
-use Rattle.ctl_gen.specs.Values.{ValueCode, copied, sourced, value_code, reached_by}
-use Rattle.ctl_gen.specs.Records.{is_run_type}
-use Rattle.ctl_gen.specs.Defaults.{is_outermost}
-use Rattle.ctl_gen.specs.Layout.{ArmCode, ItemCode, MasterCode, StatementCode, all, all_items, arm_code, arms_run, assign, assign_record, block, exit, return, has_no_handlers, in_master, inside, item_code, master_code, missing_statement, no_code, statement_code, tested, valued, with_value}
+use Rattle.ctl_layout.specs.Values.{ValueCode, copied, sourced, value_code, reached_by}
+use Rattle.ctl_layout.specs.Records.{is_run_type}
+use Rattle.ctl_layout.specs.Defaults.{is_outermost}
+use Rattle.ctl_layout.specs.Layout.{ArmCode, ItemCode, MasterCode, StatementCode, all, all_items, arm_code, arms_run, assign, assign_record, block, exit, return, has_no_handlers, in_master, inside, item_code, master_code, missing_statement, no_code, statement_code, tested, valued, with_value}
 use Rattle.ctl_gen.proofs.Known.{both_true}
-use Rattle.ctl_gen.proofs.TreeLayers.{arm_roll, layer_of, master_roll}
+use Rattle.ctl_layout.proofs.TreeLayers.{arm_roll, layer_of, master_roll}
 use Rattle.ctl_gen.proofs.Place.{HasAt}
 use Rattle.ctl_gen.proofs.Formed.{both, both_at, Formed, FormedAt, none, one}
 use Rattle.ctl_gen.proofs.FormedAround.{Agrees, agrees_inside, leave_behind, leaves_formed, newest_there}

@@ -13,10 +13,10 @@ use Rattle.ctl_code.specs.declared.code.Code.{Code}
 use Rattle.ctl_code.specs.declared.template.TextPart.{TextPart}
 use Rattle.ctl_code.specs.Windows.{depth, height, variable_at}
 use Rattle.ctl_code.specs.Valid.{IsCellOf, IsDeclarable, Leads}
-use Rattle.ctl_gen.specs.Around.{Line, Around, behind, local_at, local_cell, new_operand, newest_at, newest_cell, out_to}
-use Rattle.ctl_gen.specs.Values.{ValueCode, held, value_type}
-use Rattle.ctl_gen.specs.Layout.{StatementCode, all, assign_code, bounds_code, copy, declaration, for, in_loop, leaves_code, loop, scalar_code, test_code, test_held, test_length, tested_code, turns_code, valued_code, with_bounds}
-use Rattle.ctl_gen.specs.Defaults.{is_declared}
+use Rattle.ctl_layout.specs.Around.{Line, Around, behind, local_at, local_cell, new_operand, newest_at, newest_cell, out_to}
+use Rattle.ctl_layout.specs.Values.{ValueCode, held, value_type}
+use Rattle.ctl_layout.specs.Layout.{StatementCode, all, assign_code, bounds_code, copy, declaration, for, in_loop, leaves_code, loop, scalar_code, test_code, test_held, test_length, tested_code, turns_code, valued_code, with_bounds}
+use Rattle.ctl_layout.specs.Defaults.{is_declared}
 use Rattle.ctl_gen.proofs.Place.{HasAt}
 use Rattle.ctl_gen.proofs.Place as Place
 use Rattle.ctl_gen.proofs.Formed.{both, both_at, Formed, FormedAt, has_end, leads_at, one}

@@ -14,9 +14,9 @@ use Rattle.ctl_code.specs.declared.kinds.Kind.TheVariants.{Operand}
 use Rattle.ctl_code.specs.declared.code.Code.{Code}
 use Rattle.ctl_code.specs.Windows.{height}
 use Rattle.ctl_code.specs.Valid.{images_of, IsFine, Leads}
-use Rattle.ctl_gen.specs.Around.{new_operand}
-use Rattle.ctl_gen.specs.Values.{value_code}
-use Rattle.ctl_gen.specs.Texts.{parts_of, piece_code, pieces_are_run, pieces_code, print_code, print_of, with_piece, with_pieces}
+use Rattle.ctl_layout.specs.Around.{new_operand}
+use Rattle.ctl_layout.specs.Values.{value_code}
+use Rattle.ctl_layout.specs.Texts.{parts_of, piece_code, pieces_are_run, pieces_code, print_code, print_of, with_piece, with_pieces}
 use Rattle.ctl_gen.proofs.Known.{both_true}
 use Rattle.ctl_gen.proofs.Formed.{Formed, both, none, one}
 use Rattle.ctl_gen.proofs.FormedValues.{Usable, typed_fine, usable_as}

@@ -10,8 +10,8 @@ use Rattle.ctl_well_typed.specs.Types.{Takes, Joins, IsCell, is_arithmetic, is_e
 use Rattle.ctl_well_typed.specs.Types as J
 use Rattle.ctl_code.specs.Valid as Valid
 use Rattle.ctl_code.specs.Valid.{BinaryOf, IsCellOf, IsNumber, UnaryOf}
-use Rattle.ctl_gen.specs.Values.{common_type, operand_type}
-use Rattle.ctl_gen.specs.Records.{is_run_type}
+use Rattle.ctl_layout.specs.Values.{common_type, operand_type}
+use Rattle.ctl_layout.specs.Records.{is_run_type}
 
 pub number_scalar : (t : Ty) → is_number t ≡ true → Valid.IsScalar t
 number_scalar Integer e = tt

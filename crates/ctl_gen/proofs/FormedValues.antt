@@ -26,15 +26,15 @@ use Rattle.ctl_code.specs.declared.code.Code.{Code}
 use Rattle.ctl_code.specs.Windows.{height, variable_at}
 use Rattle.ctl_code.specs.Valid as Valid
 use Rattle.ctl_code.specs.Valid.{BinaryOf, IsCellOf, IsFine, Leads, Puts, Taken, UnaryOf}
-use Rattle.ctl_gen.specs.declared.right.Reached.{Reached}
-use Rattle.ctl_gen.specs.declared.right.Reached.TheVariants as ReachedOf
-use Rattle.ctl_gen.specs.declared.right.Right.{Right}
-use Rattle.ctl_gen.specs.declared.right.Right.TheVariants as RightOf
-use Rattle.ctl_gen.specs.Around.{Line, local_at, new_operand, out_to}
-use Rattle.ctl_gen.specs.Values.{Held, OperatorCode, ValueCode, binary_code, chain, common_type, constant, evaluated, first_type, held, held_by, in_cell, last_type, left_held, missing_value, moved_to, next_target, operand_type, operator_by, operator_code, operator_for, operator_of, operators_code, operators_run, other_code, others_code, read, read_from, short, unary, value_code, value_type, values_run, reached_by}
+use Rattle.ctl_layout.specs.declared.right.Reached.{Reached}
+use Rattle.ctl_layout.specs.declared.right.Reached.TheVariants as ReachedOf
+use Rattle.ctl_layout.specs.declared.right.Right.{Right}
+use Rattle.ctl_layout.specs.declared.right.Right.TheVariants as RightOf
+use Rattle.ctl_layout.specs.Around.{Line, local_at, new_operand, out_to}
+use Rattle.ctl_layout.specs.Values.{Held, OperatorCode, ValueCode, binary_code, chain, common_type, constant, evaluated, first_type, held, held_by, in_cell, last_type, left_held, missing_value, moved_to, next_target, operand_type, operator_by, operator_code, operator_for, operator_of, operators_code, operators_run, other_code, others_code, read, read_from, short, unary, value_code, value_type, values_run, reached_by}
 use Rattle.ctl_gen.proofs.Known.{both_true}
-use Rattle.ctl_gen.proofs.Layers.{value_access, value_call, value_chain, value_constant, value_convert, value_discriminant, value_new, value_read, value_short, value_subpool, value_unary}
-use Rattle.ctl_gen.proofs.TreeLayers.{operator_roll}
+use Rattle.ctl_layout.proofs.Layers.{value_access, value_call, value_chain, value_constant, value_convert, value_discriminant, value_new, value_read, value_short, value_subpool, value_unary}
+use Rattle.ctl_layout.proofs.TreeLayers.{operator_roll}
 use Rattle.ctl_gen.proofs.Formed.{Formed, both, has_end, none, one}
 use Rattle.ctl_gen.proofs.FormedTypes.{arithmetic_of, cell_of, equality_relates, is_relation, joins_scalar, logical_of, number_of, number_scalar, of_arithmetic, of_logical, of_relation, ordering_relates, relation_of, run_scalar, takes_unary}
 

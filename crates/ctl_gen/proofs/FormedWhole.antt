@@ -17,11 +17,11 @@ use Rattle.ctl_code.specs.declared.code.Entry.{Entry}
 use Rattle.ctl_code.specs.declared.code.Operations.{Operations}
 use Rattle.ctl_code.specs.declared.code.Code.{Code}
 use Rattle.ctl_code.specs.Valid.{IsBegun, IsDeclarable, IsEntry, IsFine, IsInScope, IsValid, Leads, MayBeEntry, TakesObject, outermost}
-use Rattle.ctl_gen.specs.Around.{Line, Around, behind}
-use Rattle.ctl_gen.specs.Layout.{bodies, body_code, entries_from, entry_at, HasKinds, in_body, instructions_of, IsLaidOut, kinds_of, master_code, nowhere, operations_in, operations_of, program_code}
-use Rattle.ctl_gen.specs.Defaults.{is_outermost}
-use Rattle.ctl_gen.specs.Records.{adjust_by}
-use Rattle.ctl_gen.specs.Run.{AreLinked, IsBody, IsRun, IsWritten, are_procedures}
+use Rattle.ctl_layout.specs.Around.{Line, Around, behind}
+use Rattle.ctl_layout.specs.Layout.{bodies, body_code, entries_from, entry_at, HasKinds, in_body, instructions_of, IsLaidOut, kinds_of, master_code, nowhere, operations_in, operations_of, program_code}
+use Rattle.ctl_layout.specs.Defaults.{is_outermost}
+use Rattle.ctl_layout.specs.Records.{adjust_by}
+use Rattle.ctl_layout.specs.Run.{AreLinked, IsBody, IsRun, IsWritten, are_procedures}
 use Rattle.ctl_gen.proofs.Known.{both_true}
 use Rattle.ctl_gen.proofs.Place.{HasAt, has_all}
 use Rattle.ctl_gen.proofs.Place as Place

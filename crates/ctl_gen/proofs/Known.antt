@@ -9,10 +9,10 @@ use Rattle.ctl_program.specs.declared.types.Root.TheVariants.{Controlled, Untagg
 use Rattle.ctl_program.specs.declared.types.Component.{Component}
 use Rattle.ctl_program.specs.declared.types.RecordType.{RecordType}
 use Rattle.ctl_meaning.specs.Types.{Tables, Elementary, category_of}
-use Rattle.ctl_gen.specs.Records.{are_scalar, each_extension, has_root_run, is_flat, is_root_run, is_run_type, is_unwritten}
-use Rattle.ctl_gen.specs.Defaults.{have_constants, is_plain}
-pub use Rattle.ctl_gen.proofs.Extensions.{both_true}
-use Rattle.ctl_gen.proofs.Extensions.{HasComponents, extends_all, same_components}
+use Rattle.ctl_layout.specs.Records.{are_scalar, each_extension, has_root_run, is_flat, is_root_run, is_run_type, is_unwritten}
+use Rattle.ctl_layout.specs.Defaults.{have_constants, is_plain}
+pub use Rattle.ctl_layout.proofs.Extensions.{both_true}
+use Rattle.ctl_layout.proofs.Extensions.{HasComponents, extends_all, same_components}
 
 abbrev pub IsScalar : Ty → Type 0
 IsScalar Integer = Unit {0}

@@ -9,9 +9,9 @@ use Rattle.ctl_code.specs.declared.code.Defaulted.{Defaulted}
 use Rattle.ctl_code.specs.declared.code.Layout.{Layout}
 use Rattle.ctl_code.specs.declared.code.Parts.{Parts}
 use Rattle.ctl_code.specs.Table as Table
-use Rattle.ctl_gen.specs.Layout.{AreLayouts, IsLayout, cells_inherited, count_from, defaults_inherited, parent_layout}
-use Rattle.ctl_gen.specs.Records.{component_rows, inherited, is_flat, none_if_absent, parts_by}
-use Rattle.ctl_gen.specs.Defaults.{constant_of, defaulted_before, defaulted_from}
+use Rattle.ctl_layout.specs.Layout.{AreLayouts, IsLayout, cells_inherited, count_from, defaults_inherited, parent_layout}
+use Rattle.ctl_layout.specs.Records.{component_rows, inherited, is_flat, none_if_absent, parts_by}
+use Rattle.ctl_layout.specs.Defaults.{constant_of, defaulted_before, defaulted_from}
 use Rattle.ctl_gen.proofs.Known.{flat_if}
 use Rattle.ctl_gen.proofs.Plain.{offset_flat}
 

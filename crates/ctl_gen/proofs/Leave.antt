@@ -23,7 +23,7 @@ use Rattle.ctl_code.specs.declared.code.Code.{Code}
 use Rattle.ctl_code.specs.States.{After, Frame, Leaving, State}
 use Rattle.ctl_code.specs.Table.{behind, finalize_declared, finalize_parts, next_layer, parts_of, says_failed}
 use Rattle.ctl_code.specs.Steps.{moved, step}
-use Rattle.ctl_gen.specs.Records.{parts_by}
+use Rattle.ctl_layout.specs.Records.{parts_by}
 use Rattle.ctl_gen.proofs.Known.{IsPlain, IsPlainType, IsUntagged}
 use Rattle.ctl_gen.proofs.Worlds.{Each, IfFound, IsSingle, Settled, Since, object_fits, layers_fit, since_take, since_close}
 use Rattle.ctl_gen.proofs.Setting.{Setting, tools_with, Calls, Told, Sure}

@@ -1,7 +1,4 @@
-pub mod Layers
 pub mod Layouts
-pub mod StatementLayers
-pub mod Extensions
 pub mod Known
 pub mod Place
 pub mod Follow
@@ -11,7 +8,6 @@ pub mod Cells
 pub mod Components
 pub mod Worth
 pub mod Expressions
-pub mod TreeLayers
 pub mod Worlds
 pub mod Setting
 pub mod Evaluated

@@ -17,9 +17,9 @@ use Rattle.ctl_code.specs.declared.kinds.Kind.{Kind}
 use Rattle.ctl_code.specs.States.{Frame, State}
 use Rattle.ctl_code.specs.Table.{by_unless}
 use Rattle.ctl_code.specs.Steps.{moved, step}
-use Rattle.ctl_gen.specs.Around.{Line, Landing, OutOfMaster, BeforeLoop, Around, behind, land}
-use Rattle.ctl_gen.specs.Values.{ValueCode, held}
-use Rattle.ctl_gen.specs.Layout.{in_loop, loop_code, test_code, test_length}
+use Rattle.ctl_layout.specs.Around.{Line, Landing, OutOfMaster, BeforeLoop, Around, behind, land}
+use Rattle.ctl_layout.specs.Values.{ValueCode, held}
+use Rattle.ctl_layout.specs.Layout.{in_loop, loop_code, test_code, test_length}
 use Rattle.ctl_gen.proofs.Place.{Laid, laid_front, laid_back}
 use Rattle.ctl_gen.proofs.Worlds.{Since, Kept}
 use Rattle.ctl_gen.proofs.Setting.{Sees}

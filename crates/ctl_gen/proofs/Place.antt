@@ -5,7 +5,7 @@ use Rattle.std.proofs.Math.Seq.{get_or-append_seam}
 use Rattle.std.proofs.lemmas.Option.{slice_get-get_or}
 use Rattle.ctl_code.specs.declared.code.Code.{Code}
 use Rattle.ctl_code.specs.Valid.{kinds_at}
-use Rattle.ctl_gen.specs.Around.{Line}
+use Rattle.ctl_layout.specs.Around.{Line}
 
 -- these items stand in the list from this place on
 abbrev pub HasAt : {A : Type 0} → List A → ℕ → List A → Type 0

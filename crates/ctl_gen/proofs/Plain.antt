@@ -14,7 +14,7 @@ use Rattle.ctl_meaning.specs.Types.{Tables, Placed, opened_types, components, of
 use Rattle.ctl_meaning.specs.Names.{Tools}
 use Rattle.ctl_meaning.specs.Finalization.{Chosen, Spot, component_at, has_chosen, parts_to_finalize}
 use Rattle.ctl_meaning.specs.Adjustment.{controlled_parts}
-use Rattle.ctl_gen.specs.Layout.{count_from}
+use Rattle.ctl_layout.specs.Layout.{count_from}
 use Rattle.ctl_gen.proofs.Known.{AreScalar, IsFlat, IsScalar, IsUntagged}
 
 -- Scalar components -------------------------------------------------------------------------------

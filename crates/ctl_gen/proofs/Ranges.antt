@@ -28,9 +28,9 @@ use Rattle.ctl_code.specs.Table.{out_of, present, bounds_after, with_parameter, 
 use Rattle.ctl_code.specs.Steps.{moved, step}
 use Rattle.ctl_code.specs.Valid.{IsValid}
 use Rattle.ctl_code.specs.Windows.{height, depth}
-use Rattle.ctl_gen.specs.Around.{Line, Around, newest_at, newest_by, new_operand, out_to}
-use Rattle.ctl_gen.specs.Values.{ValueCode}
-use Rattle.ctl_gen.specs.Layout.{in_loop, with_bounds, bounds_code, turns_code, next_of}
+use Rattle.ctl_layout.specs.Around.{Line, Around, newest_at, newest_by, new_operand, out_to}
+use Rattle.ctl_layout.specs.Values.{ValueCode}
+use Rattle.ctl_layout.specs.Layout.{in_loop, with_bounds, bounds_code, turns_code, next_of}
 use Rattle.ctl_gen.proofs.Place.{Laid, laid_front, laid_back}
 use Rattle.ctl_gen.proofs.Worlds.{Since, Kept, since_value}
 use Rattle.ctl_gen.proofs.Setting.{Sees, never_missing}

@@ -36,11 +36,11 @@ use Rattle.ctl_code.specs.Windows.{height}
 use Rattle.ctl_code.specs.Table as Table
 use Rattle.ctl_code.specs.Table.{by_locate, first_call, operation_of, size_of, whole_of, whole_part}
 use Rattle.ctl_code.specs.Steps.{moved, step}
-use Rattle.ctl_gen.specs.declared.right.Reached.{Reached}
-use Rattle.ctl_gen.specs.declared.right.Reached.TheVariants as ReachedOf
-use Rattle.ctl_gen.specs.Around.{new_operand, out_to}
+use Rattle.ctl_layout.specs.declared.right.Reached.{Reached}
+use Rattle.ctl_layout.specs.declared.right.Reached.TheVariants as ReachedOf
+use Rattle.ctl_layout.specs.Around.{new_operand, out_to}
 use Rattle.ctl_gen.specs.Emitted.{Emitted, lined, one, standing, stated}
-use Rattle.ctl_gen.specs.Layout.{assign_record, record_code, take_over_code}
+use Rattle.ctl_layout.specs.Layout.{assign_record, record_code, take_over_code}
 use Rattle.ctl_gen.proofs.Known.{IsPlain, IsUntagged}
 use Rattle.ctl_gen.proofs.Emission.{lined_both}
 use Rattle.ctl_gen.proofs.EmittedValues.{over_operand}

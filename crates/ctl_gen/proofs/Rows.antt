@@ -12,11 +12,11 @@ use Rattle.ctl_meaning.specs.Names.{Call, gone}
 use Rattle.ctl_meaning.specs.Expressions.{Valued, eval}
 use Rattle.ctl_meaning.specs.Run.{Meaning, row_of, own_defaults, defaults_from, default_at, default_in, expression_tools}
 use Rattle.ctl_code.specs.declared.code.Code.{Code}
-use Rattle.ctl_gen.specs.declared.right.Right.{Right}
-use Rattle.ctl_gen.specs.declared.right.Right.TheVariants as RightOf
-use Rattle.ctl_gen.specs.Values.{value_code}
-use Rattle.ctl_gen.specs.Records.{component_rows, inherited, none_if_absent, rows_from}
-use Rattle.ctl_gen.specs.Defaults.{constant_by, constant_in, have_constants, may_default}
+use Rattle.ctl_layout.specs.declared.right.Right.{Right}
+use Rattle.ctl_layout.specs.declared.right.Right.TheVariants as RightOf
+use Rattle.ctl_layout.specs.Values.{value_code}
+use Rattle.ctl_layout.specs.Records.{component_rows, inherited, none_if_absent, rows_from}
+use Rattle.ctl_layout.specs.Defaults.{constant_by, constant_in, have_constants, may_default}
 use Rattle.ctl_gen.proofs.Known.{both_true}
 use Rattle.ctl_gen.proofs.Setting.{ArePlaced}
 use Rattle.ctl_gen.proofs.Evaluated.{value_since}

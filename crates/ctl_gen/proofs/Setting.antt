@@ -23,9 +23,9 @@ use Rattle.ctl_code.specs.Table.{defaulted_of, ended, enter_body, offset_of, ope
 use Rattle.ctl_code.specs.Steps.{moved, step}
 use Rattle.ctl_code.specs.Valid.{IsInScope, IsValid, kinds_at}
 use Rattle.ctl_code.specs.Windows.{depth}
-use Rattle.ctl_gen.specs.Records.{adjust_by, component_rows, is_flat, parts_by}
-use Rattle.ctl_gen.specs.Defaults.{defaulted_from}
-use Rattle.ctl_gen.specs.Run.{IsBody}
+use Rattle.ctl_layout.specs.Records.{adjust_by, component_rows, is_flat, parts_by}
+use Rattle.ctl_layout.specs.Defaults.{defaulted_from}
+use Rattle.ctl_layout.specs.Run.{IsBody}
 use Rattle.ctl_gen.proofs.Worlds.{Each, IsWhole, Since, home}
 use Rattle.ctl_gen.proofs.Follow.{IsRaise, Runs, gives}
 

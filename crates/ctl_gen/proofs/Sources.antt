@@ -21,11 +21,11 @@ use Rattle.ctl_meaning.specs.Names.{Found, InObject, found_in, find_var, Tools, 
 use Rattle.ctl_meaning.specs.Expressions.{Naming, Supplied, Valued, eval, eval_name, eval_step, name_step as name_meaning, actual_step as actual_meaning, supply, var_part}
 use Rattle.ctl_meaning.proofs.Trees.{actual_roll, eval_roll, name_roll}
 use Rattle.ctl_code.specs.Table.{whole_of}
-use Rattle.ctl_gen.specs.declared.right.Reached.{Reached}
-use Rattle.ctl_gen.specs.declared.right.Reached.TheVariants as ReachedOf
-use Rattle.ctl_gen.specs.declared.right.Right.TheVariants as RightOf
-use Rattle.ctl_gen.specs.Values.{ValueCode, behind_steps, copied, read, reached_by, sourced, value_code, variable_by}
-use Rattle.ctl_gen.proofs.TreeLayers.{value_roll, reached_roll, sourced_roll}
+use Rattle.ctl_layout.specs.declared.right.Reached.{Reached}
+use Rattle.ctl_layout.specs.declared.right.Reached.TheVariants as ReachedOf
+use Rattle.ctl_layout.specs.declared.right.Right.TheVariants as RightOf
+use Rattle.ctl_layout.specs.Values.{ValueCode, behind_steps, copied, read, reached_by, sourced, value_code, variable_by}
+use Rattle.ctl_layout.proofs.TreeLayers.{value_roll, reached_roll, sourced_roll}
 use Rattle.ctl_gen.proofs.Worlds.{HoldsWhole}
 use Rattle.ctl_gen.proofs.Components.{content_of}
 use Rattle.ctl_gen.proofs.Follow.{at}

@@ -27,10 +27,10 @@ use Rattle.ctl_code.specs.States.{After, AfterBlock, Point, Frame, InMaster, Sta
 use Rattle.ctl_code.specs.Table.{behind as goes_behind, on_at, transfers}
 use Rattle.ctl_code.specs.Steps.{moved, step}
 use Rattle.ctl_code.specs.Windows.{depth}
-use Rattle.ctl_gen.specs.Around.{Line, Landing, OutOfMaster, BeforeLoop, Around, behind, land, further as further_on}
-use Rattle.ctl_gen.specs.Values.{ValueCode, copied, value_code}
-use Rattle.ctl_gen.specs.Layout.{ArmCode, ItemCode, MasterCode, StatementCode, all, all_items, arms_code, arms_run, arms_texts, block, block_code, branches, copy, in_master as in_new, inside, item_code, leaves_code, turn_code, valued, with_value}
-use Rattle.ctl_gen.specs.Defaults.{is_declared}
+use Rattle.ctl_layout.specs.Around.{Line, Landing, OutOfMaster, BeforeLoop, Around, behind, land, further as further_on}
+use Rattle.ctl_layout.specs.Values.{ValueCode, copied, value_code}
+use Rattle.ctl_layout.specs.Layout.{ArmCode, ItemCode, MasterCode, StatementCode, all, all_items, arms_code, arms_run, arms_texts, block, block_code, branches, copy, in_master as in_new, inside, item_code, leaves_code, turn_code, valued, with_value}
+use Rattle.ctl_layout.specs.Defaults.{is_declared}
 use Rattle.ctl_gen.proofs.Known.{both_true, plain_if, scalar_if}
 use Rattle.ctl_gen.proofs.Place.{HasAt, has_front, has_back, Laid, laid_front, laid_back}
 use Rattle.ctl_gen.proofs.Worlds.{home, Each, IsWhole, whole_unset, Since, Kept, home_new, keeps_itself, keeps_on, keeps_open, fits_open}

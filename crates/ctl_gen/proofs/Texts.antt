@@ -29,9 +29,9 @@ use Rattle.ctl_program.specs.declared.expression.Expr.{Expr}
 use Rattle.ctl_code.specs.declared.code.Named.TheVariants.{Operand}
 use Rattle.ctl_code.specs.declared.kinds.Kind.{Kind}
 use Rattle.ctl_code.specs.Windows.{depth, height}
-use Rattle.ctl_gen.specs.Around.{Line, new_operand}
-use Rattle.ctl_gen.specs.Values.{value_code}
-use Rattle.ctl_gen.specs.Texts.{part_of, parts_of, piece_code, piece_is_run, pieces_are_run, pieces_code, print_code, print_of, with_piece, with_pieces}
+use Rattle.ctl_layout.specs.Around.{Line, new_operand}
+use Rattle.ctl_layout.specs.Values.{value_code}
+use Rattle.ctl_layout.specs.Texts.{part_of, parts_of, piece_code, piece_is_run, pieces_are_run, pieces_code, print_code, print_of, with_piece, with_pieces}
 use Rattle.ctl_gen.proofs.Known.{both_true}
 use Rattle.ctl_gen.proofs.Evaluated.{value_since}
 use Rattle.ctl_gen.proofs.Place.{HasAt, Laid, laid_front, laid_back}

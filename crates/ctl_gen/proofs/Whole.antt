@@ -24,12 +24,12 @@ use Rattle.ctl_code.specs.Table as Table
 use Rattle.ctl_code.specs.Steps.{step, steps, start, machine, end_at, end_of}
 use Rattle.ctl_code.specs.Laws.{IsPrefix, Grows}
 use Rattle.ctl_code.proofs.Logs.{obeys_none, obeys_itself, no_more_than, Stays, steps_obey, grow, stay, meet, ended_stays, agree}
-use Rattle.ctl_gen.specs.Around.{Line}
-use Rattle.ctl_gen.specs.Layout.{HasKinds, IsLaidOut, bodies, body_code, entries_from, entry_at, instructions_of, kinds_of, nowhere, operations_of, program_code}
+use Rattle.ctl_layout.specs.Around.{Line}
+use Rattle.ctl_layout.specs.Layout.{HasKinds, IsLaidOut, bodies, body_code, entries_from, entry_at, instructions_of, kinds_of, nowhere, operations_of, program_code}
 use Rattle.ctl_gen.proofs.Layouts.{defaults, parts_are, places, sizes}
 use Rattle.ctl_gen.proofs.Rows.{gives_defaults}
-use Rattle.ctl_gen.specs.Records.{adjust_by}
-use Rattle.ctl_gen.specs.Run.{AreLinked, IsBody, IsRun, IsWritten, are_procedures, is_procedure}
+use Rattle.ctl_layout.specs.Records.{adjust_by}
+use Rattle.ctl_layout.specs.Run.{AreLinked, IsBody, IsRun, IsWritten, are_procedures, is_procedure}
 use Rattle.ctl_gen.proofs.Known.{both_true}
 use Rattle.ctl_gen.specs.Correct.{HasReached, RunsAs, Behaves}
 use Rattle.ctl_gen.proofs.Place.{HasAt, has_front, has_back, has_all, Laid, laid_front, laid_back}

@@ -1,9 +1,2 @@
-pub mod Records
-pub mod Around
 pub mod Emitted
-pub mod Values
-pub mod Defaults
-pub mod Texts
-pub mod Layout
-pub mod Run
 pub mod Correct

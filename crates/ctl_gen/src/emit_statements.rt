@@ -5,16 +5,16 @@
 
 ghost use Rattle.std.specs.Prelude.{◌≡◌, ◌≤◌, ◌-◌, [], IfOk, length, map, option_map, OnOk, None, Some};
 ghost use Rattle.std.specs.Option.{ForSome};
-ghost use Rattle.ctl_gen.specs.declared.right.Reached.TheVariants as ReachedOf;
-ghost use Rattle.ctl_gen.specs.Around as cells;
+ghost use Rattle.ctl_layout.specs.declared.right.Reached.TheVariants as ReachedOf;
+ghost use Rattle.ctl_layout.specs.Around as cells;
 ghost use Rattle.ctl_gen.specs.Emitted.{appended, first_end, further_arms, lined, open_arms, repeated, skipping, standing, stated, without_image, without_images};
-ghost use Rattle.ctl_gen.specs.Values as values;
-ghost use Rattle.ctl_gen.specs.Texts as texts;
-ghost use Rattle.ctl_gen.specs.Layout as spec;
+ghost use Rattle.ctl_layout.specs.Values as values;
+ghost use Rattle.ctl_layout.specs.Texts as texts;
+ghost use Rattle.ctl_layout.specs.Layout as spec;
 
 use crate::emit::Emitter;
-use crate::right::{Reached, reached_by, sourced};
-use crate::typing::{copied, value_type};
+use ctl_layout::right::{Reached, reached_by, sourced};
+use ctl_layout::typing::{copied, value_type};
 use ctl_code::code::{Instr, Way};
 use ctl_code::kinds::Kind;
 use ctl_program::expression::{Actual, Expr, Name};

@@ -4,15 +4,15 @@ ghost use Rattle.std.specs.Prelude.{◌≡◌, ◌⊎◌, ◌<◌, ◌^◌, ◌+
 ghost use Rattle.ctl_tree.specs.declared.fault.FaultCode.TheVariants.{LeftOut, Memory};
 ghost use Rattle.ctl_well_typed.specs.Programs.{WellTyped};
 ghost use Rattle.ctl_gen.specs.Correct.{Behaves};
-ghost use Rattle.ctl_gen.specs.Run.{AreLinked, IsRun};
-ghost use Rattle.ctl_gen.specs.Defaults.{constant_of, defaulted_from};
-ghost use Rattle.ctl_gen.specs.Records as types;
-ghost use Rattle.ctl_gen.specs.Records.{component_rows};
-ghost use Rattle.ctl_gen.specs.Layout as spec;
-ghost use Rattle.ctl_gen.specs.Layout.{AreLayouts, HasKinds, IsLaidOut, IsLayout, count_from, entry_at, operations_of};
+ghost use Rattle.ctl_layout.specs.Run.{AreLinked, IsRun};
+ghost use Rattle.ctl_layout.specs.Defaults.{constant_of, defaulted_from};
+ghost use Rattle.ctl_layout.specs.Records as types;
+ghost use Rattle.ctl_layout.specs.Records.{component_rows};
+ghost use Rattle.ctl_layout.specs.Layout as spec;
+ghost use Rattle.ctl_layout.specs.Layout.{AreLayouts, HasKinds, IsLaidOut, IsLayout, count_from, entry_at, operations_of};
 
 use crate::emit::Emitter;
-use crate::right::constant;
+use ctl_layout::right::constant;
 use ctl_code::code::{Code, Defaulted, Entry, Instr, Layout, Operations, Parts};
 use ctl_code::valid::ValidCode;
 use ctl_program::program::{Checked, Subprogram};

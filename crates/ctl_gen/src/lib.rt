@@ -5,6 +5,3 @@ mod emit;
 mod emit_expressions;
 mod emit_statements;
 pub mod generate;
-pub mod right;
-pub mod runs;
-mod typing;

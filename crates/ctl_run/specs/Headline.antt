@@ -12,7 +12,7 @@ use Rattle.ctl_code.specs.declared.code.Code.{Code}
 use Rattle.ctl_code.specs.States.{Stuck}
 use Rattle.ctl_code.specs.Steps.{end_of}
 use Rattle.ctl_code.specs.Laws.{IsPrefix}
-use Rattle.ctl_gen.specs.Layout.{IsLaidOut}
+use Rattle.ctl_layout.specs.Layout.{IsLaidOut}
 use Rattle.ctl_machine.specs.declared.outcome.Outcome.{Outcome}
 use Rattle.ctl_machine.specs.Machine.{after_steps}
 use Rattle.ctl_machine.specs.Shows.{chosen}

@@ -9,7 +9,7 @@ use Rattle.ctl_syntax.specs.declared.denoted.Use.{Use}
 use Rattle.ctl_syntax.specs.declared.item.Tree.{Tree}
 use Rattle.ctl_program.specs.declared.program.Checked.{Checked}
 use Rattle.ctl_front.specs.Text.{IsAnswer, SpellsNamed}
-use Rattle.ctl_gen.specs.Run.{IsRun, is_run}
+use Rattle.ctl_layout.specs.Run.{IsRun, is_run}
 use Rattle.ctl_slice.specs.Places.{first_left_out}
 
 -- where a text is left out: at the first construct that is not run, or at the procedure, where what its names denote does not tell one

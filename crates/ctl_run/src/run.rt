@@ -9,7 +9,7 @@ ghost use Rattle.ctl_run.specs.Verdict.{IsFaultOf, IsFaultless, IsLeftOut, Settl
 
 use ctl_front::program::{program_of, resolved_of};
 use ctl_gen::generate::generate;
-use ctl_gen::runs::is_run;
+use ctl_layout::runs::is_run;
 use ctl_machine::machine::Machine;
 use ctl_machine::outcome::Outcome;
 use ctl_program::program::Checked;

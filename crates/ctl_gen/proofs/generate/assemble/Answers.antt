@@ -3,9 +3,9 @@ use Rattle.std.specs.Prelude.{slice_get}
 use Rattle.std.proofs.lemmas.List.{drop_all}
 use Rattle.ctl_code.specs.declared.code.Instr.TheVariants.{Start}
 use Rattle.ctl_gen.specs.Emitted.{Emitted, lined, one, stated}
-use Rattle.ctl_gen.specs.Records.{component_rows}
-use Rattle.ctl_gen.specs.Layout.{AreLayouts, bodies, entries_from, operations_of}
-use Rattle.ctl_gen.proofs.Emission.{turn_of}
+use Rattle.ctl_layout.specs.Records.{component_rows}
+use Rattle.ctl_layout.specs.Layout.{AreLayouts, bodies, entries_from, operations_of}
+use Rattle.ctl_layout.proofs.Turns.{turn_of}
 use Rattle.ctl_gen.proofs.EmittedBodies.{all_emitted, all_instructions, all_kinds, all_texts, begun, begun_place, next_body, next_entry, nothing_stands}
 use Rattle.ctl_gen.proofs.generate.assemble.Goals as goal
 

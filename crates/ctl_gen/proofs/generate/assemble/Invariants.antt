@@ -1,7 +1,7 @@
 -- The bodies that are emitted, and those that are still to be emitted, make up the whole; and so do their entries.
 use Rattle.std.proofs.Common.{◌≡◌, ◌++◌, [], None, drop, length}
 use Rattle.ctl_gen.specs.Emitted.{stated}
-use Rattle.ctl_gen.specs.Layout.{bodies, entries_from}
+use Rattle.ctl_layout.specs.Layout.{bodies, entries_from}
 use Rattle.ctl_gen.proofs.EmittedBodies.{begun}
 use Rattle.ctl_gen.proofs.generate.assemble.Given as goal
 

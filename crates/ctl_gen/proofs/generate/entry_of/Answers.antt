@@ -2,8 +2,8 @@ use Rattle.std.proofs.Common.{ℕ, sym, ap, ◌∙◌, length}
 use Rattle.ctl_program.specs.declared.statement.Master.{out-Master}
 use Rattle.ctl_program.specs.declared.program.Subprogram.{Subprogram}
 use Rattle.ctl_code.specs.declared.code.Entry.{Entry}
-use Rattle.ctl_gen.specs.Layout.{MasterCode}
-use Rattle.ctl_gen.proofs.StatementLayers.{master_is}
+use Rattle.ctl_layout.specs.Layout.{MasterCode}
+use Rattle.ctl_layout.proofs.StatementLayers.{master_is}
 use Rattle.ctl_gen.proofs.generate.entry_of.Goals as goal
 
 abbrev entry : Subprogram → ℕ → ℕ → Entry

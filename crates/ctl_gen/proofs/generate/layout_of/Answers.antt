@@ -1,9 +1,9 @@
 use Rattle.std.proofs.Common.{◌≡◌, ◌+◌, [], ◌∷◌, ◌++◌, List, None, Some, drop, length, refl, ap, sym, ◌∙◌, arith, append_assoc, append-nil, length-append}
 use Rattle.std.proofs.lemmas.List.{drop_all}
 use Rattle.ctl_code.specs.declared.code.Defaulted.{Defaulted}
-use Rattle.ctl_gen.specs.Defaults.{constant_of, defaulted_before, defaulted_from}
-use Rattle.ctl_gen.specs.Layout.{count_from}
-use Rattle.ctl_gen.proofs.Emission.{turn_of}
+use Rattle.ctl_layout.specs.Defaults.{constant_of, defaulted_before, defaulted_from}
+use Rattle.ctl_layout.specs.Layout.{count_from}
+use Rattle.ctl_layout.proofs.Turns.{turn_of}
 use Rattle.ctl_gen.proofs.Layouts.{defaulted_both, none_of}
 use Rattle.ctl_gen.proofs.generate.layout_of.Goals as goal
 use Rattle.ctl_gen.proofs.generate.layout_of.Goals.{in-Some+in_ok-push, in_default}

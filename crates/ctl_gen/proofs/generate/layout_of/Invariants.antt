@@ -1,6 +1,6 @@
 -- What is left of a type's own components completes those that have defaults.
 use Rattle.std.proofs.Common.{◌≡◌, ◌+◌, ◌++◌, drop}
-use Rattle.ctl_gen.specs.Defaults.{defaulted_from}
+use Rattle.ctl_layout.specs.Defaults.{defaulted_from}
 use Rattle.ctl_gen.proofs.generate.layout_of.Given as goal
 
 abbrev pub invariant-loop-index : goal.invariant-loop-index

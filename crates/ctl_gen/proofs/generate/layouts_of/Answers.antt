@@ -1,9 +1,9 @@
 use Rattle.std.proofs.Common.{◌≡◌, ◌+◌, List, [], ◌∷◌, ◌++◌, drop, refl, sym, ap, ◌∙◌, subst, append_assoc, append-nil}
 use Rattle.std.proofs.lemmas.List.{drop_all}
 use Rattle.ctl_code.specs.declared.code.Layout.{Layout}
-use Rattle.ctl_gen.specs.Records.{component_rows, inherited, parts_by, rows_from}
-use Rattle.ctl_gen.specs.Layout.{AreLayouts, IsLayout, cells_inherited, defaults_inherited, parent_layout}
-use Rattle.ctl_gen.proofs.Emission.{turn_of}
+use Rattle.ctl_layout.specs.Records.{component_rows, inherited, parts_by, rows_from}
+use Rattle.ctl_layout.specs.Layout.{AreLayouts, IsLayout, cells_inherited, defaults_inherited, parent_layout}
+use Rattle.ctl_layout.proofs.Turns.{turn_of}
 use Rattle.ctl_gen.proofs.Layouts.{inherits, laid_more}
 use Rattle.ctl_gen.proofs.generate.layouts_of.Goals as goal
 

@@ -2,8 +2,8 @@
 use Rattle.std.proofs.Common.{◌≡◌, List, ◌++◌, drop}
 use Rattle.ctl_program.specs.declared.types.Component.{Component}
 use Rattle.ctl_program.specs.declared.types.RecordType.{RecordType}
-use Rattle.ctl_gen.specs.Layout.{AreLayouts}
-use Rattle.ctl_gen.specs.Records.{component_rows, rows_from}
+use Rattle.ctl_layout.specs.Layout.{AreLayouts}
+use Rattle.ctl_layout.specs.Records.{component_rows, rows_from}
 use Rattle.ctl_gen.proofs.generate.layouts_of.Given as goal
 
 abbrev pub invariant-loop-record : goal.invariant-loop-record

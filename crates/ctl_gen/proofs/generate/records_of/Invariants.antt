@@ -1,6 +1,6 @@
 -- What is copied, and what is still to be copied, make up the whole.
 use Rattle.std.proofs.Common.{◌≡◌, ◌++◌, drop}
-use Rattle.ctl_gen.specs.Layout.{operations_of}
+use Rattle.ctl_layout.specs.Layout.{operations_of}
 use Rattle.ctl_gen.proofs.generate.records_of.Given as goal
 
 abbrev pub invariant-loop-record : goal.invariant-loop-record

@@ -3,7 +3,7 @@ use Rattle.std.proofs.lemmas.Result.{err_from_is_err_and}
 use Rattle.ctl_tree.specs.declared.request.Order.{Order}
 use Rattle.ctl_code.specs.declared.code.Code.{Code}
 use Rattle.ctl_gen.specs.Correct.{Behaves}
-use Rattle.ctl_gen.specs.Layout.{IsLaidOut}
+use Rattle.ctl_layout.specs.Layout.{IsLaidOut}
 use Rattle.ctl_gen.proofs.FormedWhole.{linked_of}
 use Rattle.ctl_machine.specs.Machine.{Running}
 use Rattle.ctl_run.specs.Headline.{Headline}

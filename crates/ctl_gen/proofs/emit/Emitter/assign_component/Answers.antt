@@ -1,4 +1,4 @@
-use Rattle.ctl_gen.specs.Values.{value_code}
+use Rattle.ctl_layout.specs.Values.{value_code}
 use Rattle.ctl_gen.proofs.Emission.{on_ok}
 use Rattle.ctl_gen.proofs.Components.{part_assigned}
 use Rattle.ctl_gen.proofs.emit.Emitter.assign_component.Goals as goal

@@ -1,5 +1,5 @@
 use Rattle.std.proofs.Common.{sym, ◌∙◌}
-use Rattle.ctl_gen.specs.Values.{value_code}
+use Rattle.ctl_layout.specs.Values.{value_code}
 use Rattle.ctl_gen.proofs.Emission.{on_ok}
 use Rattle.ctl_gen.proofs.EmittedStatements.{assigned_out}
 use Rattle.ctl_gen.proofs.emit.Emitter.assign_variable.Goals as goal

@@ -1,8 +1,8 @@
 use Rattle.std.proofs.Common.{sym, ap}
 use Rattle.ctl_program.specs.declared.statement.Master.{out-Master}
-use Rattle.ctl_gen.specs.Layout.{MasterCode}
+use Rattle.ctl_layout.specs.Layout.{MasterCode}
 use Rattle.ctl_gen.proofs.EmittedBodies.{body_emitted}
-use Rattle.ctl_gen.proofs.StatementLayers.{master_is}
+use Rattle.ctl_layout.proofs.StatementLayers.{master_is}
 use Rattle.ctl_gen.proofs.emit.Emitter.body.Goals as goal
 
 pub returns : goal.returns

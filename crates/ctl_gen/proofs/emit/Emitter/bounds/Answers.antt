@@ -1,4 +1,4 @@
-use Rattle.ctl_gen.specs.Values.{value_code}
+use Rattle.ctl_layout.specs.Values.{value_code}
 use Rattle.ctl_gen.proofs.EmittedLoops.{bounds_emitted}
 use Rattle.ctl_gen.proofs.emit.Emitter.bounds.Goals as goal
 

@@ -1,5 +1,5 @@
 use Rattle.std.proofs.Common.{sym, ◌∙◌}
-use Rattle.ctl_gen.specs.Values.{copied, value_code}
+use Rattle.ctl_layout.specs.Values.{copied, value_code}
 use Rattle.ctl_gen.proofs.Emission.{on_ok}
 use Rattle.ctl_gen.proofs.EmittedStatements.{copy_emitted}
 use Rattle.ctl_gen.proofs.emit.Emitter.copy.Goals as goal

@@ -1,7 +1,7 @@
 use Rattle.std.proofs.Common.{ap, refl, sym, ◌∙◌, option_map}
 use Rattle.ctl_gen.specs.Emitted.{stated}
-use Rattle.ctl_gen.specs.Values.{value_code}
-use Rattle.ctl_gen.specs.Layout.{departure, exit}
+use Rattle.ctl_layout.specs.Values.{value_code}
+use Rattle.ctl_layout.specs.Layout.{departure, exit}
 use Rattle.ctl_gen.proofs.Emission.{on_ok}
 use Rattle.ctl_gen.proofs.EmittedStatements.{only_if_emitted}
 use Rattle.ctl_gen.proofs.emit.Emitter.exit.Goals as goal

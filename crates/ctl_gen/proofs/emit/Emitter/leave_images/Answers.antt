@@ -1,6 +1,6 @@
 use Rattle.std.proofs.Common.{◌+◌, ap, sym, ◌∙◌, drop}
 use Rattle.std.proofs.lemmas.List.{drop_all}
-use Rattle.ctl_gen.proofs.Emission.{turn_of}
+use Rattle.ctl_layout.proofs.Turns.{turn_of}
 use Rattle.ctl_gen.proofs.EmittedTexts.{left, next_left, none_left}
 use Rattle.ctl_gen.proofs.emit.Emitter.leave_images.Goals as goal
 

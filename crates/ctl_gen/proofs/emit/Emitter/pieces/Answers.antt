@@ -1,7 +1,7 @@
 use Rattle.std.proofs.Common.{◌+◌, ap, sym, ◌∙◌, drop}
 use Rattle.std.proofs.lemmas.List.{drop_all}
 use Rattle.ctl_gen.specs.Emitted.{imaged}
-use Rattle.ctl_gen.proofs.Emission.{turn_of}
+use Rattle.ctl_layout.proofs.Turns.{turn_of}
 use Rattle.ctl_gen.proofs.EmittedTexts.{next_piece, no_piece}
 use Rattle.ctl_gen.proofs.emit.Emitter.pieces.Goals as goal
 

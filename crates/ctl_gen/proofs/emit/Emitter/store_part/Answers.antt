@@ -1,4 +1,4 @@
-use Rattle.ctl_gen.specs.Values.{value_code}
+use Rattle.ctl_layout.specs.Values.{value_code}
 use Rattle.ctl_gen.proofs.Components.{part_stored}
 use Rattle.ctl_gen.proofs.emit.Emitter.store_part.Goals as goal
 

@@ -1,6 +1,6 @@
 use Rattle.std.proofs.Common.{sym, ◌∙◌}
 use Rattle.ctl_code.specs.Windows.{variable_at}
-use Rattle.ctl_gen.specs.Values.{value_code}
+use Rattle.ctl_layout.specs.Values.{value_code}
 use Rattle.ctl_gen.proofs.Emission.{on_ok}
 use Rattle.ctl_gen.proofs.EmittedStatements.{valued_emitted}
 use Rattle.ctl_gen.proofs.emit.Emitter.valued.Goals as goal

@@ -1,4 +1,4 @@
-use Rattle.ctl_gen.specs.Values.{value_code}
+use Rattle.ctl_layout.specs.Values.{value_code}
 use Rattle.ctl_gen.proofs.Emission.{on_ok}
 use Rattle.ctl_gen.proofs.EmittedStatements.{given_emitted}
 use Rattle.ctl_gen.proofs.emit.Emitter.with_value.Goals as goal

@@ -1,7 +1,0 @@
--- What is left is run as what there was.
-use Rattle.std.proofs.Common.{◌≡◌, drop}
-use Rattle.ctl_gen.specs.Layout.{bodies}
-use Rattle.ctl_gen.proofs.runs.bodies.Given as goal
-
-abbrev pub invariant-loop-subprogram : goal.invariant-loop-subprogram
-invariant-loop-subprogram l = (bodies (drop l.subprogram-index l.subprograms)).runs l.records ≡ (bodies l.subprograms).runs l.records

@@ -1,7 +1,0 @@
--- What is left is run as what there was.
-use Rattle.std.proofs.Common.{◌≡◌, drop}
-use Rattle.ctl_gen.specs.Texts.{pieces_are_run}
-use Rattle.ctl_gen.proofs.runs.pieces.Given as goal
-
-abbrev pub invariant-loop-one : goal.invariant-loop-one
-invariant-loop-one l = pieces_are_run l.records (drop l.one-index l.pieces) ≡ pieces_are_run l.records l.pieces

@@ -1,0 +1,5 @@
+pub mod Layers
+pub mod TreeLayers
+pub mod StatementLayers
+pub mod Extensions
+pub mod Turns

@@ -1,0 +1,7 @@
+pub mod Records
+pub mod Around
+pub mod Values
+pub mod Defaults
+pub mod Texts
+pub mod Layout
+pub mod Run

@@ -1,0 +1,42 @@
+-- The programs that this version runs: blocks, objects of types that extend Controlled by scalar components, also ones that take the value of a
+-- variable of their type, of Integer and of Boolean, their Initialize, Adjust and Finalize, expressions over constants, variables and
+-- components, assignments to variables and components, assignments of whole objects to one another where their type is one of the main
+-- procedure's own declarative part, texts with images, and control.
+use Rattle.std.specs.Prelude.{◌≡◌, ℕ, List, [], ◌∷◌, slice_get, Option, Some, None, Bool, true, false, ◌&&◌, IsTrue}
+use Rattle.ctl_program.specs.declared.operators.SubprogramKind.{SubprogramKind}
+use Rattle.ctl_program.specs.declared.operators.SubprogramKind.TheVariants.{Procedure}
+use Rattle.ctl_program.specs.declared.program.Subprogram.{Subprogram}
+use Rattle.ctl_program.specs.declared.program.Checked.{Checked}
+use Rattle.ctl_program.specs.declared.types.RecordType.{RecordType}
+use Rattle.ctl_layout.specs.Layout.{bodies}
+
+abbrev pub is_procedure : SubprogramKind → Bool
+is_procedure Procedure = true
+is_procedure _ = false
+
+abbrev pub are_procedures : List Subprogram → Bool
+are_procedures [] = true
+are_procedures (s ∷ ss) = is_procedure s.kind && are_procedures ss
+
+-- whether this version runs each construct of a program
+abbrev pub is_run : Checked → Bool
+is_run program = are_procedures program.subprograms && (bodies program.subprograms).runs program.records
+
+abbrev pub IsRun : Checked → Type 0
+IsRun program = IsTrue (is_run program)
+
+-- a subprogram of the table
+abbrev pub IsBody : List Subprogram → ℕ → Type 0
+IsBody subprograms f = (s : Subprogram) × (slice_get subprograms f ≡ Some s)
+
+-- an operation that the user wrote is a subprogram of the table
+abbrev pub IsWritten : List Subprogram → Option ℕ → Type 0
+IsWritten subprograms None = Unit {0}
+IsWritten subprograms (Some f) = IsBody subprograms f
+
+-- the main procedure, and the operations of each record type, are in the table
+pub record AreLinked (program : Checked) : Type 0 where
+  pub main : IsBody program.subprograms program.main
+  pub initialize : (t : ℕ) (r : RecordType) → slice_get program.records t ≡ Some r → IsWritten program.subprograms r.operations.initialize
+  pub adjust : (t : ℕ) (r : RecordType) → slice_get program.records t ≡ Some r → IsWritten program.subprograms r.operations.adjust
+  pub finalize : (t : ℕ) (r : RecordType) → slice_get program.records t ≡ Some r → IsWritten program.subprograms r.operations.finalize
