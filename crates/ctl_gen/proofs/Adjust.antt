@@ -7,7 +7,7 @@ use Rattle.ctl_program.specs.declared.types.Root.TheVariants.{Controlled}
 use Rattle.ctl_tree.specs.declared.event.Event.TheVariants as EventOf
 use Rattle.ctl_meaning.specs.World.{Log, World}
 use Rattle.ctl_meaning.specs.Choice.{Ask}
-use Rattle.ctl_meaning.specs.Outcome.{Goes, Out, Gives, Done, bind, on_goes, ◌>>=◌, ◌>>◌, done, told, attempt, either, opened_outcome}
+use Rattle.ctl_meaning.specs.Outcome.{Goes, Out, Gives, Done, bind, on_goes, ◌>>=◌, done, told, attempt, either, opened_outcome}
 use Rattle.ctl_meaning.specs.Types.{Tables, operation, operation_in, depth, of_record}
 use Rattle.ctl_meaning.specs.Names.{Call, Default, Tools}
 use Rattle.ctl_meaning.specs.Finalization.{whole, component_at, part_of, call_operation}

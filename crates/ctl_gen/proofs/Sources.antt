@@ -15,9 +15,9 @@ use Rattle.ctl_program.specs.declared.expression.Step.TheVariants.{Component, De
 use Rattle.ctl_tree.specs.declared.ending.Stop.TheVariants.{UseAfterFree}
 use Rattle.ctl_meaning.specs.World.{Content, Nothing, Holds, Binds, Copies, Gathers, Log, World}
 use Rattle.ctl_meaning.specs.Activations.{master_of}
-use Rattle.ctl_meaning.specs.Outcome.{Goes, Gives, Stops, Act, add, bind, on_goes, ◌>>=◌, ◌>>◌, ticked, opened_outcome}
+use Rattle.ctl_meaning.specs.Outcome.{Goes, Gives, Stops, Act, add, bind, on_goes, ◌>>=◌, ticked, opened_outcome}
 use Rattle.ctl_meaning.specs.Types.{Category, Composite, category_of, cells_of}
-use Rattle.ctl_meaning.specs.Names.{Found, InObject, found_in, find_var, Call, Tools, gone, read_found, walk, begins_as}
+use Rattle.ctl_meaning.specs.Names.{Found, InObject, found_in, find_var, Tools, gone, read_found, walk, begins_as}
 use Rattle.ctl_meaning.specs.Expressions.{Naming, Supplied, Valued, eval, eval_name, eval_step, name_step as name_meaning, actual_step as actual_meaning, supply, var_part}
 use Rattle.ctl_meaning.proofs.Trees.{actual_roll, eval_roll, name_roll}
 use Rattle.ctl_code.specs.Table.{whole_of}

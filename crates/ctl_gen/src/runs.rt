@@ -353,12 +353,7 @@ fn is_object_assigned(number: usize, value: &Actual, records: &[RecordType]) -> 
 }
 
 /// Tells whether an assignment of a record is run.
-fn is_record_assigned(
-    name: &Name,
-    number: usize,
-    value: &Actual,
-    records: &[RecordType],
-) -> bool
+fn is_record_assigned(name: &Name, number: usize, value: &Actual, records: &[RecordType]) -> bool
     ensures { result ≡ (spec.assign_record (values.reached_by name.now) number (values.sourced value.now)).runs records.now }
 {
     match reached_by(name) {
