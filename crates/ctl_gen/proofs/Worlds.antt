@@ -191,7 +191,7 @@ module _ (k : Tables) (code : Code) where
     pub origin : o.origin ≡ Declared master
     pub old : master < next
     pub inside : IsInside code o.ty (length (home master as'))
-    -- the main procedure's own master stands around it, if it is not that
+    -- that is the main procedure's own master, or one inside it
     pub deep : 1 ≤ length (home master as')
 
   pub record Fits (w : World) : Type 0 where
