@@ -93,7 +93,7 @@ TEXTS = [
     # a record that is not tagged is run where its components are
     (ITEM + "type R is record N : Integer; B : Boolean := True; end record; X : R; begin X.N := 1; end Main;", ACCEPTED, 1, 1),
     (ITEM + "type R is limited record N : Integer; end record; X : R; begin X.N := 1; end Main;", ACCEPTED, 1, 1),
-    (ITEM + "type R is record N : Integer; end record; X, Y : R; begin X := Y; end Main;", 12, 1, 1),
+    (ITEM + "type R is record N : Integer; end record; X, Y : R; begin X := Y; end Main;", ACCEPTED, 1, 1),
     # a type that no object has does nothing when it is elaborated
     (ITEM + "type R is record N : Integer; end record; begin null; end Main;", ACCEPTED, 1, 1),
     (ITEM + "type R is record N : Integer; end record; begin X := 1; end Main;", 20, 1, 67),
@@ -103,10 +103,15 @@ TEXTS = [
     (ITEM + "begin Ada.Text_IO.New_Line; end Main;", 25, 1, 25),
     # and before a broken rule on types, wherever that stands
     (ITEM + "N : Integer; begin N := True; M := 1; end Main;", 20, 1, 49),
-    # an assignment of a record is not run, and only types tell it apart from others: it is told at the main procedure. A broken rule on
-    # types comes before. An object with the value of another one is run
-    (CONTROLLED + "type T is new Controlled with null record; X, Y : T; begin X := Y; end Main;", 12, 1, 46),
-    (CONTROLLED + "type T is new Controlled with null record; X : T; Y : T := X; begin X := Y; end Main;", 12, 1, 46),
+    # an assignment of a record is run where its type is declared in the main procedure's own part. Only types tell it apart from others:
+    # another one is told at the main procedure. A broken rule on types comes before. An object with the value of another one is run
+    (CONTROLLED + "type T is new Controlled with null record; X, Y : T; begin X := Y; end Main;", ACCEPTED, 1, 1),
+    (CONTROLLED + "type T is new Controlled with null record; X : T; Y : T := X; begin X := Y; end Main;", ACCEPTED, 1, 1),
+    (CONTROLLED + "begin declare type T is new Controlled with null record; X, Y : T; begin X := Y; end; end Main;", 12, 1, 46),
+    (CONTROLLED + "type T is new Limited_Controlled with null record; X, Y : T; begin X := Y; end Main;", 30, 1, 138),
+    # a type that extends another of the text inherits its components
+    (CONTROLLED + "type T is new Controlled with record N : Integer := 1; end record; type U is new T with record B : Boolean; end record; X, Y : U; begin X.B := X.N = 1; Y := X; end Main;", ACCEPTED, 1, 1),
+    (CONTROLLED + "type T is new Controlled with record N : Integer := 1; end record; type U is new T with record N : Boolean; end record; X : U; begin null; end Main;", 30, 1, 157),
     (CONTROLLED + "type T is new Controlled with null record; X : T; Y : T := X; begin null; end Main;", ACCEPTED, 1, 1),
     (CONTROLLED + "type T is new Controlled with null record; X, Y : T; begin X := Y; X := 1; end Main;", 30, 1, 136),
     # components of Integer and Boolean are run, in objects of controlled types, where their defaults are constants; others are left out at

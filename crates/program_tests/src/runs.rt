@@ -97,6 +97,22 @@ const DEFAULTS: &[u8] =
 const DEFAULTS_TRACE: &str =
     "initialize 1\nprint i 4FALSETRUE 7\nnewline\nlive 1 m1\nprint  9\nnewline\nfinalize 1 scope\nprint f 5\nnewline\nend done\n";
 
+/// Objects that are assigned to: the target is finalized, takes the value and is adjusted; one that is assigned to itself stays as it is
+/// (RM 5.2, 7.6). An exception of its Finalize is Program_Error, and nothing is taken over (RM 7.6.1).
+const ASSIGNED: &[u8] =
+    b"with Ada.Finalization; use Ada.Finalization; with Ada.Text_IO; use Ada.Text_IO; procedure Main is type A is new Controlled with record N : Integer := 0; M : Integer := 5; end record; overriding procedure Adjust (X : in out A); overriding procedure Finalize (X : in out A); procedure Adjust (X : in out A) is begin Put_Line (\"a\" & Integer'Image (X.N) & Integer'Image (X.M)); X.M := 8; end Adjust; procedure Finalize (X : in out A) is begin Put_Line (\"f\" & Integer'Image (X.N)); if X.N = 3 then X.M := 1 / (X.N - 3); end if; X.N := 9; end Finalize; V, W : A; begin V.N := 1; W.N := 2; V := V; V := W; Put_Line (Integer'Image (V.N) & Integer'Image (V.M) & Integer'Image (W.M)); V.N := 3; V := W; end Main;";
+
+const ASSIGNED_TRACE: &str =
+    "live 1 m1\nlive 2 m1\nfinalize 1 assign\nprint f 1\nnewline\nadjust 1\nprint a 2 5\nnewline\nprint  2 8 5\nnewline\nfinalize 1 assign\nprint f 3\nnewline\nfinalize 2 scope\nprint f 2\nnewline\nfinalize 1 scope\nprint f 3\nnewline\nend raised Program_Error\n";
+
+/// Types that extend others: their objects have the inherited components first, with their defaults, and the operations that they inherit
+/// or override (RM 3.4, 3.9.1, 7.6).
+const EXTENDED: &[u8] =
+    b"with Ada.Finalization; use Ada.Finalization; with Ada.Text_IO; use Ada.Text_IO; procedure Main is type A is new Controlled with record N : Integer := 4; end record; overriding procedure Initialize (X : in out A); overriding procedure Finalize (X : in out A); procedure Initialize (X : in out A) is begin X.N := X.N + 1; end Initialize; procedure Finalize (X : in out A) is begin Put_Line (\"a\" & Integer'Image (X.N)); end Finalize; type B is new A with record M : Integer := 7; end record; type C is new B with record L : Boolean := True; end record; overriding procedure Finalize (X : in out C); procedure Finalize (X : in out C) is begin Put_Line (\"c\" & Integer'Image (X.N + X.M) & Boolean'Image (X.L)); end Finalize; V : C; W : B; begin W.M := W.N * 10; V.L := V.M = 7; Put_Line (Integer'Image (W.M)); end Main;";
+
+const EXTENDED_TRACE: &str =
+    "initialize 1\nlive 1 m1\ninitialize 2\nlive 2 m1\nprint  50\nnewline\nfinalize 2 scope\nprint a 5\nnewline\nfinalize 1 scope\nprint c 12TRUE\nnewline\nend done\n";
+
 /// A type of which there is no object.
 const TYPE_ALONE: &[u8] =
     b"procedure Main is type R is record N : Integer; end record; begin null; end Main;";
@@ -127,6 +143,8 @@ fn traces_of_runs(rt: HostRuntime) -> Result<(), Fail> {
         (EXIT_OF_TWO, 1000, EXIT_OF_TWO_TRACE),
         (COMPONENTS, 1000, COMPONENTS_TRACE),
         (DEFAULTS, 1000, DEFAULTS_TRACE),
+        (ASSIGNED, 1000, ASSIGNED_TRACE),
+        (EXTENDED, 1000, EXTENDED_TRACE),
         (TYPE_ALONE, 1000, "end done\n"),
         (TURNS, 100, "end limit\n"),
     ] {
