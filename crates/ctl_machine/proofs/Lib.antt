@@ -71,4 +71,5 @@ pub mod Written
 pub mod Operations
 pub mod Assignments
 pub mod Assigned
+pub mod Targets
 pub mod AfterAssigning

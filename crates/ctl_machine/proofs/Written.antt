@@ -62,34 +62,34 @@ change_none f n = refl
 
 change_twice : (n : ℕ) (f g h : W.Object → W.Object) → ((o : W.Object) → (g o).number ≡ o.number) → ((o : W.Object) → f (g o) ≡ h o) → (os : List W.Object) → change_in n f (change_in n g os) ≡ change_in n h os
 change_twice n f g h same both [] = ap (λ (l : List W.Object). change_in n f l) (change_none g n) ∙ (change_none f n ∙ sym (change_none h n))
-change_twice n f g h same both (o ∷ os) = by (nat_eq o.number n) refl
+change_twice n f g h same both (o ∷ os) = by (change_twice n f g h same both os) (nat_eq o.number n) refl
   where
-    by : (b : Bool) → nat_eq o.number n ≡ b → change_in n f (change_in n g (o ∷ os)) ≡ change_in n h (o ∷ os)
-    by true e =
+    by : change_in n f (change_in n g os) ≡ change_in n h os → (b : Bool) → nat_eq o.number n ≡ b → change_in n f (change_in n g (o ∷ os)) ≡ change_in n h (o ∷ os)
+    by others true e =
         let is : o.number ≡ n = grind (arith, nat_tests, e) in
         ap (λ (l : List W.Object). change_in n f l) (change_here g o n os is)
         ∙ (change_here f (g o) n (change_in n g os) (same o ∙ is)
         ∙ (ap (λ (x : W.Object). x ∷ change_in n f (change_in n g os)) (both o)
-        ∙ (ap (λ (l : List W.Object). h o ∷ l) (change_twice n f g h same both os)
+        ∙ (ap (λ (l : List W.Object). h o ∷ l) others
         ∙ sym (change_here h o n os is))))
-    by false e =
+    by others false e =
         let differs : o.number ≢ n = λ is. absurd (grind (arith, nat_tests, e, is)) in
         ap (λ (l : List W.Object). change_in n f l) (change_there g o n os differs)
         ∙ (change_there f o n (change_in n g os) differs
-        ∙ (ap (λ (l : List W.Object). o ∷ l) (change_twice n f g h same both os)
+        ∙ (ap (λ (l : List W.Object). o ∷ l) others
         ∙ sym (change_there h o n os differs)))
 
 change_nothing : (n : ℕ) (f : W.Object → W.Object) → ((o : W.Object) → f o ≡ o) → (os : List W.Object) → change_in n f os ≡ os
 change_nothing n f same [] = change_none f n
-change_nothing n f same (o ∷ os) = by (nat_eq o.number n) refl
+change_nothing n f same (o ∷ os) = by (change_nothing n f same os) (nat_eq o.number n) refl
   where
-    by : (b : Bool) → nat_eq o.number n ≡ b → change_in n f (o ∷ os) ≡ o ∷ os
-    by true e =
+    by : change_in n f os ≡ os → (b : Bool) → nat_eq o.number n ≡ b → change_in n f (o ∷ os) ≡ o ∷ os
+    by others true e =
         let is : o.number ≡ n = grind (arith, nat_tests, e) in
-        change_here f o n os is ∙ (ap (λ (x : W.Object). x ∷ change_in n f os) (same o) ∙ ap (λ (l : List W.Object). o ∷ l) (change_nothing n f same os))
-    by false e =
+        change_here f o n os is ∙ (ap (λ (x : W.Object). x ∷ change_in n f os) (same o) ∙ ap (λ (l : List W.Object). o ∷ l) others)
+    by others false e =
         let differs : o.number ≢ n = λ is. absurd (grind (arith, nat_tests, e, is)) in
-        change_there f o n os differs ∙ ap (λ (l : List W.Object). o ∷ l) (change_nothing n f same os)
+        change_there f o n os differs ∙ ap (λ (l : List W.Object). o ∷ l) others
 
 -- Worlds -----------------------------------------------------------------------------------------------
 

@@ -1,9 +1,8 @@
 //! Records are assigned to (RM 5.2, 7.6): the target is finalized, takes the value, and is adjusted.
 
-ghost use Rattle.std.specs.Prelude.{◌≡◌, ◌+◌, ◌^◌, ◌<◌, ◌≤◌, ◌∷◌, ◌++◌, ◌×◌, List, Option, ℕ, IfNone, IfSome, None, OnErr, OnOk, Some, length, reverse, slice_get, vec_capacity, vec_len};
+ghost use Rattle.std.specs.Prelude.{◌≡◌, ◌+◌, ◌^◌, ◌<◌, ◌≤◌, ◌∷◌, ◌++◌, List, Option, ℕ, IfNone, IfSome, None, OnErr, OnOk, Some, length, reverse, slice_get, vec_capacity, vec_len};
 ghost use Rattle.ctl_code.specs.declared.code.Instr.TheVariants as InstrOf;
 ghost use Rattle.ctl_meaning.specs.Changes.{object_at};
-ghost use Rattle.ctl_meaning.specs.Objects.{cells_at};
 ghost use Rattle.ctl_meaning.specs.Outcome.{Fine};
 ghost use Rattle.ctl_code.specs.Table as Table;
 ghost use Rattle.ctl_code.specs.Kinds.{stack_at};
@@ -12,11 +11,10 @@ ghost use Rattle.ctl_code.specs.Valid.{IsRecord, IsValid};
 ghost use Rattle.ctl_code.specs.Windows.{height};
 ghost use Rattle.ctl_machine.specs.declared.frame.Frame.{Frame};
 ghost use Rattle.ctl_machine.specs.declared.frame.Frame.TheVariants as FrameOf;
-ghost use Rattle.ctl_machine.specs.declared.frame.Owned.{Owned};
 ghost use Rattle.ctl_machine.specs.declared.frame.Value.TheVariants as ValueOf;
 ghost use Rattle.ctl_machine.specs.declared.assign.Assignment.{Assignment};
 ghost use Rattle.ctl_machine.specs.Assigning.{Assigned, Assigns, HasRoom, IsAdjustOf, Pending, Replaces, with_value};
-ghost use Rattle.ctl_machine.specs.Masters.{first_window, object_of};
+ghost use Rattle.ctl_machine.specs.Masters.{first_window};
 ghost use Rattle.ctl_machine.specs.Moves.{Before, BeforeResuming, GoesOn, Makes, here_of};
 ghost use Rattle.ctl_machine.specs.Saved as Saved;
 ghost use Rattle.ctl_machine.specs.Shows as Shows;
@@ -187,13 +185,13 @@ impl Engine {
 
     /// Saves the value of an object for the target of an assignment, and lets the assignment wait; there is room for both.
     fn begin_assignment(&mut self, code: &Code, source: usize, assignment: Assignment)
-        ghost t: { Assigned × Owned }
+        ghost t: { Assigned × List ℕ }
         requires replaces { Replaces code.now self.old source assignment.target assignment.record assignment.place t.0 t.1 }
         requires base { assignment.base ≡ first_window (reverse self.old.masters.items) + height (stack_at code.now.kinds assignment.place) }
         requires room { HasRoom code.now self.old assignment.base }
         requires control { vec_len self.old.control + 2 ≤ vec_capacity self.old.control }
         requires saved { vec_len self.old.saved + Table.size_of code.now assignment.record ≤ vec_capacity self.old.saved }
-        ensures assigns { Assigns code.now self.new assignment (Some (cells_at 0 (Table.size_of code.now assignment.record) (object_of self.old.parts.items t.1))) t.0 }
+        ensures assigns { Assigns code.now self.new assignment (Some t.1) t.0 }
         ensures room { HasRoom code.now self.new assignment.base }
         ensures events { self.new.events.items ≡ self.old.events.items }
         ensures picks { self.new.picks.items ≡ self.old.picks.items }
@@ -211,21 +209,24 @@ impl Engine {
 
     /// Assigns the value of an owned object, by its place, to another one of this record type (RM 5.2, 7.6). The assignment goes on at
     /// this place; unchanged where memory is refused.
+    // By the cell a caller picks the operands that are left.
     fn replace_value(
         &mut self,
         code: &Code,
+        from: &Cell,
         source: usize,
         target: usize,
         record: usize,
         place: usize,
     ) -> Result<(), AllocError>
-        ghost t: { Assigned × Owned }
+        ghost t: { Assigned × List ℕ }
         requires valid { IsValid code.now }
         requires replaces { Replaces code.now self.old source target «record» place t.0 t.1 }
         requires number { self.old.given_masters + 1 < 2 ^ 64 }
-        ensures ok { OnOk result (Makes code.now self.old self.new (Table.replace_value code.now t.0.object.number «record» (cells_at 0 (Table.size_of code.now «record») (object_of self.old.parts.items t.1)) t.0.point t.0.control t.0.world)) }
+        ensures ok { OnOk result (Makes code.now self.old self.new (Table.replace_value code.now t.0.object.number «record» t.1 t.0.point t.0.control t.0.world)) }
         ensures err { OnErr result (GoesOn self.old self.new self.old.mode self.old.cells.items) }
     {
+        let _ = from;
         let base = self.window() + code.kinds.height_at(place, 0);
         self.prepare_assignment(code, base, size_of(code, record))?;
         let assignment = Assignment {
@@ -274,7 +275,7 @@ impl Engine {
             self.mode = Mode::Stopped(Stop::UseAfterFree);
             return Ok(());
         };
-        self.replace_value(code, source_at, target_at, record, place + 1)
+        self.replace_value(code, from, source_at, target_at, record, place + 1)
     }
 
     /// Goes on with an assignment behind the Finalize of its target, if the target is still there (RM 13.11.2): it takes the value, and
@@ -335,7 +336,7 @@ impl Engine {
         ensures ok { OnOk result (Makes code.now self.old self.new (Table.act code.now (Giving (Shows.tried_of ended)) s.control s.operands s.world 0)) }
         ensures err { OnErr result (GoesOn self.old self.new self.old.mode self.old.cells.items) }
     {
-        if matches!(ended, Ended::Raised(_)) {
+        if let Ended::Raised(_) = ended {
             let raised = Mode::Transfers(Way::Raise(PROGRAM_ERROR));
             self.end_assignment(code, record, value, raised);
             return Ok(());

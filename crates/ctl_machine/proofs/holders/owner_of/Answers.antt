@@ -10,12 +10,12 @@ pub loop-low-init : goal.loop-low-init
 loop-low-init c =
     (omega arith, omega arith, λ m some e. absurd (omega (arith, some)), λ m e. absurd (let less = slice_get_within c.args.masters.now (length c.args.masters.now) m e in omega (arith, less)))
 
-pub loop-low-preserved-then-masters-owned : goal.loop-low-preserved-then-masters-owned
-loop-low-preserved-then-masters-owned c =
+pub loop-low-preserved-then-masters-middle : goal.loop-low-preserved-then-masters-middle
+loop-low-preserved-then-masters-middle c =
     let middle = c.loop-low.low + (c.loop-low.high - c.loop-low.low) / 2 in
     let some = c.loop-low-test.true in
     let within = c.loop-low.invariant.1 in
-    let less = c.if-masters-owned.true in
+    let less = c.if-masters-middle.true in
     let there = get_index c.args.masters.now middle any_master (omega (arith, some, within)) in (
       omega (arith, some),
       within,
@@ -31,7 +31,7 @@ loop-low-preserved c =
     let middle = c.loop-low.low + (c.loop-low.high - c.loop-low.low) / 2 in
     let some = c.loop-low-test.true in
     let within = c.loop-low.invariant.1 in
-    let more = c.if-masters-owned.false in
+    let more = c.if-masters-middle.false in
     let there = get_index c.args.masters.now middle any_master (omega (arith, some, within)) in (
       omega (arith, some),
       omega (arith, some, within),
