@@ -71,6 +71,7 @@ operand_set code e k above ops w x y at h is =
       next_master = h.next_master;
       next_object = h.next_object;
       left = h.left;
+      saved = h.saved;
     }
 
 -- What a turn finds -------------------------------------------------------------------------------------

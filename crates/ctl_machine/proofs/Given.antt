@@ -39,6 +39,7 @@ numbered code e k ops w h = record {
   next_master = h.next_master;
   next_object = ap (λ n. n + 1) h.next_object;
   left = h.left;
+  saved = h.saved;
 }
 
 numbered_heads : (w : World) → heads_of (take_object_number w).activations ≡ heads_of w.activations

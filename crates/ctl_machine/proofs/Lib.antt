@@ -66,3 +66,10 @@ pub mod Walked
 pub mod Intervals
 pub mod StillLeft
 pub mod Filled
+pub mod Homes
+pub mod Written
+pub mod Operations
+pub mod Assignments
+pub mod Assigned
+pub mod Targets
+pub mod AfterAssigning

@@ -60,7 +60,7 @@ there_read ms i out d m there read =
     (found, there.2 ∙ ap (λ (x : Master). x.number) (same_at there.0 m (slice_get ms i) there.1 found))
 
 -- an item of the stack is among the masters
-among_reversed : (ms : List Master) (i : ℕ) (m : Master) → slice_get (reverse ms) i ≡ Some m → IsAmong m ms
+pub among_reversed : (ms : List Master) (i : ℕ) (m : Master) → slice_get (reverse ms) i ≡ Some m → IsAmong m ms
 among_reversed [] i m e = absurd (cc)
 among_reversed (x ∷ ms) i m e = by_place (λ f. among_reversed ms i m f) (get_split (reverse ms) (x ∷ []) i m (sym (ap (λ (l : List Master). slice_get l i) (reverse-append (x ∷ []) ms)) ∙ e))
   where

@@ -1,6 +1,6 @@
 -- What the slots of active masters hold: the objects that were declared there, and for the formal of an operation the object that it was
 -- called for.
-use Rattle.std.specs.Prelude.{◌≡◌, ◌≢◌, ℕ, zero, suc, ◌<◌, List, [], ◌∷◌, Option, Some, None, length, drop, take, slice_get, nat_eq, if◌then◌else◌}
+use Rattle.std.specs.Prelude.{◌≡◌, ◌≢◌, ℕ, zero, suc, ◌-◌, ◌<◌, ◌≤◌, List, [], ◌∷◌, Option, Some, None, length, drop, take, slice_get, nat_eq, if◌then◌else◌}
 use Rattle.ctl_meaning.specs.World.{Content, Nothing, Holds, Binds, unset, Activation}
 use Rattle.ctl_meaning.specs.Lists.{item_or}
 use Rattle.ctl_machine.specs.declared.frame.Master.{Master}
@@ -36,3 +36,10 @@ own_end (Some newer) total = newer.owned
 abbrev pub Lacks : ℕ → List Owned → Type 0
 Lacks n [] = Unit {0}
 Lacks n (o ∷ os) = (o.number ≢ n) × Lacks n os
+
+-- of these masters, the outermost first, the newest of so many owns the object at a place: it was entered when no more objects were owned,
+-- and the next newer one, if there is one, when more were
+pub record IsOwnerOf (masters : List Master) (at count : ℕ) : Type 0 where
+  pub bound : count ≤ length masters
+  pub before : (m : Master) → 0 < count → slice_get masters (count - 1) ≡ Some m → m.owned ≤ at
+  pub behind : (m : Master) → slice_get masters count ≡ Some m → at < m.owned

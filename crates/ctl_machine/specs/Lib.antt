@@ -15,3 +15,5 @@ pub mod Windows
 pub mod Parts
 pub mod Holders
 pub mod Filling
+pub mod Saved
+pub mod Assigning

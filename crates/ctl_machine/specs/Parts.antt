@@ -20,6 +20,11 @@ first_part (o ∷ os) total = o.first
 abbrev pub part_written : Owned → ℕ → ℕ → List ℕ → List ℕ
 part_written o offset x parts = if nat_lt offset o.cells then slice_set parts (o.first + offset) x else parts
 
+-- these values are written into an object's cells from one on
+abbrev pub parts_written : Owned → ℕ → List ℕ → List ℕ → List ℕ
+parts_written o offset [] parts = parts
+parts_written o offset (x ∷ v) parts = parts_written o (offset + 1) v (part_written o offset x parts)
+
 -- the value of the cell of a component, of an object that exists
 abbrev pub part_in : ℕ → Option Object → Option ℕ
 part_in offset None = None

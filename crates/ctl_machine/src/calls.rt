@@ -9,11 +9,13 @@ ghost use Rattle.ctl_machine.specs.declared.frame.Owned.{Owned};
 ghost use Rattle.ctl_code.specs.Valid.{IsValid};
 ghost use Rattle.ctl_machine.specs.Departing.{CallsFinalize, Departed, begun};
 ghost use Rattle.ctl_machine.specs.Links.{AreLinked, first_end};
-ghost use Rattle.ctl_machine.specs.Masters.{Head, display_from, first_display};
+ghost use Rattle.ctl_machine.specs.Assigning.{Called, Calls, HasRoom};
+ghost use Rattle.ctl_machine.specs.Masters.{Head, display_from, first_display, object_of};
 ghost use Rattle.ctl_machine.specs.Moves.{GoesOn, Makes};
 
 use crate::engine::Engine;
 use crate::frame::{After, Completion, Frame, Life, Master};
+use crate::holders::owner_of;
 use crate::showing::whole;
 use ctl_code::code::{Code, Entry};
 use ctl_tree::event::{Cause, Event};
@@ -83,7 +85,19 @@ impl Engine {
         ensures bound { result ≤ length self.now.masters.items }
         ensures display { display_from result hs ≡ take level (first_display hs) }
     {
-        let mut count = self.masters.as_slice().len();
+        self.around_from(self.count_masters(), level)
+    }
+
+    /// Answers the master that a body of this level is declared in, where the newest of so many masters sees it: it is the newest of so
+    /// many.
+    pub(crate) fn around_from(&self, newest: usize, level: usize) -> usize
+        ghost hs: { List Head }
+        requires linked { AreLinked self.now.masters.items hs }
+        requires bound { newest ≤ length self.now.masters.items }
+        ensures bound { result ≤ length self.now.masters.items }
+        ensures display { display_from result hs ≡ take level (display_from newest hs) }
+    {
+        let mut count = newest;
         while count > 0 {
             let master = self.masters[count - 1];
             if master.depth <= level {
@@ -121,12 +135,47 @@ impl Engine {
         ensures waiting { vec_len self.new.control ≡ vec_len self.old.control }
         ensures owned { self.new.owned ≡ self.old.owned }
         ensures parts { self.new.parts ≡ self.old.parts }
+        ensures saved { self.new.saved ≡ self.old.saved }
     {
         let wanted = base.checked_add(room).ok_or(AllocError)?;
         self.masters.reserve(1)?;
         self.control.reserve(2)?;
         self.events.reserve(1)?;
         make_room(&mut self.cells, wanted)
+    }
+
+    /// Calls a body that the user wrote, with what is shown of the call, for the owned object at this place, whichever active master owns
+    /// it: the body is entered inside the masters around it that the object's master sees (RM 7.6). Its window begins with this cell, and
+    /// there is room for it.
+    pub(crate) fn call_operation(
+        &mut self,
+        code: &Code,
+        entry: &Entry,
+        at: usize,
+        base: usize,
+        event: Event,
+    )
+        ghost t: { Called }
+        requires valid { IsValid code.now }
+        requires calls { Calls code.now self.old entry.now at base t }
+        requires room { HasRoom code.now self.old base }
+        ensures { Makes code.now self.old self.new (Table.call_operation code.now t.body event t.object.number (object_of self.old.parts.items t.object) t.control t.world) }
+    {
+        let _ = code;
+        let owner = owner_of(self.masters.as_slice(), at);
+        let link = self.around_from(owner, entry.level);
+        let master = Master {
+            number: self.given_masters + 1,
+            window: base,
+            base,
+            slots: entry.slots,
+            link,
+            depth: self.depth_at(link) + 1,
+            owned: self.count_owned(),
+            subject: self.owned[at].number,
+        };
+        self.events.push_reserved(event);
+        self.open(master, After::Body, entry.place);
     }
 
     /// Begins the finalization of an owned object, a layer of the master that this frame leaves (RM 7.6.1).
@@ -143,6 +192,7 @@ impl Engine {
         ensures masters { self.new.masters ≡ self.old.masters }
         ensures cells { self.new.cells ≡ self.old.cells }
         ensures parts { self.new.parts ≡ self.old.parts }
+        ensures saved { self.new.saved ≡ self.old.saved }
         ensures numbers { (self.new.given_masters ≡ self.old.given_masters) × (self.new.given_objects ≡ self.old.given_objects) }
         ensures events { self.new.events.items ≡ self.old.events.items ++ Finalize (Table.whole_part o.number) Scope ∷ [] }
         ensures picks { self.new.picks.items ≡ self.old.picks.items }

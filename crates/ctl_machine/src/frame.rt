@@ -32,6 +32,13 @@ pub struct Left {
     pub last: usize,
 }
 
+/// Where the value of an assignment is: it is the newest one that is saved, for the target is still to take it; or the target has taken it.
+#[derive(Clone, Copy)]
+pub enum Value {
+    Saved,
+    Taken,
+}
+
 /// What waits on the control stack.
 #[derive(Clone, Copy)]
 pub enum Frame {
@@ -55,6 +62,14 @@ pub enum Frame {
     /// the Initialize of the newest owned object, or its Adjust, and the place where its declaration goes on (RM 7.6)
     Initializing {
         how: Beginning,
+        place: usize,
+    },
+    /// an object of a record type that is assigned to, under Finalize where its value is saved, else under Adjust, and the place where
+    /// the assignment goes on (RM 5.2, 7.6)
+    Assigning {
+        object: u64,
+        record: usize,
+        value: Value,
         place: usize,
     },
     /// the Finalize of an owned object, by its place

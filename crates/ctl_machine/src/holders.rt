@@ -1,12 +1,12 @@
-//! Which object a slot holds, and where it stands among the owned objects.
+//! Which object a slot holds, where it stands among the owned objects, and which master owns it.
 
 ghost use Rattle.std.specs.Prelude.{◌≡◌, ◌≤◌, ℕ, IfSome, IsNone, Some, drop, length, slice_get, take};
 ghost use Rattle.ctl_code.specs.Table as Table;
 ghost use Rattle.ctl_machine.specs.declared.frame.Owned.{Owned};
-ghost use Rattle.ctl_machine.specs.Holders.{Lacks, formal_content, holder_in};
+ghost use Rattle.ctl_machine.specs.Holders.{IsOwnerOf, Lacks, formal_content, holder_in};
 ghost use Rattle.ctl_machine.specs.Masters.{RiseBelow};
 
-use crate::frame::Owned;
+use crate::frame::{Master, Owned};
 
 /// Answers the object that a body was called for, if this is the slot of its formal.
 fn formal(subject: u64, slot: usize) -> Option<u64>
@@ -63,4 +63,22 @@ pub(crate) fn find(owned: &[Owned], number: u64) -> Option<usize>
         }
     }
     None
+}
+
+/// Answers the master that owns the object at this place, as the newest of so many masters, the outermost first: what a master owns was
+/// declared after it was entered.
+pub(crate) fn owner_of(masters: &[Master], at: usize) -> usize
+    ensures { IsOwnerOf masters.now at result }
+{
+    let mut low = 0;
+    let mut high = masters.len();
+    while low < high {
+        let middle = low + (high - low) / 2;
+        if masters[middle].owned <= at {
+            low = middle + 1;
+        } else {
+            high = middle;
+        }
+    }
+    low
 }

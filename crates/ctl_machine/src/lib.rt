@@ -2,6 +2,7 @@
 #![tactic(auto)]
 
 mod advance;
+mod assign;
 mod begin;
 mod calls;
 mod components;

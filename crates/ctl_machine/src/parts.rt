@@ -95,6 +95,19 @@ pub(crate) fn add_copy(parts: &mut Vec<u64>, source: &Owned, count: usize)
     }
 }
 
+/// Saves the first cells of an object, so many, behind those that are saved already, for which there is room; one that the object does
+/// not have counts as 0.
+pub(crate) fn save_copy(saved: &mut Vec<u64>, parts: &[u64], source: &Owned, count: usize)
+    requires room { vec_len saved.old + count ≤ vec_capacity saved.old }
+    requires source { source.now.first + source.now.cells ≤ length parts.now }
+    ensures items { saved.new.items ≡ saved.old.items ++ cells_at 0 count (object_of parts.now source.now) }
+{
+    for at in 0..count {
+        let value = read_part(parts, source, at);
+        saved.push_reserved(value);
+    }
+}
+
 /// Answers where the cells of the objects from this place on begin; where there is none, all cells end here.
 pub(crate) fn first_part(owned: &[Owned], at: usize, end: usize) -> usize
     ensures { result ≡ Cells.first_part (drop at owned.now) end }
@@ -123,5 +136,15 @@ pub(crate) fn write_part(parts: &mut [u64], object: &Owned, offset: usize, value
 {
     if offset < object.cells {
         parts[object.first + offset] = value;
+    }
+}
+
+/// Writes these values into the first cells of an object; one for which the object has no cell is not written.
+pub(crate) fn write_parts(parts: &mut [u64], object: &Owned, values: &[u64])
+    requires { object.now.first + object.now.cells ≤ length parts.old }
+    ensures { parts.new ≡ Cells.parts_written object.now 0 values.now parts.old }
+{
+    for at in 0..values.len() {
+        write_part(parts, object, at, values[at]);
     }
 }

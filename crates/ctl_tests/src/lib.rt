@@ -2,6 +2,8 @@
 #![tactic(auto)]
 
 #[cfg(test)]
+mod assigned;
+#[cfg(test)]
 mod code;
 #[cfg(test)]
 mod filled;

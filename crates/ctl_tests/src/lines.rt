@@ -58,6 +58,12 @@ pub const CELL_4: Cell = Cell {
     named: Named::Operand,
 };
 
+/// The operand in cell 5.
+pub const CELL_5: Cell = Cell {
+    at: 5,
+    named: Named::Operand,
+};
+
 pub const ADD: Operator = Operator {
     op: BinaryOp::Add,
     operands: Ty::Integer,

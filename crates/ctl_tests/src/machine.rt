@@ -645,6 +645,28 @@ pub fn valid_code_with_adjust(
     validated(code)
 }
 
+/// The code of these lines, which is well formed, whose record type has the body at the first place as its Finalize and the one at the
+/// second as its Adjust. Exceptions are Constraint_Error and Program_Error.
+pub fn valid_code_with_both(
+    alloc: Global,
+    lines: &[Line],
+    finalize: usize,
+    adjust: usize,
+) -> Result<ValidCode, Fail> {
+    let mut code = code_of(alloc, lines, &[finalize, adjust])?;
+    code.records = vec![in alloc;
+        Operations {
+            initialize: None,
+            adjust: Some(2),
+            finalize: Some(1)
+        },
+    ]?;
+    code.layouts = layouts_of(alloc, layout_of_two(alloc)?, 1)?;
+    code.exceptions
+        .push(Text::from_slice(alloc, b"PROGRAM_ERROR")?)?;
+    validated(code)
+}
+
 /// The code of these lines, which is well formed.
 fn valid_code_of(alloc: Global, lines: &[Line], finalizers: &[usize]) -> Result<ValidCode, Fail> {
     validated(code_of(alloc, lines, finalizers)?)

@@ -1,25 +1,13 @@
-use Rattle.std.proofs.Common.{◌∙◌, ◌-◌, arith}
-use Rattle.ctl_machine.proofs.Links.{stops_here, goes_further, got}
+use Rattle.std.proofs.Common.{◌∙◌, ap, arith, subst, sym, take, List, ℕ}
+use Rattle.ctl_machine.specs.Masters.{display_from}
+use Rattle.ctl_machine.proofs.Links.{display_of_all}
 use Rattle.ctl_machine.proofs.engine.Engine.around.Goals as goal
 
-pub returns-then-master-level-clause-display : goal.returns-then-master-level-clause-display
-returns-then-master-level-clause-display g c =
-    let some = c.loop-count-test.true in
-    let within = c.loop-count.invariant.0 in
-    let found = got c.args.self.now.masters.items (c.loop-count.count - 1) c.index-master.result.now (omega (arith, some, within)) c.index-master.ensures in
-    stops_here c.args.level c.loop-count.count c.args.self.now.masters.items g.hs c.index-master.result.now c.requires (omega (arith, some)) found (omega (arith, c.if-master-level.true)) ∙ c.loop-count.invariant.1
+pub around_from-requires : goal.around_from-requires
+around_from-requires g c = let count = c.count_masters.ensures.count in (c.requires, omega (arith, count))
 
-pub loop-count-smaller : goal.loop-count-smaller
-loop-count-smaller g c =
-    let some = c.loop-count-test.true in
-    let within = c.loop-count.invariant.0 in
-    let found = got c.args.self.now.masters.items (c.loop-count.count - 1) c.index-master.result.now (omega (arith, some, within)) c.index-master.ensures in
-    (goes_further c.args.level c.loop-count.count c.args.self.now.masters.items g.hs c.index-master.result.now c.requires (omega (arith, some)) within found (omega (arith, c.if-master-level.false))).0
-
-pub loop-count-preserved : goal.loop-count-preserved
-loop-count-preserved g c =
-    let some = c.loop-count-test.true in
-    let within = c.loop-count.invariant.0 in
-    let found = got c.args.self.now.masters.items (c.loop-count.count - 1) c.index-master.result.now (omega (arith, some, within)) c.index-master.ensures in
-    let f = goes_further c.args.level c.loop-count.count c.args.self.now.masters.items g.hs c.index-master.result.now c.requires (omega (arith, some)) within found (omega (arith, c.if-master-level.false)) in
-    (f.1, f.2 ∙ c.loop-count.invariant.1)
+pub returns-clause-display : goal.returns-clause-display
+returns-clause-display g c =
+    c.around_from.ensures.display
+    ∙ (ap (λ n. take c.args.level (display_from n g.hs)) c.count_masters.ensures.count
+    ∙ ap (λ (l : List ℕ). take c.args.level l) (display_of_all c.args.self.now.masters.items g.hs c.requires))

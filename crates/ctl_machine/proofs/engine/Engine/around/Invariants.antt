@@ -1,9 +1,4 @@
-use Rattle.std.specs.Prelude.{◌≡◌, ◌≤◌, take, length}
-use Rattle.ctl_machine.specs.Masters.{display_from, first_display}
 use Rattle.ctl_machine.proofs.engine.Engine.around.Given as goal
 
-abbrev pub invariant-loop-count : goal.invariant-loop-count
-invariant-loop-count g l = (l.count ≤ length l.self.masters.items) × (take l.fn.level (display_from l.count g.hs) ≡ take l.fn.level (first_display g.hs))
-
-abbrev pub decreases-loop-count : goal.decreases-loop-count
-decreases-loop-count g l = l.count
+abbrev pub ghost-around_from : goal.ghost-around_from
+ghost-around_from g a = g.hs

@@ -62,6 +62,7 @@ returns-clause-ok g c =
       masters = ap (λ v. reverse v.items) c.begin_layer.ensures.masters ∙ ap (λ (e : Kept). e.masters) goes.kept;
       cells = ap (λ v. v.items) c.begin_layer.ensures.cells ∙ cells;
       parts = ap (λ v. v.items) c.begin_layer.ensures.parts ∙ ap (λ v. v.items) c.in_ok-prepare.ensures.parts;
+      saved = ap (λ v. v.items) c.begin_layer.ensures.saved ∙ ap (λ v. v.items) c.in_ok-prepare.ensures.saved;
       given_masters = c.begin_layer.ensures.numbers.0 ∙ c.in_ok-prepare.ensures.number;
       given_objects = c.begin_layer.ensures.numbers.1 ∙ c.in_ok-prepare.ensures.objects;
     } in

@@ -1,0 +1,55 @@
+use Rattle.std.proofs.Common.{◌≡◌, ◌+◌, ◌∷◌, ◌++◌, ◌∙◌, List, [], ap, arith, refl, subst}
+use Rattle.std.specs.Prelude.{slice_get}
+use Rattle.std.proofs.lemmas.Option.{slice_get_within}
+use Rattle.ctl_machine.specs.declared.frame.Master.{Master}
+use Rattle.ctl_machine.specs.declared.frame.Owned.{Owned}
+use Rattle.ctl_machine.specs.Holders.{IsOwnerOf}
+use Rattle.ctl_machine.specs.Masters.{heads_of}
+use Rattle.ctl_machine.proofs.Links.{got}
+use Rattle.ctl_machine.proofs.Operations.{IsCall, call_within, linked_call, operation_makes}
+use Rattle.ctl_machine.proofs.Resumed.{same_object}
+use Rattle.ctl_machine.proofs.engine.Engine.call_operation.Goals as goal
+
+pub around_from-link-requires : goal.around_from-link-requires
+around_from-link-requires g c =
+    let old = c.args.self.now in
+    let owner : IsOwnerOf old.masters.items c.args.at c.owner_of-owner.result = subst (λ (l : List Master). IsOwnerOf l c.args.at c.owner_of-owner.result) c.as_slice.ensures.value c.owner_of-owner.ensures in
+    (linked_call c.args.code.now old c.args.entry.now c.args.at c.args.base g.t c.requires.1.0, owner.bound)
+
+pub depth_at-requires : goal.depth_at-requires
+depth_at-requires g c = (linked_call c.args.code.now c.args.self.now c.args.entry.now c.args.at c.args.base g.t c.requires.1.0, c.around_from-link.ensures.bound)
+
+pub index-requires : goal.index-requires
+index-requires g c =
+    let owned = c.args.self.now.owned in
+    let within = slice_get_within owned.items c.args.at g.t.object c.requires.1.0.object in
+    let many = owned.ok.1 in
+    omega (arith, within, many)
+
+pub open-requires-clause-cells : goal.open-requires-clause-cells
+open-requires-clause-cells g c = call_within c.args.code.now c.args.self.now c.args.entry.now c.args.at c.args.base g.t c.requires.0 c.requires.1.0 c.requires.1.1
+
+pub returns : goal.returns
+returns g c =
+    let code = c.args.code.now in
+    let old = c.args.self.now in
+    let entry = c.args.entry.now in
+    let owned = old.owned.items in
+    let object = c.requires.1.0.object in
+    let owner : IsOwnerOf old.masters.items c.args.at c.owner_of-owner.result = subst (λ (l : List Master). IsOwnerOf l c.args.at c.owner_of-owner.result) c.as_slice.ensures.value c.owner_of-owner.ensures in
+    let b : Master = record { number = old.given_masters + 1; window = c.args.base; base = c.args.base; slots = entry.slots; link = c.around_from-link.result; depth = c.depth_at.result + 1; owned = c.count_owned.result; subject = c.index.result.now.number } in
+    let subject = ap (λ (o : Owned). o.number) (same_object c.index.result.now g.t.object (slice_get owned c.args.at) (got owned c.args.at c.index.result.now (slice_get_within owned c.args.at g.t.object object) c.index.ensures) object) in
+    let is : IsCall old b entry c.args.base c.owner_of-owner.result (heads_of g.t.world.activations) g.t.object = record {
+      number = refl;
+      window = refl;
+      begins = refl;
+      slots = refl;
+      link = c.around_from-link.ensures.bound;
+      display = c.around_from-link.ensures.display;
+      depth = ap (λ n. n + 1) c.depth_at.ensures.depth;
+      shallow = let s = c.depth_at.ensures.shallow in omega (arith, s);
+      owned = c.count_owned.ensures;
+      subject = subject;
+    } in
+    operation_makes code old c.open.new.self entry c.args.at c.args.base c.owner_of-owner.result g.t b c.args.event c.requires.0 c.requires.1.0 c.requires.1.1 owner is
+    (record { kept = c.open.ensures.kept; mode = c.open.ensures.mode; events = c.open.ensures.events ∙ c.push_reserved.ensures.items; picks = c.open.ensures.picks })

@@ -1,0 +1,151 @@
+//! Record objects are assigned to: the target is finalized, takes the value, and is adjusted.
+
+use crate::lines::{CELL_4, CELL_5, Line};
+use crate::machine::{FAREWELL, outcome_shown, printed, valid_code_with_both};
+use ctl_code::code::{Instr, Way};
+use ctl_machine::machine::Machine;
+use ctl_machine::outcome::Outcome;
+use ctl_program::types::Ty;
+use ctl_tree::ending::End;
+use ctl_tree::request::Order;
+use std::alloc::Global;
+use std::test::Fail;
+
+/// Finds an object of a block with two, as the first operand.
+const fn locate_first(slot: usize) -> Instr {
+    Instr::Locate {
+        out: 0,
+        slot,
+        record: 0,
+        at: 4,
+    }
+}
+
+/// Finds an object of the block as the second operand.
+const fn locate_second(slot: usize) -> Instr {
+    Instr::Locate {
+        out: 0,
+        slot,
+        record: 0,
+        at: 5,
+    }
+}
+
+/// Gives the first component of the object that is the first operand the value of the second one.
+const STORE: Instr = Instr::StorePart {
+    from: CELL_5,
+    ty: Ty::Integer,
+    at: 4,
+    record: 0,
+    position: 1,
+};
+
+/// Assigns to the object that is the first operand the value of the second one.
+const ASSIGN: Instr = Instr::Assign {
+    from: CELL_5,
+    at: 4,
+    record: 0,
+};
+
+/// Reads the first component of the first object.
+const FETCH: Instr = Instr::FetchPart {
+    out: 0,
+    slot: 0,
+    record: 0,
+    position: 1,
+    ty: Ty::Integer,
+    to: CELL_4,
+};
+
+/// The lines of a block with two objects, whose second one has a component with the value 7: the object in this slot is assigned to the
+/// first one, whose component is printed. The Finalize prints a line, and the Adjust ends one, or raises.
+fn lines_of(alloc: Global, source: usize, adjust: Instr) -> Result<Vec<Line>, Fail> {
+    let set = Instr::Set {
+        value: 7,
+        ty: Ty::Integer,
+        to: CELL_5,
+    };
+    let enter = Instr::Enter {
+        slots: 2,
+        length: 11,
+    };
+    Ok(vec![in alloc;
+        (Instr::Start(0), ""),
+        (enter, "m"),
+        (Instr::Declare { slot: 0, record: 0 }, "m{"),
+        (Instr::Declare { slot: 1, record: 0 }, "m{"),
+        (locate_first(1), "m{"),
+        (set, "m{r"),
+        (STORE, "m{ri"),
+        (locate_first(0), "m{"),
+        (locate_second(source), "m{r"),
+        (ASSIGN, "m{rr"),
+        (FETCH, "m{"),
+        (Instr::PutLine { text: 1, first: 4 }, "m{i"),
+        (Instr::Leave, "m{"),
+        (Instr::Skip(0), "m"),
+        (Instr::Leave, "m"),
+        (FAREWELL, "f"),
+        (Instr::Leave, "f"),
+        (adjust, "f"),
+        (Instr::Leave, "f"),
+    ]?)
+}
+
+/// Where the Finalize of the record type stands.
+const FINALIZE: usize = 15;
+
+/// Where its Adjust stands.
+const ADJUST: usize = 17;
+
+/// A run of these lines.
+fn outcome_of(alloc: Global, source: usize, adjust: Instr) -> Result<Outcome, Fail> {
+    let lines = lines_of(alloc, source, adjust)?;
+    let code = valid_code_with_both(alloc, lines.as_slice(), FINALIZE, ADJUST)?;
+    let mut machine = Machine::new(alloc, &code, Order::Newest)?;
+    let _ = machine.run(1000);
+    Ok(machine.finish())
+}
+
+#[test]
+fn the_target_is_finalized_and_takes_the_value_and_is_adjusted(
+    rt: HostRuntime,
+) -> Result<(), Fail> {
+    let alloc = rt.alloc();
+    let outcome = outcome_of(alloc, 1, Instr::NewLine)?;
+    let shown = outcome_shown(alloc, &outcome)?;
+    assert!(rt;
+        shown
+            .as_str()
+            .starts_with("live-1-m2 live-2-m2 finalize-1-assign print newline adjust-1 newline print newline finalize-2-scope ")
+    );
+    let bytes = printed(alloc, &outcome)?;
+    assert_eq!(rt; bytes.as_slice(), b"bye\n\n 7\nbye\nbye\n".as_slice());
+    Ok(())
+}
+
+#[test]
+fn an_object_that_is_assigned_to_itself_stays_as_it_is(rt: HostRuntime) -> Result<(), Fail> {
+    let alloc = rt.alloc();
+    let outcome = outcome_of(alloc, 0, Instr::NewLine)?;
+    let shown = outcome_shown(alloc, &outcome)?;
+    assert!(rt;
+        shown
+            .as_str()
+            .starts_with("live-1-m2 live-2-m2 print newline finalize-2-scope ")
+    );
+    let bytes = printed(alloc, &outcome)?;
+    assert_eq!(rt; bytes.as_slice(), b" 0\nbye\nbye\n".as_slice());
+    Ok(())
+}
+
+#[test]
+fn an_exception_of_the_adjust_is_program_error(rt: HostRuntime) -> Result<(), Fail> {
+    let alloc = rt.alloc();
+    let outcome = outcome_of(alloc, 1, Instr::Transfer(Way::Raise(0)))?;
+    let End::Raised(name) = &outcome.end else {
+        return Err(Fail::new("the run does not end by an exception"));
+    };
+    assert_eq!(rt; name.as_bytes(), b"PROGRAM_ERROR".as_slice());
+    Ok(())
+}
