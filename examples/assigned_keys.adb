@@ -13,6 +13,11 @@ procedure Assigned_Keys is
    overriding procedure Adjust (X : in out Key);
    overriding procedure Finalize (X : in out Key);
 
+   --  A key that is larger by what it remembers: it inherits both operations (RM 3.4, 3.9.1).
+   type Marked_Key is new Key with record
+      Mark : Integer := 9;
+   end record;
+
    procedure Adjust (X : in out Key) is
    begin
       if X.Door > 0 then
@@ -29,11 +34,6 @@ procedure Assigned_Keys is
       end if;
       X.Door := 0;
    end Finalize;
-
-   --  A key that is larger by what it remembers: it inherits both operations (RM 3.4, 3.9.1).
-   type Marked_Key is new Key with record
-      Mark : Integer := 9;
-   end record;
 
    Front, Back : Key;
    Mine, Yours : Marked_Key;
