@@ -1,4 +1,4 @@
-use Rattle.std.proofs.Common.{◌≡◌, ◌+◌, ◌∙◌, List, Some, ap, arith, refl, subst, sym}
+use Rattle.std.proofs.Common.{◌≡◌, ◌+◌, List, Some, arith, refl, subst, sym}
 use Rattle.std.specs.Prelude.{slice_get}
 use Rattle.ctl_meaning.specs.Objects.{cells_at}
 use Rattle.ctl_code.specs.Table.{replace_value, size_of}
