@@ -36,7 +36,7 @@ use std::alloc::AllocError;
 #[derive(Clone, Copy)]
 pub struct Assignment {
     pub target: usize,
-    pub record: usize,
+    pub record_type: usize,
     pub place: usize,
     pub base: usize,
 }
@@ -67,7 +67,7 @@ impl Engine {
     /// Takes the frame of an assignment off, with the value that is saved for it, if it is, and goes on so.
     fn end_assignment(&mut self, code: &Code, record: usize, value: Value, mode: Mode)
         ghost t: { Assigned × Option (List ℕ) }
-        requires pending { (x : Assignment) × (x.record ≡ «record») × Pending code.now self.old x t.1 t.0 }
+        requires pending { (x : Assignment) × (x.record_type ≡ «record») × Pending code.now self.old x t.1 t.0 }
         requires value { value ≡ Saved.value_in t.1 }
         ensures mode { self.new.mode ≡ mode }
         ensures holds { Shows.Holds code.now (Shows.kept self.new) t.0.control t.0.point.operands t.0.world }
@@ -88,9 +88,9 @@ impl Engine {
         requires valid { IsValid code.now }
         requires assigns { Assigns code.now self.old assignment None t }
         requires room { HasRoom code.now self.old assignment.base }
-        ensures { Makes code.now self.old self.new (Table.adjust_taken code.now t.object.number assignment.record t.point t.control t.world) }
+        ensures { Makes code.now self.old self.new (Table.adjust_taken code.now t.object.number assignment.record_type t.point t.control t.world) }
     {
-        match adjust_of(code, assignment.record) {
+        match adjust_of(code, assignment.record_type) {
             Some(entry) => {
                 let object = self.owned[assignment.target].number;
                 let event = Event::Adjust(whole(self.alloc, object));
@@ -98,7 +98,7 @@ impl Engine {
             }
             None => self.end_assignment(
                 code,
-                assignment.record,
+                assignment.record_type,
                 Value::Taken,
                 Mode::At(assignment.place),
             ),
@@ -116,7 +116,7 @@ impl Engine {
         ensures picks { self.new.picks.items ≡ self.old.picks.items }
     {
         let object = self.owned[assignment.target];
-        let start = self.saved.as_slice().len() - size_of(code, assignment.record);
+        let start = self.saved.as_slice().len() - size_of(code, assignment.record_type);
         write_parts(
             self.parts.as_mut_slice(),
             &object,
@@ -127,7 +127,7 @@ impl Engine {
             &mut self.control,
             Frame::Assigning {
                 object: object.number,
-                record: assignment.record,
+                record: assignment.record_type,
                 value: Value::Taken,
                 place: assignment.place,
             },
@@ -140,7 +140,7 @@ impl Engine {
         requires valid { IsValid code.now }
         requires assigns { Assigns code.now self.old assignment (Some t.1) t.0 }
         requires room { HasRoom code.now self.old assignment.base }
-        ensures { Makes code.now self.old self.new (Table.take_over code.now t.0.object.number assignment.record t.1 (object_at t.0.object.number t.0.world) t.0.point t.0.control t.0.world) }
+        ensures { Makes code.now self.old self.new (Table.take_over code.now t.0.object.number assignment.record_type t.1 (object_at t.0.object.number t.0.world) t.0.point t.0.control t.0.world) }
     {
         self.take_value(code, assignment);
         self.adjust_target(code, assignment);
@@ -153,9 +153,9 @@ impl Engine {
         requires valid { IsValid code.now }
         requires assigns { Assigns code.now self.old assignment (Some t.1) t.0 }
         requires room { HasRoom code.now self.old assignment.base }
-        ensures { Makes code.now self.old self.new (Table.replace_value code.now t.0.object.number assignment.record t.1 t.0.point t.0.control t.0.world) }
+        ensures { Makes code.now self.old self.new (Table.replace_value code.now t.0.object.number assignment.record_type t.1 t.0.point t.0.control t.0.world) }
     {
-        match finalize_of(code, assignment.record) {
+        match finalize_of(code, assignment.record_type) {
             Some(entry) => {
                 let object = self.owned[assignment.target].number;
                 let event = Event::Finalize(whole(self.alloc, object), Cause::Assign);
@@ -186,22 +186,22 @@ impl Engine {
     /// Saves the value of an object for the target of an assignment, and lets the assignment wait; there is room for both.
     fn begin_assignment(&mut self, code: &Code, source: usize, assignment: Assignment)
         ghost t: { Assigned × List ℕ }
-        requires replaces { Replaces code.now self.old source assignment.target assignment.record assignment.place t.0 t.1 }
+        requires replaces { Replaces code.now self.old source assignment.target assignment.record_type assignment.place t.0 t.1 }
         requires base { assignment.base ≡ first_window (reverse self.old.masters.items) + height (stack_at code.now.kinds assignment.place) }
         requires room { HasRoom code.now self.old assignment.base }
         requires control { vec_len self.old.control + 2 ≤ vec_capacity self.old.control }
-        requires saved { vec_len self.old.saved + Table.size_of code.now assignment.record ≤ vec_capacity self.old.saved }
+        requires saved { vec_len self.old.saved + Table.size_of code.now assignment.record_type ≤ vec_capacity self.old.saved }
         ensures assigns { Assigns code.now self.new assignment (Some t.1) t.0 }
         ensures room { HasRoom code.now self.new assignment.base }
         ensures events { self.new.events.items ≡ self.old.events.items }
         ensures picks { self.new.picks.items ≡ self.old.picks.items }
     {
         let object = self.owned[source];
-        let size = size_of(code, assignment.record);
+        let size = size_of(code, assignment.record_type);
         save_copy(&mut self.saved, self.parts.as_slice(), &object, size);
         self.control.push_reserved(Frame::Assigning {
             object: self.owned[assignment.target].number,
-            record: assignment.record,
+            record: assignment.record_type,
             value: Value::Saved,
             place: assignment.place,
         });
@@ -231,7 +231,7 @@ impl Engine {
         self.prepare_assignment(code, base, size_of(code, record))?;
         let assignment = Assignment {
             target,
-            record,
+            record_type: record,
             place,
             base,
         };
@@ -308,7 +308,7 @@ impl Engine {
         self.prepare_assignment(code, base, 0)?;
         let assignment = Assignment {
             target,
-            record,
+            record_type: record,
             place,
             base,
         };

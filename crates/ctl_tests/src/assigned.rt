@@ -115,9 +115,9 @@ fn the_target_is_finalized_and_takes_the_value_and_is_adjusted(
     let outcome = outcome_of(alloc, 1, Instr::NewLine)?;
     let shown = outcome_shown(alloc, &outcome)?;
     assert!(rt;
-        shown
-            .as_str()
-            .starts_with("live-1-m2 live-2-m2 finalize-1-assign print newline adjust-1 newline print newline finalize-2-scope ")
+        shown.as_str().starts_with(
+            "live-1-m2 live-2-m2 finalize-1-assign print newline adjust-1 newline print newline finalize-2-scope "
+        )
     );
     let bytes = printed(alloc, &outcome)?;
     assert_eq!(rt; bytes.as_slice(), b"bye\n\n 7\nbye\nbye\n".as_slice());

@@ -1,4 +1,4 @@
-use Rattle.std.proofs.Common.{◌∙◌, ap, arith, subst, sym, take, List, ℕ}
+use Rattle.std.proofs.Common.{◌∙◌, ap, arith, take, List, ℕ}
 use Rattle.ctl_machine.specs.Masters.{display_from}
 use Rattle.ctl_machine.proofs.Links.{display_of_all}
 use Rattle.ctl_machine.proofs.engine.Engine.around.Goals as goal

@@ -1,4 +1,4 @@
-use Rattle.std.proofs.Common.{◌≡◌, ◌+◌, ◌∙◌, List, Some, ap, arith, refl, subst, sym}
+use Rattle.std.proofs.Common.{◌≡◌, ◌+◌, List, Some, arith, refl, subst, sym}
 use Rattle.std.specs.Prelude.{slice_get}
 use Rattle.ctl_meaning.specs.Objects.{cells_at}
 use Rattle.ctl_code.specs.Table.{replace_value, size_of}
@@ -58,8 +58,11 @@ replace_value-requires g c =
     let target_found = subst (λ (l : List Owned). slice_get l c.in-Some-find.target_at ≡ Some target.0) c.as_slice-2.ensures.value target.1 in
     let now = replaces_now code old c.args.place g.s c.args.from.now c.args.at t c.in-Some.source_at c.in-Some-find.target_at source.0 target.0 c.requires.1.0 source_found target_found in (
       c.requires.0,
-      (subst (λ (x : Owned). Replaces code old c.in-Some.source_at c.in-Some-find.target_at t next (assigned_at x t c.args.from.now next g.s) (cells_at 0 (size_of code t) (object_of old.parts.items (owned_at owned c.in-Some.source_at)))) (sym (owned_at_is owned c.in-Some-find.target_at target.0 target_found))
-          (subst (λ (o : Owned). Replaces code old c.in-Some.source_at c.in-Some-find.target_at t next (assigned_at target.0 t c.args.from.now next g.s) (cells_at 0 (size_of code t) (object_of old.parts.items o))) (sym (owned_at_is owned c.in-Some.source_at source.0 source_found)) now), c.requires.1.1.1),
+      (
+        subst (λ (x : Owned). Replaces code old c.in-Some.source_at c.in-Some-find.target_at t next (assigned_at x t c.args.from.now next g.s) (cells_at 0 (size_of code t) (object_of old.parts.items (owned_at owned c.in-Some.source_at)))) (sym (owned_at_is owned c.in-Some-find.target_at target.0 target_found))
+            (subst (λ (o : Owned). Replaces code old c.in-Some.source_at c.in-Some-find.target_at t next (assigned_at target.0 t c.args.from.now next g.s) (cells_at 0 (size_of code t) (object_of old.parts.items o))) (sym (owned_at_is owned c.in-Some.source_at source.0 source_found)) now),
+        c.requires.1.1.1,
+      ),
     )
 
 pub returns-clause-ok : goal.returns-clause-ok
@@ -79,7 +82,7 @@ returns-clause-ok g c =
     let makes : Owned → Owned → Type 0 = λ x o. Makes code old c.replace_value.new.self (replace_value code x.number t (cells_at 0 (size_of code t) (object_of old.parts.items o)) (point_of c.args.from.now next g.s) g.s.control g.s.world) in
     on_ok c.replace_value.result
     (λ (m : makes (owned_at owned c.in-Some-find.target_at) (owned_at owned c.in-Some.source_at)).
-        replaced_makes code old c.replace_value.new.self c.args.place g.s c.args.from.now c.args.at t c.take-source.result c.take-target.result c.in-Some.source_at source.0 target.0 c.requires.1.0 c.take-source.ensures c.take-target.ensures source_found source.2 target.2
-        (λ same. omega (arith, differs, same))
-        (subst (λ (x : Owned). makes x source.0) target_is (subst (λ (o : Owned). makes (owned_at owned c.in-Some-find.target_at) o) source_is m)))
+    replaced_makes code old c.replace_value.new.self c.args.place g.s c.args.from.now c.args.at t c.take-source.result c.take-target.result c.in-Some.source_at source.0 target.0 c.requires.1.0 c.take-source.ensures c.take-target.ensures source_found source.2 target.2
+    (λ same. omega (arith, differs, same))
+    (subst (λ (x : Owned). makes x source.0) target_is (subst (λ (o : Owned). makes (owned_at owned c.in-Some-find.target_at) o) source_is m)))
     c.replace_value.ensures.ok

@@ -1,4 +1,4 @@
-use Rattle.std.proofs.Common.{◌≡◌, ◌+◌, ◌∷◌, ◌++◌, ◌∙◌, List, [], ap, arith, refl, subst}
+use Rattle.std.proofs.Common.{◌+◌, ◌∙◌, List, ap, arith, refl, subst}
 use Rattle.std.specs.Prelude.{slice_get}
 use Rattle.std.proofs.lemmas.Option.{slice_get_within}
 use Rattle.ctl_machine.specs.declared.frame.Master.{Master}
