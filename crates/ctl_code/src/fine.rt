@@ -429,6 +429,15 @@ fn is_bare(code: &Code, place: usize) -> bool
     matches!(code.kinds.kind_at(place, 0), None)
 }
 
+/// Checks the call of a procedure (RM 6.4): it is declared in a master that is seen.
+fn is_call_fine(code: &Code, place: usize, number: usize) -> bool
+    requires { place + 1 < 2 ^ 64 }
+    ensures { let stack = stack_at code.now.kinds place in
+        IsTrue result ↔ (IsInScope code.now (depth stack) (Some number) × Leads code.now (place + 1) stack) }
+{
+    is_in_scope(code, code.kinds.depth_at(place), Some(number)) && leads_on(code, place, 0, None)
+}
+
 /// Checks the declaration of an object (RM 3.3.1).
 fn is_declare_fine(code: &Code, place: usize, number: usize) -> bool
     requires { place + 1 < 2 ^ 64 }
@@ -521,6 +530,7 @@ pub fn is_fine(code: &Code, place: usize, instr: &Instr) -> bool
         Instr::Start(entry) => is_bare(code, place) && is_in_scope(code, 0, Some(entry)),
         Instr::Enter { slots, length } => is_enter_fine(code, place, slots, length),
         Instr::Leave => is_at_end(code, place),
+        Instr::Call(number) => is_call_fine(code, place, number),
         Instr::Transfer(way) => is_transfer_fine(code, place, way),
         Instr::Declare { slot: _, record } => is_declare_fine(code, place, record),
         Instr::DeclareCopy { record, at, .. } => is_copy_fine(code, place, record, at),
