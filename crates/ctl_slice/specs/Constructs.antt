@@ -1,5 +1,5 @@
 -- Which items and statements by themselves this version runs.
-use Rattle.std.specs.Prelude.{Bool, true, false, ◌&&◌, ◌||◌, List, [], ◌∷◌, codes, Option, Some, None, if◌then◌else◌}
+use Rattle.std.specs.Prelude.{Bool, true, false, ◌&&◌, ◌||◌, List, [], ◌∷◌, codes, is_none, Option, Some, None, if◌then◌else◌}
 use Rattle.ctl_grammar.specs.Spelling.{same_name}
 use Rattle.ctl_syntax.specs.declared.denoted.Definition.{Definition}
 use Rattle.ctl_syntax.specs.declared.denoted.Denoted.{Denoted}
@@ -14,15 +14,12 @@ use Rattle.ctl_syntax.specs.declared.item.Definition.{Definition as Type_definit
 use Rattle.ctl_syntax.specs.declared.item.Definition.TheVariants.{Extension, Record}
 use Rattle.ctl_syntax.specs.declared.item.Objects.{Objects}
 use Rattle.ctl_syntax.specs.declared.item.Specification.{Specification}
+use Rattle.ctl_syntax.specs.declared.name.Name.{Name}
 use Rattle.ctl_slice.specs.declared.construct.Support.{Support}
 use Rattle.ctl_slice.specs.declared.construct.Support.TheVariants.{Run, LeftOut}
 
 abbrev pub support_when : Bool → Support
 support_when is_run = if is_run then Run else LeftOut
-
--- Initialize, Adjust and Finalize of a controlled type (7.6)
-abbrev pub of_heading : Specification Definition Use → Support
-of_heading s = support_when (same_name s.name.identifier.text (codes "initialize") || (same_name s.name.identifier.text (codes "adjust") || same_name s.name.identifier.text (codes "finalize")))
 
 -- Controlled or Limited_Controlled (7.6), or a type of the text, which is judged where it is declared
 abbrev pub may_be_extended : Denoted → Bool
@@ -34,6 +31,17 @@ may_be_extended d = false
 abbrev pub is_empty : {A : Type 0} → List A → Bool
 is_empty [] = true
 is_empty (x ∷ xs) = false
+
+-- Initialize, Adjust and Finalize of a controlled type (7.6)
+abbrev pub is_operation : Specification Definition Use → Bool
+is_operation s = same_name s.name.identifier.text (codes "initialize") || (same_name s.name.identifier.text (codes "adjust") || same_name s.name.identifier.text (codes "finalize"))
+
+-- a procedure without parameters (6.1)
+abbrev pub is_bare_procedure : Specification Definition Use → Bool
+is_bare_procedure s = is_empty s.formals && is_none s.result
+
+abbrev pub of_heading : Specification Definition Use → Support
+of_heading s = support_when (is_operation s || is_bare_procedure s)
 
 -- Integer or Boolean (3.5.3, 3.5.4)
 abbrev pub is_scalar : Denoted → Bool
@@ -90,5 +98,11 @@ is_output (Library PutLine) = true
 is_output (Library NewLine) = true
 is_output d = false
 
-abbrev pub of_call : Denoted → Support
-of_call d = support_when (is_output d)
+-- a subprogram of the text, which is judged where it is declared
+abbrev pub is_of_text : Denoted → Bool
+is_of_text (Declared number level) = true
+is_of_text d = false
+
+-- and of such a subprogram without parameters (6.4)
+abbrev pub of_call : Name Use (Expression Use) → Support
+of_call n = support_when (is_output n.first.denoted || (is_of_text n.first.denoted && is_empty n.suffixes))

@@ -72,7 +72,7 @@ conditional first more otherwise = earliest (branch first) (first_of (map branch
 abbrev pub statement_step : Statement-F Definition Use Place Place Place → Place
 statement_step (Statement-F.Null place) = None
 statement_step (Statement-F.Assignment place to x) = None
-statement_step (Statement-F.Call place n) = where_left_out (of_call n.first.denoted) place
+statement_step (Statement-F.Call place n) = where_left_out (of_call n) place
 statement_step (Statement-F.Exit place c) = None
 statement_step (Statement-F.Return place None) = None
 statement_step (Statement-F.Return place (Some x)) = Some place

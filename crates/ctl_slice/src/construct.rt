@@ -7,6 +7,7 @@ use ctl_grammar::spelling::is_same_name;
 use ctl_syntax::denoted::{Definition, Denoted, LibraryName, Use};
 use ctl_syntax::expression::Expression;
 use ctl_syntax::item::{Components, Definition as TypeDefinition, Objects, Specification};
+use ctl_syntax::name::Name;
 
 /// Whether this version runs a construct.
 #[derive(Clone, Copy, Debug, PartialEq, Eq)]
@@ -26,15 +27,22 @@ fn support_when(is_run: bool) -> Support
     }
 }
 
-/// Judges a heading: Initialize, Adjust and Finalize of a controlled type are run (RM 7.6).
+/// Tells whether a heading has the name of an operation of controlled types: Initialize, Adjust or Finalize (RM 7.6).
+fn is_operation(heading: &Specification<Definition, Use>) -> bool
+    ensures { result ≡ spec.is_operation heading.now }
+{
+    let name = heading.name.identifier.text.as_bytes();
+    is_same_name(name, b"initialize")
+        || is_same_name(name, b"adjust")
+        || is_same_name(name, b"finalize")
+}
+
+/// Judges a heading: operations of controlled types are run (RM 7.6), and procedures without parameters (RM 6.1).
 pub(crate) fn of_heading(heading: &Specification<Definition, Use>) -> Support
     ensures { result ≡ spec.of_heading heading.now }
 {
-    let name = heading.name.identifier.text.as_bytes();
-    let is_run = is_same_name(name, b"initialize")
-        || is_same_name(name, b"adjust")
-        || is_same_name(name, b"finalize");
-    support_when(is_run)
+    let is_bare = heading.formals.as_slice().is_empty() && heading.result.is_none();
+    support_when(is_operation(heading) || is_bare)
 }
 
 /// Tells whether this is True or False (RM 3.5.3).
@@ -128,13 +136,15 @@ pub(crate) fn of_objects(objects: &Objects<Definition, Use>) -> Support
     }
 }
 
-/// Judges what is called: Put, Put_Line and New_Line are run (RM A.10.7).
-pub(crate) fn of_call(denoted: Denoted) -> Support
-    ensures { result ≡ spec.of_call denoted }
+/// Judges a call: those of Put, Put_Line and New_Line are run (RM A.10.7), and those of a subprogram of the text without actual parameters
+/// (RM 6.4).
+pub(crate) fn of_call(name: &Name<Use, Expression<Use>>) -> Support
+    ensures { result ≡ spec.of_call name.now }
 {
-    let is_run = matches!(
-        denoted,
-        Denoted::Library(LibraryName::Put | LibraryName::PutLine | LibraryName::NewLine)
-    );
+    let is_run = match name.first.denoted {
+        Denoted::Library(LibraryName::Put | LibraryName::PutLine | LibraryName::NewLine) => true,
+        Denoted::Declared(..) => name.suffixes.as_slice().is_empty(),
+        _ => false,
+    };
     support_when(is_run)
 }

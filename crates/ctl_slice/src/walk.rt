@@ -113,7 +113,7 @@ fn statement(statement: &Statement<Definition, Use>) -> Option<Span>
         | Statement::Assignment(..)
         | Statement::Exit(..)
         | Statement::Raise(..) => None,
-        Statement::Call(place, name) => where_left_out(of_call(name.first.denoted), *place),
+        Statement::Call(place, name) => where_left_out(of_call(name), *place),
         Statement::Return(_, None) => None,
         Statement::Return(place, Some(_)) => Some(*place),
         Statement::RaiseAgain(place) => Some(*place),
