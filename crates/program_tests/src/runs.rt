@@ -113,6 +113,13 @@ const EXTENDED: &[u8] =
 const EXTENDED_TRACE: &str =
     "initialize 1\nlive 1 m1\ninitialize 2\nlive 2 m1\nprint  50\nnewline\nfinalize 2 scope\nprint a 5\nnewline\nfinalize 1 scope\nprint c 12TRUE\nnewline\nend done\n";
 
+/// Procedures without parameters: they call themselves, their objects go as each is left, and an exception goes on (RM 6.4, 7.6.1, 11.4).
+const CALLED: &[u8] =
+    b"with Ada.Finalization; use Ada.Finalization; with Ada.Text_IO; use Ada.Text_IO; procedure Main is Depth : Integer := 0; type A is new Limited_Controlled with record N : Integer := 0; end record; overriding procedure Finalize (X : in out A); procedure Finalize (X : in out A) is begin Put_Line (\"f\" & Integer'Image (X.N)); end Finalize; procedure Step is V : A; begin Depth := Depth + 1; V.N := Depth; if Depth < 3 then Step; end if; Put_Line (Integer'Image (V.N)); end Step; procedure Fail is W : A; begin raise Constraint_Error; end Fail; begin for I in 1 .. 2 loop Step; Depth := I; end loop; Fail; Put_Line (\"never\"); end Main;";
+
+const CALLED_TRACE: &str =
+    "live 2 m2\nlive 3 m3\nlive 4 m4\nprint  3\nnewline\nfinalize 4 scope\nprint f 3\nnewline\nprint  2\nnewline\nfinalize 3 scope\nprint f 2\nnewline\nprint  1\nnewline\nfinalize 2 scope\nprint f 1\nnewline\nlive 5 m8\nlive 6 m9\nprint  3\nnewline\nfinalize 6 scope\nprint f 3\nnewline\nprint  2\nnewline\nfinalize 5 scope\nprint f 2\nnewline\nlive 7 m12\nfinalize 7 scope\nprint f 0\nnewline\nend raised Constraint_Error\n";
+
 /// A type of which there is no object.
 const TYPE_ALONE: &[u8] =
     b"procedure Main is type R is record N : Integer; end record; begin null; end Main;";
@@ -145,6 +152,7 @@ fn traces_of_runs(rt: HostRuntime) -> Result<(), Fail> {
         (DEFAULTS, 1000, DEFAULTS_TRACE),
         (ASSIGNED, 1000, ASSIGNED_TRACE),
         (EXTENDED, 1000, EXTENDED_TRACE),
+        (CALLED, 1000, CALLED_TRACE),
         (TYPE_ALONE, 1000, "end done\n"),
         (TURNS, 100, "end limit\n"),
     ] {
