@@ -21,7 +21,7 @@ ghost use Rattle.ctl_machine.specs.Shows as Shows;
 
 use crate::calls::replace_top;
 use crate::engine::Engine;
-use crate::frame::{Ended, Frame, Mode, Owned, Value};
+use crate::frame::{Ended, Frame, Mode, Value};
 use crate::holders::find;
 use crate::layers::{PROGRAM_ERROR, finalize_of};
 use crate::parts::{save_copy, size_of, write_parts};

@@ -1,4 +1,5 @@
-//! Calls of the bodies of operations: room is made, and the call of a Finalize.
+//! Calls of the bodies of operations: room is made, the call for an owned object of whichever active master, and the call of the
+//! Finalize of a layer.
 
 ghost use Rattle.std.specs.Prelude.{◌≡◌, ◌+◌, ◌^◌, ◌<◌, ◌≤◌, [], ◌∷◌, ◌++◌, List, ℕ, OnErr, OnOk, Some, drop, length, reverse, slice_get, slice_set, take, vec_capacity, vec_len};
 ghost use Rattle.ctl_tree.specs.declared.event.Cause.TheVariants.{Scope};
