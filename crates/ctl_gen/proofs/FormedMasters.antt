@@ -5,6 +5,7 @@ use Rattle.ctl_program.specs.declared.types.Ty.{Ty}
 use Rattle.ctl_program.specs.declared.types.Ty.TheVariants.{Integer, Count, Boolean, Address, Handle, Access, Record}
 use Rattle.ctl_program.specs.declared.types.Var.{Var}
 use Rattle.ctl_program.specs.declared.types.RecordType.{RecordType}
+use Rattle.ctl_program.specs.declared.expression.Actual.{Actual}
 use Rattle.ctl_program.specs.declared.expression.Expr.{Expr}
 use Rattle.ctl_program.specs.declared.statement.Item.{Item}
 use Rattle.ctl_program.specs.declared.statement.Item.TheVariants.{Object}
@@ -23,16 +24,17 @@ use Rattle.ctl_code.specs.declared.code.Instr.TheVariants as InstrOf
 use Rattle.ctl_code.specs.declared.code.Way.TheVariants as WayOf
 use Rattle.ctl_code.specs.declared.code.Code.{Code}
 use Rattle.ctl_code.specs.Windows.{variable_at}
-use Rattle.ctl_code.specs.Valid.{IsAtEnd, IsDeclarable, outermost}
+use Rattle.ctl_code.specs.Valid.{IsAtEnd, IsDeclarable, IsInScope, outermost}
 use Rattle.ctl_layout.specs.Around.{behind, local_at}
 use Rattle.ctl_layout.specs.declared.right.Reached.{Reached}
 use Rattle.ctl_layout.specs.declared.right.Reached.TheVariants as ReachedOf
 use Rattle.ctl_gen.proofs.Components.{part_formed}
 use Rattle.ctl_gen.proofs.RecordAssign.{record_formed}
+use Rattle.ctl_gen.proofs.Calls.{call_formed}
 use Rattle.ctl_layout.specs.Values.{ValueCode, copied, sourced, value_code, reached_by}
 use Rattle.ctl_layout.specs.Records.{is_run_type}
 use Rattle.ctl_layout.specs.Defaults.{is_outermost}
-use Rattle.ctl_layout.specs.Layout.{ArmCode, ItemCode, MasterCode, StatementCode, all, all_items, arm_code, arms_run, assign, assign_record, block, exit, return, has_no_handlers, in_master, inside, item_code, master_code, missing_statement, no_code, statement_code, tested, valued, with_value}
+use Rattle.ctl_layout.specs.Layout.{ArmCode, ItemCode, MasterCode, StatementCode, all, all_items, arm_code, arms_run, assign, assign_record, block, call, exit, return, has_no_handlers, in_master, inside, item_code, master_code, missing_statement, no_code, statement_code, tested, valued, with_value}
 use Rattle.ctl_gen.proofs.Known.{both_true}
 use Rattle.ctl_layout.proofs.TreeLayers.{arm_roll, layer_of, master_roll}
 use Rattle.ctl_gen.proofs.Place.{HasAt}
@@ -50,9 +52,9 @@ pub slots_told : {k : W.Setting} {env : W.Frames} {f : W.Frame} {a : D.Around} {
 slots_told (D.master {f = f} {is = items} {body = body} {hs = hs} elaborated done handled) =
     ap (λ (z : MasterCode). z.slots) (master_roll (record { slots = length f; items = items; body = body; handlers = hs }))
 
--- the operations of each record type that is declared around a place are declared there too
--- and those of one of the main procedure's own declarative part inside its master
-module _ (code : Code) (records : List RecordType) (k : W.Setting) (declarable : (env : W.Frames) (t : ℕ) → W.HasRecord k env t → IsDeclarable code (length env) t) (assignable : (t : ℕ) → is_outermost (slice_get records t) ≡ true → IsDeclarable code outermost t) (raisable : (x : ℕ) → x < k.exceptions → x < length code.exceptions.items) where
+-- the operations of each record type that is declared around a place are declared there too, and so is each subprogram that can be called
+-- there; and those of one of the main procedure's own declarative part inside its master
+module _ (code : Code) (records : List RecordType) (k : W.Setting) (declarable : (env : W.Frames) (t : ℕ) → W.HasRecord k env t → IsDeclarable code (length env) t) (callable : (env : W.Frames) (f : ℕ) (is : W.Signature) → W.Callable k env f is → IsInScope code (length env) (Some f)) (assignable : (t : ℕ) → is_outermost (slice_get records t) ≡ true → IsDeclarable code outermost t) (raisable : (x : ℕ) → x < k.exceptions → x < length code.exceptions.items) where
   -- Items ------------------------------------------------------------------------------------------
 
   may_declare : (env : W.Frames) (ty : Ty) → W.InView k env ty → MayDeclare code (length env) ty
@@ -127,6 +129,10 @@ module _ (code : Code) (records : List RecordType) (k : W.Setting) (declarable :
   record_good env (Some (ReachedOf.Variable v)) t (Some (ReachedOf.Component x u position)) runs a n p agrees texts can = absurd (cc)
   record_good env (Some (ReachedOf.Variable v)) t (Some (ReachedOf.Variable x)) runs a n p agrees texts can = record_formed code v x t a.stack (assignable t (both_true _ _ runs).1) p
 
+  call_good : {env : W.Frames} {f : ℕ} {is : W.Signature} (actuals : List Actual) → W.Callable k env f is → GoodStatement env (call f actuals)
+  call_good {env} {f} {is} [] can_call = λ runs a n p agrees texts can. call_formed code f a.stack (subst (λ m. IsInScope code m (Some f)) (sym agrees.deep) (callable env f is can_call)) p
+  call_good (x ∷ more) can_call = λ runs. absurd (cc)
+
   leaving_good : {env : W.Frames} (o : Option Expr) → Perhaps k env o Boolean → GoodStatement env (exit (option_map value_code o))
   leaving_good {env} None T.left_out runs = leaves_stay code env
   leaving_good {env} (Some e) (T.given h) runs = leaves_when_stay code env (value_code e) (usable_as code (value_code e) Boolean tt (typed_fine code records h runs))
@@ -199,7 +205,7 @@ module _ (code : Code) (records : List RecordType) (k : W.Setting) (declarable :
         (each_good h g.1))
     statement_good {env} (D.block {m = m} {f = f} h) = good_as env _ _ (layer_of _ (sym (rolls-Block m))) (block_good env f (master_code m) (slots_told h) (master_good h))
     statement_good {env} (D.assign_record {x = x} {t = t} {v = v} denotes fits) = good_as env _ _ (layer_of _ (sym (rolls-AssignRecord x t v))) (record_good env (reached_by x) t (sourced v))
-    statement_good {env} (D.call {s = f} {actuals = actuals} callable gives fits) = not_missing env _ (layer_of _ (sym (rolls-Call f actuals)))
+    statement_good {env} (D.call {s = f} {actuals = actuals} can_call gives fits) = good_as env _ _ (layer_of _ (sym (rolls-Call f actuals))) (call_good actuals can_call)
     statement_good {env} (D.nothing_done {x = x} views) = not_missing env _ (layer_of _ (sym (rolls-Nothing x)))
     statement_good {env} (D.dispatch {o = o} {x = x} views) = not_missing env _ (layer_of _ (sym (rolls-Dispatch o x)))
     statement_good {env} (D.library_allocate {p = p} {x = x} {size = size} {alignment = alignment} views rooted denotes h g) = not_missing env _ (layer_of _ (sym (rolls-LibraryAllocate p x size alignment)))

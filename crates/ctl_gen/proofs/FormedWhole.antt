@@ -256,6 +256,15 @@ module _ (program : Checked) (code : Code) (laid : IsLaidOut program code) (kind
   declarable : (env : W.Frames) (t : ℕ) → W.HasRecord typed.k env t → IsDeclarable code (length env) t
   declarable env t h = declarable_in (length env) t h.is h.home (not_more h.home env h.encloses) (sym (ap (λ rs. slice_get rs t) typed.fits.records) ∙ h.found) h.at_home
 
+  -- a subprogram that can be called there is in scope there
+  callable : (env : W.Frames) (f : ℕ) (is : W.Signature) → W.Callable typed.k env f is → IsInScope code (length env) (Some f)
+  callable env f is c =
+      let s = called program typed env f is c in
+      let x = entry_of f s.body s.found in
+      let level = s.fine.level in
+      let least = not_more is.home env c.encloses in
+      (entry_at x.0 s.body, x.1, omega (arith, level, least))
+
   -- the level of a type says how many masters are around it
   assignable : (t : ℕ) → is_outermost (slice_get program.records t) ≡ true → IsDeclarable code outermost t
   assignable t e = by (slice_get program.records t) refl e
@@ -284,7 +293,7 @@ module _ (program : Checked) (code : Code) (laid : IsLaidOut program code) (kind
       let frame = map W.OfFormal is.formals ++ h.others in
       let slots = (master_code s.body).slots in
       let over = subst (λ m. Agrees (is.home ++ frame ∷ []) (Body s.level m ∷ [])) (sym (slots_told h.body)) (agrees_body is.home frame s.level h.level) in
-      master_good code program.records typed.k declarable assignable raisable h.body runs (Body s.level slots) [] n p over texts tt
+      master_good code program.records typed.k declarable callable assignable raisable h.body runs (Body s.level slots) [] n p over texts tt
 
   good : (f : ℕ) (s : Subprogram) → slice_get program.subprograms f ≡ Some s → GoodBody code program.records s
   good f s e =

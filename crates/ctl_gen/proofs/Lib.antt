@@ -24,6 +24,7 @@ pub mod Leave
 pub mod Declare
 pub mod Copies
 pub mod RecordAssign
+pub mod Calls
 pub mod Texts
 pub mod Statements
 pub mod Ranges

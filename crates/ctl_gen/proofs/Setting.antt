@@ -33,8 +33,8 @@ use Rattle.ctl_gen.proofs.Follow.{IsRaise, Runs, gives}
 abbrev pub ArePlaced : Tables → Code → Type 0
 ArePlaced k code = (t position : ℕ) → is_flat k.records t ≡ true → offset_of code t position ≡ offset_in position (placed k t)
 
--- the machine's table names the operations and the components of the record types, the operations are among these subprograms, and the code
--- is well formed
+-- the machine's table names the operations and the components of the record types, the operations and all that have an entry are among
+-- these subprograms, and the code is well formed
 pub record Setting (k : Tables) (code : Code) : Type 0 where
   pub subprograms : List Subprogram
   pub valid : IsValid code
@@ -45,6 +45,7 @@ pub record Setting (k : Tables) (code : Code) : Type 0 where
   pub initialize : (t : ℕ) → operation_of (λ x. x.initialize) code t ≡ operation (λ x. x.initialize) k t
   pub adjust : (t : ℕ) (r : RecordType) → slice_get k.records t ≡ Some r → operation_of (λ x. x.adjust) code t ≡ adjust_by r.root r.operations.adjust
   pub finalize : (t : ℕ) → operation_of (λ x. x.finalize) code t ≡ operation (λ x. x.finalize) k t
+  pub body : (f : ℕ) (e : Entry) → slice_get code.entries.items f ≡ Some e → IsBody subprograms f
   pub initialize_body : (t f : ℕ) → operation (λ x. x.initialize) k t ≡ Some f → IsBody subprograms f
   pub adjust_body : (t f : ℕ) → operation (λ x. x.adjust) k t ≡ Some f → IsBody subprograms f
   pub finalize_body : (t f : ℕ) → operation (λ x. x.finalize) k t ≡ Some f → IsBody subprograms f

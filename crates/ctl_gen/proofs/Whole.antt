@@ -86,6 +86,12 @@ routine_at [] f s e = absurd (cc)
 routine_at (x ∷ ss) zero s e = let same : x ≡ s = cc e in ap (λ (y : Subprogram). Some (routine_of y)) same
 routine_at (x ∷ ss) (suc f) s e = routine_at ss f s e
 
+-- one that has an entry is among them
+entry_body : (place n : ℕ) (ss : List Subprogram) (f : ℕ) (e : Entry) → slice_get (entries_from place n ss) f ≡ Some e → IsBody ss f
+entry_body place n [] f e h = absurd (cc)
+entry_body place n (s ∷ ss) zero e h = (s, refl)
+entry_body place n (s ∷ ss) (suc f) e h = entry_body (place + length ((body_code s).code nowhere n)) (n + length (body_code s).texts) ss f e h
+
 -- an operation that the user wrote is among them
 initialize_written : (subprograms : List Subprogram) (o : Option RecordType) → ((r : RecordType) → o ≡ Some r → IsWritten subprograms r.operations.initialize) → (f : ℕ) → operation_in (λ x. x.initialize) o ≡ Some f → IsBody subprograms f
 unfolding operation_in
@@ -185,6 +191,7 @@ module _ (program : Checked) (code : Code) (laid : IsLaidOut program code) (kind
     initialize = λ t. ap (λ xs. Table.operation_in (λ x. x.initialize) (slice_get xs t)) laid.records ∙ initialize_in program.records t;
     adjust = λ t r e. ap (λ xs. Table.operation_in (λ x. x.adjust) (slice_get xs t)) laid.records ∙ adjust_in program.records t r e;
     finalize = λ t. ap (λ xs. Table.operation_in (λ x. x.finalize) (slice_get xs t)) laid.records ∙ finalize_in program.records t;
+    body = λ f e h. entry_body 1 0 program.subprograms f e (sym (ap (λ es. slice_get es f) laid.entries) ∙ h);
     initialize_body = λ t f e. initialize_written program.subprograms (slice_get program.records t) (linked.initialize t) f e;
     adjust_body = λ t f e. adjust_written program.subprograms (slice_get program.records t) (linked.adjust t) f e;
     finalize_body = λ t f e. finalize_written program.subprograms (slice_get program.records t) (linked.finalize t) f e;

@@ -13,10 +13,10 @@ ghost use Rattle.ctl_layout.specs.Texts as texts;
 ghost use Rattle.ctl_layout.specs.Layout as spec;
 
 use crate::emit::Emitter;
-use ctl_layout::right::{Reached, reached_by, sourced};
-use ctl_layout::typing::{copied, value_type};
 use ctl_code::code::{Instr, Way};
 use ctl_code::kinds::Kind;
+use ctl_layout::right::{Reached, reached_by, sourced};
+use ctl_layout::typing::{copied, value_type};
 use ctl_program::expression::{Actual, Expr, Name};
 use ctl_program::operators::Direction;
 use ctl_program::program::Subprogram;
@@ -173,6 +173,7 @@ impl Emitter {
             Stmt::Exit(condition) => self.exit(condition, landing),
             Stmt::Raise(exception) => self.put(Instr::Transfer(Way::Raise(*exception))),
             Stmt::Return(value) => self.leave_body(value, landing),
+            Stmt::Call(procedure, actuals) => self.call(*procedure, actuals.as_slice()),
             Stmt::If(arms, others) => {
                 let end = self.arms(arms.as_slice(), landing)?;
                 self.statements(others.as_slice(), landing)?;
@@ -185,8 +186,7 @@ impl Emitter {
                 self.for_loop(body.as_slice(), *parameter, *way, low, high)
             }
             Stmt::Block(master) => self.block(master.get(), landing),
-            Stmt::Call(..)
-            | Stmt::Nothing(_)
+            Stmt::Nothing(_)
             | Stmt::Dispatch(..)
             | Stmt::LibraryAllocate(..)
             | Stmt::LibraryDeallocate(..)
@@ -383,6 +383,16 @@ impl Emitter {
         match value {
             None => self.put(Instr::Transfer(Way::Return)),
             Some(_) => self.put(Instr::Missing),
+        }
+    }
+
+    /// Emits a call: of a procedure without parameters (RM 6.4).
+    fn call(&mut self, procedure: usize, actuals: &[Actual]) -> Result<(), AllocError>
+        ensures { OnOk result (self.new ≡ stated (spec.call procedure actuals.now) None self.old) }
+    {
+        match actuals {
+            [] => self.put(Instr::Call(procedure)),
+            [..] => self.put(Instr::Missing),
         }
     }
 

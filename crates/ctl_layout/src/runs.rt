@@ -1,6 +1,7 @@
 //! Whether this version runs each construct of a checked program.
 
-ghost use Rattle.std.specs.Prelude.{◌≡◌, ℕ, [], ◌∷◌, map, option_map, slice_get, Some};
+ghost use Rattle.std.specs.Prelude.{◌≡◌, ℕ, List, [], ◌∷◌, map, option_map, slice_get, Some};
+ghost use Rattle.ctl_program.specs.declared.types.RecordType.{RecordType};
 ghost use Rattle.ctl_program.specs.declared.types.Var.{Var};
 ghost use Rattle.ctl_layout.specs.Defaults as defaults;
 ghost use Rattle.ctl_layout.specs.Layout as spec;
@@ -373,6 +374,13 @@ fn is_return(value: &Option<Expr>) -> bool
     value.is_none()
 }
 
+/// Tells whether a call is run: of a procedure without parameters (RM 6.4).
+fn is_call(actuals: &[Actual]) -> bool
+    ensures { (number : ℕ) (records : List RecordType) → result ≡ (spec.call number actuals.now).runs records }
+{
+    actuals.is_empty()
+}
+
 /// Tells whether a statement is run.
 #[cycle(statements)]
 #[tactic(auto, unfolding(crate::specs::Layout::statement_code, crate::specs::Layout::master_code, crate::specs::Layout::arm_code))]
@@ -388,6 +396,7 @@ fn statement(statement: &Stmt, records: &[RecordType]) -> bool
         Stmt::Put(text) | Stmt::PutLine(text) => pieces(text.as_slice(), records),
         Stmt::Exit(condition) => is_exit(condition, records),
         Stmt::Return(value) => is_return(value),
+        Stmt::Call(_, actuals) => is_call(actuals.as_slice()),
         Stmt::If(arms, otherwise) => {
             conditional(arms.as_slice(), records) && statements(otherwise.as_slice(), records)
         }
@@ -397,8 +406,7 @@ fn statement(statement: &Stmt, records: &[RecordType]) -> bool
             value(low, records) && value(high, records) && statements(body.as_slice(), records)
         }
         Stmt::Block(inside) => master(inside.get(), records),
-        Stmt::Call(..)
-        | Stmt::Nothing(_)
+        Stmt::Nothing(_)
         | Stmt::Dispatch(..)
         | Stmt::LibraryAllocate(..)
         | Stmt::LibraryDeallocate(..)
