@@ -73,7 +73,9 @@ pub enum Frame {
         place: usize,
     },
     /// a procedure that was called, and the place where its call goes on (RM 6.4)
-    Calling { place: usize },
+    Calling {
+        place: usize,
+    },
     /// the Finalize of an owned object, by its place
     Finalizing(usize),
 }

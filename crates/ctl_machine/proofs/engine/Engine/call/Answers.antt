@@ -7,10 +7,9 @@ use Rattle.ctl_machine.specs.declared.frame.After.TheVariants as AfterOf
 use Rattle.ctl_machine.specs.declared.frame.Frame.{Frame}
 use Rattle.ctl_machine.specs.declared.frame.Frame.TheVariants.{Calling}
 use Rattle.ctl_machine.specs.declared.frame.Master.{Master}
-use Rattle.ctl_machine.specs.Masters.{first_display, first_window, heads_of}
+use Rattle.ctl_machine.specs.Masters.{first_window, heads_of}
 use Rattle.ctl_machine.specs.Moves.{cleared}
 use Rattle.ctl_machine.specs.Shows.{Kept, kept, with_master}
-use Rattle.ctl_machine.proofs.Bodies.{IsCall}
 use Rattle.ctl_machine.proofs.Links.{got}
 use Rattle.ctl_machine.proofs.ProcedureCalled.{call_makes, linked_before}
 use Rattle.ctl_machine.proofs.engine.Engine.call.Goals as goal
