@@ -73,3 +73,4 @@ pub mod Assignments
 pub mod Assigned
 pub mod Targets
 pub mod AfterAssigning
+pub mod ProcedureCalled

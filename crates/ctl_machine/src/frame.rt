@@ -72,6 +72,10 @@ pub enum Frame {
         value: Value,
         place: usize,
     },
+    /// a procedure that was called, and the place where its call goes on (RM 6.4)
+    Calling {
+        place: usize,
+    },
     /// the Finalize of an owned object, by its place
     Finalizing(usize),
 }

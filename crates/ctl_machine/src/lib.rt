@@ -21,6 +21,7 @@ pub mod machine;
 pub mod outcome;
 mod parts;
 mod printing;
+mod procedures;
 mod showing;
 mod start;
 mod step;

@@ -4,6 +4,8 @@
 #[cfg(test)]
 mod assigned;
 #[cfg(test)]
+mod called;
+#[cfg(test)]
 mod code;
 #[cfg(test)]
 mod filled;

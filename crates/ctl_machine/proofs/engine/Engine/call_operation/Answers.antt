@@ -4,9 +4,10 @@ use Rattle.std.proofs.lemmas.Option.{slice_get_within}
 use Rattle.ctl_machine.specs.declared.frame.Master.{Master}
 use Rattle.ctl_machine.specs.declared.frame.Owned.{Owned}
 use Rattle.ctl_machine.specs.Holders.{IsOwnerOf}
-use Rattle.ctl_machine.specs.Masters.{heads_of}
+use Rattle.ctl_machine.specs.Masters.{heads_of, display_from}
+use Rattle.ctl_machine.proofs.Bodies.{IsCall}
 use Rattle.ctl_machine.proofs.Links.{got}
-use Rattle.ctl_machine.proofs.Operations.{IsCall, call_within, linked_call, operation_makes}
+use Rattle.ctl_machine.proofs.Operations.{call_within, linked_call, operation_makes}
 use Rattle.ctl_machine.proofs.Resumed.{same_object}
 use Rattle.ctl_machine.proofs.engine.Engine.call_operation.Goals as goal
 
@@ -39,7 +40,7 @@ returns g c =
     let owner : IsOwnerOf old.masters.items c.args.at c.owner_of-owner.result = subst (λ (l : List Master). IsOwnerOf l c.args.at c.owner_of-owner.result) c.as_slice.ensures.value c.owner_of-owner.ensures in
     let b : Master = record { number = old.given_masters + 1; window = c.args.base; base = c.args.base; slots = entry.slots; link = c.around_from-link.result; depth = c.depth_at.result + 1; owned = c.count_owned.result; subject = c.index.result.now.number } in
     let subject = ap (λ (o : Owned). o.number) (same_object c.index.result.now g.t.object (slice_get owned c.args.at) (got owned c.args.at c.index.result.now (slice_get_within owned c.args.at g.t.object object) c.index.ensures) object) in
-    let is : IsCall old b entry c.args.base c.owner_of-owner.result (heads_of g.t.world.activations) g.t.object = record {
+    let is : IsCall old b entry c.args.base (display_from c.owner_of-owner.result (heads_of g.t.world.activations)) (heads_of g.t.world.activations) g.t.object.number = record {
       number = refl;
       window = refl;
       begins = refl;

@@ -1,0 +1,106 @@
+//! Procedures are called in a loop: each call goes on behind it, or the exception of its body goes on.
+
+use crate::lines::{CELL_2, CELL_3, CELL_4, FIRST, Line};
+use crate::machine::{FAREWELL, printed, valid_code_with_both};
+use ctl_code::code::{Cell, Instr, Way};
+use ctl_machine::machine::Machine;
+use ctl_machine::outcome::Outcome;
+use ctl_program::operators::Direction;
+use ctl_program::types::Ty;
+use ctl_tree::ending::End;
+use ctl_tree::request::Order;
+use std::alloc::Global;
+use std::test::Fail;
+
+/// A bound of the loop, as an operand.
+const fn bound(value: u64, to: Cell) -> Instr {
+    Instr::Set {
+        value,
+        ty: Ty::Integer,
+        to,
+    }
+}
+
+/// The parameter of the loop, as an operand over its bounds.
+const PARAMETER: Instr = Instr::Move {
+    from: FIRST,
+    ty: Ty::Integer,
+    to: CELL_4,
+};
+
+/// The first turn of a loop from 1 to 2, if there is one.
+const FOR: Instr = Instr::For {
+    low: 2,
+    slot: 0,
+    parameter: 0,
+    way: Direction::Upward,
+    length: 6,
+};
+
+/// Its next turn.
+const NEXT: Instr = Instr::Next {
+    low: 2,
+    slot: 0,
+    parameter: 0,
+    way: Direction::Upward,
+    length: 4,
+};
+
+/// The lines of a loop whose turns print the parameter, and call two procedures: one that prints a line, and one that does this.
+fn lines_of(alloc: Global, second: Instr) -> Result<Vec<Line>, Fail> {
+    Ok(vec![in alloc;
+        (Instr::Start(0), ""),
+        (bound(1, CELL_2), "m"),
+        (bound(2, CELL_3), "mi"),
+        (FOR, "mii"),
+        (Instr::Abandon(5), "mii"),
+        (PARAMETER, "mii"),
+        (Instr::Put { text: 1, first: 4 }, "miii"),
+        (Instr::Call(1), "mii"),
+        (Instr::Call(2), "mii"),
+        (NEXT, "mii"),
+        (Instr::NewLine, "m"),
+        (Instr::Leave, "m"),
+        (FAREWELL, "f"),
+        (Instr::Leave, "f"),
+        (second, "f"),
+        (Instr::Leave, "f"),
+    ]?)
+}
+
+/// Where the first procedure stands.
+const FIRST_BODY: usize = 12;
+
+/// Where the second one stands.
+const SECOND_BODY: usize = 14;
+
+/// A run of these lines.
+fn outcome_of(alloc: Global, second: Instr) -> Result<Outcome, Fail> {
+    let lines = lines_of(alloc, second)?;
+    let code = valid_code_with_both(alloc, lines.as_slice(), FIRST_BODY, SECOND_BODY)?;
+    let mut machine = Machine::new(alloc, &code, Order::Newest)?;
+    let _ = machine.run(1000);
+    Ok(machine.finish())
+}
+
+#[test]
+fn a_loop_goes_on_behind_each_call(rt: HostRuntime) -> Result<(), Fail> {
+    let alloc = rt.alloc();
+    let outcome = outcome_of(alloc, Instr::NewLine)?;
+    let bytes = printed(alloc, &outcome)?;
+    assert_eq!(rt; bytes.as_slice(), b" 1bye\n\n 2bye\n\n\n".as_slice());
+    Ok(())
+}
+
+#[test]
+fn an_exception_of_a_procedure_goes_on(rt: HostRuntime) -> Result<(), Fail> {
+    let alloc = rt.alloc();
+    let outcome = outcome_of(alloc, Instr::Transfer(Way::Raise(0)))?;
+    let bytes = printed(alloc, &outcome)?;
+    assert_eq!(rt; bytes.as_slice(), b" 1bye\n".as_slice());
+    let End::Raised(name) = &outcome.end else {
+        return Err(Fail::new("the run does not end by an exception"));
+    };
+    assert_eq!(rt; name.as_bytes(), b"CONSTRAINT_ERROR".as_slice());
+    Ok(())
+}
