@@ -47,8 +47,8 @@ const NEXT: Instr = Instr::Next {
 };
 
 /// The lines of a loop whose turns print the parameter, and call two procedures: one that prints a line, and one that does this.
-fn lines_of(alloc: Global, second: Instr) -> Result<Vec<Line>, Fail> {
-    Ok(vec![in alloc;
+fn lines_of(second: Instr) -> [Line; 16] {
+    [
         (Instr::Start(0), ""),
         (bound(1, CELL_2), "m"),
         (bound(2, CELL_3), "mi"),
@@ -65,7 +65,7 @@ fn lines_of(alloc: Global, second: Instr) -> Result<Vec<Line>, Fail> {
         (Instr::Leave, "f"),
         (second, "f"),
         (Instr::Leave, "f"),
-    ]?)
+    ]
 }
 
 /// Where the first procedure stands.
@@ -76,8 +76,7 @@ const SECOND_BODY: usize = 14;
 
 /// A run of these lines.
 fn outcome_of(alloc: Global, second: Instr) -> Result<Outcome, Fail> {
-    let lines = lines_of(alloc, second)?;
-    let code = valid_code_with_both(alloc, lines.as_slice(), FIRST_BODY, SECOND_BODY)?;
+    let code = valid_code_with_both(alloc, &lines_of(second), FIRST_BODY, SECOND_BODY)?;
     let mut machine = Machine::new(alloc, &code, Order::Newest)?;
     let _ = machine.run(1000);
     Ok(machine.finish())
