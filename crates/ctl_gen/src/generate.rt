@@ -12,9 +12,9 @@ ghost use Rattle.ctl_layout.specs.Layout as spec;
 ghost use Rattle.ctl_layout.specs.Layout.{AreLayouts, HasKinds, IsLaidOut, IsLayout, count_from, entry_at, operations_of};
 
 use crate::emit::Emitter;
-use ctl_layout::right::constant;
 use ctl_code::code::{Code, Defaulted, Entry, Instr, Layout, Operations, Parts};
 use ctl_code::valid::ValidCode;
+use ctl_layout::right::constant;
 use ctl_program::program::{Checked, Subprogram};
 use ctl_program::types::{Component, RecordType, Root};
 use ctl_tree::fault::{Fault, FaultCode};
