@@ -1,5 +1,5 @@
 -- Calls of procedures without parameters: their code is what is emitted, is well formed, and does what the program means (6.4).
-use Rattle.std.proofs.Common.{◌≡◌, ℕ, ◌+◌, List, [], ◌∷◌, Option, Some, None, refl, sym, subst, arith}
+use Rattle.std.proofs.Common.{◌≡◌, ℕ, ◌+◌, ◌<◌, List, [], ◌∷◌, length, Option, Some, None, refl, sym, subst, arith}
 use Rattle.ctl_program.specs.declared.expression.Actual.{Actual}
 use Rattle.ctl_meaning.specs.World.{World}
 use Rattle.ctl_meaning.specs.Choice.{Ask, picked}
@@ -15,7 +15,7 @@ use Rattle.ctl_code.specs.States.{Point, Frame, Calling, State}
 use Rattle.ctl_code.specs.Valid.{IsInScope}
 use Rattle.ctl_code.specs.Windows.{depth}
 use Rattle.ctl_layout.specs.Layout.{call as call_code}
-use Rattle.ctl_gen.specs.Emitted.{Emitted, stated}
+use Rattle.ctl_gen.specs.Emitted.{Emitted, lined, one as one_line, stated}
 use Rattle.ctl_gen.proofs.Formed.{Formed, one}
 use Rattle.ctl_gen.proofs.Worlds.{Kept}
 use Rattle.ctl_gen.proofs.Setting.{Setting, Calls, Told, returns, tools_with}
@@ -24,6 +24,11 @@ use Rattle.ctl_gen.proofs.Does.{Does}
 use Rattle.ctl_gen.proofs.Follow.{by_raise, Runs, Target, arrives, lands, more_halts, more_quits, then_step}
 
 -- Emitted -----------------------------------------------------------------------------------------
+
+-- one without actuals
+pub call_emitted : (f : ℕ) (actuals : List Actual) (e0 e1 : Emitted) → length actuals < 1 → e1 ≡ lined (one_line (InstrOf.Call f)) e0 → e1 ≡ stated (call_code f actuals) None e0
+call_emitted f [] e0 e1 few a = a
+call_emitted f (x ∷ more) e0 e1 few a = absurd (omega (arith, few))
 
 -- it is the same wherever control lands
 pub call_anywhere : (f : ℕ) (actuals : List Actual) (landing : Option ℕ) (e0 e1 : Emitted) → e1 ≡ stated (call_code f actuals) None e0 → e1 ≡ stated (call_code f actuals) landing e0
