@@ -59,7 +59,7 @@ const FETCH: Instr = Instr::FetchPart {
 
 /// The lines of a block with two objects, whose second one has a component with the value 7: the object in this slot is assigned to the
 /// first one, whose component is printed. The Finalize prints a line, and the Adjust ends one, or raises.
-fn lines_of(alloc: Global, source: usize, adjust: Instr) -> Result<Vec<Line>, Fail> {
+fn lines_of(source: usize, adjust: Instr) -> [Line; 19] {
     let set = Instr::Set {
         value: 7,
         ty: Ty::Integer,
@@ -69,7 +69,7 @@ fn lines_of(alloc: Global, source: usize, adjust: Instr) -> Result<Vec<Line>, Fa
         slots: 2,
         length: 11,
     };
-    Ok(vec![in alloc;
+    [
         (Instr::Start(0), ""),
         (enter, "m"),
         (Instr::Declare { slot: 0, record: 0 }, "m{"),
@@ -89,7 +89,7 @@ fn lines_of(alloc: Global, source: usize, adjust: Instr) -> Result<Vec<Line>, Fa
         (Instr::Leave, "f"),
         (adjust, "f"),
         (Instr::Leave, "f"),
-    ]?)
+    ]
 }
 
 /// Where the Finalize of the record type stands.
@@ -100,8 +100,7 @@ const ADJUST: usize = 17;
 
 /// A run of these lines.
 fn outcome_of(alloc: Global, source: usize, adjust: Instr) -> Result<Outcome, Fail> {
-    let lines = lines_of(alloc, source, adjust)?;
-    let code = valid_code_with_both(alloc, lines.as_slice(), FINALIZE, ADJUST)?;
+    let code = valid_code_with_both(alloc, &lines_of(source, adjust), FINALIZE, ADJUST)?;
     let mut machine = Machine::new(alloc, &code, Order::Newest)?;
     let _ = machine.run(1000);
     Ok(machine.finish())
