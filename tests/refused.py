@@ -108,13 +108,13 @@ TEXTS = [
     (CONTROLLED + "type T is new Controlled with null record; X, Y : T; begin X := Y; end Main;", ACCEPTED, 1, 1),
     (CONTROLLED + "type T is new Controlled with null record; X : T; Y : T := X; begin X := Y; end Main;", ACCEPTED, 1, 1),
     (CONTROLLED + "begin declare type T is new Controlled with null record; X, Y : T; begin X := Y; end; end Main;", 12, 1, 46),
-    (CONTROLLED + "type T is new Limited_Controlled with null record; X, Y : T; begin X := Y; end Main;", 30, 1, 138),
+    (CONTROLLED + "type T is new Limited_Controlled with null record; X, Y : T; begin X := Y; end Main;", 32, 1, 131),
     # procedures without parameters are run; others, and functions, are left out where they stand, unless nothing calls them
     (ITEM + "procedure P is begin null; end P; begin P; end Main;", ACCEPTED, 1, 1),
     (ITEM + "procedure P (N : Integer) is begin null; end P; begin P (1); end Main;", 12, 1, 19),
     # a type that extends another of the text inherits its components
     (CONTROLLED + "type T is new Controlled with record N : Integer := 1; end record; type U is new T with record B : Boolean; end record; X, Y : U; begin X.B := X.N = 1; Y := X; end Main;", ACCEPTED, 1, 1),
-    (CONTROLLED + "type T is new Controlled with record N : Integer := 1; end record; type U is new T with record N : Boolean; end record; X : U; begin null; end Main;", 30, 1, 157),
+    (CONTROLLED + "type T is new Controlled with record N : Integer := 1; end record; type U is new T with record N : Boolean; end record; X : U; begin null; end Main;", 21, 1, 159),
     (CONTROLLED + "type T is new Controlled with null record; X : T; Y : T := X; begin null; end Main;", ACCEPTED, 1, 1),
     (CONTROLLED + "type T is new Controlled with null record; X, Y : T; begin X := Y; X := 1; end Main;", 30, 1, 136),
     # components of Integer and Boolean are run, in objects of controlled types, where their defaults are constants; others are left out at
