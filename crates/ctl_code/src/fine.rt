@@ -278,6 +278,22 @@ fn is_transfer_fine(code: &Code, place: usize, way: Way) -> bool
     }
 }
 
+/// Checks the beginning of statements that are handled: that it stands in a master, and so do its handlers (RM 11.2).
+fn is_handle_fine(code: &Code, place: usize, length: usize) -> bool
+    requires { place + 1 < 2 ^ 64 }
+    ensures { IsTrue result ↔ IsFine code.now place (I.Handle length) (stack_at code.now.kinds place) }
+{
+    is_at_end(code, place) && branches(code, place, 0, length)
+}
+
+/// Checks a choice of a handler: that its exception is one of the table (RM 11.2).
+fn is_catch_fine(code: &Code, place: usize, exception: usize, length: usize) -> bool
+    requires { place + 1 < 2 ^ 64 }
+    ensures { IsTrue result ↔ IsFine code.now place (I.Catch exception length) (stack_at code.now.kinds place) }
+{
+    exception < code.exceptions.len() && branches(code, place, 0, length)
+}
+
 /// Checks an operator whose right operand is a constant (RM 4.5).
 fn is_constant_fine(
     code: &Code,
@@ -532,6 +548,9 @@ pub fn is_fine(code: &Code, place: usize, instr: &Instr) -> bool
         Instr::Leave => is_at_end(code, place),
         Instr::Call(number) => is_call_fine(code, place, number),
         Instr::Transfer(way) => is_transfer_fine(code, place, way),
+        Instr::Handle(length) => is_handle_fine(code, place, length),
+        Instr::Catch { exception, length } => is_catch_fine(code, place, exception, length),
+        Instr::RaiseAgain => true,
         Instr::Declare { slot: _, record } => is_declare_fine(code, place, record),
         Instr::DeclareCopy { record, at, .. } => is_copy_fine(code, place, record, at),
         Instr::Number | Instr::NewLine => leads_on(code, place, 0, None),

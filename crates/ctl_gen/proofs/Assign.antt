@@ -90,7 +90,7 @@ module _ (ask : Ask) (k : Tables) (code : Code) (valid : IsValid code) (bound : 
       ∙ ap (at d (q + 1) ks ops l1) (assigned_is d s x m w1 w0 sees)))
       (λ z c1 l1 w1 lo fits1. no_step ask code (Kept k code w0) 8 8 _ c1 0 (arrives (lands a place) d (q + 1) ks ops) (Leaves (ByRaise z)) l1 w1 fits1 refl))
 
-  pub assign_runs : (x : Var) (find : List ℕ → Act Found) → Uses ask k code (λ w. Fits k code w) x find → (y : ValueCode) (act : List ℕ → Act (List ℕ)) → ((w0 : World) → Value ask k code (Since k code w0) y act) → Does ask k code bound (λ a. assign_code (local_at a.stack x) x y a.stack) (λ d. ticked (find d >>= (λ f. act d >>= write_found f)))
+  pub assign_runs : (x : Var) (find : List ℕ → Act Found) → Uses ask k code (λ w. Fits k code w) x find → (y : ValueCode) (act : List ℕ → Act (List ℕ)) → ((w0 : World) → Value ask k code (Since k code w0) y act) → Does ask k code bound (λ a. assign_code (local_at a.stack x) x y a.stack) (λ d caught. ticked (find d >>= (λ f. act d >>= write_found f)))
   unfolding opened_outcome
   assign_runs x find uses y act value a w0 d place ks ops c l w le fits sees has =
       subst (λ o. Runs ask code (Kept k code w0) 0 0 (at d place ks ops l w) c (arrives (lands a place) d (place + length (assign_code (local_at a.stack x) x y a.stack)) ks ops) (add 1 (bind o (on_goes (λ f. act d >>= write_found f))))) (sym (uses d c l w))
@@ -135,7 +135,7 @@ module _ (ask : Ask) (k : Tables) (code : Code) (valid : IsValid code) (bound : 
     value_is (Record t) known d slot n c l w = absurd known
 
     -- without a value
-    by_slot : (o : Option ℕ) (slot : ℕ) (ty : Ty) → IsScalar ty → Does ask k code bound (λ a. scalar_code o slot ty a.stack) (λ d. ticked (done None >>= declare (category_of ty) K (last_of d) slot ty))
+    by_slot : (o : Option ℕ) (slot : ℕ) (ty : Ty) → IsScalar ty → Does ask k code bound (λ a. scalar_code o slot ty a.stack) (λ d caught. ticked (done None >>= declare (category_of ty) K (last_of d) slot ty))
     unfolding opened_outcome
     by_slot None slot ty known a w0 d place ks ops c l w le fits sees has = absurd (never_missing code valid place a.stack has.0 has.1)
     by_slot (Some n) slot ty known a w0 d place ks ops c l w le fits sees has =
@@ -146,11 +146,11 @@ module _ (ask : Ask) (k : Tables) (code : Code) (valid : IsValid code) (bound : 
         (last_step ask code (Kept k code w0) 1 1 (at d (place + 1) ks ops l (with_cell d 0 slot 0 w)) c 0 (arrives (lands a place) d (place + 2) ks ops) (Goes tt) l (declared d slot 0 w) (omega arith) (since_declared d slot 0 w0 w fits)
         (by_code ask code d (place + 1) ks ops l (with_cell d 0 slot 0 w) InstrOf.Number has.2.0 ∙ ap (λ p. at d p ks ops l (take_object_number (with_cell d 0 slot 0 w))) e ∙ ap (at d (place + 2) ks ops l) (declared_is d slot 0 w fits.0)))))
 
-    pub scalar_runs : (slot : ℕ) (ty : Ty) → IsScalar ty → Does ask k code bound (λ a. scalar_code (variable_at a.stack 0 slot) slot ty a.stack) (λ d. ticked (done None >>= declare (category_of ty) K (last_of d) slot ty))
+    pub scalar_runs : (slot : ℕ) (ty : Ty) → IsScalar ty → Does ask k code bound (λ a. scalar_code (variable_at a.stack 0 slot) slot ty a.stack) (λ d caught. ticked (done None >>= declare (category_of ty) K (last_of d) slot ty))
     scalar_runs slot ty known a w0 d place ks ops c l w le fits sees has = by_slot (variable_at a.stack 0 slot) slot ty known a w0 d place ks ops c l w le fits sees has
 
     -- with its value
-    valued_by : (o : Option ℕ) (slot : ℕ) (ty : Ty) (x : ValueCode) (act : List ℕ → Act (List ℕ)) → IsScalar ty → ((w0 : World) → Value ask k code (Since k code w0) x act) → Does ask k code bound (λ a. valued_code o slot ty x a.stack) (λ d. ticked ((act d >>= (λ u. done (Some u))) >>= declare (category_of ty) K (last_of d) slot ty))
+    valued_by : (o : Option ℕ) (slot : ℕ) (ty : Ty) (x : ValueCode) (act : List ℕ → Act (List ℕ)) → IsScalar ty → ((w0 : World) → Value ask k code (Since k code w0) x act) → Does ask k code bound (λ a. valued_code o slot ty x a.stack) (λ d caught. ticked ((act d >>= (λ u. done (Some u))) >>= declare (category_of ty) K (last_of d) slot ty))
     unfolding opened_outcome scalar_of opened_lists
     valued_by None slot ty x act known value a w0 d place ks ops c l w le fits sees has = absurd (never_missing code valid place a.stack has.0 has.1)
     valued_by (Some n) slot ty x act known value a w0 d place ks ops c l w le fits sees has =
@@ -170,5 +170,5 @@ module _ (ask : Ask) (k : Tables) (code : Code) (valid : IsValid code) (bound : 
         (by_code ask code d q ks ops l1 (with_cell d 0 slot m w1) InstrOf.Number there ∙ ap (at d (q + 1) ks ops l1) (declared_is d slot m w1 fits1.0))))
         (λ z c1 l1 w1 lo fits1. no_step ask code (Kept k code w0) 1 1 _ c1 0 (arrives (lands a place) d (q + 1) ks ops) (Leaves (ByRaise z)) l1 w1 fits1 refl))))
 
-    pub valued_runs : (slot : ℕ) (ty : Ty) (x : ValueCode) (act : List ℕ → Act (List ℕ)) → IsScalar ty → ((w0 : World) → Value ask k code (Since k code w0) x act) → Does ask k code bound (λ a. valued_code (variable_at a.stack 0 slot) slot ty x a.stack) (λ d. ticked ((act d >>= (λ u. done (Some u))) >>= declare (category_of ty) K (last_of d) slot ty))
+    pub valued_runs : (slot : ℕ) (ty : Ty) (x : ValueCode) (act : List ℕ → Act (List ℕ)) → IsScalar ty → ((w0 : World) → Value ask k code (Since k code w0) x act) → Does ask k code bound (λ a. valued_code (variable_at a.stack 0 slot) slot ty x a.stack) (λ d caught. ticked ((act d >>= (λ u. done (Some u))) >>= declare (category_of ty) K (last_of d) slot ty))
     valued_runs slot ty x act known value a w0 d place ks ops c l w le fits sees has = valued_by (variable_at a.stack 0 slot) slot ty x act known value a w0 d place ks ops c l w le fits sees has

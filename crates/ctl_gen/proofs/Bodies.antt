@@ -19,7 +19,7 @@ use Rattle.ctl_code.specs.declared.code.Entry.{Entry}
 use Rattle.ctl_code.specs.declared.code.Instr.TheVariants as InstrOf
 use Rattle.ctl_code.specs.declared.code.Code.{Code}
 use Rattle.ctl_code.specs.declared.kinds.Kind.TheVariants as KindOf
-use Rattle.ctl_code.specs.States.{AfterBody, Frame, InMaster, State}
+use Rattle.ctl_code.specs.States.{AfterBody, Frame, State}
 use Rattle.ctl_code.specs.Table.{behind, enter_body}
 use Rattle.ctl_code.specs.Valid.{IsInScope}
 use Rattle.ctl_code.specs.Steps.{moved, step, start}
@@ -30,7 +30,7 @@ use Rattle.ctl_gen.proofs.Worlds.{Each, IsWhole, whole_unset, Since, fits_empty,
 use Rattle.ctl_gen.proofs.Setting.{Setting, returns, Told, Calls}
 use Rattle.ctl_gen.proofs.Defaults.{GivesDefaults}
 use Rattle.ctl_gen.proofs.Cells.{by_code}
-use Rattle.ctl_gen.proofs.Leave.{leaves}
+use Rattle.ctl_gen.proofs.Leave.{in_frame, leaves}
 use Rattle.ctl_gen.proofs.Executed.{master_does}
 use Rattle.ctl_gen.proofs.Follow.{by_raise, IsGoing, Runs, way_of, at, added, no_step, both}
 
@@ -69,11 +69,11 @@ module _ (ask : Ask) (p : Meaning) (code : Code) (setting : Setting p.tables cod
   k = p.tables
 
   -- the step that enters a body
-  entered : (f : ℕ) (s : Subprogram) (x : Stands k code f s) (env : List ℕ) (actuals : List Slot) (ks : List Frame) (l : Log) (w : World) → moved l (enter_body (slice_get code.entries.items f) [] env actuals ks w) ≡ at (take s.level env ++ w.ledger.next_master ∷ []) x.place (InMaster w.ledger.next_master AfterBody ∷ ks) [] l (open_master (take s.level env) (slots_for (body_of s.body) actuals) w)
+  entered : (f : ℕ) (s : Subprogram) (x : Stands k code f s) (env : List ℕ) (actuals : List Slot) (ks : List Frame) (l : Log) (w : World) → moved l (enter_body (slice_get code.entries.items f) [] env actuals ks w) ≡ at (take s.level env ++ w.ledger.next_master ∷ []) x.place (in_frame w.ledger.next_master 0 AfterBody ks) [] l (open_master (take s.level env) (slots_for (body_of s.body) actuals) w)
   unfolding slots_for unset_slots
   entered f s x env actuals ks l w =
       ap (λ e. moved l (enter_body e [] env actuals ks w)) x.entry
-      ∙ ap (λ n. at (take s.level env ++ w.ledger.next_master ∷ []) x.place (InMaster w.ledger.next_master AfterBody ∷ ks) [] l (open_master (take s.level env) (actuals ++ drop (length actuals) (replicate n unset)) w)) (slots_alike s.body)
+      ∙ ap (λ n. at (take s.level env ++ w.ledger.next_master ∷ []) x.place (in_frame w.ledger.next_master 0 AfterBody ks) [] l (open_master (take s.level env) (actuals ++ drop (length actuals) (replicate n unset)) w)) (slots_alike s.body)
 
   whole_slots : (s : Subprogram) (actuals : List Slot) → Each IsWhole actuals → Each IsWhole (slots_for (body_of s.body) actuals)
   unfolding slots_for unset_slots
@@ -94,7 +94,7 @@ module _ (ask : Ask) (p : Meaning) (code : Code) (setting : Setting p.tables cod
       on (Leaves (ByRaise e)) = no_step ask code (Told k code w0) 0 0 _ c 0 (returns {A = Returned} ks) (Leaves (ByRaise e)) l w fits refl
 
   -- a body, from the step that enters it
-  number_runs : (call : Names.Call) (bound : ℕ) → Calls ask k code setting bound call → (f : ℕ) (s : Subprogram) → slice_get setting.subprograms f ≡ Some s → (w0 : World) (env : List ℕ) (actuals : List Slot) (ks : List Frame) (c0 c : ℕ) (l : Log) (w : World) (s0 : State) → c ≤ bound → c ≤ c0 → c0 ≤ c + 1 → Since k code w0 w → IsInScope code (length env) (Some f) → Each IsWhole actuals → step ask code s0 ≡ moved l (enter_body (slice_get code.entries.items f) [] env actuals ks w) → Runs ask code (Told k code w0) 0 1 s0 c0 (returns ks) (run_number p (tools_with ask p call) env actuals f c l w)
+  number_runs : (call : Names.Call) (bound : ℕ) → Calls ask k code setting bound call → (f : ℕ) (s : Subprogram) → slice_get setting.subprograms f ≡ Some s → (w0 : World) (env : List ℕ) (actuals : List Slot) (ks : List Frame) (c0 c : ℕ) (l : Log) (w : World) (s0 : State) → c ≤ bound → c ≤ c0 → c0 ≤ c + 1 → Since k code w0 w → IsInScope code (length env) (Some f) → Each IsWhole actuals → step ask code s0 ≡ moved l (enter_body (slice_get code.entries.items f) [] env actuals ks w) → Runs ask code (Told k code w0) 0 2 s0 c0 (returns ks) (run_number p (tools_with ask p call) env actuals f c l w)
   unfolding run_number run_routine tools_with opened_outcome
   number_runs call bound calls f s here w0 env actuals ks c0 c l w s0 le lo hi fits scope whole first =
       let x : Stands k code f s = bodies f s here in
@@ -102,27 +102,27 @@ module _ (ask : Ask) (p : Meaning) (code : Code) (setting : Setting p.tables cod
       let known : scope.0 ≡ entry_at x.place s = cc (sym scope.1 ∙ x.entry) in
       let level : s.level ≤ length env = subst (λ (e : Entry). e.level ≤ length env) known scope.2 in
       let long : length (take s.level env) + 1 ≡ s.level + 1 = ap (λ n. n + 1) (taken_length s.level env level) in
-      subst (λ o. Runs ask code (Told k code w0) 0 1 s0 c0 (returns ks) o) (sym (ap (λ y. on_some y gone (run_routine (tools_with ask p call) env actuals) c l w) (meant f s here)))
-      (subst (λ (b : SubprogramKind). Runs ask code (Told k code w0) 0 1 s0 c0 (returns ks) (bind (in_master (tools_with ask p call) (take s.level env) (slots_for (body_of s.body) actuals) inner c l w) (on_goes (λ (y : Left). returned b y.slots y.result)))) (sym x.procedure)
-      (both ask code (Told k code w0) (Told k code w0) 0 1 0 0 0 1 s0 c0 (leaves AfterBody ks) (returns ks) _ (on_goes (λ (y : Left). returned Procedure y.slots y.result)) (omega arith) (omega arith) (omega arith)
+      subst (λ o. Runs ask code (Told k code w0) 0 2 s0 c0 (returns ks) o) (sym (ap (λ y. on_some y gone (run_routine (tools_with ask p call) env actuals) c l w) (meant f s here)))
+      (subst (λ (b : SubprogramKind). Runs ask code (Told k code w0) 0 2 s0 c0 (returns ks) (bind (in_master (tools_with ask p call) (take s.level env) (slots_for (body_of s.body) actuals) inner c l w) (on_goes (λ (y : Left). returned b y.slots y.result)))) (sym x.procedure)
+      (both ask code (Told k code w0) (Told k code w0) 0 2 0 0 0 2 s0 c0 (leaves AfterBody ks) (returns ks) _ (on_goes (λ (y : Left). returned Procedure y.slots y.result)) (omega arith) (omega arith) (omega arith)
       ((master_does ask k code setting call (default_in p.defaults (expression_tools ask p call)) (constants call) bound calls s.body).inside x.runs x.before x.texts 0 (KindOf.Body s.level (master_code s.body).slots) [] w0 (take s.level env) (slots_for (body_of s.body) actuals) AfterBody ks c0 c l w s0 x.place le lo hi fits long (whole_slots s actuals whole) x.instructions (first ∙ entered f s x env actuals ks l w))
       (λ r c1 l1 w1 lo1 fits1. behind_call w0 ks r c1 l1 w1 fits1)))
 
   -- an execution takes one from the clock, and is a tick
-  call_runs : (n c : ℕ) → c ≤ n → (f : ℕ) (s : Subprogram) → slice_get setting.subprograms f ≡ Some s → (w0 : World) (v : List ℕ) (actuals : List Slot) (ks : List Frame) (l : Log) (w : World) (s0 : State) → Since k code w0 w → IsInScope code (length v) (Some f) → Each IsWhole actuals → step ask code s0 ≡ moved l (enter_body (slice_get code.entries.items f) [] v actuals ks w) → Runs ask code (Told k code w0) 2 2 s0 c (returns ks) (execution ask p (suc n) (OfSubprogram f actuals) v c l w)
+  call_runs : (n c : ℕ) → c ≤ n → (f : ℕ) (s : Subprogram) → slice_get setting.subprograms f ≡ Some s → (w0 : World) (v : List ℕ) (actuals : List Slot) (ks : List Frame) (l : Log) (w : World) (s0 : State) → Since k code w0 w → IsInScope code (length v) (Some f) → Each IsWhole actuals → step ask code s0 ≡ moved l (enter_body (slice_get code.entries.items f) [] v actuals ks w) → Runs ask code (Told k code w0) 2 3 s0 c (returns ks) (execution ask p (suc n) (OfSubprogram f actuals) v c l w)
   unfolding execution execute opened_outcome
   call_runs n zero le f s here w0 v actuals ks l w s0 fits scope whole first =
       let e = first ∙ entered f s (bodies f s here) v actuals ks l w in
       record { n = 1; in_time = omega arith; logged = ap (λ (x : State). x.log) e; going = subst IsGoing (sym e) tt; why = inl (omega arith) }
   call_runs zero (suc c) le f s here w0 v actuals ks l w s0 fits scope whole first = absurd (omega (arith, le))
   call_runs (suc n) (suc c) le f s here w0 v actuals ks l w s0 fits scope whole first =
-      added ask code (Told k code w0) 1 0 1 2 2 s0 (suc c) (returns ks) _ (omega arith) (omega arith)
+      added ask code (Told k code w0) 1 0 2 2 3 s0 (suc c) (returns ks) _ (omega arith) (omega arith)
       (number_runs (execution ask p (suc n)) n (record { runs = λ f1 s1 here1 w1 v1 actuals1 ks1 c1 l1 w2 s2 le1 fits1 scope1 whole1 first1. call_runs n c1 le1 f1 s1 here1 w1 v1 actuals1 ks1 l1 w2 s2 fits1 scope1 whole1 first1 }) f s here w0 v actuals ks (suc c) c l w s0 (omega (arith, le)) (omega arith) (omega arith) fits scope whole first)
 
   calls_run : (n : ℕ) → Calls ask k code setting n (execution ask p (suc n))
   calls_run n = record { runs = λ f s here w0 v actuals ks c l w s0 le fits scope whole first. call_runs n c le f s here w0 v actuals ks l w s0 fits scope whole first }
 
   -- the main procedure, which is declared in no master
-  pub main_runs : (main : ℕ) (s : Subprogram) → slice_get setting.subprograms main ≡ Some s → IsInScope code 0 (Some main) → slice_get code.instructions.items 0 ≡ Some (InstrOf.Start main) → (clock : ℕ) → Runs ask code (Told k code empty_world) 0 1 start clock (returns []) (run_meaning p main ask clock)
+  pub main_runs : (main : ℕ) (s : Subprogram) → slice_get setting.subprograms main ≡ Some s → IsInScope code 0 (Some main) → slice_get code.instructions.items 0 ≡ Some (InstrOf.Start main) → (clock : ℕ) → Runs ask code (Told k code empty_world) 0 2 start clock (returns []) (run_meaning p main ask clock)
   unfolding run_meaning tools
   main_runs main s here scope has clock = number_runs (execution ask p (suc clock)) clock (calls_run clock) main s here empty_world [] [] [] clock clock empty_log empty_world start (omega arith) (omega arith) (omega arith) (fits_empty k code, keeps_itself k code empty_world) scope tt (by_code ask code [] 0 [] [] empty_log empty_world (InstrOf.Start main) has)

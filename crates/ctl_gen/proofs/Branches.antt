@@ -14,6 +14,7 @@ use Rattle.ctl_code.specs.declared.code.Instr.TheVariants as InstrOf
 use Rattle.ctl_code.specs.declared.code.Code.{Code}
 use Rattle.ctl_code.specs.States.{Frame, State}
 use Rattle.ctl_code.specs.Steps.{step, steps}
+use Rattle.ctl_code.specs.Table.{caught_in}
 use Rattle.ctl_layout.specs.Around.{Line, Around, behind}
 use Rattle.ctl_layout.specs.Values.{ValueCode, held}
 use Rattle.ctl_layout.specs.Layout.{test_code, test_length}
@@ -35,10 +36,10 @@ module _ (ask : Ask) (k : Tables) (code : Code) (bound : ℕ) where
   arm_of y more x a = test_code y a.stack (length (x (behind (test_length y a.stack) a)) + more) ++ x (behind (test_length y a.stack) a)
 
   -- an arm, or what stands behind it
-  pub arm_runs : (b more : ℕ) → b ≤ 1 → (y : ValueCode) (test : List ℕ → Act (List ℕ)) → ((w0 : World) → Value ask k code (Since k code w0) y test) → (x : Around → List Line) (act : List ℕ → Act Done) → DoesIn b ask k code bound x act → (other : Act Done) (a : Around) (w0 : World) (d : List ℕ) (place place1 : ℕ) (ks : List Frame) (ops : List ℕ) (c : ℕ) (l : Log) (w : World) → c ≤ bound → Since k code w0 w → Sees d a.stack w0 → Laid code place (arm_of y more x a) → Ends d (place + length (arm_of y more x a)) place1 ks ops → ((c1 : ℕ) (l1 : Log) (w1 : World) → c1 ≤ c → Since k code w0 w1 → Runs ask code (Kept k code w0) 0 0 (at d (place + length (arm_of y more x a) + more) ks ops l1 w1) c1 (arrives (lands a place) d place1 ks ops) (other c1 l1 w1)) → Runs ask code (Kept k code w0) 0 0 (at d place ks ops l w) c (arrives (lands a place) d place1 ks ops) (scalar (test d) (λ b. either (is_true b) (act d) other) c l w)
+  pub arm_runs : (b more : ℕ) → b ≤ 1 → (y : ValueCode) (test : List ℕ → Act (List ℕ)) → ((w0 : World) → Value ask k code (Since k code w0) y test) → (x : Around → List Line) (act : List ℕ → ℕ → Act Done) → DoesIn b ask k code bound x act → (other : Act Done) (a : Around) (w0 : World) (d : List ℕ) (place place1 : ℕ) (ks : List Frame) (ops : List ℕ) (c : ℕ) (l : Log) (w : World) → c ≤ bound → Since k code w0 w → Sees d a.stack w0 → Laid code place (arm_of y more x a) → Ends d (place + length (arm_of y more x a)) place1 ks ops → ((c1 : ℕ) (l1 : Log) (w1 : World) → c1 ≤ c → Since k code w0 w1 → Runs ask code (Kept k code w0) 0 0 (at d (place + length (arm_of y more x a) + more) ks ops l1 w1) c1 (arrives (lands a place) d place1 ks ops) (other c1 l1 w1)) → Runs ask code (Kept k code w0) 0 0 (at d place ks ops l w) c (arrives (lands a place) d place1 ks ops) (scalar (test d) (λ b. either (is_true b) (act d (caught_in ks)) other) c l w)
   unfolding scalar opened_outcome scalar_of opened_lists
   arm_runs b more few y test value x act does other a w0 d place place1 ks ops c l w le fits sees has ends elses =
-      test_runs ask k code bound (on_goes (λ u. either (is_true (scalar_of u)) (act d) other)) w0 y test (value w0) a.stack (length is + more) d place ks ops c l w (arrives e d place1 ks ops) fits sees (laid_front code place (test_code y a.stack (length is + more)) is has)
+      test_runs ask k code bound (on_goes (λ u. either (is_true (scalar_of u)) (act d (caught_in ks)) other)) w0 y test (value w0) a.stack (length is + more) d place ks ops c l w (arrives e d place1 ks ops) fits sees (laid_front code place (test_code y a.stack (length is + more)) is has)
       (λ m c1 l1 w1 s0 lo fits1 first going logged. by m c1 l1 w1 s0 lo fits1 (is_true m) refl first)
       (λ z c1 l1 w1 lo fits1. no_step ask code (Kept k code w0) 8 8 _ c1 0 (arrives e d place1 ks ops) (Leaves (ByRaise z)) l1 w1 fits1 refl)
     where
@@ -67,24 +68,24 @@ module _ (ask : Ask) (k : Tables) (code : Code) (bound : ℕ) where
       over (Goes z) l1 w1 = let v = ends l1 w1 in (v.0, v.1, ap (λ p. steps ask code v.0 (at d p ks ops l1 w1)) far ∙ v.2)
       over (Leaves v) l1 w1 = (0, omega arith, ap (λ z. leads z v d ks ops l1 w1) (landing_further a.landing (test_length y a.stack) place))
 
-      by : (m c1 : ℕ) (l1 : Log) (w1 : World) (s0 : State) → c1 ≤ c → Since k code w0 w1 → (t : Bool) → is_true m ≡ t → step ask code s0 ≡ at d (place + test_length y a.stack + (if is_true m then 0 else length (x (behind (test_length y a.stack) a)) + more)) ks ops l1 w1 → Runs ask code (Kept k code w0) 8 8 s0 c1 (arrives (lands a place) d place1 ks ops) (either (is_true m) (act d) other c1 l1 w1)
+      by : (m c1 : ℕ) (l1 : Log) (w1 : World) (s0 : State) → c1 ≤ c → Since k code w0 w1 → (t : Bool) → is_true m ≡ t → step ask code s0 ≡ at d (place + test_length y a.stack + (if is_true m then 0 else length (x (behind (test_length y a.stack) a)) + more)) ks ops l1 w1 → Runs ask code (Kept k code w0) 8 8 s0 c1 (arrives (lands a place) d place1 ks ops) (either (is_true m) (act d (caught_in ks)) other c1 l1 w1)
       by m c1 l1 w1 s0 lo fits1 true t first =
           let e0 : q + 0 ≡ q = omega arith in
-          subst (λ z. Runs ask code (Kept k code w0) 8 8 s0 c1 (arrives e d place1 ks ops) (either z (act d) other c1 l1 w1)) (sym t)
-          (one_step ask code (Kept k code w0) 3 1 8 8 s0 (at d q ks ops l1 w1) c1 c1 (arrives e d place1 ks ops) (act d c1 l1 w1) (omega arith) (omega arith) (omega arith) (omega arith) (first ∙ ap (λ z. at d (q + (if z then 0 else length is + more)) ks ops l1 w1) t ∙ ap (λ p. at d p ks ops l1 w1) e0)
-          (further ask code (Kept k code w0) b b 3 1 2 (at d q ks ops l1 w1) c1 (arrives (lands (behind (test_length y a.stack) a) q) d (q + length is) ks ops) (arrives e d place1 ks ops) (act d c1 l1 w1) (omega (arith, few)) (omega (arith, few)) (does (behind (test_length y a.stack) a) w0 d q ks ops c1 l1 w1 (omega (arith, lo, le)) fits1 sees tail) over))
+          subst (λ z. Runs ask code (Kept k code w0) 8 8 s0 c1 (arrives e d place1 ks ops) (either z (act d (caught_in ks)) other c1 l1 w1)) (sym t)
+          (one_step ask code (Kept k code w0) 3 1 8 8 s0 (at d q ks ops l1 w1) c1 c1 (arrives e d place1 ks ops) (act d (caught_in ks) c1 l1 w1) (omega arith) (omega arith) (omega arith) (omega arith) (first ∙ ap (λ z. at d (q + (if z then 0 else length is + more)) ks ops l1 w1) t ∙ ap (λ p. at d p ks ops l1 w1) e0)
+          (further ask code (Kept k code w0) b b 3 1 2 (at d q ks ops l1 w1) c1 (arrives (lands (behind (test_length y a.stack) a) q) d (q + length is) ks ops) (arrives e d place1 ks ops) (act d (caught_in ks) c1 l1 w1) (omega (arith, few)) (omega (arith, few)) (does (behind (test_length y a.stack) a) w0 d q ks ops c1 l1 w1 (omega (arith, lo, le)) fits1 sees tail) over))
       by m c1 l1 w1 s0 lo fits1 false t first =
           let e1 : q + (length is + more) ≡ place + length (arm_of y more x a) + more = omega (arith, size) in
-          subst (λ z. Runs ask code (Kept k code w0) 8 8 s0 c1 (arrives e d place1 ks ops) (either z (act d) other c1 l1 w1)) (sym t)
+          subst (λ z. Runs ask code (Kept k code w0) 8 8 s0 c1 (arrives e d place1 ks ops) (either z (act d (caught_in ks)) other c1 l1 w1)) (sym t)
           (one_step ask code (Kept k code w0) 0 0 8 8 s0 (at d (place + length (arm_of y more x a) + more) ks ops l1 w1) c1 c1 (arrives e d place1 ks ops) (other c1 l1 w1) (omega arith) (omega arith) (omega arith) (omega arith) (first ∙ ap (λ z. at d (q + (if z then 0 else length is + more)) ks ops l1 w1) t ∙ ap (λ p. at d p ks ops l1 w1) e1) (elses c1 l1 w1 lo fits1))
 
   -- a tick pays for a few steps more
-  pub paid : (x : Around → List Line) (act : List ℕ → Act Done) → DoesIn 1 ask k code bound x act → Does ask k code bound x (λ d. ticked (act d))
+  pub paid : (x : Around → List Line) (act : List ℕ → ℕ → Act Done) → DoesIn 1 ask k code bound x act → Does ask k code bound x (λ d caught. ticked (act d caught))
   unfolding opened_outcome
   paid x act does a w0 d place ks ops c l w le fits sees has = added ask code (Kept k code w0) 1 1 1 0 0 _ c _ _ (omega arith) (omega arith) (does a w0 d place ks ops c l w le fits sees has)
 
   -- a statement that is passed over where a condition does not hold
-  pub only_if_runs : (y : ValueCode) (test : List ℕ → Act (List ℕ)) → ((w0 : World) → Value ask k code (Since k code w0) y test) → (x : Around → List Line) (act : List ℕ → Act Done) → DoesIn 1 ask k code bound x act → Does ask k code bound (arm_of y 0 x) (λ d. ticked (scalar (test d) (λ b. either (is_true b) (act d) nothing)))
+  pub only_if_runs : (y : ValueCode) (test : List ℕ → Act (List ℕ)) → ((w0 : World) → Value ask k code (Since k code w0) y test) → (x : Around → List Line) (act : List ℕ → ℕ → Act Done) → DoesIn 1 ask k code bound x act → Does ask k code bound (arm_of y 0 x) (λ d caught. ticked (scalar (test d) (λ b. either (is_true b) (act d caught) nothing)))
   unfolding opened_outcome
   only_if_runs y test value x act does a w0 d place ks ops c l w le fits sees has =
       let end = place + length (arm_of y 0 x a) in

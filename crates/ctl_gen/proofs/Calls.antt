@@ -51,19 +51,19 @@ module _ (ask : Ask) (k : Tables) (code : Code) (setting : Setting k code) (call
   called x = add 1 (bind (add 0 (bind x (on_goes (λ r. copy_back r.slots [] >> done r)))) (on_goes (λ _. nothing)))
 
   -- its exception goes on
-  call_over : (w0 : World) (e : Target) (p : Point) (ks : List Frame) (s0 : State) (c : ℕ) (x : Out Returned) → Runs ask code (Told k code w0) 2 2 s0 c (returns (Calling p ∷ ks)) x → Runs ask code (Kept k code w0) 0 0 s0 c (arrives e p.display p.place ks p.operands) (called x)
+  call_over : (w0 : World) (e : Target) (p : Point) (ks : List Frame) (s0 : State) (c : ℕ) (x : Out Returned) → Runs ask code (Told k code w0) 2 3 s0 c (returns (Calling p ∷ ks)) x → Runs ask code (Kept k code w0) 0 0 s0 c (arrives e p.display p.place ks p.operands) (called x)
   unfolding picked copy_back opened_outcome
   call_over w0 e p ks s0 c (Gives (Goes u) τ c1 l w) z = then_step ask code (Kept k code w0) 2 0 s0 _ _ c c1 τ _ z refl z.fits.1 (omega arith)
   call_over w0 e p ks s0 c (Gives (Leaves y) τ c1 l w) z =
-      by_raise (λ v. Runs ask code (Told k code w0) 2 2 s0 c (returns {A = Returned} (Calling p ∷ ks)) (Gives (Leaves v) τ c1 l w) → Runs ask code (Kept k code w0) 0 0 s0 c (arrives e p.display p.place ks p.operands) (called (Gives (Leaves v) τ c1 l w)))
+      by_raise (λ v. Runs ask code (Told k code w0) 2 3 s0 c (returns {A = Returned} (Calling p ∷ ks)) (Gives (Leaves v) τ c1 l w) → Runs ask code (Kept k code w0) 0 0 s0 c (arrives e p.display p.place ks p.operands) (called (Gives (Leaves v) τ c1 l w)))
       (λ v z1. then_step ask code (Kept k code w0) 2 0 s0 _ _ c c1 τ _ z1 refl z1.fits.1 (omega arith)) y z.fits.0 z
-  call_over w0 e p ks s0 c (Stops why τ l) z = more_quits ask code (Kept k code w0) 2 0 s0 τ _ l why (omega arith) z
-  call_over w0 e p ks s0 c (Cut τ c1 l) z = more_halts ask code (Kept k code w0) 2 0 s0 c τ _ l (omega arith) z
+  call_over w0 e p ks s0 c (Stops why τ l) z = more_quits ask code (Kept k code w0) 3 0 s0 τ _ l why (omega arith) z
+  call_over w0 e p ks s0 c (Cut τ c1 l) z = more_halts ask code (Kept k code w0) 3 0 s0 c τ _ l (omega arith) z
 
   -- a body that can be called there is entered, and then the frame that waits for it goes on
-  pub call_does : (f caught : ℕ) → Does ask k code bound (λ a. (InstrOf.Call f, a.stack) ∷ []) (λ d. call_doing f [] K d caught)
+  pub call_does : (f : ℕ) → Does ask k code bound (λ a. (InstrOf.Call f, a.stack) ∷ []) (λ d caught. call_doing f [] K d caught)
   unfolding call_doing opened_expressions opened_outcome
-  call_does f caught a w0 d place ks ops c l w le fits sees has =
+  call_does f a w0 d place ks ops c l w le fits sees has =
       let p : Point = record { display = d; place = place + 1; operands = ops } in
       let scope : IsInScope code (depth a.stack) (Some f) = (setting.valid.each place (InstrOf.Call f) a.stack has.0 has.1).0 in
       let body = setting.body f scope.0 scope.1 in

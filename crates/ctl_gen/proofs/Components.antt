@@ -232,7 +232,7 @@ module _ (ask : Ask) (k : Tables) (code : Code) (placed_so : ArePlaced k code) w
         (λ m c1 l1 w1 lo fits1 stays. stores w0 h.cell (height s) n m (lands a place) d q ks ops c1 l1 w1 fits1 stays there)
         (λ z c1 l1 w1 lo fits1. no_step ask code (Kept k code w0) 8 8 _ c1 0 (arrives (lands a place) d (q + 1) ks ops) (Leaves (ByRaise z)) l1 w1 fits1 refl)))))
 
-    pub part_does : (find : List ℕ → Act Found) → Touches k v t position find → Does ask k code bound (λ a. part_code v t position y a.stack) (λ d. ticked (find d >>= (λ f. act d >>= write_found f)))
+    pub part_does : (find : List ℕ → Act Found) → Touches k v t position find → Does ask k code bound (λ a. part_code v t position y a.stack) (λ d caught. ticked (find d >>= (λ f. act d >>= write_found f)))
     unfolding opened_outcome
     part_does find touches a w0 d place ks ops c l w le fits sees has =
         let s = a.stack in

@@ -148,7 +148,7 @@ module _ (ask : Ask) (k : Tables) (code : Code) (setting : Setting k code) (call
         let s0 = gives (Filling ByCopy n t [] p ∷ ks) (Fine Complete) l w in
         subst (λ o. Runs ask code (Kept k code w0) 4 5 (gives (Filling ByCopy n t [] p ∷ ks) (Fine Complete) l w) c (arrives e p.display p.place ks p.operands) (standing n (last_of p.display) o))
         (sym (A.adjust_is ask k code setting call default t r record_is plain (born (last_of p.display) w2) n c l w ∙ A.none_is ask k code setting call default t r record_is plain untagged (born (last_of p.display) w2) n c l w))
-        (within ask code (Kept k code w0) 3 4 4 5 s0 c (arrives e p.display p.place ks p.operands) (standing n (last_of p.display) (Gives (Goes tt) 0 c l w)) (omega arith) (omega arith)
+        (within ask code (Kept k code w0) 3 5 4 5 s0 c (arrives e p.display p.place ks p.operands) (standing n (last_of p.display) (Gives (Goes tt) 0 c l w)) (omega arith) (omega arith)
         (D.found_runs ask k code setting call default constants t r record_is plain ByCopy w0 n e p ks s0 s0 c c 0 l w (Unit {0}) fits (record { n = 0; falls = omega arith; enough = omega arith; in_time = omega arith; comes = refl; fits = tt }) None (object_at n w) (no_finalize k t r record_is plain.components plain.flat untagged) refl
         (ap (λ f. moved l (Table.by_declaration code ByCopy f n t (object_at n w) p ks w)) (A.not_adjusted ask k code setting call default t r record_is plain untagged) ∙ D.unseen ByCopy code n t (object_at n w) p ks w l (setting.finalize t ∙ no_finalize k t r record_is plain.components plain.flat untagged))))
 
@@ -188,7 +188,7 @@ module _ (ask : Ask) (k : Tables) (code : Code) (setting : Setting k code) (call
         (one_step ask code (Kept k code w0) 5 6 6 7 (at d place ks ops l w) (at d (place + 1) ks (n ∷ ops) l w) c c (arrives e d (place + 1 + 1) ks ops) _ (omega arith) (omega arith) (omega arith) (omega arith) first
         (given_runs slot (height s) n e s w0 d (place + 1) ks ops c l w le fits sees declarable has.2.0)))
 
-    pub copy_does : (slot : ℕ) (v : Var) (e : Expr) → copied t (value_code e) ≡ Some v → Does ask k code bound (λ a. copy_of slot t v a.stack) (λ d. object slot (Record t) (Some (eval e)) K d (last_of d))
+    pub copy_does : (slot : ℕ) (v : Var) (e : Expr) → copied t (value_code e) ≡ Some v → Does ask k code bound (λ a. copy_of slot t v a.stack) (λ d caught. object slot (Record t) (Some (eval e)) K d (last_of d))
     unfolding object if_given category_of opened_outcome
     copy_does slot v e is a w0 d place ks ops c l w le fits sees has =
         let s = a.stack in

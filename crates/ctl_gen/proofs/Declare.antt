@@ -157,7 +157,7 @@ module _ (ask : Ask) (k : Tables) (code : Code) (setting : Setting k code) (call
   standing_at y n m x = bind (add 0 (bind x (on_goes (λ _ c l w. on_some y gone (λ _. nothing) c l w)))) (on_goes (λ _. change (add_layer m (Single n))))
 
   -- an object comes to life, from the step that looks for it
-  pub found_runs : (how : Beginning) (w0 : World) (n : ℕ) (e : Target) (p : Point) (ks : List Frame) (s0 state : State) (c c1 τ : ℕ) (l : Log) (w : World) (X : Type 0) → Since k code w0 w → Comes ask code 2 s0 c τ c1 state X → (h : Option ℕ) (y : Option Object) → operation (λ x. x.finalize) k t ≡ h → object_at n w ≡ y → step ask code state ≡ moved l (come_to_life code n t (object_at n w) p ks w) → Runs ask code (Kept k code w0) 3 4 s0 c (arrives e p.display p.place ks p.operands) (standing n (last_of p.display) (started how h n (last_of p.display) (Gives (Goes tt) τ c1 l w)))
+  pub found_runs : (how : Beginning) (w0 : World) (n : ℕ) (e : Target) (p : Point) (ks : List Frame) (s0 state : State) (c c1 τ : ℕ) (l : Log) (w : World) (X : Type 0) → Since k code w0 w → Comes ask code 2 s0 c τ c1 state X → (h : Option ℕ) (y : Option Object) → operation (λ x. x.finalize) k t ≡ h → object_at n w ≡ y → step ask code state ≡ moved l (come_to_life code n t (object_at n w) p ks w) → Runs ask code (Kept k code w0) 3 5 s0 c (arrives e p.display p.place ks p.operands) (standing n (last_of p.display) (started how h n (last_of p.display) (Gives (Goes tt) τ c1 l w)))
   unfolding picked opened_outcome opened_initialization opened_names
   found_runs how w0 n e p ks s0 state c c1 τ l w X fits z h y eh ey first = found h y ey after
     where
@@ -167,25 +167,25 @@ module _ (ask : Ask) (k : Tables) (code : Code) (setting : Setting k code) (call
           ∙ as_life code n t y p ks w l
           ∙ ap (λ f. moved l (life f y n p ks w)) (setting.finalize t ∙ eh)
 
-      found : (h1 : Option ℕ) (y1 : Option Object) → object_at n w ≡ y1 → step ask code state ≡ moved l (life h1 y1 n p ks w) → Runs ask code (Kept k code w0) 3 4 s0 c (arrives e p.display p.place ks p.operands) (standing n (last_of p.display) (started how h1 n (last_of p.display) (Gives (Goes tt) τ c1 l w)))
-      found None None ey1 go = subst (λ x. Runs ask code (Kept k code w0) 3 4 s0 c (arrives e p.display p.place ks p.operands) (standing_at x n (last_of p.display) (started how None n (last_of p.display) (Gives (Goes tt) τ c1 l w)))) (sym ey1) (then_stops ask code (Kept k code w0) 2 4 s0 state _ c c1 τ _ l UseAfterFree z go refl refl (omega arith))
-      found None (Some o) ey1 go = subst (λ x. Runs ask code (Kept k code w0) 3 4 s0 c (arrives e p.display p.place ks p.operands) (standing_at x n (last_of p.display) (started how None n (last_of p.display) (Gives (Goes tt) τ c1 l w)))) (sym ey1) (then_step ask code (Kept k code w0) 2 3 s0 state _ c c1 τ _ z go (since_layer k code (last_of p.display) n w0 w fits) (omega arith))
-      found (Some f) None ey1 go = subst (λ x. Runs ask code (Kept k code w0) 3 4 s0 c (arrives e p.display p.place ks p.operands) (standing_at x n (last_of p.display) (started how (Some f) n (last_of p.display) (Gives (Goes tt) τ c1 l w)))) (sym ey1) (then_stops ask code (Kept k code w0) 2 4 s0 state _ c c1 τ _ _ UseAfterFree z go refl refl (omega arith))
-      found (Some f) (Some o) ey1 go = subst (λ x. Runs ask code (Kept k code w0) 3 4 s0 c (arrives e p.display p.place ks p.operands) (standing_at x n (last_of p.display) (started how (Some f) n (last_of p.display) (Gives (Goes tt) τ c1 l w)))) (sym ey1) (then_step ask code (Kept k code w0) 2 3 s0 state _ c c1 τ _ z go (since_layer k code (last_of p.display) n w0 w fits) (omega arith))
+      found : (h1 : Option ℕ) (y1 : Option Object) → object_at n w ≡ y1 → step ask code state ≡ moved l (life h1 y1 n p ks w) → Runs ask code (Kept k code w0) 3 5 s0 c (arrives e p.display p.place ks p.operands) (standing n (last_of p.display) (started how h1 n (last_of p.display) (Gives (Goes tt) τ c1 l w)))
+      found None None ey1 go = subst (λ x. Runs ask code (Kept k code w0) 3 5 s0 c (arrives e p.display p.place ks p.operands) (standing_at x n (last_of p.display) (started how None n (last_of p.display) (Gives (Goes tt) τ c1 l w)))) (sym ey1) (then_stops ask code (Kept k code w0) 2 5 s0 state _ c c1 τ _ l UseAfterFree z go refl refl (omega arith))
+      found None (Some o) ey1 go = subst (λ x. Runs ask code (Kept k code w0) 3 5 s0 c (arrives e p.display p.place ks p.operands) (standing_at x n (last_of p.display) (started how None n (last_of p.display) (Gives (Goes tt) τ c1 l w)))) (sym ey1) (then_step ask code (Kept k code w0) 2 3 s0 state _ c c1 τ _ z go (since_layer k code (last_of p.display) n w0 w fits) (omega arith))
+      found (Some f) None ey1 go = subst (λ x. Runs ask code (Kept k code w0) 3 5 s0 c (arrives e p.display p.place ks p.operands) (standing_at x n (last_of p.display) (started how (Some f) n (last_of p.display) (Gives (Goes tt) τ c1 l w)))) (sym ey1) (then_stops ask code (Kept k code w0) 2 5 s0 state _ c c1 τ _ _ UseAfterFree z go refl refl (omega arith))
+      found (Some f) (Some o) ey1 go = subst (λ x. Runs ask code (Kept k code w0) 3 5 s0 c (arrives e p.display p.place ks p.operands) (standing_at x n (last_of p.display) (started how (Some f) n (last_of p.display) (Gives (Goes tt) τ c1 l w)))) (sym ey1) (then_step ask code (Kept k code w0) 2 3 s0 state _ c c1 τ _ z go (since_layer k code (last_of p.display) n w0 w fits) (omega arith))
 
   -- after its Initialize or its Adjust an object comes to life, or is given up
-  begun_runs : (how : Beginning) (w0 : World) (n : ℕ) (e : Target) (p : Point) (ks : List Frame) (s0 : State) (c : ℕ) (x : Out Returned) → Runs ask code (Told k code w0) 2 2 s0 c (returns (Initializing how n t p ∷ ks)) x → Runs ask code (Kept k code w0) 3 4 s0 c (arrives e p.display p.place ks p.operands) (standing n (last_of p.display) (started how (operation (λ z. z.finalize) k t) n (last_of p.display) (bind (add 0 x) (on_goes (λ _. nothing)))))
+  begun_runs : (how : Beginning) (w0 : World) (n : ℕ) (e : Target) (p : Point) (ks : List Frame) (s0 : State) (c : ℕ) (x : Out Returned) → Runs ask code (Told k code w0) 2 3 s0 c (returns (Initializing how n t p ∷ ks)) x → Runs ask code (Kept k code w0) 3 5 s0 c (arrives e p.display p.place ks p.operands) (standing n (last_of p.display) (started how (operation (λ z. z.finalize) k t) n (last_of p.display) (bind (add 0 x) (on_goes (λ _. nothing)))))
   unfolding picked opened_outcome opened_initialization opened_names
   begun_runs how w0 n e p ks s0 c (Gives (Goes u) τ c1 l w) z = found_runs how w0 n e p ks s0 _ c c1 _ l w _ z.fits.1 (record { n = z.n; falls = z.falls; enough = z.enough; in_time = omega (arith, z.in_time); comes = z.comes; fits = z.fits }) (operation (λ x. x.finalize) k t) (object_at n w) refl refl refl
-  begun_runs how w0 n e p ks s0 c (Gives (Leaves y) τ c1 l w) z = by_raise (λ v. Runs ask code (Told k code w0) 2 2 s0 c (returns {A = Returned} (Initializing how n t p ∷ ks)) (Gives (Leaves v) τ c1 l w) → goal (bind {A = Returned} (add 0 (Gives (Leaves v) τ c1 l w)) (on_goes (λ _. nothing)))) raised y z.fits.0 z
+  begun_runs how w0 n e p ks s0 c (Gives (Leaves y) τ c1 l w) z = by_raise (λ v. Runs ask code (Told k code w0) 2 3 s0 c (returns {A = Returned} (Initializing how n t p ∷ ks)) (Gives (Leaves v) τ c1 l w) → goal (bind {A = Returned} (add 0 (Gives (Leaves v) τ c1 l w)) (on_goes (λ _. nothing)))) raised y z.fits.0 z
     where
       goal : Out Done → Type 0
-      goal o = Runs ask code (Kept k code w0) 3 4 s0 c (arrives e p.display p.place ks p.operands) (standing n (last_of p.display) (started how (operation (λ z. z.finalize) k t) n (last_of p.display) o))
+      goal o = Runs ask code (Kept k code w0) 3 5 s0 c (arrives e p.display p.place ks p.operands) (standing n (last_of p.display) (started how (operation (λ z. z.finalize) k t) n (last_of p.display) o))
 
-      raised : (x : ℕ) → Runs ask code (Told k code w0) 2 2 s0 c (returns {A = Returned} (Initializing how n t p ∷ ks)) (Gives (Leaves (ByRaise x)) τ c1 l w) → goal (bind {A = Returned} (add 0 (Gives (Leaves (ByRaise x)) τ c1 l w)) (on_goes (λ _. nothing)))
+      raised : (x : ℕ) → Runs ask code (Told k code w0) 2 3 s0 c (returns {A = Returned} (Initializing how n t p ∷ ks)) (Gives (Leaves (ByRaise x)) τ c1 l w) → goal (bind {A = Returned} (add 0 (Gives (Leaves (ByRaise x)) τ c1 l w)) (on_goes (λ _. nothing)))
       raised x z1 = then_step ask code (Kept k code w0) 2 3 s0 _ _ c c1 τ _ z1 refl (since_end k code n w0 (begin_finalization n w) (since_begin k code n w0 w z1.fits.1)) (omega arith)
-  begun_runs how w0 n e p ks s0 c (Stops why τ l) z = more_quits ask code (Kept k code w0) 2 4 s0 τ _ l why (omega arith) z
-  begun_runs how w0 n e p ks s0 c (Cut τ c1 l) z = more_halts ask code (Kept k code w0) 2 4 s0 c τ _ l (omega arith) z
+  begun_runs how w0 n e p ks s0 c (Stops why τ l) z = more_quits ask code (Kept k code w0) 3 5 s0 τ _ l why (omega arith) z
+  begun_runs how w0 n e p ks s0 c (Cut τ c1 l) z = more_halts ask code (Kept k code w0) 3 5 s0 c τ _ l (omega arith) z
 
   -- an object of this type, if it exists
   abbrev pub IsOf : ℕ → World → Type 0
@@ -339,14 +339,14 @@ module _ (ask : Ask) (k : Tables) (code : Code) (setting : Setting k code) (call
     created_runs how named w0 n e p ks s0 c l w le fits ty None None eg ey first = subst (λ x. Runs ask code (Kept k code w0) 4 5 s0 c (arrives e p.display p.place ks p.operands) (standing n (last_of p.display) (started how (operation (λ z. z.finalize) k t) n (last_of p.display) (add 1 (on_some x gone (λ _. nothing) c l w))))) (sym ey) (stop_step ask code (Kept k code w0) 4 5 s0 _ c 1 (arrives e p.display p.place ks p.operands) UseAfterFree l (omega arith) (first ∙ ap (λ x. moved l (Table.by_declaration code how None n t x p ks w)) ey) refl refl)
     created_runs how named w0 n e p ks s0 c l w le fits ty None (Some o) eg ey first =
         subst (λ x. Runs ask code (Kept k code w0) 4 5 s0 c (arrives e p.display p.place ks p.operands) (standing n (last_of p.display) (started how (operation (λ z. z.finalize) k t) n (last_of p.display) (add 1 (on_some x gone (λ _. nothing) c l w))))) (sym ey)
-        (within ask code (Kept k code w0) 3 4 4 5 s0 c (arrives e p.display p.place ks p.operands) (standing n (last_of p.display) (started how (operation (λ z. z.finalize) k t) n (last_of p.display) (Gives (Goes tt) 1 c l w))) (omega arith) (omega arith)
+        (within ask code (Kept k code w0) 3 5 4 5 s0 c (arrives e p.display p.place ks p.operands) (standing n (last_of p.display) (started how (operation (λ z. z.finalize) k t) n (last_of p.display) (Gives (Goes tt) 1 c l w))) (omega arith) (omega arith)
         (found_runs how w0 n e p ks s0 s0 c c 1 l w (Unit {0}) fits (record { n = 0; falls = omega arith; enough = omega arith; in_time = omega arith; comes = refl; fits = tt }) (operation (λ x. x.finalize) k t) (Some o) refl ey (first ∙ ap (λ x. moved l (Table.by_declaration code how None n t x p ks w)) ey ∙ ap (λ x. moved l (come_to_life code n t x p ks w)) (sym ey))))
     created_runs how named w0 n e p ks s0 c l w le fits ty (Some f) None eg ey first = subst (λ x. Runs ask code (Kept k code w0) 4 5 s0 c (arrives e p.display p.place ks p.operands) (standing n (last_of p.display) (started how (operation (λ z. z.finalize) k t) n (last_of p.display) (on_some x gone (λ o1. look (λ w1. show (first_call how n) >> call (OfSubprogram f (holding (Binds n 0 []) ∷ [])) (home_of o1.origin w1) >> nothing)) c l w)))) (sym ey) (stop_step ask code (Kept k code w0) 4 5 s0 _ c 0 (arrives e p.display p.place ks p.operands) UseAfterFree l (omega arith) (first ∙ ap (λ x. moved l (Table.by_declaration code how (Some f) n t x p ks w)) ey) refl refl)
     created_runs how named w0 n e p ks s0 c l w le fits ty (Some f) (Some o) eg ey first =
         let body = first_body k code setting how t f eg in
         let settled = subst (IfFound (Settled k code w.ledger.next_master w.activations)) ey (object_fits k code n w fits.0) in
         subst (λ x. Runs ask code (Kept k code w0) 4 5 s0 c (arrives e p.display p.place ks p.operands) (standing n (last_of p.display) (started how (operation (λ z. z.finalize) k t) n (last_of p.display) x))) (sym (call_is f n c (first_call how n) l w o ey))
-        (within ask code (Kept k code w0) 3 4 4 5 s0 c (arrives e p.display p.place ks p.operands) (standing n (last_of p.display) (started how (operation (λ z. z.finalize) k t) n (last_of p.display) (bind (add 0 (call (OfSubprogram f (holding (Binds n 0 []) ∷ [])) (home_of o.origin w) c (tell (first_call how n) l) w)) (on_goes (λ _. nothing))))) (omega arith) (omega arith)
+        (within ask code (Kept k code w0) 3 5 4 5 s0 c (arrives e p.display p.place ks p.operands) (standing n (last_of p.display) (started how (operation (λ z. z.finalize) k t) n (last_of p.display) (bind (add 0 (call (OfSubprogram f (holding (Binds n 0 []) ∷ [])) (home_of o.origin w) c (tell (first_call how n) l) w)) (on_goes (λ _. nothing))))) (omega arith) (omega arith)
         (begun_runs how w0 n e p ks s0 c (call (OfSubprogram f (holding (Binds n 0 []) ∷ [])) (home_of o.origin w) c (tell (first_call how n) l) w)
         (calls.runs f body.0 body.1 w0 (home_of o.origin w) (holding (Binds n 0 []) ∷ []) (Initializing how n t p ∷ ks) c (tell (first_call how n) l) w s0 le fits (first_scope how k code w o t f (ty o ey) settled (named ∙ eg)) (tt, tt)
         (first ∙ ap (λ x. moved l (Table.by_declaration code how (Some f) n t x p ks w)) ey ∙ enter_shows (slice_get code.entries.items f) (first_call how n) (home_of o.origin w) (holding (Binds n 0 []) ∷ []) (Initializing how n t p ∷ ks) l w))))
@@ -361,7 +361,7 @@ module _ (ask : Ask) (k : Tables) (code : Code) (setting : Setting k code) (call
     own_runs (inr untagged) w0 n e p ks c l w2 w le fits ty =
         subst (λ o. Runs ask code (Kept k code w0) 4 5 (gives (Filling ByDefault n t [] p ∷ ks) (Fine Complete) l w) c (arrives e p.display p.place ks p.operands) (standing n (last_of p.display) o))
         (sym (none_is untagged n (last_of p.display) c l w2 w))
-        (within ask code (Kept k code w0) 3 4 4 5 (gives (Filling ByDefault n t [] p ∷ ks) (Fine Complete) l w) c (arrives e p.display p.place ks p.operands) (standing n (last_of p.display) (Gives (Goes tt) 0 c l w)) (omega arith) (omega arith)
+        (within ask code (Kept k code w0) 3 5 4 5 (gives (Filling ByDefault n t [] p ∷ ks) (Fine Complete) l w) c (arrives e p.display p.place ks p.operands) (standing n (last_of p.display) (Gives (Goes tt) 0 c l w)) (omega arith) (omega arith)
         (found_runs ByDefault w0 n e p ks (gives (Filling ByDefault n t [] p ∷ ks) (Fine Complete) l w) (gives (Filling ByDefault n t [] p ∷ ks) (Fine Complete) l w) c c 0 l w (Unit {0}) fits (record { n = 0; falls = omega arith; enough = omega arith; in_time = omega arith; comes = refl; fits = tt }) None (object_at n w) (no_finalize k t r here plain.components plain.flat untagged) refl
         (ap (λ g. moved l (Table.by_declaration code ByDefault g n t (object_at n w) p ks w)) (setting.initialize t ∙ no_initialize k t r here plain.components plain.flat untagged) ∙ unseen ByDefault code n t (object_at n w) p ks w l (setting.finalize t ∙ no_finalize k t r here plain.components plain.flat untagged))))
 

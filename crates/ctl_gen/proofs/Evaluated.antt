@@ -125,7 +125,7 @@ module _ (ask : Ask) (k : Tables) (code : Code) (placed : ArePlaced k code) (cal
       let g = both_true _ _ h in
       let i = values_too (f ∷ es) g.1 in
       X.short_value ask k code Fits K form (value_code e.0) (eval e.0 K) (e.1 g.0) (value_code f.0) (map value_code (map (λ z. z.0) es)) (eval f.0) (map eval (map (λ z. z.0) es)) i)
-  expr_rolled (Expr-F.Call f xs) = let y = Expr-F.Call f (map (λ z. z.0) xs) in missing_rolled y (value_roll y)
+  expr_rolled (Expr-F.Call f xs ty) = let y = Expr-F.Call f (map (λ z. z.0) xs) ty in missing_rolled y (value_roll y)
   expr_rolled (Expr-F.Convert ty e) = missing_rolled (Expr-F.Convert ty e.0) (value_roll (Expr-F.Convert ty e.0))
   expr_rolled (Expr-F.Access v) = missing_rolled (Expr-F.Access v) (value_roll (Expr-F.Access v))
   expr_rolled (Expr-F.New access ty None None) = missing_rolled (Expr-F.New access ty None None) (value_roll (Expr-F.New access ty None None))

@@ -1,14 +1,12 @@
 -- The code of each statement and of each master that this version runs does what it means.
-use Rattle.std.proofs.Common.{◌≡◌, ℕ, ◌+◌, List, [], ◌∷◌, map, Option, Some, None, Bool, true, false, refl, sym, ap, ◌∙◌, subst, arith, option_map}
-use Rattle.std.specs.Prelude.{◌&&◌}
+use Rattle.std.proofs.Common.{◌≡◌, ℕ, ◌+◌, List, [], ◌∷◌, map, Option, Some, None, true, false, refl, sym, ap, ◌∙◌, subst, arith, option_map}
 use Rattle.ctl_program.specs.declared.types.Var.{Var}
 use Rattle.ctl_program.specs.declared.expression.Actual.{Actual}
 use Rattle.ctl_program.specs.declared.expression.Expr.{Expr}
-use Rattle.ctl_program.specs.declared.statement.Item.{Item}
 use Rattle.ctl_program.specs.declared.statement.Stmt.{Stmt, roll-Stmt, map-Stmt}
 use Rattle.ctl_program.specs.declared.statement.Stmt.TheOpen.{Stmt-F}
 use Rattle.ctl_program.specs.declared.statement.Arm.{Arm, Arm-F, roll-Arm, map-Arm}
-use Rattle.ctl_program.specs.declared.statement.Handler.{Handler}
+use Rattle.ctl_program.specs.declared.statement.Handler.{Handler, Handler-F, roll-Handler, map-Handler, fold-roll-Handler}
 use Rattle.ctl_program.specs.declared.statement.Master.{Master, Master-F, roll-Master, map-Master, ind-Master}
 use Rattle.ctl_tree.specs.declared.event.Event.TheVariants.{Newline}
 use Rattle.ctl_meaning.specs.World.{World}
@@ -18,18 +16,18 @@ use Rattle.ctl_meaning.specs.Types.{Tables, Composite, Elementary}
 use Rattle.ctl_meaning.specs.Names.{Default, Found, Tools}
 use Rattle.ctl_meaning.specs.Names as Names
 use Rattle.ctl_meaning.specs.Expressions.{Naming, Supplied, eval, eval_name, supply}
-use Rattle.ctl_meaning.specs.Masters.{elaborate_item}
-use Rattle.ctl_meaning.specs.Statements.{Doing, arm_of, assign as assign_doing, assign_part, assign_record as assign_found, body_of, call as call_doing, do_each, exec, exit as exit_doing, handler_of, loop_for, loop_plainly, loop_while, new_line, null as null_doing, put, put_line, raise_new, return as return_doing, within}
-use Rattle.ctl_meaning.proofs.Trees.{exec_roll, arm_roll as guarding_roll, master_roll as body_roll}
+use Rattle.ctl_meaning.specs.Statements.{Doing, arm_of, assign as assign_doing, assign_part, assign_record as assign_found, body_of, call as call_doing, do_each, exec, exit as exit_doing, handler_of, loop_for, loop_plainly, loop_while, new_line, null as null_doing, put, put_line, raise_again, raise_new, return as return_doing, within}
+use Rattle.ctl_meaning.proofs.Trees.{exec_roll, arm_roll as guarding_roll, handler_roll as handling_roll, master_roll as body_roll}
 use Rattle.ctl_code.specs.declared.code.Code.{Code}
 use Rattle.ctl_code.specs.declared.code.Instr.TheVariants as InstrOf
 use Rattle.ctl_code.specs.declared.code.Way.TheVariants as WayOf
+use Rattle.ctl_code.specs.Table.{caught_in}
 use Rattle.ctl_layout.specs.declared.right.Reached.{Reached}
 use Rattle.ctl_layout.specs.declared.right.Reached.TheVariants as ReachedOf
 use Rattle.ctl_layout.specs.Values.{value_code, reached_by, sourced}
-use Rattle.ctl_layout.specs.Layout.{StatementCode, all, all_items, arm_code, assign, assign_record, call as call_code, record_code, exit, return, has_no_handlers, inside, item_code, master_code, missing_statement, no_code, statement_code, leaves_code}
+use Rattle.ctl_layout.specs.Layout.{StatementCode, ArmCode, HandlerCode, MasterCode, statement_step, arm_step, handler_step, master_step, all, all_items, arm_code, assign, assign_record, call as call_code, record_code, exit, handled, handler_code, return, inside, item_code, master_code, missing_statement, statement_code, leaves_code}
 use Rattle.ctl_gen.proofs.Known.{both_true, plain_if}
-use Rattle.ctl_layout.proofs.TreeLayers.{arm_roll, master_roll, statement_roll}
+use Rattle.ctl_layout.proofs.TreeLayers.{handler_roll, arm_roll, master_roll, statement_roll}
 use Rattle.ctl_gen.proofs.Setting.{Setting, Calls, tools_with}
 use Rattle.ctl_gen.proofs.Defaults.{GivesDefaults}
 use Rattle.ctl_gen.proofs.Worlds.{Fits, Since, Kept, whole_at}
@@ -48,11 +46,7 @@ use Rattle.ctl_gen.proofs.Ranges.{for_runs}
 use Rattle.ctl_gen.proofs.Does.{DoesIn}
 use Rattle.ctl_gen.proofs.Follow.{arrives, last_step, lands}
 use Rattle.ctl_gen.proofs.Statements as S
-
-handled_not_run : (a b : Bool) → (a && (b && false)) ≡ true → ⊥
-handled_not_run true true e = absurd (cc)
-handled_not_run true false e = absurd (cc)
-handled_not_run false b e = absurd (cc)
+use Rattle.ctl_gen.proofs.Handlers as H
 
 module _ (ask : Ask) (k : Tables) (code : Code) (setting : Setting k code) (call : Names.Call) (default : Default) (constants : GivesDefaults k default) (bound : ℕ) (calls : Calls ask k code setting bound call) where
   abbrev K : Tools
@@ -68,7 +62,7 @@ module _ (ask : Ask) (k : Tables) (code : Code) (setting : Setting k code) (call
   Guards a = S.Guards ask k code setting call default constants bound calls (arm_code a) (arm_of a)
 
   abbrev Handles : Handler → Type 0
-  Handles h = Unit {0}
+  Handles h = H.Handles ask k code setting call default constants bound calls (handler_code h) (handler_of h)
 
   -- a master of this version, whose code does what it means
   abbrev pub IsMaster : Master → Type 0
@@ -91,6 +85,9 @@ module _ (ask : Ask) (k : Tables) (code : Code) (setting : Setting k code) (call
 
   abbrev bare_arm : Arm-F StmtToo ArmToo HandlerToo MasterToo → Arm-F Stmt Arm Handler Master
   bare_arm = map-Arm StmtToo ArmToo HandlerToo MasterToo Stmt Arm Handler Master (λ e. e.0) (λ e. e.0) (λ e. e.0) (λ e. e.0)
+
+  abbrev bare_handler : Handler-F StmtToo ArmToo HandlerToo MasterToo → Handler-F Stmt Arm Handler Master
+  bare_handler = map-Handler StmtToo ArmToo HandlerToo MasterToo Stmt Arm Handler Master (λ e. e.0) (λ e. e.0) (λ e. e.0) (λ e. e.0)
 
   abbrev bare_master : Master-F StmtToo ArmToo HandlerToo MasterToo → Master-F Stmt Arm Handler Master
   bare_master = map-Master StmtToo ArmToo HandlerToo MasterToo Stmt Arm Handler Master (λ e. e.0) (λ e. e.0) (λ e. e.0) (λ e. e.0)
@@ -122,72 +119,73 @@ module _ (ask : Ask) (k : Tables) (code : Code) (setting : Setting k code) (call
 
   assign_does : (o : Option Reached) (find : Naming) (e : Expr) → ((x : Reached) → o ≡ Some x → Reaches ask k code setting.places call default (λ w. Fits k code w) (whole_at k code) x (find Elementary K)) → Performs (assign o (value_code e)) (assign_doing find (eval e))
   unfolding assign_doing
-  assign_does None find e reaches runs n texts caught = absurd (cc)
-  assign_does (Some (ReachedOf.Variable v)) find e reaches runs n texts caught = assign_runs ask k code setting.valid bound v (find Elementary K) (reaches (ReachedOf.Variable v) refl) (value_code e) (eval e K) (means e runs)
-  assign_does (Some (ReachedOf.Component v t position)) find e reaches runs n texts caught =
+  assign_does None find e reaches runs n texts = absurd (cc)
+  assign_does (Some (ReachedOf.Variable v)) find e reaches runs n texts = assign_runs ask k code setting.valid bound v (find Elementary K) (reaches (ReachedOf.Variable v) refl) (value_code e) (eval e K) (means e runs)
+  assign_does (Some (ReachedOf.Component v t position)) find e reaches runs n texts =
       let h = both_true _ _ runs in
       part_does ask k code setting.places bound v t position h.0 (value_code e) (eval e K) (means e h.1) (find Elementary K) (reaches (ReachedOf.Component v t position) refl)
 
   record_assign_does : (o : Option Reached) (t : ℕ) (q : Option Reached) (find : Naming) (x : Supplied) → ((v : Var) → o ≡ Some (ReachedOf.Variable v) → find Composite K ≡ find_by K [] Composite v) → ((v : Var) → q ≡ Some (ReachedOf.Variable v) → x.source K ≡ (λ d. ticked (find_by K [] Composite v d))) → Performs (assign_record o t q) (assign_part find t x)
   unfolding assign_part
-  record_assign_does None t q find x target source runs n texts caught = absurd (cc)
-  record_assign_does (Some (ReachedOf.Component v u position)) t q find x target source runs n texts caught = absurd (cc)
-  record_assign_does (Some (ReachedOf.Variable v)) t None find x target source runs n texts caught = absurd (cc)
-  record_assign_does (Some (ReachedOf.Variable v)) t (Some (ReachedOf.Component y u position)) find x target source runs n texts caught = absurd (cc)
-  record_assign_does (Some (ReachedOf.Variable v)) t (Some (ReachedOf.Variable u)) find x target source runs n texts caught =
+  record_assign_does None t q find x target source runs n texts = absurd (cc)
+  record_assign_does (Some (ReachedOf.Component v u position)) t q find x target source runs n texts = absurd (cc)
+  record_assign_does (Some (ReachedOf.Variable v)) t None find x target source runs n texts = absurd (cc)
+  record_assign_does (Some (ReachedOf.Variable v)) t (Some (ReachedOf.Component y u position)) find x target source runs n texts = absurd (cc)
+  record_assign_does (Some (ReachedOf.Variable v)) t (Some (ReachedOf.Variable u)) find x target source runs n texts =
       let known = plain_if k t (both_true _ _ runs).0 in
-      subst (λ (find1 : List ℕ → Act Found). DoesIn 0 ask k code bound (λ a. record_code v t u a.stack) (λ d. ticked (find1 d >>= (λ f. x.source K d >>= assign_found K t f)))) (sym (target v refl))
-      (subst (λ (find2 : List ℕ → Act Found). DoesIn 0 ask k code bound (λ a. record_code v t u a.stack) (λ d. ticked (find_by K [] Composite v d >>= (λ f. find2 d >>= assign_found K t f)))) (sym (source u refl))
+      subst (λ (find1 : List ℕ → Act Found). DoesIn 0 ask k code bound (λ a. record_code v t u a.stack) (λ d caught. ticked (find1 d >>= (λ f. x.source K d >>= assign_found K t f)))) (sym (target v refl))
+      (subst (λ (find2 : List ℕ → Act Found). DoesIn 0 ask k code bound (λ a. record_code v t u a.stack) (λ d caught. ticked (find_by K [] Composite v d >>= (λ f. find2 d >>= assign_found K t f)))) (sym (source u refl))
       (record_does ask k code setting call default constants t known.0 known.1 known.2 bound calls v u))
 
   called_does : (f : ℕ) (actuals : List Actual) → Performs (call_code f actuals) (call_doing f (map supply actuals))
-  called_does f [] runs n texts caught = call_does ask k code setting call default bound calls f caught
-  called_does f (x ∷ more) runs n texts caught = absurd (cc)
+  called_does f [] runs n texts = call_does ask k code setting call default bound calls f
+  called_does f (x ∷ more) runs n texts = absurd (cc)
 
   -- one step to where control lands
-  exits : DoesIn 1 ask k code bound leaves_code (λ d. leave_by ByExit)
+  exits : DoesIn 1 ask k code bound leaves_code (λ d caught. leave_by ByExit)
   unfolding opened_outcome
   exits a w0 d place ks ops c l w le fits sees has = last_step ask code (Kept k code w0) 1 1 _ c 0 (arrives (lands a place) d (place + 1) ks ops) (Leaves ByExit) l w (omega arith) fits (leave_step ask k code bound a.landing d place ks ops l w has.0)
 
   exit_does : (o : Option Expr) → Performs (exit (option_map value_code o)) (exit_doing (option_map eval o))
   unfolding exit_doing
-  exit_does None runs n texts caught = paid ask k code bound leaves_code (λ d. leave_by ByExit) exits
-  exit_does (Some e) runs n texts caught = only_if_runs ask k code bound (value_code e) (eval e K) (means e runs) leaves_code (λ d. leave_by ByExit) exits
+  exit_does None runs n texts = paid ask k code bound leaves_code (λ d caught. leave_by ByExit) exits
+  exit_does (Some e) runs n texts = only_if_runs ask k code bound (value_code e) (eval e K) (means e runs) leaves_code (λ d caught. leave_by ByExit) exits
 
   return_does : (o : Option Expr) → Performs (return (option_map value_code o)) (return_doing (option_map eval o))
   unfolding return_doing opened_outcome
-  return_does None runs n texts caught = λ a w0 d place ks ops c l w le fits sees has. last_step ask code (Kept k code w0) 0 0 _ c 1 (arrives (lands a place) d (place + 1) ks ops) (Leaves (ByReturn [])) l w (omega arith) fits (by_code ask code d place ks ops l w (InstrOf.Transfer WayOf.Return) has.0)
-  return_does (Some e) runs n texts caught = absurd (cc)
+  return_does None runs n texts = λ a w0 d place ks ops c l w le fits sees has. last_step ask code (Kept k code w0) 0 0 _ c 1 (arrives (lands a place) d (place + 1) ks ops) (Leaves (ByReturn [])) l w (omega arith) fits (by_code ask code d place ks ops l w (InstrOf.Transfer WayOf.Return) has.0)
+  return_does (Some e) runs n texts = absurd (cc)
 
   stmt_rolled : (y : Stmt-F StmtToo ArmToo HandlerToo MasterToo) → Does (roll-Stmt (bare_stmt y))
-  unfolding null_doing put put_line new_line raise_new loop_plainly loop_while loop_for opened_outcome
-  stmt_rolled Stmt-F.Null = does Stmt-F.Null _ _ (statement_roll Stmt-F.Null) (exec_roll Stmt-F.Null) (λ runs n texts caught a w0 d place ks ops c l w le fits sees has. S.still_there ask k code setting call default constants bound calls 1 (lands a place) w0 d place ks ops c l w fits)
+  unfolding null_doing put put_line new_line raise_new raise_again loop_plainly loop_while loop_for opened_outcome
+  stmt_rolled Stmt-F.Null = does Stmt-F.Null _ _ (statement_roll Stmt-F.Null) (exec_roll Stmt-F.Null) (λ runs n texts a w0 d place ks ops c l w le fits sees has. S.still_there ask k code setting call default constants bound calls 1 (lands a place) w0 d place ks ops c l w fits)
   stmt_rolled (Stmt-F.Assign x e) = does (Stmt-F.Assign x e) _ _ (statement_roll (Stmt-F.Assign x e)) (exec_roll (Stmt-F.Assign x e)) (assign_does (reached_by x) (eval_name x) e (name_finds ask k code setting.places call default (λ w. Fits k code w) (whole_at k code) x))
-  stmt_rolled (Stmt-F.Put ps) = does (Stmt-F.Put ps) _ _ (statement_roll (Stmt-F.Put ps)) (exec_roll (Stmt-F.Put ps)) (λ runs n texts caught. print_runs ask k code setting.places call default bound false ps runs n texts)
-  stmt_rolled (Stmt-F.PutLine ps) = does (Stmt-F.PutLine ps) _ _ (statement_roll (Stmt-F.PutLine ps)) (exec_roll (Stmt-F.PutLine ps)) (λ runs n texts caught. print_runs ask k code setting.places call default bound true ps runs n texts)
-  stmt_rolled Stmt-F.NewLine = does Stmt-F.NewLine _ _ (statement_roll Stmt-F.NewLine) (exec_roll Stmt-F.NewLine) (λ runs n texts caught a w0 d place ks ops c l w le fits sees has. last_step ask code (Kept k code w0) 0 0 _ c 1 (arrives (lands a place) d (place + 1) ks ops) (Goes tt) (tell Newline l) w (omega arith) fits (by_code ask code d place ks ops l w InstrOf.NewLine has.0))
+  stmt_rolled (Stmt-F.Put ps) = does (Stmt-F.Put ps) _ _ (statement_roll (Stmt-F.Put ps)) (exec_roll (Stmt-F.Put ps)) (λ runs n texts. print_runs ask k code setting.places call default bound false ps runs n texts)
+  stmt_rolled (Stmt-F.PutLine ps) = does (Stmt-F.PutLine ps) _ _ (statement_roll (Stmt-F.PutLine ps)) (exec_roll (Stmt-F.PutLine ps)) (λ runs n texts. print_runs ask k code setting.places call default bound true ps runs n texts)
+  stmt_rolled Stmt-F.NewLine = does Stmt-F.NewLine _ _ (statement_roll Stmt-F.NewLine) (exec_roll Stmt-F.NewLine) (λ runs n texts a w0 d place ks ops c l w le fits sees has. last_step ask code (Kept k code w0) 0 0 _ c 1 (arrives (lands a place) d (place + 1) ks ops) (Goes tt) (tell Newline l) w (omega arith) fits (by_code ask code d place ks ops l w InstrOf.NewLine has.0))
   stmt_rolled (Stmt-F.Exit o) = does (Stmt-F.Exit o) _ _ (statement_roll (Stmt-F.Exit o)) (exec_roll (Stmt-F.Exit o)) (exit_does o)
-  stmt_rolled (Stmt-F.Raise e) = does (Stmt-F.Raise e) _ _ (statement_roll (Stmt-F.Raise e)) (exec_roll (Stmt-F.Raise e)) (λ runs n texts caught a w0 d place ks ops c l w le fits sees has. last_step ask code (Kept k code w0) 0 0 _ c 1 (arrives (lands a place) d (place + 1) ks ops) (Leaves (ByRaise e)) l w (omega arith) fits (by_code ask code d place ks ops l w (InstrOf.Transfer (WayOf.Raise e)) has.0))
+  stmt_rolled (Stmt-F.Raise e) = does (Stmt-F.Raise e) _ _ (statement_roll (Stmt-F.Raise e)) (exec_roll (Stmt-F.Raise e)) (λ runs n texts a w0 d place ks ops c l w le fits sees has. last_step ask code (Kept k code w0) 0 0 _ c 1 (arrives (lands a place) d (place + 1) ks ops) (Leaves (ByRaise e)) l w (omega arith) fits (by_code ask code d place ks ops l w (InstrOf.Transfer (WayOf.Raise e)) has.0))
+  stmt_rolled Stmt-F.RaiseAgain = does Stmt-F.RaiseAgain _ _ (statement_roll Stmt-F.RaiseAgain) (exec_roll Stmt-F.RaiseAgain) (λ runs n texts a w0 d place ks ops c l w le fits sees has. last_step ask code (Kept k code w0) 0 0 _ c 1 (arrives (lands a place) d (place + 1) ks ops) (Leaves (ByRaise (caught_in ks))) l w (omega arith) fits (by_code ask code d place ks ops l w InstrOf.RaiseAgain has.0))
   stmt_rolled (Stmt-F.Return o) = does (Stmt-F.Return o) _ _ (statement_roll (Stmt-F.Return o)) (exec_roll (Stmt-F.Return o)) (return_does o)
   stmt_rolled (Stmt-F.If arms others) =
       let y = Stmt-F.If (map (λ e. e.0) arms) (map (λ e. e.0) others) in
       does y _ _ (statement_roll y) (exec_roll y) (S.branches_run ask k code setting call default constants bound calls _ _ _ _ (arms_too arms) (statements_too others))
   stmt_rolled (Stmt-F.Loop body) =
       let y = Stmt-F.Loop (map (λ e. e.0) body) in
-      does y _ _ (statement_roll y) (exec_roll y) (λ runs n texts caught. loop_runs ask k code bound (λ a. (all (map statement_code (map (λ e. e.0) body))).code a n) (λ v. do_each K v caught (map exec (map (λ e. e.0) body))) (each_does body runs n texts caught))
+      does y _ _ (statement_roll y) (exec_roll y) (λ runs n texts. loop_runs ask k code bound (λ a. (all (map statement_code (map (λ e. e.0) body))).code a n) (λ v caught. do_each K v caught (map exec (map (λ e. e.0) body))) (each_does body runs n texts))
   stmt_rolled (Stmt-F.While e body) =
       let y = Stmt-F.While e (map (λ x. x.0) body) in
       does y _ _ (statement_roll y) (exec_roll y)
-      (λ runs n texts caught.
+      (λ runs n texts.
       let h = both_true _ _ runs in
-      while_runs ask k code bound (value_code e) (eval e K) (means e h.0) (λ a. (all (map statement_code (map (λ x. x.0) body))).code a n) (λ v. do_each K v caught (map exec (map (λ x. x.0) body))) (each_does body h.1 n texts caught))
+      while_runs ask k code bound (value_code e) (eval e K) (means e h.0) (λ a. (all (map statement_code (map (λ x. x.0) body))).code a n) (λ v caught. do_each K v caught (map exec (map (λ x. x.0) body))) (each_does body h.1 n texts))
   stmt_rolled (Stmt-F.For x way low high body) =
       let y = Stmt-F.For x way low high (map (λ z. z.0) body) in
       does y _ _ (statement_roll y) (exec_roll y)
-      (λ runs n texts caught.
+      (λ runs n texts.
       let h = both_true _ _ runs in
       let g = both_true _ _ h.1 in
-      for_runs ask k code setting.valid bound x way (value_code low) (value_code high) (eval low K) (eval high K) (means low h.0) (means high g.0) (λ a. (all (map statement_code (map (λ z. z.0) body))).code a n) (λ v. do_each K v caught (map exec (map (λ z. z.0) body))) (each_does body g.1 n texts caught))
+      for_runs ask k code setting.valid bound x way (value_code low) (value_code high) (eval low K) (eval high K) (means low h.0) (means high g.0) (λ a. (all (map statement_code (map (λ z. z.0) body))).code a n) (λ v caught. do_each K v caught (map exec (map (λ z. z.0) body))) (each_does body g.1 n texts))
   stmt_rolled (Stmt-F.Block m) = does (Stmt-F.Block m.0) _ _ (statement_roll (Stmt-F.Block m.0)) (exec_roll (Stmt-F.Block m.0)) (S.block_runs ask k code setting call default constants bound calls (master_code m.0) (body_of m.0) m.1)
   stmt_rolled (Stmt-F.AssignRecord x t a) = does (Stmt-F.AssignRecord x t a) _ _ (statement_roll (Stmt-F.AssignRecord x t a)) (exec_roll (Stmt-F.AssignRecord x t a)) (record_assign_does (reached_by x) t (sourced a) (eval_name x) (supply a) (name_means K x) (source_means K a))
   stmt_rolled (Stmt-F.Call f xs) = does (Stmt-F.Call f xs) _ _ (statement_roll (Stmt-F.Call f xs)) (exec_roll (Stmt-F.Call f xs)) (called_does f xs)
@@ -195,7 +193,6 @@ module _ (ask : Ask) (k : Tables) (code : Code) (setting : Setting k code) (call
   stmt_rolled (Stmt-F.Dispatch op x) = missing_does (Stmt-F.Dispatch op x) (statement_roll (Stmt-F.Dispatch op x))
   stmt_rolled (Stmt-F.LibraryAllocate p x size al) = missing_does (Stmt-F.LibraryAllocate p x size al) (statement_roll (Stmt-F.LibraryAllocate p x size al))
   stmt_rolled (Stmt-F.LibraryDeallocate p x size al) = missing_does (Stmt-F.LibraryDeallocate p x size al) (statement_roll (Stmt-F.LibraryDeallocate p x size al))
-  stmt_rolled Stmt-F.RaiseAgain = missing_does Stmt-F.RaiseAgain (statement_roll Stmt-F.RaiseAgain)
   stmt_rolled (Stmt-F.Free a x) = missing_does (Stmt-F.Free a x) (statement_roll (Stmt-F.Free a x))
   stmt_rolled (Stmt-F.Release x) = missing_does (Stmt-F.Release x) (statement_roll (Stmt-F.Release x))
 
@@ -205,18 +202,30 @@ module _ (ask : Ask) (k : Tables) (code : Code) (setting : Setting k code) (call
       (subst (λ m. S.Guards ask k code setting call default constants bound calls (record { test = value_code y.test; body = all (map statement_code (map (λ x. x.0) y.body)) }) m) (sym (guarding_roll (bare_arm y)))
       (S.guard_runs ask k code setting call default constants bound calls (value_code y.test) (eval y.test) (map statement_code (map (λ x. x.0) y.body)) (map exec (map (λ x. x.0) y.body)) (means y.test) (statements_too y.body)))
 
-  -- the handlers of a master: this version runs none
-  with_handlers : (items : List Item) (body : List StmtToo) (handlers : List HandlerToo) → S.Masters ask k code setting call default constants bound calls (inside (all_items (map item_code items)) (all (map statement_code (map (λ x. x.0) body))) (has_no_handlers (map no_code (map (λ x. x.0) handlers)))) (within (map elaborate_item items) (map exec (map (λ x. x.0) body)) (map handler_of (map (λ x. x.0) handlers)))
-  with_handlers items body [] runs = S.master_runs ask k code setting call default constants bound calls items (map statement_code (map (λ x. x.0) body)) (map exec (map (λ x. x.0) body)) (statements_too body) runs
-  with_handlers items body (h ∷ hs) runs = absurd (handled_not_run ((all_items (map item_code items)).runs k.records) ((all (map statement_code (map (λ x. x.0) body))).runs k.records) runs)
+  handlers_too : (hs : List HandlerToo) → H.EachHandles ask k code setting call default constants bound calls (map handler_code (map (λ x. x.0) hs)) (map handler_of (map (λ x. x.0) hs))
+  handlers_too [] = tt
+  handlers_too (h ∷ hs) = (h.1, handlers_too hs)
+
+  handler_rolled : (y : Handler-F StmtToo ArmToo HandlerToo MasterToo) → Handles (roll-Handler (bare_handler y))
+  handler_rolled y =
+      subst (λ z. H.Handles ask k code setting call default constants bound calls z (handler_of (roll-Handler (bare_handler y)))) (sym (handler_roll (bare_handler y)))
+      (subst (λ m. H.Handles ask k code setting call default constants bound calls (record { choices = y.choices; body = all (map statement_code (map (λ x. x.0) y.body)) }) m) (sym (handling_roll (bare_handler y)))
+      (H.handler_does ask k code setting call default constants bound calls y.choices (map statement_code (map (λ x. x.0) y.body)) (map exec (map (λ x. x.0) y.body)) (statements_too y.body)))
+
+  -- statements, and their handlers if there are any
+  closes : (body : List StmtToo) (handlers : List HandlerToo) → S.Closes ask k code setting call default constants bound calls (handled (all (map statement_code (map (λ x. x.0) body))) (map handler_code (map (λ x. x.0) handlers))) (S.with_handlers (map exec (map (λ x. x.0) body)) (map handler_of (map (λ x. x.0) handlers)))
+  closes body [] = S.plain_closes ask k code setting call default constants bound calls (map statement_code (map (λ x. x.0) body)) (map exec (map (λ x. x.0) body)) (statements_too body)
+  closes body (h ∷ hs) = H.handled_closes ask k code setting call default constants bound calls (map statement_code (map (λ x. x.0) body)) (map exec (map (λ x. x.0) body)) (statements_too body) (handler_code h.0) (map handler_code (map (λ x. x.0) hs)) (handler_of h.0) (map handler_of (map (λ x. x.0) hs)) (handlers_too (h ∷ hs))
 
   master_rolled : (y : Master-F StmtToo ArmToo HandlerToo MasterToo) → IsMaster (roll-Master (bare_master y))
+  unfolding within
   master_rolled y =
       let same = master_roll (bare_master y) in
       let means = body_roll (bare_master y) in
+      let statements = handled (all (map statement_code (map (λ x. x.0) y.body))) (map handler_code (map (λ x. x.0) y.handlers)) in
       subst (λ z. S.Mastered ask k code setting call default constants bound calls z (body_of (roll-Master (bare_master y)))) (sym same)
-      (subst (λ b. S.Mastered ask k code setting call default constants bound calls (record { slots = y.slots; inside = inside (all_items (map item_code y.items)) (all (map statement_code (map (λ x. x.0) y.body))) (has_no_handlers (map no_code (map (λ x. x.0) y.handlers))) }) b) (sym means)
-      (record { slots = refl; inside = with_handlers y.items y.body y.handlers }))
+      (subst (λ b. S.Mastered ask k code setting call default constants bound calls (record { slots = y.slots; inside = inside (all_items (map item_code y.items)) statements }) b) (sym means)
+      (record { slots = refl; inside = S.master_runs ask k code setting call default constants bound calls y.items statements (S.with_handlers (map exec (map (λ x. x.0) y.body)) (map handler_of (map (λ x. x.0) y.handlers))) (closes y.body y.handlers) }))
 
   -- Whole trees ---------------------------------------------------------------------------------------
 
@@ -224,5 +233,5 @@ module _ (ask : Ask) (k : Tables) (code : Code) (setting : Setting k code) (call
   master_does = ind-Master Does Guards Handles IsMaster
       (λ x y is. subst (λ z. Does (roll-Stmt z)) is (stmt_rolled y))
       (λ x y is. subst (λ z. Guards (roll-Arm z)) is (arm_rolled y))
-      (λ x y is. tt)
+      (λ x y is. subst (λ z. Handles (roll-Handler z)) is (handler_rolled y))
       (λ x y is. subst (λ z. IsMaster (roll-Master z)) is (master_rolled y))

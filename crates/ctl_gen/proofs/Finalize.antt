@@ -33,7 +33,7 @@ use Rattle.ctl_gen.proofs.Known.{IsPlain, IsUntagged}
 use Rattle.ctl_gen.proofs.Worlds.{IfFound, Fits, Settled, Since, IsInside, home, object_fits, since_begin, since_end}
 use Rattle.ctl_gen.proofs.Plain.{is_controlled_plain, has_controlled_plain, none_controlled_plain, parts_to_finalize_flat}
 use Rattle.ctl_gen.proofs.Setting.{Setting, tools_with, returns, Told, Sure, Calls, enter_shows}
-use Rattle.ctl_gen.proofs.Follow.{by_raise, Runs, gives, way_of, both, no_step, last_step, stop_step, within, then_step, more_quits, more_halts}
+use Rattle.ctl_gen.proofs.Follow.{by_raise, Runs, gives, way_of, both, no_step, last_step, stop_step, then_step, more_quits, more_halts}
 
 -- whether a finalization failed is what it hands on
 abbrev pub handed : Bool → Handed
@@ -142,14 +142,14 @@ module _ (ask : Ask) (k : Tables) (code : Code) (setting : Setting k code) (call
   call_is f n c l w o at = ap (λ x. on_some x gone (λ o1. look (λ w1. show (ends n) >> call (OfSubprogram f (holding (Binds n 0 []) ∷ [])) (home_of o1.origin w1) >> nothing)) c l w) at
 
   -- after the execution of a Finalize, one that raised is remembered
-  over : (n : ℕ) (w0 : World) (ks : List Frame) (s0 : State) (c : ℕ) (o : Out Returned) → Runs ask code (Told k code w0) 2 2 s0 c (returns (Finalizing n ∷ ks)) o → Runs ask code (Sure k code w0) 3 2 s0 c (tells ks) (finalized n o)
+  over : (n : ℕ) (w0 : World) (ks : List Frame) (s0 : State) (c : ℕ) (o : Out Returned) → Runs ask code (Told k code w0) 2 3 s0 c (returns (Finalizing n ∷ ks)) o → Runs ask code (Sure k code w0) 3 3 s0 c (tells ks) (finalized n o)
   unfolding picked opened_outcome opened_finalization
   over n w0 ks s0 c (Gives (Goes x) u c1 l w) z = then_step ask code (Sure k code w0) 2 3 s0 _ _ c c1 u _ z refl (tt, since_end k code n w0 w z.fits.1) (omega arith)
   over n w0 ks s0 c (Gives (Leaves y) u c1 l w) z =
-      by_raise (λ x. Runs ask code (Told k code w0) 2 2 s0 c (returns {A = Returned} (Finalizing n ∷ ks)) (Gives (Leaves x) u c1 l w) → Runs ask code (Sure k code w0) 3 2 s0 c (tells ks) (finalized n (Gives (Leaves x) u c1 l w)))
+      by_raise (λ x. Runs ask code (Told k code w0) 2 3 s0 c (returns {A = Returned} (Finalizing n ∷ ks)) (Gives (Leaves x) u c1 l w) → Runs ask code (Sure k code w0) 3 3 s0 c (tells ks) (finalized n (Gives (Leaves x) u c1 l w)))
       (λ e z1. then_step ask code (Sure k code w0) 2 3 s0 _ _ c c1 u _ z1 refl (tt, since_end k code n w0 w z1.fits.1) (omega arith)) y z.fits.0 z
-  over n w0 ks s0 c (Stops why u l) z = more_quits ask code (Sure k code w0) 2 2 s0 u _ l why (omega arith) z
-  over n w0 ks s0 c (Cut u c1 l) z = more_halts ask code (Sure k code w0) 2 2 s0 c u _ l (omega arith) z
+  over n w0 ks s0 c (Stops why u l) z = more_quits ask code (Sure k code w0) 3 3 s0 u _ l why (omega arith) z
+  over n w0 ks s0 c (Cut u c1 l) z = more_halts ask code (Sure k code w0) 3 3 s0 c u _ l (omega arith) z
 
   module _ (bound : ℕ) (calls : Calls ask k code setting bound call) where
     -- an object that exists, from the step that begins it
@@ -177,8 +177,7 @@ module _ (ask : Ask) (k : Tables) (code : Code) (setting : Setting k code) (call
             let body = setting.finalize_body t f op in
             let settled = subst (IfFound (Settled k code w1.ledger.next_master w1.activations)) at1 (object_fits k code n w1 fits1.0) in
             subst goal (sym (ap (unwritten n) (call_is f n c l w1 p at1)))
-            (within ask code (Sure k code w0) 3 2 3 3 s0 c (tells ks) _ (omega arith) (omega arith)
-            (over n w0 ks s0 c _ (calls.runs f body.0 body.1 w0 (home_of p.origin w1) (holding (Binds n 0 []) ∷ []) (Finalizing n ∷ ks) c (tell (ends n) l) w1 s0 le fits1 (finalize_scope k code w1 p t f (ty1 p at1) settled (setting.finalize t ∙ op)) (tt, tt) (e ∙ ap (begun (Some f)) at1 ∙ enter_shows (slice_get code.entries.items f) (ends n) (home_of p.origin w1) (holding (Binds n 0 []) ∷ []) (Finalizing n ∷ ks) l w1))))
+            (over n w0 ks s0 c _ (calls.runs f body.0 body.1 w0 (home_of p.origin w1) (holding (Binds n 0 []) ∷ []) (Finalizing n ∷ ks) c (tell (ends n) l) w1 s0 le fits1 (finalize_scope k code w1 p t f (ty1 p at1) settled (setting.finalize t ∙ op)) (tt, tt) (e ∙ ap (begun (Some f)) at1 ∙ enter_shows (slice_get code.entries.items f) (ends n) (home_of p.origin w1) (holding (Binds n 0 []) ∷ []) (Finalizing n ∷ ks) l w1)))
 
     -- such an object, which is no pool
     pub declared_runs : (n : ℕ) (w0 : World) (ks : List Frame) (c : ℕ) (l : Log) (w : World) (s0 : State) (o : Object) → c ≤ bound → Since k code w0 w → object_at n w ≡ Some o → o.ty ≡ Record t → ((p : Object) → object_at n (begin_finalization n w) ≡ Some p → p.ty ≡ Record t) → step ask code s0 ≡ moved l (Table.finalize_by code (operation_of (λ x. x.finalize) code t) n (object_at n (begin_finalization n w)) ks (begin_finalization n w)) → Runs ask code (Sure k code w0) 3 3 s0 c (tells ks) (finalize_as K n (Record t) c l w)

@@ -96,6 +96,13 @@ by_raise P f y h = by (raised_by y) refl h
     by None is g = absurd g
     by (Some e) is g = subst P (sym (raised_is y e is)) (f e)
 
+-- ticks before ticks
+pub add_add : {A : Type 0} (t u : ℕ) (o : Out A) → add (t + u) o ≡ add t (add u o)
+unfolding add
+add_add t u (Gives r v c l w) = let e : t + u + v ≡ t + (u + v) = omega arith in ap (λ n. Gives r n c l w) e
+add_add t u (Stops why v l) = let e : t + u + v ≡ t + (u + v) = omega arith in ap (λ n. Stops why n l) e
+add_add t u (Cut v c l) = let e : t + u + v ≡ t + (u + v) = omega arith in ap (λ n. Cut n c l) e
+
 module _ (ask : Ask) (code : Code) where
   -- from s to another state in at most 64 steps a tick and b more, and in no fewer than were taken from the clock
   pub record Comes (b : ℕ) (s : State) (c t c1 : ℕ) (there : State) (Fits : Type 0) : Type 0 where
@@ -106,10 +113,11 @@ module _ (ask : Ask) (code : Code) where
     pub comes : steps ask code n s ≡ there
     pub fits : Fits
 
-  -- a moment when the clock is used up, or a choice is not answered: fewer than 64 steps a tick and h more
+  -- a moment when the clock is used up, or a choice is not answered: two steps fewer at least than 64 a tick and h more. So what comes
+  -- before the first tick, as the step that enters a master and the one that arms its handlers, is within 64 steps a tick
   pub record Halts (h : ℕ) (s : State) (c t : ℕ) (l : Log) : Type 0 where
     pub n : ℕ
-    pub in_time : n + 1 ≤ 64 * t + h
+    pub in_time : n + 2 ≤ 64 * t + h
     pub logged : (steps ask code n s).log ≡ l
     pub going : IsGoing (steps ask code n s)
     pub why : (c ≤ n) ⊎ (step ask code (steps ask code n s) ≡ steps ask code n s)
@@ -117,7 +125,7 @@ module _ (ask : Ask) (code : Code) where
   -- a moment when the machine has stopped
   pub record Quits (h : ℕ) (s : State) (t : ℕ) (l : Log) (why : Stop) : Type 0 where
     pub n : ℕ
-    pub in_time : n + 1 ≤ 64 * t + h
+    pub in_time : n + 2 ≤ 64 * t + h
     pub logged : (steps ask code n s).log ≡ l
     pub over : (steps ask code n s).mode ≡ Stopped why
 
@@ -167,6 +175,13 @@ module _ (ask : Ask) (code : Code) (Fits : Option Way → World → Type 0) wher
   after_comes b b1 h1 d e s s1 c c1 t next (Stops why u l) le he a z = later_quits ask code a.n h1 e s s1 u (t + u) l why a.comes (omega (arith, a.in_time, he)) z
   after_comes b b1 h1 d e s s1 c c1 t next (Cut u c2 l) le he a z = later_halts ask code a.n h1 e s s1 c c1 u (t + u) l a.comes a.enough (omega (arith, a.in_time, he)) z
 
+  -- the same with what is a tick, which pays 64 steps
+  pub after_paid : {A X : Type 0} (b b1 h1 d e : ℕ) (s s1 : State) (c c1 t : ℕ) (next : Result A → Log → World → State) (o : Out A) → b + b1 ≤ 64 + d → b + h1 ≤ 64 + e → Comes ask code b s c t c1 s1 X → Runs b1 h1 s1 c1 next o → Runs d e s c next (add t (add 1 o))
+  unfolding add
+  after_paid b b1 h1 d e s s1 c c1 t next (Gives r u c2 l w) le he a z = later_comes ask code a.n b1 d s s1 (next r l w) c c1 c2 u (t + (1 + u)) a.comes a.falls a.enough (omega (arith, a.in_time, le)) z
+  after_paid b b1 h1 d e s s1 c c1 t next (Stops why u l) le he a z = later_quits ask code a.n h1 e s s1 u (t + (1 + u)) l why a.comes (omega (arith, a.in_time, he)) z
+  after_paid b b1 h1 d e s s1 c c1 t next (Cut u c2 l) le he a z = later_halts ask code a.n h1 e s s1 c c1 u (t + (1 + u)) l a.comes a.enough (omega (arith, a.in_time, he)) z
+
   -- greater counts of steps that no tick pays, and more ticks
   pub added : {A : Type 0} (n b h d e : ℕ) (s : State) (c : ℕ) (next : Result A → Log → World → State) (o : Out A) → b ≤ 64 * n + d → h ≤ 64 * n + e → Runs b h s c next o → Runs d e s c next (add n o)
   unfolding add
@@ -194,7 +209,7 @@ module _ (ask : Ask) (code : Code) (Fits : Option Way → World → Type 0) wher
   no_step b h s c t next r l w fits there = record { n = 0; falls = omega arith; enough = omega arith; in_time = omega arith; comes = there; fits = fits }
 
   -- one step to the end of an erroneous program
-  pub stop_step : {A : Type 0} (b h : ℕ) (s s1 : State) (c t : ℕ) (next : Result A → Log → World → State) (why : Stop) (l : Log) → 2 ≤ 64 * t + h → step ask code s ≡ s1 → s1.log ≡ l → s1.mode ≡ Stopped why → Runs b h s c next (Stops why t l)
+  pub stop_step : {A : Type 0} (b h : ℕ) (s s1 : State) (c t : ℕ) (next : Result A → Log → World → State) (why : Stop) (l : Log) → 3 ≤ 64 * t + h → step ask code s ≡ s1 → s1.log ≡ l → s1.mode ≡ Stopped why → Runs b h s c next (Stops why t l)
   stop_step b h s s1 c t next why l le there logged over = record { n = 1; in_time = omega (arith, le); logged = ap (λ (x : State). x.log) there ∙ logged; over = ap (λ (x : State). x.mode) there ∙ over }
 
   -- the same end under another name
@@ -235,7 +250,7 @@ module _ (ask : Ask) (code : Code) (Fits : Option Way → World → Type 0) wher
   end_step h s c t next r l w fits there = last_step 1 h s c t next r l w (omega arith) fits there
 
   -- one step more to the end of an erroneous program
-  pub then_stops : {X : Type 0} (b h : ℕ) (s s1 s2 : State) (c c1 t u : ℕ) (l : Log) (why : Stop) → Comes ask code b s c t c1 s1 X → step ask code s1 ≡ s2 → s2.log ≡ l → s2.mode ≡ Stopped why → 64 * t + b + 2 ≤ 64 * u + h → Quits ask code h s u l why
+  pub then_stops : {X : Type 0} (b h : ℕ) (s s1 s2 : State) (c c1 t u : ℕ) (l : Log) (why : Stop) → Comes ask code b s c t c1 s1 X → step ask code s1 ≡ s2 → s2.log ≡ l → s2.mode ≡ Stopped why → 64 * t + b + 3 ≤ 64 * u + h → Quits ask code h s u l why
   then_stops b h s s1 s2 c c1 t u l why z next logged over time =
       let e : steps ask code (suc z.n) s ≡ s2 = ap (step ask code) z.comes ∙ next in
       record { n = suc z.n; in_time = omega (arith, z.in_time, time); logged = ap (λ (x : State). x.log) e ∙ logged; over = ap (λ (x : State). x.mode) e ∙ over }
@@ -249,20 +264,15 @@ module _ (ask : Ask) (code : Code) (Before Fits : Option Way → World → Type 
   both b h b1 h1 d e s c mid next (Stops why t l) f le he fe a z = record { n = a.n; in_time = omega (arith, a.in_time, he); logged = a.logged; over = a.over }
   both b h b1 h1 d e s c mid next (Cut t c1 l) f le he fe a z = record { n = a.n; in_time = omega (arith, a.in_time, he); logged = a.logged; going = a.going; why = a.why }
 
-  -- one step, which may take one from the clock, a construct, and then another that is a tick, which pays 64 steps
-  pub step_both_paid : {A B : Type 0} (b h b1 h1 d e : ℕ) (s0 s : State) (c0 c : ℕ) (mid : Result A → Log → World → State) (next : Result B → Log → World → State) (o : Out A) (f : Result A → Act B) → b + 1 + b1 ≤ 64 + d → h + 1 ≤ e → b + 1 + h1 ≤ 64 + e → c ≤ c0 → c0 ≤ c + 1 → step ask code s0 ≡ s → Runs ask code Before b h s c mid o → ((r : Result A) (c1 : ℕ) (l : Log) (w : World) → c1 ≤ c → Before (way_of r) w → Runs ask code Fits b1 h1 (mid r l w) c1 next (f r c1 l w)) → Runs ask code Fits d e s0 c0 next (bind o (λ r c1 l w. add 1 (f r c1 l w)))
+  -- a stretch, a construct, and then what follows it
+  pub both_from : {A B X : Type 0} (b0 b h h1 e d : ℕ) (s0 s : State) (c0 c t0 : ℕ) (mid : Result A → Log → World → State) (next : Result B → Log → World → State) (o : Out A) (f : Result A → Act B) → b0 + b ≤ h1 → b0 + h ≤ e → Comes ask code b0 s0 c0 t0 c s X → Runs ask code Before b h s c mid o
+      → ((r : Result A) (t c1 : ℕ) (l : Log) (w : World) → c1 ≤ c → Before (way_of r) w → Comes ask code h1 s0 c0 t c1 (mid r l w) (Before (way_of r) w) → Runs ask code Fits d e s0 c0 next (add t (f r c1 l w))) → Runs ask code Fits d e s0 c0 next (add t0 (bind o f))
   unfolding bind add
-  step_both_paid b h b1 h1 d e s0 s c0 c mid next (Gives r t c1 l w) f le he fe lo hi first a z = paid (f r c1 l w) (z r c1 l w a.falls a.fits)
-    where
-      x : Comes ask code (b + 1) s0 c0 t c1 (mid r l w) (Before (way_of r) w)
-      x = later_comes ask code 1 b (b + 1) s0 s (mid r l w) c0 c c1 t t first lo hi (omega arith) a
-
-      paid : (o1 : Out _) → Runs ask code Fits b1 h1 (mid r l w) c1 next o1 → Runs ask code Fits d e s0 c0 next (add t (add 1 o1))
-      paid (Gives r1 u c2 l1 w1) y = later_comes ask code x.n b1 d s0 (mid r l w) (next r1 l1 w1) c0 c1 c2 u (t + (1 + u)) x.comes x.falls x.enough (omega (arith, x.in_time, le)) y
-      paid (Stops why u l1) y = later_quits ask code x.n h1 e s0 (mid r l w) u (t + (1 + u)) l1 why x.comes (omega (arith, x.in_time, fe)) y
-      paid (Cut u c2 l1) y = later_halts ask code x.n h1 e s0 (mid r l w) c0 c1 u (t + (1 + u)) l1 x.comes x.enough (omega (arith, x.in_time, fe)) y
-  step_both_paid b h b1 h1 d e s0 s c0 c mid next (Stops why t l) f le he fe lo hi first a z = later_quits ask code 1 h e s0 s t t l why first (omega (arith, he)) a
-  step_both_paid b h b1 h1 d e s0 s c0 c mid next (Cut t c1 l) f le he fe lo hi first a z = later_halts ask code 1 h e s0 s c0 c t t l first hi (omega (arith, he)) a
+  both_from b0 b h h1 e d s0 s c0 c t0 mid next (Gives r t c1 l w) f le he front a z =
+      subst (Runs ask code Fits d e s0 c0 next) (add_add t0 t (f r c1 l w))
+      (z r (t0 + t) c1 l w a.falls a.fits (later_comes ask code front.n b h1 s0 s (mid r l w) c0 c c1 t (t0 + t) front.comes front.falls front.enough (omega (arith, front.in_time, le)) a))
+  both_from b0 b h h1 e d s0 s c0 c t0 mid next (Stops why t l) f le he front a z = later_quits ask code front.n h e s0 s t (t0 + t) l why front.comes (omega (arith, front.in_time, he)) a
+  both_from b0 b h h1 e d s0 s c0 c t0 mid next (Cut t c1 l) f le he front a z = later_halts ask code front.n h e s0 s c0 c t (t0 + t) l front.comes front.enough (omega (arith, front.in_time, he)) a
 
 module _ (ask : Ask) (code : Code) (Fits : Option Way → World → Type 0) where
   -- statements one after another, where the first may leave
@@ -281,12 +291,6 @@ module _ (ask : Ask) (code : Code) (Fits : Option Way → World → Type 0) wher
   weaker Less b h s c next (Cut t c1 l) f z = z
 
 -- Joined constructs joined again ------------------------------------------------------------------
-
-add_add : {A : Type 0} (t u : ℕ) (o : Out A) → add (t + u) o ≡ add t (add u o)
-unfolding add
-add_add t u (Gives r v c l w) = let e : t + u + v ≡ t + (u + v) = omega arith in ap (λ n. Gives r n c l w) e
-add_add t u (Stops why v l) = let e : t + u + v ≡ t + (u + v) = omega arith in ap (λ n. Stops why n l) e
-add_add t u (Cut v c l) = let e : t + u + v ≡ t + (u + v) = omega arith in ap (λ n. Cut n c l) e
 
 pub add_none : {A : Type 0} (o : Out A) → add 0 o ≡ o
 unfolding add

@@ -1,5 +1,5 @@
 -- The code of each well-typed statement and master is well formed.
-use Rattle.std.proofs.Common.{◌<◌, ◌≡◌, ℕ, ◌+◌, List, [], ◌∷◌, ◌++◌, length, map, Bool, true, false, Option, Some, None, option_map, refl, sym, ap, ◌∙◌, subst, arith}
+use Rattle.std.proofs.Common.{◌<◌, ◌≡◌, ℕ, ◌+◌, List, [], ◌∷◌, ◌++◌, length, map, true, false, Option, Some, None, option_map, refl, sym, ap, ◌∙◌, subst, arith}
 use Rattle.std.specs.Prelude.{◌&&◌, slice_get}
 use Rattle.ctl_program.specs.declared.types.Ty.{Ty}
 use Rattle.ctl_program.specs.declared.types.Ty.TheVariants.{Integer, Count, Boolean, Address, Handle, Access, Record}
@@ -12,11 +12,13 @@ use Rattle.ctl_program.specs.declared.statement.Item.TheVariants.{Object}
 use Rattle.ctl_program.specs.declared.statement.Stmt.{Stmt}
 use Rattle.ctl_program.specs.declared.statement.Stmt.TheVariants.{rolls-Assign, rolls-AssignRecord, rolls-Block, rolls-Call, rolls-Dispatch, rolls-Exit, rolls-For, rolls-Free, rolls-If, rolls-LibraryAllocate, rolls-LibraryDeallocate, rolls-Loop, rolls-NewLine, rolls-Nothing, rolls-Null, rolls-Put, rolls-PutLine, rolls-Raise, rolls-RaiseAgain, rolls-Release, rolls-Return, rolls-While}
 use Rattle.ctl_program.specs.declared.statement.Arm.{Arm}
+use Rattle.ctl_program.specs.declared.statement.Choices.{Choices}
+use Rattle.ctl_program.specs.declared.statement.Handler.{Handler}
 use Rattle.ctl_program.specs.declared.statement.Master.{Master}
 use Rattle.ctl_well_typed.specs.Setting as W
 use Rattle.ctl_well_typed.specs.Expressions.{Perhaps}
 use Rattle.ctl_well_typed.specs.Expressions as T
-use Rattle.ctl_well_typed.specs.Statements.{Done, DoneEach, Elaborated, ElaboratedEach, Fills, GuardedEach, Mastered}
+use Rattle.ctl_well_typed.specs.Statements.{Chosen, Done, DoneEach, Elaborated, ElaboratedEach, Fills, GuardedEach, HandledEach, Mastered, Raised}
 use Rattle.ctl_well_typed.specs.Statements as D
 use Rattle.ctl_code.specs.declared.kinds.Kind.{Kind}
 use Rattle.ctl_code.specs.declared.kinds.Kind.TheVariants.{Block}
@@ -34,13 +36,14 @@ use Rattle.ctl_gen.proofs.Calls.{call_formed}
 use Rattle.ctl_layout.specs.Values.{ValueCode, copied, sourced, value_code, reached_by}
 use Rattle.ctl_layout.specs.Records.{is_run_type}
 use Rattle.ctl_layout.specs.Defaults.{is_outermost}
-use Rattle.ctl_layout.specs.Layout.{ArmCode, ItemCode, MasterCode, StatementCode, all, all_items, arm_code, arms_run, assign, assign_record, block, call, exit, return, has_no_handlers, in_master, inside, item_code, master_code, missing_statement, no_code, statement_code, tested, valued, with_value}
+use Rattle.ctl_layout.specs.Layout.{ArmCode, HandlerCode, ItemCode, MasterCode, StatementCode, all, all_items, arm_code, arms_run, assign, assign_record, block, call, exit, return, handled, handler_code, handlers_run, has_choice, in_master, inside, item_code, master_code, missing_statement, statement_code, tested, valued, with_value}
 use Rattle.ctl_gen.proofs.Known.{both_true}
-use Rattle.ctl_layout.proofs.TreeLayers.{arm_roll, layer_of, master_roll}
+use Rattle.ctl_layout.proofs.TreeLayers.{arm_roll, layer_of, master_roll, handler_roll}
 use Rattle.ctl_gen.proofs.Place.{HasAt}
 use Rattle.ctl_gen.proofs.Formed.{both, both_at, Formed, FormedAt, none, one}
 use Rattle.ctl_gen.proofs.FormedAround.{Agrees, agrees_inside, leave_behind, leaves_formed, newest_there}
 use Rattle.ctl_gen.proofs.FormedArms.{GoodArms, branches_stay}
+use Rattle.ctl_gen.proofs.FormedHandlers.{AreChoices, AreExceptions, GoodHandlers, StaysAtEnd, handled_stays}
 use Rattle.ctl_gen.proofs.FormedLines.{block_formed}
 use Rattle.ctl_gen.proofs.FormedStatements.{MayDeclare, Stays, all_stay, assign_formed, copy_formed, declaration_formed, for_stays, leaves_stay, leaves_when_stay, loop_stays, tested_turns, valued_formed}
 use Rattle.ctl_gen.proofs.FormedTexts.{print_formed}
@@ -146,17 +149,35 @@ module _ (code : Code) (records : List RecordType) (k : W.Setting) (declarable :
   abbrev pub GoodMaster : W.Frames → StatementCode → Type 0
   GoodMaster env x = x.runs records ≡ true → (m : Kind) (below : List Kind) (n p : ℕ) → Agrees env (m ∷ below) → HasAt code.texts.items n x.texts → IsAtEnd (m ∷ below) → FormedAt code p (x.code (in_master m below) n) (m ∷ below) None
 
-  inside_good : (env : W.Frames) (x : ItemCode) (body : StatementCode) (unhandled : Bool) → GoodItem env x → GoodStatement env body → GoodMaster env (inside x body unhandled)
-  inside_good env x body unhandled items h runs m below n p agrees texts top =
-      let e = both_true (x.runs records) (body.runs records && unhandled) runs in
-      let f = both_true (body.runs records) unhandled e.1 in
+  -- the statements of a master, with their handlers
+  abbrev GoodHandled : W.Frames → StatementCode → Type 0
+  GoodHandled env x = x.runs records ≡ true → StaysAtEnd code env x.texts x.code
+
+  handled_good : (env : W.Frames) (body : StatementCode) (hs : List HandlerCode) → GoodStatement env body → (handlers_run hs records ≡ true → GoodHandlers code env hs) → GoodHandled env (handled body hs)
+  handled_good env body [] h g runs = handled_stays code env body [] tt (h runs)
+  handled_good env body (x ∷ more) h g runs =
+      let e = both_true (body.runs records) (handlers_run (x ∷ more) records) runs in
+      handled_stays code env body (x ∷ more) (g e.1) (h e.0)
+
+  -- choices that are well typed name exceptions of the table
+  raised_good : {es : List ℕ} → Raised k es → AreExceptions code es
+  raised_good D.no_more_exceptions = tt
+  raised_good (D.one_more_exception {x = e} known rest) = (raisable e known, raised_good rest)
+
+  chosen_good : {c : Choices} → Chosen k c → AreChoices code c
+  chosen_good D.others = tt
+  chosen_good (D.exceptions raised) = raised_good raised
+
+  inside_good : (env : W.Frames) (x : ItemCode) (body : StatementCode) → GoodItem env x → GoodHandled env body → GoodMaster env (inside x body)
+  inside_good env x body items h runs m below n p agrees texts top =
+      let e = both_true (x.runs records) (body.runs records) runs in
       let s = m ∷ below in
       let a = in_master m below in
       let first = x.code s in
       let size = length first in
       let second = body.code (behind size a) n in
       both_at code p (first ++ second) ((InstrOf.Leave, s) ∷ []) s s None
-      (both_at code p first second s s (Some s) (items e.0 s agrees p) (h f.0 (behind size a) n (p + size) agrees texts top))
+      (both_at code p first second s s (Some s) (items e.0 s agrees p) (h e.1 (behind size a) n (p + size) top agrees texts top))
       (one code InstrOf.Leave s None (λ q next. top) (p + length (first ++ second)))
 
   block_good : (env : W.Frames) (f : W.Frame) (m : MasterCode) → m.slots ≡ length f → GoodMaster (env ++ f ∷ []) m.inside → GoodStatement env (block m)
@@ -212,7 +233,7 @@ module _ (code : Code) (records : List RecordType) (k : W.Setting) (declarable :
     statement_good {env} (D.library_deallocate {p = p} {x = x} {size = size} {alignment = alignment} views rooted address h g) = not_missing env _ (layer_of _ (sym (rolls-LibraryDeallocate p x size alignment)))
     statement_good {env} (D.free {t = t} {x = x} has denotes) = not_missing env _ (layer_of _ (sym (rolls-Free t x)))
     statement_good {env} (D.release {x = x} denotes) = not_missing env _ (layer_of _ (sym (rolls-Release x)))
-    statement_good {env} (D.raise_again handles) = not_missing env _ (layer_of _ (sym rolls-RaiseAgain))
+    statement_good {env} (D.raise_again handles) = good_as env _ _ (layer_of _ (sym rolls-RaiseAgain)) (λ runs a n p agrees texts can. one code InstrOf.RaiseAgain a.stack (Some a.stack) (λ q next. tt) p)
 
     each_good : {env : W.Frames} {a : D.Around} {ys : List Stmt} → DoneEach k env a ys → GoodStatement env (all (map statement_code ys))
     each_good D.no_more_statements = λ runs a n p agrees texts can. none code a.stack p
@@ -230,7 +251,18 @@ module _ (code : Code) (records : List RecordType) (k : W.Setting) (declarable :
         let g = both_true (b.runs records) (arms_run (map arm_code more) records) f.1 in
         (tested_turns code env (value_code e) b (usable_as code (value_code e) Boolean tt (typed_fine code records t f.0)) (each_good h g.0), arms_good rest g.1))
 
+    handlers_good : {env : W.Frames} {a : D.Around} {ys : List Handler} → HandledEach k env a ys → handlers_run (map handler_code ys) records ≡ true → GoodHandlers code env (map handler_code ys)
+    handlers_good D.no_more_handlers = λ runs. tt
+    handlers_good {env} (D.one_more_handler {c = c} {body = body} {more = more} choices h rest) =
+        subst (λ (z : HandlerCode). handlers_run (z ∷ map handler_code more) records ≡ true → GoodHandlers code env (z ∷ map handler_code more)) (sym (handler_roll (record { choices = c; body = body })))
+        (λ runs.
+        let b = all (map statement_code body) in
+        let e = both_true (has_choice c) (b.runs records && handlers_run (map handler_code more) records) runs in
+        let f = both_true (b.runs records) (handlers_run (map handler_code more) records) e.1 in
+        ((chosen_good choices, each_good h f.0), handlers_good rest f.1))
+
     pub master_good : {env : W.Frames} {f : W.Frame} {a : D.Around} {m : Master} → Mastered k env f a m → GoodMaster (env ++ f ∷ []) (master_code m).inside
-    master_good (D.master {env = env} {f = f} {is = items} {body = body} {hs = hs} elaborated done handled) =
+    master_good (D.master {env = env} {f = f} {is = items} {body = body} {hs = hs} elaborated done handled_each) =
         subst (λ (z : MasterCode). GoodMaster (env ++ f ∷ []) z.inside) (sym (master_roll (record { slots = length f; items = items; body = body; handlers = hs })))
-        (inside_good (env ++ f ∷ []) (all_items (map item_code items)) (all (map statement_code body)) (has_no_handlers (map no_code hs)) (items_good elaborated) (each_good done))
+        (inside_good (env ++ f ∷ []) (all_items (map item_code items)) (handled (all (map statement_code body)) (map handler_code hs)) (items_good elaborated)
+        (handled_good (env ++ f ∷ []) (all (map statement_code body)) (map handler_code hs) (each_good done) (handlers_good handled_each)))

@@ -324,7 +324,7 @@ module _ (code : Code) where
       typed_fine (T.read {x = x} {t = t} denotes) runs =
           let same = value_read x t in
           fine_as _ _ t same (inl (read_own (reached_by x) t (runs_as _ _ same runs)))
-      typed_fine (T.call {s = f} {actuals = actuals} callable gives fits) runs = absurd (not_missing _ (value_call f actuals) runs)
+      typed_fine (T.call {s = f} {actuals = actuals} callable gives fits) runs = absurd (not_missing _ (value_call f actuals _) runs)
       typed_fine (T.unary {o = o} {x = x} {t = t} takes h) runs =
           let same = value_unary o t x in
           let u = takes_unary o t takes in

@@ -13,22 +13,25 @@ use Rattle.ctl_meaning.specs.Ledger.{layers_of, drop_layer}
 use Rattle.ctl_meaning.specs.Activations.{slots_in, activation_at}
 use Rattle.ctl_meaning.specs.Changes.{object_at, take_layer, close_master, begin_finalization, opened_changes}
 use Rattle.ctl_meaning.specs.Choice.{Ask, picked}
-use Rattle.ctl_meaning.specs.Outcome.{program_error, ByRaise, Result, Goes, Leaves, Out, Act, Done, Fine, bind, on_goes, ◌>>◌, ticked, change, on_some, opened_outcome}
+use Rattle.ctl_meaning.specs.Outcome.{program_error, raised_by, Way, ByExit, ByReturn, ByRaise, Result, Goes, Leaves, Out, Act, Done, Fine, add, bind, on_goes, ◌>>◌, ticked, change, on_some, opened_outcome}
 use Rattle.ctl_meaning.specs.Types.{Tables}
 use Rattle.ctl_meaning.specs.Names.{Call, Default, Tools, gone, existing}
 use Rattle.ctl_meaning.specs.Storage.{program_error_if}
 use Rattle.ctl_meaning.specs.Masters as Masters
-use Rattle.ctl_meaning.specs.Masters.{Left, finalize_layer, leave_layers, left}
+use Rattle.ctl_meaning.specs.Masters.{Left, finalize_layer, leave_layers, left, leave}
 use Rattle.ctl_code.specs.declared.code.Code.{Code}
-use Rattle.ctl_code.specs.States.{After, Frame, Leaving, State}
-use Rattle.ctl_code.specs.Table.{behind, finalize_declared, finalize_parts, next_layer, parts_of, says_failed}
+use Rattle.ctl_code.specs.declared.code.Instr.TheVariants as InstrOf
+use Rattle.ctl_code.specs.States.{After, Frame, Handling, handling, InMaster, Leaving, State}
+use Rattle.ctl_code.specs.Table as Table
+use Rattle.ctl_code.specs.Table.{behind, by_transfer, handlers_in, finalize_declared, finalize_parts, next_layer, parts_of, says_failed}
 use Rattle.ctl_code.specs.Steps.{moved, step}
 use Rattle.ctl_layout.specs.Records.{parts_by}
 use Rattle.ctl_gen.proofs.Known.{IsPlain, IsPlainType, IsUntagged}
 use Rattle.ctl_gen.proofs.Worlds.{Each, IfFound, IsSingle, Settled, Since, object_fits, layers_fit, since_take, since_close}
 use Rattle.ctl_gen.proofs.Setting.{Setting, tools_with, Calls, Told, Sure}
+use Rattle.ctl_gen.proofs.Cells.{by_code}
 use Rattle.ctl_gen.proofs.Finalize.{finalize_as, declared_runs, untouched_runs, handed, tells}
-use Rattle.ctl_gen.proofs.Follow.{Runs, way_of, both, added, stop_step, end_step, bind_bind}
+use Rattle.ctl_gen.proofs.Follow.{Runs, Comes, OutOf, at, transferred, arrives, leads_out, raised_is, way_of, both, added, after_paid, stop_step, end_step, bind_bind}
 
 -- where the end of a master leads
 abbrev pub leaves : After → List Frame → Result Left → Log → World → State
@@ -51,6 +54,45 @@ begun_ty n (x ∷ os) o p e g = by (nat_eq x.number n) refl (begun_ty n os o p) 
 keeps_ty : (n : ℕ) (w : World) (o p : Object) → object_at n w ≡ Some o → object_at n (begin_finalization n w) ≡ Some p → p.ty ≡ o.ty
 unfolding opened_changes object_in change_in
 keeps_ty n w o p e g = begun_ty n w.objects o p e g
+
+-- The step that leaves a master ---------------------------------------------------------------------
+
+-- what is no exception leaves the innermost master, whether it has handlers or not
+leaves_it : (code : Code) (y : Way) (ks : List Frame) (w : World) → raised_by y ≡ None → by_transfer code y ks w ≡ Table.leave code (Leaves y) ks w
+leaves_it code y ks w none = ap (λ o. Table.transferred code y o (handlers_in ks) ks w) none
+
+-- the newest master, which has no handlers or has begun to handle this
+abbrev pub in_frame : ℕ → ℕ → After → List Frame → List Frame
+in_frame m caught after ks = InMaster m (handling caught) after ∷ ks
+
+module _ (ask : Ask) (code : Code) where
+  -- the step by which a master is left, whose statements have ended so
+  abbrev pub StepsOut : State → Result Done → ℕ → After → List Frame → Log → World → Type 0
+  StepsOut s0 r m after ks l w = step ask code s0 ≡ moved l (next_layer code m (layers_of m w.ledger) false r after ks w)
+
+  -- at its end
+  pub ends_out : (m : ℕ) (g : Handling) (after : After) (d : List ℕ) (place : ℕ) (ks : List Frame) (l : Log) (w : World) → slice_get code.instructions.items place ≡ Some InstrOf.Leave → StepsOut (at d place (InMaster m g after ∷ ks) [] l w) (Goes tt) m after ks l w
+  ends_out m g after d place ks l w here = by_code ask code d place (InMaster m g after ∷ ks) [] l w InstrOf.Leave here
+
+  -- by what is no exception
+  pub passes_out : (m : ℕ) (g : Handling) (after : After) (ks : List Frame) (y : Way) (l : Log) (w : World) → raised_by y ≡ None → StepsOut (transferred y (InMaster m g after ∷ ks) l w) (Leaves y) m after ks l w
+  unfolding picked
+  passes_out m g after ks y l w none = ap (moved l) (leaves_it code y (InMaster m g after ∷ ks) w none)
+
+  -- by an exception, where there are no handlers or they have begun
+  raises_out : (m caught : ℕ) (after : After) (ks : List Frame) (e : ℕ) (l : Log) (w : World) → StepsOut (transferred (ByRaise e) (in_frame m caught after ks) l w) (Leaves (ByRaise e)) m after ks l w
+  unfolding picked
+  raises_out m caught after ks e l w = refl
+
+  pub steps_out : (m caught : ℕ) (after : After) (d : List ℕ) (place : ℕ) (ks : List Frame) → slice_get code.instructions.items place ≡ Some InstrOf.Leave → (r : Result Done) (l : Log) (w : World) → StepsOut (arrives OutOf d place (in_frame m caught after ks) [] r l w) r m after ks l w
+  steps_out m caught after d place ks here (Goes a) l w = ends_out m (handling caught) after d place ks l w here
+  steps_out m caught after d place ks here (Leaves y) l w = ap (step ask code) (leads_out y d (in_frame m caught after ks) [] l w) ∙ by (raised_by y) refl
+    where
+      by : (o : Option ℕ) → raised_by y ≡ o → StepsOut (transferred y (in_frame m caught after ks) l w) (Leaves y) m after ks l w
+      by None is = passes_out m (handling caught) after ks y l w is
+      by (Some e) is = subst (λ v. StepsOut (transferred v (in_frame m caught after ks) l w) (Leaves v) m after ks l w) (sym (raised_is y e is)) (raises_out m caught after ks e l w)
+
+-- What it does ---------------------------------------------------------------------------------------
 
 module _ (ask : Ask) (k : Tables) (code : Code) (setting : Setting k code) (call : Call) (default : Default) (bound : ℕ) (calls : Calls ask k code setting bound call) where
   abbrev K : Tools
@@ -119,3 +161,13 @@ module _ (ask : Ask) (k : Tables) (code : Code) (setting : Setting k code) (call
   -- a master whose statements have ended so, from the step that leaves it
   pub leave_runs : (r : Result Done) (m : ℕ) (after : After) (w0 : World) (ks : List Frame) (c : ℕ) (l : Log) (w : World) (s0 : State) → w0.ledger.next_master ≤ m → c ≤ bound → Since k code w0 w → step ask code s0 ≡ moved l (next_layer code m (layers_of m w.ledger) false r after ks w) → Runs ask code (Told k code w0) 1 1 s0 c (leaves after ks) (bind (leave_layers K m (layers_of m w.ledger) false c l w) (on_goes (left m r)))
   leave_runs r m after w0 ks c l w s0 young le fits first = layers_run (layers_of m w.ledger) false r m after w0 ks c l w s0 young le fits (layers_fit k code m w fits.0) first
+
+  -- the same, where its tick pays
+  pub left_runs : (r : Result Done) (m : ℕ) (after : After) (w0 : World) (ks : List Frame) (c : ℕ) (l : Log) (w : World) (s0 : State) → w0.ledger.next_master ≤ m → c ≤ bound → Since k code w0 w → StepsOut ask code s0 r m after ks l w → Runs ask code (Told k code w0) 0 0 s0 c (leaves after ks) (leave K m r c l w)
+  unfolding leave opened_outcome
+  left_runs r m after w0 ks c l w s0 young le fits first = added ask code (Told k code w0) 1 1 1 0 0 s0 c (leaves after ks) _ (omega arith) (omega arith) (leave_runs r m after w0 ks c l w s0 young le fits first)
+
+  -- and where it pays for a stretch before
+  pub left_after : {X : Type 0} (b : ℕ) → b ≤ 8 → (r : Result Done) (m : ℕ) (after : After) (w0 : World) (ks : List Frame) (c0 c t : ℕ) (l : Log) (w : World) (s0 s1 : State) → w0.ledger.next_master ≤ m → c ≤ bound → Since k code w0 w → Comes ask code b s0 c0 t c s1 X → StepsOut ask code s1 r m after ks l w → Runs ask code (Told k code w0) 0 2 s0 c0 (leaves after ks) (add t (leave K m r c l w))
+  unfolding leave opened_outcome
+  left_after b few r m after w0 ks c0 c t l w s0 s1 young le fits front first = after_paid ask code (Told k code w0) b 1 1 0 2 s0 s1 c0 c t (leaves after ks) _ (omega (arith, few)) (omega (arith, few)) front (leave_runs r m after w0 ks c l w s1 young le fits first)

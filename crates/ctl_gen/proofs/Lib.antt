@@ -27,6 +27,7 @@ pub mod RecordAssign
 pub mod Calls
 pub mod Texts
 pub mod Statements
+pub mod Handlers
 pub mod Ranges
 pub mod Executed
 pub mod Bodies
@@ -39,6 +40,7 @@ pub mod FormedTexts
 pub mod FormedLines
 pub mod FormedStatements
 pub mod FormedArms
+pub mod FormedHandlers
 pub mod FormedMasters
 pub mod FormedWhole
 pub mod Emission
@@ -47,4 +49,5 @@ pub mod EmittedTexts
 pub mod EmittedStatements
 pub mod EmittedLoops
 pub mod EmittedArms
+pub mod EmittedHandlers
 pub mod EmittedBodies

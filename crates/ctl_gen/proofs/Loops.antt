@@ -15,7 +15,7 @@ use Rattle.ctl_code.specs.declared.code.Instr.TheVariants as InstrOf
 use Rattle.ctl_code.specs.declared.code.Code.{Code}
 use Rattle.ctl_code.specs.declared.kinds.Kind.{Kind}
 use Rattle.ctl_code.specs.States.{Frame, State}
-use Rattle.ctl_code.specs.Table.{by_unless}
+use Rattle.ctl_code.specs.Table.{by_unless, caught_in}
 use Rattle.ctl_code.specs.Steps.{moved, step}
 use Rattle.ctl_layout.specs.Around.{Line, Landing, OutOfMaster, BeforeLoop, Around, behind, land}
 use Rattle.ctl_layout.specs.Values.{ValueCode, held}
@@ -30,12 +30,12 @@ use Rattle.ctl_gen.proofs.Follow.{IsGoing, Runs, Target, On, target_of, landed_o
 
 module _ (ask : Ask) (k : Tables) (code : Code) (bound : ℕ) where
   -- a turn, from the step that begins it, and what follows
-  pub turn_runs : (m : Act Done) (f : Result Bool → Act Done) (w0 : World) (mid next : Result Done → Log → World → State) (s0 s1 : State) (c : ℕ) (l : Log) (w : World) → step ask code s0 ≡ s1 → IsGoing s0 → s0.log ≡ l → ((c1 : ℕ) → c1 + 1 ≤ c → Runs ask code (Kept k code w0) 0 0 s1 c1 mid (m c1 l w)) → ((c1 : ℕ) (l1 : Log) (w2 : World) → c1 + 1 ≤ c → Since k code w0 w2 → Runs ask code (Kept k code w0) 4 4 (mid (Goes tt) l1 w2) c1 next (f (Goes true) c1 l1 w2)) → ((y : Way) (c1 : ℕ) (l1 : Log) (w2 : World) → c1 + 1 ≤ c → Since k code w0 w2 → Runs ask code (Kept k code w0) 4 4 (mid (Leaves y) l1 w2) c1 next (f (Leaves y) c1 l1 w2)) → Runs ask code (Kept k code w0) 0 1 s0 c next (bind (one_turn m c l w) f)
+  pub turn_runs : (m : Act Done) (f : Result Bool → Act Done) (w0 : World) (mid next : Result Done → Log → World → State) (s0 s1 : State) (c : ℕ) (l : Log) (w : World) → step ask code s0 ≡ s1 → IsGoing s0 → s0.log ≡ l → ((c1 : ℕ) → c1 + 1 ≤ c → Runs ask code (Kept k code w0) 0 0 s1 c1 mid (m c1 l w)) → ((c1 : ℕ) (l1 : Log) (w2 : World) → c1 + 1 ≤ c → Since k code w0 w2 → Runs ask code (Kept k code w0) 4 4 (mid (Goes tt) l1 w2) c1 next (f (Goes true) c1 l1 w2)) → ((y : Way) (c1 : ℕ) (l1 : Log) (w2 : World) → c1 + 1 ≤ c → Since k code w0 w2 → Runs ask code (Kept k code w0) 4 4 (mid (Leaves y) l1 w2) c1 next (f (Leaves y) c1 l1 w2)) → Runs ask code (Kept k code w0) 0 2 s0 c next (bind (one_turn m c l w) f)
   unfolding one_turn opened_outcome
   turn_runs m f w0 mid next s0 s1 zero l w first going logged body again leave = record { n = 0; in_time = omega arith; logged = logged; going = going; why = inl (omega arith) }
   turn_runs m f w0 mid next s0 s1 (suc c) l w first going logged body again leave =
-      subst (λ o. Runs ask code (Kept k code w0) 0 1 s0 (suc c) next o) (sym (bind_add 1 (bind (m c l w) (on_goes (λ _. done true))) f ∙ ap (add 1) (bind_bind (m c l w) (on_goes (λ _. done true)) f)))
-      (added ask code (Kept k code w0) 1 5 5 0 1 s0 (suc c) next _ (omega arith) (omega arith)
+      subst (λ o. Runs ask code (Kept k code w0) 0 2 s0 (suc c) next o) (sym (bind_add 1 (bind (m c l w) (on_goes (λ _. done true))) f ∙ ap (add 1) (bind_bind (m c l w) (on_goes (λ _. done true)) f)))
+      (added ask code (Kept k code w0) 1 5 5 0 2 s0 (suc c) next _ (omega arith) (omega arith)
       (one_step ask code (Kept k code w0) 4 4 5 5 s0 s1 (suc c) c next _ (omega arith) (omega arith) (omega arith) (omega arith) first
       (both ask code (Kept k code w0) (Kept k code w0) 0 0 4 4 4 4 s1 c mid next (m c l w) _ (omega arith) (omega arith) (omega arith) (body c (omega arith)) on)))
     where
@@ -59,15 +59,15 @@ module _ (ask : Ask) (k : Tables) (code : Code) (bound : ℕ) where
   -- Without an iteration scheme ---------------------------------------------------------------------
 
   -- the turns of a loop, from the step that begins one of them
-  turns_run : (x : Around → List Line) (act : List ℕ → Act Done) → Does ask k code bound x act → (s : List Kind) (n : ℕ) (e : Target) (w0 : World) (d : List ℕ) (start place : ℕ) (ks : List Frame) (ops : List ℕ) (c : ℕ) (l : Log) (w : World) (s0 : State) → c ≤ n → c ≤ bound → Since k code w0 w → Sees d s w0 → Laid code start (x (in_loop s) ++ (InstrOf.Back (length (x (in_loop s))), s) ∷ []) → Lands d (start - 1) ks ops place ops → step ask code s0 ≡ at d start ks ops l w → IsGoing s0 → s0.log ≡ l → Runs ask code (Kept k code w0) 1 1 s0 c (arrives e d place ks ops) (turns n (one_turn (act d)) c l w)
+  turns_run : (x : Around → List Line) (act : List ℕ → ℕ → Act Done) → Does ask k code bound x act → (s : List Kind) (n : ℕ) (e : Target) (w0 : World) (d : List ℕ) (start place : ℕ) (ks : List Frame) (ops : List ℕ) (c : ℕ) (l : Log) (w : World) (s0 : State) → c ≤ n → c ≤ bound → Since k code w0 w → Sees d s w0 → Laid code start (x (in_loop s) ++ (InstrOf.Back (length (x (in_loop s))), s) ∷ []) → Lands d (start - 1) ks ops place ops → step ask code s0 ≡ at d start ks ops l w → IsGoing s0 → s0.log ≡ l → Runs ask code (Kept k code w0) 1 2 s0 c (arrives e d place ks ops) (turns n (one_turn (act d (caught_in ks))) c l w)
   unfolding turns turned opened_outcome
   turns_run x act does s zero e w0 d start place ks ops c l w s0 fuel le fits sees has lands first going logged = record { n = 0; in_time = omega arith; logged = logged; going = going; why = inl (omega (arith, fuel)) }
   turns_run x act does s (suc n) e w0 d start place ks ops c l w s0 fuel le fits sees has lands first going logged =
-      within ask code (Kept k code w0) 0 1 1 1 s0 c (arrives e d place ks ops) _ (omega arith) (omega arith)
-      (turn_runs (act d) (turned (turns n (one_turn (act d)))) w0 (arrives (On (start - 1)) d (start + length b) ks ops) (arrives e d place ks ops) s0 (at d start ks ops l w) c l w first going logged
+      within ask code (Kept k code w0) 0 2 1 2 s0 c (arrives e d place ks ops) _ (omega arith) (omega arith)
+      (turn_runs (act d (caught_in ks)) (turned (turns n (one_turn (act d (caught_in ks))))) w0 (arrives (On (start - 1)) d (start + length b) ks ops) (arrives e d place ks ops) s0 (at d start ks ops l w) c l w first going logged
       (λ c1 lo. does (in_loop s) w0 d start ks ops c1 l w (omega (arith, lo, le)) fits sees (laid_front code start b ((InstrOf.Back (length b), s) ∷ []) has))
-      (λ c1 l1 w2 lo fits1. within ask code (Kept k code w0) 1 1 4 4 _ c1 (arrives e d place ks ops) _ (omega arith) (omega arith) (turns_run x act does s n e w0 d start place ks ops c1 l1 w2 (at d (start + length b) ks ops l1 w2) (omega (arith, lo, fuel)) (omega (arith, lo, le)) fits1 sees has lands (back l1 w2) tt refl))
-      (λ y c1 l1 w2 lo fits1. loop_ends e d (start - 1) (start + length b) place ks ops ops w0 (turns n (one_turn (act d))) lands y c1 l1 w2 fits1))
+      (λ c1 l1 w2 lo fits1. within ask code (Kept k code w0) 1 2 4 4 _ c1 (arrives e d place ks ops) _ (omega arith) (omega arith) (turns_run x act does s n e w0 d start place ks ops c1 l1 w2 (at d (start + length b) ks ops l1 w2) (omega (arith, lo, fuel)) (omega (arith, lo, le)) fits1 sees has lands (back l1 w2) tt refl))
+      (λ y c1 l1 w2 lo fits1. loop_ends e d (start - 1) (start + length b) place ks ops ops w0 (turns n (one_turn (act d (caught_in ks)))) lands y c1 l1 w2 fits1))
     where
       b : List Line
       b = x (in_loop s)
@@ -77,7 +77,7 @@ module _ (ask : Ask) (k : Tables) (code : Code) (bound : ℕ) where
           let e1 : start + length b - length b ≡ start = omega arith in
           by_code ask code d (start + length b) ks ops l1 w2 (InstrOf.Back (length b)) (laid_back code start b ((InstrOf.Back (length b), s) ∷ []) has).0 ∙ ap (λ p. at d p ks ops l1 w2) e1
 
-  pub loop_runs : (x : Around → List Line) (act : List ℕ → Act Done) → Does ask k code bound x act → Does ask k code bound (λ a. loop_code (x (in_loop a.stack)) a.stack) (λ d. ticked (leaving (loop (one_turn (act d)))))
+  pub loop_runs : (x : Around → List Line) (act : List ℕ → ℕ → Act Done) → Does ask k code bound x act → Does ask k code bound (λ a. loop_code (x (in_loop a.stack)) a.stack) (λ d caught. ticked (leaving (loop (one_turn (act d caught)))))
   unfolding leaving loop opened_outcome
   loop_runs x act does a w0 d place ks ops c l w le fits sees has =
       let s = a.stack in
@@ -85,8 +85,8 @@ module _ (ask : Ask) (k : Tables) (code : Code) (bound : ℕ) where
       let far : place + 1 + 1 + (length b + 1) ≡ place + length (loop_code b s) = omega (arith, length-append b ((InstrOf.Back (length b), s) ∷ [])) in
       let landing : place + 1 ≡ place + 1 + 1 - 1 = omega arith in
       arriving ask code (Kept k code w0) 0 0 _ c _ _ _ (λ r l1 w1. ap (λ p. arrives (lands a place) d p ks ops r l1 w1) far)
-      (added ask code (Kept k code w0) 1 1 1 0 0 _ c _ _ (omega arith) (omega arith)
-      (left_behind ask code (Kept k code w0) 1 1 1 1 _ c (arrives (lands a place) d (place + 1 + 1 + (length b + 1)) ks ops) _ (omega arith) (omega arith)
+      (added ask code (Kept k code w0) 1 1 2 0 0 _ c _ _ (omega arith) (omega arith)
+      (left_behind ask code (Kept k code w0) 1 2 1 2 _ c (arrives (lands a place) d (place + 1 + 1 + (length b + 1)) ks ops) _ (omega arith) (omega arith)
       (turns_run x act does s (suc c) (lands a place) w0 d (place + 1 + 1) (place + 1 + 1 + (length b + 1)) ks ops c l w (at d place ks ops l w) (omega arith) le fits sees has.2.2
       (λ l1 w1. subst (λ p. step ask code (at d p ks ops l1 w1) ≡ at d (place + 1 + 1 + (length b + 1)) ks ops l1 w1) landing (by_code ask code d (place + 1) ks ops l1 w1 (InstrOf.Skip (length b + 1)) has.2.0))
       (by_code ask code d place ks ops l w (InstrOf.Skip 1) has.0) tt refl)))
@@ -122,13 +122,13 @@ module _ (ask : Ask) (k : Tables) (code : Code) (bound : ℕ) where
   abbrev turn_of : ValueCode → (Around → List Line) → List Kind → List Line
   turn_of y x s = test_code y s (length (x (behind (test_length y s) (in_loop s))) + 1) ++ x (behind (test_length y s) (in_loop s))
 
-  whiles_run : (y : ValueCode) (test : List ℕ → Act (List ℕ)) → ((w0 : World) → Value ask k code (Since k code w0) y test) → (x : Around → List Line) (act : List ℕ → Act Done) → Does ask k code bound x act → (s : List Kind) (n : ℕ) (e : Target) (w0 : World) (d : List ℕ) (start place : ℕ) (ks : List Frame) (ops : List ℕ) (c : ℕ) (l : Log) (w : World) → c ≤ n → c ≤ bound → Since k code w0 w → Sees d s w0 → Laid code start (turn_of y x s ++ (InstrOf.Back (length (turn_of y x s)), s) ∷ []) → Lands d (start - 1) ks ops place ops → start + length (turn_of y x s) + 1 ≡ place → Runs ask code (Kept k code w0) 0 1 (at d start ks ops l w) c (arrives e d place ks ops) (turns n (while (test d) (act d)) c l w)
+  whiles_run : (y : ValueCode) (test : List ℕ → Act (List ℕ)) → ((w0 : World) → Value ask k code (Since k code w0) y test) → (x : Around → List Line) (act : List ℕ → ℕ → Act Done) → Does ask k code bound x act → (s : List Kind) (n : ℕ) (e : Target) (w0 : World) (d : List ℕ) (start place : ℕ) (ks : List Frame) (ops : List ℕ) (c : ℕ) (l : Log) (w : World) → c ≤ n → c ≤ bound → Since k code w0 w → Sees d s w0 → Laid code start (turn_of y x s ++ (InstrOf.Back (length (turn_of y x s)), s) ∷ []) → Lands d (start - 1) ks ops place ops → start + length (turn_of y x s) + 1 ≡ place → Runs ask code (Kept k code w0) 0 2 (at d start ks ops l w) c (arrives e d place ks ops) (turns n (while (test d) (act d (caught_in ks))) c l w)
   unfolding turns while turned opened_outcome scalar_of opened_lists
   whiles_run y test value x act does s zero e w0 d start place ks ops c l w fuel le fits sees has lands far = record { n = 0; in_time = omega arith; logged = refl; going = tt; why = inl (omega (arith, fuel)) }
   whiles_run y test value x act does s (suc n) e w0 d start place ks ops c l w fuel le fits sees has lands far =
-      subst (λ o. Runs ask code (Kept k code w0) 0 1 (at d start ks ops l w) c (arrives e d place ks ops) o) (sym (bind_bind (test d c l w) (on_goes (tested (act d))) (turned again)))
-      (within ask code (Kept k code w0) 0 0 0 1 _ c _ _ (omega arith) (omega arith)
-      (test_runs (λ r c1 l1 w1. bind (on_goes (tested (act d)) r c1 l1 w1) (turned again)) w0 y test (value w0) s (length b + 1) d start ks ops c l w (arrives e d place ks ops) fits sees (laid_front code start (test_code y s (length b + 1)) b inside)
+      subst (λ o. Runs ask code (Kept k code w0) 0 2 (at d start ks ops l w) c (arrives e d place ks ops) o) (sym (bind_bind (test d c l w) (on_goes (tested (act d (caught_in ks)))) (turned again)))
+      (within ask code (Kept k code w0) 0 0 0 2 _ c _ _ (omega arith) (omega arith)
+      (test_runs (λ r c1 l1 w1. bind (on_goes (tested (act d (caught_in ks))) r c1 l1 w1) (turned again)) w0 y test (value w0) s (length b + 1) d start ks ops c l w (arrives e d place ks ops) fits sees (laid_front code start (test_code y s (length b + 1)) b inside)
       (λ m c1 l1 w1 s0 lo fits1 first going logged. by m c1 l1 w1 s0 lo fits1 going logged (λ c2 l2 w2 lo2 fits2. whiles_run y test value x act does s n e w0 d start place ks ops c2 l2 w2 (omega (arith, lo, lo2, fuel)) (omega (arith, lo, lo2, le)) fits2 sees has lands far) (is_true m) refl first)
       (λ z c1 l1 w1 lo fits1. no_step ask code (Kept k code w0) 8 8 (transferred (ByRaise z) ks l1 w1) c1 0 (arrives e d place ks ops) (Leaves (ByRaise z)) l1 w1 fits1 refl)))
     where
@@ -136,7 +136,7 @@ module _ (ask : Ask) (k : Tables) (code : Code) (bound : ℕ) where
       b = x (behind (test_length y s) (in_loop s))
 
       again : Act Done
-      again = turns n (while (test d) (act d))
+      again = turns n (while (test d) (act d (caught_in ks)))
 
       q : ℕ
       q = start + test_length y s
@@ -163,22 +163,22 @@ module _ (ask : Ask) (k : Tables) (code : Code) (bound : ℕ) where
       landing : start + test_length y s - (1 + test_length y s) ≡ start - 1
       landing = omega arith
 
-      by : (m c1 : ℕ) (l1 : Log) (w1 : World) (s0 : State) → c1 ≤ c → Since k code w0 w1 → IsGoing s0 → s0.log ≡ l1 → ((c2 : ℕ) (l2 : Log) (w2 : World) → c2 + 1 ≤ c1 → Since k code w0 w2 → Runs ask code (Kept k code w0) 0 1 (at d start ks ops l2 w2) c2 (arrives e d place ks ops) (turns n (while (test d) (act d)) c2 l2 w2)) → (t : Bool) → is_true m ≡ t → step ask code s0 ≡ at d (start + test_length y s + (if is_true m then 0 else length (x (behind (test_length y s) (in_loop s))) + 1)) ks ops l1 w1 → Runs ask code (Kept k code w0) 8 8 s0 c1 (arrives e d place ks ops) (bind (either (is_true m) (one_turn (act d)) (done false) c1 l1 w1) (turned again))
+      by : (m c1 : ℕ) (l1 : Log) (w1 : World) (s0 : State) → c1 ≤ c → Since k code w0 w1 → IsGoing s0 → s0.log ≡ l1 → ((c2 : ℕ) (l2 : Log) (w2 : World) → c2 + 1 ≤ c1 → Since k code w0 w2 → Runs ask code (Kept k code w0) 0 2 (at d start ks ops l2 w2) c2 (arrives e d place ks ops) (turns n (while (test d) (act d (caught_in ks))) c2 l2 w2)) → (t : Bool) → is_true m ≡ t → step ask code s0 ≡ at d (start + test_length y s + (if is_true m then 0 else length (x (behind (test_length y s) (in_loop s))) + 1)) ks ops l1 w1 → Runs ask code (Kept k code w0) 8 8 s0 c1 (arrives e d place ks ops) (bind (either (is_true m) (one_turn (act d (caught_in ks))) (done false) c1 l1 w1) (turned again))
       by m c1 l1 w1 s0 lo fits1 going logged more true t first =
           let e0 : q + 0 ≡ q = omega arith in
-          subst (λ z. Runs ask code (Kept k code w0) 8 8 s0 c1 (arrives e d place ks ops) (bind (either z (one_turn (act d)) (done false) c1 l1 w1) (turned again))) (sym t)
-          (within ask code (Kept k code w0) 0 1 8 8 s0 c1 (arrives e d place ks ops) (bind (one_turn (act d) c1 l1 w1) (turned (turns n (while (test d) (act d))))) (omega arith) (omega arith)
-          (turn_runs (act d) (turned again) w0 (arrives (On (start - 1)) d (q + length b) ks ops) (arrives e d place ks ops) s0 (at d q ks ops l1 w1) c1 l1 w1 (first ∙ ap (λ z. at d (q + (if z then 0 else length b + 1)) ks ops l1 w1) t ∙ ap (λ p. at d p ks ops l1 w1) e0) going logged
-          (λ c2 lo2. subst (λ p. Runs ask code (Kept k code w0) 0 0 (at d q ks ops l1 w1) c2 (arrives (On p) d (q + length b) ks ops) (act d c2 l1 w1)) landing (does (behind (test_length y s) (in_loop s)) w0 d q ks ops c2 l1 w1 (omega (arith, lo, lo2, le)) fits1 sees tail))
-          (λ c2 l2 w2 lo2 fits2. one_step ask code (Kept k code w0) 0 1 4 4 (at d (q + length b) ks ops l2 w2) (at d start ks ops l2 w2) c2 c2 (arrives e d place ks ops) (turns n (while (test d) (act d)) c2 l2 w2) (omega arith) (omega arith) (omega arith) (omega arith) (back l2 w2) (more c2 l2 w2 lo2 fits2))
+          subst (λ z. Runs ask code (Kept k code w0) 8 8 s0 c1 (arrives e d place ks ops) (bind (either z (one_turn (act d (caught_in ks))) (done false) c1 l1 w1) (turned again))) (sym t)
+          (within ask code (Kept k code w0) 0 2 8 8 s0 c1 (arrives e d place ks ops) (bind (one_turn (act d (caught_in ks)) c1 l1 w1) (turned (turns n (while (test d) (act d (caught_in ks)))))) (omega arith) (omega arith)
+          (turn_runs (act d (caught_in ks)) (turned again) w0 (arrives (On (start - 1)) d (q + length b) ks ops) (arrives e d place ks ops) s0 (at d q ks ops l1 w1) c1 l1 w1 (first ∙ ap (λ z. at d (q + (if z then 0 else length b + 1)) ks ops l1 w1) t ∙ ap (λ p. at d p ks ops l1 w1) e0) going logged
+          (λ c2 lo2. subst (λ p. Runs ask code (Kept k code w0) 0 0 (at d q ks ops l1 w1) c2 (arrives (On p) d (q + length b) ks ops) (act d (caught_in ks) c2 l1 w1)) landing (does (behind (test_length y s) (in_loop s)) w0 d q ks ops c2 l1 w1 (omega (arith, lo, lo2, le)) fits1 sees tail))
+          (λ c2 l2 w2 lo2 fits2. one_step ask code (Kept k code w0) 0 2 4 4 (at d (q + length b) ks ops l2 w2) (at d start ks ops l2 w2) c2 c2 (arrives e d place ks ops) (turns n (while (test d) (act d (caught_in ks))) c2 l2 w2) (omega arith) (omega arith) (omega arith) (omega arith) (back l2 w2) (more c2 l2 w2 lo2 fits2))
           (λ z c2 l2 w2 lo2 fits2. loop_ends e d (start - 1) (q + length b) place ks ops ops w0 again lands z c2 l2 w2 fits2)))
       by m c1 l1 w1 s0 lo fits1 going logged more false t first =
           let e1 : q + (length b + 1) ≡ place = omega (arith, far, size) in
-          subst (λ z. Runs ask code (Kept k code w0) 8 8 s0 c1 (arrives e d place ks ops) (bind (either z (one_turn (act d)) (done false) c1 l1 w1) (turned again))) (sym t)
+          subst (λ z. Runs ask code (Kept k code w0) 8 8 s0 c1 (arrives e d place ks ops) (bind (either z (one_turn (act d (caught_in ks))) (done false) c1 l1 w1) (turned again))) (sym t)
           (last_step ask code (Kept k code w0) 8 8 s0 c1 0 (arrives e d place ks ops) (Goes tt) l1 w1 (omega arith) fits1 (first ∙ ap (λ z. at d (q + (if z then 0 else length b + 1)) ks ops l1 w1) t ∙ ap (λ p. at d p ks ops l1 w1) e1))
 
   -- the turns of such a loop are those of one without a scheme, and a test
-  pub while_runs : (y : ValueCode) (test : List ℕ → Act (List ℕ)) → ((w0 : World) → Value ask k code (Since k code w0) y test) → (x : Around → List Line) (act : List ℕ → Act Done) → Does ask k code bound x act → Does ask k code bound (λ a. loop_code (turn_of y x a.stack) a.stack) (λ d. ticked (leaving (loop (while (test d) (act d)))))
+  pub while_runs : (y : ValueCode) (test : List ℕ → Act (List ℕ)) → ((w0 : World) → Value ask k code (Since k code w0) y test) → (x : Around → List Line) (act : List ℕ → ℕ → Act Done) → Does ask k code bound x act → Does ask k code bound (λ a. loop_code (turn_of y x a.stack) a.stack) (λ d caught. ticked (leaving (loop (while (test d) (act d caught)))))
   unfolding leaving loop opened_outcome
   while_runs y test value x act does a w0 d place ks ops c l w le fits sees has =
       let s = a.stack in
@@ -187,9 +187,9 @@ module _ (ask : Ask) (k : Tables) (code : Code) (bound : ℕ) where
       let landing : place + 1 ≡ place + 1 + 1 - 1 = omega arith in
       let skipped : place + 1 + 1 + (length b + 1) ≡ place + 1 + 1 + length b + 1 = omega arith in
       arriving ask code (Kept k code w0) 0 0 _ c _ _ _ (λ r l1 w1. ap (λ p. arrives (lands a place) d p ks ops r l1 w1) far)
-      (added ask code (Kept k code w0) 1 2 2 0 0 _ c _ _ (omega arith) (omega arith)
-      (left_behind ask code (Kept k code w0) 1 2 2 2 _ c (arrives (lands a place) d (place + 1 + 1 + length b + 1) ks ops) _ (omega arith) (omega arith)
-      (one_step ask code (Kept k code w0) 0 1 1 2 _ _ c c _ _ (omega arith) (omega arith) (omega arith) (omega arith) (by_code ask code d place ks ops l w (InstrOf.Skip 1) has.0)
+      (added ask code (Kept k code w0) 1 2 3 0 0 _ c _ _ (omega arith) (omega arith)
+      (left_behind ask code (Kept k code w0) 1 3 2 3 _ c (arrives (lands a place) d (place + 1 + 1 + length b + 1) ks ops) _ (omega arith) (omega arith)
+      (one_step ask code (Kept k code w0) 0 2 1 3 _ _ c c _ _ (omega arith) (omega arith) (omega arith) (omega arith) (by_code ask code d place ks ops l w (InstrOf.Skip 1) has.0)
       (whiles_run y test value x act does s (suc c) (lands a place) w0 d (place + 1 + 1) (place + 1 + 1 + length b + 1) ks ops c l w (omega arith) le fits sees has.2.2
       (λ l1 w1. subst (λ p. step ask code (at d p ks ops l1 w1) ≡ at d (place + 1 + 1 + length b + 1) ks ops l1 w1) landing (by_code ask code d (place + 1) ks ops l1 w1 (InstrOf.Skip (length b + 1)) has.2.0 ∙ ap (λ p. at d p ks ops l1 w1) skipped))
       refl))))

@@ -179,24 +179,24 @@ module _ (ask : Ask) (k : Tables) (code : Code) (setting : Setting k code) (call
   finalizing e n v p ks (Leaves y) l w = leads e y p.display ks p.operands l w
 
   -- an exception of its Finalize is Program_Error (7.6.1)
-  finalize_over : (w0 : World) (n : ℕ) (v : List ℕ) (e : Target) (p : Point) (ks : List Frame) (s0 : State) (c : ℕ) (x : Out Returned) → Runs ask code (Told k code w0) 2 2 s0 c (returns (Assigning n t (Some v) p ∷ ks)) x → Runs ask code (Kept k code w0) 3 3 s0 c (finalizing e n v p ks) (finalized (bind (add 0 x) (on_goes (λ _. nothing))))
+  finalize_over : (w0 : World) (n : ℕ) (v : List ℕ) (e : Target) (p : Point) (ks : List Frame) (s0 : State) (c : ℕ) (x : Out Returned) → Runs ask code (Told k code w0) 2 3 s0 c (returns (Assigning n t (Some v) p ∷ ks)) x → Runs ask code (Kept k code w0) 3 3 s0 c (finalizing e n v p ks) (finalized (bind (add 0 x) (on_goes (λ _. nothing))))
   unfolding picked opened_outcome opened_finalization
   finalize_over w0 n v e p ks s0 c (Gives (Goes u) τ c1 l w) z = record { n = z.n; falls = z.falls; enough = z.enough; in_time = omega (arith, z.in_time); comes = z.comes; fits = z.fits.1 }
   finalize_over w0 n v e p ks s0 c (Gives (Leaves y) τ c1 l w) z =
-      by_raise (λ x. Runs ask code (Told k code w0) 2 2 s0 c (returns {A = Returned} (Assigning n t (Some v) p ∷ ks)) (Gives (Leaves x) τ c1 l w) → Runs ask code (Kept k code w0) 3 3 s0 c (finalizing e n v p ks) (finalized (bind {A = Returned} (add 0 (Gives (Leaves x) τ c1 l w)) (on_goes (λ _. nothing)))))
+      by_raise (λ x. Runs ask code (Told k code w0) 2 3 s0 c (returns {A = Returned} (Assigning n t (Some v) p ∷ ks)) (Gives (Leaves x) τ c1 l w) → Runs ask code (Kept k code w0) 3 3 s0 c (finalizing e n v p ks) (finalized (bind {A = Returned} (add 0 (Gives (Leaves x) τ c1 l w)) (on_goes (λ _. nothing)))))
       (λ x z1. then_step ask code (Kept k code w0) 2 3 s0 _ _ c c1 τ _ z1 refl z1.fits.1 (omega arith)) y z.fits.0 z
-  finalize_over w0 n v e p ks s0 c (Stops why τ l) z = more_quits ask code (Kept k code w0) 2 3 s0 τ _ l why (omega arith) z
-  finalize_over w0 n v e p ks s0 c (Cut τ c1 l) z = more_halts ask code (Kept k code w0) 2 3 s0 c τ _ l (omega arith) z
+  finalize_over w0 n v e p ks s0 c (Stops why τ l) z = more_quits ask code (Kept k code w0) 3 3 s0 τ _ l why (omega arith) z
+  finalize_over w0 n v e p ks s0 c (Cut τ c1 l) z = more_halts ask code (Kept k code w0) 3 3 s0 c τ _ l (omega arith) z
 
   -- and one of its Adjust
-  adjust_over : (w0 : World) (n : ℕ) (e : Target) (p : Point) (ks : List Frame) (s0 : State) (c : ℕ) (x : Out Returned) → Runs ask code (Told k code w0) 2 2 s0 c (returns (Assigning n t None p ∷ ks)) x → Runs ask code (Kept k code w0) 3 3 s0 c (arrives e p.display p.place ks p.operands) (settled n (bind (add 0 x) (on_goes (λ _. nothing))))
+  adjust_over : (w0 : World) (n : ℕ) (e : Target) (p : Point) (ks : List Frame) (s0 : State) (c : ℕ) (x : Out Returned) → Runs ask code (Told k code w0) 2 3 s0 c (returns (Assigning n t None p ∷ ks)) x → Runs ask code (Kept k code w0) 3 3 s0 c (arrives e p.display p.place ks p.operands) (settled n (bind (add 0 x) (on_goes (λ _. nothing))))
   unfolding picked opened_outcome opened_adjustment
   adjust_over w0 n e p ks s0 c (Gives (Goes u) τ c1 l w) z = then_step ask code (Kept k code w0) 2 3 s0 _ _ c c1 τ _ z refl z.fits.1 (omega arith)
   adjust_over w0 n e p ks s0 c (Gives (Leaves y) τ c1 l w) z =
-      by_raise (λ x. Runs ask code (Told k code w0) 2 2 s0 c (returns {A = Returned} (Assigning n t None p ∷ ks)) (Gives (Leaves x) τ c1 l w) → Runs ask code (Kept k code w0) 3 3 s0 c (arrives e p.display p.place ks p.operands) (settled n (bind {A = Returned} (add 0 (Gives (Leaves x) τ c1 l w)) (on_goes (λ _. nothing)))))
+      by_raise (λ x. Runs ask code (Told k code w0) 2 3 s0 c (returns {A = Returned} (Assigning n t None p ∷ ks)) (Gives (Leaves x) τ c1 l w) → Runs ask code (Kept k code w0) 3 3 s0 c (arrives e p.display p.place ks p.operands) (settled n (bind {A = Returned} (add 0 (Gives (Leaves x) τ c1 l w)) (on_goes (λ _. nothing)))))
       (λ x z1. then_step ask code (Kept k code w0) 2 3 s0 _ _ c c1 τ _ z1 refl z1.fits.1 (omega arith)) y z.fits.0 z
-  adjust_over w0 n e p ks s0 c (Stops why τ l) z = more_quits ask code (Kept k code w0) 2 3 s0 τ _ l why (omega arith) z
-  adjust_over w0 n e p ks s0 c (Cut τ c1 l) z = more_halts ask code (Kept k code w0) 2 3 s0 c τ _ l (omega arith) z
+  adjust_over w0 n e p ks s0 c (Stops why τ l) z = more_quits ask code (Kept k code w0) 3 3 s0 τ _ l why (omega arith) z
+  adjust_over w0 n e p ks s0 c (Cut τ c1 l) z = more_halts ask code (Kept k code w0) 3 3 s0 c τ _ l (omega arith) z
 
   module _ (bound : ℕ) (calls : Calls ask k code setting bound call) (declarable : IsDeclarable code outermost t) where
     -- an object that exists is adjusted, from the step that looks for its Adjust
@@ -319,7 +319,7 @@ module _ (ask : Ask) (k : Tables) (code : Code) (setting : Setting k code) (call
         (one_step ask code (Kept k code w0) 0 0 1 1 (at d place ks ops l w) (at d (place + 1) ks (n ∷ ops) l w) c c (arrives e d (place + 1 + 1 + 1) ks ops) _ (omega arith) (omega arith) (omega arith) (omega arith) first
         (source_runs n q (height s) source e (Operand (Record t) ∷ s) w0 d (place + 1) ks ops c l w le fits has.2 (second n))))
 
-  pub record_does : (bound : ℕ) → Calls ask k code setting bound call → (target source : Var) → Does ask k code bound (λ a. record_code target t source a.stack) (assigned target source)
+  pub record_does : (bound : ℕ) → Calls ask k code setting bound call → (target source : Var) → Does ask k code bound (λ a. record_code target t source a.stack) (λ d caught. assigned target source d)
   unfolding opened_outcome
   record_does bound calls target source a w0 d place ks ops c l w le fits sees has =
       let s = a.stack in

@@ -123,7 +123,7 @@ module _ (K : Tools) where
   expr_rolled (Expr-F.Unary op ty e) = not_copied (Expr-F.Unary op ty e.0) _ (value_roll (Expr-F.Unary op ty e.0)) (λ t. refl)
   expr_rolled (Expr-F.Chain e o os) = let y = Expr-F.Chain e.0 o.0 (map (λ z. z.0) os) in not_copied y _ (value_roll y) (λ t. refl)
   expr_rolled (Expr-F.Short form e f es) = let y = Expr-F.Short form e.0 f.0 (map (λ z. z.0) es) in not_copied y _ (value_roll y) (λ t. refl)
-  expr_rolled (Expr-F.Call f xs) = let y = Expr-F.Call f (map (λ z. z.0) xs) in not_copied y _ (value_roll y) (λ t. refl)
+  expr_rolled (Expr-F.Call f xs ty) = let y = Expr-F.Call f (map (λ z. z.0) xs) ty in not_copied y _ (value_roll y) (λ t. refl)
   expr_rolled (Expr-F.Convert ty e) = not_copied (Expr-F.Convert ty e.0) _ (value_roll (Expr-F.Convert ty e.0)) (λ t. refl)
   expr_rolled (Expr-F.Access v) = not_copied (Expr-F.Access v) _ (value_roll (Expr-F.Access v)) (λ t. refl)
   expr_rolled (Expr-F.New access ty None None) = not_copied (Expr-F.New access ty None None) _ (value_roll (Expr-F.New access ty None None)) (λ t. refl)
@@ -142,7 +142,7 @@ module _ (K : Tools) where
 
   actual_rolled : (y : Actual-F ActualToo ExprToo NameToo OperandToo) → Sources (roll-Actual (bare_actual y))
   actual_rolled (Actual-F.Part n) v is = ap (λ (m : Supplied). m.source K) (actual_roll (Actual-F.Part n.0)) ∙ part_sources n.0 n.1 v (sym (sourced_roll (Actual-F.Part n.0)) ∙ is)
-  actual_rolled (Actual-F.ByValue e) v is = absurd (let e1 = sym (sourced_roll (Actual-F.ByValue e.0)) ∙ is in cc e1)
+  actual_rolled (Actual-F.ByValue e ty) v is = absurd (let e1 = sym (sourced_roll (Actual-F.ByValue e.0 ty)) ∙ is in cc e1)
   actual_rolled (Actual-F.Copied n ty begins) v is = absurd (let e1 = sym (sourced_roll (Actual-F.Copied n.0 ty begins)) ∙ is in cc e1)
 
   -- what a value means that is copied

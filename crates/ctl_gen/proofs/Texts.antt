@@ -173,7 +173,7 @@ module _ (ask : Ask) (k : Tables) (code : Code) (placed : ArePlaced k code) (cal
       (join_runs b n first t full texts ps (both_true _ _ known).1 (qs ++ part_of p ∷ []) rs1 (u ++ x) holds1 (append_assoc qs (part_of p ∷ []) (parts_of ps) ∙ same) (with_piece p s) e w0 d (place + length (piece_code p s)) ks ops c1 l1 w1 fits1 (long ∙ sym (piece_depth p s)) (laid_back code place (piece_code p s) is has1)))))
 
   -- the pieces in turn, and then the text
-  pub print_runs : (b : Bool) (ps : List Piece) → pieces_are_run k.records ps ≡ true → (n : ℕ) → HasAt code.texts.items n (parts_of ps ∷ []) → Does ask k code bound (λ a. print_code b n ps a.stack) (λ d. ticked (eval_text K d (map eval_piece ps) >>= printed b))
+  pub print_runs : (b : Bool) (ps : List Piece) → pieces_are_run k.records ps ≡ true → (n : ℕ) → HasAt code.texts.items n (parts_of ps ∷ []) → Does ask k code bound (λ a. print_code b n ps a.stack) (λ d caught. ticked (eval_text K d (map eval_piece ps) >>= printed b))
   unfolding eval_text opened_outcome
   print_runs b [] known n texts a w0 d place ks ops c l w le fits sees has =
       added ask code (Kept k code w0) 1 1 1 0 0 _ c _ _ (omega arith) (omega arith) (added ask code (Kept k code w0) 0 1 1 1 1 _ c _ _ (omega arith) (omega arith)

@@ -203,11 +203,11 @@ module _ (program : Checked) (code : Code) (laid : IsLaidOut program code) (kind
       let x = find code code.texts.items program.subprograms 1 0 has_whole.2 has_texts f s here in
       record { place = x.place; before = x.before; entry = ap (λ es. slice_get es f) laid.entries ∙ x.entry; instructions = x.instructions; texts = x.printed; runs = body_is_run program.records program.subprograms parts.1 f s here; procedure = is_a_procedure program.subprograms parts.0 f s here }
 
-  whole_runs : (ask : Ask) (clock : ℕ) → Runs ask code (Told (tables_of program) code empty_world) 0 1 start clock (returns []) (run program ask clock)
+  whole_runs : (ask : Ask) (clock : ℕ) → Runs ask code (Told (tables_of program) code empty_world) 0 2 start clock (returns []) (run program ask clock)
   unfolding run meaning_of setting
   whole_runs ask clock = main_runs ask (meaning_of program) code setting stands (routine_at program.subprograms) (λ call. gives_defaults ask (meaning_of program) code setting.places call refl) program.main linked.main.0 linked.main.1 (valid.each 0 (InstrOf.Start program.main) [] has_whole.0 has_whole.1).1 has_whole.0 clock
 
-  moment_of : (ask : Ask) (clock : ℕ) (o : Out Returned) → Runs ask code (Told (tables_of program) code empty_world) 0 1 start clock (returns []) o → Moment code ask clock (outcome_of program.exceptions o).ticks (outcome_of program.exceptions o)
+  moment_of : (ask : Ask) (clock : ℕ) (o : Out Returned) → Runs ask code (Told (tables_of program) code empty_world) 0 2 start clock (returns []) o → Moment code ask clock (outcome_of program.exceptions o).ticks (outcome_of program.exceptions o)
   unfolding outcome_of
   moment_of ask clock (Gives (Goes a) t c l w) z = record {
     n = z.n;
@@ -218,9 +218,9 @@ module _ (program : Checked) (code : Code) (laid : IsLaidOut program code) (kind
     fine = λ h. let bad : Giving (ended (Goes a)) ≡ Stuck = sym (ap (λ (x : State). x.mode) z.comes) ∙ h in cc;
     why = inr (subst (Stays ask code) (sym z.comes) (ended_stays ask code (gives [] (ended (Goes a)) l w) (inl (λ h. cc))));
   }
-  moment_of ask clock (Gives (Leaves y) t c l w) z = by_raise (λ v. Runs ask code (Told (tables_of program) code empty_world) 0 1 start clock (returns {A = Returned} []) (Gives (Leaves v) t c l w) → Moment code ask clock (outcome_of program.exceptions (Gives (Leaves v) t c l w)).ticks (outcome_of program.exceptions (Gives (Leaves v) t c l w))) raised y z.fits.0 z
+  moment_of ask clock (Gives (Leaves y) t c l w) z = by_raise (λ v. Runs ask code (Told (tables_of program) code empty_world) 0 2 start clock (returns {A = Returned} []) (Gives (Leaves v) t c l w) → Moment code ask clock (outcome_of program.exceptions (Gives (Leaves v) t c l w)).ticks (outcome_of program.exceptions (Gives (Leaves v) t c l w))) raised y z.fits.0 z
     where
-      raised : (e : ℕ) → Runs ask code (Told (tables_of program) code empty_world) 0 1 start clock (returns {A = Returned} []) (Gives (Leaves (ByRaise e)) t c l w) → Moment code ask clock (outcome_of program.exceptions (Gives (Leaves (ByRaise e)) t c l w)).ticks (outcome_of program.exceptions (Gives (Leaves (ByRaise e)) t c l w))
+      raised : (e : ℕ) → Runs ask code (Told (tables_of program) code empty_world) 0 2 start clock (returns {A = Returned} []) (Gives (Leaves (ByRaise e)) t c l w) → Moment code ask clock (outcome_of program.exceptions (Gives (Leaves (ByRaise e)) t c l w)).ticks (outcome_of program.exceptions (Gives (Leaves (ByRaise e)) t c l w))
       raised e z1 = record {
         n = z1.n;
         in_time = omega (arith, z1.in_time);

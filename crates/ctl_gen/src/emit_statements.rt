@@ -37,13 +37,13 @@ impl Emitter {
         Ok(())
     }
 
-    /// Emits a master's items, its statements, and their end.
+    /// Emits a master's items, its statements with their handlers, and their end.
     #[cycle(emit)]
     pub fn master(&mut self, master: &Master) -> Result<(), AllocError>
         ensures { OnOk result (self.new ≡ stated (spec.master_code master.now).inside None self.old) }
     {
         self.items(master.items.as_slice())?;
-        self.statements(master.body.as_slice(), None)?;
+        self.handled(master)?;
         self.put(Instr::Leave)
     }
 
@@ -147,7 +147,11 @@ impl Emitter {
 
     /// Emits statements, each in turn.
     #[cycle(emit)]
-    fn statements(&mut self, statements: &[Stmt], landing: Option<usize>) -> Result<(), AllocError>
+    pub fn statements(
+        &mut self,
+        statements: &[Stmt],
+        landing: Option<usize>,
+    ) -> Result<(), AllocError>
         requires { ForSome landing (λ at. at ≤ length self.old.instructions) }
         ensures { OnOk result (self.new ≡ stated (spec.all (map spec.statement_code statements.now)) landing self.old) }
     {
@@ -172,6 +176,7 @@ impl Emitter {
             Stmt::NewLine => self.put(Instr::NewLine),
             Stmt::Exit(condition) => self.exit(condition, landing),
             Stmt::Raise(exception) => self.put(Instr::Transfer(Way::Raise(*exception))),
+            Stmt::RaiseAgain => self.put(Instr::RaiseAgain),
             Stmt::Return(value) => self.leave_body(value, landing),
             Stmt::Call(procedure, actuals) => self.call(*procedure, actuals.as_slice()),
             Stmt::If(arms, others) => {
@@ -190,7 +195,6 @@ impl Emitter {
             | Stmt::Dispatch(..)
             | Stmt::LibraryAllocate(..)
             | Stmt::LibraryDeallocate(..)
-            | Stmt::RaiseAgain
             | Stmt::Free(..)
             | Stmt::Release(_) => self.put(Instr::Missing),
         }

@@ -3,5 +3,6 @@
 
 mod emit;
 mod emit_expressions;
+mod emit_handlers;
 mod emit_statements;
 pub mod generate;

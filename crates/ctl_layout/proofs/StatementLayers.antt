@@ -1,15 +1,16 @@
--- What arms, masters and statements without instructions have.
+-- What arms, handlers, masters and statements without instructions have.
 use Rattle.std.proofs.Common.{◌≡◌, ℕ, map, ◌⊎◌, inl, inr, refl, sym, ◌∙◌}
 use Rattle.ctl_program.specs.declared.operators.Operation.{Operation}
 use Rattle.ctl_program.specs.declared.expression.Expr.{Expr}
 use Rattle.ctl_program.specs.declared.expression.Name.{Name}
 use Rattle.ctl_program.specs.declared.statement.Arm.{Arm, out-Arm, fold_out-Arm}
+use Rattle.ctl_program.specs.declared.statement.Handler.{Handler, out-Handler, fold_out-Handler}
 use Rattle.ctl_program.specs.declared.statement.Master.{Master, out-Master, fold_out-Master}
 use Rattle.ctl_program.specs.declared.statement.Stmt.{Stmt}
 use Rattle.ctl_program.specs.declared.statement.Stmt.TheVariants as s
-use Rattle.ctl_program.specs.declared.statement.Stmt.TheVariants.{rolls-Dispatch, rolls-Free, rolls-LibraryAllocate, rolls-LibraryDeallocate, rolls-Nothing, rolls-RaiseAgain, rolls-Release}
+use Rattle.ctl_program.specs.declared.statement.Stmt.TheVariants.{rolls-Dispatch, rolls-Free, rolls-LibraryAllocate, rolls-LibraryDeallocate, rolls-Nothing, rolls-Release}
 use Rattle.ctl_layout.specs.Values.{value_code}
-use Rattle.ctl_layout.specs.Layout.{all, all_items, has_no_handlers, inside, item_code, missing_statement, statement_code, arm_code, no_code, master_code}
+use Rattle.ctl_layout.specs.Layout.{all, all_items, handled, inside, item_code, missing_statement, statement_code, arm_code, handler_code, master_code}
 use Rattle.ctl_layout.proofs.TreeLayers.{layer_of}
 
 -- a statement that no instructions exist for
@@ -19,18 +20,16 @@ IsMissing y =
     ⊎ (((op : Operation) × (x : Name) × (y ≡ s.Dispatch op x))
     ⊎ (((p : Name) × (x : Name) × (size : Expr) × (alignment : Expr) × (y ≡ s.LibraryAllocate p x size alignment))
     ⊎ (((p : Name) × (x : Expr) × (size : Expr) × (alignment : Expr) × (y ≡ s.LibraryDeallocate p x size alignment))
-    ⊎ ((y ≡ s.RaiseAgain)
     ⊎ (((access : ℕ) × (x : Name) × (y ≡ s.Free access x))
-    ⊎ ((x : Name) × (y ≡ s.Release x)))))))
+    ⊎ ((x : Name) × (y ≡ s.Release x))))))
 
 pub missing_is : (y : Stmt) → IsMissing y → statement_code y ≡ missing_statement
 missing_is y (inl (x, is)) = layer_of _ (is ∙ sym (rolls-Nothing x))
 missing_is y (inr (inl (op, x, is))) = layer_of _ (is ∙ sym (rolls-Dispatch op x))
 missing_is y (inr (inr (inl (p, x, size, alignment, is)))) = layer_of _ (is ∙ sym (rolls-LibraryAllocate p x size alignment))
 missing_is y (inr (inr (inr (inl (p, x, size, alignment, is))))) = layer_of _ (is ∙ sym (rolls-LibraryDeallocate p x size alignment))
-missing_is y (inr (inr (inr (inr (inl is))))) = layer_of _ (is ∙ sym rolls-RaiseAgain)
-missing_is y (inr (inr (inr (inr (inr (inl (access, x, is))))))) = layer_of _ (is ∙ sym (rolls-Free access x))
-missing_is y (inr (inr (inr (inr (inr (inr (x, is))))))) = layer_of _ (is ∙ sym (rolls-Release x))
+missing_is y (inr (inr (inr (inr (inl (access, x, is)))))) = layer_of _ (is ∙ sym (rolls-Free access x))
+missing_is y (inr (inr (inr (inr (inr (x, is)))))) = layer_of _ (is ∙ sym (rolls-Release x))
 
 -- Arms and masters --------------------------------------------------------------------------------
 
@@ -38,6 +37,10 @@ pub arm_is : (a : Arm) → arm_code a ≡ record { test = value_code (out-Arm a)
 unfolding arm_code statement_code
 arm_is a = rw fold_out-Arm refl
 
-pub master_is : (m : Master) → master_code m ≡ record { slots = (out-Master m).slots; inside = inside (all_items (map item_code (out-Master m).items)) (all (map statement_code (out-Master m).body)) (has_no_handlers (map no_code (out-Master m).handlers)) }
-unfolding master_code statement_code no_code
+pub handler_is : (h : Handler) → handler_code h ≡ record { choices = (out-Handler h).choices; body = all (map statement_code (out-Handler h).body) }
+unfolding handler_code statement_code
+handler_is h = rw fold_out-Handler refl
+
+pub master_is : (m : Master) → master_code m ≡ record { slots = (out-Master m).slots; inside = inside (all_items (map item_code (out-Master m).items)) (handled (all (map statement_code (out-Master m).body)) (map handler_code (out-Master m).handlers)) }
+unfolding master_code statement_code handler_code
 master_is m = rw fold_out-Master refl

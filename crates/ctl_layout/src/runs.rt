@@ -15,7 +15,7 @@ use crate::typing::copied;
 use ctl_program::expression::{Actual, Expr, Name, Operand};
 use ctl_program::operators::SubprogramKind;
 use ctl_program::program::{Checked, Subprogram};
-use ctl_program::statement::{Arm, Item, Master, Piece, Stmt};
+use ctl_program::statement::{Arm, Choices, Handler, Item, Master, Piece, Stmt};
 use ctl_program::types::{Component, RecordType, Root, Ty};
 
 /// Tells whether this version runs each construct of a program.
@@ -388,7 +388,7 @@ fn statement(statement: &Stmt, records: &[RecordType]) -> bool
     ensures { result ≡ (spec.statement_code statement.now).runs records.now }
 {
     match statement {
-        Stmt::Null | Stmt::NewLine | Stmt::Raise(_) => true,
+        Stmt::Null | Stmt::NewLine | Stmt::Raise(_) | Stmt::RaiseAgain => true,
         Stmt::Assign(name, expression) => is_assigned(name, expression, records),
         Stmt::AssignRecord(name, number, value) => {
             is_record_assigned(name, *number, value, records)
@@ -410,7 +410,6 @@ fn statement(statement: &Stmt, records: &[RecordType]) -> bool
         | Stmt::Dispatch(..)
         | Stmt::LibraryAllocate(..)
         | Stmt::LibraryDeallocate(..)
-        | Stmt::RaiseAgain
         | Stmt::Free(..)
         | Stmt::Release(_) => false,
     }
@@ -451,13 +450,45 @@ fn conditional(arms: &[Arm], records: &[RecordType]) -> bool
     true
 }
 
-/// Tells whether a master is run: its items, its statements, and no handler.
+/// Tells whether a handler names an exception, or `others` (RM 11.2).
+fn has_choice(choices: &Choices) -> bool
+    ensures { result ≡ spec.has_choice choices.now }
+{
+    match choices {
+        Choices::Others => true,
+        Choices::Exceptions(exceptions) => !exceptions.as_slice().is_empty(),
+    }
+}
+
+/// Tells whether a handler is run.
 #[cycle(statements)]
-#[tactic(auto, unfolding(crate::specs::Layout::statement_code, crate::specs::Layout::master_code, crate::specs::Layout::no_code))]
+#[tactic(auto, unfolding(crate::specs::Layout::statement_code, crate::specs::Layout::handler_code))]
+fn handler(handler: &Handler, records: &[RecordType]) -> bool
+    ensures { result ≡ spec.handlers_run (spec.handler_code handler.now ∷ []) records.now }
+{
+    has_choice(&handler.choices) && statements(handler.body.as_slice(), records)
+}
+
+/// Tells whether handlers are run.
+#[cycle(statements)]
+fn handlers(handlers: &[Handler], records: &[RecordType]) -> bool
+    ensures { result ≡ spec.handlers_run (map spec.handler_code handlers.now) records.now }
+{
+    for one in handlers {
+        if !handler(one, records) {
+            return false;
+        }
+    }
+    true
+}
+
+/// Tells whether a master is run: its items, its statements, and its handlers.
+#[cycle(statements)]
+#[tactic(auto, unfolding(crate::specs::Layout::statement_code, crate::specs::Layout::master_code, crate::specs::Layout::handler_code))]
 fn master(inside: &Master, records: &[RecordType]) -> bool
     ensures { result ≡ (spec.master_code inside.now).inside.runs records.now }
 {
     items(records, inside.items.as_slice())
         && statements(inside.body.as_slice(), records)
-        && inside.handlers.as_slice().is_empty()
+        && handlers(inside.handlers.as_slice(), records)
 }

@@ -11,6 +11,7 @@ use Rattle.ctl_code.specs.States.{InMaster, AfterBlock, AfterBody}
 use Rattle.ctl_code.specs.Fits.{Stands}
 use Rattle.ctl_machine.specs.declared.frame.After.{After}
 use Rattle.ctl_machine.specs.declared.frame.Frame.{Frame}
+use Rattle.ctl_machine.specs.declared.frame.Handling.{Handling}
 use Rattle.ctl_machine.specs.declared.frame.Frame.TheVariants as FrameOf
 use Rattle.ctl_machine.specs.declared.frame.Master.{Master}
 use Rattle.ctl_machine.specs.declared.frame.Owned.{Owned}
@@ -19,10 +20,10 @@ use Rattle.ctl_machine.specs.Shows.{Wait, Kept, Holds}
 use Rattle.ctl_machine.proofs.Left.{top_of}
 
 -- where something stands, a master is being executed
-pub inside_master : (code : Code) (stack : List Kind) (k : List T.Frame) (ops : List ℕ) → Stands code stack k ops → (n : ℕ) × (leads : T.After) × (waiting : List T.Frame) × (k ≡ InMaster n leads ∷ waiting)
+pub inside_master : (code : Code) (stack : List Kind) (k : List T.Frame) (ops : List ℕ) → Stands code stack k ops → (n : ℕ) × (handling : T.Handling) × (leads : T.After) × (waiting : List T.Frame) × (k ≡ InMaster n handling leads ∷ waiting)
 inside_master code (Operand ty ∷ stack) k (x ∷ ops) stands = inside_master code stack k ops stands
-inside_master code (Block slots ∷ stack) (InMaster n (AfterBlock p) ∷ k) [] stands = (n, AfterBlock p, k, refl)
-inside_master code (Body level slots ∷ []) (InMaster n AfterBody ∷ k) [] stands = (n, AfterBody, k, refl)
+inside_master code (Block slots ∷ stack) (InMaster n g (AfterBlock p) ∷ k) [] stands = (n, g, AfterBlock p, k, refl)
+inside_master code (Body level slots ∷ []) (InMaster n g AfterBody ∷ k) [] stands = (n, g, AfterBody, k, refl)
 inside_master code _ _ _ stands = elim stands [ ]
 
 last_is : (d : List ℕ) (n : ℕ) → last_of (d ++ n ∷ []) ≡ n
@@ -38,14 +39,16 @@ last_seen (newest_master {m = m} {hs = hs} h o r) = ap (λ (d : List ℕ). last_
 -- the innermost master, for the table and for the machine
 pub record IsInnermost (e : Kept) (k : List T.Frame) (hs : List Head) : Type 0 where
   pub number : ℕ
+  pub exceptions : T.Handling
   pub leads : T.After
   pub waiting : List T.Frame
-  pub is : k ≡ InMaster number leads ∷ waiting
+  pub is : k ≡ InMaster number exceptions leads ∷ waiting
+  pub handling : Handling
   pub after : After
   pub frames : List Frame
   pub master : Master
   pub others : List Master
-  pub control : e.control ≡ FrameOf.InMaster after ∷ frames
+  pub control : e.control ≡ FrameOf.InMaster handling after ∷ frames
   pub masters : e.masters ≡ master ∷ others
   pub last : last_of (first_display hs) ≡ master.number
 
@@ -53,12 +56,14 @@ pub innermost : (code : Code) (e : Kept) (stack : List Kind) (k : List T.Frame) 
 innermost code e stack k there ops w stands h =
     let hs = heads_of w.activations in
     let i = inside_master code stack k there stands in
-    let t = top_of (subst (λ (l : List T.Frame). Wait e.control e.masters hs e.owned l) i.3 h.waits) in
+    let t = top_of (subst (λ (l : List T.Frame). Wait e.control e.masters hs e.owned l) i.4 h.waits) in
     record {
       number = i.0;
-      leads = i.1;
-      waiting = i.2;
-      is = i.3;
+      exceptions = i.1;
+      leads = i.2;
+      waiting = i.3;
+      is = i.4;
+      handling = t.handling;
       after = t.after;
       frames = t.frames;
       master = t.master;

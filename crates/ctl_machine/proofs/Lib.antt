@@ -74,3 +74,4 @@ pub mod Assigned
 pub mod Targets
 pub mod AfterAssigning
 pub mod ProcedureCalled
+pub mod Caught

@@ -17,3 +17,4 @@ pub mod Holders
 pub mod Filling
 pub mod Saved
 pub mod Assigning
+pub mod Handlers

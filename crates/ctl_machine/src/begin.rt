@@ -35,7 +35,7 @@ impl Engine {
             subject: 0,
         };
         self.reserve()?;
-        self.open(master, After::Body, entry.place);
+        self.open(master, 0, After::Body, entry.place);
         Ok(())
     }
 }

@@ -176,7 +176,7 @@ impl Engine {
             subject: self.owned[at].number,
         };
         self.events.push_reserved(event);
-        self.open(master, After::Body, entry.place);
+        self.open(master, 0, After::Body, entry.place);
     }
 
     /// Begins the finalization of an owned object, a layer of the master that this frame leaves (RM 7.6.1).
@@ -238,7 +238,7 @@ impl Engine {
         };
         self.prepare(base, code.room)?;
         self.begin_layer(at, departure.frame(at));
-        self.open(master, After::Body, entry.place);
+        self.open(master, 0, After::Body, entry.place);
         Ok(())
     }
 }

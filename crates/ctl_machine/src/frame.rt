@@ -25,6 +25,14 @@ pub enum After {
     Body,
 }
 
+/// What becomes of an exception in a master: the place of its handlers, while none of them has begun, and the exception that the
+/// innermost handler around handles, which `raise;` raises again (RM 11.3, 11.4).
+#[derive(Clone, Copy)]
+pub struct Handling {
+    pub handlers: Option<usize>,
+    pub caught: usize,
+}
+
 /// Components that are still to take their defaults: of those of a record type that have one, from `first` on and before `last`.
 #[derive(Clone, Copy)]
 pub struct Left {
@@ -43,7 +51,7 @@ pub enum Value {
 #[derive(Clone, Copy)]
 pub enum Frame {
     /// the statements of a master
-    InMaster(After),
+    InMaster(Handling, After),
     /// the layers of a master that are still to be left: no owned object from `next` on is one. Whether a finalization failed, and
     /// how its statements were completed (RM 7.6.1)
     Leaving {

@@ -131,7 +131,7 @@ impl Engine {
             owned: self.count_owned(),
             subject: object.number,
         };
-        self.open(master, After::Body, entry.place);
+        self.open(master, 0, After::Body, entry.place);
         Ok(())
     }
 

@@ -11,6 +11,7 @@ mod declare;
 mod engine;
 mod filling;
 mod frame;
+mod handlers;
 mod holders;
 mod initialize;
 mod jumps;

@@ -44,7 +44,7 @@ impl Engine {
         self.prepare(base, code.room)?;
         self.control
             .push_reserved(Frame::Calling { place: place + 1 });
-        self.open(master, After::Body, entry.place);
+        self.open(master, 0, After::Body, entry.place);
         Ok(())
     }
 

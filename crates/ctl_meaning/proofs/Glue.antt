@@ -99,7 +99,7 @@ module _ (t : Tables) (ask other : Ask) (call spare : Caller) (default fallback 
     expr_rolled : (y : Expr-F ActualToo ExprToo NameToo OperandToo) → GoodValue (eval (roll-Expr (bare_expr y)))
     expr_rolled (Expr-F.Constant n) = subst GoodValue (sym (eval_roll (Expr-F.Constant n))) (I.good_constant t ask other call spare default fallback Rel closed calls allocates n)
     expr_rolled (Expr-F.Read n ty) = subst GoodValue (sym (eval_roll (Expr-F.Read n.0 ty))) (I.good_read t ask other call spare default fallback Rel closed calls allocates _ ty n.1)
-    expr_rolled (Expr-F.Call f xs) = subst GoodValue (sym (eval_roll (Expr-F.Call f (map (λ e. e.0) xs)))) (I.good_call t ask other call spare default fallback Rel closed calls allocates f _ (each_too supply GoodActual xs))
+    expr_rolled (Expr-F.Call f xs ty) = subst GoodValue (sym (eval_roll (Expr-F.Call f (map (λ e. e.0) xs) ty))) (I.good_call t ask other call spare default fallback Rel closed calls allocates f _ ty (each_too supply GoodActual xs))
     expr_rolled (Expr-F.Unary op ty e) = subst GoodValue (sym (eval_roll (Expr-F.Unary op ty e.0))) (I.good_unary t ask other call spare default fallback Rel closed calls allocates op ty _ e.1)
     expr_rolled (Expr-F.Chain e o os) = subst GoodValue (sym (eval_roll (Expr-F.Chain e.0 o.0 (map (λ e. e.0) os)))) (I.good_chain t ask other call spare default fallback Rel closed calls allocates _ _ _ e.1 o.1 (each_too apply GoodOperand os))
     expr_rolled (Expr-F.Short op e f es) = subst GoodValue (sym (eval_roll (Expr-F.Short op e.0 f.0 (map (λ e. e.0) es)))) (I.good_short t ask other call spare default fallback Rel closed calls allocates op _ _ _ e.1 f.1 (each_too eval GoodValue es))
@@ -117,7 +117,7 @@ module _ (t : Tables) (ask other : Ask) (call spare : Caller) (default fallback 
     name_rolled (Name-F.Given e ss) = subst GoodName (sym (name_roll (Name-F.Given e.0 ss))) (I.good_given t ask other call spare default fallback Rel closed calls allocates _ ss e.1)
 
     actual_rolled : (y : Actual-F ActualToo ExprToo NameToo OperandToo) → GoodActual (supply (roll-Actual (bare_actual y)))
-    actual_rolled (Actual-F.ByValue e) = subst GoodActual (sym (actual_roll (Actual-F.ByValue e.0))) (I.good_by_value t ask other call spare default fallback Rel closed calls allocates _ e.1)
+    actual_rolled (Actual-F.ByValue e ty) = subst GoodActual (sym (actual_roll (Actual-F.ByValue e.0 ty))) (I.good_by_value t ask other call spare default fallback Rel closed calls allocates _ ty e.1)
     actual_rolled (Actual-F.Part n) = subst GoodActual (sym (actual_roll (Actual-F.Part n.0))) (I.good_part t ask other call spare default fallback Rel closed calls allocates _ n.1)
     actual_rolled (Actual-F.Copied n ty b) = subst GoodActual (sym (actual_roll (Actual-F.Copied n.0 ty b))) (I.good_copied t ask other call spare default fallback Rel closed calls allocates _ ty b n.1)
 

@@ -33,7 +33,7 @@ use Rattle.ctl_meaning.specs.Outcome.{Way, ByRaise, Result, Goes, Leaves, Act, D
 use Rattle.ctl_meaning.specs.Types.{Tables, Category, Elementary, Composite, category_of, Placed, depth, of_record}
 use Rattle.ctl_meaning.specs.Names.{OfSubprogram, OfAllocator, Call as Caller, Default, Tools, Found, InObject, InVariable, InCopy, Alone, gone, existing, must_exist, read_part, write_part, read_found, write_found, found_in, find_var, dereferenced, narrowed, one_step, walk, begins_as, or_constraint_error}
 use Rattle.ctl_meaning.specs.Marks.{with_mark_pool, mark, default_subpool, subpool_function, discriminant}
-use Rattle.ctl_meaning.specs.Expressions.{Passed, no_actuals, with_formal, bound, by_reference, copied, by_copy, copy_back, call_with, Valued, Naming, Applied, Supplied, pass_each, apply_each, join_each, var_part, if_given, operands, allocator, eval_step, operand_step, name_step, actual_step}
+use Rattle.ctl_meaning.specs.Expressions.{Passed, no_actuals, with_formal, bound, by_reference, copied, by_copy, copy_back, call_with, Valued, Naming, Applied, Supplied, pass_each, apply_each, join_each, var_part, if_given, operands, allocator, eval_step, operand_step, name_step, actual_step, by_value}
 use Rattle.ctl_meaning.specs.Finalization.{Spot, whole, component_at, no_component, with_home, call_operation, Chosen, Every, These, after_finalize, own_finalize, in_any_order, parts_to_finalize, finalize_part, finalize, finalize_begun, finalize_object, finalize_if_controlled, finalize_failed, finalize_group}
 use Rattle.ctl_meaning.specs.Adjustment.{Birth, lives, lives_if, Adjusted, unadjusted, adjust_each, after_adjust, own_adjust, controlled_parts, adjust_part, clean_up_copy, adjusted, adjust_record, adjust}
 use Rattle.ctl_meaning.specs.Initialization.{paths_within, paths_of, Begun, begun_with, begin_next, begin_each, own_initialize, unless_failed, failed_with, clean_up, begun, begin_component, parts_to_begin, initialize_part, initialize, fill}
@@ -309,9 +309,9 @@ module _ (t : Tables) (ask other : Ask) (call spare : Caller) (default fallback 
     unfolding eval_step
     good_read n ty h env = k_ticked (k_seq (h (category_of ty) env) (λ f. k_read_found _ f))
 
-    pub good_call : (f : ℕ) (xs : List Supplied) → Each GoodActual xs → GoodValue (eval_step (Expr-F.Call f xs))
+    pub good_call : (f : ℕ) (xs : List Supplied) (ty : Ty) → Each GoodActual xs → GoodValue (eval_step (Expr-F.Call f xs ty))
     unfolding eval_step
-    good_call f xs h env = k_ticked (k_seq (k_seq (k_pass_each env xs h no_actuals) (λ p. k_call_with env f p)) (λ r. k_done _))
+    good_call f xs ty h env = k_ticked (k_seq (k_seq (k_pass_each env xs h no_actuals) (λ p. k_call_with env f p)) (λ r. k_done _))
 
     pub good_unary : (op : UnaryOp) (ty : Ty) (e : Valued) → GoodValue e → GoodValue (eval_step (Expr-F.Unary op ty e))
     unfolding eval_step
@@ -357,9 +357,14 @@ module _ (t : Tables) (ask other : Ask) (call spare : Caller) (default fallback 
     unfolding name_step
     good_given e ss h c env = k_seq (k_seq (h env) (λ v. k_done _)) (k_walk ss)
 
-    pub good_by_value : (e : Valued) → GoodValue e → GoodActual (actual_step (Actual-F.ByValue e))
+    k_by_value : (c : Category) (f : Found) → Same (by_value c f) (by_value c f)
+    unfolding by_value
+    k_by_value Elementary f = k_seq (k_read_found 1 f) (λ v. k_done _)
+    k_by_value Composite f = k_by_reference f
+
+    pub good_by_value : (e : Valued) (ty : Ty) → GoodValue e → GoodActual (actual_step (Actual-F.ByValue e ty))
     unfolding actual_step
-    good_by_value e h = (λ env. k_seq (h env) (λ v. k_done _), k_by_reference)
+    good_by_value e ty h = (λ env. k_seq (h env) (λ v. k_done _), k_by_value (category_of ty))
 
     pub good_part : (n : Naming) → GoodName n → GoodActual (actual_step (Actual-F.Part n))
     unfolding actual_step

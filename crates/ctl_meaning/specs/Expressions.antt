@@ -20,7 +20,7 @@ use Rattle.ctl_meaning.specs.Lists.{item_or}
 use Rattle.ctl_meaning.specs.Outcome.{Act, Done, ◌>>=◌, ◌>>◌, done, nothing, ticked, spend, look, either}
 use Rattle.ctl_meaning.specs.Numbers.{unary, binary, converted, is_true}
 use Rattle.ctl_meaning.specs.Changes.{slot_at}
-use Rattle.ctl_meaning.specs.Types.{Category, Composite, category_of, cells_of}
+use Rattle.ctl_meaning.specs.Types.{Category, Composite, category_of, cells_of, Elementary}
 use Rattle.ctl_meaning.specs.Names.{OfSubprogram, OfAllocator, Returned, Tools, Found, InObject, InVariable, InCopy, Alone, copy_at, scalar_of, read_found, write_found, find_var, object_of, walk, begins_as, or_constraint_error}
 use Rattle.ctl_meaning.specs.Marks.{subpool_function, discriminant}
 
@@ -47,19 +47,20 @@ going_back n (Some f) = (n, f) ∷ []
 unfoldable pub with_formal : Formal → Passed → Passed
 with_formal x p = record { slots = p.slots ++ x.slot ∷ []; back = p.back ++ going_back (length p.slots) x.back }
 
--- a copy of a value, elementary or not
-abbrev pub copy_of : List ℕ → Slot
-copy_of v = record { value = scalar_of v; content = Copies v }
-
--- a record that an object holds is passed by reference, and any other value as a copy: a part of a copy as the cells from there on
+-- a record that an object holds is passed by reference, and any other one as a copy: a part of a copy as the cells from there on
 unfoldable pub bound : Found → Act Slot
 bound (InObject o offset path) = done (holding (Binds o offset path))
 bound (InVariable m i) = look (λ w. done (valued (slot_at m i w).value))
-bound (InCopy m i offset) = look (λ w. done (copy_of (copy_at m i offset w)))
-bound (Alone v) = done (copy_of v)
+bound (InCopy m i offset) = look (λ w. done (holding (Copies (copy_at m i offset w))))
+bound (Alone v) = done (holding (Copies v))
 
 unfoldable pub by_reference : Found → Act Formal
 by_reference f = bound f >>= (λ x. done (record { slot = x; back = None }))
+
+-- an elementary value is that of the formal from the beginning, and a record that no object holds is its copy (6.2)
+unfoldable pub by_value : Category → Found → Act Formal
+by_value Elementary f = read_found 1 f >>= (λ v. done (record { slot = valued (scalar_of v); back = None }))
+by_value Composite f = by_reference f
 
 -- an `out` copy of an access type or handle, and each `in out` copy, begins with the actual's value (6.4.1)
 unfoldable pub copied : ℕ → CopyStart → Found → Act (List ℕ)
@@ -136,7 +137,7 @@ allocator k env access ty m = spend (m >>= (λ p. k.call (OfAllocator access ty 
 unfoldable pub eval_step : Expr-F Supplied Valued Naming Applied → Valued
 eval_step (Expr-F.Constant n) k env = ticked (done (n ∷ []))
 eval_step (Expr-F.Read name ty) k env = ticked (name (category_of ty) k env >>= read_found (cells_of k.tables ty))
-eval_step (Expr-F.Call f actuals) k env = ticked (pass_each k env actuals no_actuals >>= call_with k env f >>= (λ r. done r.cells))
+eval_step (Expr-F.Call f actuals ty) k env = ticked (pass_each k env actuals no_actuals >>= call_with k env f >>= (λ r. done r.cells))
 eval_step (Expr-F.Unary op ty e) k env = ticked (e k env >>= (λ v. or_constraint_error (unary op ty (scalar_of v))))
 eval_step (Expr-F.Chain e first rest) k env = e k env >>= apply_each k env (first ∷ rest)
 eval_step (Expr-F.Short op e first rest) k env = e k env >>= join_each k env op (first ∷ rest)
@@ -156,7 +157,7 @@ name_step (Name-F.Given e steps) c k env = e k env >>= (λ v. done (Alone v)) >>
 
 -- an actual that is a name is an expression node too
 unfoldable pub actual_step : Actual-F Supplied Valued Naming Applied → Supplied
-actual_step (Actual-F.ByValue e) = record { source = λ k env. e k env >>= (λ v. done (Alone v)); taken = λ k. by_reference }
+actual_step (Actual-F.ByValue e ty) = record { source = λ k env. e k env >>= (λ v. done (Alone v)); taken = λ k. by_value (category_of ty) }
 actual_step (Actual-F.Part name) = record { source = λ k env. ticked (name Composite k env); taken = λ k. by_reference }
 actual_step (Actual-F.Copied name ty begins) = record { source = λ k env. ticked (name (category_of ty) k env); taken = λ k. by_copy (cells_of k.tables ty) begins }
 
@@ -176,5 +177,5 @@ apply = fold-Operand Supplied Valued Naming Applied actual_step eval_step name_s
 
 -- everything here, opened at once
 unfoldable pub opened_expressions : Unit {0}
-unfolding no_actuals going_back with_formal bound by_reference copied by_copy copy_back call_with pass_each apply_each decides join_each var_part if_given operands allocator eval_step operand_step name_step actual_step eval eval_name supply apply
+unfolding no_actuals going_back with_formal bound by_reference by_value copied by_copy copy_back call_with pass_each apply_each decides join_each var_part if_given operands allocator eval_step operand_step name_step actual_step eval eval_name supply apply
 opened_expressions = tt

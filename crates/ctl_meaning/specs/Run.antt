@@ -68,8 +68,8 @@ meaning_of p = record { tables = tables_of p; defaults = defaults_from [] p.reco
 
 -- Executions ------------------------------------------------------------------------------
 
--- a function that reaches its end raises Program_Error, outside its own handlers (6.5). An exit statement stands in a loop (5.7); one
--- that stands in none would end the body
+-- a function that reaches its end raises Program_Error, outside its own handlers (6.5). What completes a loop stands in one (5.7), and would
+-- else end the body
 abbrev pub handed_back : SubprogramKind → List Slot → Result Done → Result Returned
 handed_back kind slots (Leaves (ByReturn v)) = Goes (record { cells = v; slots = slots })
 handed_back kind slots (Leaves (ByRaise e)) = Leaves (ByRaise e)

@@ -12,8 +12,8 @@ pub enum Expr {
     Constant(u64),
     /// the value of what a name denotes, and its type
     Read(Name, Ty),
-    /// a call of a function, by its number
-    Call(usize, Items<Actual>),
+    /// a call of a function, by its number, and the type of its result (RM 6.4)
+    Call(usize, Items<Actual>, Ty),
     /// an operator, and the type of its result
     Unary(UnaryOp, Ty, Boxed<Expr>),
     /// operators of one precedence, applied from the left: the first operand, the first operator with its right operand, and those
@@ -66,8 +66,8 @@ pub enum Step {
 #[cycle(expression)]
 #[derive(Drop)]
 pub enum Actual {
-    /// of mode `in`, and no record that a name denotes
-    ByValue(Expr),
+    /// of mode `in`, and no record that a name denotes: the value, and its type
+    ByValue(Expr, Ty),
     /// a record that a name denotes, by reference
     Part(Name),
     /// of mode `out` or `in out`, by copy: the variable, its type, and what the copy begins with

@@ -52,13 +52,12 @@ item_of place (kind.StoragePool t m) = Some place
 item_of place (kind.Exceptions ns) = None
 item_of place (kind.Objects os) = where_left_out (of_objects os) place
 
--- no handler is run yet (11.2)
-abbrev pub first_handler : List (Handler Place Use) → Place
-first_handler [] = None
-first_handler (h ∷ hs) = Some h.span
+-- in the statements of a handler (11.2)
+abbrev pub handler : Handler Place Use → Place
+handler h = first_of h.statements
 
 abbrev pub body_step : Body-F Definition Use Place Place Place → Place
-body_step b = earliest (first_of b.items) (first_of b.statements) (first_handler b.handlers)
+body_step b = earliest (first_of b.items) (first_of b.statements) (first_of (map handler b.handlers))
 
 abbrev pub item_step : Item-F Definition Use Place Place Place → Place
 item_step i = item_of i.span i.kind
@@ -77,7 +76,7 @@ statement_step (Statement-F.Exit place c) = None
 statement_step (Statement-F.Return place None) = None
 statement_step (Statement-F.Return place (Some x)) = Some place
 statement_step (Statement-F.Raise place m) = None
-statement_step (Statement-F.RaiseAgain place) = Some place
+statement_step (Statement-F.RaiseAgain place) = None
 statement_step (Statement-F.If place first more otherwise) = conditional first more otherwise
 statement_step (Statement-F.Loop place ss) = first_of ss
 statement_step (Statement-F.While place c ss) = first_of ss

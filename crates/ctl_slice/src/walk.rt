@@ -43,18 +43,29 @@ fn body(body: &Body<Definition, Use>) -> Option<Span>
 {
     let declared = items(body.items.as_slice());
     let done = statements(body.statements.as_slice());
-    let handled = first_handler(body.handlers.as_slice());
+    let handled = handlers(body.handlers.as_slice());
     earliest(declared, done, handled)
 }
 
-/// Answers the place of the first handler: none is run yet (RM 11.2).
-fn first_handler(handlers: &[Handler<Statement<Definition, Use>, Use>]) -> Option<Span>
-    ensures { result ≡ spec.first_handler (map spec.handler_of handlers.now) }
+/// Finds the first place in a handler (RM 11.2).
+#[cycle(part)]
+fn handler(handler: &Handler<Statement<Definition, Use>, Use>) -> Option<Span>
+    ensures { result ≡ spec.handler (spec.handler_of handler.now) }
 {
-    match handlers.first() {
-        Some(handler) => Some(handler.span),
-        None => None,
+    statements(handler.statements.as_slice())
+}
+
+/// Finds the first place in handlers (RM 11.2).
+#[cycle(part)]
+fn handlers(handlers: &[Handler<Statement<Definition, Use>, Use>]) -> Option<Span>
+    ensures { result ≡ spec.first_of (map spec.handler (map spec.handler_of handlers.now)) }
+{
+    for one in handlers {
+        if let Some(place) = handler(one) {
+            return Some(place);
+        }
     }
+    None
 }
 
 /// Finds the first place in the items of a part (RM 3.11).
@@ -112,11 +123,11 @@ fn statement(statement: &Statement<Definition, Use>) -> Option<Span>
         Statement::Null(_)
         | Statement::Assignment(..)
         | Statement::Exit(..)
-        | Statement::Raise(..) => None,
+        | Statement::Raise(..)
+        | Statement::RaiseAgain(_) => None,
         Statement::Call(place, name) => where_left_out(of_call(name), *place),
         Statement::Return(_, None) => None,
         Statement::Return(place, Some(_)) => Some(*place),
-        Statement::RaiseAgain(place) => Some(*place),
         Statement::If(_, first, more, otherwise) => {
             let opening = branch(first);
             let between = branches(more.as_slice());

@@ -77,7 +77,7 @@ noted : (t : Ty) (s : Source) → Stays (noting t s)
 noted t s n h = record { early = h.early; fault = h.fault }
 
 record_source_stays : (place : Span) (t : ℕ) (f : Found) → Stays (spec.record_source place t f)
-record_source_stays place t (is.Part p) = if_stays (same (ty.Record t) p.ty) (noting p.ty (as_source.Record t (expr.handed_on p.head p.steps))) (wrong fault.Type place) (noted p.ty (as_source.Record t (expr.handed_on p.head p.steps))) (wrong_stays Source fault.Type place)
+record_source_stays place t (is.Part p) = if_stays (same (ty.Record t) p.ty) (noting p.ty (as_source.Record t (expr.handed_on p.head p.steps p.ty))) (wrong fault.Type place) (noted p.ty (as_source.Record t (expr.handed_on p.head p.steps p.ty))) (wrong_stays Source fault.Type place)
 record_source_stays place t _ = wrong_stays Source fault.Type place
 
 value_source_stays : (tables : Tables) (x : Sense) (asked : Asked) → Keeps x → Stays (spec.value_source tables x asked)

@@ -124,7 +124,7 @@ module _ (k : Setting) (env : Frames) (tables : Tables) (sound : Sound k env tab
   value_good (head.At v) [] t w = rule.read (name_good (head.At v) [] t w)
   value_good (head.At v) (y ∷ steps) t w = rule.read (name_good (head.At v) (y ∷ steps) t w)
 
-  pub handed_on_good : (h : Head) (steps : List Step) (u : ℕ) (t : Ty) → PartOf k env h steps t → Covers k (ty.Record u) t → Fits k env (record { passing = In; ty = ty.Record u }) (spec.handed_on h steps)
+  pub handed_on_good : (h : Head) (steps : List Step) (u : ℕ) (t : Ty) → PartOf k env h steps t → Covers k (ty.Record u) t → Fits k env (record { passing = In; ty = ty.Record u }) (spec.handed_on h steps (ty.Record u))
   handed_on_good (head.Given x) [] u t w c = rule.by_value c (alone_good x t w)
   handed_on_good (head.Given x) (y ∷ steps) u t w c = rule.by_reference c (name_good (head.Given x) (y ∷ steps) t w)
   handed_on_good (head.At v) [] u t w c = rule.by_reference c (name_good (head.At v) [] t w)
@@ -224,9 +224,9 @@ module _ (k : Setting) (env : Frames) (tables : Tables) (sound : Sound k env tab
   abbrev Reading : Ty → Actual → Type 0
   Reading t a = Fits k env (record { passing = In; ty = t }) a
 
-  record_part : (place : Span) (u : ℕ) (s : Ty) (p : Place) → PartOf k env p.head p.steps s → Covers k p.ty s → Gives (Reading (ty.Record u)) (if same (ty.Record u) p.ty then noting (ty.Record u) (spec.handed_on p.head p.steps) else wrong fault.Type place)
-  record_part place u s p part c = tested (Reading (ty.Record u)) (same (ty.Record u) p.ty) (noting (ty.Record u) (spec.handed_on p.head p.steps)) (wrong fault.Type place)
-      (λ e. noting_good (Reading (ty.Record u)) (ty.Record u) (spec.handed_on p.head p.steps) (handed_on_good p.head p.steps u s part (subst (λ t. Covers k t s) (sym (same_is (ty.Record u) p.ty e)) c)))
+  record_part : (place : Span) (u : ℕ) (s : Ty) (p : Place) → PartOf k env p.head p.steps s → Covers k p.ty s → Gives (Reading (ty.Record u)) (if same (ty.Record u) p.ty then noting (ty.Record u) (spec.handed_on p.head p.steps p.ty) else wrong fault.Type place)
+  record_part place u s p part c = tested (Reading (ty.Record u)) (same (ty.Record u) p.ty) (noting (ty.Record u) (spec.handed_on p.head p.steps p.ty)) (wrong fault.Type place)
+      (λ e. noting_good (Reading (ty.Record u)) (ty.Record u) (spec.handed_on p.head p.steps p.ty) (subst (λ v. Reading (ty.Record u) (spec.handed_on p.head p.steps v)) (same_is (ty.Record u) p.ty e) (handed_on_good p.head p.steps u s part (subst (λ t. Covers k t s) (sym (same_is (ty.Record u) p.ty e)) c))))
       (λ s. tt)
 
   record_found_good : (place : Span) (u : ℕ) (f : Found) → FoundFine k env f → Gives (Reading (ty.Record u)) (spec.record_found place (ty.Record u) f)
@@ -236,7 +236,7 @@ module _ (k : Setting) (env : Frames) (tables : Tables) (sound : Sound k env tab
 
   value_read : (t : Ty) (x : Sense) → InView k env t → Right x → Gives (Reading t) (x.judged tables (asking.Exactly t) >>= spec.by_value)
   value_read t x v g = next (Fine k env (asking.Exactly t) x.named) (Reading t) (x.judged tables (asking.Exactly t)) spec.by_value (g.judged (asking.Exactly t) v)
-      (λ r h s. rule.by_value same_type (subst (λ u. Typed k env r.value u) (sym (same_is t r.ty h.met)) h.typed))
+      (λ r h s. subst (λ u. Reading t (actual.ByValue r.value u)) (same_is t r.ty h.met) (rule.by_value same_type (subst (λ u. Typed k env r.value u) (sym (same_is t r.ty h.met)) h.typed)))
 
   record_by_good : (u : ℕ) (x : Sense) (o : Option (Tables → Judgement Found)) → InView k env (ty.Record u) → Right x → Named o → Gives (Reading (ty.Record u)) (spec.record_by tables (ty.Record u) x o)
   record_by_good u x None v g h = value_read (ty.Record u) x v g

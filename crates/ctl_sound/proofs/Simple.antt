@@ -135,8 +135,8 @@ module _ (k : Setting) (env : Frames) (tables : Tables) (sound : Sound k env tab
   SourceFine t (as_source.Record u a) = (t ≡ ty.Record u) × Fits k env (record { passing = In; ty = ty.Record u }) a
 
   record_source_good : (place : Span) (t : ℕ) (f : Found) → FoundFine k env f → Gives (SourceFine (ty.Record t)) (spec.record_source place t f)
-  record_source_good place t (is.Part p) h = tested (SourceFine (ty.Record t)) (same (ty.Record t) p.ty) (noting p.ty (as_source.Record t (expr.handed_on p.head p.steps))) (wrong fault.Type place)
-      (λ e s. (refl, handed_on_good k env tables sound p.head p.steps t p.ty h.part (subst (λ u. Covers k (ty.Record t) u) (same_is (ty.Record t) p.ty e) same_type))) (λ s. tt)
+  record_source_good place t (is.Part p) h = tested (SourceFine (ty.Record t)) (same (ty.Record t) p.ty) (noting p.ty (as_source.Record t (expr.handed_on p.head p.steps p.ty))) (wrong fault.Type place)
+      (λ e s. (refl, subst (λ v. Fits k env (record { passing = In; ty = ty.Record t }) (expr.handed_on p.head p.steps v)) (same_is (ty.Record t) p.ty e) (handed_on_good k env tables sound p.head p.steps t p.ty h.part (subst (λ u. Covers k (ty.Record t) u) (same_is (ty.Record t) p.ty e) same_type)))) (λ s. tt)
   record_source_good place t _ h = λ s. tt
 
   record_from_good : (place : Span) (t : ℕ) (name : Tables → Judgement Found) → Gives (FoundFine k env) (name tables) → Gives (SourceFine (ty.Record t)) (spec.record_from tables place t name)

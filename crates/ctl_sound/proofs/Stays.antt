@@ -197,8 +197,8 @@ noting_stays : {A : Type 0} (t : Ty) (a : A) → Stays (noting t a)
 noting_stays t a n h = record { early = h.early; fault = h.fault }
 
 record_found_stays : (place : Span) (t : Ty) (f : Found) → Stays (spec.record_found place t f)
-record_found_stays place t (is.Part p) = if_stays (same t p.ty) (noting t (spec.handed_on p.head p.steps)) (wrong fault.Type place) (noting_stays t (spec.handed_on p.head p.steps)) (wrong_stays Actual fault.Type place)
-record_found_stays place t (is.View p) = if_stays (same t p.ty) (noting t (spec.handed_on p.head p.steps)) (wrong fault.Type place) (noting_stays t (spec.handed_on p.head p.steps)) (wrong_stays Actual fault.Type place)
+record_found_stays place t (is.Part p) = if_stays (same t p.ty) (noting t (spec.handed_on p.head p.steps p.ty)) (wrong fault.Type place) (noting_stays t (spec.handed_on p.head p.steps p.ty)) (wrong_stays Actual fault.Type place)
+record_found_stays place t (is.View p) = if_stays (same t p.ty) (noting t (spec.handed_on p.head p.steps p.ty)) (wrong fault.Type place) (noting_stays t (spec.handed_on p.head p.steps p.ty)) (wrong_stays Actual fault.Type place)
 record_found_stays place t _ = wrong_stays Actual fault.Type place
 
 value_stays : (tables : Tables) (t : Ty) (x : Sense) → Keeps x → Stays (x.judged tables (asking.Exactly t) >>= spec.by_value)

@@ -91,7 +91,7 @@ abbrev pub target : Tables → Use → List (Suffix Sense) → Judgement Target
 target tables u xs = found u xs tables >>= settled tables u.span >>= target_found tables u.span
 
 abbrev pub record_part : Span → ℕ → Place → Judgement Source
-record_part place t p = if same (ty.Record t) p.ty then noting p.ty (as_source.Record t (handed_on p.head p.steps)) else wrong rule.Type place
+record_part place t p = if same (ty.Record t) p.ty then noting p.ty (as_source.Record t (handed_on p.head p.steps p.ty)) else wrong rule.Type place
 
 -- a record is read where a name denotes it, or as the result of a call; a view of it is none (profile)
 abbrev pub record_source : Span → ℕ → Found → Judgement Source

@@ -125,7 +125,7 @@ fn record_part(
         return Ok(wrong(FaultCode::Type, place, notes));
     }
     let ty = part.ty;
-    let source = Source::Record(number, handed_on(alloc, part.head, part.steps)?);
+    let source = Source::Record(number, handed_on(alloc, part.head, part.steps, part.ty)?);
     doing(Deed::Freezes(ty), source, notes)
 }
 

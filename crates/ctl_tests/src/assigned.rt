@@ -57,61 +57,71 @@ const FETCH: Instr = Instr::FetchPart {
     to: CELL_4,
 };
 
-/// The lines of a block with two objects, whose second one has a component with the value 7: the object in this slot is assigned to the
-/// first one, whose component is printed. The Finalize prints a line, and the Adjust ends one, or raises.
-fn lines_of(source: usize, adjust: Instr) -> [Line; 19] {
-    let set = Instr::Set {
-        value: 7,
-        ty: Ty::Integer,
-        to: CELL_5,
-    };
-    let enter = Instr::Enter {
-        slots: 2,
-        length: 11,
-    };
-    [
-        (Instr::Start(0), ""),
-        (enter, "m"),
-        (Instr::Declare { slot: 0, record: 0 }, "m{"),
-        (Instr::Declare { slot: 1, record: 0 }, "m{"),
-        (locate_first(1), "m{"),
-        (set, "m{r"),
-        (STORE, "m{ri"),
-        (locate_first(0), "m{"),
-        (locate_second(source), "m{r"),
-        (ASSIGN, "m{rr"),
-        (FETCH, "m{"),
-        (Instr::PutLine { text: 1, first: 4 }, "m{i"),
-        (Instr::Leave, "m{"),
-        (Instr::Skip(0), "m"),
-        (Instr::Leave, "m"),
-        (FAREWELL, "f"),
-        (Instr::Leave, "f"),
-        (adjust, "f"),
-        (Instr::Leave, "f"),
-    ]
-}
+/// The value of the component that is stored.
+const SET: Instr = Instr::Set {
+    value: 7,
+    ty: Ty::Integer,
+    to: CELL_5,
+};
 
-/// Where the Finalize of the record type stands.
-const FINALIZE: usize = 15;
+/// Enters a block with two objects.
+const ENTER: Instr = Instr::Enter {
+    slots: 2,
+    length: 14,
+};
 
-/// Where its Adjust stands.
-const ADJUST: usize = 17;
+/// Where the Finalize of the record type stands, which prints a line.
+const FINALIZE: usize = 18;
 
-/// A run of these lines.
-fn outcome_of(alloc: Global, source: usize, adjust: Instr) -> Result<Outcome, Fail> {
-    let code = valid_code_with_both(alloc, &lines_of(source, adjust), FINALIZE, ADJUST)?;
+/// Where an Adjust stands that ends a line.
+const ADJUST: usize = 20;
+
+/// Where an Adjust stands that raises.
+const FAILING_ADJUST: usize = 22;
+
+/// A block with two objects, whose second one has a component with the value 7: the first one is assigned to itself, and then takes the value
+/// of the second one; its component is printed.
+const ASSIGNED: &[Line] = &[
+    (Instr::Start(0), ""),
+    (ENTER, "m"),
+    (Instr::Declare { slot: 0, record: 0 }, "m{"),
+    (Instr::Declare { slot: 1, record: 0 }, "m{"),
+    (locate_first(1), "m{"),
+    (SET, "m{r"),
+    (STORE, "m{ri"),
+    (locate_first(0), "m{"),
+    (locate_second(0), "m{r"),
+    (ASSIGN, "m{rr"),
+    (locate_first(0), "m{"),
+    (locate_second(1), "m{r"),
+    (ASSIGN, "m{rr"),
+    (FETCH, "m{"),
+    (Instr::PutLine { text: 1, first: 4 }, "m{i"),
+    (Instr::Leave, "m{"),
+    (Instr::Skip(0), "m"),
+    (Instr::Leave, "m"),
+    (FAREWELL, "f"),
+    (Instr::Leave, "f"),
+    (Instr::NewLine, "f"),
+    (Instr::Leave, "f"),
+    (Instr::Transfer(Way::Raise(0)), "f"),
+    (Instr::Leave, "f"),
+];
+
+/// Runs these lines with this Adjust.
+fn outcome_with(alloc: Global, adjust: usize) -> Result<Outcome, Fail> {
+    let code = valid_code_with_both(alloc, ASSIGNED, FINALIZE, adjust)?;
     let mut machine = Machine::new(alloc, &code, Order::Newest)?;
     let _ = machine.run(1000);
     Ok(machine.finish())
 }
 
 #[test]
-fn the_target_is_finalized_and_takes_the_value_and_is_adjusted(
+fn an_object_stays_as_it_is_by_itself_and_else_is_finalized_and_adjusted(
     rt: HostRuntime,
 ) -> Result<(), Fail> {
     let alloc = rt.alloc();
-    let outcome = outcome_of(alloc, 1, Instr::NewLine)?;
+    let outcome = outcome_with(alloc, ADJUST)?;
     let shown = outcome_shown(alloc, &outcome)?;
     assert!(rt;
         shown.as_str().starts_with(
@@ -124,24 +134,9 @@ fn the_target_is_finalized_and_takes_the_value_and_is_adjusted(
 }
 
 #[test]
-fn an_object_that_is_assigned_to_itself_stays_as_it_is(rt: HostRuntime) -> Result<(), Fail> {
-    let alloc = rt.alloc();
-    let outcome = outcome_of(alloc, 0, Instr::NewLine)?;
-    let shown = outcome_shown(alloc, &outcome)?;
-    assert!(rt;
-        shown
-            .as_str()
-            .starts_with("live-1-m2 live-2-m2 print newline finalize-2-scope ")
-    );
-    let bytes = printed(alloc, &outcome)?;
-    assert_eq!(rt; bytes.as_slice(), b" 0\nbye\nbye\n".as_slice());
-    Ok(())
-}
-
-#[test]
 fn an_exception_of_the_adjust_is_program_error(rt: HostRuntime) -> Result<(), Fail> {
     let alloc = rt.alloc();
-    let outcome = outcome_of(alloc, 1, Instr::Transfer(Way::Raise(0)))?;
+    let outcome = outcome_with(alloc, FAILING_ADJUST)?;
     let End::Raised(name) = &outcome.end else {
         return Err(Fail::new("the run does not end by an exception"));
     };

@@ -12,7 +12,7 @@ use ctl_tree::request::Order;
 use std::alloc::Global;
 use std::test::Fail;
 
-/// A bound of the loop, as an operand.
+/// Puts a bound of the loop, as an operand.
 const fn bound(value: u64, to: Cell) -> Instr {
     Instr::Set {
         value,
@@ -46,37 +46,40 @@ const NEXT: Instr = Instr::Next {
     length: 4,
 };
 
-/// The lines of a loop whose turns print the parameter, and call two procedures: one that prints a line, and one that does this.
-fn lines_of(second: Instr) -> [Line; 16] {
-    [
-        (Instr::Start(0), ""),
-        (bound(1, CELL_2), "m"),
-        (bound(2, CELL_3), "mi"),
-        (FOR, "mii"),
-        (Instr::Abandon(5), "mii"),
-        (PARAMETER, "mii"),
-        (Instr::Put { text: 1, first: 4 }, "miii"),
-        (Instr::Call(1), "mii"),
-        (Instr::Call(2), "mii"),
-        (NEXT, "mii"),
-        (Instr::NewLine, "m"),
-        (Instr::Leave, "m"),
-        (FAREWELL, "f"),
-        (Instr::Leave, "f"),
-        (second, "f"),
-        (Instr::Leave, "f"),
-    ]
-}
-
-/// Where the first procedure stands.
+/// Where the first procedure stands, which prints a line.
 const FIRST_BODY: usize = 12;
 
-/// Where the second one stands.
+/// Where a second one stands that ends a line.
 const SECOND_BODY: usize = 14;
 
-/// A run of these lines.
-fn outcome_of(alloc: Global, second: Instr) -> Result<Outcome, Fail> {
-    let code = valid_code_with_both(alloc, &lines_of(second), FIRST_BODY, SECOND_BODY)?;
+/// Where a second one stands that raises.
+const RAISING_BODY: usize = 16;
+
+/// A loop whose turns print the parameter, and call two procedures.
+const CALLS: &[Line] = &[
+    (Instr::Start(0), ""),
+    (bound(1, CELL_2), "m"),
+    (bound(2, CELL_3), "mi"),
+    (FOR, "mii"),
+    (Instr::Abandon(5), "mii"),
+    (PARAMETER, "mii"),
+    (Instr::Put { text: 1, first: 4 }, "miii"),
+    (Instr::Call(1), "mii"),
+    (Instr::Call(2), "mii"),
+    (NEXT, "mii"),
+    (Instr::NewLine, "m"),
+    (Instr::Leave, "m"),
+    (FAREWELL, "f"),
+    (Instr::Leave, "f"),
+    (Instr::NewLine, "f"),
+    (Instr::Leave, "f"),
+    (Instr::Transfer(Way::Raise(0)), "f"),
+    (Instr::Leave, "f"),
+];
+
+/// Runs these lines with this second procedure.
+fn outcome_with(alloc: Global, second: usize) -> Result<Outcome, Fail> {
+    let code = valid_code_with_both(alloc, CALLS, FIRST_BODY, second)?;
     let mut machine = Machine::new(alloc, &code, Order::Newest)?;
     let _ = machine.run(1000);
     Ok(machine.finish())
@@ -85,7 +88,7 @@ fn outcome_of(alloc: Global, second: Instr) -> Result<Outcome, Fail> {
 #[test]
 fn a_loop_goes_on_behind_each_call(rt: HostRuntime) -> Result<(), Fail> {
     let alloc = rt.alloc();
-    let outcome = outcome_of(alloc, Instr::NewLine)?;
+    let outcome = outcome_with(alloc, SECOND_BODY)?;
     let bytes = printed(alloc, &outcome)?;
     assert_eq!(rt; bytes.as_slice(), b" 1bye\n\n 2bye\n\n\n".as_slice());
     Ok(())
@@ -94,7 +97,7 @@ fn a_loop_goes_on_behind_each_call(rt: HostRuntime) -> Result<(), Fail> {
 #[test]
 fn an_exception_of_a_procedure_goes_on(rt: HostRuntime) -> Result<(), Fail> {
     let alloc = rt.alloc();
-    let outcome = outcome_of(alloc, Instr::Transfer(Way::Raise(0)))?;
+    let outcome = outcome_with(alloc, RAISING_BODY)?;
     let bytes = printed(alloc, &outcome)?;
     assert_eq!(rt; bytes.as_slice(), b" 1bye\n".as_slice());
     let End::Raised(name) = &outcome.end else {

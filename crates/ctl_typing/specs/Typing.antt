@@ -184,7 +184,7 @@ result_found place p actuals = of_result place p.result p.subprogram actuals
   where
     of_result : Span → Option Ty → ℕ → List Actual → Judgement Found
     of_result place None s actuals = wrong rule.Type place
-    of_result place (Some t) s actuals = known (Part (given_place (record { ty = t; value = e.Call s actuals })))
+    of_result place (Some t) s actuals = known (Part (given_place (record { ty = t; value = e.Call s actuals t })))
 
 abbrev pub profile_in : Option Entry → Option Profile
 profile_in (Some (entry.Subprogram p)) = Some p
@@ -250,16 +250,16 @@ written_by tables place m t None = wrong rule.Mode place
 written_by tables place m t (Some name) = name tables >>= written_found place m t
 
 abbrev pub by_value : Typed → Judgement Actual
-by_value t = known (actual.ByValue t.value)
+by_value t = known (actual.ByValue t.value t.ty)
 
 -- a record that a name denotes is passed by reference; one that no object holds is a value (6.2)
-abbrev pub handed_on : Head → List Step → Actual
-handed_on (Given x) [] = actual.ByValue x
-handed_on h steps = actual.Part (name_at h steps)
+abbrev pub handed_on : Head → List Step → Ty → Actual
+handed_on (Given x) [] t = actual.ByValue x t
+handed_on h steps t = actual.Part (name_at h steps)
 
 abbrev pub record_found : Span → Ty → Found → Judgement Actual
-record_found place t (Part p) = if same t p.ty then noting t (handed_on p.head p.steps) else wrong rule.Type place
-record_found place t (View p) = if same t p.ty then noting t (handed_on p.head p.steps) else wrong rule.Type place
+record_found place t (Part p) = if same t p.ty then noting t (handed_on p.head p.steps p.ty) else wrong rule.Type place
+record_found place t (View p) = if same t p.ty then noting t (handed_on p.head p.steps p.ty) else wrong rule.Type place
 record_found place t _ = wrong rule.Type place
 
 abbrev pub record_by : Tables → Ty → Sense → Option (Tables → Judgement Found) → Judgement Actual

@@ -90,11 +90,16 @@ pub fn written_found(
 }
 
 /// Hands a record on: by reference where a name denotes it (RM 6.2).
-pub fn handed_on(alloc: Global, head: Head, steps: Items<Step>) -> Result<Actual, AllocError>
-    ensures { IfOk result (λ actual. actual ≡ spec.handed_on head steps) }
+pub fn handed_on(
+    alloc: Global,
+    head: Head,
+    steps: Items<Step>,
+    ty: Ty,
+) -> Result<Actual, AllocError>
+    ensures { IfOk result (λ actual. actual ≡ spec.handed_on head steps ty) }
 {
     match head {
-        Head::Given(value) if steps.is_empty() => Ok(Actual::ByValue(value)),
+        Head::Given(value) if steps.is_empty() => Ok(Actual::ByValue(value, ty)),
         head => Ok(Actual::Part(name_at(alloc, head, steps)?)),
     }
 }
@@ -117,7 +122,7 @@ pub fn record_found(
         drop(part);
         return Ok(wrong(FaultCode::Type, place, notes));
     }
-    let actual = handed_on(alloc, part.head, part.steps)?;
+    let actual = handed_on(alloc, part.head, part.steps, part.ty)?;
     doing(Deed::Freezes(ty), actual, notes)
 }
 

@@ -691,7 +691,7 @@ fn actual_value(
     ensures { Judges (senses.actual_value tables.now ty (spec.sense x.now)) notes.old result notes.new }
 {
     match expression(alloc, tables, x, Asked::Exactly(ty), notes)? {
-        Some(typed) => Ok(Some(Actual::ByValue(typed.value))),
+        Some(typed) => Ok(Some(Actual::ByValue(typed.value, typed.ty))),
         None => Ok(None),
     }
 }

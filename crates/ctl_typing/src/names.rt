@@ -47,7 +47,7 @@ pub fn result_found(
     match profile.result {
         None => wrong(FaultCode::Type, place, notes),
         Some(ty) => {
-            let value = Expr::Call(profile.subprogram, actuals);
+            let value = Expr::Call(profile.subprogram, actuals, ty);
             Some(Found::Part(given_place(alloc, Typed { ty, value })))
         }
     }

@@ -26,7 +26,7 @@ mutual
   pub data Typed (k : Setting) (env : Frames) : Expr → Ty → Type 0 where
     constant : {cell : ℕ} {t : Ty} → is_scalar t ≡ true → IsCell t cell → InView k env t → Typed k env (e.Constant cell) t
     read : {x : Name} {t : Ty} → Denotes k env x t → Typed k env (e.Read x t) t
-    call : {s : ℕ} {is : Signature} {actuals : List Actual} {t : Ty} → Callable k env s is → is.result ≡ Some t → FitEach k env is.formals actuals → Typed k env (e.Call s actuals) t
+    call : {s : ℕ} {is : Signature} {actuals : List Actual} {t : Ty} → Callable k env s is → is.result ≡ Some t → FitEach k env is.formals actuals → Typed k env (e.Call s actuals t) t
     unary : {o : UnaryOp} {x : Expr} {t : Ty} → Takes o t → Typed k env x t → Typed k env (e.Unary o t x) t
     chain : {x : Expr} {o : Operand} {more : List Operand} {s t : Ty} → Typed k env x s → Chains k env s (o ∷ more) t → Typed k env (e.Chain x o more) t
     short : {form : Shortcut} {x y : Expr} {more : List Expr} → Typed k env x ty.Boolean → Typed k env y ty.Boolean → Truths k env more → Typed k env (e.Short form x y more) ty.Boolean
@@ -60,7 +60,7 @@ mutual
 
   -- an actual for a formal (6.4.1): a value, a record that a name denotes, or a variable that is copied
   pub data Fits (k : Setting) (env : Frames) : Formal → Actual → Type 0 where
-    by_value : {x : Expr} {s t : Ty} → Covers k t s → Typed k env x s → Fits k env (record { passing = In; ty = t }) (actual.ByValue x)
+    by_value : {x : Expr} {s t : Ty} → Covers k t s → Typed k env x s → Fits k env (record { passing = In; ty = t }) (actual.ByValue x t)
     by_reference : {x : Name} {p : Passing} {u : ℕ} {s : Ty} → Covers k (ty.Record u) s → Denotes k env x s → Fits k env (record { passing = p; ty = ty.Record u }) (actual.Part x)
     by_copy : {x : Name} {p : Passing} {t : Ty} → is_written p ≡ true → is_scalar t ≡ true → Denotes k env x t → Fits k env (record { passing = p; ty = t }) (actual.Copied x t (copy_of p t))
 

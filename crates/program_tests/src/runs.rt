@@ -120,6 +120,36 @@ const CALLED: &[u8] =
 const CALLED_TRACE: &str =
     "live 2 m2\nlive 3 m3\nlive 4 m4\nprint  3\nnewline\nfinalize 4 scope\nprint f 3\nnewline\nprint  2\nnewline\nfinalize 3 scope\nprint f 2\nnewline\nprint  1\nnewline\nfinalize 2 scope\nprint f 1\nnewline\nlive 5 m8\nlive 6 m9\nprint  3\nnewline\nfinalize 6 scope\nprint f 3\nnewline\nprint  2\nnewline\nfinalize 5 scope\nprint f 2\nnewline\nlive 7 m12\nfinalize 7 scope\nprint f 0\nnewline\nend raised Constraint_Error\n";
 
+/// The first handler with a choice for the exception, or with `others`, before the objects of its own construct are finalized; one that no
+/// handler is for goes on (RM 11.2, 11.4, 7.6.1).
+const HANDLED: &[u8] =
+    b"with Ada.Finalization; use Ada.Finalization; with Ada.Text_IO; use Ada.Text_IO; procedure Main is type A is new Controlled with record N : Integer := 0; end record; overriding procedure Finalize (X : in out A); Lost, Odd : exception; procedure Finalize (X : in out A) is begin Put_Line (\"f\" & Integer'Image (X.N)); end Finalize; begin begin declare V : A; begin V.N := 1; raise Lost; end; Put_Line (\"no\"); exception when Odd => Put_Line (\"odd\"); when Constraint_Error | Lost => Put_Line (\"lost\"); when others => Put_Line (\"other\"); end; declare V : A; begin V.N := 1 / V.N; exception when Odd => Put_Line (\"odd\"); when others => V.N := 2; Put_Line (\"other\"); end; declare V : A; begin V.N := 3; raise Odd; exception when Lost => Put_Line (\"lost\"); end; Put_Line (\"no\"); exception when Odd => Put_Line (\"main\"); end Main;";
+
+const HANDLED_TRACE: &str =
+    "live 1 m3\nfinalize 1 scope\nprint f 1\nnewline\nprint lost\nnewline\nlive 2 m5\nprint other\nnewline\nfinalize 2 scope\nprint f 2\nnewline\nlive 3 m7\nfinalize 3 scope\nprint f 3\nnewline\nprint main\nnewline\nend done\n";
+
+/// `raise;` in a loop and a block of a handler, behind another handler in it: the exception that the handler itself handles; and an exception
+/// that a handler raises (RM 11.3, 11.4).
+const RAISED_AGAIN: &[u8] =
+    b"with Ada.Text_IO; use Ada.Text_IO; procedure Main is Lost, Odd : exception; Zero : Integer := 0; procedure Fail is begin raise Lost; exception when Odd => Put_Line (\"never\"); end Fail; begin begin Fail; exception when Lost => begin Zero := 1 / Zero; exception when Constraint_Error => Put_Line (\"inner\"); end; for I in 1 .. 2 loop declare N : Integer := I; begin if N = 2 then raise; end if; Put_Line (\"turn\"); end; end loop; end; exception when Odd => Put_Line (\"odd\"); when Lost => Put_Line (\"lost\"); begin raise Odd; end; end Main;";
+
+const RAISED_AGAIN_TRACE: &str =
+    "print inner\nnewline\nprint turn\nnewline\nprint lost\nnewline\nend raised Odd\n";
+
+/// What handlers do not see: an exit statement, a return statement, and an exception of their own declarative part (RM 11.4).
+const NOT_HANDLED: &[u8] =
+    b"with Ada.Text_IO; use Ada.Text_IO; procedure Main is Zero : Integer := 0; begin loop begin exit; exception when others => Put_Line (\"no\"); end; end loop; begin declare N : Integer := 1 / Zero; begin Put_Line (\"no\"); exception when others => Put_Line (\"no\"); end; exception when Constraint_Error => Put_Line (\"outside\"); end; begin Zero := Zero / Zero; exception when Constraint_Error => return; end; Put_Line (\"no\"); exception when others => Put_Line (\"no\"); end Main;";
+
+const NOT_HANDLED_TRACE: &str =
+    "print outside\nnewline\nend done\n";
+
+/// Finalizations that fail at the end of a block are Program_Error in place of the exit statement, and that is handled (RM 7.6.1, 11.4).
+const FAILURE_HANDLED: &[u8] =
+    b"with Ada.Finalization; use Ada.Finalization; with Ada.Text_IO; use Ada.Text_IO; procedure Main is type A is new Controlled with null record; overriding procedure Finalize (X : in out A); procedure Finalize (X : in out A) is begin Put_Line (\"f\"); raise Constraint_Error; end Finalize; begin loop begin declare V, W : A; begin exit; end; exception when Constraint_Error => Put_Line (\"no\"); when Program_Error => Put_Line (\"program error\"); exit; end; end loop; Put_Line (\"out\"); end Main;";
+
+const FAILURE_HANDLED_TRACE: &str =
+    "live 1 m3\nlive 2 m3\nfinalize 2 scope\nprint f\nnewline\nfinalize 1 scope\nprint f\nnewline\nprint program error\nnewline\nprint out\nnewline\nend done\n";
+
 /// A type of which there is no object.
 const TYPE_ALONE: &[u8] =
     b"procedure Main is type R is record N : Integer; end record; begin null; end Main;";
@@ -153,6 +183,10 @@ fn traces_of_runs(rt: HostRuntime) -> Result<(), Fail> {
         (ASSIGNED, 1000, ASSIGNED_TRACE),
         (EXTENDED, 1000, EXTENDED_TRACE),
         (CALLED, 1000, CALLED_TRACE),
+        (HANDLED, 1000, HANDLED_TRACE),
+        (RAISED_AGAIN, 1000, RAISED_AGAIN_TRACE),
+        (NOT_HANDLED, 1000, NOT_HANDLED_TRACE),
+        (FAILURE_HANDLED, 1000, FAILURE_HANDLED_TRACE),
         (TYPE_ALONE, 1000, "end done\n"),
         (TURNS, 100, "end limit\n"),
     ] {

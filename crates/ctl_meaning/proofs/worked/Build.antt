@@ -133,8 +133,8 @@ read n ty = expr (Expr-F.Read n.tree ty) (Expr-F.Read n.act ty) (ap (λ x. Expr-
 abbrev pub value : ℕ → ℕ → Ty → Expression
 value level slot ty = read (variable level slot) ty
 
-abbrev pub call_of : ℕ → List ActualOf → Expression
-call_of f actuals = expr (Expr-F.Call f (trees actuals)) (Expr-F.Call f (acts actuals)) (ap (Expr-F.Call f) (all_same actuals))
+abbrev pub call_of : ℕ → List ActualOf → Ty → Expression
+call_of f actuals ty = expr (Expr-F.Call f (trees actuals) ty) (Expr-F.Call f (acts actuals) ty) (ap (λ xs. Expr-F.Call f xs ty) (all_same actuals))
 
 abbrev pub unary : UnaryOp → Ty → Expression → Expression
 unary op ty e = expr (Expr-F.Unary op ty e.tree) (Expr-F.Unary op ty e.act) (ap (Expr-F.Unary op ty) e.same)
@@ -173,8 +173,8 @@ subpool which n = expr (Expr-F.Subpool which n.tree) (Expr-F.Subpool which n.act
 abbrev pub discriminant_of : NameOf → ℕ → Expression
 discriminant_of n i = expr (Expr-F.Discriminant n.tree i) (Expr-F.Discriminant n.act i) (ap (λ x. Expr-F.Discriminant x i) n.same)
 
-abbrev pub by_value : Expression → ActualOf
-by_value e = an_actual (Actual-F.ByValue e.tree) (Actual-F.ByValue e.act) (ap Actual-F.ByValue e.same)
+abbrev pub by_value : Expression → Ty → ActualOf
+by_value e ty = an_actual (Actual-F.ByValue e.tree ty) (Actual-F.ByValue e.act ty) (ap (λ x. Actual-F.ByValue x ty) e.same)
 
 abbrev pub by_name : NameOf → ActualOf
 by_name n = an_actual (Actual-F.Part n.tree) (Actual-F.Part n.act) (ap Actual-F.Part n.same)

@@ -15,4 +15,4 @@ statement-branches-between-requires t c =
 
 pub body-returns : goal.body-returns
 body-returns t c =
-    rw (fold_out-Body, c.earliest.ensures, c.items-declared.ensures, c.statements-done.ensures, c.first_handler-handled.ensures, c.as_slice.ensures, c.as_slice-2.ensures, c.as_slice-3.ensures) refl
+    rw (fold_out-Body, c.earliest.ensures, c.items-declared.ensures, c.statements-done.ensures, c.handlers-handled.ensures, c.as_slice.ensures, c.as_slice-2.ensures, c.as_slice-3.ensures) refl

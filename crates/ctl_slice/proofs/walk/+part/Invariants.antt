@@ -11,6 +11,9 @@ invariant-statements-loop-one l = spec.first_of (map spec.statement (drop l.one-
 abbrev pub invariant-branches-loop-one : goal.invariant-branches-loop-one
 invariant-branches-loop-one l = spec.first_of (map spec.branch (map spec.branch_of (drop l.one-index l.branches))) ≡ spec.first_of (map spec.branch (map spec.branch_of l.branches))
 
+abbrev pub invariant-handlers-loop-one : goal.invariant-handlers-loop-one
+invariant-handlers-loop-one l = spec.first_of (map spec.handler (map spec.handler_of (drop l.one-index l.handlers))) ≡ spec.first_of (map spec.handler (map spec.handler_of l.handlers))
+
 -- how deep is what is left, and then the order of the calls at one depth
 abbrev pub decreases-statement : goal.decreases-statement
 decreases-statement l = goal.size-statement l * 16 + 0
@@ -23,6 +26,12 @@ decreases-branch l = goal.size-branch l * 16 + 2
 
 abbrev pub decreases-branches : goal.decreases-branches
 decreases-branches l = goal.size-branches l * 16 + 3
+
+abbrev pub decreases-handler : goal.decreases-handler
+decreases-handler l = goal.size-handler l * 16 + 2
+
+abbrev pub decreases-handlers : goal.decreases-handlers
+decreases-handlers l = goal.size-handlers l * 16 + 3
 
 abbrev pub decreases-item : goal.decreases-item
 decreases-item l = goal.size-item l * 16 + 0

@@ -65,9 +65,9 @@ returns-clause-ok g c =
     (subst (λ (l : List ℕ). b.base + code.room ≤ length l) cells c.in_ok-prepare.ensures.cells)
     (record {
       kept = c.open.ensures.kept
-          ∙ (ap (λ (l : List Frame). with_master (record (kept ready) { control = l }) AfterOf.Body b (cleared b.base entry.slots ready.cells.items)) control
-          ∙ (ap (λ (l : List ℕ). with_master (record (kept ready) { control = frame ∷ reverse old.control.items }) AfterOf.Body b (cleared b.base entry.slots l)) cells
-          ∙ ap (λ (e : Kept). with_master (record e { control = frame ∷ reverse old.control.items }) AfterOf.Body b (cleared b.base entry.slots row)) goes.kept));
+          ∙ (ap (λ (l : List Frame). with_master (record (kept ready) { control = l }) 0 AfterOf.Body b (cleared b.base entry.slots ready.cells.items)) control
+          ∙ (ap (λ (l : List ℕ). with_master (record (kept ready) { control = frame ∷ reverse old.control.items }) 0 AfterOf.Body b (cleared b.base entry.slots l)) cells
+          ∙ ap (λ (e : Kept). with_master (record e { control = frame ∷ reverse old.control.items }) 0 AfterOf.Body b (cleared b.base entry.slots row)) goes.kept));
       mode = c.open.ensures.mode;
       events = c.open.ensures.events ∙ (goes.events ∙ sym (append-nil old.events.items));
       picks = c.open.ensures.picks ∙ goes.picks;
