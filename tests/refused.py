@@ -109,9 +109,13 @@ TEXTS = [
     (CONTROLLED + "type T is new Controlled with null record; X : T; Y : T := X; begin X := Y; end Main;", ACCEPTED, 1, 1),
     (CONTROLLED + "begin declare type T is new Controlled with null record; X, Y : T; begin X := Y; end; end Main;", 12, 1, 46),
     (CONTROLLED + "type T is new Limited_Controlled with null record; X, Y : T; begin X := Y; end Main;", 32, 1, 131),
-    # procedures without parameters are run; others, and functions, are left out where they stand, unless nothing calls them
+    # procedures are run whose parameters are records, or `in` parameters of Integer and Boolean; one with others is left out where it
+    # stands, unless nothing calls it
     (ITEM + "procedure P is begin null; end P; begin P; end Main;", ACCEPTED, 1, 1),
-    (ITEM + "procedure P (N : Integer) is begin null; end P; begin P (1); end Main;", 12, 1, 19),
+    (ITEM + "procedure P (N : Integer) is begin null; end P; begin P (1); end Main;", ACCEPTED, 1, 1),
+    (ITEM + "N : Integer; procedure P (M : in out Integer) is begin null; end P; begin P (N); end Main;", 12, 1, 32),
+    # handlers are run
+    (ITEM + "begin null; exception when others => raise; end Main;", ACCEPTED, 1, 1),
     # a type that extends another of the text inherits its components
     (CONTROLLED + "type T is new Controlled with record N : Integer := 1; end record; type U is new T with record B : Boolean; end record; X, Y : U; begin X.B := X.N = 1; Y := X; end Main;", ACCEPTED, 1, 1),
     (CONTROLLED + "type T is new Controlled with record N : Integer := 1; end record; type U is new T with record N : Boolean; end record; X : U; begin null; end Main;", 21, 1, 159),

@@ -1,4 +1,5 @@
 pub mod Elements
+pub mod Actuals
 pub mod Fitting
 pub mod FittingFrames
 pub mod FittingInstructions

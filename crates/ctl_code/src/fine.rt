@@ -10,7 +10,7 @@ ghost use Rattle.ctl_code.specs.declared.code.Cell.{Cell};
 ghost use Rattle.ctl_code.specs.declared.code.Operator.{Operator};
 ghost use Rattle.ctl_code.specs.declared.code.Instr.TheVariants as I;
 ghost use Rattle.ctl_code.specs.Kinds.{changed, stack_at};
-ghost use Rattle.ctl_code.specs.Valid.{Bounded, DropsObject, IsAtEnd, IsDeclarable, IsEntry, IsFine, IsInScope, IsText, Leads, Puts, Taken, Takes, Under, outermost};
+ghost use Rattle.ctl_code.specs.Valid.{HasFormals, HaveOperands, IsOperandAt, Bounded, DropsObject, IsAtEnd, IsDeclarable, IsEntry, IsFine, IsInScope, IsText, Leads, Puts, Taken, Takes, Under, outermost};
 ghost use Rattle.ctl_code.specs.Windows.{depth, height, variable_at};
 
 use crate::code::{Cell, Code, Instr, Named, Operator, Way};
@@ -446,12 +446,43 @@ fn is_bare(code: &Code, place: usize) -> bool
 }
 
 /// Checks the call of a procedure (RM 6.4): it is declared in a master that is seen.
-fn is_call_fine(code: &Code, place: usize, number: usize) -> bool
+fn is_call_fine(code: &Code, place: usize, number: usize, actuals: usize) -> bool
     requires { place + 1 < 2 ^ 64 }
-    ensures { let stack = stack_at code.now.kinds place in
-        IsTrue result ↔ (IsInScope code.now (depth stack) (Some number) × Leads code.now (place + 1) stack) }
+    ensures { IsTrue result ↔ IsFine code.now place (I.Call number actuals) (stack_at code.now.kinds place) }
 {
-    is_in_scope(code, code.kinds.depth_at(place), Some(number)) && leads_on(code, place, 0, None)
+    is_in_scope(code, code.kinds.depth_at(place), Some(number))
+        && has_formals(code, number, actuals)
+        && has_operands(code, place, actuals)
+        && leads_on(code, place, actuals, None)
+}
+
+/// Tells whether a body has slots for so many formals (RM 6.1).
+fn has_formals(code: &Code, number: usize, count: usize) -> bool
+    ensures { IsTrue result ↔ HasFormals code.now number count }
+{
+    match code.entries.get(number) {
+        Some(entry) => count <= entry.slots,
+        None => false,
+    }
+}
+
+/// Tells whether an operand stands before an instruction, at this place from the newest on.
+fn is_operand_at(code: &Code, place: usize, depth: usize) -> bool
+    ensures { IsTrue result ↔ IsOperandAt (stack_at code.now.kinds place) depth }
+{
+    matches!(code.kinds.kind_at(place, depth), Some(Kind::Operand(_)))
+}
+
+/// Tells whether so many operands stand on top before an instruction.
+fn has_operands(code: &Code, place: usize, count: usize) -> bool
+    ensures { IsTrue result ↔ HaveOperands count (stack_at code.now.kinds place) }
+{
+    for depth in 0..count {
+        if !is_operand_at(code, place, depth) {
+            return false;
+        }
+    }
+    true
 }
 
 /// Checks the declaration of an object (RM 3.3.1).
@@ -546,7 +577,7 @@ pub fn is_fine(code: &Code, place: usize, instr: &Instr) -> bool
         Instr::Start(entry) => is_bare(code, place) && is_in_scope(code, 0, Some(entry)),
         Instr::Enter { slots, length } => is_enter_fine(code, place, slots, length),
         Instr::Leave => is_at_end(code, place),
-        Instr::Call(number) => is_call_fine(code, place, number),
+        Instr::Call { procedure, actuals } => is_call_fine(code, place, procedure, actuals),
         Instr::Transfer(way) => is_transfer_fine(code, place, way),
         Instr::Handle(length) => is_handle_fine(code, place, length),
         Instr::Catch { exception, length } => is_catch_fine(code, place, exception, length),

@@ -1,44 +1,31 @@
--- Calls of procedures without parameters: their code is what is emitted, is well formed, and does what the program means (6.4).
-use Rattle.std.proofs.Common.{◌≡◌, ℕ, ◌+◌, ◌<◌, List, [], ◌∷◌, length, Option, Some, None, refl, sym, subst, arith}
-use Rattle.ctl_program.specs.declared.expression.Actual.{Actual}
-use Rattle.ctl_meaning.specs.World.{World}
+-- Calls of procedures: the body is entered with its formals, behind the code of the actuals, and does what the program means (6.4).
+use Rattle.std.proofs.Common.{◌≡◌, ℕ, ◌+◌, ◌≤◌, List, [], ◌∷◌, length, Some, refl, sym, ap, ◌∙◌, subst, arith}
+use Rattle.std.specs.Prelude.{drop, slice_get}
+use Rattle.ctl_meaning.specs.World.{Slot, Log, World}
 use Rattle.ctl_meaning.specs.Choice.{Ask, picked}
-use Rattle.ctl_meaning.specs.Outcome.{Goes, Leaves, Out, Gives, Stops, Cut, Done, add, bind, on_goes, ◌>>◌, done, nothing, opened_outcome}
+use Rattle.ctl_meaning.specs.Outcome.{Result, Goes, Leaves, Out, Gives, Stops, Cut, Act, Done, bind, on_goes, ◌>>◌, done, nothing, opened_outcome}
 use Rattle.ctl_meaning.specs.Types.{Tables}
-use Rattle.ctl_meaning.specs.Names.{OfSubprogram, Returned, Call, Default, Tools}
-use Rattle.ctl_meaning.specs.Expressions.{copy_back, opened_expressions}
+use Rattle.ctl_meaning.specs.Names.{Found, OfSubprogram, Returned, Call, Default, Tools}
+use Rattle.ctl_meaning.specs.Expressions.{Passed, Supplied, call_with, copy_back, no_actuals, pass_each}
 use Rattle.ctl_meaning.specs.Statements.{call as call_doing}
 use Rattle.ctl_code.specs.declared.code.Instr.TheVariants as InstrOf
 use Rattle.ctl_code.specs.declared.code.Code.{Code}
 use Rattle.ctl_code.specs.declared.kinds.Kind.{Kind}
 use Rattle.ctl_code.specs.States.{Point, Frame, Calling, State}
+use Rattle.ctl_code.specs.Table.{enter_body, formals_of, standing}
+use Rattle.ctl_code.specs.Steps.{moved, step}
 use Rattle.ctl_code.specs.Valid.{IsInScope}
 use Rattle.ctl_code.specs.Windows.{depth}
-use Rattle.ctl_layout.specs.Layout.{call as call_code}
-use Rattle.ctl_gen.specs.Emitted.{Emitted, lined, one as one_line, stated}
-use Rattle.ctl_gen.proofs.Formed.{Formed, one}
-use Rattle.ctl_gen.proofs.Worlds.{Kept}
+use Rattle.ctl_layout.specs.Around.{Line}
+use Rattle.ctl_layout.specs.Layout.{ActualCode, call as call_code}
+use Rattle.ctl_gen.proofs.Worlds.{Since, Kept}
 use Rattle.ctl_gen.proofs.Setting.{Setting, Calls, Told, returns, tools_with}
 use Rattle.ctl_gen.proofs.Cells.{by_code}
+use Rattle.ctl_gen.proofs.Place.{Laid}
+use Rattle.ctl_gen.proofs.Actuals.{IsLeft, Taken}
+use Rattle.ctl_gen.proofs.Actuals as A
 use Rattle.ctl_gen.proofs.Does.{Does}
-use Rattle.ctl_gen.proofs.Follow.{by_raise, Runs, Target, arrives, lands, more_halts, more_quits, then_step}
-
--- Emitted -----------------------------------------------------------------------------------------
-
--- one without actuals
-pub call_emitted : (f : ℕ) (actuals : List Actual) (e0 e1 : Emitted) → length actuals < 1 → e1 ≡ lined (one_line (InstrOf.Call f)) e0 → e1 ≡ stated (call_code f actuals) None e0
-call_emitted f [] e0 e1 few a = a
-call_emitted f (x ∷ more) e0 e1 few a = absurd (omega (arith, few))
-
--- it is the same wherever control lands
-pub call_anywhere : (f : ℕ) (actuals : List Actual) (landing : Option ℕ) (e0 e1 : Emitted) → e1 ≡ stated (call_code f actuals) None e0 → e1 ≡ stated (call_code f actuals) landing e0
-call_anywhere f [] landing e0 e1 a = a
-call_anywhere f (x ∷ more) landing e0 e1 a = a
-
--- Well formed -------------------------------------------------------------------------------------
-
-pub call_formed : (code : Code) (f : ℕ) (s : List Kind) → IsInScope code (depth s) (Some f) → Formed code ((InstrOf.Call f, s) ∷ []) s (Some s)
-call_formed code f s scope = one code (InstrOf.Call f) s (Some s) (λ p next. (scope, next))
+use Rattle.ctl_gen.proofs.Follow.{by_raise, Runs, Target, added, arrives, at, bind_bind, lands, more_halts, more_quits, then_step}
 
 -- What it does ------------------------------------------------------------------------------------
 
@@ -46,27 +33,60 @@ module _ (ask : Ask) (k : Tables) (code : Code) (setting : Setting k code) (call
   abbrev K : Tools
   K = tools_with ask k call default
 
-  -- what becomes of the execution of its body: no copy goes back, and there is no result
-  abbrev called : Out Returned → Out Done
-  called x = add 1 (bind (add 0 (bind x (on_goes (λ r. copy_back r.slots [] >> done r)))) (on_goes (λ _. nothing)))
+  -- what becomes of the execution of its body: these copies go back, and there is no result
+  abbrev called : List (ℕ × Found) → Out Returned → Out Done
+  called back x = bind (bind x (on_goes (λ r. copy_back r.slots back >> done r))) (on_goes (λ _. nothing))
 
-  -- its exception goes on
-  call_over : (w0 : World) (e : Target) (p : Point) (ks : List Frame) (s0 : State) (c : ℕ) (x : Out Returned) → Runs ask code (Told k code w0) 2 3 s0 c (returns (Calling p ∷ ks)) x → Runs ask code (Kept k code w0) 0 0 s0 c (arrives e p.display p.place ks p.operands) (called x)
+  -- its exception goes on, and no copy goes back
+  call_over : (w0 : World) (e : Target) (p : Point) (ks : List Frame) (s0 : State) (c : ℕ) (x : Out Returned) → Runs ask code (Told k code w0) 2 3 s0 c (returns (Calling p ∷ ks)) x → Runs ask code (Kept k code w0) 3 3 s0 c (arrives e p.display p.place ks p.operands) (called [] x)
   unfolding picked copy_back opened_outcome
-  call_over w0 e p ks s0 c (Gives (Goes u) τ c1 l w) z = then_step ask code (Kept k code w0) 2 0 s0 _ _ c c1 τ _ z refl z.fits.1 (omega arith)
+  call_over w0 e p ks s0 c (Gives (Goes u) τ c1 l w) z = then_step ask code (Kept k code w0) 2 3 s0 _ _ c c1 τ _ z refl z.fits.1 (omega arith)
   call_over w0 e p ks s0 c (Gives (Leaves y) τ c1 l w) z =
-      by_raise (λ v. Runs ask code (Told k code w0) 2 3 s0 c (returns {A = Returned} (Calling p ∷ ks)) (Gives (Leaves v) τ c1 l w) → Runs ask code (Kept k code w0) 0 0 s0 c (arrives e p.display p.place ks p.operands) (called (Gives (Leaves v) τ c1 l w)))
-      (λ v z1. then_step ask code (Kept k code w0) 2 0 s0 _ _ c c1 τ _ z1 refl z1.fits.1 (omega arith)) y z.fits.0 z
-  call_over w0 e p ks s0 c (Stops why τ l) z = more_quits ask code (Kept k code w0) 3 0 s0 τ _ l why (omega arith) z
-  call_over w0 e p ks s0 c (Cut τ c1 l) z = more_halts ask code (Kept k code w0) 3 0 s0 c τ _ l (omega arith) z
+      by_raise (λ v. Runs ask code (Told k code w0) 2 3 s0 c (returns {A = Returned} (Calling p ∷ ks)) (Gives (Leaves v) τ c1 l w) → Runs ask code (Kept k code w0) 3 3 s0 c (arrives e p.display p.place ks p.operands) (called [] (Gives (Leaves v) τ c1 l w)))
+      (λ v z1. then_step ask code (Kept k code w0) 2 3 s0 _ _ c c1 τ _ z1 refl z1.fits.1 (omega arith)) y z.fits.0 z
+  call_over w0 e p ks s0 c (Stops why τ l) z = more_quits ask code (Kept k code w0) 3 3 s0 τ _ l why (omega arith) z
+  call_over w0 e p ks s0 c (Cut τ c1 l) z = more_halts ask code (Kept k code w0) 3 3 s0 c τ _ l (omega arith) z
+
+  -- what is done with the formals
+  abbrev calling : ℕ → List ℕ → Result Passed → Act Done
+  calling f d r c l w = bind (on_goes (call_with K d f) r c l w) (on_goes (λ _. nothing))
+
+  not_called : (f : ℕ) (d : List ℕ) → IsLeft (calling f d)
+  unfolding opened_outcome
+  not_called f d y c l w = refl
+
+  -- the instruction, over the operands that its formals take
+  abbrev calls_it : ℕ → ℕ → List Kind → List Line
+  calls_it f count s = (InstrOf.Call f count, s) ∷ []
+
+  enters : (f count : ℕ) (s : List Kind) (q : Passed) (d : List ℕ) (place : ℕ) (ks : List Frame) (ops below : List ℕ) (l : Log) (w : World) → Taken count s ops below q → Laid code place (calls_it f count s) → step ask code (at d place ks ops l w) ≡ moved l (enter_body (slice_get code.entries.items f) [] d q.slots (Calling (record { display = d; place = place + 1; operands = below }) ∷ ks) w)
+  enters f count s q d place ks ops below l w taken has =
+      let entered : List Slot → List ℕ → State = λ slots rest. moved l (enter_body (slice_get code.entries.items f) [] d slots (Calling (record { display = d; place = place + 1; operands = rest }) ∷ ks) w) in
+      by_code ask code d place ks ops l w (InstrOf.Call f count) has.0
+      ∙ ap (λ o. entered (formals_of count (standing o) ops) (drop count ops)) has.1
+      ∙ ap (λ slots. entered slots (drop count ops)) taken.slots
+      ∙ ap (entered q.slots) taken.rest
 
   -- a body that can be called there is entered, and then the frame that waits for it goes on
-  pub call_does : (f : ℕ) → Does ask k code bound (λ a. (InstrOf.Call f, a.stack) ∷ []) (λ d caught. call_doing f [] K d caught)
-  unfolding call_doing opened_expressions opened_outcome
-  call_does f a w0 d place ks ops c l w le fits sees has =
-      let p : Point = record { display = d; place = place + 1; operands = ops } in
-      let scope : IsInScope code (depth a.stack) (Some f) = (setting.valid.each place (InstrOf.Call f) a.stack has.0 has.1).0 in
+  call_runs : (f count : ℕ) (s : List Kind) (q : Passed) (e : Target) (w0 : World) (d : List ℕ) (place : ℕ) (ks : List Frame) (ops below : List ℕ) (c : ℕ) (l : Log) (w : World) → c ≤ bound → Since k code w0 w → length d ≡ depth s → Taken count s ops below q → Laid code place (calls_it f count s) → Runs ask code (Kept k code w0) 3 3 (at d place ks ops l w) c (arrives e d (place + 1) ks below) (calling f d (Goes q) c l w)
+  unfolding call_with opened_outcome
+  call_runs f count s q e w0 d place ks ops below c l w le fits long taken has =
+      let p : Point = record { display = d; place = place + 1; operands = below } in
+      let scope : IsInScope code (depth s) (Some f) = (setting.valid.each place (InstrOf.Call f count) s has.0 has.1).0 in
       let body = setting.body f scope.0 scope.1 in
-      call_over w0 (lands a place) p ks _ c (call (OfSubprogram f []) d c l w)
-      (calls.runs f body.0 body.1 w0 d [] (Calling p ∷ ks) c l w _ le fits (subst (λ n. IsInScope code n (Some f)) (sym sees.long) scope) tt
-      (by_code ask code d place ks ops l w (InstrOf.Call f) has.0))
+      subst (λ back. Runs ask code (Kept k code w0) 3 3 (at d place ks ops l w) c (arrives e d (place + 1) ks below) (called back (call (OfSubprogram f q.slots) d c l w))) (sym taken.back)
+      (call_over w0 e p ks (at d place ks ops l w) c (call (OfSubprogram f q.slots) d c l w)
+      (calls.runs f body.0 body.1 w0 d q.slots (Calling p ∷ ks) c l w (at d place ks ops l w) le fits (subst (λ n. IsInScope code n (Some f)) (sym long) scope) taken.whole
+      (enters f count s q d place ks ops below l w taken has)))
+
+  -- the actuals, and then the call
+  pub call_does : (f : ℕ) (xs : List ActualCode) (ms : List Supplied) → A.EachPasses ask k code setting call default xs ms → Does ask k code bound (λ a. (call_code f xs).code a 0) (λ d caught. call_doing f ms K d caught)
+  unfolding call_doing opened_outcome
+  call_does f xs ms each a w0 d place ks ops c l w le fits sees has =
+      let s = a.stack in
+      let end = arrives (lands a place) d (place + length ((call_code f xs).code a 0)) ks ops in
+      added ask code (Kept k code w0) 1 3 3 0 0 _ c end _ (omega arith) (omega arith)
+      (subst (λ o. Runs ask code (Kept k code w0) 3 3 (at d place ks ops l w) c end o)
+      (sym (bind_bind (pass_each K d ms no_actuals c l w) (on_goes (call_with K d f)) (on_goes (λ _. nothing))))
+      (A.all_run ask k code setting call default (calls_it f (length xs)) (calling f d) xs ms each s (lands a place) w0 d place ks ops c l w fits sees.long has (not_called f d)
+      (λ q t place1 ops1 c1 l1 w1 taken lo fits1 long has1. call_runs f (length xs) t q (lands a place) w0 d place1 ks ops1 ops c1 l1 w1 (omega (arith, lo, le)) fits1 long taken has1)))

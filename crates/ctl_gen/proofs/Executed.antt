@@ -6,7 +6,7 @@ use Rattle.ctl_program.specs.declared.expression.Expr.{Expr}
 use Rattle.ctl_program.specs.declared.statement.Stmt.{Stmt, roll-Stmt, map-Stmt}
 use Rattle.ctl_program.specs.declared.statement.Stmt.TheOpen.{Stmt-F}
 use Rattle.ctl_program.specs.declared.statement.Arm.{Arm, Arm-F, roll-Arm, map-Arm}
-use Rattle.ctl_program.specs.declared.statement.Handler.{Handler, Handler-F, roll-Handler, map-Handler, fold-roll-Handler}
+use Rattle.ctl_program.specs.declared.statement.Handler.{Handler, Handler-F, roll-Handler, map-Handler}
 use Rattle.ctl_program.specs.declared.statement.Master.{Master, Master-F, roll-Master, map-Master, ind-Master}
 use Rattle.ctl_tree.specs.declared.event.Event.TheVariants.{Newline}
 use Rattle.ctl_meaning.specs.World.{World}
@@ -25,7 +25,7 @@ use Rattle.ctl_code.specs.Table.{caught_in}
 use Rattle.ctl_layout.specs.declared.right.Reached.{Reached}
 use Rattle.ctl_layout.specs.declared.right.Reached.TheVariants as ReachedOf
 use Rattle.ctl_layout.specs.Values.{value_code, reached_by, sourced}
-use Rattle.ctl_layout.specs.Layout.{StatementCode, ArmCode, HandlerCode, MasterCode, statement_step, arm_step, handler_step, master_step, all, all_items, arm_code, assign, assign_record, call as call_code, record_code, exit, handled, handler_code, return, inside, item_code, master_code, missing_statement, statement_code, leaves_code}
+use Rattle.ctl_layout.specs.Layout.{StatementCode, all, all_items, arm_code, assign, assign_record, call as call_code, record_code, exit, handled, handler_code, return, inside, item_code, master_code, missing_statement, statement_code, actual_code, leaves_code}
 use Rattle.ctl_gen.proofs.Known.{both_true, plain_if}
 use Rattle.ctl_layout.proofs.TreeLayers.{handler_roll, arm_roll, master_roll, statement_roll}
 use Rattle.ctl_gen.proofs.Setting.{Setting, Calls, tools_with}
@@ -37,6 +37,7 @@ use Rattle.ctl_gen.proofs.Evaluated.{Reaches, name_finds, value_since}
 use Rattle.ctl_gen.proofs.Components.{part_does}
 use Rattle.ctl_gen.proofs.Sources.{find_by, name_means, source_means}
 use Rattle.ctl_gen.proofs.RecordAssign.{record_does}
+use Rattle.ctl_gen.proofs.Actuals.{actuals_pass}
 use Rattle.ctl_gen.proofs.Calls.{call_does}
 use Rattle.ctl_gen.proofs.Assign.{assign_runs}
 use Rattle.ctl_gen.proofs.Texts.{print_runs}
@@ -137,9 +138,8 @@ module _ (ask : Ask) (k : Tables) (code : Code) (setting : Setting k code) (call
       (subst (λ (find2 : List ℕ → Act Found). DoesIn 0 ask k code bound (λ a. record_code v t u a.stack) (λ d caught. ticked (find_by K [] Composite v d >>= (λ f. find2 d >>= assign_found K t f)))) (sym (source u refl))
       (record_does ask k code setting call default constants t known.0 known.1 known.2 bound calls v u))
 
-  called_does : (f : ℕ) (actuals : List Actual) → Performs (call_code f actuals) (call_doing f (map supply actuals))
-  called_does f [] runs n texts = call_does ask k code setting call default bound calls f
-  called_does f (x ∷ more) runs n texts = absurd (cc)
+  called_does : (f : ℕ) (actuals : List Actual) → Performs (call_code f (map actual_code actuals)) (call_doing f (map supply actuals))
+  called_does f actuals runs n texts = call_does ask k code setting call default bound calls f (map actual_code actuals) (map supply actuals) (actuals_pass ask k code setting call default actuals runs)
 
   -- one step to where control lands
   exits : DoesIn 1 ask k code bound leaves_code (λ d caught. leave_by ByExit)

@@ -26,17 +26,16 @@ use Rattle.ctl_code.specs.declared.code.Instr.TheVariants as InstrOf
 use Rattle.ctl_code.specs.declared.code.Way.TheVariants as WayOf
 use Rattle.ctl_code.specs.declared.code.Code.{Code}
 use Rattle.ctl_code.specs.Windows.{variable_at}
-use Rattle.ctl_code.specs.Valid.{IsAtEnd, IsDeclarable, IsInScope, outermost}
+use Rattle.ctl_code.specs.Valid.{HasFormals, IsAtEnd, IsDeclarable, IsInScope, outermost}
 use Rattle.ctl_layout.specs.Around.{behind, local_at}
 use Rattle.ctl_layout.specs.declared.right.Reached.{Reached}
 use Rattle.ctl_layout.specs.declared.right.Reached.TheVariants as ReachedOf
 use Rattle.ctl_gen.proofs.Components.{part_formed}
 use Rattle.ctl_gen.proofs.RecordAssign.{record_formed}
-use Rattle.ctl_gen.proofs.Calls.{call_formed}
 use Rattle.ctl_layout.specs.Values.{ValueCode, copied, sourced, value_code, reached_by}
 use Rattle.ctl_layout.specs.Records.{is_run_type}
 use Rattle.ctl_layout.specs.Defaults.{is_outermost}
-use Rattle.ctl_layout.specs.Layout.{ArmCode, HandlerCode, ItemCode, MasterCode, StatementCode, all, all_items, arm_code, arms_run, assign, assign_record, block, call, exit, return, handled, handler_code, handlers_run, has_choice, in_master, inside, item_code, master_code, missing_statement, statement_code, tested, valued, with_value}
+use Rattle.ctl_layout.specs.Layout.{ArmCode, HandlerCode, ItemCode, MasterCode, StatementCode, actual_code, all, all_items, arm_code, arms_run, assign, assign_record, block, call, exit, return, handled, handler_code, handlers_run, has_choice, in_master, inside, item_code, master_code, missing_statement, statement_code, tested, valued, with_value}
 use Rattle.ctl_gen.proofs.Known.{both_true}
 use Rattle.ctl_layout.proofs.TreeLayers.{arm_roll, layer_of, master_roll, handler_roll}
 use Rattle.ctl_gen.proofs.Place.{HasAt}
@@ -44,6 +43,7 @@ use Rattle.ctl_gen.proofs.Formed.{both, both_at, Formed, FormedAt, none, one}
 use Rattle.ctl_gen.proofs.FormedAround.{Agrees, agrees_inside, leave_behind, leaves_formed, newest_there}
 use Rattle.ctl_gen.proofs.FormedArms.{GoodArms, branches_stay}
 use Rattle.ctl_gen.proofs.FormedHandlers.{AreChoices, AreExceptions, GoodHandlers, StaysAtEnd, handled_stays}
+use Rattle.ctl_gen.proofs.FormedCalls.{actuals_good, as_many, call_formed}
 use Rattle.ctl_gen.proofs.FormedLines.{block_formed}
 use Rattle.ctl_gen.proofs.FormedStatements.{MayDeclare, Stays, all_stay, assign_formed, copy_formed, declaration_formed, for_stays, leaves_stay, leaves_when_stay, loop_stays, tested_turns, valued_formed}
 use Rattle.ctl_gen.proofs.FormedTexts.{print_formed}
@@ -56,8 +56,8 @@ slots_told (D.master {f = f} {is = items} {body = body} {hs = hs} elaborated don
     ap (λ (z : MasterCode). z.slots) (master_roll (record { slots = length f; items = items; body = body; handlers = hs }))
 
 -- the operations of each record type that is declared around a place are declared there too, and so is each subprogram that can be called
--- there; and those of one of the main procedure's own declarative part inside its master
-module _ (code : Code) (records : List RecordType) (k : W.Setting) (declarable : (env : W.Frames) (t : ℕ) → W.HasRecord k env t → IsDeclarable code (length env) t) (callable : (env : W.Frames) (f : ℕ) (is : W.Signature) → W.Callable k env f is → IsInScope code (length env) (Some f)) (assignable : (t : ℕ) → is_outermost (slice_get records t) ≡ true → IsDeclarable code outermost t) (raisable : (x : ℕ) → x < k.exceptions → x < length code.exceptions.items) where
+-- there, with slots for its formals; and those of one of the main procedure's own declarative part inside its master
+module _ (code : Code) (records : List RecordType) (k : W.Setting) (declarable : (env : W.Frames) (t : ℕ) → W.HasRecord k env t → IsDeclarable code (length env) t) (callable : (env : W.Frames) (f : ℕ) (is : W.Signature) → W.Callable k env f is → IsInScope code (length env) (Some f)) (formals : (env : W.Frames) (f : ℕ) (is : W.Signature) → W.Callable k env f is → HasFormals code f (length is.formals)) (assignable : (t : ℕ) → is_outermost (slice_get records t) ≡ true → IsDeclarable code outermost t) (raisable : (x : ℕ) → x < k.exceptions → x < length code.exceptions.items) where
   -- Items ------------------------------------------------------------------------------------------
 
   may_declare : (env : W.Frames) (ty : Ty) → W.InView k env ty → MayDeclare code (length env) ty
@@ -132,9 +132,11 @@ module _ (code : Code) (records : List RecordType) (k : W.Setting) (declarable :
   record_good env (Some (ReachedOf.Variable v)) t (Some (ReachedOf.Component x u position)) runs a n p agrees texts can = absurd (cc)
   record_good env (Some (ReachedOf.Variable v)) t (Some (ReachedOf.Variable x)) runs a n p agrees texts can = record_formed code v x t a.stack (assignable t (both_true _ _ runs).1) p
 
-  call_good : {env : W.Frames} {f : ℕ} {is : W.Signature} (actuals : List Actual) → W.Callable k env f is → GoodStatement env (call f actuals)
-  call_good {env} {f} {is} [] can_call = λ runs a n p agrees texts can. call_formed code f a.stack (subst (λ m. IsInScope code m (Some f)) (sym agrees.deep) (callable env f is can_call)) p
-  call_good (x ∷ more) can_call = λ runs. absurd (cc)
+  call_good : {env : W.Frames} {f : ℕ} {is : W.Signature} {actuals : List Actual} → W.Callable k env f is → T.FitEach k env is.formals actuals → GoodStatement env (call f (map actual_code actuals))
+  call_good {env} {f} {is} {actuals} can_call fits = λ runs a n p agrees texts can.
+      let scope = subst (λ m. IsInScope code m (Some f)) (sym agrees.deep) (callable env f is can_call) in
+      let slots = subst (HasFormals code f) (as_many fits) (formals env f is can_call) in
+      call_formed code f (map actual_code actuals) a.stack scope slots (actuals_good code records fits runs) p
 
   leaving_good : {env : W.Frames} (o : Option Expr) → Perhaps k env o Boolean → GoodStatement env (exit (option_map value_code o))
   leaving_good {env} None T.left_out runs = leaves_stay code env
@@ -226,7 +228,7 @@ module _ (code : Code) (records : List RecordType) (k : W.Setting) (declarable :
         (each_good h g.1))
     statement_good {env} (D.block {m = m} {f = f} h) = good_as env _ _ (layer_of _ (sym (rolls-Block m))) (block_good env f (master_code m) (slots_told h) (master_good h))
     statement_good {env} (D.assign_record {x = x} {t = t} {v = v} denotes fits) = good_as env _ _ (layer_of _ (sym (rolls-AssignRecord x t v))) (record_good env (reached_by x) t (sourced v))
-    statement_good {env} (D.call {s = f} {actuals = actuals} can_call gives fits) = good_as env _ _ (layer_of _ (sym (rolls-Call f actuals))) (call_good actuals can_call)
+    statement_good {env} (D.call {s = f} {actuals = actuals} can_call gives fits) = good_as env _ _ (layer_of _ (sym (rolls-Call f actuals))) (call_good can_call fits)
     statement_good {env} (D.nothing_done {x = x} views) = not_missing env _ (layer_of _ (sym (rolls-Nothing x)))
     statement_good {env} (D.dispatch {o = o} {x = x} views) = not_missing env _ (layer_of _ (sym (rolls-Dispatch o x)))
     statement_good {env} (D.library_allocate {p = p} {x = x} {size = size} {alignment = alignment} views rooted denotes h g) = not_missing env _ (layer_of _ (sym (rolls-LibraryAllocate p x size alignment)))

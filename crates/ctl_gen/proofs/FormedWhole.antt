@@ -1,7 +1,7 @@
 -- The code of a well-typed program is valid, and the subprograms that such a program names are in its table.
-use Rattle.std.proofs.Common.{◌<◌, ◌≡◌, ℕ, zero, suc, ◌+◌, ◌≤◌, List, [], ◌∷◌, ◌++◌, length, map, Option, Some, None, true, refl, sym, ap, ◌∙◌, subst, arith, take}
+use Rattle.std.proofs.Common.{◌<◌, ◌≡◌, ℕ, zero, suc, ◌+◌, ◌≤◌, List, [], ◌∷◌, ◌++◌, length, map, Option, Some, None, true, refl, sym, ap, ◌∙◌, subst, arith, take, length-append}
 use Rattle.std.specs.Prelude.{slice_get}
-use Rattle.std.proofs.lemmas.List.{length-take}
+use Rattle.std.proofs.lemmas.List.{length-map, length-take}
 use Rattle.std.proofs.lemmas.Bool.{leb-true}
 use Rattle.ctl_program.specs.declared.types.RecordType.{RecordType}
 use Rattle.ctl_program.specs.declared.types.Root.{Root}
@@ -16,7 +16,7 @@ use Rattle.ctl_code.specs.declared.code.Instr.{Instr}
 use Rattle.ctl_code.specs.declared.code.Entry.{Entry}
 use Rattle.ctl_code.specs.declared.code.Operations.{Operations}
 use Rattle.ctl_code.specs.declared.code.Code.{Code}
-use Rattle.ctl_code.specs.Valid.{IsBegun, IsDeclarable, IsEntry, IsFine, IsInScope, IsValid, Leads, MayBeEntry, TakesObject, outermost}
+use Rattle.ctl_code.specs.Valid.{HasFormals, IsBegun, IsDeclarable, IsEntry, IsFine, IsInScope, IsValid, Leads, MayBeEntry, TakesObject, outermost}
 use Rattle.ctl_layout.specs.Around.{Line, Around, behind}
 use Rattle.ctl_layout.specs.Layout.{bodies, body_code, entries_from, entry_at, HasKinds, in_body, instructions_of, IsLaidOut, kinds_of, master_code, nowhere, operations_in, operations_of, program_code}
 use Rattle.ctl_layout.specs.Defaults.{is_outermost}
@@ -73,6 +73,10 @@ not_more home env e =
 -- the first formal has a slot
 formal_slot : (formals : List W.Formal) (first : W.Formal) (rest : List W.Formal) (others : W.Frame) → formals ≡ first ∷ rest → 1 ≤ length (map W.OfFormal formals ++ others)
 formal_slot formals first rest others e = subst (λ fs. 1 ≤ length (map W.OfFormal fs ++ others)) (sym e) (omega arith)
+
+-- and each of them
+formals_first : (formals : List W.Formal) (others : W.Frame) → length formals ≤ length (map W.OfFormal formals ++ others)
+formals_first formals others = let long = length-append (map W.OfFormal formals) others in let each = length-map formals W.OfFormal in omega (arith, long, each)
 
 -- Subprograms that are named ------------------------------------------------------------------------
 
@@ -265,6 +269,13 @@ module _ (program : Checked) (code : Code) (laid : IsLaidOut program code) (kind
       let least = not_more is.home env c.encloses in
       (entry_at x.0 s.body, x.1, omega (arith, level, least))
 
+  -- and has a slot for each formal
+  formals : (env : W.Frames) (f : ℕ) (is : W.Signature) → W.Callable typed.k env f is → HasFormals code f (length is.formals)
+  formals env f is c =
+      let s = called program typed env f is c in
+      let x = entry_of f s.body s.found in
+      (entry_at x.0 s.body, x.1, subst (λ m. length is.formals ≤ m) (sym (slots_told s.fine.body)) (formals_first is.formals s.fine.others))
+
   -- the level of a type says how many masters are around it
   assignable : (t : ℕ) → is_outermost (slice_get program.records t) ≡ true → IsDeclarable code outermost t
   assignable t e = by (slice_get program.records t) refl e
@@ -293,7 +304,7 @@ module _ (program : Checked) (code : Code) (laid : IsLaidOut program code) (kind
       let frame = map W.OfFormal is.formals ++ h.others in
       let slots = (master_code s.body).slots in
       let over = subst (λ m. Agrees (is.home ++ frame ∷ []) (Body s.level m ∷ [])) (sym (slots_told h.body)) (agrees_body is.home frame s.level h.level) in
-      master_good code program.records typed.k declarable callable assignable raisable h.body runs (Body s.level slots) [] n p over texts tt
+      master_good code program.records typed.k declarable callable formals assignable raisable h.body runs (Body s.level slots) [] n p over texts tt
 
   good : (f : ℕ) (s : Subprogram) → slice_get program.subprograms f ≡ Some s → GoodBody code program.records s
   good f s e =

@@ -13,7 +13,7 @@ use Rattle.ctl_meaning.specs.Ledger.{layers_of, drop_layer}
 use Rattle.ctl_meaning.specs.Activations.{slots_in, activation_at}
 use Rattle.ctl_meaning.specs.Changes.{object_at, take_layer, close_master, begin_finalization, opened_changes}
 use Rattle.ctl_meaning.specs.Choice.{Ask, picked}
-use Rattle.ctl_meaning.specs.Outcome.{program_error, raised_by, Way, ByExit, ByReturn, ByRaise, Result, Goes, Leaves, Out, Act, Done, Fine, add, bind, on_goes, ◌>>◌, ticked, change, on_some, opened_outcome}
+use Rattle.ctl_meaning.specs.Outcome.{program_error, raised_by, Way, ByRaise, Result, Goes, Leaves, Out, Act, Done, Fine, add, bind, on_goes, ◌>>◌, ticked, change, on_some, opened_outcome}
 use Rattle.ctl_meaning.specs.Types.{Tables}
 use Rattle.ctl_meaning.specs.Names.{Call, Default, Tools, gone, existing}
 use Rattle.ctl_meaning.specs.Storage.{program_error_if}

@@ -24,6 +24,7 @@ pub mod Leave
 pub mod Declare
 pub mod Copies
 pub mod RecordAssign
+pub mod Actuals
 pub mod Calls
 pub mod Texts
 pub mod Statements
@@ -37,6 +38,7 @@ pub mod FormedTypes
 pub mod FormedAround
 pub mod FormedValues
 pub mod FormedTexts
+pub mod FormedCalls
 pub mod FormedLines
 pub mod FormedStatements
 pub mod FormedArms
@@ -47,6 +49,7 @@ pub mod Emission
 pub mod EmittedValues
 pub mod EmittedTexts
 pub mod EmittedStatements
+pub mod EmittedCalls
 pub mod EmittedLoops
 pub mod EmittedArms
 pub mod EmittedHandlers

@@ -134,14 +134,14 @@ module _ (K : Tools) where
   expr_rolled (Expr-F.Discriminant n i) = not_copied (Expr-F.Discriminant n.0 i) _ (value_roll (Expr-F.Discriminant n.0 i)) (λ t. refl)
 
   -- the name of an actual
-  part_sources : (n : Name) → Denotes n → (v : Var) → reached_by n ≡ Some (ReachedOf.Variable v) → (actual_meaning (Actual-F.Part (eval_name n))).source K ≡ (λ d. ticked (find_by K [] Composite v d))
+  part_sources : (n : Name) → Denotes n → (ty : Ty) (v : Var) → reached_by n ≡ Some (ReachedOf.Variable v) → (actual_meaning (Actual-F.Part (eval_name n) ty)).source K ≡ (λ d. ticked (find_by K [] Composite v d))
   unfolding actual_meaning
-  part_sources n denotes v is =
+  part_sources n denotes ty v is =
       let at_node : (List ℕ → Act Found) → List ℕ → Act Found = λ find d. ticked (find d) in
       ap at_node (denotes v is)
 
   actual_rolled : (y : Actual-F ActualToo ExprToo NameToo OperandToo) → Sources (roll-Actual (bare_actual y))
-  actual_rolled (Actual-F.Part n) v is = ap (λ (m : Supplied). m.source K) (actual_roll (Actual-F.Part n.0)) ∙ part_sources n.0 n.1 v (sym (sourced_roll (Actual-F.Part n.0)) ∙ is)
+  actual_rolled (Actual-F.Part n ty) v is = ap (λ (m : Supplied). m.source K) (actual_roll (Actual-F.Part n.0 ty)) ∙ part_sources n.0 n.1 ty v (sym (sourced_roll (Actual-F.Part n.0 ty)) ∙ is)
   actual_rolled (Actual-F.ByValue e ty) v is = absurd (let e1 = sym (sourced_roll (Actual-F.ByValue e.0 ty)) ∙ is in cc e1)
   actual_rolled (Actual-F.Copied n ty begins) v is = absurd (let e1 = sym (sourced_roll (Actual-F.Copied n.0 ty begins)) ∙ is in cc e1)
 

@@ -38,7 +38,7 @@ each_found P p (x ∷ xs) h = one (p x) (each_found P p xs h.1)
     one true rest = h.0
     one false rest = rest
 
-each_and : {A : Type 0} (P : A → Type 0) (xs : List A) (x : A) → P x → Each P xs → Each P (xs ++ x ∷ [])
+pub each_and : {A : Type 0} (P : A → Type 0) (xs : List A) (x : A) → P x → Each P xs → Each P (xs ++ x ∷ [])
 each_and P [] x known h = (known, tt)
 each_and P (y ∷ xs) x known h = (h.0, each_and P xs x known h.1)
 

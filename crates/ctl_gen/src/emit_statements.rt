@@ -390,16 +390,6 @@ impl Emitter {
         }
     }
 
-    /// Emits a call: of a procedure without parameters (RM 6.4).
-    fn call(&mut self, procedure: usize, actuals: &[Actual]) -> Result<(), AllocError>
-        ensures { OnOk result (self.new ≡ stated (spec.call procedure actuals.now) None self.old) }
-    {
-        match actuals {
-            [] => self.put(Instr::Call(procedure)),
-            [..] => self.put(Instr::Missing),
-        }
-    }
-
     /// Emits the arms of an `if`. Gives where the end of the first one stands, which does not skip the rest yet.
     #[cycle(emit)]
     fn arms(&mut self, arms: &[Arm], landing: Option<usize>) -> Result<Option<usize>, AllocError>

@@ -2,6 +2,7 @@
 #![tactic(auto)]
 
 mod emit;
+mod emit_calls;
 mod emit_expressions;
 mod emit_handlers;
 mod emit_statements;

@@ -374,11 +374,27 @@ fn is_return(value: &Option<Expr>) -> bool
     value.is_none()
 }
 
-/// Tells whether a call is run: of a procedure without parameters (RM 6.4).
-fn is_call(actuals: &[Actual]) -> bool
-    ensures { (number : ℕ) (records : List RecordType) → result ≡ (spec.call number actuals.now).runs records }
+/// Tells whether an actual is run: a scalar value, or the object in a variable (RM 6.4.1).
+fn is_actual(actual: &Actual, records: &[RecordType]) -> bool
+    ensures { result ≡ (spec.actual_code actual.now).runs records.now }
 {
-    actuals.is_empty()
+    match actual {
+        Actual::ByValue(expression, ty) => is_run_type(*ty) && value(expression, records),
+        Actual::Part(name, Ty::Record(_)) => matches!(reached_by(name), Some(Reached::Variable(_))),
+        Actual::Part(..) | Actual::Copied(..) => false,
+    }
+}
+
+/// Tells whether a call is run: each of its actuals (RM 6.4).
+fn is_call(actuals: &[Actual], records: &[RecordType]) -> bool
+    ensures { result ≡ spec.actuals_run (map spec.actual_code actuals.now) records.now }
+{
+    for one in actuals {
+        if !is_actual(one, records) {
+            return false;
+        }
+    }
+    true
 }
 
 /// Tells whether a statement is run.
@@ -396,7 +412,7 @@ fn statement(statement: &Stmt, records: &[RecordType]) -> bool
         Stmt::Put(text) | Stmt::PutLine(text) => pieces(text.as_slice(), records),
         Stmt::Exit(condition) => is_exit(condition, records),
         Stmt::Return(value) => is_return(value),
-        Stmt::Call(_, actuals) => is_call(actuals.as_slice()),
+        Stmt::Call(_, actuals) => is_call(actuals.as_slice(), records),
         Stmt::If(arms, otherwise) => {
             conditional(arms.as_slice(), records) && statements(otherwise.as_slice(), records)
         }

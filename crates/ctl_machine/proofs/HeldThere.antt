@@ -1,7 +1,7 @@
 -- The object that a slot of an active master holds is found among the objects that the master owns.
-use Rattle.std.proofs.Common.{◌≡◌, ℕ, zero, suc, ◌+◌, ◌<◌, ◌≤◌, List, [], ◌∷◌, ◌++◌, Option, Some, None, length, refl, sym, ap, ◌∙◌, subst, arith, reverse, drop, take, ◌⊎◌, inl, inr}
+use Rattle.std.proofs.Common.{◌≡◌, ℕ, zero, suc, ◌+◌, ◌-◌, ◌<◌, ◌≤◌, List, [], ◌∷◌, ◌++◌, Option, Some, None, length, refl, sym, ap, ◌∙◌, subst, arith, reverse, drop, take, ◌⊎◌, inl, inr}
 use Rattle.std.specs.Prelude.{slice_get}
-use Rattle.std.proofs.lemmas.List.{reverse-append, reverse-reverse, take_all}
+use Rattle.std.proofs.lemmas.List.{drop-take, reverse-append, reverse-reverse, take_all}
 use Rattle.std.proofs.lemmas.Option.{slice_get_within}
 use Rattle.ctl_meaning.specs.World as W
 use Rattle.ctl_meaning.specs.World.{World, Content, Slot, unset, Activation}
@@ -11,10 +11,11 @@ use Rattle.ctl_code.specs.declared.code.Code.{Code}
 use Rattle.ctl_code.specs.States as T
 use Rattle.ctl_code.specs.Table.{out_of, holder_at, whole_of}
 use Rattle.ctl_machine.specs.declared.engine.Engine.{Engine}
+use Rattle.ctl_machine.specs.declared.frame.Formal.{Formal}
 use Rattle.ctl_machine.specs.declared.frame.Master.{Master}
 use Rattle.ctl_machine.specs.declared.frame.Owned.{Owned}
 use Rattle.ctl_machine.specs.Masters.{Head, heads_of, AreMasters, newest_master, AreBelow, IsAmong}
-use Rattle.ctl_machine.specs.Holders.{holder_in, formal_content, AreHeld, own_end}
+use Rattle.ctl_machine.specs.Holders.{holder_in, formal_in, own_formals, AreHeld, own_end}
 use Rattle.ctl_machine.specs.Variables.{IsNoVariable}
 use Rattle.ctl_machine.specs.Shows.{Holds, kept}
 use Rattle.ctl_machine.proofs.Lists.{get_right}
@@ -83,42 +84,69 @@ own_end_within code e k ops w i x h found = ends_within x _ h.masters (ends_own 
 
 -- What a slot holds --------------------------------------------------------------------------------------
 
-take_less : (os : List Owned) (i j : ℕ) → i ≤ j → take i (take j os) ≡ take i os
+take_less : {X : Type 0} (os : List X) (i j : ℕ) → i ≤ j → take i (take j os) ≡ take i os
 take_less os zero j h = refl
 take_less os (suc i) zero h = absurd (omega (arith, h))
 take_less [] (suc i) (suc j) h = refl
-take_less (o ∷ os) (suc i) (suc j) h = ap (λ (l : List Owned). o ∷ l) (take_less os i j (omega (arith, h)))
+take_less {X} (o ∷ os) (suc i) (suc j) h = ap (λ (l : List X). o ∷ l) (take_less os i j (omega (arith, h)))
 
-content_there : (ms : List Master) (acts : List Activation) (ks : List W.Master) (owned : List Owned) (bound : ℕ) (x : Master) (end slot : ℕ)
-    → AreMasters ms (heads_of acts) ks owned → AreBelow ms bound → AreHeld ms acts owned → EndsOwn x end ms (length owned) → slot < x.slots
-    → (slot_in x.number slot acts).content ≡ holder_in (drop x.owned (take end owned)) slot (formal_content x.subject slot)
-content_there [] acts ks owned bound x end slot a b h ends less = absurd ends
-content_there (m ∷ ms) [] ks owned bound x end slot a b h ends less = absurd h
-content_there (m ∷ ms) (act ∷ acts) _ owned bound x end slot (newest_master g o r) b h (inl ends) less =
+-- the formals of a master are among those of all active ones
+formals_within : (ms : List Master) (acts : List Activation) (owned : List Owned) (fs : List Formal) (x : Master) → AreHeld ms acts owned fs → IsAmong x ms → (x.outer_formals ≤ x.formals) × (x.formals ≤ length fs)
+formals_within [] acts owned fs x h i = absurd i
+formals_within (m ∷ ms) [] owned fs x h i = absurd h
+formals_within (m ∷ ms) (act ∷ acts) owned fs x h (inl same) = subst (λ (z : Master). (z.outer_formals ≤ z.formals) × (z.formals ≤ length fs)) same (h.0.rise, h.0.within)
+formals_within (m ∷ ms) (act ∷ acts) owned fs x h (inr i) =
+    let below = formals_within ms acts (take m.owned owned) (take m.outer_formals fs) x h.1 i in
+    let rise = h.0.rise in
+    let within = h.0.within in
+    let long : length (take m.outer_formals fs) ≡ m.outer_formals = length_taken m.outer_formals fs (omega (arith, rise, within)) in
+    let less = below.1 in
+    (below.0, omega (arith, less, long, rise, within))
+
+pub own_formals_within : (code : Code) (e : Engine) (k : List T.Frame) (ops : List ℕ) (w : World) (i : ℕ) (x : Master) → Holds code (kept e) k ops w → slice_get e.masters.items i ≡ Some x → (x.outer_formals ≤ x.formals) × (x.formals ≤ length e.formals.items)
+own_formals_within code e k ops w i x h found = formals_within (reverse e.masters.items) w.activations e.owned.items e.formals.items x h.held (ends_among (reverse e.masters.items) x _ (length e.owned.items) (ends_own e.masters.items i (length e.owned.items) x found))
+
+content_there : (ms : List Master) (acts : List Activation) (ks : List W.Master) (owned : List Owned) (fs : List Formal) (bound : ℕ) (x : Master) (end slot : ℕ)
+    → AreMasters ms (heads_of acts) ks owned → AreBelow ms bound → AreHeld ms acts owned fs → EndsOwn x end ms (length owned) → slot < x.slots
+    → (slot_in x.number slot acts).content ≡ holder_in (drop x.owned (take end owned)) slot (formal_in (own_formals x fs) slot)
+content_there [] acts ks owned fs bound x end slot a b h ends less = absurd ends
+content_there (m ∷ ms) [] ks owned fs bound x end slot a b h ends less = absurd h
+content_there (m ∷ ms) (act ∷ acts) _ owned fs bound x end slot (newest_master g o r) b h (inl ends) less =
     let same = ends.0 in
     let many = g.slots in
     let slots = ap (λ (z : Master). z.slots) same in
     let all : owned ≡ take end owned = sym (take_all end owned (let t = ends.1 in omega (arith, t))) in
     ap (λ (y : Slot). y.content) (slot_of_own x.number slot act acts (g.head ∙ ap (λ (z : Master). z.number) same))
-    ∙ (h.0 slot (omega (arith, less, many, slots))
-    ∙ (ap (λ (z : Master). holder_in (drop z.owned owned) slot (formal_content z.subject slot)) same
-    ∙ ap (λ (l : List Owned). holder_in (drop x.owned l) slot (formal_content x.subject slot)) all))
-content_there (m ∷ ms) (act ∷ acts) _ owned bound x end slot (newest_master {ks = ks} g o r) b h (inr ends) less =
+    ∙ (h.0.contents slot (omega (arith, less, many, slots))
+    ∙ (ap (λ (z : Master). holder_in (drop z.owned owned) slot (formal_in (own_formals z fs) slot)) same
+    ∙ ap (λ (l : List Owned). holder_in (drop x.owned l) slot (formal_in (own_formals x fs) slot)) all))
+content_there (m ∷ ms) (act ∷ acts) _ owned fs bound x end slot (newest_master {ks = ks} g o r) b h (inr ends) less =
     let own = o.owned in
     let long : length (take m.owned owned) ≡ m.owned = length_taken m.owned owned own in
     let ends' : EndsOwn x end ms (length (take m.owned owned)) = subst (λ n. EndsOwn x end ms n) (sym long) ends in
     let within = ends_within x end r ends' in
-    ap (λ (y : Slot). y.content) (slot_of_other x.number m.number slot act acts g.head (is_older ms x m.number b.1 (ends_among ms x end m.owned ends)))
-    ∙ (content_there ms acts ks (take m.owned owned) m.number x end slot r b.1 h.1 ends' less
-    ∙ ap (λ (l : List Owned). holder_in (drop x.owned l) slot (formal_content x.subject slot)) (take_less owned end m.owned (omega (arith, within, long))))
+    let among = ends_among ms x end m.owned ends in
+    let less_formals = (formals_within ms acts (take m.owned owned) (take m.outer_formals fs) x h.1 among).1 in
+    let rise = h.0.rise in
+    let inside = h.0.within in
+    let many : length (take m.outer_formals fs) ≡ m.outer_formals = length_taken m.outer_formals fs (omega (arith, rise, inside)) in
+    let formals : own_formals x (take m.outer_formals fs) ≡ own_formals x fs = ap (λ (l : List Formal). drop x.outer_formals l) (take_less fs x.formals m.outer_formals (omega (arith, less_formals, many))) in
+    ap (λ (y : Slot). y.content) (slot_of_other x.number m.number slot act acts g.head (is_older ms x m.number b.1 among))
+    ∙ (content_there ms acts ks (take m.owned owned) (take m.outer_formals fs) m.number x end slot r b.1 h.1 ends' less
+    ∙ (ap (λ (l : List Formal). holder_in (drop x.owned (take end (take m.owned owned))) slot (formal_in l slot)) formals
+    ∙ ap (λ (l : List Owned). holder_in (drop x.owned l) slot (formal_in (own_formals x fs) slot)) (take_less owned end m.owned (omega (arith, within, long)))))
 
 pub holder_is : (code : Code) (e : Engine) (k : List T.Frame) (ops : List ℕ) (w : World) (d : List ℕ) (out slot i : ℕ) (x : Master) → Holds code (kept e) k ops w → slice_get e.masters.items i ≡ Some x → out_of d out ≡ x.number → slot < x.slots
-    → holder_at d out slot w ≡ whole_of (holder_in (drop x.owned (take (own_end (slice_get e.masters.items (i + 1)) (length e.owned.items)) e.owned.items)) slot (formal_content x.subject slot))
+    → holder_at d out slot w ≡ whole_of (holder_in (drop x.owned (take (own_end (slice_get e.masters.items (i + 1)) (length e.owned.items)) e.owned.items)) slot (formal_in (own_formals x e.formals.items) slot))
 unfolding opened_changes
 holder_is code e k ops w d out slot i x h found number less =
     ap (λ n. whole_of (slot_in n slot w.activations).content) number
-    ∙ ap (λ c. whole_of c) (content_there (reverse e.masters.items) w.activations w.ledger.masters e.owned.items (e.given_masters + 1) x _ slot h.masters h.below h.held (ends_own e.masters.items i (length e.owned.items) x found) less)
+    ∙ ap (λ c. whole_of c) (content_there (reverse e.masters.items) w.activations w.ledger.masters e.owned.items e.formals.items (e.given_masters + 1) x _ slot h.masters h.below h.held (ends_own e.masters.items i (length e.owned.items) x found) less)
 
 pub no_holder : (code : Code) (e : Engine) (k : List T.Frame) (ops : List ℕ) (w : World) (d : List ℕ) (out slot : ℕ) → Holds code (kept e) k ops w → IsNoVariable d out slot (reverse e.masters.items) → holder_at d out slot w ≡ None
 unfolding opened_changes
 no_holder code e k ops w d out slot h none = ap (λ (y : Slot). whole_of y.content) (no_variable_slot code (kept e) k ops w d out slot h none)
+
+-- so many formals from one on
+pub own_slice : (i j : ℕ) (fs : List Formal) → i ≤ j → take (j - i) (drop i fs) ≡ drop i (take j fs)
+own_slice i j fs less = sym (drop-take i (j - i) fs) ∙ ap (λ n. drop i (take n fs)) (omega (arith, less))

@@ -17,6 +17,7 @@ pub mod Declared
 pub mod Departures
 pub mod Links
 pub mod Bodies
+pub mod Passed
 pub mod Behind
 pub mod Finalized
 pub mod Tops

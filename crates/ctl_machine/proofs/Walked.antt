@@ -3,27 +3,28 @@ use Rattle.std.proofs.Common.{◌≡◌, ◌≢◌, ℕ, zero, suc, ◌-◌, ◌
 use Rattle.std.specs.Prelude.{slice_get, slice_index_or, nat_eq, if◌then◌else◌}
 use Rattle.std.proofs.lemmas.Option.{slice_get_within}
 use Rattle.ctl_meaning.specs.World as W
-use Rattle.ctl_meaning.specs.World.{Content}
+use Rattle.ctl_meaning.specs.World.{Content, Binds}
 use Rattle.ctl_machine.specs.declared.frame.Life.TheVariants as LifeOf
+use Rattle.ctl_machine.specs.declared.frame.Formal.{Formal}
 use Rattle.ctl_machine.specs.declared.frame.Owned.{Owned}
-use Rattle.ctl_machine.specs.Holders.{holder_in}
+use Rattle.ctl_machine.specs.Holders.{holder_in, formal_in}
 use Rattle.ctl_machine.proofs.Lists.{eq_same, eq_differs, get_index}
 use Rattle.ctl_machine.proofs.Laid.{length_taken}
-use Rattle.ctl_machine.proofs.Held.{holder_more}
+use Rattle.ctl_machine.proofs.Held.{holder_more, bound_more}
 use Rattle.ctl_machine.proofs.Created.{drop_more}
 
 -- what is read where no object is
 abbrev pub any_owned : Owned
 any_owned = record { number = 0; slot = 0; «record» = 0; master = 0; first = 0; cells = 0; life = LifeOf.Created }
 
-take_last : (os : List Owned) (i : ℕ) (o : Owned) → slice_get os i ≡ Some o → take (suc i) os ≡ take i os ++ o ∷ []
+pub take_last : {X : Type 0} (os : List X) (i : ℕ) (o : X) → slice_get os i ≡ Some o → take (suc i) os ≡ take i os ++ o ∷ []
 take_last [] i o e = absurd (cc)
-take_last (p ∷ os) zero o e = ap (λ (z : Owned). z ∷ []) (ap (λ (y : Option Owned). item_of y) e)
+take_last {X} (p ∷ os) zero o e = ap (λ (z : X). z ∷ []) (ap (λ (y : Option X). item_of y) e)
   where
-    item_of : Option Owned → Owned
+    item_of : Option X → X
     item_of None = p
     item_of (Some y) = y
-take_last (p ∷ os) (suc i) o e = ap (λ (l : List Owned). p ∷ l) (take_last os i o e)
+take_last {X} (p ∷ os) (suc i) o e = ap (λ (l : List X). p ∷ l) (take_last os i o e)
 
 -- one object further down
 holder_walk : (os : List Owned) (start at slot : ℕ) (o : Owned) (c : Content) → start ≤ at → slice_get os at ≡ Some o → holder_in (drop start (take (suc at) os)) slot c ≡ (if nat_eq o.slot slot then W.Holds o.number else holder_in (drop start (take at os)) slot c)
@@ -50,3 +51,30 @@ holder_passed os start at slot d c some within differs =
     sym (ap (λ n. holder_in (drop start (take n os)) slot c) (sym last)
     ∙ (holder_walk os start (at - 1) slot o c (omega (arith, some)) (get_index os (at - 1) d (omega (arith, some, within)))
     ∙ ap (λ b. if b then W.Holds o.number else holder_in (drop start (take (at - 1) os)) slot c) (eq_differs o.slot slot differs)))
+
+-- Formals ------------------------------------------------------------------------------------------------
+
+-- what is read where no formal is
+abbrev pub any_formal : Formal
+any_formal = record { slot = 0; object = 0 }
+
+-- one formal further down
+formal_walk : (fs : List Formal) (at slot : ℕ) (f : Formal) → slice_get fs at ≡ Some f → formal_in (take (suc at) fs) slot ≡ (if nat_eq f.slot slot then Binds f.object 0 [] else formal_in (take at fs) slot)
+formal_walk fs at slot f found = ap (λ (l : List Formal). formal_in l slot) (take_last fs at f found) ∙ bound_more (take at fs) f slot W.Nothing
+
+-- the newest of them has the slot, or has not
+pub formal_found : (fs : List Formal) (at slot : ℕ) (d : Formal) → 0 < at → at ≤ length fs → (slice_index_or fs (at - 1) d).slot ≡ slot → formal_in (take at fs) slot ≡ Binds (slice_index_or fs (at - 1) d).object 0 []
+formal_found fs at slot d some within same =
+    let f = slice_index_or fs (at - 1) d in
+    let last : suc (at - 1) ≡ at = omega (arith, some) in
+    ap (λ n. formal_in (take n fs) slot) (sym last)
+    ∙ (formal_walk fs (at - 1) slot f (get_index fs (at - 1) d (omega (arith, some, within)))
+    ∙ ap (λ b. if b then Binds f.object 0 [] else formal_in (take (at - 1) fs) slot) (eq_same f.slot slot same))
+
+pub formal_passed : (fs : List Formal) (at slot : ℕ) (d : Formal) → 0 < at → at ≤ length fs → (slice_index_or fs (at - 1) d).slot ≢ slot → formal_in (take (at - 1) fs) slot ≡ formal_in (take at fs) slot
+formal_passed fs at slot d some within differs =
+    let f = slice_index_or fs (at - 1) d in
+    let last : suc (at - 1) ≡ at = omega (arith, some) in
+    sym (ap (λ n. formal_in (take n fs) slot) (sym last)
+    ∙ (formal_walk fs (at - 1) slot f (get_index fs (at - 1) d (omega (arith, some, within)))
+    ∙ ap (λ b. if b then Binds f.object 0 [] else formal_in (take (at - 1) fs) slot) (eq_differs f.slot slot differs)))

@@ -1,8 +1,8 @@
--- What the slots of active masters hold: the objects that were declared there, and for the formal of an operation the object that it was
--- called for.
-use Rattle.std.specs.Prelude.{◌≡◌, ◌≢◌, ℕ, zero, suc, ◌-◌, ◌<◌, ◌≤◌, List, [], ◌∷◌, Option, Some, None, length, drop, take, slice_get, nat_eq, if◌then◌else◌}
+-- What the slots of active masters hold: the objects that were declared there, and the formals of bodies the objects that they stand for.
+use Rattle.std.specs.Prelude.{◌≡◌, ◌≢◌, ℕ, ◌-◌, ◌<◌, ◌≤◌, List, [], ◌∷◌, Option, Some, None, length, drop, take, slice_get, nat_eq, if◌then◌else◌}
 use Rattle.ctl_meaning.specs.World.{Content, Nothing, Holds, Binds, unset, Activation}
 use Rattle.ctl_meaning.specs.Lists.{item_or}
+use Rattle.ctl_machine.specs.declared.frame.Formal.{Formal}
 use Rattle.ctl_machine.specs.declared.frame.Master.{Master}
 use Rattle.ctl_machine.specs.declared.frame.Owned.{Owned}
 
@@ -11,21 +11,34 @@ abbrev pub holder_in : List Owned → ℕ → Content → Content
 holder_in [] slot before = before
 holder_in (o ∷ os) slot before = holder_in os slot (if nat_eq o.slot slot then Holds o.number else before)
 
--- what a slot holds when its master is entered: the first slot stands for the object that the body was called for, if there is one
-abbrev pub formal_content : ℕ → ℕ → Content
-formal_content zero slot = Nothing
-formal_content (suc n) zero = Binds (suc n) 0 []
-formal_content (suc n) (suc slot) = Nothing
+-- what a slot holds by these formals, the newest last, and what it held before them
+abbrev pub bound_in : List Formal → ℕ → Content → Content
+bound_in [] slot before = before
+bound_in (f ∷ fs) slot before = bound_in fs slot (if nat_eq f.slot slot then Binds f.object 0 [] else before)
 
--- what each slot of an active master holds, by the objects that the master owns
-abbrev pub IsHeld : Master → Activation → List Owned → Type 0
-IsHeld m a owned = (slot : ℕ) → slot < length a.slots → (item_or unset (slice_get a.slots slot)).content ≡ holder_in (drop m.owned owned) slot (formal_content m.subject slot)
+-- what a slot holds when its master is entered, by the formals of its body that stand for objects
+abbrev pub formal_in : List Formal → ℕ → Content
+formal_in fs slot = bound_in fs slot Nothing
+
+-- the formal of an operation has the first slot, and stands for the object that it was called for
+abbrev pub first_formal : ℕ → Formal
+first_formal n = record { slot = 0; object = n }
+
+-- the formals of a master, among those of all active ones
+abbrev pub own_formals : Master → List Formal → List Formal
+own_formals m formals = drop m.outer_formals (take m.formals formals)
+
+-- what each slot of an active master holds, by the objects that the master owns and by its formals
+pub record IsHeld (m : Master) (a : Activation) (owned : List Owned) (formals : List Formal) : Type 0 where
+  pub contents : (slot : ℕ) → slot < length a.slots → (item_or unset (slice_get a.slots slot)).content ≡ holder_in (drop m.owned owned) slot (formal_in (own_formals m formals) slot)
+  pub rise : m.outer_formals ≤ m.formals
+  pub within : m.formals ≤ length formals
 
 -- the newest master first
-abbrev pub AreHeld : List Master → List Activation → List Owned → Type 0
-AreHeld [] [] owned = Unit {0}
-AreHeld (m ∷ ms) (a ∷ acts) owned = IsHeld m a owned × AreHeld ms acts (take m.owned owned)
-AreHeld _ _ owned = ⊥
+abbrev pub AreHeld : List Master → List Activation → List Owned → List Formal → Type 0
+AreHeld [] [] owned formals = Unit {0}
+AreHeld (m ∷ ms) (a ∷ acts) owned formals = IsHeld m a owned formals × AreHeld ms acts (take m.owned owned) (take m.outer_formals formals)
+AreHeld _ _ owned formals = ⊥
 
 -- where the objects of a master end among all of them: where those of the next newer one begin, if there is one
 abbrev pub own_end : Option Master → ℕ → ℕ

@@ -14,6 +14,7 @@ pub mod Declaring
 pub mod Windows
 pub mod Parts
 pub mod Holders
+pub mod Passing
 pub mod Filling
 pub mod Saved
 pub mod Assigning

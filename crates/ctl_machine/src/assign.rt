@@ -180,7 +180,7 @@ impl Engine {
         ensures saved { OnOk result (vec_len self.new.saved + size ≤ vec_capacity self.new.saved) }
     {
         self.saved.reserve(size)?;
-        self.prepare(base, code.room)
+        self.prepare(base, code.room, 1)
     }
 
     /// Saves the value of an object for the target of an assignment, and lets the assignment wait; there is room for both.

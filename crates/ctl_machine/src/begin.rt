@@ -24,6 +24,7 @@ impl Engine {
     {
         let _ = place;
         let entry = code.entries[body];
+        let formals = self.count_formals();
         let master = Master {
             number: self.given_masters + 1,
             window: 0,
@@ -32,7 +33,8 @@ impl Engine {
             link: 0,
             depth: 1,
             owned: self.count_owned(),
-            subject: 0,
+            outer_formals: formals,
+            formals,
         };
         self.reserve()?;
         self.open(master, 0, After::Body, entry.place);

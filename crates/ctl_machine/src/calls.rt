@@ -12,10 +12,11 @@ ghost use Rattle.ctl_machine.specs.Departing.{CallsFinalize, Departed, begun};
 ghost use Rattle.ctl_machine.specs.Links.{AreLinked, first_end};
 ghost use Rattle.ctl_machine.specs.Assigning.{Called, Calls, HasRoom};
 ghost use Rattle.ctl_machine.specs.Masters.{Head, display_from, first_display, object_of};
-ghost use Rattle.ctl_machine.specs.Moves.{GoesOn, Makes};
+ghost use Rattle.ctl_machine.specs.Holders.{first_formal};
+ghost use Rattle.ctl_machine.specs.Moves.{GoesOn, Makes, OpensBody, cleared};
 
 use crate::engine::Engine;
-use crate::frame::{After, Completion, Frame, Life, Master};
+use crate::frame::{After, Completion, Formal, Frame, Life, Master};
 use crate::holders::owner_of;
 use crate::showing::whole;
 use ctl_code::code::{Code, Entry};
@@ -123,14 +124,21 @@ impl Engine {
         self.masters[count - 1].depth
     }
 
-    /// Makes room for a body whose window begins with this cell and has so many, and for what is shown of its call; nothing else changes.
-    pub(crate) fn prepare(&mut self, base: usize, room: usize) -> Result<(), AllocError>
+    /// Makes room for a body whose window begins with this cell and has so many, for what is shown of its call, and for so many formals;
+    /// nothing else changes.
+    pub(crate) fn prepare(
+        &mut self,
+        base: usize,
+        room: usize,
+        formals: usize,
+    ) -> Result<(), AllocError>
         ensures ok { OnOk result ((more : List ℕ) × GoesOn self.old self.new self.old.mode (self.old.cells.items ++ more)) }
         ensures err { OnErr result (GoesOn self.old self.new self.old.mode self.old.cells.items) }
         ensures cells { OnOk result (base + room ≤ length self.new.cells.items) }
         ensures masters { OnOk result (vec_len self.new.masters < vec_capacity self.new.masters) }
         ensures control { OnOk result (vec_len self.new.control + 2 ≤ vec_capacity self.new.control) }
         ensures events { OnOk result (vec_len self.new.events < vec_capacity self.new.events) }
+        ensures formals { OnOk result (vec_len self.new.formals + formals ≤ vec_capacity self.new.formals) }
         ensures number { self.new.given_masters ≡ self.old.given_masters }
         ensures objects { self.new.given_objects ≡ self.old.given_objects }
         ensures waiting { vec_len self.new.control ≡ vec_len self.old.control }
@@ -142,7 +150,22 @@ impl Engine {
         self.masters.reserve(1)?;
         self.control.reserve(2)?;
         self.events.reserve(1)?;
+        self.formals.reserve(formals)?;
         make_room(&mut self.cells, wanted)
+    }
+
+    /// Enters the master of an operation's body, whose first slot is the formal that stands for this object; there is room for it, and its
+    /// cells are cleared. Goes on at this place.
+    pub(crate) fn open_for(&mut self, master: Master, object: u64, place: usize)
+        requires masters { vec_len self.old.masters < vec_capacity self.old.masters }
+        requires control { vec_len self.old.control < vec_capacity self.old.control }
+        requires formals { vec_len self.old.formals < vec_capacity self.old.formals }
+        requires number { self.old.given_masters + 1 < 2 ^ 64 }
+        requires cells { master.base + master.slots ≤ length self.old.cells.items }
+        ensures { OpensBody self.old self.new master place (cleared master.base master.slots self.old.cells.items) (self.old.formals.items ++ first_formal object ∷ []) }
+    {
+        self.formals.push_reserved(Formal { slot: 0, object });
+        self.open(master, 0, After::Body, place);
     }
 
     /// Calls a body that the user wrote, with what is shown of the call, for the owned object at this place, whichever active master owns
@@ -165,6 +188,8 @@ impl Engine {
         let _ = code;
         let owner = owner_of(self.masters.as_slice(), at);
         let link = self.around_from(owner, entry.level);
+        let outer_formals = self.count_formals();
+        let object = self.owned[at].number;
         let master = Master {
             number: self.given_masters + 1,
             window: base,
@@ -173,10 +198,11 @@ impl Engine {
             link,
             depth: self.depth_at(link) + 1,
             owned: self.count_owned(),
-            subject: self.owned[at].number,
+            outer_formals,
+            formals: outer_formals + 1,
         };
         self.events.push_reserved(event);
-        self.open(master, 0, After::Body, entry.place);
+        self.open_for(master, object, entry.place);
     }
 
     /// Begins the finalization of an owned object, a layer of the master that this frame leaves (RM 7.6.1).
@@ -194,6 +220,7 @@ impl Engine {
         ensures cells { self.new.cells ≡ self.old.cells }
         ensures parts { self.new.parts ≡ self.old.parts }
         ensures saved { self.new.saved ≡ self.old.saved }
+        ensures formals { self.new.formals ≡ self.old.formals }
         ensures numbers { (self.new.given_masters ≡ self.old.given_masters) × (self.new.given_objects ≡ self.old.given_objects) }
         ensures events { self.new.events.items ≡ self.old.events.items ++ Finalize (Table.whole_part o.number) Scope ∷ [] }
         ensures picks { self.new.picks.items ≡ self.old.picks.items }
@@ -226,6 +253,7 @@ impl Engine {
     {
         let base = self.end_of_newest();
         let link = self.around(entry.level);
+        let outer_formals = self.count_formals();
         let master = Master {
             number: self.given_masters + 1,
             window: base,
@@ -234,11 +262,13 @@ impl Engine {
             link,
             depth: self.depth_at(link) + 1,
             owned: self.count_owned(),
-            subject: self.owned[at].number,
+            outer_formals,
+            formals: outer_formals + 1,
         };
-        self.prepare(base, code.room)?;
+        let object = self.owned[at].number;
+        self.prepare(base, code.room, 1)?;
         self.begin_layer(at, departure.frame(at));
-        self.open(master, 0, After::Body, entry.place);
+        self.open_for(master, object, entry.place);
         Ok(())
     }
 }

@@ -52,7 +52,7 @@ impl Engine {
             master.owned,
             self.own_end(place),
             slot,
-            master.subject,
+            &self.formals.as_slice()[master.outer_formals..master.formals],
         )
     }
 

@@ -115,8 +115,16 @@ pub struct Master {
     pub depth: usize,
     /// how many objects were owned when it was entered
     pub owned: usize,
-    /// the object that its body was called for, which has the first slot as a formal; 0 where there is none
-    pub subject: u64,
+    /// how many formals of older masters stood for objects when it was entered, and how many do with its own
+    pub outer_formals: usize,
+    pub formals: usize,
+}
+
+/// A formal that stands for an object: its slot in the master of the body, and the number of the object (RM 6.2).
+#[derive(Clone, Copy)]
+pub struct Formal {
+    pub slot: usize,
+    pub object: u64,
 }
 
 /// How far the life of an owned object has come. Between its creation and its finalization it is a layer of its master (RM 7.6.1).

@@ -3,33 +3,37 @@
 ghost use Rattle.std.specs.Prelude.{◌≡◌, ◌≤◌, ℕ, IfSome, IsNone, Some, drop, length, slice_get, take};
 ghost use Rattle.ctl_code.specs.Table as Table;
 ghost use Rattle.ctl_machine.specs.declared.frame.Owned.{Owned};
-ghost use Rattle.ctl_machine.specs.Holders.{IsOwnerOf, Lacks, formal_content, holder_in};
+ghost use Rattle.ctl_machine.specs.Holders.{IsOwnerOf, Lacks, formal_in, holder_in};
 ghost use Rattle.ctl_machine.specs.Masters.{RiseBelow};
 
-use crate::frame::{Master, Owned};
+use crate::frame::{Formal, Master, Owned};
 
-/// Answers the object that a body was called for, if this is the slot of its formal.
-fn formal(subject: u64, slot: usize) -> Option<u64>
-    ensures { result ≡ Table.whole_of (formal_content subject slot) }
+/// Answers the object that the formal of this slot stands for, if there is one among these.
+fn formal(formals: &[Formal], slot: usize) -> Option<u64>
+    ensures { result ≡ Table.whole_of (formal_in formals.now slot) }
 {
-    if slot == 0 && subject > 0 {
-        Some(subject)
-    } else {
-        None
+    let mut at = formals.len();
+    while at > 0 {
+        at -= 1;
+        let formal = formals[at];
+        if formal.slot == slot {
+            return Some(formal.object);
+        }
     }
+    None
 }
 
 /// Answers the number of the object that a slot of a master holds: of the newest object that was declared there, among those from one place
-/// up to another, which the master owns, or else of the object that its body was called for.
+/// up to another, which the master owns, or else the object that one of its formals stands for.
 pub(crate) fn holder(
     owned: &[Owned],
     start: usize,
     end: usize,
     slot: usize,
-    subject: u64,
+    formals: &[Formal],
 ) -> Option<u64>
     requires { end ≤ length owned.now }
-    ensures { result ≡ Table.whole_of (holder_in (drop start (take end owned.now)) slot (formal_content subject slot)) }
+    ensures { result ≡ Table.whole_of (holder_in (drop start (take end owned.now)) slot (formal_in formals.now slot)) }
 {
     let mut at = end;
     while at > start {
@@ -39,7 +43,7 @@ pub(crate) fn holder(
             return Some(object.number);
         }
     }
-    formal(subject, slot)
+    formal(formals, slot)
 }
 
 /// Finds the owned object of this number; the numbers rise.

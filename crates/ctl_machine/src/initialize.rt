@@ -117,7 +117,8 @@ impl Engine {
         let base = self.window() + code.kinds.height_at(place, 0);
         let link = self.around(entry.level);
         let depth = self.depth_at(link) + 1;
-        self.prepare(base, code.room)?;
+        let outer_formals = self.count_formals();
+        self.prepare(base, code.room, 1)?;
         replace_top(&mut self.control, Frame::Initializing { how, place });
         self.events
             .push_reserved(first_call(self.alloc, how, object.number));
@@ -129,9 +130,10 @@ impl Engine {
             link,
             depth,
             owned: self.count_owned(),
-            subject: object.number,
+            outer_formals,
+            formals: outer_formals + 1,
         };
-        self.open(master, 0, After::Body, entry.place);
+        self.open_for(master, object.number, entry.place);
         Ok(())
     }
 

@@ -1,50 +1,140 @@
-//! Procedures without parameters are called (RM 6.4).
+//! Procedures are called (RM 6.4).
 
-ghost use Rattle.std.specs.Prelude.{◌≡◌, ◌+◌, ◌^◌, ◌<◌, ◌∷◌, List, OnErr, OnOk, Some, reverse};
+ghost use Rattle.std.specs.Prelude.{◌≡◌, ◌+◌, ◌^◌, ◌<◌, ◌≤◌, ◌∷◌, ◌++◌, List, OnErr, OnOk, Some, if◌then◌else◌, length, reverse, slice_get, slice_set, vec_capacity, vec_len};
 ghost use Rattle.ctl_code.specs.declared.code.Instr.TheVariants as InstrOf;
+ghost use Rattle.ctl_code.specs.Kinds.{stack_at};
 ghost use Rattle.ctl_code.specs.Table as Table;
 ghost use Rattle.ctl_code.specs.States.{Giving, State};
 ghost use Rattle.ctl_code.specs.Valid.{IsValid};
 ghost use Rattle.ctl_machine.specs.declared.frame.Frame.{Frame};
 ghost use Rattle.ctl_machine.specs.declared.frame.Frame.TheVariants as FrameOf;
 ghost use Rattle.ctl_machine.specs.Moves.{Before, BeforeResuming, GoesOn, Makes, here_of};
+ghost use Rattle.ctl_machine.specs.Passing.{bound, formal_if, is_object_at, passed, with_actuals};
 ghost use Rattle.ctl_machine.specs.Shows as Shows;
+ghost use Rattle.ctl_machine.specs.Shows.{kept};
 
-use crate::engine::Engine;
-use crate::frame::{After, Ended, Frame, Master, Mode};
+use crate::engine::{Engine, clear};
+use crate::frame::{After, Ended, Formal, Frame, Master, Mode};
 use ctl_code::code::{Code, Way};
+use ctl_code::kinds::Kind;
+use ctl_program::types::Ty;
 use std::alloc::AllocError;
 
+/// Tells whether the operand under so many newer ones before the instruction at a place is the number of an object (RM 6.2).
+fn is_object(code: &Code, place: usize, depth: usize) -> bool
+    ensures { result ≡ is_object_at (stack_at code.now.kinds place) depth }
+{
+    matches!(
+        code.kinds.kind_at(place, depth),
+        Some(Kind::Operand(Ty::Record(_)))
+    )
+}
+
+/// Passes the actual in a cell to the formal of a slot: where it is the number of an object, the formal stands for it from then on, and the
+/// cell becomes 0 (RM 6.2); there is room for the formal.
+fn pass(cells: &mut [u64], formals: &mut Vec<Formal>, cell: usize, slot: usize, is_object: bool)
+    requires cell { cell < length cells.old }
+    requires room { vec_len formals.old < vec_capacity formals.old }
+    ensures cells { cells.new ≡ (if is_object then slice_set cells.old cell 0 else cells.old) }
+    ensures formals { formals.new.items ≡ formals.old.items ++ formal_if is_object slot (slice_get cells.old cell) }
+    ensures length { vec_len formals.new ≤ vec_len formals.old + 1 }
+    ensures capacity { vec_capacity formals.new ≡ vec_capacity formals.old }
+{
+    if is_object {
+        let object = cells[cell];
+        formals.push_reserved(Formal { slot, object });
+        cells[cell] = 0;
+    }
+}
+
+/// Lets the formals of a body stand for the objects that are passed to it: the cells from one on are the actuals of a call, so many, the
+/// first one first, and those that are numbers of objects become 0 (RM 6.2, 6.4.1).
+fn bind(
+    code: &Code,
+    place: usize,
+    cells: &mut [u64],
+    formals: &mut Vec<Formal>,
+    base: usize,
+    actuals: usize,
+)
+    requires cells { base + actuals ≤ length cells.old }
+    requires formals { vec_len formals.old + actuals ≤ vec_capacity formals.old }
+    requires stack { actuals ≤ length (stack_at code.now.kinds place) }
+    ensures cells { cells.new ≡ passed actuals (stack_at code.now.kinds place) base cells.old }
+    ensures formals { formals.new.items ≡ formals.old.items ++ bound actuals (stack_at code.now.kinds place) base cells.old }
+{
+    for slot in 0..actuals {
+        let object = is_object(code, place, actuals - 1 - slot);
+        pass(cells, formals, base + slot, slot, object);
+    }
+}
+
 impl Engine {
-    /// Calls the procedure whose body has this number: the body is entered inside the masters around it that this place sees, and the
-    /// call goes on at the next place (RM 6.4). Unchanged where memory is refused.
+    /// Begins the slots of a body, whose first cells are the actuals of its call: the formals stand for objects or have values, and all
+    /// other slots are cleared (RM 6.4.1).
+    fn begin_slots(&mut self, code: &Code, place: usize, base: usize, slots: usize, actuals: usize)
+        requires cells { base + slots ≤ length self.old.cells.items }
+        requires many { actuals ≤ slots }
+        requires formals { vec_len self.old.formals + actuals ≤ vec_capacity self.old.formals }
+        requires stack { actuals ≤ length (stack_at code.now.kinds place) }
+        ensures mode { self.new.mode ≡ self.old.mode }
+        ensures kept { kept self.new ≡ with_actuals (kept self.old) (stack_at code.now.kinds place) base slots actuals }
+        ensures events { self.new.events ≡ self.old.events }
+        ensures picks { self.new.picks ≡ self.old.picks }
+        ensures given { self.new.given_masters ≡ self.old.given_masters }
+        ensures masters { self.new.masters ≡ self.old.masters }
+        ensures control { self.new.control ≡ self.old.control }
+    {
+        bind(
+            code,
+            place,
+            &mut self.cells,
+            &mut self.formals,
+            base,
+            actuals,
+        );
+        clear(&mut self.cells, base + actuals, slots - actuals);
+    }
+
+    /// Calls the procedure whose body has this number, with so many of the newest operands as its actuals: the body is entered inside the
+    /// masters around it that this place sees, and the call goes on at the next place (RM 6.4). Unchanged where memory is refused.
     #[inline(never)]
-    pub(crate) fn call(&mut self, code: &Code, body: usize, place: usize) -> Result<(), AllocError>
+    pub(crate) fn call(
+        &mut self,
+        code: &Code,
+        body: usize,
+        actuals: usize,
+        place: usize,
+    ) -> Result<(), AllocError>
         ghost s: { State }
         requires valid { IsValid code.now }
-        requires before { Before code.now self.old place (InstrOf.Call body) s }
+        requires before { Before code.now self.old place (InstrOf.Call body actuals) s }
         requires place { place + 1 < 2 ^ 64 }
         requires number { self.old.given_masters + 1 < 2 ^ 64 }
-        ensures ok { OnOk result (Makes code.now self.old self.new (Table.by_instr code.now (Some (InstrOf.Call body)) s.operands (here_of place s))) }
+        ensures ok { OnOk result (Makes code.now self.old self.new (Table.by_instr code.now (Some (InstrOf.Call body actuals)) s.operands (here_of place s))) }
         ensures err { OnErr result (GoesOn self.old self.new self.old.mode self.old.cells.items) }
     {
         let entry = code.entries[body];
         let base = self.window() + code.kinds.height_at(place + 1, 0);
         let link = self.around(entry.level);
+        let depth = self.depth_at(link) + 1;
+        let outer_formals = self.count_formals();
+        self.prepare(base, code.room, actuals)?;
+        self.control
+            .push_reserved(Frame::Calling { place: place + 1 });
+        self.begin_slots(code, place, base, entry.slots, actuals);
         let master = Master {
             number: self.given_masters + 1,
             window: base,
             base,
             slots: entry.slots,
             link,
-            depth: self.depth_at(link) + 1,
+            depth,
             owned: self.count_owned(),
-            subject: 0,
+            outer_formals,
+            formals: self.count_formals(),
         };
-        self.prepare(base, code.room)?;
-        self.control
-            .push_reserved(Frame::Calling { place: place + 1 });
-        self.open(master, 0, After::Body, entry.place);
+        self.stand(master, 0, After::Body, entry.place);
         Ok(())
     }
 

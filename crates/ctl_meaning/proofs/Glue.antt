@@ -118,7 +118,7 @@ module _ (t : Tables) (ask other : Ask) (call spare : Caller) (default fallback 
 
     actual_rolled : (y : Actual-F ActualToo ExprToo NameToo OperandToo) → GoodActual (supply (roll-Actual (bare_actual y)))
     actual_rolled (Actual-F.ByValue e ty) = subst GoodActual (sym (actual_roll (Actual-F.ByValue e.0 ty))) (I.good_by_value t ask other call spare default fallback Rel closed calls allocates _ ty e.1)
-    actual_rolled (Actual-F.Part n) = subst GoodActual (sym (actual_roll (Actual-F.Part n.0))) (I.good_part t ask other call spare default fallback Rel closed calls allocates _ n.1)
+    actual_rolled (Actual-F.Part n ty) = subst GoodActual (sym (actual_roll (Actual-F.Part n.0 ty))) (I.good_part t ask other call spare default fallback Rel closed calls allocates _ ty n.1)
     actual_rolled (Actual-F.Copied n ty b) = subst GoodActual (sym (actual_roll (Actual-F.Copied n.0 ty b))) (I.good_copied t ask other call spare default fallback Rel closed calls allocates _ ty b n.1)
 
     operand_rolled : (y : Operand-F ActualToo ExprToo NameToo OperandToo) → GoodOperand (apply (roll-Operand (bare_operand y)))

@@ -366,9 +366,9 @@ module _ (t : Tables) (ask other : Ask) (call spare : Caller) (default fallback 
     unfolding actual_step
     good_by_value e ty h = (λ env. k_seq (h env) (λ v. k_done _), k_by_value (category_of ty))
 
-    pub good_part : (n : Naming) → GoodName n → GoodActual (actual_step (Actual-F.Part n))
+    pub good_part : (n : Naming) (ty : Ty) → GoodName n → GoodActual (actual_step (Actual-F.Part n ty))
     unfolding actual_step
-    good_part n h = (λ env. k_ticked (h Composite env), k_by_reference)
+    good_part n ty h = (λ env. k_ticked (h Composite env), k_by_reference)
 
     pub good_copied : (n : Naming) (ty : Ty) (b : CopyStart) → GoodName n → GoodActual (actual_step (Actual-F.Copied n ty b))
     unfolding actual_step

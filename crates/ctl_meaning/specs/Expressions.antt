@@ -158,7 +158,7 @@ name_step (Name-F.Given e steps) c k env = e k env >>= (λ v. done (Alone v)) >>
 -- an actual that is a name is an expression node too
 unfoldable pub actual_step : Actual-F Supplied Valued Naming Applied → Supplied
 actual_step (Actual-F.ByValue e ty) = record { source = λ k env. e k env >>= (λ v. done (Alone v)); taken = λ k. by_value (category_of ty) }
-actual_step (Actual-F.Part name) = record { source = λ k env. ticked (name Composite k env); taken = λ k. by_reference }
+actual_step (Actual-F.Part name ty) = record { source = λ k env. ticked (name Composite k env); taken = λ k. by_reference }
 actual_step (Actual-F.Copied name ty begins) = record { source = λ k env. ticked (name (category_of ty) k env); taken = λ k. by_copy (cells_of k.tables ty) begins }
 
 -- Whole trees -----------------------------------------------------------------------

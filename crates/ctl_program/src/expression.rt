@@ -68,8 +68,8 @@ pub enum Step {
 pub enum Actual {
     /// of mode `in`, and no record that a name denotes: the value, and its type
     ByValue(Expr, Ty),
-    /// a record that a name denotes, by reference
-    Part(Name),
+    /// a record that a name denotes, by reference, and its type
+    Part(Name, Ty),
     /// of mode `out` or `in out`, by copy: the variable, its type, and what the copy begins with
     Copied(Name, Ty, CopyStart),
 }

@@ -12,6 +12,9 @@ use Rattle.ctl_syntax.specs.declared.item.Association.{Association}
 use Rattle.ctl_syntax.specs.declared.item.Components.{Components}
 use Rattle.ctl_syntax.specs.declared.item.Definition.{Definition as Type_definition}
 use Rattle.ctl_syntax.specs.declared.item.Definition.TheVariants.{Extension, Record}
+use Rattle.ctl_syntax.specs.declared.item.Formal.{Formal}
+use Rattle.ctl_syntax.specs.declared.item.Mode.{Mode}
+use Rattle.ctl_syntax.specs.declared.item.Mode.TheVariants.{In}
 use Rattle.ctl_syntax.specs.declared.item.Objects.{Objects}
 use Rattle.ctl_syntax.specs.declared.item.Specification.{Specification}
 use Rattle.ctl_syntax.specs.declared.name.Name.{Name}
@@ -36,18 +39,35 @@ is_empty (x ∷ xs) = false
 abbrev pub is_operation : Specification Definition Use → Bool
 is_operation s = same_name s.name.identifier.text (codes "initialize") || (same_name s.name.identifier.text (codes "adjust") || same_name s.name.identifier.text (codes "finalize"))
 
--- a procedure without parameters (6.1)
-abbrev pub is_bare_procedure : Specification Definition Use → Bool
-is_bare_procedure s = is_empty s.formals && is_none s.result
-
-abbrev pub of_heading : Specification Definition Use → Support
-of_heading s = support_when (is_operation s || is_bare_procedure s)
-
 -- Integer or Boolean (3.5.3, 3.5.4)
 abbrev pub is_scalar : Denoted → Bool
 is_scalar (Library Integer) = true
 is_scalar (Library Boolean) = true
 is_scalar d = false
+
+-- a subprogram or type of the text, which is judged where it is declared
+abbrev pub is_of_text : Denoted → Bool
+is_of_text (Declared number level) = true
+is_of_text d = false
+
+abbrev pub is_read : Mode → Bool
+is_read In = true
+is_read m = false
+
+-- formals of a type of the text, or of a scalar one that are only read (6.1, 6.2)
+abbrev pub may_be_passed : Formal Definition Use → Bool
+may_be_passed f = is_of_text f.mark.first.denoted || (is_scalar f.mark.first.denoted && is_read f.mode)
+
+abbrev pub may_all_be_passed : List (Formal Definition Use) → Bool
+may_all_be_passed [] = true
+may_all_be_passed (f ∷ fs) = may_be_passed f && may_all_be_passed fs
+
+-- a procedure with such parameters, or with none (6.1)
+abbrev pub is_procedure : Specification Definition Use → Bool
+is_procedure s = is_none s.result && may_all_be_passed s.formals
+
+abbrev pub of_heading : Specification Definition Use → Support
+of_heading s = support_when (is_operation s || is_procedure s)
 
 -- True or False (3.5.3)
 abbrev pub is_truth : Denoted → Bool
@@ -98,11 +118,6 @@ is_output (Library PutLine) = true
 is_output (Library NewLine) = true
 is_output d = false
 
--- a subprogram of the text, which is judged where it is declared
-abbrev pub is_of_text : Denoted → Bool
-is_of_text (Declared number level) = true
-is_of_text d = false
-
--- and of such a subprogram without parameters (6.4)
+-- and of a subprogram of the text (6.4)
 abbrev pub of_call : Name Use (Expression Use) → Support
-of_call n = support_when (is_output n.first.denoted || (is_of_text n.first.denoted && is_empty n.suffixes))
+of_call n = support_when (is_output n.first.denoted || is_of_text n.first.denoted)

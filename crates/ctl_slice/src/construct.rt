@@ -6,7 +6,9 @@ ghost use Rattle.ctl_slice.specs.Constructs as spec;
 use ctl_grammar::spelling::is_same_name;
 use ctl_syntax::denoted::{Definition, Denoted, LibraryName, Use};
 use ctl_syntax::expression::Expression;
-use ctl_syntax::item::{Components, Definition as TypeDefinition, Objects, Specification};
+use ctl_syntax::item::{
+    Components, Definition as TypeDefinition, Formal, Mode, Objects, Specification,
+};
 use ctl_syntax::name::Name;
 
 /// Whether this version runs a construct.
@@ -37,12 +39,32 @@ fn is_operation(heading: &Specification<Definition, Use>) -> bool
         || is_same_name(name, b"finalize")
 }
 
-/// Judges a heading: operations of controlled types are run (RM 7.6), and procedures without parameters (RM 6.1).
+/// Tells whether a formal is run: of a type of the text, or of a scalar one that is only read (RM 6.1, 6.2).
+fn may_be_passed(formal: &Formal<Definition, Use>) -> bool
+    ensures { result ≡ spec.may_be_passed formal.now }
+{
+    let mark = formal.mark.first.denoted;
+    is_of_text(mark) || (is_scalar(mark) && matches!(formal.mode, Mode::In))
+}
+
+/// Tells whether all of these are.
+fn may_all_be_passed(formals: &[Formal<Definition, Use>]) -> bool
+    ensures { result ≡ spec.may_all_be_passed formals.now }
+{
+    for formal in formals {
+        if !may_be_passed(formal) {
+            return false;
+        }
+    }
+    true
+}
+
+/// Judges a heading: operations of controlled types are run (RM 7.6), and procedures with such formals (RM 6.1).
 pub(crate) fn of_heading(heading: &Specification<Definition, Use>) -> Support
     ensures { result ≡ spec.of_heading heading.now }
 {
-    let is_bare = heading.formals.as_slice().is_empty() && heading.result.is_none();
-    support_when(is_operation(heading) || is_bare)
+    let is_procedure = heading.result.is_none() && may_all_be_passed(heading.formals.as_slice());
+    support_when(is_operation(heading) || is_procedure)
 }
 
 /// Tells whether this is True or False (RM 3.5.3).
@@ -136,15 +158,20 @@ pub(crate) fn of_objects(objects: &Objects<Definition, Use>) -> Support
     }
 }
 
-/// Judges a call: those of Put, Put_Line and New_Line are run (RM A.10.7), and those of a subprogram of the text without actual parameters
-/// (RM 6.4).
+/// Tells whether this is declared in the text, where it is judged.
+fn is_of_text(denoted: Denoted) -> bool
+    ensures { result ≡ spec.is_of_text denoted }
+{
+    matches!(denoted, Denoted::Declared(..))
+}
+
+/// Judges a call: those of Put, Put_Line and New_Line are run (RM A.10.7), and those of a subprogram of the text (RM 6.4).
 pub(crate) fn of_call(name: &Name<Use, Expression<Use>>) -> Support
     ensures { result ≡ spec.of_call name.now }
 {
     let is_run = match name.first.denoted {
         Denoted::Library(LibraryName::Put | LibraryName::PutLine | LibraryName::NewLine) => true,
-        Denoted::Declared(..) => name.suffixes.as_slice().is_empty(),
-        _ => false,
+        denoted => is_of_text(denoted),
     };
     support_when(is_run)
 }

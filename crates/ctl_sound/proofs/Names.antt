@@ -126,9 +126,9 @@ module _ (k : Setting) (env : Frames) (tables : Tables) (sound : Sound k env tab
 
   pub handed_on_good : (h : Head) (steps : List Step) (u : ℕ) (t : Ty) → PartOf k env h steps t → Covers k (ty.Record u) t → Fits k env (record { passing = In; ty = ty.Record u }) (spec.handed_on h steps (ty.Record u))
   handed_on_good (head.Given x) [] u t w c = rule.by_value c (alone_good x t w)
-  handed_on_good (head.Given x) (y ∷ steps) u t w c = rule.by_reference c (name_good (head.Given x) (y ∷ steps) t w)
-  handed_on_good (head.At v) [] u t w c = rule.by_reference c (name_good (head.At v) [] t w)
-  handed_on_good (head.At v) (y ∷ steps) u t w c = rule.by_reference c (name_good (head.At v) (y ∷ steps) t w)
+  handed_on_good (head.Given x) (y ∷ steps) u t w c = rule.by_reference c c (name_good (head.Given x) (y ∷ steps) t w)
+  handed_on_good (head.At v) [] u t w c = rule.by_reference c c (name_good (head.At v) [] t w)
+  handed_on_good (head.At v) (y ∷ steps) u t w c = rule.by_reference c c (name_good (head.At v) (y ∷ steps) t w)
 
   -- Actuals that are written ------------------------------------------------------------------------
 
@@ -138,8 +138,8 @@ module _ (k : Setting) (env : Frames) (tables : Tables) (sound : Sound k env tab
   scalar_copied : (m : Mode) (x : Checked_name) (t s : Ty) → is_written (passing_of m) ≡ true → is_scalar t ≡ true → Covers k t s → Denotes k env x s → Fitting m t (actual.Copied x t (spec.start_of m t))
   scalar_copied m x t s w h c d = subst (λ z. Fitting m t (actual.Copied x t z)) (copy_is m t) (rule.by_copy w h (subst (λ u. Denotes k env x u) (covers_scalar k t s h c) d))
 
-  named_good : (m : Mode) (x : Checked_name) (t s : Ty) → is_written (passing_of m) ≡ true → Covers k t s → Denotes k env x s → Fitting m t (if is_record t then actual.Part x else actual.Copied x t (spec.start_of m t))
-  named_good m x (ty.Record u) s w c d = rule.by_reference c d
+  named_good : (m : Mode) (x : Checked_name) (t s : Ty) → is_written (passing_of m) ≡ true → Covers k t s → Denotes k env x s → Fitting m t (if is_record t then actual.Part x t else actual.Copied x t (spec.start_of m t))
+  named_good m x (ty.Record u) s w c d = rule.by_reference c c d
   named_good m x ty.Integer s w c d = scalar_copied m x ty.Integer s w refl c d
   named_good m x ty.Count s w c d = scalar_copied m x ty.Count s w refl c d
   named_good m x ty.Boolean s w c d = scalar_copied m x ty.Boolean s w refl c d

@@ -66,7 +66,7 @@ abbrev handed : ℕ → Formal
 handed t = record { passing = InOut; ty = ty.Record t }
 
 fits_ancestor : (k : Setting) (env : Frames) (u t : ℕ) (a : Actual) → Descends k u t → Fits k env (handed t) a → Fits k env (handed u) a
-fits_ancestor k env u t a d (rule.by_reference c x) = rule.by_reference (covers_on k u t _ d c) x
+fits_ancestor k env u t a d (rule.by_reference c v x) = rule.by_reference (covers_on k u t _ d c) v x
 fits_ancestor k env u t a d (rule.by_copy w h x) = absurd (cc)
 
 fit_each_ancestor : (k : Setting) (env : Frames) (u t : ℕ) (rest : List Formal) (as' : List Actual) → Descends k u t → FitEach k env (handed t ∷ rest) as' → FitEach k env (handed u ∷ rest) as'

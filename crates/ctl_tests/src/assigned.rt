@@ -11,25 +11,37 @@ use ctl_tree::request::Order;
 use std::alloc::Global;
 use std::test::Fail;
 
-/// Finds an object of a block with two, as the first operand.
-const fn locate_first(slot: usize) -> Instr {
-    Instr::Locate {
-        out: 0,
-        slot,
-        record: 0,
-        at: 4,
-    }
-}
+/// Finds the first object of a block with two, as the first operand.
+const FIRST_OBJECT: Instr = Instr::Locate {
+    out: 0,
+    slot: 0,
+    record: 0,
+    at: 4,
+};
 
-/// Finds an object of the block as the second operand.
-const fn locate_second(slot: usize) -> Instr {
-    Instr::Locate {
-        out: 0,
-        slot,
-        record: 0,
-        at: 5,
-    }
-}
+/// Finds the second object, as the first operand.
+const SECOND_OBJECT: Instr = Instr::Locate {
+    out: 0,
+    slot: 1,
+    record: 0,
+    at: 4,
+};
+
+/// Finds the first object, as the second operand.
+const FROM_FIRST: Instr = Instr::Locate {
+    out: 0,
+    slot: 0,
+    record: 0,
+    at: 5,
+};
+
+/// Finds the second object, as the second operand.
+const FROM_SECOND: Instr = Instr::Locate {
+    out: 0,
+    slot: 1,
+    record: 0,
+    at: 5,
+};
 
 /// Gives the first component of the object that is the first operand the value of the second one.
 const STORE: Instr = Instr::StorePart {
@@ -57,7 +69,7 @@ const FETCH: Instr = Instr::FetchPart {
     to: CELL_4,
 };
 
-/// The value of the component that is stored.
+/// Puts the value that is stored.
 const SET: Instr = Instr::Set {
     value: 7,
     ty: Ty::Integer,
@@ -86,14 +98,14 @@ const ASSIGNED: &[Line] = &[
     (ENTER, "m"),
     (Instr::Declare { slot: 0, record: 0 }, "m{"),
     (Instr::Declare { slot: 1, record: 0 }, "m{"),
-    (locate_first(1), "m{"),
+    (SECOND_OBJECT, "m{"),
     (SET, "m{r"),
     (STORE, "m{ri"),
-    (locate_first(0), "m{"),
-    (locate_second(0), "m{r"),
+    (FIRST_OBJECT, "m{"),
+    (FROM_FIRST, "m{r"),
     (ASSIGN, "m{rr"),
-    (locate_first(0), "m{"),
-    (locate_second(1), "m{r"),
+    (FIRST_OBJECT, "m{"),
+    (FROM_SECOND, "m{r"),
     (ASSIGN, "m{rr"),
     (FETCH, "m{"),
     (Instr::PutLine { text: 1, first: 4 }, "m{i"),

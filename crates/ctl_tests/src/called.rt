@@ -2,7 +2,7 @@
 
 use crate::lines::{CELL_2, CELL_3, CELL_4, FIRST, Line};
 use crate::machine::{FAREWELL, printed, valid_code_with_both};
-use ctl_code::code::{Cell, Instr, Way};
+use ctl_code::code::{Instr, Way};
 use ctl_machine::machine::Machine;
 use ctl_machine::outcome::Outcome;
 use ctl_program::operators::Direction;
@@ -12,14 +12,19 @@ use ctl_tree::request::Order;
 use std::alloc::Global;
 use std::test::Fail;
 
-/// Puts a bound of the loop, as an operand.
-const fn bound(value: u64, to: Cell) -> Instr {
-    Instr::Set {
-        value,
-        ty: Ty::Integer,
-        to,
-    }
-}
+/// Puts the low bound of the loop, as an operand.
+const LOW: Instr = Instr::Set {
+    value: 1,
+    ty: Ty::Integer,
+    to: CELL_2,
+};
+
+/// Puts its high bound.
+const HIGH: Instr = Instr::Set {
+    value: 2,
+    ty: Ty::Integer,
+    to: CELL_3,
+};
 
 /// The parameter of the loop, as an operand over its bounds.
 const PARAMETER: Instr = Instr::Move {
@@ -46,6 +51,18 @@ const NEXT: Instr = Instr::Next {
     length: 4,
 };
 
+/// Calls the first procedure, without actuals.
+const CALL_FIRST: Instr = Instr::Call {
+    procedure: 1,
+    actuals: 0,
+};
+
+/// Calls the second one.
+const CALL_SECOND: Instr = Instr::Call {
+    procedure: 2,
+    actuals: 0,
+};
+
 /// Where the first procedure stands, which prints a line.
 const FIRST_BODY: usize = 12;
 
@@ -58,14 +75,14 @@ const RAISING_BODY: usize = 16;
 /// A loop whose turns print the parameter, and call two procedures.
 const CALLS: &[Line] = &[
     (Instr::Start(0), ""),
-    (bound(1, CELL_2), "m"),
-    (bound(2, CELL_3), "mi"),
+    (LOW, "m"),
+    (HIGH, "mi"),
     (FOR, "mii"),
     (Instr::Abandon(5), "mii"),
     (PARAMETER, "mii"),
     (Instr::Put { text: 1, first: 4 }, "miii"),
-    (Instr::Call(1), "mii"),
-    (Instr::Call(2), "mii"),
+    (CALL_FIRST, "mii"),
+    (CALL_SECOND, "mii"),
     (NEXT, "mii"),
     (Instr::NewLine, "m"),
     (Instr::Leave, "m"),

@@ -229,7 +229,7 @@ start_of m ty.Handle = copy.Actual
 start_of m t = copy.Beginning
 
 abbrev pub by_name : Mode → Place → Actual
-by_name m p = if is_record p.ty then actual.Part (name_of p) else actual.Copied (name_of p) p.ty (start_of m p.ty)
+by_name m p = if is_record p.ty then actual.Part (name_of p) p.ty else actual.Copied (name_of p) p.ty (start_of m p.ty)
 
 -- a name that is written to denotes a variable (6.4.1)
 abbrev pub as_variable : {A : Type 0} → Span → Mutability → A → Judgement A
@@ -255,7 +255,7 @@ by_value t = known (actual.ByValue t.value t.ty)
 -- a record that a name denotes is passed by reference; one that no object holds is a value (6.2)
 abbrev pub handed_on : Head → List Step → Ty → Actual
 handed_on (Given x) [] t = actual.ByValue x t
-handed_on h steps t = actual.Part (name_at h steps)
+handed_on h steps t = actual.Part (name_at h steps) t
 
 abbrev pub record_found : Span → Ty → Found → Judgement Actual
 record_found place t (Part p) = if same t p.ty then noting t (handed_on p.head p.steps p.ty) else wrong rule.Type place

@@ -47,7 +47,7 @@ fn by_name(alloc: Global, mode: Mode, part: Place) -> Result<Actual, AllocError>
     let ty = part.ty;
     let name = name_at(alloc, part.head, part.steps)?;
     match ty {
-        Ty::Record(_) => Ok(Actual::Part(name)),
+        Ty::Record(_) => Ok(Actual::Part(name, ty)),
         _ => Ok(Actual::Copied(name, ty, start_of(mode, ty))),
     }
 }
@@ -100,7 +100,7 @@ pub fn handed_on(
 {
     match head {
         Head::Given(value) if steps.is_empty() => Ok(Actual::ByValue(value, ty)),
-        head => Ok(Actual::Part(name_at(alloc, head, steps)?)),
+        head => Ok(Actual::Part(name_at(alloc, head, steps)?, ty)),
     }
 }
 

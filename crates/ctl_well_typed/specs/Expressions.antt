@@ -61,7 +61,7 @@ mutual
   -- an actual for a formal (6.4.1): a value, a record that a name denotes, or a variable that is copied
   pub data Fits (k : Setting) (env : Frames) : Formal → Actual → Type 0 where
     by_value : {x : Expr} {s t : Ty} → Covers k t s → Typed k env x s → Fits k env (record { passing = In; ty = t }) (actual.ByValue x t)
-    by_reference : {x : Name} {p : Passing} {u : ℕ} {s : Ty} → Covers k (ty.Record u) s → Denotes k env x s → Fits k env (record { passing = p; ty = ty.Record u }) (actual.Part x)
+    by_reference : {x : Name} {p : Passing} {u : ℕ} {s t : Ty} → Covers k (ty.Record u) s → Covers k t s → Denotes k env x s → Fits k env (record { passing = p; ty = ty.Record u }) (actual.Part x t)
     by_copy : {x : Name} {p : Passing} {t : Ty} → is_written p ≡ true → is_scalar t ≡ true → Denotes k env x t → Fits k env (record { passing = p; ty = t }) (actual.Copied x t (copy_of p t))
 
   -- as many actuals as formals, each for its own

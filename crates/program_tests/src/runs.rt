@@ -140,8 +140,7 @@ const RAISED_AGAIN_TRACE: &str =
 const NOT_HANDLED: &[u8] =
     b"with Ada.Text_IO; use Ada.Text_IO; procedure Main is Zero : Integer := 0; begin loop begin exit; exception when others => Put_Line (\"no\"); end; end loop; begin declare N : Integer := 1 / Zero; begin Put_Line (\"no\"); exception when others => Put_Line (\"no\"); end; exception when Constraint_Error => Put_Line (\"outside\"); end; begin Zero := Zero / Zero; exception when Constraint_Error => return; end; Put_Line (\"no\"); exception when others => Put_Line (\"no\"); end Main;";
 
-const NOT_HANDLED_TRACE: &str =
-    "print outside\nnewline\nend done\n";
+const NOT_HANDLED_TRACE: &str = "print outside\nnewline\nend done\n";
 
 /// Finalizations that fail at the end of a block are Program_Error in place of the exit statement, and that is handled (RM 7.6.1, 11.4).
 const FAILURE_HANDLED: &[u8] =
@@ -149,6 +148,14 @@ const FAILURE_HANDLED: &[u8] =
 
 const FAILURE_HANDLED_TRACE: &str =
     "live 1 m3\nlive 2 m3\nfinalize 2 scope\nprint f\nnewline\nfinalize 1 scope\nprint f\nnewline\nprint program error\nnewline\nprint out\nnewline\nend done\n";
+
+/// Procedures with parameters: records by reference, scalar values as copies; actuals are evaluated from the left, and one that raises leaves
+/// the call. An operation that is called by name shows no event (RM 6.2, 6.4, 7.6).
+const PARAMETERS: &[u8] =
+    b"with Ada.Finalization; use Ada.Finalization; with Ada.Text_IO; use Ada.Text_IO; procedure Main is type A is new Limited_Controlled with record N : Integer := 0; end record; overriding procedure Finalize (X : in out A); Sum : Integer := 0; procedure Finalize (X : in out A) is begin Put_Line (\"f\" & Integer'Image (X.N)); end Finalize; procedure Set (X : in out A; N : Integer; Twice : Boolean) is begin X.N := N; if Twice then Set (X, 2 * N, False); end if; end Set; procedure Show (X : A; Y : in A) is V : A; begin V.N := X.N * 10 + Y.N; Put_Line (Integer'Image (V.N)); end Show; procedure Down (N : Integer) is begin Sum := Sum + N; if N > 0 then Down (N - 1); end if; end Down; V, W : A; begin Set (V, 3, True); Set (W, Sum + 1, False); Show (V, W); Down (4); Put_Line (Integer'Image (Sum)); begin Set (V, 1 / (Sum - 10), False); exception when Constraint_Error => Put_Line (\"zero\"); end; Finalize (W); end Main;";
+
+const PARAMETERS_TRACE: &str =
+    "live 2 m1\nlive 3 m1\nlive 4 m5\nprint  61\nnewline\nfinalize 4 scope\nprint f 61\nnewline\nprint  10\nnewline\nprint zero\nnewline\nprint f 1\nnewline\nfinalize 3 scope\nprint f 1\nnewline\nfinalize 2 scope\nprint f 6\nnewline\nend done\n";
 
 /// A type of which there is no object.
 const TYPE_ALONE: &[u8] =
@@ -187,6 +194,7 @@ fn traces_of_runs(rt: HostRuntime) -> Result<(), Fail> {
         (RAISED_AGAIN, 1000, RAISED_AGAIN_TRACE),
         (NOT_HANDLED, 1000, NOT_HANDLED_TRACE),
         (FAILURE_HANDLED, 1000, FAILURE_HANDLED_TRACE),
+        (PARAMETERS, 1000, PARAMETERS_TRACE),
         (TYPE_ALONE, 1000, "end done\n"),
         (TURNS, 100, "end limit\n"),
     ] {

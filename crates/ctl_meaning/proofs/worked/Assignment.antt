@@ -13,7 +13,7 @@ the_program =
     []
     (prints_a ∷
     prints_f ∷
-    procedure 0 (master 0 (silent ∷ silent ∷ silent ∷ silent ∷ silent ∷ []) (block 2 (object 0 (Record 4) None ∷ object 1 (Record 4) None ∷ []) (assign (name 2 0 (Component 4 1 ∷ [])) (constant 1) ∷ assign (name 2 1 (Component 4 1 ∷ [])) (constant 2) ∷ assign_record (variable 2 0) 4 (by_name (variable 2 0)) ∷ assign_record (variable 2 0) 4 (by_name (variable 2 1)) ∷ []) [] ∷ []) []) ∷ [])
+    procedure 0 (master 0 (silent ∷ silent ∷ silent ∷ silent ∷ silent ∷ []) (block 2 (object 0 (Record 4) None ∷ object 1 (Record 4) None ∷ []) (assign (name 2 0 (Component 4 1 ∷ [])) (constant 1) ∷ assign (name 2 1 (Component 4 1 ∷ [])) (constant 2) ∷ assign_record (variable 2 0) 4 (by_name (variable 2 0) (Record 4)) ∷ assign_record (variable 2 0) 4 (by_name (variable 2 1) (Record 4)) ∷ []) [] ∷ []) []) ∷ [])
     2
 
 computes : played the_program newest 300 ≡ (live (part 1 []) (of_master 2) ∷ live (part 2 []) (of_master 2) ∷ finalized (part 1 []) assigned ∷ print (codes "F" ++ image 1) ∷ newline ∷ adjusted (part 1 []) ∷ print (codes "A" ++ image 2) ∷ newline ∷ finalized (part 2 []) scope ∷ print (codes "F" ++ image 2) ∷ newline ∷ finalized (part 1 []) scope ∷ print (codes "F" ++ image 2) ∷ newline ∷ [], [], Some Done)

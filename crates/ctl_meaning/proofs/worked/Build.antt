@@ -176,8 +176,8 @@ discriminant_of n i = expr (Expr-F.Discriminant n.tree i) (Expr-F.Discriminant n
 abbrev pub by_value : Expression → Ty → ActualOf
 by_value e ty = an_actual (Actual-F.ByValue e.tree ty) (Actual-F.ByValue e.act ty) (ap (λ x. Actual-F.ByValue x ty) e.same)
 
-abbrev pub by_name : NameOf → ActualOf
-by_name n = an_actual (Actual-F.Part n.tree) (Actual-F.Part n.act) (ap Actual-F.Part n.same)
+abbrev pub by_name : NameOf → Ty → ActualOf
+by_name n ty = an_actual (Actual-F.Part n.tree ty) (Actual-F.Part n.act ty) (ap (λ x. Actual-F.Part x ty) n.same)
 
 abbrev pub by_copy : NameOf → Ty → CopyStart → ActualOf
 by_copy n ty begins = an_actual (Actual-F.Copied n.tree ty begins) (Actual-F.Copied n.act ty begins) (ap (λ x. Actual-F.Copied x ty begins) n.same)

@@ -17,7 +17,7 @@ the_program =
     prints_f ∷
     procedure 2 (master 1 [] (put_line (text (codes "R") ∷ integer_image (read (name 3 0 (Component 5 1 ∷ [])) Integer) ∷ integer_image (read (name 3 0 (Component 5 2 ∷ [])) Integer) ∷ []) ∷ []) []) ∷
     procedure 2 (master 1 [] (assign (name 3 0 (Component 5 2 ∷ [])) (chain (read (name 3 0 (Component 5 2 ∷ [])) Integer) (operand Add Integer (constant 1)) []) ∷ []) []) ∷
-    procedure 0 (master 0 (silent ∷ silent ∷ silent ∷ silent ∷ silent ∷ []) (block 3 (silent ∷ silent ∷ silent ∷ collections (0 ∷ []) ∷ silent ∷ silent ∷ silent ∷ object 1 (Access 0) None ∷ object 2 (Access 0) None ∷ []) (assign (variable 2 1) (new 0 (Record 4) None None) ∷ assign (name 2 1 (Dereference ∷ Component 4 1 ∷ [])) (constant 1) ∷ assign (variable 2 2) (new 0 (Record 5) None None) ∷ assign (name 2 2 (Dereference ∷ Component 4 1 ∷ [])) (constant 2) ∷ call 3 (by_name (name 2 2 (Dereference ∷ Narrow 5 ∷ [])) ∷ []) ∷ block 0 [] (call 3 (by_name (name 2 1 (Dereference ∷ Narrow 5 ∷ [])) ∷ []) ∷ []) (when 0 (put_text (codes "CE") ∷ []) ∷ []) ∷ free 0 (variable 2 1) ∷ []) [] ∷ []) []) ∷ [])
+    procedure 0 (master 0 (silent ∷ silent ∷ silent ∷ silent ∷ silent ∷ []) (block 3 (silent ∷ silent ∷ silent ∷ collections (0 ∷ []) ∷ silent ∷ silent ∷ silent ∷ object 1 (Access 0) None ∷ object 2 (Access 0) None ∷ []) (assign (variable 2 1) (new 0 (Record 4) None None) ∷ assign (name 2 1 (Dereference ∷ Component 4 1 ∷ [])) (constant 1) ∷ assign (variable 2 2) (new 0 (Record 5) None None) ∷ assign (name 2 2 (Dereference ∷ Component 4 1 ∷ [])) (constant 2) ∷ call 3 (by_name (name 2 2 (Dereference ∷ Narrow 5 ∷ [])) (Record 5) ∷ []) ∷ block 0 [] (call 3 (by_name (name 2 1 (Dereference ∷ Narrow 5 ∷ [])) (Record 5) ∷ []) ∷ []) (when 0 (put_text (codes "CE") ∷ []) ∷ []) ∷ free 0 (variable 2 1) ∷ []) [] ∷ []) []) ∷ [])
     4
 
 computes : played the_program newest 300 ≡ (live (part 3 []) (of_collection 1) ∷ live (part 4 []) (of_collection 1) ∷ print (codes "CE") ∷ newline ∷ finalized (part 3 []) freed ∷ print (codes "F" ++ image 1) ∷ newline ∷ finalized (part 4 []) collected ∷ print ((codes "R" ++ image 2) ++ image 1) ∷ newline ∷ [], [], Some Done)

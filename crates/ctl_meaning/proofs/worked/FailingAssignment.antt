@@ -16,7 +16,7 @@ the_program =
     (prints_a ∷
     prints_f ∷
     procedure 2 (master 1 [] (put_line (text (codes "R") ∷ integer_image (read (name 3 0 (Component 5 1 ∷ [])) Integer) ∷ []) ∷ choose (arm (chain (read (name 3 0 (Component 5 1 ∷ [])) Integer) (operand Equal Boolean (constant 1)) []) (raise 0 ∷ []) ∷ []) [] ∷ []) []) ∷
-    procedure 0 (master 0 (silent ∷ silent ∷ silent ∷ silent ∷ silent ∷ []) (block 2 (silent ∷ silent ∷ silent ∷ object 0 (Record 5) None ∷ object 1 (Record 5) None ∷ []) (assign (name 2 0 (Component 5 1 ∷ [])) (constant 1) ∷ assign (name 2 1 (Component 5 1 ∷ [])) (constant 2) ∷ assign_record (variable 2 0) 5 (by_name (variable 2 1)) ∷ []) (when 1 (put_text (codes "PE") ∷ assign (name 2 0 (Component 5 1 ∷ [])) (constant 3) ∷ []) ∷ []) ∷ []) []) ∷ [])
+    procedure 0 (master 0 (silent ∷ silent ∷ silent ∷ silent ∷ silent ∷ []) (block 2 (silent ∷ silent ∷ silent ∷ object 0 (Record 5) None ∷ object 1 (Record 5) None ∷ []) (assign (name 2 0 (Component 5 1 ∷ [])) (constant 1) ∷ assign (name 2 1 (Component 5 1 ∷ [])) (constant 2) ∷ assign_record (variable 2 0) 5 (by_name (variable 2 1) (Record 5)) ∷ []) (when 1 (put_text (codes "PE") ∷ assign (name 2 0 (Component 5 1 ∷ [])) (constant 3) ∷ []) ∷ []) ∷ []) []) ∷ [])
     3
 
 computes : played the_program newest 300 ≡ (live (part 1 []) (of_master 2) ∷ live (part 2 []) (of_master 2) ∷ finalized (part 1 []) assigned ∷ print (codes "R" ++ image 1) ∷ newline ∷ print (codes "PE") ∷ newline ∷ finalized (part 2 []) scope ∷ print (codes "R" ++ image 2) ∷ newline ∷ finalized (part 1 []) scope ∷ print (codes "R" ++ image 3) ∷ newline ∷ [], [], Some Done)

@@ -14,8 +14,8 @@ the_program =
     []
     (function 1 (master 1 (object 0 (Record 5) None ∷ []) (assign (name 2 0 (Component 5 1 ∷ [])) (constant 3) ∷ assign (name 2 0 (Component 5 2 ∷ Component 4 1 ∷ [])) (constant 7) ∷ return (Some (value 2 0 (Record 5))) ∷ []) []) ∷
     procedure 1 (master 1 [] (put_line (integer_image (read (name 2 0 (Component 4 1 ∷ [])) Integer) ∷ []) ∷ []) []) ∷
-    procedure 1 (master 1 [] (call 1 (by_name (variable 2 0) ∷ []) ∷ []) []) ∷
-    procedure 1 (master 1 [] (call 2 (by_name (name 2 0 (Component 5 2 ∷ [])) ∷ []) ∷ []) []) ∷
+    procedure 1 (master 1 [] (call 1 (by_name (variable 2 0) (Record 4) ∷ []) ∷ []) []) ∷
+    procedure 1 (master 1 [] (call 2 (by_name (name 2 0 (Component 5 2 ∷ [])) (Record 4) ∷ []) ∷ []) []) ∷
     procedure 0 (master 0 (silent ∷ silent ∷ silent ∷ silent ∷ silent ∷ []) (call 3 (by_value (call_of 0 [] (Record 4)) (Record 4) ∷ []) ∷ []) []) ∷ [])
     4
 

@@ -17,7 +17,7 @@ the_program =
     function 2 (master 1 [] (choose (arm (chain (value 3 0 Integer) (operand Less Boolean (constant 2)) []) (return (Some (constant 1)) ∷ []) ∷ []) [] ∷ return (Some (chain (value 3 0 Integer) (operand Multiply Integer (call_of 2 (by_value (chain (value 3 0 Integer) (operand Subtract Integer (constant 1)) []) Integer ∷ []) Integer)) [])) ∷ []) []) ∷
     function 2 (master 1 (object 0 (Record 4) None ∷ []) (assign (name 3 0 (Component 4 1 ∷ [])) (constant 7) ∷ return (Some (read (name 3 0 (Component 4 1 ∷ [])) Integer)) ∷ []) []) ∷
     procedure 2 (master 1 [] (assign (name 3 0 (Component 4 1 ∷ [])) (constant 5) ∷ []) []) ∷
-    procedure 0 (master 0 (silent ∷ silent ∷ silent ∷ silent ∷ silent ∷ []) (block 1 (silent ∷ silent ∷ silent ∷ object 0 (Record 4) None ∷ []) (put_line (text (codes "f") ∷ integer_image (call_of 2 (by_value (constant 13) Integer ∷ []) Integer) ∷ []) ∷ put_line (text (codes "g") ∷ integer_image (call_of 3 [] Integer) ∷ []) ∷ call 4 (by_name (variable 2 0) ∷ []) ∷ []) [] ∷ []) []) ∷
+    procedure 0 (master 0 (silent ∷ silent ∷ silent ∷ silent ∷ silent ∷ []) (block 1 (silent ∷ silent ∷ silent ∷ object 0 (Record 4) None ∷ []) (put_line (text (codes "f") ∷ integer_image (call_of 2 (by_value (constant 13) Integer ∷ []) Integer) ∷ []) ∷ put_line (text (codes "g") ∷ integer_image (call_of 3 [] Integer) ∷ []) ∷ call 4 (by_name (variable 2 0) (Record 4) ∷ []) ∷ []) [] ∷ []) []) ∷
     [])
     5
 

@@ -8,27 +8,34 @@ use Rattle.ctl_machine.specs.declared.frame.Frame.{Frame}
 use Rattle.ctl_machine.specs.declared.frame.Frame.TheVariants.{Calling}
 use Rattle.ctl_machine.specs.declared.frame.Master.{Master}
 use Rattle.ctl_machine.specs.Masters.{first_window, heads_of}
-use Rattle.ctl_machine.specs.Moves.{cleared}
-use Rattle.ctl_machine.specs.Shows.{Kept, kept, with_master}
+use Rattle.ctl_code.specs.Kinds.{stack_at}
+use Rattle.ctl_machine.specs.Passing.{with_actuals}
+use Rattle.ctl_machine.specs.Shows.{Kept, kept, with_cells, with_master}
 use Rattle.ctl_machine.proofs.Links.{got}
-use Rattle.ctl_machine.proofs.ProcedureCalled.{call_makes, linked_before}
+use Rattle.ctl_machine.proofs.ProcedureCalled.{call_makes, has_actuals, has_slots, linked_before}
 use Rattle.ctl_machine.proofs.engine.Engine.call.Goals as goal
 
 pub around-link-requires : goal.around-link-requires
-around-link-requires g c = linked_before c.args.code.now c.args.self.now c.args.place c.args.body g.s c.requires.1.0
+around-link-requires g c = linked_before c.args.code.now c.args.self.now c.args.place c.args.body c.args.actuals g.s c.requires.1.0
 
-pub depth_at-requires : goal.depth_at-requires
-depth_at-requires g c = (linked_before c.args.code.now c.args.self.now c.args.place c.args.body g.s c.requires.1.0, c.around-link.ensures.bound)
+pub depth_at-depth-requires : goal.depth_at-depth-requires
+depth_at-depth-requires g c = (linked_before c.args.code.now c.args.self.now c.args.place c.args.body c.args.actuals g.s c.requires.1.0, c.around-link.ensures.bound)
 
-pub open-requires-clause-cells : goal.open-requires-clause-cells
-open-requires-clause-cells g c =
+pub begin_slots-requires : goal.begin_slots-requires
+begin_slots-requires g c =
     let code = c.args.code.now in
+    let old = c.args.self.now in
     let entry = c.index-entry.result.now in
     let scope = c.requires.1.0.fine.0 in
     let found : slice_get code.entries.items c.args.body ≡ Some entry = got code.entries.items c.args.body entry (slice_get_within code.entries.items c.args.body scope.0 scope.1) c.index-entry.ensures in
     let fits : 0 + entry.slots ≤ code.room = c.requires.0.room entry.place (Body entry.level entry.slots ∷ []) (c.requires.0.entries c.args.body entry found) in
     let room = c.in_ok-prepare.ensures.cells in
-    omega (arith, fits, room)
+    record {
+      cells = omega (arith, fits, room);
+      many = has_slots code old c.args.place c.args.body c.args.actuals g.s entry c.requires.1.0 found;
+      formals = c.in_ok-prepare.ensures.formals;
+      stack = has_actuals code old c.args.place c.args.body c.args.actuals g.s c.requires.1.0;
+    }
 
 pub returns-clause-ok : goal.returns-clause-ok
 returns-clause-ok g c =
@@ -36,6 +43,7 @@ returns-clause-ok g c =
     let old = c.args.self.now in
     let ready = c.prepare.new.self in
     let entry = c.index-entry.result.now in
+    let count = c.args.actuals in
     let scope = c.requires.1.0.fine.0 in
     let found : slice_get code.entries.items c.args.body ≡ Some entry = got code.entries.items c.args.body entry (slice_get_within code.entries.items c.args.body scope.0 scope.1) c.index-entry.ensures in
     let more = c.in_ok-prepare.ensures.ok.0 in
@@ -43,32 +51,36 @@ returns-clause-ok g c =
     let row = old.cells.items ++ more in
     let frame = Calling (c.args.place + 1) in
     let hs = heads_of g.s.world.activations in
-    let b : Master = record { number = old.given_masters + 1; window = c.window.result + c.height_at.result; base = c.window.result + c.height_at.result; slots = entry.slots; link = c.around-link.result; depth = c.depth_at.result + 1; owned = c.count_owned.result; subject = 0 } in
+    let kinds = stack_at code.kinds c.args.place in
+    let base = c.window.result + c.height_at.result in
+    let b : Master = record { number = c.begin_slots.new.self.given_masters + 1; window = base; base = base; slots = entry.slots; link = c.around-link.result; depth = c.depth_at-depth.result + 1; owned = c.count_owned.result; outer_formals = c.count_formals-outer_formals.result; formals = c.count_formals.result } in
     let control : reverse c.push_reserved.new.self.items ≡ frame ∷ reverse old.control.items =
     ap (λ (l : List Frame). reverse l) c.push_reserved.ensures.items
     ∙ (reverse-append ready.control.items (frame ∷ [])
     ∙ ap (λ (e : Kept). frame ∷ e.control) goes.kept) in
+    let begun : kept c.begin_slots.new.self ≡ with_actuals (record (with_cells (kept old) row) { control = frame ∷ reverse old.control.items }) kinds base entry.slots count =
+    c.begin_slots.ensures.kept
+    ∙ (ap (λ (l : List Frame). with_actuals (record (kept ready) { control = l }) kinds base entry.slots count) control
+    ∙ ap (λ (e : Kept). with_actuals (record e { control = frame ∷ reverse old.control.items }) kinds base entry.slots count) goes.kept) in
     let cells : ready.cells.items ≡ row = ap (λ (e : Kept). e.cells) goes.kept in
-    call_makes code old c.open.new.self c.args.place c.args.body g.s entry b more c.requires.0 c.requires.1.0 found
+    call_makes code old c.stand.new.self c.args.place c.args.body count g.s entry b more c.requires.0 c.requires.1.0 found
     (record {
-      number = refl;
+      number = ap (λ n. n + 1) (c.begin_slots.ensures.given ∙ c.in_ok-prepare.ensures.number);
       window = refl;
       begins = ap (λ n. n + c.height_at.result) c.window.ensures ∙ ap (λ n. first_window (reverse old.masters.items) + n) c.height_at.ensures;
       slots = refl;
       link = c.around-link.ensures.bound;
       display = c.around-link.ensures.display;
-      depth = ap (λ n. n + 1) c.depth_at.ensures.depth;
-      shallow = let s = c.depth_at.ensures.shallow in omega (arith, s);
-      owned = c.count_owned.ensures;
-      subject = refl;
+      depth = ap (λ n. n + 1) c.depth_at-depth.ensures.depth;
+      shallow = let s = c.depth_at-depth.ensures.shallow in omega (arith, s);
+      owned = c.count_owned.ensures ∙ ap (λ (e : Kept). length e.owned) begun;
+      outer = c.count_formals-outer_formals.ensures.count;
+      formals = c.count_formals.ensures.count ∙ ap (λ (e : Kept). length e.formals) begun;
     })
     (subst (λ (l : List ℕ). b.base + code.room ≤ length l) cells c.in_ok-prepare.ensures.cells)
     (record {
-      kept = c.open.ensures.kept
-          ∙ (ap (λ (l : List Frame). with_master (record (kept ready) { control = l }) 0 AfterOf.Body b (cleared b.base entry.slots ready.cells.items)) control
-          ∙ (ap (λ (l : List ℕ). with_master (record (kept ready) { control = frame ∷ reverse old.control.items }) 0 AfterOf.Body b (cleared b.base entry.slots l)) cells
-          ∙ ap (λ (e : Kept). with_master (record e { control = frame ∷ reverse old.control.items }) 0 AfterOf.Body b (cleared b.base entry.slots row)) goes.kept));
-      mode = c.open.ensures.mode;
-      events = c.open.ensures.events ∙ (goes.events ∙ sym (append-nil old.events.items));
-      picks = c.open.ensures.picks ∙ goes.picks;
+      kept = c.stand.ensures.kept ∙ ap (λ (e : Kept). with_master e 0 AfterOf.Body b e.cells) begun;
+      mode = c.stand.ensures.mode;
+      events = c.stand.ensures.events ∙ (ap (λ v. v.items) c.begin_slots.ensures.events ∙ (goes.events ∙ sym (append-nil old.events.items)));
+      picks = c.stand.ensures.picks ∙ (ap (λ v. v.items) c.begin_slots.ensures.picks ∙ goes.picks);
     })

@@ -37,8 +37,8 @@ begin_layer-requires g c =
     let room = c.in_ok-prepare.ensures.control in
     (ap (λ (e : Kept). slice_get e.owned c.args.at) same ∙ c.requires.1.0.layer.found, (omega (arith, wait, long), (omega (arith, room), c.in_ok-prepare.ensures.events)))
 
-pub open-requires-clause-cells : goal.open-requires-clause-cells
-open-requires-clause-cells g c =
+pub open_for-requires-clause-cells : goal.open_for-requires-clause-cells
+open_for-requires-clause-cells g c =
     let entry = c.args.entry.now in
     let fits : 0 + entry.slots ≤ c.args.code.now.room = c.requires.0.room entry.place (Body entry.level entry.slots ∷ []) (c.requires.0.entries c.requires.1.0.body entry c.requires.1.0.entry_found) in
     let room = c.in_ok-prepare.ensures.cells in
@@ -53,8 +53,8 @@ returns-clause-ok g c =
     let more = c.in_ok-prepare.ensures.ok.0 in
     let goes = c.in_ok-prepare.ensures.ok.1 in
     let entry = c.args.entry.now in
-    let m : Master = record { number = old.given_masters + 1; window = c.end_of_newest-base.result; base = c.end_of_newest-base.result; slots = entry.slots; link = c.around-link.result; depth = c.depth_at.result + 1; owned = c.count_owned.result; subject = c.index.result.now.number } in
-    let is : IsFinalizer old m entry _ = record { number = refl; window = refl; base = c.end_of_newest-base.ensures; slots = refl; link = c.around-link.ensures.bound; display = c.around-link.ensures.display; depth = ap (λ n. n + 1) c.depth_at.ensures.depth; shallow = let s = c.depth_at.ensures.shallow in omega (arith, s); owned = c.count_owned.ensures } in
+    let m : Master = record { number = old.given_masters + 1; window = c.end_of_newest-base.result; base = c.end_of_newest-base.result; slots = entry.slots; link = c.around-link.result; depth = c.depth_at.result + 1; owned = c.count_owned.result; outer_formals = c.count_formals-outer_formals.result; formals = c.count_formals-outer_formals.result + 1 } in
+    let is : IsFinalizer old m entry _ = record { number = refl; window = refl; base = c.end_of_newest-base.ensures; slots = refl; link = c.around-link.ensures.bound; display = c.around-link.ensures.display; depth = ap (λ n. n + 1) c.depth_at.ensures.depth; shallow = let s = c.depth_at.ensures.shallow in omega (arith, s); owned = c.count_owned.ensures; outer = c.count_formals-outer_formals.ensures.count; formals = ap (λ n. n + 1) c.count_formals-outer_formals.ensures.count } in
     let cells : prepared.cells.items ≡ old.cells.items ++ more = ap (λ (e : Kept). e.cells) goes.kept in
     let has : HasBegun old ready c.args.departure.failed c.args.departure.pending c.args.departure.after c.args.at g.t.1 (old.cells.items ++ more) = record {
       control = c.begin_layer.ensures.control ∙ (ap (λ (f : Frame). FrameOf.Finalizing c.args.at ∷ f ∷ drop 1 (reverse prepared.control.items)) c.frame.ensures ∙ ap (λ (e : Kept). FrameOf.Finalizing c.args.at ∷ FrameOf.Leaving c.args.departure.failed c.args.departure.pending c.args.departure.after c.args.at ∷ drop 1 e.control) goes.kept);
@@ -63,15 +63,16 @@ returns-clause-ok g c =
       cells = ap (λ v. v.items) c.begin_layer.ensures.cells ∙ cells;
       parts = ap (λ v. v.items) c.begin_layer.ensures.parts ∙ ap (λ v. v.items) c.in_ok-prepare.ensures.parts;
       saved = ap (λ v. v.items) c.begin_layer.ensures.saved ∙ ap (λ v. v.items) c.in_ok-prepare.ensures.saved;
+      formals = ap (λ v. v.items) c.begin_layer.ensures.formals ∙ ap (λ (e : Kept). e.formals) goes.kept;
       given_masters = c.begin_layer.ensures.numbers.0 ∙ c.in_ok-prepare.ensures.number;
       given_objects = c.begin_layer.ensures.numbers.1 ∙ c.in_ok-prepare.ensures.objects;
     } in
     let object = c.requires.1.0.layer.found in
     let within = slice_get_within old.owned.items c.args.at g.t.1 object in
-    let subject : m.subject ≡ g.t.1.number = ap (λ (o : Owned). o.number) (same_object c.index.result.now g.t.1 (slice_get old.owned.items c.args.at) (got old.owned.items c.args.at c.index.result.now within c.index.ensures) object) in
-    call_makes c.args.code.now old ready c.open.new.self c.args.departure.failed c.args.departure.pending c.args.departure.after c.args.at entry g.t.0 g.t.1 m more c.requires.0 c.requires.1.0 is
+    let subject : c.index.result.now.number ≡ g.t.1.number = ap (λ (o : Owned). o.number) (same_object c.index.result.now g.t.1 (slice_get old.owned.items c.args.at) (got old.owned.items c.args.at c.index.result.now within c.index.ensures) object) in
+    call_makes c.args.code.now old ready c.open_for.new.self c.args.departure.failed c.args.departure.pending c.args.departure.after c.args.at entry g.t.0 g.t.1 m more c.index.result.now.number c.requires.0 c.requires.1.0 is
     (subst (λ (l : List ℕ). c.end_of_newest-base.result + c.args.code.now.room ≤ length l) cells c.in_ok-prepare.ensures.cells)
     subject has
     (c.begin_layer.ensures.events ∙ ap (λ (l : List Event). l ++ Finalize (whole_part g.t.1.number) Scope ∷ []) goes.events)
     (c.begin_layer.ensures.picks ∙ goes.picks)
-    c.open.ensures
+    c.open_for.ensures

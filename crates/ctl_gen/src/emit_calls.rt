@@ -1,0 +1,100 @@
+//! The instructions of calls, and of their actuals (RM 6.4).
+
+ghost use Rattle.std.specs.Prelude.{◌≡◌, ◌∷◌, [], drop, length, map, OnOk, None, Some};
+ghost use Rattle.ctl_layout.specs.declared.right.Reached.TheVariants as ReachedOf;
+ghost use Rattle.ctl_gen.specs.Emitted.{lined, passed, standing, stated};
+ghost use Rattle.ctl_layout.specs.Values as values;
+ghost use Rattle.ctl_layout.specs.Layout as spec;
+
+use crate::emit::Emitter;
+use ctl_code::code::Instr;
+use ctl_code::kinds::Kind;
+use ctl_layout::right::{Reached, reached_by};
+use ctl_program::expression::{Actual, Name};
+use ctl_program::types::{Ty, Var};
+use std::alloc::AllocError;
+
+impl Emitter {
+    /// Emits a call: its actuals, from left to right, and the instruction that takes them all (RM 6.4).
+    pub fn call(&mut self, procedure: usize, actuals: &[Actual]) -> Result<(), AllocError>
+        ensures { OnOk result (self.new ≡ stated (spec.call procedure (map spec.actual_code actuals.now)) None self.old) }
+    {
+        self.actuals(actuals)?;
+        let count = actuals.len();
+        self.put(Instr::Call {
+            procedure,
+            actuals: count,
+        })?;
+        self.leave_actuals(actuals);
+        Ok(())
+    }
+
+    /// Emits actuals, each in turn.
+    fn actuals(&mut self, actuals: &[Actual]) -> Result<(), AllocError>
+        ensures { OnOk result (self.new ≡ passed (map spec.actual_code actuals.now) self.old) }
+    {
+        for actual in actuals {
+            self.actual(actual)?;
+        }
+        Ok(())
+    }
+
+    /// Emits an actual, which is a new operand (RM 6.4.1).
+    fn actual(&mut self, actual: &Actual) -> Result<(), AllocError>
+        ensures { OnOk result (self.new ≡ passed (spec.actual_code actual.now ∷ []) self.old) }
+    {
+        match actual {
+            Actual::ByValue(value, ty) => {
+                let _value = self.evaluated(*ty, value)?;
+                Ok(())
+            }
+            Actual::Part(name, ty) => {
+                self.reference(name, *ty)?;
+                self.enter(Kind::Operand(*ty))
+            }
+            Actual::Copied(_, ty, _) => {
+                self.put(Instr::Missing)?;
+                self.enter(Kind::Operand(*ty))
+            }
+        }
+    }
+
+    /// Emits what finds the object that a name denotes.
+    fn reference(&mut self, name: &Name, ty: Ty) -> Result<(), AllocError>
+        ensures { OnOk result (self.new ≡ lined (spec.by_reference (values.reached_by name.now) ty).code self.old) }
+    {
+        match reached_by(name) {
+            Some(Reached::Variable(of)) => self.object_in(of, ty),
+            Some(Reached::Component { .. }) | None => self.put(Instr::Missing),
+        }
+    }
+
+    /// Emits what finds the object in a variable.
+    fn object_in(&mut self, of: Var, ty: Ty) -> Result<(), AllocError>
+        ensures { OnOk result (self.new ≡ lined (spec.by_reference (Some (ReachedOf.Variable of)) ty).code self.old) }
+    {
+        match ty {
+            Ty::Record(record) => {
+                let (out, slot, at) = (self.out_to(of), of.slot, self.height());
+                self.put(Instr::Locate {
+                    out,
+                    slot,
+                    record,
+                    at,
+                })
+            }
+            Ty::Integer | Ty::Count | Ty::Boolean | Ty::Address | Ty::Handle | Ty::Access(_) => {
+                self.put(Instr::Missing)
+            }
+        }
+    }
+
+    /// Takes actuals off.
+    fn leave_actuals(&mut self, actuals: &[Actual])
+        ensures { self.new ≡ standing (drop (length actuals.now) self.old.notes.standing) self.old }
+    {
+        for _actual in actuals {
+            self.leave();
+        }
+    }
+}
