@@ -89,8 +89,31 @@ TEXTS = [
     ("procedure Main is task T; begin null; end Main;", 12, 1, 19),
     # a broken rule on names comes before a construct that is left out, wherever they stand
     ("procedure Main is begin Put_Line (\"x\"); end Main;", 20, 1, 25),
-    (ITEM + "type R is record N : Integer; end record; type Q is record X : R; end record; Y : Q; begin null; end Main;", 12, 1, 61),
-    # a record that is not tagged is run where its components are
+    # a record that is not tagged is run where its components are: of Integer, of Boolean, or of another such record without a default and
+    # without a controlled part. Where it is the type of a component that is not run, the first type with such a component is told
+    (ITEM + "type R is record N : Integer; end record; type Q is record X : R; end record; Y : Q; begin Y.X.N := 1; end Main;", ACCEPTED, 1, 1),
+    (ITEM + "type R is record N : Integer := 1; end record; type Q is record X : R; end record; Y : Q; begin null; end Main;", 12, 1, 66),
+    (ITEM + "type R is record N : Integer; end record; type Q is record X : R; end record; A, B : Q; begin A.X := B.X; end Main;", ACCEPTED, 1, 1),
+    (CONTROLLED + "type R is new Controlled with null record; type Q is record X : R; end record; Y : Q; begin null; end Main;", 12, 1, 107),
+    (CONTROLLED + "type R is record N : Integer; end record; type T is new Controlled with record X : R; end record; Y : T; begin null; end Main;", ACCEPTED, 1, 1),
+    (ITEM + "type R is record N : Integer; end record; type Q is record X : R; end record; A : Q; B : R := A.X; begin null; end Main;", ACCEPTED, 1, 1),
+    # also where it is run itself, and another one is not; what is left out for certain is told before it
+    (
+        CONTROLLED
+        + "type G is record N : Integer; end record; type H is record X : G; end record; type C is new Controlled with null record;"
+        + " type Q is record X : C; end record; Y : Q; begin null; end Main;",
+        12,
+        1,
+        106,
+    ),
+    (
+        ITEM
+        + "type R is record N : Integer := 1; end record; type Q is record X : R; end record; Y : Q;"
+        + " function F return Integer is begin return 1; end F; N : Integer; begin N := F; end Main;",
+        12,
+        1,
+        109,
+    ),
     (ITEM + "type R is record N : Integer; B : Boolean := True; end record; X : R; begin X.N := 1; end Main;", ACCEPTED, 1, 1),
     (ITEM + "type R is limited record N : Integer; end record; X : R; begin X.N := 1; end Main;", ACCEPTED, 1, 1),
     (ITEM + "type R is record N : Integer; end record; X, Y : R; begin X := Y; end Main;", ACCEPTED, 1, 1),

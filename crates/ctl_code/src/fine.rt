@@ -10,7 +10,7 @@ ghost use Rattle.ctl_code.specs.declared.code.Cell.{Cell};
 ghost use Rattle.ctl_code.specs.declared.code.Operator.{Operator};
 ghost use Rattle.ctl_code.specs.declared.code.Instr.TheVariants as I;
 ghost use Rattle.ctl_code.specs.Kinds.{changed, stack_at};
-ghost use Rattle.ctl_code.specs.Valid.{HasFormals, HaveOperands, IsOperandAt, Bounded, DropsObject, IsAtEnd, IsDeclarable, IsEntry, IsFine, IsInScope, IsText, Leads, Puts, Taken, Takes, Under, outermost};
+ghost use Rattle.ctl_code.specs.Valid.{HasFormals, HaveOperands, IsOperandAt, Bounded, DropsPart, IsAtEnd, IsDeclarable, IsEntry, IsFine, IsInScope, IsText, Leads, Puts, Taken, Takes, Under, outermost};
 ghost use Rattle.ctl_code.specs.Windows.{depth, height, variable_at};
 
 use crate::code::{Cell, Code, Instr, Named, Operator, Way};
@@ -233,25 +233,57 @@ fn drops(code: &Code, place: usize, from: Cell, ty: Ty) -> bool
     }
 }
 
-/// Tells whether the number of an object of this record type stands in this cell, where so many were taken, and the next place finds what is
-/// below it.
-fn drops_object(code: &Code, place: usize, before: usize, at: usize, record: usize) -> bool
-    requires { (place + 1 < 2 ^ 64) × (before + 1 < 2 ^ 64) }
-    ensures { IsTrue result ↔ DropsObject code.now place at «record» (drop before (stack_at code.now.kinds place)) }
+/// Tells whether a part of this record type stands on top, where so many were taken.
+fn is_part(code: &Code, place: usize, before: usize, record: usize) -> bool
+    requires { before + 1 < 2 ^ 64 }
+    ensures { let stack = stack_at code.now.kinds place in
+        IsTrue result ↔ (drop before stack ≡ Operand (Record «record») ∷ drop (before + 1) stack) }
 {
-    is_operand(code, place, before, at, Ty::Record(record))
-        && leads_on(code, place, before + 1, None)
+    has(code, place, before, Kind::Operand(Ty::Record(record)))
 }
 
-/// Tells whether a value is taken from a cell, and then the number of an object of this record type, which stands in another.
-fn stores_part(code: &Code, place: usize, from: Cell, ty: Ty, at: usize, record: usize) -> bool
+/// Tells whether a part of this record type stands on top, where so many were taken, and the next place finds what is below it.
+fn drops_part(code: &Code, place: usize, before: usize, record: usize) -> bool
+    requires { (place + 1 < 2 ^ 64) × (before + 1 < 2 ^ 64) }
+    ensures { IsTrue result ↔ DropsPart code.now place «record» (drop before (stack_at code.now.kinds place)) }
+{
+    is_part(code, place, before, record) && leads_on(code, place, before + 1, None)
+}
+
+/// Tells whether a value is taken from a cell, and then a part of this record type.
+fn stores_part(code: &Code, place: usize, from: Cell, ty: Ty, record: usize) -> bool
     requires { place + 1 < 2 ^ 64 }
-    ensures { IsTrue result ↔ Takes from ty (stack_at code.now.kinds place) (DropsObject code.now place at «record») }
+    ensures { IsTrue result ↔ Takes from ty (stack_at code.now.kinds place) (DropsPart code.now place «record») }
 {
     match taken(code, place, 0, from, ty) {
-        Some(under) => drops_object(code, place, under, at, record),
+        Some(under) => drops_part(code, place, under, record),
         None => false,
     }
+}
+
+/// Tells whether a component of a record type takes the place of the part on top (RM 4.1.3).
+fn selects(code: &Code, place: usize, record: usize, part: usize) -> bool
+    requires { place + 1 < 2 ^ 64 }
+    ensures { IsTrue result ↔ Under (Operand (Record «record») ∷ []) (stack_at code.now.kinds place) (λ below. Leads code.now (place + 1) (Operand (Record part) ∷ below)) }
+{
+    is_part(code, place, 0, record)
+        && leads_on(code, place, 1, Some(Kind::Operand(Ty::Record(part))))
+}
+
+/// Tells whether a value takes the place of the part on top (RM 4.1.3).
+fn takes_part(code: &Code, place: usize, record: usize, ty: Ty, to: Cell) -> bool
+    requires { place + 1 < 2 ^ 64 }
+    ensures { IsTrue result ↔ Under (Operand (Record «record») ∷ []) (stack_at code.now.kinds place) (Puts code.now place to ty) }
+{
+    is_part(code, place, 0, record) && puts(code, place, 1, to, ty)
+}
+
+/// Tells whether two parts of this record type stand on top, and the next place finds what is below them (RM 5.2).
+fn drops_parts(code: &Code, place: usize, record: usize) -> bool
+    requires { place + 1 < 2 ^ 64 }
+    ensures { IsTrue result ↔ Under (Operand (Record «record») ∷ []) (stack_at code.now.kinds place) (DropsPart code.now place «record») }
+{
+    is_part(code, place, 0, record) && drops_part(code, place, 1, record)
 }
 
 // Instructions ---------------------------------------------------------------------------------
@@ -445,7 +477,7 @@ fn is_bare(code: &Code, place: usize) -> bool
     matches!(code.kinds.kind_at(place, 0), None)
 }
 
-/// Checks the call of a procedure (RM 6.4): it is declared in a master that is seen.
+/// Checks the call of a procedure (RM 6.4): it is declared in a master that is seen, has slots for its actuals, and these stand on top.
 fn is_call_fine(code: &Code, place: usize, number: usize, actuals: usize) -> bool
     requires { place + 1 < 2 ^ 64 }
     ensures { IsTrue result ↔ IsFine code.now place (I.Call number actuals) (stack_at code.now.kinds place) }
@@ -457,7 +489,7 @@ fn is_call_fine(code: &Code, place: usize, number: usize, actuals: usize) -> boo
 }
 
 /// Tells whether a body has slots for so many formals (RM 6.1).
-fn has_formals(code: &Code, number: usize, count: usize) -> bool
+pub(crate) fn has_formals(code: &Code, number: usize, count: usize) -> bool
     ensures { IsTrue result ↔ HasFormals code.now number count }
 {
     match code.entries.get(number) {
@@ -494,27 +526,25 @@ fn is_declare_fine(code: &Code, place: usize, number: usize) -> bool
     is_declarable(code, code.kinds.depth_at(place), number) && leads_on(code, place, 0, None)
 }
 
-/// Checks the declaration of an object with the value of another one, whose number stands in this cell (RM 3.3.1).
-fn is_copy_fine(code: &Code, place: usize, number: usize, at: usize) -> bool
+/// Checks the declaration of an object with the value of a part (RM 3.3.1).
+fn is_copy_fine(code: &Code, place: usize, number: usize) -> bool
     requires { place + 1 < 2 ^ 64 }
     ensures { let stack = stack_at code.now.kinds place in
-        IsTrue result ↔ (IsDeclarable code.now (depth stack) number × DropsObject code.now place at number stack) }
+        IsTrue result ↔ (IsDeclarable code.now (depth stack) number × DropsPart code.now place number stack) }
 {
-    is_declarable(code, code.kinds.depth_at(place), number)
-        && drops_object(code, place, 0, at, number)
+    is_declarable(code, code.kinds.depth_at(place), number) && drops_part(code, place, 0, number)
 }
 
 /// How many masters every object is declared in at least: the main procedure's own.
 const OUTERMOST: usize = 1;
 
-/// Checks the assignment to an object, whose number stands in this cell, of the value of another one (RM 5.2).
-fn is_assign_fine(code: &Code, place: usize, from: Cell, at: usize, number: usize) -> bool
+/// Checks the assignment of the value of one part to another (RM 5.2).
+fn is_assign_fine(code: &Code, place: usize, number: usize) -> bool
     requires { place + 1 < 2 ^ 64 }
     ensures { let stack = stack_at code.now.kinds place in
-        IsTrue result ↔ (IsDeclarable code.now outermost number × Takes from (Record number) stack (DropsObject code.now place at number)) }
+        IsTrue result ↔ (IsDeclarable code.now outermost number × Under (Operand (Record number) ∷ []) stack (DropsPart code.now place number)) }
 {
-    is_declarable(code, OUTERMOST, number)
-        && stores_part(code, place, from, Ty::Record(number), at, number)
+    is_declarable(code, OUTERMOST, number) && drops_parts(code, place, number)
 }
 
 /// Checks an operator with two operands (RM 4.5).
@@ -583,7 +613,7 @@ pub fn is_fine(code: &Code, place: usize, instr: &Instr) -> bool
         Instr::Catch { exception, length } => is_catch_fine(code, place, exception, length),
         Instr::RaiseAgain => true,
         Instr::Declare { slot: _, record } => is_declare_fine(code, place, record),
-        Instr::DeclareCopy { record, at, .. } => is_copy_fine(code, place, record, at),
+        Instr::DeclareCopy { record, .. } => is_copy_fine(code, place, record),
         Instr::Number | Instr::NewLine => leads_on(code, place, 0, None),
         Instr::Set { value, ty, to } => is_cell_of(ty, value) && puts(code, place, 0, to, ty),
         Instr::Move { from, ty, to } => is_scalar(ty) && passes(code, place, 0, from, ty, to, ty),
@@ -591,14 +621,16 @@ pub fn is_fine(code: &Code, place: usize, instr: &Instr) -> bool
             is_scalar(ty) && puts(code, place, 0, to, ty)
         }
         Instr::Locate { record, at, .. } => { puts_operand(code, place, 0, at, Ty::Record(record)) }
+        Instr::Select { record, part, .. } => selects(code, place, record, part),
+        Instr::TakePart { record, ty, to, .. } => is_scalar(ty)
+            && takes_part(code, place, record, ty, to),
         Instr::StorePart {
             from,
             ty,
-            at,
             record,
             ..
-        } => is_scalar(ty) && stores_part(code, place, from, ty, at, record),
-        Instr::Assign { from, at, record } => is_assign_fine(code, place, from, at, record),
+        } => is_scalar(ty) && stores_part(code, place, from, ty, record),
+        Instr::Assign { record } => is_assign_fine(code, place, record),
         Instr::Store { from, ty, .. } => is_scalar(ty) && drops(code, place, from, ty),
         Instr::Unary { op, ty, from, to } => is_unary_of(op, ty)
             && passes(code, place, 0, from, ty, to, ty),

@@ -10,7 +10,7 @@ ghost use Rattle.ctl_code.specs.Kinds.{stack_at};
 ghost use Rattle.ctl_code.specs.Valid.{IsBegun, IsFine, IsStarted, IsValid, MayBeEntry, TakesObject};
 
 use crate::code::{Code, Instr};
-use crate::fine::{is_entry, is_fine};
+use crate::fine::{has_formals, is_entry, is_fine};
 use crate::kinds::Kind;
 
 /// Tells whether each instruction is well formed where it stands.
@@ -70,12 +70,9 @@ fn are_records_fine(code: &Code) -> bool
 fn takes_object(code: &Code, number: Option<usize>) -> bool
     ensures { IsTrue result ↔ TakesObject code.now number }
 {
-    let Some(number) = number else {
-        return true;
-    };
-    match code.entries.get(number) {
-        Some(entry) => entry.slots >= 1,
-        None => false,
+    match number {
+        Some(number) => has_formals(code, number, 1),
+        None => true,
     }
 }
 

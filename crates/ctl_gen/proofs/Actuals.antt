@@ -3,96 +3,74 @@ use Rattle.std.proofs.Common.{◌≡◌, ℕ, suc, ◌+◌, ◌≤◌, List, [],
 use Rattle.std.specs.Prelude.{drop}
 use Rattle.ctl_program.specs.declared.types.Ty.{Ty}
 use Rattle.ctl_program.specs.declared.types.Ty.TheVariants.{Integer, Count, Boolean, Address, Handle, Access, Record}
-use Rattle.ctl_program.specs.declared.types.Var.{Var}
 use Rattle.ctl_program.specs.declared.expression.Actual.{Actual, out-Actual, roll-Actual, roll-out-Actual}
 use Rattle.ctl_program.specs.declared.expression.Actual.TheOpen.{Actual-F}
 use Rattle.ctl_program.specs.declared.expression.Expr.{Expr}
 use Rattle.ctl_program.specs.declared.expression.Name.{Name}
 use Rattle.ctl_program.specs.declared.expression.Operand.{Operand as Operand_of}
-use Rattle.ctl_tree.specs.declared.ending.Stop.TheVariants.{UseAfterFree}
-use Rattle.ctl_meaning.specs.World.{Slot, valued, Log, World}
+use Rattle.ctl_meaning.specs.World.{Log, World}
 use Rattle.ctl_meaning.specs.Lists.{opened_lists}
 use Rattle.ctl_meaning.specs.Objects.{opened_objects}
 use Rattle.ctl_meaning.specs.Activations.{master_of}
-use Rattle.ctl_meaning.specs.Changes.{slot_at}
 use Rattle.ctl_meaning.specs.Choice.{Ask}
-use Rattle.ctl_meaning.specs.Outcome.{ByRaise, Result, Goes, Leaves, Gives, Stops, Act, Done, add, bind, on_goes, ◌>>=◌, done, ticked, opened_outcome}
+use Rattle.ctl_meaning.specs.Outcome.{ByRaise, Result, Goes, Leaves, Gives, Act, Done, add, bind, on_goes, ◌>>=◌, done, ticked, opened_outcome}
 use Rattle.ctl_meaning.specs.Types.{Tables, Category, Elementary, Composite, category_of}
 use Rattle.ctl_meaning.specs.Names.{Alone, Found, Call, Default, Tools, opened_names}
-use Rattle.ctl_meaning.specs.Expressions.{Formal, Passed, Supplied, actual_step as actual_meaning, eval, eval_name, no_actuals, going_back, pass_each, supply, with_formal}
+use Rattle.ctl_meaning.specs.Expressions.{Formal, Naming, Passed, Supplied, actual_step as actual_meaning, eval, eval_name, no_actuals, going_back, pass_each, supply, with_formal}
 use Rattle.ctl_meaning.specs.Expressions.{bound as bound_slot, by_value as takes_value, by_reference as takes_reference}
 use Rattle.ctl_meaning.proofs.Trees.{actual_roll}
 use Rattle.ctl_code.specs.declared.code.Named.TheVariants as NamedOf
-use Rattle.ctl_code.specs.declared.code.Instr.TheVariants as InstrOf
 use Rattle.ctl_code.specs.declared.code.Code.{Code}
 use Rattle.ctl_code.specs.declared.kinds.Kind.{Kind}
 use Rattle.ctl_code.specs.declared.kinds.Kind.TheVariants as KindOf
-use Rattle.ctl_code.specs.States.{Frame, State}
-use Rattle.ctl_code.specs.Table.{by_locate, formal_of, formals_of, whole_of}
-use Rattle.ctl_code.specs.Steps.{moved, step}
-use Rattle.ctl_code.specs.Windows.{depth, height}
-use Rattle.ctl_layout.specs.declared.right.Reached.{Reached}
-use Rattle.ctl_layout.specs.declared.right.Reached.TheVariants as ReachedOf
-use Rattle.ctl_layout.specs.Around.{Line, new_operand, out_to}
+use Rattle.ctl_code.specs.States.{Word, Scalar, Located, Frame, State}
+use Rattle.ctl_code.specs.Table.{formal_of, formals_of, spot_of}
+use Rattle.ctl_code.specs.Windows.{depth}
+use Rattle.ctl_layout.specs.Around.{Line, new_operand}
+use Rattle.ctl_layout.specs.Parts.{Reached, are_selectors, part_code, part_runs}
 use Rattle.ctl_layout.specs.Values.{value_code, reached_by}
 use Rattle.ctl_layout.specs.Layout.{ActualCode, actual_code, actual_layer, actuals_code, actuals_run, by_reference, with_actuals}
 use Rattle.ctl_gen.proofs.Known.{IsScalar, both_true, scalar_elementary, scalar_if}
 use Rattle.ctl_gen.proofs.Evaluated.{value_since}
 use Rattle.ctl_gen.proofs.Place.{Laid, laid_front, laid_back}
-use Rattle.ctl_gen.proofs.Worlds.{Each, IsWhole, Since, Kept, each_and, whole_at}
+use Rattle.ctl_gen.proofs.Worlds.{Each, HoldsNoCopy, Since, Kept, each_and, no_copy_at}
 use Rattle.ctl_gen.proofs.Setting.{Setting, tools_with}
-use Rattle.ctl_gen.proofs.Cells.{Any, by_code, here, landed, out_is}
-use Rattle.ctl_gen.proofs.Components.{content_of}
-use Rattle.ctl_gen.proofs.Sources.{find_by, finds_whole, name_means, whole_found}
+use Rattle.ctl_gen.proofs.Cells.{Any, landed}
+use Rattle.ctl_gen.proofs.Parts.{Leads, agree_part, composite_leads, content_of, find_by, finds_part, name_leads, part_found, part_then, selectors_of, variable_of}
 use Rattle.ctl_gen.proofs.Worth.{both_cell}
 use Rattle.ctl_gen.proofs.Expressions.{value_runs}
-use Rattle.ctl_gen.proofs.Follow.{Runs, Target, at, transferred, arrives, added, arriving, no_step, one_step, stop_step, add_none, bind_add, bind_bind}
+use Rattle.ctl_gen.proofs.Follow.{Runs, Target, at, transferred, arrives, added, arriving, no_step, add_none, bind_add, bind_bind}
 
 -- Formals -----------------------------------------------------------------------------------------
 
--- what a formal begins with is whole
-formal_whole : (ty : Ty) (n : ℕ) → IsWhole (formal_of (KindOf.Operand ty) n)
-formal_whole Integer n = tt
-formal_whole Count n = tt
-formal_whole Boolean n = tt
-formal_whole Address n = tt
-formal_whole Handle n = tt
-formal_whole (Access a) n = tt
-formal_whole (Record t) n = tt
+-- what a formal begins with is no copy
+formal_no_copy : (x : Word) → HoldsNoCopy (formal_of x)
+formal_no_copy (Scalar n) = tt
+formal_no_copy (Located p) = tt
 
--- a formal of a scalar type takes the value
-scalar_formal : (ty : Ty) → IsScalar ty → (n : ℕ) → valued n ≡ formal_of (KindOf.Operand ty) n
-scalar_formal Integer h n = refl
-scalar_formal Boolean h n = refl
-scalar_formal Count h n = absurd h
-scalar_formal Address h n = absurd h
-scalar_formal Handle h n = absurd h
-scalar_formal (Access a) h n = absurd h
-scalar_formal (Record t) h n = absurd h
-
--- a formal whose actual is an operand of this type: no copy goes back
-abbrev pub formal : Ty → ℕ → Formal
-formal ty n = record { slot = formal_of (KindOf.Operand ty) n; back = None }
+-- a formal whose actual is this operand: no copy goes back
+abbrev pub formal : Word → Formal
+formal x = record { slot = formal_of x; back = None }
 
 -- so many of the newest operands are what the formals so far take, and these stand below them
-pub record Taken (n : ℕ) (s : List Kind) (ops below : List ℕ) (p : Passed) : Type 0 where
-  pub slots : formals_of n s ops ≡ p.slots
+pub record Taken (n : ℕ) (ops below : List Word) (p : Passed) : Type 0 where
+  pub slots : formals_of n ops ≡ p.slots
   pub rest : drop n ops ≡ below
   pub back : p.back ≡ []
-  pub whole : Each IsWhole p.slots
+  pub uncopied : Each HoldsNoCopy p.slots
 
-none_taken : (s : List Kind) (ops : List ℕ) → Taken 0 s ops ops no_actuals
+none_taken : (ops : List Word) → Taken 0 ops ops no_actuals
 unfolding no_actuals
-none_taken s ops = record { slots = refl; rest = refl; back = refl; whole = tt }
+none_taken ops = record { slots = refl; rest = refl; back = refl; uncopied = tt }
 
 -- a further operand is what a further formal takes
-one_taken : (n : ℕ) (s : List Kind) (ops below : List ℕ) (p : Passed) (ty : Ty) (x : ℕ) → Taken n s ops below p → Taken (suc n) (KindOf.Operand ty ∷ s) (x ∷ ops) below (with_formal (formal ty x) p)
+one_taken : (n : ℕ) (ops below : List Word) (p : Passed) (x : Word) → Taken n ops below p → Taken (suc n) (x ∷ ops) below (with_formal (formal x) p)
 unfolding with_formal going_back
-one_taken n s ops below p ty x h = record {
-  slots = ap (λ xs. xs ++ formal_of (KindOf.Operand ty) x ∷ []) h.slots;
+one_taken n ops below p x h = record {
+  slots = ap (λ xs. xs ++ formal_of x ∷ []) h.slots;
   rest = h.rest;
   back = ap (λ b. b ++ []) h.back;
-  whole = each_and IsWhole p.slots (formal_of (KindOf.Operand ty) x) (formal_whole ty x) h.whole;
+  uncopied = each_and HoldsNoCopy p.slots (formal_of x) (formal_no_copy x) h.uncopied;
 }
 
 -- what goes on with the formals leaves where an actual left
@@ -105,19 +83,19 @@ module _ (ask : Ask) (k : Tables) (code : Code) (setting : Setting k code) (call
 
   -- One actual ---------------------------------------------------------------------------------------
 
-  -- lines that put one new operand of this type, which is what the formal takes; an exception leaves before that
-  abbrev pub Puts : Ty → (List Kind → List Line) → (List ℕ → Act Formal) → Type 0
-  Puts ty lines give =
-      (f : Result Formal → Act Done) (s : List Kind) (w0 : World) (d : List ℕ) (place : ℕ) (ks : List Frame) (ops : List ℕ) (c : ℕ) (l : Log) (w : World) (next : Result Done → Log → World → State) → Since k code w0 w → length d ≡ depth s → Laid code place (lines s) →
+  -- lines that put one new operand, which is what the formal takes; an exception leaves before that
+  abbrev pub Puts : (List Kind → List Line) → (List ℕ → Act Formal) → Type 0
+  Puts lines give =
+      (f : Result Formal → Act Done) (s : List Kind) (w0 : World) (d : List ℕ) (place : ℕ) (ks : List Frame) (ops : List Word) (c : ℕ) (l : Log) (w : World) (next : Result Done → Log → World → State) → Since k code w0 w → length d ≡ depth s → Laid code place (lines s) →
       ((y c1 : ℕ) (l1 : Log) (w1 : World) → c1 ≤ c → Since k code w0 w1 → Runs ask code (Kept k code w0) 3 3 (transferred (ByRaise y) ks l1 w1) c1 next (f (Leaves (ByRaise y)) c1 l1 w1)) →
-      ((n c1 : ℕ) (l1 : Log) (w1 : World) → c1 ≤ c → Since k code w0 w1 → Runs ask code (Kept k code w0) 3 3 (at d (place + length (lines s)) ks (n ∷ ops) l1 w1) c1 next (f (Goes (formal ty n)) c1 l1 w1)) →
+      ((x : Word) (c1 : ℕ) (l1 : Log) (w1 : World) → c1 ≤ c → Since k code w0 w1 → Runs ask code (Kept k code w0) 3 3 (at d (place + length (lines s)) ks (x ∷ ops) l1 w1) c1 next (f (Goes (formal x)) c1 l1 w1)) →
       Runs ask code (Kept k code w0) 3 3 (at d place ks ops l w) c next (bind (give d c l w) f)
 
   abbrev pub Passes : ActualCode → Supplied → Type 0
-  Passes x m = Puts x.ty x.code (λ d. ticked (m.source K d >>= m.taken K))
+  Passes x m = Puts x.code (λ d. ticked (m.source K d >>= m.taken K))
 
   -- a value
-  value_puts : (e : Expr) (ty : Ty) → IsScalar ty → (value_code e).runs k.records ≡ true → Puts ty (λ s. (value_code e).code (new_operand s) ty s) (λ d. ticked ((eval e K d >>= (λ v. done (Alone v))) >>= takes_value Elementary))
+  value_puts : (e : Expr) (ty : Ty) → IsScalar ty → (value_code e).runs k.records ≡ true → Puts (λ s. (value_code e).code (new_operand s) ty s) (λ d. ticked ((eval e K d >>= (λ v. done (Alone v))) >>= takes_value Elementary))
   unfolding opened_outcome opened_names opened_lists opened_objects takes_value
   value_puts e ty scalar runs f s w0 d place ks ops c l w next fits long has leaves more =
       let value = value_since ask k code setting.places call default e runs w0 in
@@ -130,55 +108,43 @@ module _ (ask : Ask) (k : Tables) (code : Code) (setting : Setting k code) (call
       (both_cell ask code (Kept k code w0) Any 0 0 3 3 3 3 _ c (landed NamedOf.Operand d there ks ops) next (eval e K d c l w) _ (omega arith) (omega arith) (omega arith) (value.cell d c l w)
       (value_runs ask k code (Since k code w0) (value_code e) (eval e K) value (new_operand s) ty s d place ks ops c l w fits long has)
       (λ n c1 l1 w1 lo fits1 p.
-      added ask code (Kept k code w0) 0 3 3 3 3 (at d there ks (n ∷ ops) l1 w1) c1 next _ (omega arith) (omega arith)
-      (added ask code (Kept k code w0) 0 3 3 3 3 (at d there ks (n ∷ ops) l1 w1) c1 next (f (Goes (record { slot = valued n; back = None })) c1 l1 w1) (omega arith) (omega arith)
-      (subst (λ (z : Slot). Runs ask code (Kept k code w0) 3 3 (at d there ks (n ∷ ops) l1 w1) c1 next (f (Goes (record { slot = z; back = None })) c1 l1 w1)) (sym (scalar_formal ty scalar n)) (more n c1 l1 w1 lo fits1))))
+      added ask code (Kept k code w0) 0 3 3 3 3 (at d there ks (Scalar n ∷ ops) l1 w1) c1 next _ (omega arith) (omega arith)
+      (added ask code (Kept k code w0) 0 3 3 3 3 (at d there ks (Scalar n ∷ ops) l1 w1) c1 next (f (Goes (formal (Scalar n))) c1 l1 w1) (omega arith) (omega arith) (more (Scalar n) c1 l1 w1 lo fits1)))
       (λ y c1 l1 w1 lo fits1.
       added ask code (Kept k code w0) 0 3 3 3 3 (transferred (ByRaise y) ks l1 w1) c1 next _ (omega arith) (omega arith)
       (added ask code (Kept k code w0) 0 3 3 3 3 (transferred (ByRaise y) ks l1 w1) c1 next (f (Leaves (ByRaise y)) c1 l1 w1) (omega arith) (omega arith) (leaves y c1 l1 w1 lo fits1)))))
 
-  value_passes : (e : Expr) (ty : Ty) → IsScalar ty → (value_code e).runs k.records ≡ true → Puts ty (λ s. (value_code e).code (new_operand s) ty s) (λ d. ticked ((eval e K d >>= (λ v. done (Alone v))) >>= takes_value (category_of ty)))
-  value_passes e ty scalar runs = subst (λ (x : Category). Puts ty (λ s. (value_code e).code (new_operand s) ty s) (λ d. ticked ((eval e K d >>= (λ v. done (Alone v))) >>= takes_value x))) (sym (scalar_elementary ty scalar)) (value_puts e ty scalar runs)
+  value_passes : (e : Expr) (ty : Ty) → IsScalar ty → (value_code e).runs k.records ≡ true → Puts (λ s. (value_code e).code (new_operand s) ty s) (λ d. ticked ((eval e K d >>= (λ v. done (Alone v))) >>= takes_value (category_of ty)))
+  value_passes e ty scalar runs = subst (λ (x : Category). Puts (λ s. (value_code e).code (new_operand s) ty s) (λ d. ticked ((eval e K d >>= (λ v. done (Alone v))) >>= takes_value x))) (sym (scalar_elementary ty scalar)) (value_puts e ty scalar runs)
 
-  -- what follows the object that is found, behind the ticks of its parameter
-  abbrev referred : ℕ → Option ℕ → (Result Formal → Act Done) → Act Done
-  referred t None f c l w = Stops UseAfterFree 3 l
-  referred t (Some n) f c l w = add 3 (f (Goes (formal (Record t) n)) c l w)
-
-  referred_is : (t : ℕ) (o : Option ℕ) (f : Result Formal → Act Done) (c : ℕ) (l : Log) (w : World) → bind (add 1 (bind (add 1 (whole_found o c l w)) (on_goes takes_reference))) f ≡ referred t o f c l w
+  -- a part, by reference
+  reference_puts : (x : Reached) (t : ℕ) → are_selectors (selectors_of x) ≡ true → part_runs x k.records ≡ true → Puts (part_code x t) (λ d. ticked (ticked (find_by K (selectors_of x) (variable_of x) d) >>= takes_reference))
   unfolding opened_outcome takes_reference bound_slot
-  referred_is t None f c l w = refl
-  referred_is t (Some n) f c l w = refl
+  reference_puts x t selectors runs f s w0 d place ks ops c l w next fits long has leaves more =
+      let v = variable_of x in
+      let steps = selectors_of x in
+      let o = part_found k steps (spot_of (content_of d v w)) c l w in
+      let after : Result Found → Act Done = λ r c1 l1 w1. bind (on_goes takes_reference r c1 l1 w1) f in
+      subst (Runs ask code (Kept k code w0) 3 3 (at d place ks ops l w) c next)
+      (sym (ap (λ z. bind (add 1 (bind (add 1 z) (on_goes takes_reference))) f) (finds_part K v steps selectors d c l w (no_copy_at k code (master_of d v) v.slot w fits.0))
+      ∙ bind_add 1 (bind (add 1 o) (on_goes takes_reference)) f
+      ∙ ap (add 1) (bind_bind (add 1 o) (on_goes takes_reference) f ∙ bind_add 1 o after)))
+      (added ask code (Kept k code w0) 1 3 3 3 3 _ c next (add 1 (bind o after)) (omega arith) (omega arith)
+      (added ask code (Kept k code w0) 1 3 3 3 3 _ c next (bind o after) (omega arith) (omega arith)
+      (part_then k code ask (Kept k code w0) 3 3 x t s d place ks ops c l w next after selectors (agree_part k code setting.places x runs) long has
+      (λ p. added ask code (Kept k code w0) 0 3 3 3 3 _ c next (f (Goes (formal (Located p))) c l w) (omega arith) (omega arith) (more (Located p) c l w (omega arith) fits)))))
 
-  -- the object in a variable, from the step that finds it
-  located : (t : ℕ) (o : Option ℕ) (f : Result Formal → Act Done) (w0 : World) (d : List ℕ) (place : ℕ) (ks : List Frame) (ops : List ℕ) (c : ℕ) (l : Log) (w : World) (next : Result Done → Log → World → State) → step ask code (at d place ks ops l w) ≡ moved l (by_locate o ops (here d place ks w)) →
-      ((n : ℕ) → Runs ask code (Kept k code w0) 3 3 (at d (place + 1) ks (n ∷ ops) l w) c next (f (Goes (formal (Record t) n)) c l w)) → Runs ask code (Kept k code w0) 3 3 (at d place ks ops l w) c next (referred t o f c l w)
-  located t None f w0 d place ks ops c l w next first more = stop_step ask code (Kept k code w0) 3 3 _ _ c 3 next UseAfterFree l (omega arith) first refl refl
-  located t (Some n) f w0 d place ks ops c l w next first more =
-      added ask code (Kept k code w0) 3 4 4 3 3 _ c next (f (Goes (formal (Record t) n)) c l w) (omega arith) (omega arith)
-      (one_step ask code (Kept k code w0) 3 3 4 4 (at d place ks ops l w) (at d (place + 1) ks (n ∷ ops) l w) c c next _ (omega arith) (omega arith) (omega arith) (omega arith) first (more n))
-
-  reference_puts : (v : Var) (t : ℕ) → Puts (Record t) (λ s. (InstrOf.Locate (out_to s v) v.slot t (height s), s) ∷ []) (λ d. ticked (ticked (find_by K [] Composite v d) >>= takes_reference))
-  unfolding opened_outcome
-  reference_puts v t f s w0 d place ks ops c l w next fits long has leaves more =
-      subst (λ o. Runs ask code (Kept k code w0) 3 3 (at d place ks ops l w) c next o)
-      (sym (ap (λ x. bind (add 1 (bind (add 1 x) (on_goes takes_reference))) f) (finds_whole K v d c l w (whole_at k code (master_of d v) v.slot w fits.0))
-      ∙ referred_is t (whole_of (content_of d v w)) f c l w))
-      (located t (whole_of (content_of d v w)) f w0 d place ks ops c l w next
-      (by_code ask code d place ks ops l w (InstrOf.Locate (out_to s v) v.slot t (height s)) has.0
-      ∙ ap (λ m. moved l (by_locate (whole_of (slot_at m v.slot w).content) ops (here d place ks w))) (out_is d s v long))
-      (λ n. more n c l w (omega arith) fits))
-
-  reference_passes : (o : Option Reached) (ty : Ty) (find : List ℕ → Act Found) → ((v : Var) → o ≡ Some (ReachedOf.Variable v) → find ≡ find_by K [] Composite v) → (by_reference o ty).runs k.records ≡ true → Puts (by_reference o ty).ty (by_reference o ty).code (λ d. ticked (ticked (find d) >>= takes_reference))
-  reference_passes None ty find finds runs = absurd (cc)
-  reference_passes (Some (ReachedOf.Component v t position)) ty find finds runs = absurd (cc)
-  reference_passes (Some (ReachedOf.Variable v)) (Record t) find finds runs = subst (λ (g : List ℕ → Act Found). Puts (Record t) (λ s. (InstrOf.Locate (out_to s v) v.slot t (height s), s) ∷ []) (λ d. ticked (ticked (g d) >>= takes_reference))) (sym (finds v refl)) (reference_puts v t)
-  reference_passes (Some (ReachedOf.Variable v)) Integer find finds runs = absurd (cc)
-  reference_passes (Some (ReachedOf.Variable v)) Count find finds runs = absurd (cc)
-  reference_passes (Some (ReachedOf.Variable v)) Boolean find finds runs = absurd (cc)
-  reference_passes (Some (ReachedOf.Variable v)) Address find finds runs = absurd (cc)
-  reference_passes (Some (ReachedOf.Variable v)) Handle find finds runs = absurd (cc)
-  reference_passes (Some (ReachedOf.Variable v)) (Access a) find finds runs = absurd (cc)
+  reference_passes : (o : Option Reached) (ty : Ty) (find : Naming) → ((x : Reached) → o ≡ Some x → Leads K x find) → (by_reference o ty).runs k.records ≡ true → Puts (by_reference o ty).code (λ d. ticked (ticked (find Composite K d) >>= takes_reference))
+  reference_passes None ty find leads runs = absurd (cc)
+  reference_passes (Some x) (Record t) find leads runs =
+      let h = leads x refl in
+      subst (λ (g : List ℕ → Act Found). Puts (part_code x t) (λ d. ticked (ticked (g d) >>= takes_reference))) (sym (composite_leads K x find h)) (reference_puts x t h.selectors runs)
+  reference_passes (Some x) Integer find leads runs = absurd (cc)
+  reference_passes (Some x) Count find leads runs = absurd (cc)
+  reference_passes (Some x) Boolean find leads runs = absurd (cc)
+  reference_passes (Some x) Address find leads runs = absurd (cc)
+  reference_passes (Some x) Handle find leads runs = absurd (cc)
+  reference_passes (Some x) (Access a) find leads runs = absurd (cc)
 
   -- one layer of the tree
   layer_passes : (y : Actual-F Actual Expr Name Operand_of) → (actual_layer y).runs k.records ≡ true → Passes (actual_layer y) (supply (roll-Actual y))
@@ -186,7 +152,7 @@ module _ (ask : Ask) (k : Tables) (code : Code) (setting : Setting k code) (call
   layer_passes (Actual-F.ByValue e ty) runs =
       let h = both_true _ _ runs in
       subst (Passes (actual_layer (Actual-F.ByValue e ty))) (sym (actual_roll (Actual-F.ByValue e ty))) (value_passes e ty (scalar_if ty h.0) h.1)
-  layer_passes (Actual-F.Part name ty) runs = subst (Passes (actual_layer (Actual-F.Part name ty))) (sym (actual_roll (Actual-F.Part name ty))) (reference_passes (reached_by name) ty (eval_name name Composite K) (name_means K name) runs)
+  layer_passes (Actual-F.Part name ty) runs = subst (Passes (actual_layer (Actual-F.Part name ty))) (sym (actual_roll (Actual-F.Part name ty))) (reference_passes (reached_by name) ty (eval_name name) (name_leads K name) runs)
   layer_passes (Actual-F.Copied name ty begins) runs = absurd (cc)
 
   pub actual_passes : (a : Actual) → (actual_code a).runs k.records ≡ true → Passes (actual_code a) (supply a)
@@ -204,14 +170,14 @@ module _ (ask : Ask) (k : Tables) (code : Code) (setting : Setting k code) (call
   actuals_pass (x ∷ xs) runs = let h = both_true _ _ runs in (actual_passes x h.0, actuals_pass xs h.1)
 
   -- the actuals that are left, and the lines behind them, where all operands stand
-  each_runs : (behind : List Kind → List Line) (g : Result Passed → Act Done) (count : ℕ) (xs : List ActualCode) (ms : List Supplied) → EachPasses xs ms → (n : ℕ) (p : Passed) → n + length xs ≡ count → (s : List Kind) (e : Target) (w0 : World) (d : List ℕ) (place : ℕ) (ks : List Frame) (ops below : List ℕ) (c : ℕ) (l : Log) (w : World) → Taken n s ops below p → Since k code w0 w → length d ≡ depth s → Laid code place (actuals_code xs s ++ behind (with_actuals xs s)) → IsLeft g →
-      ((q : Passed) (t : List Kind) (place1 : ℕ) (ops1 : List ℕ) (c1 : ℕ) (l1 : Log) (w1 : World) → Taken count t ops1 below q → c1 ≤ c → Since k code w0 w1 → length d ≡ depth t → Laid code place1 (behind t) → Runs ask code (Kept k code w0) 3 3 (at d place1 ks ops1 l1 w1) c1 (arrives e d (place1 + length (behind t)) ks below) (g (Goes q) c1 l1 w1)) →
+  each_runs : (behind : List Kind → List Line) (g : Result Passed → Act Done) (count : ℕ) (xs : List ActualCode) (ms : List Supplied) → EachPasses xs ms → (n : ℕ) (p : Passed) → n + length xs ≡ count → (s : List Kind) (e : Target) (w0 : World) (d : List ℕ) (place : ℕ) (ks : List Frame) (ops below : List Word) (c : ℕ) (l : Log) (w : World) → Taken n ops below p → Since k code w0 w → length d ≡ depth s → Laid code place (actuals_code xs s ++ behind (with_actuals xs s)) → IsLeft g →
+      ((q : Passed) (t : List Kind) (place1 : ℕ) (ops1 : List Word) (c1 : ℕ) (l1 : Log) (w1 : World) → Taken count ops1 below q → c1 ≤ c → Since k code w0 w1 → length d ≡ depth t → Laid code place1 (behind t) → Runs ask code (Kept k code w0) 3 3 (at d place1 ks ops1 l1 w1) c1 (arrives e d (place1 + length (behind t)) ks below) (g (Goes q) c1 l1 w1)) →
       Runs ask code (Kept k code w0) 3 3 (at d place ks ops l w) c (arrives e d (place + length (actuals_code xs s ++ behind (with_actuals xs s))) ks below) (bind (pass_each K d ms p c l w) g)
   unfolding pass_each opened_outcome
   each_runs behind g count [] [] each n p long_is s e w0 d place ks ops below c l w taken fits long has left more =
       let same : n ≡ count = omega (arith, long_is) in
       added ask code (Kept k code w0) 0 3 3 3 3 _ c _ (g (Goes p) c l w) (omega arith) (omega arith)
-      (more p s place ops c l w (subst (λ i. Taken i s ops below p) same taken) (omega arith) fits long has)
+      (more p s place ops c l w (subst (λ i. Taken i ops below p) same taken) (omega arith) fits long has)
   each_runs behind g count [] (m ∷ ms) each n p long_is s e w0 d place ks ops below c l w taken fits long has left more = absurd each
   each_runs behind g count (x ∷ xs) [] each n p long_is s e w0 d place ks ops below c l w taken fits long has left more = absurd each
   each_runs behind g count (x ∷ xs) (m ∷ ms) each n p long_is s e w0 d place ks ops below c l w taken fits long has left more =
@@ -230,13 +196,13 @@ module _ (ask : Ask) (k : Tables) (code : Code) (setting : Setting k code) (call
       (no_step ask code (Kept k code w0) 3 3 (transferred (ByRaise y) ks l1 w1) c1 0 (arrives e d (place + length (x.code s) + length rest) ks below) (Leaves (ByRaise y)) l1 w1 fits1 refl))
       (λ a c1 l1 w1 lo fits1.
       let count_is : suc n + length xs ≡ count = omega (arith, long_is) in
-      each_runs behind g count xs ms each.1 (suc n) (with_formal (formal x.ty a) p) count_is over e w0 d (place + length (x.code s)) ks (a ∷ ops) below c1 l1 w1 (one_taken n s ops below p x.ty a taken) fits1 long (laid_back code place (x.code s) rest has1) left
+      each_runs behind g count xs ms each.1 (suc n) (with_formal (formal a) p) count_is over e w0 d (place + length (x.code s)) ks (a ∷ ops) below c1 l1 w1 (one_taken n ops below p a taken) fits1 long (laid_back code place (x.code s) rest has1) left
       (λ q t place1 ops1 c2 l2 w2 taken2 lo2. more q t place1 ops1 c2 l2 w2 taken2 (omega (arith, lo, lo2))))))
 
   -- no operand stands there yet
-  pub all_run : (behind : List Kind → List Line) (g : Result Passed → Act Done) (xs : List ActualCode) (ms : List Supplied) → EachPasses xs ms → (s : List Kind) (e : Target) (w0 : World) (d : List ℕ) (place : ℕ) (ks : List Frame) (ops : List ℕ) (c : ℕ) (l : Log) (w : World) → Since k code w0 w → length d ≡ depth s → Laid code place (actuals_code xs s ++ behind (with_actuals xs s)) → IsLeft g →
-      ((q : Passed) (t : List Kind) (place1 : ℕ) (ops1 : List ℕ) (c1 : ℕ) (l1 : Log) (w1 : World) → Taken (length xs) t ops1 ops q → c1 ≤ c → Since k code w0 w1 → length d ≡ depth t → Laid code place1 (behind t) → Runs ask code (Kept k code w0) 3 3 (at d place1 ks ops1 l1 w1) c1 (arrives e d (place1 + length (behind t)) ks ops) (g (Goes q) c1 l1 w1)) →
+  pub all_run : (behind : List Kind → List Line) (g : Result Passed → Act Done) (xs : List ActualCode) (ms : List Supplied) → EachPasses xs ms → (s : List Kind) (e : Target) (w0 : World) (d : List ℕ) (place : ℕ) (ks : List Frame) (ops : List Word) (c : ℕ) (l : Log) (w : World) → Since k code w0 w → length d ≡ depth s → Laid code place (actuals_code xs s ++ behind (with_actuals xs s)) → IsLeft g →
+      ((q : Passed) (t : List Kind) (place1 : ℕ) (ops1 : List Word) (c1 : ℕ) (l1 : Log) (w1 : World) → Taken (length xs) ops1 ops q → c1 ≤ c → Since k code w0 w1 → length d ≡ depth t → Laid code place1 (behind t) → Runs ask code (Kept k code w0) 3 3 (at d place1 ks ops1 l1 w1) c1 (arrives e d (place1 + length (behind t)) ks ops) (g (Goes q) c1 l1 w1)) →
       Runs ask code (Kept k code w0) 3 3 (at d place ks ops l w) c (arrives e d (place + length (actuals_code xs s ++ behind (with_actuals xs s))) ks ops) (bind (pass_each K d ms no_actuals c l w) g)
   all_run behind g xs ms each s e w0 d place ks ops c l w fits long has left more =
       let same : 0 + length xs ≡ length xs = omega arith in
-      each_runs behind g (length xs) xs ms each 0 no_actuals same s e w0 d place ks ops ops c l w (none_taken s ops) fits long has left more
+      each_runs behind g (length xs) xs ms each 0 no_actuals same s e w0 d place ks ops ops c l w (none_taken ops) fits long has left more

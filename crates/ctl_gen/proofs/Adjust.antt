@@ -1,4 +1,4 @@
--- The Adjust of an object of a plain type: after it has been created by a copy, or assigned to.
+-- The Adjust of a part of a plain type: after it has been created by a copy, or assigned to.
 use Rattle.std.proofs.Common.{◌≡◌, ℕ, length, Option, Some, None, refl, sym, ap, ◌∙◌}
 use Rattle.std.specs.Prelude.{slice_get}
 use Rattle.ctl_program.specs.declared.types.Ty.TheVariants.{Record}
@@ -10,14 +10,14 @@ use Rattle.ctl_meaning.specs.Choice.{Ask}
 use Rattle.ctl_meaning.specs.Outcome.{Goes, Out, Gives, Done, bind, on_goes, ◌>>=◌, done, told, attempt, either, opened_outcome}
 use Rattle.ctl_meaning.specs.Types.{Tables, operation, operation_in, depth, of_record}
 use Rattle.ctl_meaning.specs.Names.{Call, Default, Tools}
-use Rattle.ctl_meaning.specs.Finalization.{whole, component_at, part_of, call_operation}
+use Rattle.ctl_meaning.specs.Finalization.{Spot, component_at, part_of, call_operation}
 use Rattle.ctl_meaning.specs.Adjustment.{Birth, unadjusted, adjust, adjust_record, adjust_part, adjust_each, own_adjust, after_adjust, adjusted}
 use Rattle.ctl_code.specs.declared.code.Beginning.TheVariants.{ByCopy}
 use Rattle.ctl_code.specs.declared.code.Code.{Code}
-use Rattle.ctl_code.specs.Table.{first_call, first_operation, operation_of}
+use Rattle.ctl_code.specs.Table.{first_operation, operation_of, part_at}
 use Rattle.ctl_layout.specs.Records.{adjust_by}
 use Rattle.ctl_gen.proofs.Known.{IsPlain, IsUntagged}
-use Rattle.ctl_gen.proofs.Plain.{controlled_parts_flat, is_controlled_plain, not_controlled_plain}
+use Rattle.ctl_gen.proofs.Plain.{controlled_parts_laid, is_controlled_plain, not_controlled_plain}
 use Rattle.ctl_gen.proofs.Setting.{Setting, first_of, tools_with}
 use Rattle.ctl_gen.proofs.Follow.{add_none}
 
@@ -26,28 +26,28 @@ module _ (ask : Ask) (k : Tables) (code : Code) (setting : Setting k code) (call
   K = tools_with ask k call default
 
   -- no component has one
-  pub adjust_is : (b : Option Birth) (n c : ℕ) (l : Log) (w : World) → adjust K b (whole n) (Record t) c l w ≡ bind (own_adjust K b (whole n) t unadjusted c l w) (on_goes (adjusted K b (whole n) t))
+  pub adjust_is : (b : Option Birth) (s : Spot) (c : ℕ) (l : Log) (w : World) → adjust K b s (Record t) c l w ≡ bind (own_adjust K b s t unadjusted c l w) (on_goes (adjusted K b s t))
   unfolding adjust adjust_record adjust_part adjust_each of_record depth opened_outcome
-  adjust_is b n c l w =
-      ap (λ ps. bind (bind (adjust_each K (λ p a. of_record (done a) (λ u. adjust_part K b (length k.records) (component_at (whole n) p) u a) p.ty) (length ps) ps unadjusted c l w) (on_goes (own_adjust K b (whole n) t))) (on_goes (adjusted K b (whole n) t))) (controlled_parts_flat k t plain.components plain.flat K refl)
-      ∙ ap (λ o. bind o (on_goes (adjusted K b (whole n) t))) (add_none (own_adjust K b (whole n) t unadjusted c l w))
+  adjust_is b s c l w =
+      ap (λ ps. bind (bind (adjust_each K (λ p a. of_record (done a) (λ u. adjust_part K b (length k.records) (component_at s p) u a) p.ty) (length ps) ps unadjusted c l w) (on_goes (own_adjust K b s t))) (on_goes (adjusted K b s t))) (controlled_parts_laid k t plain.components plain.laid K refl)
+      ∙ ap (λ o. bind o (on_goes (adjusted K b s t))) (add_none (own_adjust K b s t unadjusted c l w))
 
   -- after its Adjust, as the meaning says it
-  abbrev pub settled : Option Birth → ℕ → Out Done → Out Done
-  settled b n x = bind (bind (bind x told) (on_goes (after_adjust K b (whole n) t unadjusted))) (on_goes (adjusted K b (whole n) t))
+  abbrev pub settled : Option Birth → Spot → Out Done → Out Done
+  settled b s x = bind (bind (bind x told) (on_goes (after_adjust K b s t unadjusted))) (on_goes (adjusted K b s t))
 
-  -- the object's own Adjust
-  pub own_is : r.root ≡ Controlled → (b : Option Birth) (g : Option ℕ) → operation (first_of ByCopy) k t ≡ g → (n c : ℕ) (l : Log) (w : World) → bind (own_adjust K b (whole n) t unadjusted c l w) (on_goes (adjusted K b (whole n) t)) ≡ settled b n (call_operation K (whole n) g (first_call ByCopy n) c l w)
-  unfolding own_adjust part_of whole opened_outcome
-  own_is controlled b g e n c l w =
-      ap (λ q. bind (either q (λ c1 l1 w1. bind (bind (call_operation K (whole n) (operation (first_of ByCopy) k t) (first_call ByCopy n) c1 l1 w1) told) (on_goes (after_adjust K b (whole n) t unadjusted))) (done unadjusted) c l w) (on_goes (adjusted K b (whole n) t))) (is_controlled_plain k t r record_is controlled)
-      ∙ ap (λ f. settled b n (call_operation K (whole n) f (first_call ByCopy n) c l w)) e
+  -- the part's own Adjust
+  pub own_is : r.root ≡ Controlled → (b : Option Birth) (g : Option ℕ) → operation (first_of ByCopy) k t ≡ g → (s : Spot) (c : ℕ) (l : Log) (w : World) → bind (own_adjust K b s t unadjusted c l w) (on_goes (adjusted K b s t)) ≡ settled b s (call_operation K s g (EventOf.Adjust (part_at s)) c l w)
+  unfolding own_adjust part_of opened_outcome
+  own_is controlled b g e s c l w =
+      ap (λ q. bind (either q (λ c1 l1 w1. bind (bind (call_operation K s (operation (first_of ByCopy) k t) (EventOf.Adjust (part_at s)) c1 l1 w1) told) (on_goes (after_adjust K b s t unadjusted))) (done unadjusted) c l w) (on_goes (adjusted K b s t))) (is_controlled_plain k t r record_is controlled)
+      ∙ ap (λ f. settled b s (call_operation K s f (EventOf.Adjust (part_at s)) c l w)) e
 
-  -- an object that is not controlled has none
-  pub none_is : IsUntagged r → (b : Option Birth) (n c : ℕ) (l : Log) (w : World) → bind (own_adjust K b (whole n) t unadjusted c l w) (on_goes (adjusted K b (whole n) t)) ≡ Gives (Goes tt) 0 c l w
+  -- one that is not controlled has none
+  pub none_is : IsUntagged r → (b : Option Birth) (s : Spot) (c : ℕ) (l : Log) (w : World) → bind (own_adjust K b s t unadjusted c l w) (on_goes (adjusted K b s t)) ≡ Gives (Goes tt) 0 c l w
   unfolding own_adjust adjusted unadjusted opened_outcome
-  none_is untagged b n c l w =
-      ap (λ q. bind (either q (attempt (call_operation K (whole n) (operation (λ x. x.adjust) k t) (EventOf.Adjust (part_of (whole n)))) >>= after_adjust K b (whole n) t unadjusted) (done unadjusted) c l w) (on_goes (adjusted K b (whole n) t))) (not_controlled_plain k t r record_is plain.components plain.flat untagged)
+  none_is untagged b s c l w =
+      ap (λ q. bind (either q (attempt (call_operation K s (operation (λ x. x.adjust) k t) (EventOf.Adjust (part_of s))) >>= after_adjust K b s t unadjusted) (done unadjusted) c l w) (on_goes (adjusted K b s t))) (not_controlled_plain k t r record_is plain.components plain.laid untagged)
 
   -- the table names the Adjust of a tagged type
   pub adjust_named : r.root ≡ Controlled → operation_of (first_operation ByCopy) code t ≡ operation (first_of ByCopy) k t

@@ -19,7 +19,7 @@ use Rattle.ctl_code.specs.declared.code.Instr.TheVariants as InstrOf
 use Rattle.ctl_code.specs.declared.code.Named.TheVariants.{Variable}
 use Rattle.ctl_code.specs.declared.code.Code.{Code}
 use Rattle.ctl_code.specs.declared.kinds.Kind.{Kind}
-use Rattle.ctl_code.specs.States.{Frame}
+use Rattle.ctl_code.specs.States.{Word, Frame}
 use Rattle.ctl_code.specs.Steps.{moved}
 use Rattle.ctl_code.specs.Table.{out_of, on, with_cell}
 use Rattle.ctl_code.specs.Valid.{IsValid}
@@ -64,7 +64,7 @@ module _ (ask : Ask) (k : Tables) (code : Code) (valid : IsValid code) (bound : 
   assigned_is d s x n w w0 sees = ap (λ m. set_value m x.slot n w) (out_is d s x sees.long)
 
   -- into its cell, or the variable of a body around
-  stored : (o : Option ℕ) (x : Var) (y : ValueCode) (act : List ℕ → Act (List ℕ)) → ((w0 : World) → Value ask k code (Since k code w0) y act) → (a : Around) (w0 : World) (d : List ℕ) (place : ℕ) (ks : List Frame) (ops : List ℕ) (c : ℕ) (l : Log) (w : World) → Since k code w0 w → Sees d a.stack w0 → Laid code place (assign_code o x y a.stack) → Runs ask code (Kept k code w0) 0 0 (at d place ks ops l w) c (arrives (lands a place) d (place + length (assign_code o x y a.stack)) ks ops) (bind (act d c l w) (on_goes (write_found (InVariable (master_of d x) x.slot))))
+  stored : (o : Option ℕ) (x : Var) (y : ValueCode) (act : List ℕ → Act (List ℕ)) → ((w0 : World) → Value ask k code (Since k code w0) y act) → (a : Around) (w0 : World) (d : List ℕ) (place : ℕ) (ks : List Frame) (ops : List Word) (c : ℕ) (l : Log) (w : World) → Since k code w0 w → Sees d a.stack w0 → Laid code place (assign_code o x y a.stack) → Runs ask code (Kept k code w0) 0 0 (at d place ks ops l w) c (arrives (lands a place) d (place + length (assign_code o x y a.stack)) ks ops) (bind (act d c l w) (on_goes (write_found (InVariable (master_of d x) x.slot))))
   unfolding opened_outcome write_found scalar_of opened_lists
   stored (Some n) x y act value a w0 d place ks ops c l w fits sees has =
       let s = a.stack in

@@ -26,7 +26,7 @@ use Rattle.ctl_code.specs.Steps.{moved, step, start}
 use Rattle.ctl_layout.specs.Layout.{MasterCode, body_code, entry_at, master_code, nowhere}
 use Rattle.ctl_layout.proofs.StatementLayers.{master_is}
 use Rattle.ctl_gen.proofs.Place.{HasAt, Laid}
-use Rattle.ctl_gen.proofs.Worlds.{Each, IsWhole, whole_unset, Since, fits_empty, keeps_itself}
+use Rattle.ctl_gen.proofs.Worlds.{Each, HoldsNoCopy, no_copy_unset, Since, fits_empty, keeps_itself}
 use Rattle.ctl_gen.proofs.Setting.{Setting, returns, Told, Calls}
 use Rattle.ctl_gen.proofs.Defaults.{GivesDefaults}
 use Rattle.ctl_gen.proofs.Cells.{by_code}
@@ -55,14 +55,14 @@ taken_length zero xs le = refl
 taken_length (suc n) [] le = absurd (omega (arith, le))
 taken_length (suc n) (x ∷ xs) le = let e = taken_length n xs (omega (arith, le)) in omega (arith, e)
 
-whole_both : (xs ys : List Slot) → Each IsWhole xs → Each IsWhole ys → Each IsWhole (xs ++ ys)
-whole_both [] ys h g = g
-whole_both (x ∷ xs) ys h g = (h.0, whole_both xs ys h.1 g)
+no_copy_both : (xs ys : List Slot) → Each HoldsNoCopy xs → Each HoldsNoCopy ys → Each HoldsNoCopy (xs ++ ys)
+no_copy_both [] ys h g = g
+no_copy_both (x ∷ xs) ys h g = (h.0, no_copy_both xs ys h.1 g)
 
-whole_rest : (n : ℕ) (xs : List Slot) → Each IsWhole xs → Each IsWhole (drop n xs)
-whole_rest zero xs h = h
-whole_rest (suc n) [] h = tt
-whole_rest (suc n) (x ∷ xs) h = whole_rest n xs h.1
+no_copy_rest : (n : ℕ) (xs : List Slot) → Each HoldsNoCopy xs → Each HoldsNoCopy (drop n xs)
+no_copy_rest zero xs h = h
+no_copy_rest (suc n) [] h = tt
+no_copy_rest (suc n) (x ∷ xs) h = no_copy_rest n xs h.1
 
 module _ (ask : Ask) (p : Meaning) (code : Code) (setting : Setting p.tables code) (bodies : (f : ℕ) (s : Subprogram) → slice_get setting.subprograms f ≡ Some s → Stands p.tables code f s) (meant : (f : ℕ) (s : Subprogram) → slice_get setting.subprograms f ≡ Some s → slice_get p.routines f ≡ Some (routine_of s)) (constants : (call : Names.Call) → GivesDefaults p.tables (default_in p.defaults (expression_tools ask p call))) where
   abbrev k : Tables
@@ -75,9 +75,9 @@ module _ (ask : Ask) (p : Meaning) (code : Code) (setting : Setting p.tables cod
       ap (λ e. moved l (enter_body e [] env actuals ks w)) x.entry
       ∙ ap (λ n. at (take s.level env ++ w.ledger.next_master ∷ []) x.place (in_frame w.ledger.next_master 0 AfterBody ks) [] l (open_master (take s.level env) (actuals ++ drop (length actuals) (replicate n unset)) w)) (slots_alike s.body)
 
-  whole_slots : (s : Subprogram) (actuals : List Slot) → Each IsWhole actuals → Each IsWhole (slots_for (body_of s.body) actuals)
+  no_copy_slots : (s : Subprogram) (actuals : List Slot) → Each HoldsNoCopy actuals → Each HoldsNoCopy (slots_for (body_of s.body) actuals)
   unfolding slots_for unset_slots
-  whole_slots s actuals h = whole_both actuals _ h (whole_rest (length actuals) (replicate (body_of s.body).slots unset) (whole_unset (body_of s.body).slots))
+  no_copy_slots s actuals h = no_copy_both actuals _ h (no_copy_rest (length actuals) (replicate (body_of s.body).slots unset) (no_copy_unset (body_of s.body).slots))
 
   -- how a procedure ends for its call
   behind_call : (w0 : World) (ks : List Frame) (r : Result Left) (c : ℕ) (l : Log) (w : World) → Told k code w0 (way_of r) w → Runs ask code (Told k code w0) 0 0 (leaves AfterBody ks r l w) c (returns ks) (on_goes (λ (x : Left). returned Procedure x.slots x.result) r c l w)
@@ -94,9 +94,9 @@ module _ (ask : Ask) (p : Meaning) (code : Code) (setting : Setting p.tables cod
       on (Leaves (ByRaise e)) = no_step ask code (Told k code w0) 0 0 _ c 0 (returns {A = Returned} ks) (Leaves (ByRaise e)) l w fits refl
 
   -- a body, from the step that enters it
-  number_runs : (call : Names.Call) (bound : ℕ) → Calls ask k code setting bound call → (f : ℕ) (s : Subprogram) → slice_get setting.subprograms f ≡ Some s → (w0 : World) (env : List ℕ) (actuals : List Slot) (ks : List Frame) (c0 c : ℕ) (l : Log) (w : World) (s0 : State) → c ≤ bound → c ≤ c0 → c0 ≤ c + 1 → Since k code w0 w → IsInScope code (length env) (Some f) → Each IsWhole actuals → step ask code s0 ≡ moved l (enter_body (slice_get code.entries.items f) [] env actuals ks w) → Runs ask code (Told k code w0) 0 2 s0 c0 (returns ks) (run_number p (tools_with ask p call) env actuals f c l w)
+  number_runs : (call : Names.Call) (bound : ℕ) → Calls ask k code setting bound call → (f : ℕ) (s : Subprogram) → slice_get setting.subprograms f ≡ Some s → (w0 : World) (env : List ℕ) (actuals : List Slot) (ks : List Frame) (c0 c : ℕ) (l : Log) (w : World) (s0 : State) → c ≤ bound → c ≤ c0 → c0 ≤ c + 1 → Since k code w0 w → IsInScope code (length env) (Some f) → Each HoldsNoCopy actuals → step ask code s0 ≡ moved l (enter_body (slice_get code.entries.items f) [] env actuals ks w) → Runs ask code (Told k code w0) 0 2 s0 c0 (returns ks) (run_number p (tools_with ask p call) env actuals f c l w)
   unfolding run_number run_routine tools_with opened_outcome
-  number_runs call bound calls f s here w0 env actuals ks c0 c l w s0 le lo hi fits scope whole first =
+  number_runs call bound calls f s here w0 env actuals ks c0 c l w s0 le lo hi fits scope uncopied first =
       let x : Stands k code f s = bodies f s here in
       let inner = λ (display : List ℕ). (body_of s.body).inside (tools_with ask p call) display 0 in
       let known : scope.0 ≡ entry_at x.place s = cc (sym scope.1 ∙ x.entry) in
@@ -105,22 +105,22 @@ module _ (ask : Ask) (p : Meaning) (code : Code) (setting : Setting p.tables cod
       subst (λ o. Runs ask code (Told k code w0) 0 2 s0 c0 (returns ks) o) (sym (ap (λ y. on_some y gone (run_routine (tools_with ask p call) env actuals) c l w) (meant f s here)))
       (subst (λ (b : SubprogramKind). Runs ask code (Told k code w0) 0 2 s0 c0 (returns ks) (bind (in_master (tools_with ask p call) (take s.level env) (slots_for (body_of s.body) actuals) inner c l w) (on_goes (λ (y : Left). returned b y.slots y.result)))) (sym x.procedure)
       (both ask code (Told k code w0) (Told k code w0) 0 2 0 0 0 2 s0 c0 (leaves AfterBody ks) (returns ks) _ (on_goes (λ (y : Left). returned Procedure y.slots y.result)) (omega arith) (omega arith) (omega arith)
-      ((master_does ask k code setting call (default_in p.defaults (expression_tools ask p call)) (constants call) bound calls s.body).inside x.runs x.before x.texts 0 (KindOf.Body s.level (master_code s.body).slots) [] w0 (take s.level env) (slots_for (body_of s.body) actuals) AfterBody ks c0 c l w s0 x.place le lo hi fits long (whole_slots s actuals whole) x.instructions (first ∙ entered f s x env actuals ks l w))
+      ((master_does ask k code setting call (default_in p.defaults (expression_tools ask p call)) (constants call) bound calls s.body).inside x.runs x.before x.texts 0 (KindOf.Body s.level (master_code s.body).slots) [] w0 (take s.level env) (slots_for (body_of s.body) actuals) AfterBody ks c0 c l w s0 x.place le lo hi fits long (no_copy_slots s actuals uncopied) x.instructions (first ∙ entered f s x env actuals ks l w))
       (λ r c1 l1 w1 lo1 fits1. behind_call w0 ks r c1 l1 w1 fits1)))
 
   -- an execution takes one from the clock, and is a tick
-  call_runs : (n c : ℕ) → c ≤ n → (f : ℕ) (s : Subprogram) → slice_get setting.subprograms f ≡ Some s → (w0 : World) (v : List ℕ) (actuals : List Slot) (ks : List Frame) (l : Log) (w : World) (s0 : State) → Since k code w0 w → IsInScope code (length v) (Some f) → Each IsWhole actuals → step ask code s0 ≡ moved l (enter_body (slice_get code.entries.items f) [] v actuals ks w) → Runs ask code (Told k code w0) 2 3 s0 c (returns ks) (execution ask p (suc n) (OfSubprogram f actuals) v c l w)
+  call_runs : (n c : ℕ) → c ≤ n → (f : ℕ) (s : Subprogram) → slice_get setting.subprograms f ≡ Some s → (w0 : World) (v : List ℕ) (actuals : List Slot) (ks : List Frame) (l : Log) (w : World) (s0 : State) → Since k code w0 w → IsInScope code (length v) (Some f) → Each HoldsNoCopy actuals → step ask code s0 ≡ moved l (enter_body (slice_get code.entries.items f) [] v actuals ks w) → Runs ask code (Told k code w0) 2 3 s0 c (returns ks) (execution ask p (suc n) (OfSubprogram f actuals) v c l w)
   unfolding execution execute opened_outcome
-  call_runs n zero le f s here w0 v actuals ks l w s0 fits scope whole first =
+  call_runs n zero le f s here w0 v actuals ks l w s0 fits scope uncopied first =
       let e = first ∙ entered f s (bodies f s here) v actuals ks l w in
       record { n = 1; in_time = omega arith; logged = ap (λ (x : State). x.log) e; going = subst IsGoing (sym e) tt; why = inl (omega arith) }
-  call_runs zero (suc c) le f s here w0 v actuals ks l w s0 fits scope whole first = absurd (omega (arith, le))
-  call_runs (suc n) (suc c) le f s here w0 v actuals ks l w s0 fits scope whole first =
+  call_runs zero (suc c) le f s here w0 v actuals ks l w s0 fits scope uncopied first = absurd (omega (arith, le))
+  call_runs (suc n) (suc c) le f s here w0 v actuals ks l w s0 fits scope uncopied first =
       added ask code (Told k code w0) 1 0 2 2 3 s0 (suc c) (returns ks) _ (omega arith) (omega arith)
-      (number_runs (execution ask p (suc n)) n (record { runs = λ f1 s1 here1 w1 v1 actuals1 ks1 c1 l1 w2 s2 le1 fits1 scope1 whole1 first1. call_runs n c1 le1 f1 s1 here1 w1 v1 actuals1 ks1 l1 w2 s2 fits1 scope1 whole1 first1 }) f s here w0 v actuals ks (suc c) c l w s0 (omega (arith, le)) (omega arith) (omega arith) fits scope whole first)
+      (number_runs (execution ask p (suc n)) n (record { runs = λ f1 s1 here1 w1 v1 actuals1 ks1 c1 l1 w2 s2 le1 fits1 scope1 uncopied1 first1. call_runs n c1 le1 f1 s1 here1 w1 v1 actuals1 ks1 l1 w2 s2 fits1 scope1 uncopied1 first1 }) f s here w0 v actuals ks (suc c) c l w s0 (omega (arith, le)) (omega arith) (omega arith) fits scope uncopied first)
 
   calls_run : (n : ℕ) → Calls ask k code setting n (execution ask p (suc n))
-  calls_run n = record { runs = λ f s here w0 v actuals ks c l w s0 le fits scope whole first. call_runs n c le f s here w0 v actuals ks l w s0 fits scope whole first }
+  calls_run n = record { runs = λ f s here w0 v actuals ks c l w s0 le fits scope uncopied first. call_runs n c le f s here w0 v actuals ks l w s0 fits scope uncopied first }
 
   -- the main procedure, which is declared in no master
   pub main_runs : (main : ℕ) (s : Subprogram) → slice_get setting.subprograms main ≡ Some s → IsInScope code 0 (Some main) → slice_get code.instructions.items 0 ≡ Some (InstrOf.Start main) → (clock : ℕ) → Runs ask code (Told k code empty_world) 0 2 start clock (returns []) (run_meaning p main ask clock)

@@ -12,7 +12,7 @@ use Rattle.ctl_meaning.specs.Names.{scalar_of}
 use Rattle.ctl_meaning.specs.Statements.{scalar}
 use Rattle.ctl_code.specs.declared.code.Instr.TheVariants as InstrOf
 use Rattle.ctl_code.specs.declared.code.Code.{Code}
-use Rattle.ctl_code.specs.States.{Frame, State}
+use Rattle.ctl_code.specs.States.{Word, Frame, State}
 use Rattle.ctl_code.specs.Steps.{step, steps}
 use Rattle.ctl_code.specs.Table.{caught_in}
 use Rattle.ctl_layout.specs.Around.{Line, Around, behind}
@@ -28,7 +28,7 @@ use Rattle.ctl_gen.proofs.Follow.{Runs, Target, landing_further, leads, at, arri
 
 module _ (ask : Ask) (k : Tables) (code : Code) (bound : ℕ) where
   -- what leads from the end of an arm behind the whole, in two steps at most
-  abbrev pub Ends : List ℕ → ℕ → ℕ → List Frame → List ℕ → Type 0
+  abbrev pub Ends : List ℕ → ℕ → ℕ → List Frame → List Word → Type 0
   Ends d place place1 ks ops = (l : Log) (w : World) → (i : ℕ) × (i ≤ 2) × (steps ask code i (at d place ks ops l w) ≡ at d place1 ks ops l w)
 
   -- a condition, and what it guards, where so many more instructions stand behind that
@@ -36,7 +36,7 @@ module _ (ask : Ask) (k : Tables) (code : Code) (bound : ℕ) where
   arm_of y more x a = test_code y a.stack (length (x (behind (test_length y a.stack) a)) + more) ++ x (behind (test_length y a.stack) a)
 
   -- an arm, or what stands behind it
-  pub arm_runs : (b more : ℕ) → b ≤ 1 → (y : ValueCode) (test : List ℕ → Act (List ℕ)) → ((w0 : World) → Value ask k code (Since k code w0) y test) → (x : Around → List Line) (act : List ℕ → ℕ → Act Done) → DoesIn b ask k code bound x act → (other : Act Done) (a : Around) (w0 : World) (d : List ℕ) (place place1 : ℕ) (ks : List Frame) (ops : List ℕ) (c : ℕ) (l : Log) (w : World) → c ≤ bound → Since k code w0 w → Sees d a.stack w0 → Laid code place (arm_of y more x a) → Ends d (place + length (arm_of y more x a)) place1 ks ops → ((c1 : ℕ) (l1 : Log) (w1 : World) → c1 ≤ c → Since k code w0 w1 → Runs ask code (Kept k code w0) 0 0 (at d (place + length (arm_of y more x a) + more) ks ops l1 w1) c1 (arrives (lands a place) d place1 ks ops) (other c1 l1 w1)) → Runs ask code (Kept k code w0) 0 0 (at d place ks ops l w) c (arrives (lands a place) d place1 ks ops) (scalar (test d) (λ b. either (is_true b) (act d (caught_in ks)) other) c l w)
+  pub arm_runs : (b more : ℕ) → b ≤ 1 → (y : ValueCode) (test : List ℕ → Act (List ℕ)) → ((w0 : World) → Value ask k code (Since k code w0) y test) → (x : Around → List Line) (act : List ℕ → ℕ → Act Done) → DoesIn b ask k code bound x act → (other : Act Done) (a : Around) (w0 : World) (d : List ℕ) (place place1 : ℕ) (ks : List Frame) (ops : List Word) (c : ℕ) (l : Log) (w : World) → c ≤ bound → Since k code w0 w → Sees d a.stack w0 → Laid code place (arm_of y more x a) → Ends d (place + length (arm_of y more x a)) place1 ks ops → ((c1 : ℕ) (l1 : Log) (w1 : World) → c1 ≤ c → Since k code w0 w1 → Runs ask code (Kept k code w0) 0 0 (at d (place + length (arm_of y more x a) + more) ks ops l1 w1) c1 (arrives (lands a place) d place1 ks ops) (other c1 l1 w1)) → Runs ask code (Kept k code w0) 0 0 (at d place ks ops l w) c (arrives (lands a place) d place1 ks ops) (scalar (test d) (λ b. either (is_true b) (act d (caught_in ks)) other) c l w)
   unfolding scalar opened_outcome scalar_of opened_lists
   arm_runs b more few y test value x act does other a w0 d place place1 ks ops c l w le fits sees has ends elses =
       test_runs ask k code bound (on_goes (λ u. either (is_true (scalar_of u)) (act d (caught_in ks)) other)) w0 y test (value w0) a.stack (length is + more) d place ks ops c l w (arrives e d place1 ks ops) fits sees (laid_front code place (test_code y a.stack (length is + more)) is has)

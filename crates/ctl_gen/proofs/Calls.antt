@@ -11,8 +11,8 @@ use Rattle.ctl_meaning.specs.Statements.{call as call_doing}
 use Rattle.ctl_code.specs.declared.code.Instr.TheVariants as InstrOf
 use Rattle.ctl_code.specs.declared.code.Code.{Code}
 use Rattle.ctl_code.specs.declared.kinds.Kind.{Kind}
-use Rattle.ctl_code.specs.States.{Point, Frame, Calling, State}
-use Rattle.ctl_code.specs.Table.{enter_body, formals_of, standing}
+use Rattle.ctl_code.specs.States.{Word, Point, Frame, Calling, State}
+use Rattle.ctl_code.specs.Table.{enter_body}
 use Rattle.ctl_code.specs.Steps.{moved, step}
 use Rattle.ctl_code.specs.Valid.{IsInScope}
 use Rattle.ctl_code.specs.Windows.{depth}
@@ -59,16 +59,15 @@ module _ (ask : Ask) (k : Tables) (code : Code) (setting : Setting k code) (call
   abbrev calls_it : ℕ → ℕ → List Kind → List Line
   calls_it f count s = (InstrOf.Call f count, s) ∷ []
 
-  enters : (f count : ℕ) (s : List Kind) (q : Passed) (d : List ℕ) (place : ℕ) (ks : List Frame) (ops below : List ℕ) (l : Log) (w : World) → Taken count s ops below q → Laid code place (calls_it f count s) → step ask code (at d place ks ops l w) ≡ moved l (enter_body (slice_get code.entries.items f) [] d q.slots (Calling (record { display = d; place = place + 1; operands = below }) ∷ ks) w)
+  enters : (f count : ℕ) (s : List Kind) (q : Passed) (d : List ℕ) (place : ℕ) (ks : List Frame) (ops below : List Word) (l : Log) (w : World) → Taken count ops below q → Laid code place (calls_it f count s) → step ask code (at d place ks ops l w) ≡ moved l (enter_body (slice_get code.entries.items f) [] d q.slots (Calling (record { display = d; place = place + 1; operands = below }) ∷ ks) w)
   enters f count s q d place ks ops below l w taken has =
-      let entered : List Slot → List ℕ → State = λ slots rest. moved l (enter_body (slice_get code.entries.items f) [] d slots (Calling (record { display = d; place = place + 1; operands = rest }) ∷ ks) w) in
+      let entered : List Slot → List Word → State = λ slots rest. moved l (enter_body (slice_get code.entries.items f) [] d slots (Calling (record { display = d; place = place + 1; operands = rest }) ∷ ks) w) in
       by_code ask code d place ks ops l w (InstrOf.Call f count) has.0
-      ∙ ap (λ o. entered (formals_of count (standing o) ops) (drop count ops)) has.1
       ∙ ap (λ slots. entered slots (drop count ops)) taken.slots
       ∙ ap (entered q.slots) taken.rest
 
   -- a body that can be called there is entered, and then the frame that waits for it goes on
-  call_runs : (f count : ℕ) (s : List Kind) (q : Passed) (e : Target) (w0 : World) (d : List ℕ) (place : ℕ) (ks : List Frame) (ops below : List ℕ) (c : ℕ) (l : Log) (w : World) → c ≤ bound → Since k code w0 w → length d ≡ depth s → Taken count s ops below q → Laid code place (calls_it f count s) → Runs ask code (Kept k code w0) 3 3 (at d place ks ops l w) c (arrives e d (place + 1) ks below) (calling f d (Goes q) c l w)
+  call_runs : (f count : ℕ) (s : List Kind) (q : Passed) (e : Target) (w0 : World) (d : List ℕ) (place : ℕ) (ks : List Frame) (ops below : List Word) (c : ℕ) (l : Log) (w : World) → c ≤ bound → Since k code w0 w → length d ≡ depth s → Taken count ops below q → Laid code place (calls_it f count s) → Runs ask code (Kept k code w0) 3 3 (at d place ks ops l w) c (arrives e d (place + 1) ks below) (calling f d (Goes q) c l w)
   unfolding call_with opened_outcome
   call_runs f count s q e w0 d place ks ops below c l w le fits long taken has =
       let p : Point = record { display = d; place = place + 1; operands = below } in
@@ -76,7 +75,7 @@ module _ (ask : Ask) (k : Tables) (code : Code) (setting : Setting k code) (call
       let body = setting.body f scope.0 scope.1 in
       subst (λ back. Runs ask code (Kept k code w0) 3 3 (at d place ks ops l w) c (arrives e d (place + 1) ks below) (called back (call (OfSubprogram f q.slots) d c l w))) (sym taken.back)
       (call_over w0 e p ks (at d place ks ops l w) c (call (OfSubprogram f q.slots) d c l w)
-      (calls.runs f body.0 body.1 w0 d q.slots (Calling p ∷ ks) c l w (at d place ks ops l w) le fits (subst (λ n. IsInScope code n (Some f)) (sym long) scope) taken.whole
+      (calls.runs f body.0 body.1 w0 d q.slots (Calling p ∷ ks) c l w (at d place ks ops l w) le fits (subst (λ n. IsInScope code n (Some f)) (sym long) scope) taken.uncopied
       (enters f count s q d place ks ops below l w taken has)))
 
   -- the actuals, and then the call

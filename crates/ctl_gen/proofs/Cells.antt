@@ -18,7 +18,7 @@ use Rattle.ctl_code.specs.declared.code.Instr.{Instr}
 use Rattle.ctl_code.specs.declared.code.Code.{Code}
 use Rattle.ctl_code.specs.declared.kinds.Kind.{Kind}
 use Rattle.ctl_code.specs.States as S
-use Rattle.ctl_code.specs.States.{Frame, State}
+use Rattle.ctl_code.specs.States.{Word, Scalar, Frame, State}
 use Rattle.ctl_code.specs.Table.{Here, cell_at, with_cell, out_of, taking, put, by_instr}
 use Rattle.ctl_code.specs.Steps.{moved, step}
 use Rattle.ctl_code.specs.Windows.{depth}
@@ -29,38 +29,38 @@ abbrev pub here : List ℕ → ℕ → List Frame → World → Here
 here d place k w = record { display = d; place = place; control = k; world = w }
 
 -- one instruction
-pub by_code : (ask : Ask) (code : Code) (d : List ℕ) (place : ℕ) (k : List Frame) (ops : List ℕ) (l : Log) (w : World) (i : Instr) → slice_get code.instructions.items place ≡ Some i → step ask code (at d place k ops l w) ≡ moved l (by_instr code (Some i) ops (here d place k w))
+pub by_code : (ask : Ask) (code : Code) (d : List ℕ) (place : ℕ) (k : List Frame) (ops : List Word) (l : Log) (w : World) (i : Instr) → slice_get code.instructions.items place ≡ Some i → step ask code (at d place k ops l w) ≡ moved l (by_instr code (Some i) ops (here d place k w))
 unfolding picked
 by_code ask code d place k ops l w i h = ap (λ o. moved l (by_instr code o ops (here d place k w))) h
 
 -- Values where they are wanted ----------------------------------------------------------------------
 
 -- where an evaluation leads: behind it, where the value stands in this cell, or out of the statement
-abbrev pub landed : Named → List ℕ → ℕ → List Frame → List ℕ → Result (List ℕ) → Log → World → State
-landed Operand d place ks ops (Goes u) l w = at d place ks (scalar_of u ∷ ops) l w
+abbrev pub landed : Named → List ℕ → ℕ → List Frame → List Word → Result (List ℕ) → Log → World → State
+landed Operand d place ks ops (Goes u) l w = at d place ks (Scalar (scalar_of u) ∷ ops) l w
 landed Operand d place ks ops (Leaves y) l w = transferred y ks l w
 landed (Variable out slot) d place ks ops (Goes u) l w = at d place ks ops l (with_cell d out slot (scalar_of u) w)
 landed (Variable out slot) d place ks ops (Leaves y) l w = transferred y ks l w
 
-pub landed_leaves : (to : Named) (d : List ℕ) (place : ℕ) (ks : List Frame) (ops : List ℕ) (y : Way) (l : Log) (w : World) → transferred y ks l w ≡ landed to d place ks ops (Leaves y) l w
+pub landed_leaves : (to : Named) (d : List ℕ) (place : ℕ) (ks : List Frame) (ops : List Word) (y : Way) (l : Log) (w : World) → transferred y ks l w ≡ landed to d place ks ops (Leaves y) l w
 landed_leaves Operand d place ks ops y l w = refl
 landed_leaves (Variable out slot) d place ks ops y l w = refl
 
-pub put_is : (to : Named) (n : ℕ) (d : List ℕ) (place : ℕ) (ks : List Frame) (ops : List ℕ) (l : Log) (w : World) → moved l (put to n ops (here d place ks w)) ≡ landed to d (place + 1) ks ops (Goes (n ∷ [])) l w
+pub put_is : (to : Named) (n : ℕ) (d : List ℕ) (place : ℕ) (ks : List Frame) (ops : List Word) (l : Log) (w : World) → moved l (put to n ops (here d place ks w)) ≡ landed to d (place + 1) ks ops (Goes (n ∷ [])) l w
 unfolding scalar_of opened_lists
 put_is Operand n d place ks ops l w = refl
 put_is (Variable out slot) n d place ks ops l w = refl
 
 -- the newest operand goes there
-pub put_there : (to : Named) (u : List ℕ) (d : List ℕ) (place : ℕ) (ks : List Frame) (ops : List ℕ) (l : Log) (w : World) → moved l (put to (scalar_of u) ops (here d place ks w)) ≡ landed to d (place + 1) ks ops (Goes u) l w
+pub put_there : (to : Named) (u : List ℕ) (d : List ℕ) (place : ℕ) (ks : List Frame) (ops : List Word) (l : Log) (w : World) → moved l (put to (scalar_of u) ops (here d place ks w)) ≡ landed to d (place + 1) ks ops (Goes u) l w
 put_there Operand u d place ks ops l w = refl
 put_there (Variable out slot) u d place ks ops l w = refl
 
 -- Values that wait for an operator ------------------------------------------------------------------
 
 -- the operands with a value that waits in this cell: a variable is none of them
-abbrev pub waiting : Named → ℕ → List ℕ → List ℕ
-waiting Operand n ops = n ∷ ops
+abbrev pub waiting : Named → ℕ → List Word → List Word
+waiting Operand n ops = Scalar n ∷ ops
 waiting (Variable out slot) n ops = ops
 
 -- what must be true of the world that it is that value
@@ -68,11 +68,11 @@ abbrev pub Stays : Named → ℕ → List ℕ → World → Type 0
 Stays Operand n d w = Unit {0}
 Stays (Variable out slot) n d w = cell_at d out slot w ≡ n
 
-abbrev pub held_in : Named → List ℕ → ℕ → List Frame → List ℕ → Result (List ℕ) → Log → World → State
+abbrev pub held_in : Named → List ℕ → ℕ → List Frame → List Word → Result (List ℕ) → Log → World → State
 held_in x d place ks ops (Goes u) l w = at d place ks (waiting x (scalar_of u) ops) l w
 held_in x d place ks ops (Leaves y) l w = transferred y ks l w
 
-pub taking_is : (x : Named) (n : ℕ) (f : ℕ → List ℕ → S.Move) (ops d : List ℕ) (place : ℕ) (ks : List Frame) (w : World) → Stays x n d w → taking x f (waiting x n ops) (here d place ks w) ≡ f n ops
+pub taking_is : (x : Named) (n : ℕ) (f : ℕ → List Word → S.Move) (ops : List Word) (d : List ℕ) (place : ℕ) (ks : List Frame) (w : World) → Stays x n d w → taking x f (waiting x n ops) (here d place ks w) ≡ f n ops
 taking_is Operand n f ops d place ks w h = refl
 taking_is (Variable out slot) n f ops d place ks w h = ap (λ m. f m ops) h
 

@@ -16,7 +16,7 @@ use Rattle.ctl_meaning.specs.Choice.{Ask, picked}
 use Rattle.ctl_meaning.specs.Outcome.{ByExit, ByReturn, ByRaise, Result, Goes, Leaves, Out, Gives, Stops, Cut, Act, Done, Tried, Fine, Raised, add, after_pick, ticked, bind, on_goes, ◌>>=◌, ◌>>◌, done, nothing, tell, show, look, change, told, attempt, when, either, on_some, opened_outcome}
 use Rattle.ctl_meaning.specs.Types.{Tables, Composite, Placed, is_controlled, operation, depth, of_record}
 use Rattle.ctl_meaning.specs.Names.{OfSubprogram, Call, Default, Tools, gone, must_exist, write_part, Returned, opened_names}
-use Rattle.ctl_meaning.specs.Finalization.{whole, no_component, These, component_at, call_operation, after_finalize, own_finalize, in_any_order, finalize_part, finalize, opened_finalization}
+use Rattle.ctl_meaning.specs.Finalization.{Spot, whole, no_component, These, component_at, call_operation, after_finalize, own_finalize, in_any_order, finalize_part, finalize, opened_finalization}
 use Rattle.ctl_meaning.specs.Adjustment.{Birth, adjust, adjust_record, birth_of, lives}
 use Rattle.ctl_meaning.specs.Initialization.{Begun, parts_to_begin, paths_of, paths_within, begun_with, begin_next, begin_each, begin_component, own_initialize, unless_failed, failed_with, clean_up, begun, initialize_part, initialize, fill, opened_initialization}
 use Rattle.ctl_meaning.specs.Masters.{declare}
@@ -25,7 +25,7 @@ use Rattle.ctl_code.specs.declared.code.Code.{Code}
 use Rattle.ctl_code.specs.declared.code.Beginning.{Beginning}
 use Rattle.ctl_code.specs.declared.code.Beginning.TheVariants.{ByDefault}
 use Rattle.ctl_code.specs.declared.code.Defaulted.{Defaulted}
-use Rattle.ctl_code.specs.States.{Complete, At, Stopped, Point, Frame, Filling, Initializing, State, Move}
+use Rattle.ctl_code.specs.States.{Word, Complete, At, Stopped, Point, Frame, Filling, Initializing, State, Move}
 use Rattle.ctl_code.specs.declared.kinds.Kind.{Kind}
 use Rattle.ctl_code.specs.Valid.{IsDeclarable}
 use Rattle.ctl_code.specs.Table as Table
@@ -34,7 +34,7 @@ use Rattle.ctl_code.specs.Steps.{moved, step, stepped}
 use Rattle.ctl_gen.proofs.Known.{IsPlain, IsUntagged}
 use Rattle.ctl_gen.proofs.Worlds.{IfFound, Settled, Since, Kept, home, object_fits, created_ty, since_create, since_slot, since_written, since_layer, since_begin, since_end}
 use Rattle.ctl_gen.proofs.Finalize.{first_scope}
-use Rattle.ctl_gen.proofs.Plain.{is_controlled_plain, not_controlled_plain, no_finalize, no_initialize, begin_cells_flat, parts_to_finalize_flat, scalar_of_record}
+use Rattle.ctl_gen.proofs.Plain.{is_controlled_plain, not_controlled_plain, no_finalize, no_initialize, begin_cells_laid, parts_to_finalize_laid, scalar_of_record}
 use Rattle.ctl_gen.proofs.Defaults.{AreFilled, Fills, GivesDefaults, filled_length, parts_filled, picked_less, pulled, pulled_rest, rest_length}
 use Rattle.ctl_gen.proofs.Setting.{Setting, first_body, first_of, tools_with, returns, Told, Sees, Calls, enter_shows}
 use Rattle.ctl_gen.proofs.Cells.{by_code}
@@ -110,7 +110,7 @@ module _ (ask : Ask) (k : Tables) (code : Code) (setting : Setting k code) (call
   pub finalize_none : (n c : ℕ) (l : Log) (w : World) → finalize K Failed (These []) (whole n) t c l w ≡ Gives (Goes false) 1 c l w
   unfolding opened_finalization opened_outcome depth opened_lists
   finalize_none n c l w =
-      ap (λ ps. add 1 (bind (own_finalize K Failed (These []) (whole n) t c l w) (on_goes (in_any_order K (λ p. of_record (done false) (finalize_part K Failed (These []) (length k.records) (component_at (whole n) p)) p.ty) (length ps) ps)))) (parts_to_finalize_flat k t plain.components plain.flat K (These []) (whole n) refl)
+      ap (λ ps. add 1 (bind (own_finalize K Failed (These []) (whole n) t c l w) (on_goes (in_any_order K (λ p. of_record (done false) (finalize_part K Failed (These []) (length k.records) (component_at (whole n) p)) p.ty) (length ps) ps)))) (parts_to_finalize_laid k t plain.components plain.laid K (These []) (whole n) refl)
       ∙ ap (λ b. add 1 (bind (either b (attempt (call_operation K (whole n) (operation (λ x. x.finalize) k t) (EventOf.Finalize (whole_part n) Failed)) >>= after_finalize Failed) (done false) c l w) (on_goes (λ b1. done b1)))) (none_chosen (is_controlled k t))
 
   clean_up_is : (n e c : ℕ) (l : Log) (w : World) → clean_up K (whole n) t [] e c l w ≡ Gives (Leaves (ByRaise e)) 1 c l (end_finalization n (begin_finalization n w))
@@ -142,15 +142,16 @@ module _ (ask : Ask) (k : Tables) (code : Code) (setting : Setting k code) (call
   -- an object that is not controlled has none
   none_is : IsUntagged r → (n m c : ℕ) (l : Log) (w0 w : World) → bind (own_initialize K (whole n) t [] c l w) (on_goes (begun K (birth_of (Declared m) w0) (whole n) t)) ≡ Gives (Goes tt) 0 c l w
   unfolding opened_initialization opened_finalization opened_outcome
-  none_is untagged n m c l w0 w = ap (λ b. bind (either b (attempt (call_operation K (whole n) (operation (λ x. x.initialize) k t) (first_call ByDefault n)) >>= begin_next [] begun_with []) (begun_with []) c l w) (on_goes (λ x. on_some x.failure (when b (lives K (birth_of (Declared m) w0) (whole n) t)) (clean_up K (whole n) t x.paths)))) (not_controlled_plain k t r here plain.components plain.flat untagged)
+  none_is untagged n m c l w0 w = ap (λ b. bind (either b (attempt (call_operation K (whole n) (operation (λ x. x.initialize) k t) (first_call ByDefault n)) >>= begin_next [] begun_with []) (begun_with []) c l w) (on_goes (λ x. on_some x.failure (when b (lives K (birth_of (Declared m) w0) (whole n) t)) (clean_up K (whole n) t x.paths)))) (not_controlled_plain k t r here plain.components plain.laid untagged)
 
   declare_is : (m slot c : ℕ) (l : Log) (w : World) → declare Composite K m slot (Record t) None c l w ≡ standing w.ledger.next_object m (initialize K (birth_of (Declared m) w) (whole w.ledger.next_object) (Record t) c l (set_slot m slot (holding (Holds w.ledger.next_object)) (create (Record t) (replicate (size_of code t) 0) (Declared m) w)))
   unfolding declare fill opened_outcome
-  declare_is m slot c l w = ap (λ cells. standing w.ledger.next_object m (initialize K (birth_of (Declared m) w) (whole w.ledger.next_object) (Record t) c l (set_slot m slot (holding (Holds w.ledger.next_object)) (create (Record t) cells (Declared m) w)))) (begin_cells_flat k t plain.components plain.flat ∙ ap (λ i. replicate i 0) (sym (setting.sizes t plain.components plain.flat.has.row)))
+  declare_is m slot c l w = ap (λ cells. standing w.ledger.next_object m (initialize K (birth_of (Declared m) w) (whole w.ledger.next_object) (Record t) c l (set_slot m slot (holding (Holds w.ledger.next_object)) (create (Record t) cells (Declared m) w)))) (begin_cells_laid k t plain.components plain.laid ∙ ap (λ i. replicate i 0) (sym (setting.sizes t plain.laid.is)))
 
-  pub call_is : (f n c : ℕ) (e : Event) (l : Log) (w : World) (o : Object) → object_at n w ≡ Some o → call_operation K (whole n) (Some f) e c l w ≡ bind (add 0 (call (OfSubprogram f (holding (Binds n 0 []) ∷ [])) (home_of o.origin w) c (tell e l) w)) (on_goes (λ _. nothing))
+  -- an operation of a part is called
+  pub call_is : (f : ℕ) (s : Spot) (c : ℕ) (e : Event) (l : Log) (w : World) (o : Object) → object_at s.object w ≡ Some o → call_operation K s (Some f) e c l w ≡ bind (add 0 (call (OfSubprogram f (holding (Binds s.object s.offset s.path) ∷ [])) (home_of o.origin w) c (tell e l) w)) (on_goes (λ _. nothing))
   unfolding opened_finalization opened_outcome opened_names
-  call_is f n c e l w o at = ap (λ x. on_some x gone (λ o1. look (λ w1. show e >> call (OfSubprogram f (holding (Binds n 0 []) ∷ [])) (home_of o1.origin w1) >> nothing)) c l w) at
+  call_is f s c e l w o at = ap (λ x. on_some x gone (λ o1. look (λ w1. show e >> call (OfSubprogram f (holding (Binds s.object s.offset s.path) ∷ [])) (home_of o1.origin w1) >> nothing)) c l w) at
 
   -- with the object that is found, or not, in the end
   abbrev standing_at : Option Object → ℕ → ℕ → Out Done → Out Done
@@ -345,7 +346,7 @@ module _ (ask : Ask) (k : Tables) (code : Code) (setting : Setting k code) (call
     created_runs how named w0 n e p ks s0 c l w le fits ty (Some f) (Some o) eg ey first =
         let body = first_body k code setting how t f eg in
         let settled = subst (IfFound (Settled k code w.ledger.next_master w.activations)) ey (object_fits k code n w fits.0) in
-        subst (λ x. Runs ask code (Kept k code w0) 4 5 s0 c (arrives e p.display p.place ks p.operands) (standing n (last_of p.display) (started how (operation (λ z. z.finalize) k t) n (last_of p.display) x))) (sym (call_is f n c (first_call how n) l w o ey))
+        subst (λ x. Runs ask code (Kept k code w0) 4 5 s0 c (arrives e p.display p.place ks p.operands) (standing n (last_of p.display) (started how (operation (λ z. z.finalize) k t) n (last_of p.display) x))) (sym (call_is f (whole n) c (first_call how n) l w o ey))
         (within ask code (Kept k code w0) 3 5 4 5 s0 c (arrives e p.display p.place ks p.operands) (standing n (last_of p.display) (started how (operation (λ z. z.finalize) k t) n (last_of p.display) (bind (add 0 (call (OfSubprogram f (holding (Binds n 0 []) ∷ [])) (home_of o.origin w) c (tell (first_call how n) l) w)) (on_goes (λ _. nothing))))) (omega arith) (omega arith)
         (begun_runs how w0 n e p ks s0 c (call (OfSubprogram f (holding (Binds n 0 []) ∷ [])) (home_of o.origin w) c (tell (first_call how n) l) w)
         (calls.runs f body.0 body.1 w0 (home_of o.origin w) (holding (Binds n 0 []) ∷ []) (Initializing how n t p ∷ ks) c (tell (first_call how n) l) w s0 le fits (first_scope how k code w o t f (ty o ey) settled (named ∙ eg)) (tt, tt)
@@ -362,11 +363,11 @@ module _ (ask : Ask) (k : Tables) (code : Code) (setting : Setting k code) (call
         subst (λ o. Runs ask code (Kept k code w0) 4 5 (gives (Filling ByDefault n t [] p ∷ ks) (Fine Complete) l w) c (arrives e p.display p.place ks p.operands) (standing n (last_of p.display) o))
         (sym (none_is untagged n (last_of p.display) c l w2 w))
         (within ask code (Kept k code w0) 3 5 4 5 (gives (Filling ByDefault n t [] p ∷ ks) (Fine Complete) l w) c (arrives e p.display p.place ks p.operands) (standing n (last_of p.display) (Gives (Goes tt) 0 c l w)) (omega arith) (omega arith)
-        (found_runs ByDefault w0 n e p ks (gives (Filling ByDefault n t [] p ∷ ks) (Fine Complete) l w) (gives (Filling ByDefault n t [] p ∷ ks) (Fine Complete) l w) c c 0 l w (Unit {0}) fits (record { n = 0; falls = omega arith; enough = omega arith; in_time = omega arith; comes = refl; fits = tt }) None (object_at n w) (no_finalize k t r here plain.components plain.flat untagged) refl
-        (ap (λ g. moved l (Table.by_declaration code ByDefault g n t (object_at n w) p ks w)) (setting.initialize t ∙ no_initialize k t r here plain.components plain.flat untagged) ∙ unseen ByDefault code n t (object_at n w) p ks w l (setting.finalize t ∙ no_finalize k t r here plain.components plain.flat untagged))))
+        (found_runs ByDefault w0 n e p ks (gives (Filling ByDefault n t [] p ∷ ks) (Fine Complete) l w) (gives (Filling ByDefault n t [] p ∷ ks) (Fine Complete) l w) c c 0 l w (Unit {0}) fits (record { n = 0; falls = omega arith; enough = omega arith; in_time = omega arith; comes = refl; fits = tt }) None (object_at n w) (no_finalize k t r here plain.components plain.laid untagged) refl
+        (ap (λ g. moved l (Table.by_declaration code ByDefault g n t (object_at n w) p ks w)) (setting.initialize t ∙ no_initialize k t r here plain.components plain.laid untagged) ∙ unseen ByDefault code n t (object_at n w) p ks w l (setting.finalize t ∙ no_finalize k t r here plain.components plain.laid untagged))))
 
     -- a declaration: its operations are in scope, as the code is well formed
-    pub declare_runs : (slot : ℕ) (e : Target) (s : List Kind) (w0 : World) (d : List ℕ) (place : ℕ) (ks : List Frame) (ops : List ℕ) (c : ℕ) (l : Log) (w : World) → c ≤ bound → Since k code w0 w → Sees d s w0 → Laid code place ((InstrOf.Declare slot t, s) ∷ []) → Runs ask code (Kept k code w0) 5 6 (at d place ks ops l w) c (arrives e d (place + 1) ks ops) (declare Composite K (last_of d) slot (Record t) None c l w)
+    pub declare_runs : (slot : ℕ) (e : Target) (s : List Kind) (w0 : World) (d : List ℕ) (place : ℕ) (ks : List Frame) (ops : List Word) (c : ℕ) (l : Log) (w : World) → c ≤ bound → Since k code w0 w → Sees d s w0 → Laid code place ((InstrOf.Declare slot t, s) ∷ []) → Runs ask code (Kept k code w0) 5 6 (at d place ks ops l w) c (arrives e d (place + 1) ks ops) (declare Composite K (last_of d) slot (Record t) None c l w)
     declare_runs slot e s w0 d place ks ops c l w le fits sees has =
         subst (λ o. Runs ask code (Kept k code w0) 5 6 (at d place ks ops l w) c (arrives e d (place + 1) ks ops) o)
         (sym (declare_is (last_of d) slot c l w ∙ parts_then n (last_of d) c l w w1))
@@ -386,7 +387,7 @@ module _ (ask : Ask) (k : Tables) (code : Code) (setting : Setting k code) (call
         w1 = set_slot (last_of d) slot (holding (Holds w.ledger.next_object)) (create (Record t) (replicate (size_of code t) 0) (Declared (last_of d)) w)
 
         filled : AreFilled default t (parts_to_begin K t) (defaulted_of code t)
-        filled = subst (AreFilled default t (parts_to_begin K t)) (sym (setting.defaults t plain.components plain.flat.has.row)) (parts_filled k default t r here plain constants K refl)
+        filled = subst (AreFilled default t (parts_to_begin K t)) (sym (setting.defaults t plain.components plain.laid)) (parts_filled k default t r here plain constants K refl)
 
         fits2 : Since k code w0 (with_object code d slot t w)
         fits2 = created_fits slot s w0 d w (subst (λ x. IsDeclarable code x t) (sym sees.long) (setting.valid.each place (InstrOf.Declare slot t) s has.0 has.1).0) fits sees

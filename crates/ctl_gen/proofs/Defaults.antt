@@ -1,5 +1,5 @@
 -- The components that default initialization chooses among, beside those that the layout names: each takes its constant (3.8, 7.6).
-use Rattle.std.proofs.Common.{◌≡◌, ℕ, zero, suc, ◌+◌, ◌<◌, List, [], ◌∷◌, length, Option, Some, None, Bool, true, false, refl, sym, ap, ◌∙◌, subst, arith}
+use Rattle.std.proofs.Common.{◌≡◌, ℕ, zero, suc, ◌+◌, ◌<◌, List, [], ◌∷◌, length, Option, Some, None, Bool, true, false, refl, sym, ap, ◌∙◌, subst, arith, inl, inr}
 use Rattle.std.specs.Prelude.{slice_get, is_some, option_map, nat_lt, if◌then◌else◌, ◌||◌}
 use Rattle.std.proofs.lemmas.Bool.{ltb-true}
 use Rattle.ctl_program.specs.declared.expression.Expr.{Expr}
@@ -15,8 +15,8 @@ use Rattle.ctl_meaning.specs.Initialization.{parts_to_begin}
 use Rattle.ctl_code.specs.declared.code.Defaulted.{Defaulted}
 use Rattle.ctl_layout.specs.Values.{value_code}
 use Rattle.ctl_layout.specs.Defaults.{constant_by, constant_in, constant_of, defaulted_before, defaulted_from, have_constants, may_default}
-use Rattle.ctl_gen.proofs.Known.{both_true, AreScalar, IsPlain, IsScalar}
-use Rattle.ctl_gen.proofs.Plain.{one_cell_each, placed_flat, scalar_not_controlled, scalar_not_defaulted}
+use Rattle.ctl_gen.proofs.Known.{both_true, AreParts, IsPart, IsPlain, IsScalar}
+use Rattle.ctl_gen.proofs.Plain.{part_not_controlled, part_not_defaulted, placed_laid}
 
 -- defaults that are constants are evaluated in one tick
 abbrev pub GivesConstant : Default → ℕ → ℕ → ℕ → Type 0
@@ -104,41 +104,42 @@ constant_there (Some n) e = (n, refl)
 
 module _ (k : Tables) (default : Default) (t : ℕ) where
   -- one more component before those that follow it
-  with_first : (position offset : ℕ) (c : Component) (cs : List Component) → IsScalar c.ty → may_default k.records (option_map value_code c.default) ≡ true → ((n : ℕ) → constant_of c ≡ Some n → GivesConstant default t position n)
-      → AreFilled default t (keep (is_initialized k) (placed_from k (position + 1) (offset + 1) cs)) (defaulted_from (offset + 1) cs) → AreFilled default t (keep (is_initialized k) (placed_from k position offset (c ∷ cs))) (defaulted_from offset (c ∷ cs))
+  with_first : (position offset : ℕ) (c : Component) (cs : List Component) → IsPart k.records t c → may_default k.records (option_map value_code c.default) ≡ true → ((n : ℕ) → constant_of c ≡ Some n → GivesConstant default t position n)
+      → AreFilled default t (keep (is_initialized k) (placed_from k (position + 1) (offset + cells_of k c.ty) cs)) (defaulted_from (cells_of k) (offset + cells_of k c.ty) cs) → AreFilled default t (keep (is_initialized k) (placed_from k position offset (c ∷ cs))) (defaulted_from (cells_of k) offset (c ∷ cs))
   unfolding placed_from is_initialized keep
-  with_first position offset c cs scalar may value rest = by c.default may value
+  with_first position offset c cs part may value rest = by part c.default refl may value
     where
       more : List Placed
       more = keep (is_initialized k) (placed_from k (position + 1) (offset + cells_of k c.ty) cs)
 
-      kept : AreFilled default t (keep (is_initialized k) (placed_from k (position + 1) (offset + cells_of k c.ty) cs)) (defaulted_from (offset + 1) cs)
-      kept = subst (λ n. AreFilled default t (keep (is_initialized k) (placed_from k (position + 1) (offset + n) cs)) (defaulted_from (offset + 1) cs)) (sym (one_cell_each k c.ty scalar)) rest
+      others : List Defaulted
+      others = defaulted_from (cells_of k) (offset + cells_of k c.ty) cs
 
       none : (false || has_controlled k c.ty) || has_default k c.ty ≡ false
-      none = ap (λ b. b || has_default k c.ty) (scalar_not_controlled k c.ty scalar) ∙ scalar_not_defaulted k c.ty scalar
+      none = ap (λ b. b || has_default k c.ty) (part_not_controlled k t c part) ∙ part_not_defaulted k t c part
 
-      by : (o : Option Expr) → may_default k.records (option_map value_code o) ≡ true → ((n : ℕ) → constant_in (option_map value_code o) ≡ Some n → GivesConstant default t position n)
-          → AreFilled default t (if (is_some o || has_controlled k c.ty) || has_default k c.ty then (record { position = position; offset = offset; ty = c.ty; defaulted = is_some o }) ∷ more else more) (defaulted_before offset (constant_in (option_map value_code o)) (defaulted_from (offset + 1) cs))
-      by None may1 value1 = subst (λ b. AreFilled default t (if b then (record { position = position; offset = offset; ty = c.ty; defaulted = false }) ∷ more else more) (defaulted_from (offset + 1) cs)) (sym none) kept
-      by (Some e) may1 value1 =
-          let is = constant_there (constant_by (value_code e).right) (both_true ((value_code e).runs k.records) (is_some (constant_by (value_code e).right)) may1).1 in
-          subst (λ o. AreFilled default t ((record { position = position; offset = offset; ty = c.ty; defaulted = true }) ∷ more) (defaulted_before offset o (defaulted_from (offset + 1) cs))) (sym is.1)
-          (record { defaulted = refl; scalar = scalar; offset = refl; value = value1 is.0 is.1 }, kept)
+      by : IsPart k.records t c → (o : Option Expr) → c.default ≡ o → may_default k.records (option_map value_code o) ≡ true → ((n : ℕ) → constant_in (option_map value_code o) ≡ Some n → GivesConstant default t position n)
+          → AreFilled default t (if (is_some o || has_controlled k c.ty) || has_default k c.ty then (record { position = position; offset = offset; ty = c.ty; defaulted = is_some o }) ∷ more else more) (defaulted_before offset (constant_in (option_map value_code o)) others)
+      by p None is may1 value1 = subst (λ b. AreFilled default t (if b then (record { position = position; offset = offset; ty = c.ty; defaulted = false }) ∷ more else more) others) (sym none) rest
+      by (inr x) (Some e) is may1 value1 = absurd (let bad : Some e ≡ None = sym is ∙ x.unset in cc)
+      by (inl scalar) (Some e) is may1 value1 =
+          let found = constant_there (constant_by (value_code e).right) (both_true ((value_code e).runs k.records) (is_some (constant_by (value_code e).right)) may1).1 in
+          subst (λ o. AreFilled default t ((record { position = position; offset = offset; ty = c.ty; defaulted = true }) ∷ more) (defaulted_before offset o others)) (sym found.1)
+          (record { defaulted = refl; scalar = scalar; offset = refl; value = value1 found.0 found.1 }, rest)
 
-  initialized_from : (position offset : ℕ) (cs : List Component) → AreScalar cs → have_constants k.records cs ≡ true → ((i : ℕ) (x : Component) (n : ℕ) → slice_get cs i ≡ Some x → constant_of x ≡ Some n → GivesConstant default t (position + i) n)
-      → AreFilled default t (keep (is_initialized k) (placed_from k position offset cs)) (defaulted_from offset cs)
+  initialized_from : (position offset : ℕ) (cs : List Component) → AreParts k.records t cs → have_constants k.records cs ≡ true → ((i : ℕ) (x : Component) (n : ℕ) → slice_get cs i ≡ Some x → constant_of x ≡ Some n → GivesConstant default t (position + i) n)
+      → AreFilled default t (keep (is_initialized k) (placed_from k position offset cs)) (defaulted_from (cells_of k) offset cs)
   unfolding placed_from is_initialized keep
-  initialized_from position offset [] scalar constants gives = tt
-  initialized_from position offset (c ∷ cs) scalar constants gives =
+  initialized_from position offset [] parts constants gives = tt
+  initialized_from position offset (c ∷ cs) parts constants gives =
       let h = both_true (may_default k.records (option_map value_code c.default)) (have_constants k.records cs) constants in
       let first : position + 0 ≡ position = omega arith in
-      let rest = initialized_from (position + 1) (offset + 1) cs scalar.1 h.1 (λ i x n at e. let later : position + suc i ≡ position + 1 + i = omega arith in subst (λ p. GivesConstant default t p n) later (gives (suc i) x n at e)) in
-      with_first position offset c cs scalar.0 h.0 (λ n e. subst (λ p. GivesConstant default t p n) first (gives 0 c n refl e)) rest
+      let rest = initialized_from (position + 1) (offset + cells_of k c.ty) cs parts.1 h.1 (λ i x n at e. let later : position + suc i ≡ position + 1 + i = omega arith in subst (λ p. GivesConstant default t p n) later (gives (suc i) x n at e)) in
+      with_first position offset c cs parts.0 h.0 (λ n e. subst (λ p. GivesConstant default t p n) first (gives 0 c n refl e)) rest
 
-  pub parts_filled : (r : RecordType) → slice_get k.records t ≡ Some r → (plain : IsPlain k t r) → GivesDefaults k default → (K : Tools) → K.tables ≡ k → AreFilled default t (parts_to_begin K t) (defaulted_from 0 plain.components)
+  pub parts_filled : (r : RecordType) → slice_get k.records t ≡ Some r → (plain : IsPlain k t r) → GivesDefaults k default → (K : Tools) → K.tables ≡ k → AreFilled default t (parts_to_begin K t) (defaulted_from (cells_of k) 0 plain.components)
   unfolding parts_to_begin
   parts_filled r at plain given K same =
-      subst (λ x. AreFilled default t (keep (is_initialized x) (placed x t)) (defaulted_from 0 plain.components)) (sym same)
-      (subst (λ ps. AreFilled default t (keep (is_initialized k) ps) (defaulted_from 0 plain.components)) (sym (placed_flat k t plain.components plain.flat))
-      (initialized_from 1 0 plain.components plain.flat.scalar plain.constants (λ i x n here is. let p : i + 1 ≡ 1 + i = omega arith in subst (λ q. GivesConstant default t q n) p (given t r at plain i x n here is))))
+      subst (λ x. AreFilled default t (keep (is_initialized x) (placed x t)) (defaulted_from (cells_of k) 0 plain.components)) (sym same)
+      (subst (λ ps. AreFilled default t (keep (is_initialized k) ps) (defaulted_from (cells_of k) 0 plain.components)) (sym (placed_laid k t plain.components plain.laid))
+      (initialized_from 1 0 plain.components plain.laid.parts plain.constants (λ i x n here is. let p : i + 1 ≡ 1 + i = omega arith in subst (λ q. GivesConstant default t q n) p (given t r at plain i x n here is))))

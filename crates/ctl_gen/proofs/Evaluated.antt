@@ -1,35 +1,33 @@
 -- The code of each expression that this version runs does what the expression means.
-use Rattle.std.proofs.Common.{◌≡◌, ℕ, List, [], ◌∷◌, map, Option, Some, None, true, refl, sym, ap, ◌∙◌, subst}
+use Rattle.std.proofs.Common.{◌≡◌, ℕ, List, [], ◌∷◌, ◌++◌, map, Option, Some, None, true, refl, sym, ap, ◌∙◌, subst}
 use Rattle.ctl_program.specs.declared.types.Ty.{Ty}
 use Rattle.ctl_program.specs.declared.types.Var.{Var}
 use Rattle.ctl_program.specs.declared.expression.Expr.{Expr, roll-Expr, map-Expr, ind-Expr}
-use Rattle.ctl_program.specs.declared.expression.Name.{Name, roll-Name, map-Name, ind-Name}
+use Rattle.ctl_program.specs.declared.expression.Name.{Name}
 use Rattle.ctl_program.specs.declared.expression.Actual.{Actual}
 use Rattle.ctl_program.specs.declared.expression.Operand.{Operand, Operand-F, roll-Operand, map-Operand}
-use Rattle.ctl_program.specs.declared.expression.Actual.TheOpen.{Expr-F, Name-F}
-use Rattle.ctl_meaning.specs.World.{Content, Nothing, Holds, Binds, Copies, Gathers, World}
-use Rattle.ctl_meaning.specs.Activations.{master_of}
+use Rattle.ctl_program.specs.declared.expression.Actual.TheOpen.{Expr-F}
+use Rattle.ctl_meaning.specs.World.{World}
 use Rattle.ctl_meaning.specs.Changes.{slot_at}
 use Rattle.ctl_meaning.specs.Choice.{Ask}
-use Rattle.ctl_meaning.specs.Outcome.{Act, add, bind, on_goes, ◌>>=◌, ticked, opened_outcome}
-use Rattle.ctl_meaning.specs.Types.{Tables, Category, Elementary, Composite, cells_of, offset_in, placed as placed_in}
-use Rattle.ctl_meaning.specs.Names.{Call, Default, Tools, Found, found_in, read_found, walk, begins_as, opened_names}
-use Rattle.ctl_meaning.specs.Expressions.{Applied, Naming, Valued, apply, eval, eval_name, eval_step, name_step as name_meaning, operand_step, var_part}
-use Rattle.ctl_meaning.proofs.Trees.{eval_roll, name_roll, operand_roll}
+use Rattle.ctl_meaning.specs.Outcome.{Act, ◌>>=◌, ticked, opened_outcome}
+use Rattle.ctl_meaning.specs.Types.{Tables, Category, Elementary, cells_of}
+use Rattle.ctl_meaning.specs.Names.{Call, Default, Tools, Found, read_found, begins_as, opened_names}
+use Rattle.ctl_meaning.specs.Expressions.{Applied, Naming, Valued, apply, eval, eval_name, eval_step, operand_step, var_part}
+use Rattle.ctl_meaning.proofs.Trees.{eval_roll, operand_roll}
 use Rattle.ctl_code.specs.declared.code.Code.{Code}
-use Rattle.ctl_program.specs.declared.expression.Step.{Step}
-use Rattle.ctl_program.specs.declared.expression.Step.TheVariants.{Component, Dereference, Narrow}
-use Rattle.ctl_layout.specs.declared.right.Reached.{Reached}
-use Rattle.ctl_layout.specs.declared.right.Reached.TheVariants as ReachedOf
-use Rattle.ctl_layout.specs.Values.{ValueCode, behind_steps, OperatorCode, missing_value, operator_of, operators_run, read, value_code, values_run, reached_by}
+use Rattle.ctl_program.specs.declared.expression.Step.TheVariants.{Component}
+use Rattle.ctl_layout.specs.Parts.{Reached, Variable, Part, are_selectors}
+use Rattle.ctl_layout.specs.Values.{ValueCode, OperatorCode, missing_value, operator_of, operators_run, read, value_code, values_run, reached_by}
 use Rattle.ctl_gen.proofs.Known.{IsScalar, both_true, scalar_elementary, scalar_if}
-use Rattle.ctl_gen.proofs.Worlds.{IsWhole, Since, whole_at}
-use Rattle.ctl_gen.proofs.Components.{Touches, component_value, content_of, stepped}
-use Rattle.ctl_layout.proofs.TreeLayers.{value_roll, reached_roll, operator_roll}
+use Rattle.ctl_gen.proofs.Worlds.{HoldsNoCopy, Since, no_copy_at}
+use Rattle.ctl_gen.proofs.Parts.{Leads, find_as, find_by, name_leads, part_leads}
+use Rattle.ctl_gen.proofs.Components.{component_value}
+use Rattle.ctl_layout.proofs.TreeLayers.{value_roll, operator_roll}
 use Rattle.ctl_gen.proofs.Setting.{ArePlaced, tools_with}
 use Rattle.ctl_gen.proofs.Expressions as X
 
-module _ (ask : Ask) (k : Tables) (code : Code) (placed : ArePlaced k code) (call : Call) (default : Default) (Fits : World → Type 0) (whole : (n i : ℕ) (w : World) → Fits w → IsWhole (slot_at n i w)) where
+module _ (ask : Ask) (k : Tables) (code : Code) (placed : ArePlaced k code) (call : Call) (default : Default) (Fits : World → Type 0) (uncopied : (n i : ℕ) (w : World) → Fits w → HoldsNoCopy (slot_at n i w)) where
   abbrev K : Tools
   K = tools_with ask k call default
 
@@ -38,17 +36,30 @@ module _ (ask : Ask) (k : Tables) (code : Code) (placed : ArePlaced k code) (cal
 
   -- what a name means that reaches something
   abbrev pub Reaches : Reached → (List ℕ → Act Found) → Type 0
-  Reaches (ReachedOf.Variable v) find = X.Uses ask k code Fits v find
-  Reaches (ReachedOf.Component v t position) find = Touches k v t position find
+  Reaches (Variable v) find = X.Uses ask k code Fits v find
+  Reaches (Part v steps t position) find = (are_selectors (steps ++ Component t position ∷ []) ≡ true) × (find ≡ find_by K (steps ++ Component t position ∷ []) v)
 
-  abbrev pub Finds : Name → Type 0
-  Finds n = (x : Reached) → reached_by n ≡ Some x → Reaches x (eval_name n Elementary K)
+  -- in one tick
+  uses_it : (x : Var) → X.Uses ask k code Fits x (find_as K Elementary [] x)
+  unfolding var_part opened_names opened_outcome
+  uses_it x v c l w = refl
+
+  reaches : (x : Reached) (find : Naming) → Leads K x find → Reaches x (find Elementary K)
+  unfolding begins_as
+  reaches (Variable v) find h = subst (X.Uses ask k code Fits v) (sym (h.finds Elementary)) (uses_it v)
+  reaches (Part v steps t position) find h = (h.selectors, part_leads K v steps t position find Elementary h)
+
+  pub name_finds : (n : Name) (x : Reached) → reached_by n ≡ Some x → Reaches x (eval_name n Elementary K)
+  name_finds n x is = reaches x (eval_name n) (name_leads K n x is)
 
   abbrev IsOperator : Operand → Type 0
   IsOperator o = (operator_of o).right.runs k.records ≡ true → X.Further ask k code Fits (operator_of o) (apply o K)
 
   abbrev IsActual : Actual → Type 0
   IsActual a = Unit {0}
+
+  abbrev IsName : Name → Type 0
+  IsName n = Unit {0}
 
   abbrev ActualToo : Type 0
   ActualToo = (a : Actual) × IsActual a
@@ -57,16 +68,13 @@ module _ (ask : Ask) (k : Tables) (code : Code) (placed : ArePlaced k code) (cal
   ExprToo = (e : Expr) × IsValue e
 
   abbrev NameToo : Type 0
-  NameToo = (n : Name) × Finds n
+  NameToo = (n : Name) × IsName n
 
   abbrev OperandToo : Type 0
   OperandToo = (o : Operand) × IsOperator o
 
   abbrev bare_expr : Expr-F ActualToo ExprToo NameToo OperandToo → Expr-F Actual Expr Name Operand
   bare_expr = map-Expr ActualToo ExprToo NameToo OperandToo Actual Expr Name Operand (λ e. e.0) (λ e. e.0) (λ e. e.0) (λ e. e.0)
-
-  abbrev bare_name : Name-F ActualToo ExprToo NameToo OperandToo → Name-F Actual Expr Name Operand
-  bare_name = map-Name ActualToo ExprToo NameToo OperandToo Actual Expr Name Operand (λ e. e.0) (λ e. e.0) (λ e. e.0) (λ e. e.0)
 
   abbrev bare_operand : Operand-F ActualToo ExprToo NameToo OperandToo → Operand-F Actual Expr Name Operand
   bare_operand = map-Operand ActualToo ExprToo NameToo OperandToo Actual Expr Name Operand (λ e. e.0) (λ e. e.0) (λ e. e.0) (λ e. e.0)
@@ -101,15 +109,16 @@ module _ (ask : Ask) (k : Tables) (code : Code) (placed : ArePlaced k code) (cal
 
   reads : (o : Option Reached) (ty : Ty) (find : Naming) → ((x : Reached) → o ≡ Some x → Reaches x (find Elementary K)) → Meets (read o ty) (eval_step (Expr-F.Read find ty))
   reads None ty find h runs = absurd (cc)
-  reads (Some (ReachedOf.Variable v)) ty find h runs = elementary (Some (ReachedOf.Variable v)) ty find (scalar_if ty runs) (X.read_value ask k code Fits v (find Elementary K) (h (ReachedOf.Variable v) refl) ty (scalar_if ty runs))
-  reads (Some (ReachedOf.Component v t position)) ty find h runs =
+  reads (Some (Variable v)) ty find h runs = elementary (Some (Variable v)) ty find (scalar_if ty runs) (X.read_value ask k code Fits v (find Elementary K) (h (Variable v) refl) ty (scalar_if ty runs))
+  reads (Some (Part v steps t position)) ty find h runs =
       let e = both_true _ _ runs in
-      elementary (Some (ReachedOf.Component v t position)) ty find (scalar_if ty e.0) (component_value ask k code placed Fits whole v t position e.1 (find Elementary K) (h (ReachedOf.Component v t position) refl) ty (scalar_if ty e.0))
+      let g = h (Part v steps t position) refl in
+      elementary (Some (Part v steps t position)) ty find (scalar_if ty e.0) (component_value ask k code placed call default v steps t position e.1 g.0 Fits uncopied (find Elementary K) g.1 ty (scalar_if ty e.0))
 
   expr_rolled : (y : Expr-F ActualToo ExprToo NameToo OperandToo) → IsValue (roll-Expr (bare_expr y))
   unfolding eval_step
   expr_rolled (Expr-F.Constant n) = meets (Expr-F.Constant n) _ _ (value_roll (Expr-F.Constant n)) (eval_roll (Expr-F.Constant n)) (λ h. X.constant_value ask k code Fits n)
-  expr_rolled (Expr-F.Read n ty) = meets (Expr-F.Read n.0 ty) _ _ (value_roll (Expr-F.Read n.0 ty)) (eval_roll (Expr-F.Read n.0 ty)) (reads (reached_by n.0) ty (eval_name n.0) n.1)
+  expr_rolled (Expr-F.Read n ty) = meets (Expr-F.Read n.0 ty) _ _ (value_roll (Expr-F.Read n.0 ty)) (eval_roll (Expr-F.Read n.0 ty)) (reads (reached_by n.0) ty (eval_name n.0) (name_finds n.0))
   expr_rolled (Expr-F.Unary op ty e) = meets (Expr-F.Unary op ty e.0) _ _ (value_roll (Expr-F.Unary op ty e.0)) (eval_roll (Expr-F.Unary op ty e.0)) (λ h. X.unary_value ask k code Fits op ty (value_code e.0) (eval e.0 K) (e.1 h))
   expr_rolled (Expr-F.Chain e o os) =
       let y = Expr-F.Chain e.0 o.0 (map (λ z. z.0) os) in
@@ -135,40 +144,6 @@ module _ (ask : Ask) (k : Tables) (code : Code) (placed : ArePlaced k code) (cal
   expr_rolled (Expr-F.Subpool which n) = missing_rolled (Expr-F.Subpool which n.0) (value_roll (Expr-F.Subpool which n.0))
   expr_rolled (Expr-F.Discriminant n i) = missing_rolled (Expr-F.Discriminant n.0 i) (value_roll (Expr-F.Discriminant n.0 i))
 
-  -- in one tick
-  uses_it : (x : Var) → X.Uses ask k code Fits x (λ v. var_part Elementary v x >>= walk K [])
-  unfolding var_part opened_names opened_outcome
-  uses_it x v c l w = refl
-
-  -- in two ticks
-  touches_it : (v : Var) (t position : ℕ) → Touches k v t position (λ u. var_part Composite u v >>= walk K (Component t position ∷ []))
-  unfolding var_part opened_names opened_outcome
-  touches_it v t position d c l w = by (content_of d v w)
-    where
-      by : (x : Content) → bind (add 1 (found_in (master_of d v) v.slot x c l w)) (on_goes (walk K (Component t position ∷ []))) ≡ stepped (offset_in position (placed_in k t)) position (found_in (master_of d v) v.slot x c l w)
-      by Nothing = refl
-      by (Holds n) = refl
-      by (Binds n at path) = refl
-      by (Copies u) = refl
-      by (Gathers n) = refl
-
-  finds : (y : Name-F Actual Expr Name Operand) (o : Option Reached) (m : Naming) → reached_by (roll-Name y) ≡ o → eval_name (roll-Name y) ≡ m → ((x : Reached) → o ≡ Some x → Reaches x (m Elementary K)) → Finds (roll-Name y)
-  finds y o m same means h x is = subst (λ (n : Naming). Reaches x (n Elementary K)) (sym means) (h x (sym same ∙ is))
-
-  -- what a variable reaches behind its steps
-  behind_it : (v : Var) (ss : List Step) (x : Reached) → behind_steps v ss ≡ Some x → Reaches x (λ u. var_part (begins_as ss Elementary) u v >>= walk K ss)
-  unfolding begins_as
-  behind_it v [] x is = let same : ReachedOf.Variable v ≡ x = cc is in subst (λ y. Reaches y (λ u. var_part Elementary u v >>= walk K [])) same (uses_it v)
-  behind_it v (Component t position ∷ []) x is = let same : ReachedOf.Component v t position ≡ x = cc is in subst (λ y. Reaches y (λ u. var_part Composite u v >>= walk K (Component t position ∷ []))) same (touches_it v t position)
-  behind_it v (Component t position ∷ s ∷ ss) x is = absurd (cc is)
-  behind_it v (Dereference ∷ ss) x is = absurd (cc is)
-  behind_it v (Narrow t ∷ ss) x is = absurd (cc is)
-
-  name_rolled : (y : Name-F ActualToo ExprToo NameToo OperandToo) → Finds (roll-Name (bare_name y))
-  unfolding name_meaning
-  name_rolled (Name-F.Variable v ss) = finds (Name-F.Variable v ss) _ _ (reached_roll (Name-F.Variable v ss)) (name_roll (Name-F.Variable v ss)) (behind_it v ss)
-  name_rolled (Name-F.Given e ss) = finds (Name-F.Given e.0 ss) _ _ (reached_roll (Name-F.Given e.0 ss)) (name_roll (Name-F.Given e.0 ss)) (λ x is. absurd (cc))
-
   operand_rolled : (y : Operand-F ActualToo ExprToo NameToo OperandToo) → IsOperator (roll-Operand (bare_operand y))
   unfolding operand_step
   operand_rolled y h =
@@ -181,19 +156,12 @@ module _ (ask : Ask) (k : Tables) (code : Code) (placed : ArePlaced k code) (cal
   -- Whole trees ---------------------------------------------------------------------------------------
 
   pub value_means : (e : Expr) → IsValue e
-  value_means = ind-Expr IsActual IsValue Finds IsOperator
+  value_means = ind-Expr IsActual IsValue IsName IsOperator
       (λ x y is. tt)
       (λ x y is. subst (λ z. IsValue (roll-Expr z)) is (expr_rolled y))
-      (λ x y is. subst (λ z. Finds (roll-Name z)) is (name_rolled y))
-      (λ x y is. subst (λ z. IsOperator (roll-Operand z)) is (operand_rolled y))
-
-  pub name_finds : (n : Name) → Finds n
-  name_finds = ind-Name IsActual IsValue Finds IsOperator
       (λ x y is. tt)
-      (λ x y is. subst (λ z. IsValue (roll-Expr z)) is (expr_rolled y))
-      (λ x y is. subst (λ z. Finds (roll-Name z)) is (name_rolled y))
       (λ x y is. subst (λ z. IsOperator (roll-Operand z)) is (operand_rolled y))
 
 -- a value, in the worlds since any
 pub value_since : (ask : Ask) (k : Tables) (code : Code) (placed : ArePlaced k code) (call : Call) (default : Default) (e : Expr) → (value_code e).runs k.records ≡ true → (w0 : World) → X.Value ask k code (Since k code w0) (value_code e) (eval e (tools_with ask k call default))
-value_since ask k code placed call default e runs w0 = value_means ask k code placed call default (Since k code w0) (λ n i w h. whole_at k code n i w h.0) e runs
+value_since ask k code placed call default e runs w0 = value_means ask k code placed call default (Since k code w0) (λ n i w h. no_copy_at k code n i w h.0) e runs

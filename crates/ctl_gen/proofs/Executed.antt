@@ -1,6 +1,5 @@
 -- The code of each statement and of each master that this version runs does what it means.
 use Rattle.std.proofs.Common.{◌≡◌, ℕ, ◌+◌, List, [], ◌∷◌, map, Option, Some, None, true, false, refl, sym, ap, ◌∙◌, subst, arith, option_map}
-use Rattle.ctl_program.specs.declared.types.Var.{Var}
 use Rattle.ctl_program.specs.declared.expression.Actual.{Actual}
 use Rattle.ctl_program.specs.declared.expression.Expr.{Expr}
 use Rattle.ctl_program.specs.declared.statement.Stmt.{Stmt, roll-Stmt, map-Stmt}
@@ -12,7 +11,7 @@ use Rattle.ctl_tree.specs.declared.event.Event.TheVariants.{Newline}
 use Rattle.ctl_meaning.specs.World.{World}
 use Rattle.ctl_meaning.specs.Choice.{Ask}
 use Rattle.ctl_meaning.specs.Outcome.{Act, ◌>>=◌, ticked, Goes, tell, opened_outcome, ByExit, ByReturn, ByRaise, leave_by, Leaves}
-use Rattle.ctl_meaning.specs.Types.{Tables, Composite, Elementary}
+use Rattle.ctl_meaning.specs.Types.{Tables, Elementary}
 use Rattle.ctl_meaning.specs.Names.{Default, Found, Tools}
 use Rattle.ctl_meaning.specs.Names as Names
 use Rattle.ctl_meaning.specs.Expressions.{Naming, Supplied, eval, eval_name, supply}
@@ -22,20 +21,20 @@ use Rattle.ctl_code.specs.declared.code.Code.{Code}
 use Rattle.ctl_code.specs.declared.code.Instr.TheVariants as InstrOf
 use Rattle.ctl_code.specs.declared.code.Way.TheVariants as WayOf
 use Rattle.ctl_code.specs.Table.{caught_in}
-use Rattle.ctl_layout.specs.declared.right.Reached.{Reached}
-use Rattle.ctl_layout.specs.declared.right.Reached.TheVariants as ReachedOf
+use Rattle.ctl_layout.specs.Parts.{Reached, Variable, Part}
 use Rattle.ctl_layout.specs.Values.{value_code, reached_by, sourced}
 use Rattle.ctl_layout.specs.Layout.{StatementCode, all, all_items, arm_code, assign, assign_record, call as call_code, record_code, exit, handled, handler_code, return, inside, item_code, master_code, missing_statement, statement_code, actual_code, leaves_code}
 use Rattle.ctl_gen.proofs.Known.{both_true, plain_if}
 use Rattle.ctl_layout.proofs.TreeLayers.{handler_roll, arm_roll, master_roll, statement_roll}
 use Rattle.ctl_gen.proofs.Setting.{Setting, Calls, tools_with}
 use Rattle.ctl_gen.proofs.Defaults.{GivesDefaults}
-use Rattle.ctl_gen.proofs.Worlds.{Fits, Since, Kept, whole_at}
+use Rattle.ctl_gen.proofs.Worlds.{Fits, Since, Kept, no_copy_at}
 use Rattle.ctl_gen.proofs.Cells.{by_code}
 use Rattle.ctl_gen.proofs.Expressions.{Value}
 use Rattle.ctl_gen.proofs.Evaluated.{Reaches, name_finds, value_since}
 use Rattle.ctl_gen.proofs.Components.{part_does}
-use Rattle.ctl_gen.proofs.Sources.{find_by, name_means, source_means}
+use Rattle.ctl_gen.proofs.Parts.{Leads, composite_leads, find_by, name_leads, selectors_of, variable_of}
+use Rattle.ctl_gen.proofs.Sources.{IsSource, source_means}
 use Rattle.ctl_gen.proofs.RecordAssign.{record_does}
 use Rattle.ctl_gen.proofs.Actuals.{actuals_pass}
 use Rattle.ctl_gen.proofs.Calls.{call_does}
@@ -118,25 +117,28 @@ module _ (ask : Ask) (k : Tables) (code : Code) (setting : Setting k code) (call
   missing_does : (y : Stmt-F Stmt Arm Handler Master) → statement_code (roll-Stmt y) ≡ missing_statement → Does (roll-Stmt y)
   missing_does y same runs = absurd (let e = sym (ap (λ (x : StatementCode). x.runs k.records) same) ∙ runs in cc)
 
-  assign_does : (o : Option Reached) (find : Naming) (e : Expr) → ((x : Reached) → o ≡ Some x → Reaches ask k code setting.places call default (λ w. Fits k code w) (whole_at k code) x (find Elementary K)) → Performs (assign o (value_code e)) (assign_doing find (eval e))
+  assign_does : (o : Option Reached) (find : Naming) (e : Expr) → ((x : Reached) → o ≡ Some x → Reaches ask k code setting.places call default (λ w. Fits k code w) (no_copy_at k code) x (find Elementary K)) → Performs (assign o (value_code e)) (assign_doing find (eval e))
   unfolding assign_doing
   assign_does None find e reaches runs n texts = absurd (cc)
-  assign_does (Some (ReachedOf.Variable v)) find e reaches runs n texts = assign_runs ask k code setting.valid bound v (find Elementary K) (reaches (ReachedOf.Variable v) refl) (value_code e) (eval e K) (means e runs)
-  assign_does (Some (ReachedOf.Component v t position)) find e reaches runs n texts =
+  assign_does (Some (Variable v)) find e reaches runs n texts = assign_runs ask k code setting.valid bound v (find Elementary K) (reaches (Variable v) refl) (value_code e) (eval e K) (means e runs)
+  assign_does (Some (Part v steps t position)) find e reaches runs n texts =
       let h = both_true _ _ runs in
-      part_does ask k code setting.places bound v t position h.0 (value_code e) (eval e K) (means e h.1) (find Elementary K) (reaches (ReachedOf.Component v t position) refl)
+      let g = reaches (Part v steps t position) refl in
+      part_does ask k code setting.places call default v steps t position h.0 g.0 bound (value_code e) (eval e K) (means e h.1) (find Elementary K) g.1
 
-  record_assign_does : (o : Option Reached) (t : ℕ) (q : Option Reached) (find : Naming) (x : Supplied) → ((v : Var) → o ≡ Some (ReachedOf.Variable v) → find Composite K ≡ find_by K [] Composite v) → ((v : Var) → q ≡ Some (ReachedOf.Variable v) → x.source K ≡ (λ d. ticked (find_by K [] Composite v d))) → Performs (assign_record o t q) (assign_part find t x)
+  record_assign_does : (o : Option Reached) (t : ℕ) (q : Option Reached) (find : Naming) (m : Supplied) → ((x : Reached) → o ≡ Some x → Leads K x find) → ((y : Reached) → q ≡ Some y → IsSource K y m) → Performs (assign_record o t q) (assign_part find t m)
   unfolding assign_part
-  record_assign_does None t q find x target source runs n texts = absurd (cc)
-  record_assign_does (Some (ReachedOf.Component v u position)) t q find x target source runs n texts = absurd (cc)
-  record_assign_does (Some (ReachedOf.Variable v)) t None find x target source runs n texts = absurd (cc)
-  record_assign_does (Some (ReachedOf.Variable v)) t (Some (ReachedOf.Component y u position)) find x target source runs n texts = absurd (cc)
-  record_assign_does (Some (ReachedOf.Variable v)) t (Some (ReachedOf.Variable u)) find x target source runs n texts =
-      let known = plain_if k t (both_true _ _ runs).0 in
-      subst (λ (find1 : List ℕ → Act Found). DoesIn 0 ask k code bound (λ a. record_code v t u a.stack) (λ d caught. ticked (find1 d >>= (λ f. x.source K d >>= assign_found K t f)))) (sym (target v refl))
-      (subst (λ (find2 : List ℕ → Act Found). DoesIn 0 ask k code bound (λ a. record_code v t u a.stack) (λ d caught. ticked (find_by K [] Composite v d >>= (λ f. find2 d >>= assign_found K t f)))) (sym (source u refl))
-      (record_does ask k code setting call default constants t known.0 known.1 known.2 bound calls v u))
+  record_assign_does None t q find m target source runs n texts = absurd (cc)
+  record_assign_does (Some x) t None find m target source runs n texts = absurd (cc)
+  record_assign_does (Some x) t (Some y) find m target source runs n texts =
+      let h = both_true _ _ runs in
+      let g = both_true _ _ h.1 in
+      let known = plain_if k t (both_true _ _ g.1).0 in
+      let to = target x refl in
+      let from = source y refl in
+      subst (λ (find1 : List ℕ → Act Found). DoesIn 0 ask k code bound (λ a. record_code x t y a.stack) (λ d caught. ticked (find1 d >>= (λ f. m.source K d >>= assign_found K t f)))) (sym (composite_leads K x find to))
+      (subst (λ (find2 : List ℕ → Act Found). DoesIn 0 ask k code bound (λ a. record_code x t y a.stack) (λ d caught. ticked (find_by K (selectors_of x) (variable_of x) d >>= (λ f. find2 d >>= assign_found K t f)))) (sym from.finds)
+      (record_does ask k code setting call default constants t known.0 known.1 known.2 bound calls x y to.selectors from.selectors h.0 g.0))
 
   called_does : (f : ℕ) (actuals : List Actual) → Performs (call_code f (map actual_code actuals)) (call_doing f (map supply actuals))
   called_does f actuals runs n texts = call_does ask k code setting call default bound calls f (map actual_code actuals) (map supply actuals) (actuals_pass ask k code setting call default actuals runs)
@@ -159,7 +161,7 @@ module _ (ask : Ask) (k : Tables) (code : Code) (setting : Setting k code) (call
   stmt_rolled : (y : Stmt-F StmtToo ArmToo HandlerToo MasterToo) → Does (roll-Stmt (bare_stmt y))
   unfolding null_doing put put_line new_line raise_new raise_again loop_plainly loop_while loop_for opened_outcome
   stmt_rolled Stmt-F.Null = does Stmt-F.Null _ _ (statement_roll Stmt-F.Null) (exec_roll Stmt-F.Null) (λ runs n texts a w0 d place ks ops c l w le fits sees has. S.still_there ask k code setting call default constants bound calls 1 (lands a place) w0 d place ks ops c l w fits)
-  stmt_rolled (Stmt-F.Assign x e) = does (Stmt-F.Assign x e) _ _ (statement_roll (Stmt-F.Assign x e)) (exec_roll (Stmt-F.Assign x e)) (assign_does (reached_by x) (eval_name x) e (name_finds ask k code setting.places call default (λ w. Fits k code w) (whole_at k code) x))
+  stmt_rolled (Stmt-F.Assign x e) = does (Stmt-F.Assign x e) _ _ (statement_roll (Stmt-F.Assign x e)) (exec_roll (Stmt-F.Assign x e)) (assign_does (reached_by x) (eval_name x) e (name_finds ask k code setting.places call default (λ w. Fits k code w) (no_copy_at k code) x))
   stmt_rolled (Stmt-F.Put ps) = does (Stmt-F.Put ps) _ _ (statement_roll (Stmt-F.Put ps)) (exec_roll (Stmt-F.Put ps)) (λ runs n texts. print_runs ask k code setting.places call default bound false ps runs n texts)
   stmt_rolled (Stmt-F.PutLine ps) = does (Stmt-F.PutLine ps) _ _ (statement_roll (Stmt-F.PutLine ps)) (exec_roll (Stmt-F.PutLine ps)) (λ runs n texts. print_runs ask k code setting.places call default bound true ps runs n texts)
   stmt_rolled Stmt-F.NewLine = does Stmt-F.NewLine _ _ (statement_roll Stmt-F.NewLine) (exec_roll Stmt-F.NewLine) (λ runs n texts a w0 d place ks ops c l w le fits sees has. last_step ask code (Kept k code w0) 0 0 _ c 1 (arrives (lands a place) d (place + 1) ks ops) (Goes tt) (tell Newline l) w (omega arith) fits (by_code ask code d place ks ops l w InstrOf.NewLine has.0))
@@ -187,7 +189,7 @@ module _ (ask : Ask) (k : Tables) (code : Code) (setting : Setting k code) (call
       let g = both_true _ _ h.1 in
       for_runs ask k code setting.valid bound x way (value_code low) (value_code high) (eval low K) (eval high K) (means low h.0) (means high g.0) (λ a. (all (map statement_code (map (λ z. z.0) body))).code a n) (λ v caught. do_each K v caught (map exec (map (λ z. z.0) body))) (each_does body g.1 n texts))
   stmt_rolled (Stmt-F.Block m) = does (Stmt-F.Block m.0) _ _ (statement_roll (Stmt-F.Block m.0)) (exec_roll (Stmt-F.Block m.0)) (S.block_runs ask k code setting call default constants bound calls (master_code m.0) (body_of m.0) m.1)
-  stmt_rolled (Stmt-F.AssignRecord x t a) = does (Stmt-F.AssignRecord x t a) _ _ (statement_roll (Stmt-F.AssignRecord x t a)) (exec_roll (Stmt-F.AssignRecord x t a)) (record_assign_does (reached_by x) t (sourced a) (eval_name x) (supply a) (name_means K x) (source_means K a))
+  stmt_rolled (Stmt-F.AssignRecord x t a) = does (Stmt-F.AssignRecord x t a) _ _ (statement_roll (Stmt-F.AssignRecord x t a)) (exec_roll (Stmt-F.AssignRecord x t a)) (record_assign_does (reached_by x) t (sourced a) (eval_name x) (supply a) (name_leads K x) (source_means K a))
   stmt_rolled (Stmt-F.Call f xs) = does (Stmt-F.Call f xs) _ _ (statement_roll (Stmt-F.Call f xs)) (exec_roll (Stmt-F.Call f xs)) (called_does f xs)
   stmt_rolled (Stmt-F.Nothing x) = missing_does (Stmt-F.Nothing x) (statement_roll (Stmt-F.Nothing x))
   stmt_rolled (Stmt-F.Dispatch op x) = missing_does (Stmt-F.Dispatch op x) (statement_roll (Stmt-F.Dispatch op x))

@@ -25,11 +25,11 @@ use Rattle.ctl_code.specs.declared.code.Instr.TheVariants as InstrOf
 use Rattle.ctl_code.specs.declared.code.Code.{Code}
 use Rattle.ctl_code.specs.declared.kinds.Kind.{Kind}
 use Rattle.ctl_code.specs.declared.kinds.Kind.TheVariants as KindOf
-use Rattle.ctl_code.specs.States.{Frame, State}
+use Rattle.ctl_code.specs.States.{Word, Scalar, Frame, State}
 use Rattle.ctl_code.specs.Table.{by_result, by_binary, by_decision, cell_at}
 use Rattle.ctl_code.specs.Steps.{moved, step}
 use Rattle.ctl_code.specs.Windows.{depth, height}
-use Rattle.ctl_layout.specs.declared.right.Reached.TheVariants as ReachedOf
+use Rattle.ctl_layout.specs.Parts as Parts
 use Rattle.ctl_layout.specs.declared.right.Right.{Right}
 use Rattle.ctl_layout.specs.declared.right.Right.TheVariants as RightOf
 use Rattle.ctl_layout.specs.Around.{Line, new_operand, local_at, local_cell, out_to}
@@ -56,7 +56,7 @@ module _ (ask : Ask) (k : Tables) (code : Code) (Fits : World → Type 0) where
   -- the code of an expression does what it means, wherever it stands and its value is wanted; and so does an operator that takes it
   pub record Value (x : ValueCode) (act : List ℕ → Act (List ℕ)) : Type 0 where
     pub cell : (d : List ℕ) (c : ℕ) (l : Log) (w : World) → IsCell Any (act d c l w)
-    pub begins : (to : Cell) (ty : Ty) (s : List Kind) (d : List ℕ) (place : ℕ) (ks : List Frame) (ops : List ℕ) (c : ℕ) (l : Log) (w : World) → Fits w → length d ≡ depth s → Laid code place (x.code to ty s) → Begins Any (at d place ks ops l w) c (landed to.named d (place + length (x.code to ty s)) ks ops) (act d c l w)
+    pub begins : (to : Cell) (ty : Ty) (s : List Kind) (d : List ℕ) (place : ℕ) (ks : List Frame) (ops : List Word) (c : ℕ) (l : Log) (w : World) → Fits w → length d ≡ depth s → Laid code place (x.code to ty s) → Begins Any (at d place ks ops l w) c (landed to.named d (place + length (x.code to ty s)) ks ops) (act d c l w)
     pub constant : (n : ℕ) → x.right ≡ RightOf.Constant n → (d : List ℕ) (c : ℕ) (l : Log) (w : World) → act d c l w ≡ Gives (Goes (n ∷ [])) 1 c l w
     pub variable : (y : Var) → x.right ≡ RightOf.Variable y → (d : List ℕ) (c : ℕ) (l : Log) (w : World) → act d c l w ≡ Gives (Goes (value_of d y w ∷ [])) 2 c l w
 
@@ -68,13 +68,13 @@ module _ (ask : Ask) (k : Tables) (code : Code) (Fits : World → Type 0) where
   result_cell (Some n) c l w = (n, refl, tt)
 
   -- a result, or Constraint_Error
-  result_runs : (x : Option ℕ) (to : Named) (d : List ℕ) (place : ℕ) (ks : List Frame) (ops : List ℕ) (c : ℕ) (l : Log) (w : World) (s0 : State) → Fits w → step ask code s0 ≡ moved l (by_result x to ops (here d place ks w)) → Runs ask code Kept 1 1 s0 c (landed to d (place + 1) ks ops) (or_constraint_error x c l w)
+  result_runs : (x : Option ℕ) (to : Named) (d : List ℕ) (place : ℕ) (ks : List Frame) (ops : List Word) (c : ℕ) (l : Log) (w : World) (s0 : State) → Fits w → step ask code s0 ≡ moved l (by_result x to ops (here d place ks w)) → Runs ask code Kept 1 1 s0 c (landed to d (place + 1) ks ops) (or_constraint_error x c l w)
   unfolding opened_names opened_outcome
   result_runs None to d place ks ops c l w s0 fits first = last_step ask code Kept 1 1 s0 c 0 (landed to d (place + 1) ks ops) (Leaves (ByRaise constraint_error)) l w (omega arith) fits (first ∙ landed_leaves to d (place + 1) ks ops (ByRaise constraint_error) l w)
   result_runs (Some n) to d place ks ops c l w s0 fits first = last_step ask code Kept 1 1 s0 c 0 (landed to d (place + 1) ks ops) (Goes (n ∷ [])) l w (omega arith) fits (first ∙ put_is to n d place ks ops l w)
 
   -- what leaves an operand leaves the expression
-  leaves_it : (b h : ℕ) (to : Named) (d : List ℕ) (place : ℕ) (ks : List Frame) (ops : List ℕ) (y : Way) (c : ℕ) (l : Log) (w : World) → Fits w → Runs ask code Kept b h (transferred y ks l w) c (landed to d place ks ops) (Gives (Leaves y) 0 c l w)
+  leaves_it : (b h : ℕ) (to : Named) (d : List ℕ) (place : ℕ) (ks : List Frame) (ops : List Word) (y : Way) (c : ℕ) (l : Log) (w : World) → Fits w → Runs ask code Kept b h (transferred y ks l w) c (landed to d place ks ops) (Gives (Leaves y) 0 c l w)
   leaves_it b h to d place ks ops y c l w fits = no_step ask code Kept b h _ c 0 (landed to d place ks ops) (Leaves y) l w fits (landed_leaves to d place ks ops y l w)
 
   -- Constants and variables -------------------------------------------------------------------------
@@ -104,11 +104,11 @@ module _ (ask : Ask) (k : Tables) (code : Code) (Fits : World → Type 0) where
       ∙ ap (λ n. add 1 (add 1 (read_found n (InVariable (master_of d x) x.slot) c l w))) (scalar_cells k ty scalar)
 
   -- a variable of this window, or of a body around, goes where it is wanted
-  read_step : (at' : Option ℕ) (v : Var) (ty : Ty) (to : Cell) (s : List Kind) (d : List ℕ) (place : ℕ) (ks : List Frame) (ops : List ℕ) (l : Log) (w : World) → length d ≡ depth s → slice_get code.instructions.items place ≡ Some (read_from at' v ty to s) → step ask code (at d place ks ops l w) ≡ landed to.named d (place + 1) ks ops (Goes (value_of d v w ∷ [])) l w
+  read_step : (at' : Option ℕ) (v : Var) (ty : Ty) (to : Cell) (s : List Kind) (d : List ℕ) (place : ℕ) (ks : List Frame) (ops : List Word) (l : Log) (w : World) → length d ≡ depth s → slice_get code.instructions.items place ≡ Some (read_from at' v ty to s) → step ask code (at d place ks ops l w) ≡ landed to.named d (place + 1) ks ops (Goes (value_of d v w ∷ [])) l w
   read_step (Some n) v ty to s d place ks ops l w long has = by_code ask code d place ks ops l w (InstrOf.Move (local_cell s v n) ty to) has ∙ put_is to.named (cell_at d (out_to s v) v.slot w) d place ks ops l w ∙ ap (λ x. landed to.named d (place + 1) ks ops (Goes (x ∷ [])) l w) (cell_is d s v w long)
   read_step None v ty to s d place ks ops l w long has = by_code ask code d place ks ops l w (InstrOf.Fetch (out_to s v) v.slot ty to) has ∙ put_is to.named (cell_at d (out_to s v) v.slot w) d place ks ops l w ∙ ap (λ x. landed to.named d (place + 1) ks ops (Goes (x ∷ [])) l w) (cell_is d s v w long)
 
-  pub read_value : (x : Var) (find : List ℕ → Act Found) → Uses x find → (ty : Ty) → IsScalar ty → Value (read (Some (ReachedOf.Variable x)) ty) (λ d. ticked (find d >>= read_found (cells_of k ty)))
+  pub read_value : (x : Var) (find : List ℕ → Act Found) → Uses x find → (ty : Ty) → IsScalar ty → Value (read (Some (Parts.Variable x)) ty) (λ d. ticked (find d >>= read_found (cells_of k ty)))
   unfolding opened_outcome
   read_value x find uses ty scalar = record {
     cell = λ d c l w. subst (IsCell Any) (sym (reads_it x find uses ty scalar d c l w)) (value_of d x w, refl, tt);
@@ -138,10 +138,10 @@ module _ (ask : Ask) (k : Tables) (code : Code) (Fits : World → Type 0) where
   one_less (Cut t c1 l1) n c l w e = absurd (cc e)
 
   -- an operand is where it is held
-  abbrev pub Holds : Held → (ℕ → World → Type 0) → (List ℕ → Act (List ℕ)) → List ℕ → ℕ → List Frame → List ℕ → ℕ → Log → World → Type 0
+  abbrev pub Holds : Held → (ℕ → World → Type 0) → (List ℕ → Act (List ℕ)) → List ℕ → ℕ → List Frame → List Word → ℕ → Log → World → Type 0
   Holds h P act d place ks ops c l w = Begins P (at d place ks ops l w) c (held_in h.cell.named d (place + length h.code) ks ops) (act d c l w)
 
-  evaluated_holds : (x : ValueCode) (act : List ℕ → Act (List ℕ)) → Value x act → (ty : Ty) (s : List Kind) (d : List ℕ) (place : ℕ) (ks : List Frame) (ops : List ℕ) (c : ℕ) (l : Log) (w : World) → Fits w → length d ≡ depth s → Laid code place (evaluated x ty s).code → Holds (evaluated x ty s) Any act d place ks ops c l w
+  evaluated_holds : (x : ValueCode) (act : List ℕ → Act (List ℕ)) → Value x act → (ty : Ty) (s : List Kind) (d : List ℕ) (place : ℕ) (ks : List Frame) (ops : List Word) (c : ℕ) (l : Log) (w : World) → Fits w → length d ≡ depth s → Laid code place (evaluated x ty s).code → Holds (evaluated x ty s) Any act d place ks ops c l w
   evaluated_holds x act value ty s d place ks ops c l w fits long has =
       let y = value.begins (new_operand s) ty s d place ks ops c l w fits long has in
       record { out = y.out; is = y.is; cells = y.cells; runs = arriving ask code Kept 8 8 _ c _ _ y.out same y.runs }
@@ -154,7 +154,7 @@ module _ (ask : Ask) (k : Tables) (code : Code) (Fits : World → Type 0) where
       same (Leaves y) l1 w1 = refl
 
   -- a variable: what is true of the world stays so
-  variable_holds : (x : ValueCode) (act : List ℕ → Act (List ℕ)) → Value x act → (v : Var) → x.right ≡ RightOf.Variable v → (P : World → Type 0) (at' : Option ℕ) (ty : Ty) (s : List Kind) (d : List ℕ) (place : ℕ) (ks : List Frame) (ops : List ℕ) (c : ℕ) (l : Log) (w : World) → Fits w → P w → length d ≡ depth s → Laid code place (in_cell at' v x ty s).code → Holds (in_cell at' v x ty s) (λ n w1. Stays (in_cell at' v x ty s).cell.named n d w1 × P w1) act d place ks ops c l w
+  variable_holds : (x : ValueCode) (act : List ℕ → Act (List ℕ)) → Value x act → (v : Var) → x.right ≡ RightOf.Variable v → (P : World → Type 0) (at' : Option ℕ) (ty : Ty) (s : List Kind) (d : List ℕ) (place : ℕ) (ks : List Frame) (ops : List Word) (c : ℕ) (l : Log) (w : World) → Fits w → P w → length d ≡ depth s → Laid code place (in_cell at' v x ty s).code → Holds (in_cell at' v x ty s) (λ n w1. Stays (in_cell at' v x ty s).cell.named n d w1 × P w1) act d place ks ops c l w
   unfolding add
   variable_holds x act value v is P (Some n) ty s d place ks ops c l w fits true_of long has =
       let e : place ≡ place + 0 = omega arith in
@@ -169,7 +169,7 @@ module _ (ask : Ask) (k : Tables) (code : Code) (Fits : World → Type 0) where
       record { out = y.out; is = y.is; cells = subst (IsCell (λ n w1. Unit {0} × P w1)) (sym (one_less y.out (value_of d v w) c l w (sym y.is ∙ value.variable v is d c l w))) (value_of d v w, refl, (tt, true_of)); runs = y.runs }
 
   -- an operand stays where it is, or is evaluated
-  pub held_holds : (r : Right) (x : ValueCode) (act : List ℕ → Act (List ℕ)) → x.right ≡ r → Value x act → (ty : Ty) (s : List Kind) (d : List ℕ) (place : ℕ) (ks : List Frame) (ops : List ℕ) (c : ℕ) (l : Log) (w : World) → Fits w → length d ≡ depth s → Laid code place (held_by r x ty s).code → Holds (held_by r x ty s) (λ n w1. Stays (held_by r x ty s).cell.named n d w1) act d place ks ops c l w
+  pub held_holds : (r : Right) (x : ValueCode) (act : List ℕ → Act (List ℕ)) → x.right ≡ r → Value x act → (ty : Ty) (s : List Kind) (d : List ℕ) (place : ℕ) (ks : List Frame) (ops : List Word) (c : ℕ) (l : Log) (w : World) → Fits w → length d ≡ depth s → Laid code place (held_by r x ty s).code → Holds (held_by r x ty s) (λ n w1. Stays (held_by r x ty s).cell.named n d w1) act d place ks ops c l w
   held_holds (RightOf.Constant m) x act is value ty s d place ks ops c l w fits long has = evaluated_holds x act value ty s d place ks ops c l w fits long has
   held_holds RightOf.Evaluated x act is value ty s d place ks ops c l w fits long has = evaluated_holds x act value ty s d place ks ops c l w fits long has
   held_holds (RightOf.Variable v) x act is value ty s d place ks ops c l w fits long has =
@@ -177,7 +177,7 @@ module _ (ask : Ask) (k : Tables) (code : Code) (Fits : World → Type 0) where
       record { out = y.out; is = y.is; cells = cell_less (λ n w1. Stays (in_cell (local_at s v) v x ty s).cell.named n d w1 × Unit {0}) (λ n w1. Stays (in_cell (local_at s v) v x ty s).cell.named n d w1) (λ n w1 h. h.0) y.out y.cells; runs = y.runs }
 
   -- what follows an operand that is held
-  pub held_then : {B : Type 0} (h : Held) (P : ℕ → World → Type 0) (act : List ℕ → Act (List ℕ)) (d : List ℕ) (place : ℕ) (ks : List Frame) (ops : List ℕ) (c : ℕ) (l : Log) (w : World) (next : Result B → Log → World → State) (f : Result (List ℕ) → Act B) → Holds h P act d place ks ops c l w → ((n c1 : ℕ) (l1 : Log) (w1 : World) → c1 ≤ c → Fits w1 → P n w1 → Runs ask code Kept 8 8 (at d (place + length h.code) ks (waiting h.cell.named n ops) l1 w1) c1 next (f (Goes (n ∷ [])) c1 l1 w1)) → ((y c1 : ℕ) (l1 : Log) (w1 : World) → c1 ≤ c → Fits w1 → Runs ask code Kept 8 8 (transferred (ByRaise y) ks l1 w1) c1 next (f (Leaves (ByRaise y)) c1 l1 w1)) → Runs ask code Kept 0 0 (at d place ks ops l w) c next (bind (act d c l w) f)
+  pub held_then : {B : Type 0} (h : Held) (P : ℕ → World → Type 0) (act : List ℕ → Act (List ℕ)) (d : List ℕ) (place : ℕ) (ks : List Frame) (ops : List Word) (c : ℕ) (l : Log) (w : World) (next : Result B → Log → World → State) (f : Result (List ℕ) → Act B) → Holds h P act d place ks ops c l w → ((n c1 : ℕ) (l1 : Log) (w1 : World) → c1 ≤ c → Fits w1 → P n w1 → Runs ask code Kept 8 8 (at d (place + length h.code) ks (waiting h.cell.named n ops) l1 w1) c1 next (f (Goes (n ∷ [])) c1 l1 w1)) → ((y c1 : ℕ) (l1 : Log) (w1 : World) → c1 ≤ c → Fits w1 → Runs ask code Kept 8 8 (transferred (ByRaise y) ks l1 w1) c1 next (f (Leaves (ByRaise y)) c1 l1 w1)) → Runs ask code Kept 0 0 (at d place ks ops l w) c next (bind (act d c l w) f)
   unfolding scalar_of opened_lists
   held_then h P act d place ks ops c l w next f x goes leaves = then_paid ask code Kept P _ c (held_in h.cell.named d (place + length h.code) ks ops) next (act d c l w) x.out f x.is x.cells x.runs goes leaves
 
@@ -223,13 +223,13 @@ module _ (ask : Ask) (k : Tables) (code : Code) (Fits : World → Type 0) where
   -- an operator goes on from a left operand, wherever that is held
   pub record Further (o : OperatorCode) (more : List ℕ → List ℕ → Act (List ℕ)) : Type 0 where
     pub cells : (n : ℕ) (d : List ℕ) (c : ℕ) (l : Log) (w : World) → IsCell Any (more d (n ∷ []) c l w)
-    pub runs : (left : Cell) (ty : Ty) (to : Cell) (s : List Kind) → MayStay left.named o.right.right → (n : ℕ) (d : List ℕ) (place : ℕ) (ks : List Frame) (ops : List ℕ) (c : ℕ) (l : Log) (w : World) → Fits w → length d ≡ depth s → Stays left.named n d w → Laid code place (operator_code o left ty to s) → Runs ask code Kept 0 0 (at d place ks (waiting left.named n ops) l w) c (landed to.named d (place + length (operator_code o left ty to s)) ks ops) (more d (n ∷ []) c l w)
+    pub runs : (left : Cell) (ty : Ty) (to : Cell) (s : List Kind) → MayStay left.named o.right.right → (n : ℕ) (d : List ℕ) (place : ℕ) (ks : List Frame) (ops : List Word) (c : ℕ) (l : Log) (w : World) → Fits w → length d ≡ depth s → Stays left.named n d w → Laid code place (operator_code o left ty to s) → Runs ask code Kept 0 0 (at d place ks (waiting left.named n ops) l w) c (landed to.named d (place + length (operator_code o left ty to s)) ks ops) (more d (n ∷ []) c l w)
 
   abbrev combined : OperatorCode → (List ℕ → Act (List ℕ)) → List ℕ → List ℕ → Act (List ℕ)
   combined o act d u = ticked (act d >>= (λ z. or_constraint_error (binary o.op o.ty (scalar_of u) (scalar_of z))))
 
   -- the operator, behind its right operand
-  binary_runs : (o : OperatorCode) (act : List ℕ → Act (List ℕ)) (left : Cell) (ty : Ty) (to : Cell) (h : Held) (n : ℕ) (d : List ℕ) (place : ℕ) (ks : List Frame) (ops : List ℕ) (c : ℕ) (l : Log) (w : World) → Fits w → Laid code place (binary_code o left ty to h) → Holds h (λ m w1. Stays h.cell.named m d w1 × Stays left.named n d w1) act d place ks (waiting left.named n ops) c l w → Runs ask code Kept 0 0 (at d place ks (waiting left.named n ops) l w) c (landed to.named d (place + length (binary_code o left ty to h)) ks ops) (combined o act d (n ∷ []) c l w)
+  binary_runs : (o : OperatorCode) (act : List ℕ → Act (List ℕ)) (left : Cell) (ty : Ty) (to : Cell) (h : Held) (n : ℕ) (d : List ℕ) (place : ℕ) (ks : List Frame) (ops : List Word) (c : ℕ) (l : Log) (w : World) → Fits w → Laid code place (binary_code o left ty to h) → Holds h (λ m w1. Stays h.cell.named m d w1 × Stays left.named n d w1) act d place ks (waiting left.named n ops) c l w → Runs ask code Kept 0 0 (at d place ks (waiting left.named n ops) l w) c (landed to.named d (place + length (binary_code o left ty to h)) ks ops) (combined o act d (n ∷ []) c l w)
   unfolding opened_outcome scalar_of opened_lists
   binary_runs o act left ty to h n d place ks ops c l w fits has first =
       let e : place + length h.code + 1 ≡ place + length (binary_code o left ty to h) = omega (arith, length-append h.code ((InstrOf.Binary (operator_for o ty) left h.cell to, h.after) ∷ [])) in
@@ -246,13 +246,13 @@ module _ (ask : Ask) (k : Tables) (code : Code) (Fits : World → Type 0) where
       (λ y c1 l1 w1 lo fits1. leaves_it 8 8 to.named d (place + length (binary_code o left ty to h)) ks ops (ByRaise y) c1 l1 w1 fits1))
 
   -- an evaluated right operand, over a left one that is an operand
-  both_hold : (x : ValueCode) (act : List ℕ → Act (List ℕ)) → Value x act → (left : Named) → MayStay left RightOf.Evaluated → (n : ℕ) (ty : Ty) (s : List Kind) (d : List ℕ) (place : ℕ) (ks : List Frame) (ops : List ℕ) (c : ℕ) (l : Log) (w : World) → Fits w → length d ≡ depth s → Laid code place (evaluated x ty s).code → Holds (evaluated x ty s) (λ m w1. Stays Operand m d w1 × Stays left n d w1) act d place ks ops c l w
+  both_hold : (x : ValueCode) (act : List ℕ → Act (List ℕ)) → Value x act → (left : Named) → MayStay left RightOf.Evaluated → (n : ℕ) (ty : Ty) (s : List Kind) (d : List ℕ) (place : ℕ) (ks : List Frame) (ops : List Word) (c : ℕ) (l : Log) (w : World) → Fits w → length d ≡ depth s → Laid code place (evaluated x ty s).code → Holds (evaluated x ty s) (λ m w1. Stays Operand m d w1 × Stays left n d w1) act d place ks ops c l w
   both_hold x act value Operand stay n ty s d place ks ops c l w fits long has =
       let y = evaluated_holds x act value ty s d place ks ops c l w fits long has in
       record { out = y.out; is = y.is; cells = cell_less Any (λ m w1. Unit {0} × Unit {0}) (λ m w1 h. (tt, tt)) y.out y.cells; runs = y.runs }
   both_hold x act value (Variable out slot) stay n ty s d place ks ops c l w fits long has = absurd stay
 
-  operator_runs : (r : Right) (o : OperatorCode) (act : List ℕ → Act (List ℕ)) → o.right.right ≡ r → Value o.right act → (left : Cell) (ty : Ty) (to : Cell) (s : List Kind) → MayStay left.named r → (n : ℕ) (d : List ℕ) (place : ℕ) (ks : List Frame) (ops : List ℕ) (c : ℕ) (l : Log) (w : World) → Fits w → length d ≡ depth s → Stays left.named n d w → Laid code place (operator_by r o left ty to s) → Runs ask code Kept 0 0 (at d place ks (waiting left.named n ops) l w) c (landed to.named d (place + length (operator_by r o left ty to s)) ks ops) (combined o act d (n ∷ []) c l w)
+  operator_runs : (r : Right) (o : OperatorCode) (act : List ℕ → Act (List ℕ)) → o.right.right ≡ r → Value o.right act → (left : Cell) (ty : Ty) (to : Cell) (s : List Kind) → MayStay left.named r → (n : ℕ) (d : List ℕ) (place : ℕ) (ks : List Frame) (ops : List Word) (c : ℕ) (l : Log) (w : World) → Fits w → length d ≡ depth s → Stays left.named n d w → Laid code place (operator_by r o left ty to s) → Runs ask code Kept 0 0 (at d place ks (waiting left.named n ops) l w) c (landed to.named d (place + length (operator_by r o left ty to s)) ks ops) (combined o act d (n ∷ []) c l w)
   unfolding opened_outcome scalar_of opened_lists
   operator_runs (RightOf.Constant m) o act is value left ty to s stay n d place ks ops c l w fits long stays has =
       subst (λ q. Runs ask code Kept 0 0 (at d place ks (waiting left.named n ops) l w) c (landed to.named d (place + 1) ks ops) (add 1 (bind q (on_goes (λ z. or_constraint_error (binary o.op o.ty n (scalar_of z))))))) (sym (value.constant m is d c l w))
@@ -293,7 +293,7 @@ module _ (ask : Ask) (k : Tables) (code : Code) (Fits : World → Type 0) where
   operators_cells K (o ∷ os) (m ∷ ms) h n d c l w = cell_then Any Any (m K d (n ∷ []) c l w) (apply_each K d ms) (h.0.cells n d c l w) (λ n1 c1 l1 w1 p. operators_cells K os ms h.1 n1 d c1 l1 w1)
 
   -- the last of them puts its value where it is wanted
-  operators_run : (K : Tools) (o : OperatorCode) (os : List OperatorCode) (m : Applied) (ms : List Applied) → Operators K (o ∷ os) (m ∷ ms) → (base : List Kind) (left : Cell) (s : List Kind) (ty : Ty) (to : Cell) → MayStay left.named o.right.right → (n : ℕ) (d : List ℕ) (place : ℕ) (ks : List Frame) (ops : List ℕ) (c : ℕ) (l : Log) (w : World) → Fits w → length d ≡ depth base → length d ≡ depth s → Stays left.named n d w → Laid code place (operators_code base left s ty (o ∷ os) to) → Runs ask code Kept 0 0 (at d place ks (waiting left.named n ops) l w) c (landed to.named d (place + length (operators_code base left s ty (o ∷ os) to)) ks ops) (apply_each K d (m ∷ ms) (n ∷ []) c l w)
+  operators_run : (K : Tools) (o : OperatorCode) (os : List OperatorCode) (m : Applied) (ms : List Applied) → Operators K (o ∷ os) (m ∷ ms) → (base : List Kind) (left : Cell) (s : List Kind) (ty : Ty) (to : Cell) → MayStay left.named o.right.right → (n : ℕ) (d : List ℕ) (place : ℕ) (ks : List Frame) (ops : List Word) (c : ℕ) (l : Log) (w : World) → Fits w → length d ≡ depth base → length d ≡ depth s → Stays left.named n d w → Laid code place (operators_code base left s ty (o ∷ os) to) → Runs ask code Kept 0 0 (at d place ks (waiting left.named n ops) l w) c (landed to.named d (place + length (operators_code base left s ty (o ∷ os) to)) ks ops) (apply_each K d (m ∷ ms) (n ∷ []) c l w)
   unfolding apply_each opened_outcome scalar_of opened_lists
   operators_run K o [] m (m2 ∷ ms) h base left s ty to stay n d place ks ops c l w fits long0 long stays has = absurd h.1
   operators_run K o (p ∷ ps) m [] h base left s ty to stay n d place ks ops c l w fits long0 long stays has = absurd h.1
@@ -343,13 +343,13 @@ module _ (ask : Ask) (k : Tables) (code : Code) (Fits : World → Type 0) where
   left_stays (RightOf.Variable v) x ty s = variable_stays (held x ty s).cell.named v
   left_stays RightOf.Evaluated x ty s = tt
 
-  left_holds : (r : Right) (x : ValueCode) (act : List ℕ → Act (List ℕ)) → Value x act → (ty : Ty) (s : List Kind) (d : List ℕ) (place : ℕ) (ks : List Frame) (ops : List ℕ) (c : ℕ) (l : Log) (w : World) → Fits w → length d ≡ depth s → Laid code place (left_held r x ty s).code → Holds (left_held r x ty s) (λ n w1. Stays (left_held r x ty s).cell.named n d w1) act d place ks ops c l w
+  left_holds : (r : Right) (x : ValueCode) (act : List ℕ → Act (List ℕ)) → Value x act → (ty : Ty) (s : List Kind) (d : List ℕ) (place : ℕ) (ks : List Frame) (ops : List Word) (c : ℕ) (l : Log) (w : World) → Fits w → length d ≡ depth s → Laid code place (left_held r x ty s).code → Holds (left_held r x ty s) (λ n w1. Stays (left_held r x ty s).cell.named n d w1) act d place ks ops c l w
   left_holds (RightOf.Constant m) x act value ty s d place ks ops c l w fits long has = held_holds x.right x act refl value ty s d place ks ops c l w fits long has
   left_holds (RightOf.Variable v) x act value ty s d place ks ops c l w fits long has = held_holds x.right x act refl value ty s d place ks ops c l w fits long has
   left_holds RightOf.Evaluated x act value ty s d place ks ops c l w fits long has = evaluated_holds x act value ty s d place ks ops c l w fits long has
 
   -- what follows an expression begins with its first tick
-  begins_with : (h : Held) (P Q : ℕ → World → Type 0) (act : List ℕ → Act (List ℕ)) (more : List ℕ → Act (List ℕ)) (d : List ℕ) (place : ℕ) (ks : List Frame) (ops : List ℕ) (c : ℕ) (l : Log) (w : World) (next : Result (List ℕ) → Log → World → State) → Holds h P act d place ks ops c l w → ((n c1 : ℕ) (l1 : Log) (w1 : World) → P n w1 → IsCell Q (more (n ∷ []) c1 l1 w1)) → ((n c1 : ℕ) (l1 : Log) (w1 : World) → Fits w1 → P n w1 → Runs ask code Kept 0 0 (at d (place + length h.code) ks (waiting h.cell.named n ops) l1 w1) c1 next (more (n ∷ []) c1 l1 w1)) → ((y c1 : ℕ) (l1 : Log) (w1 : World) → Fits w1 → Runs ask code Kept 0 0 (transferred (ByRaise y) ks l1 w1) c1 next (Gives (Leaves (ByRaise y)) 0 c1 l1 w1)) → Begins Q (at d place ks ops l w) c next (bind (act d c l w) (on_goes more))
+  begins_with : (h : Held) (P Q : ℕ → World → Type 0) (act : List ℕ → Act (List ℕ)) (more : List ℕ → Act (List ℕ)) (d : List ℕ) (place : ℕ) (ks : List Frame) (ops : List Word) (c : ℕ) (l : Log) (w : World) (next : Result (List ℕ) → Log → World → State) → Holds h P act d place ks ops c l w → ((n c1 : ℕ) (l1 : Log) (w1 : World) → P n w1 → IsCell Q (more (n ∷ []) c1 l1 w1)) → ((n c1 : ℕ) (l1 : Log) (w1 : World) → Fits w1 → P n w1 → Runs ask code Kept 0 0 (at d (place + length h.code) ks (waiting h.cell.named n ops) l1 w1) c1 next (more (n ∷ []) c1 l1 w1)) → ((y c1 : ℕ) (l1 : Log) (w1 : World) → Fits w1 → Runs ask code Kept 0 0 (transferred (ByRaise y) ks l1 w1) c1 next (Gives (Leaves (ByRaise y)) 0 c1 l1 w1)) → Begins Q (at d place ks ops l w) c next (bind (act d c l w) (on_goes more))
   unfolding opened_outcome scalar_of opened_lists
   begins_with h P Q act more d place ks ops c l w next x cells goes leaves = record {
     out = bind x.out (on_goes more);
@@ -399,37 +399,37 @@ module _ (ask : Ask) (k : Tables) (code : Code) (Fits : World → Type 0) where
       cell_then Any Any (ticked (either (decides form (n ∷ [])) (done (n ∷ [])) (m K d)) c l w) (join_each K d form ms) (cell_later Any 1 _ (either_cell (decides form (n ∷ [])) n (m K d) c l w (h.0.cell d c l w))) (λ n1 c1 l1 w1 p. others_cells K form xs ms h.1 n1 d c1 l1 w1)
 
   -- a value as an operand
-  pub value_runs : (x : ValueCode) (act : List ℕ → Act (List ℕ)) → Value x act → (to : Cell) (ty : Ty) (s : List Kind) (d : List ℕ) (place : ℕ) (ks : List Frame) (ops : List ℕ) (c : ℕ) (l : Log) (w : World) → Fits w → length d ≡ depth s → Laid code place (x.code to ty s) → Runs ask code Kept 0 0 (at d place ks ops l w) c (landed to.named d (place + length (x.code to ty s)) ks ops) (act d c l w)
+  pub value_runs : (x : ValueCode) (act : List ℕ → Act (List ℕ)) → Value x act → (to : Cell) (ty : Ty) (s : List Kind) (d : List ℕ) (place : ℕ) (ks : List Frame) (ops : List Word) (c : ℕ) (l : Log) (w : World) → Fits w → length d ≡ depth s → Laid code place (x.code to ty s) → Runs ask code Kept 0 0 (at d place ks ops l w) c (landed to.named d (place + length (x.code to ty s)) ks ops) (act d c l w)
   value_runs x act value to ty s d place ks ops c l w fits long has =
       let y = value.begins to ty s d place ks ops c l w fits long has in
       subst (λ o. Runs ask code Kept 0 0 (at d place ks ops l w) c (landed to.named d (place + length (x.code to ty s)) ks ops) o) (sym y.is) (added ask code Kept 1 8 8 0 0 _ c _ _ (omega arith) (omega arith) y.runs)
 
   -- a further operand, whose tick pays
-  other_runs : (form : Shortcut) (x : ValueCode) (act : List ℕ → Act (List ℕ)) → Value x act → (s : List Kind) (n : ℕ) (d : List ℕ) (place : ℕ) (ks : List Frame) (ops : List ℕ) (c : ℕ) (l : Log) (w : World) → Fits w → length d ≡ depth s → Laid code place (other_code form x s) → Runs ask code Kept 1 1 (at d place ks (n ∷ ops) l w) c (landed Operand d (place + length (other_code form x s)) ks ops) (either (decides form (n ∷ [])) (done (n ∷ [])) (act d) c l w)
+  other_runs : (form : Shortcut) (x : ValueCode) (act : List ℕ → Act (List ℕ)) → Value x act → (s : List Kind) (n : ℕ) (d : List ℕ) (place : ℕ) (ks : List Frame) (ops : List Word) (c : ℕ) (l : Log) (w : World) → Fits w → length d ≡ depth s → Laid code place (other_code form x s) → Runs ask code Kept 1 1 (at d place ks (Scalar n ∷ ops) l w) c (landed Operand d (place + length (other_code form x s)) ks ops) (either (decides form (n ∷ [])) (done (n ∷ [])) (act d) c l w)
   unfolding opened_outcome scalar_of opened_lists
   other_runs form x act value s n d place ks ops c l w fits long has =
       let e : place + 1 + length is ≡ place + length (other_code form x s) = omega arith in
-      subst (λ q. Runs ask code Kept 1 1 (at d place ks (n ∷ ops) l w) c (landed Operand d q ks ops) (either (decides form (n ∷ [])) (done (n ∷ [])) (act d) c l w)) e
+      subst (λ q. Runs ask code Kept 1 1 (at d place ks (Scalar n ∷ ops) l w) c (landed Operand d q ks ops) (either (decides form (n ∷ [])) (done (n ∷ [])) (act d) c l w)) e
       (by (decides form (n ∷ [])) refl)
     where
       is : List Line
       is = x.code (new_operand s) Boolean s
 
-      first : step ask code (at d place ks (n ∷ ops) l w) ≡ moved l (by_decision (decides form (n ∷ [])) (length (x.code (new_operand s) Boolean s)) n ops (here d place ks w))
-      first = by_code ask code d place ks (n ∷ ops) l w (InstrOf.Decide form (height s) (length (x.code (new_operand s) Boolean s))) has.0
+      first : step ask code (at d place ks (Scalar n ∷ ops) l w) ≡ moved l (by_decision (decides form (n ∷ [])) (length (x.code (new_operand s) Boolean s)) n ops (here d place ks w))
+      first = by_code ask code d place ks (Scalar n ∷ ops) l w (InstrOf.Decide form (height s) (length (x.code (new_operand s) Boolean s))) has.0
 
-      by : (b : Bool) → decides form (n ∷ []) ≡ b → Runs ask code Kept 1 1 (at d place ks (n ∷ ops) l w) c (landed Operand d (place + 1 + length (x.code (new_operand s) Boolean s)) ks ops) (either (decides form (n ∷ [])) (done (n ∷ [])) (act d) c l w)
-      by true b = subst (λ y. Runs ask code Kept 1 1 (at d place ks (n ∷ ops) l w) c (landed Operand d (place + 1 + length is) ks ops) (either y (done (n ∷ [])) (act d) c l w)) (sym b)
+      by : (b : Bool) → decides form (n ∷ []) ≡ b → Runs ask code Kept 1 1 (at d place ks (Scalar n ∷ ops) l w) c (landed Operand d (place + 1 + length (x.code (new_operand s) Boolean s)) ks ops) (either (decides form (n ∷ [])) (done (n ∷ [])) (act d) c l w)
+      by true b = subst (λ y. Runs ask code Kept 1 1 (at d place ks (Scalar n ∷ ops) l w) c (landed Operand d (place + 1 + length is) ks ops) (either y (done (n ∷ [])) (act d) c l w)) (sym b)
           (last_step ask code Kept 1 1 _ c 0 (landed Operand d (place + 1 + length is) ks ops) (Goes (n ∷ [])) l w (omega arith) fits (first ∙ ap (λ y. moved l (by_decision y (length is) n ops (here d place ks w))) b))
-      by false b = subst (λ y. Runs ask code Kept 1 1 (at d place ks (n ∷ ops) l w) c (landed Operand d (place + 1 + length is) ks ops) (either y (done (n ∷ [])) (act d) c l w)) (sym b)
+      by false b = subst (λ y. Runs ask code Kept 1 1 (at d place ks (Scalar n ∷ ops) l w) c (landed Operand d (place + 1 + length is) ks ops) (either y (done (n ∷ [])) (act d) c l w)) (sym b)
           (one_step ask code Kept 0 0 1 1 _ _ c c _ _ (omega arith) (omega arith) (omega arith) (omega arith) (first ∙ ap (λ y. moved l (by_decision y (length is) n ops (here d place ks w))) b)
           (value_runs x act value (new_operand s) Boolean s d (place + 1) ks ops c l w fits long has.2))
 
   -- an operand goes where it is wanted
-  moved_by : (a : ℕ) (to : Named) (s : List Kind) (n : ℕ) (d : List ℕ) (place : ℕ) (ks : List Frame) (ops : List ℕ) (c : ℕ) (l : Log) (w : World) → Fits w → Laid code place (moved_to (record { at = a; named = to }) s) → Runs ask code Kept 1 1 (at d place ks (n ∷ ops) l w) c (landed to d (place + length (moved_to (record { at = a; named = to }) s)) ks ops) (Gives (Goes (n ∷ [])) 0 c l w)
+  moved_by : (a : ℕ) (to : Named) (s : List Kind) (n : ℕ) (d : List ℕ) (place : ℕ) (ks : List Frame) (ops : List Word) (c : ℕ) (l : Log) (w : World) → Fits w → Laid code place (moved_to (record { at = a; named = to }) s) → Runs ask code Kept 1 1 (at d place ks (Scalar n ∷ ops) l w) c (landed to d (place + length (moved_to (record { at = a; named = to }) s)) ks ops) (Gives (Goes (n ∷ [])) 0 c l w)
   unfolding scalar_of opened_lists
-  moved_by a Operand s n d place ks ops c l w fits has = let e : place ≡ place + 0 = omega arith in no_step ask code Kept 1 1 _ c 0 (landed Operand d (place + 0) ks ops) (Goes (n ∷ [])) l w fits (ap (λ p. at d p ks (n ∷ ops) l w) e)
-  moved_by a (Variable out slot) s n d place ks ops c l w fits has = last_step ask code Kept 1 1 _ c 0 (landed (Variable out slot) d (place + 1) ks ops) (Goes (n ∷ [])) l w (omega arith) fits (by_code ask code d place ks (n ∷ ops) l w (InstrOf.Move (new_operand s) Boolean (record { at = a; named = Variable out slot })) has.0)
+  moved_by a Operand s n d place ks ops c l w fits has = let e : place ≡ place + 0 = omega arith in no_step ask code Kept 1 1 _ c 0 (landed Operand d (place + 0) ks ops) (Goes (n ∷ [])) l w fits (ap (λ p. at d p ks (Scalar n ∷ ops) l w) e)
+  moved_by a (Variable out slot) s n d place ks ops c l w fits has = last_step ask code Kept 1 1 _ c 0 (landed (Variable out slot) d (place + 1) ks ops) (Goes (n ∷ [])) l w (omega arith) fits (by_code ask code d place ks (Scalar n ∷ ops) l w (InstrOf.Move (new_operand s) Boolean (record { at = a; named = Variable out slot })) has.0)
 
   -- the steps that no tick pays where no operand follows
   abbrev spare : List ValueCode → ℕ
@@ -440,11 +440,11 @@ module _ (ask : Ask) (k : Tables) (code : Code) (Fits : World → Type 0) where
   spare_least [] = omega arith
   spare_least (x ∷ xs) = omega arith
 
-  others_run : (K : Tools) (form : Shortcut) (xs : List ValueCode) (ms : List Valued) → EachValue K xs ms → (to : Cell) (s : List Kind) (n : ℕ) (d : List ℕ) (place : ℕ) (ks : List Frame) (ops : List ℕ) (c : ℕ) (l : Log) (w : World) → Fits w → length d ≡ depth s → Laid code place (others_code form xs s) → Laid code (place + length (others_code form xs s)) (moved_to to s) → Runs ask code Kept (spare xs) (spare xs) (at d place ks (n ∷ ops) l w) c (landed to.named d (place + length (others_code form xs s) + length (moved_to to s)) ks ops) (join_each K d form ms (n ∷ []) c l w)
+  others_run : (K : Tools) (form : Shortcut) (xs : List ValueCode) (ms : List Valued) → EachValue K xs ms → (to : Cell) (s : List Kind) (n : ℕ) (d : List ℕ) (place : ℕ) (ks : List Frame) (ops : List Word) (c : ℕ) (l : Log) (w : World) → Fits w → length d ≡ depth s → Laid code place (others_code form xs s) → Laid code (place + length (others_code form xs s)) (moved_to to s) → Runs ask code Kept (spare xs) (spare xs) (at d place ks (Scalar n ∷ ops) l w) c (landed to.named d (place + length (others_code form xs s) + length (moved_to to s)) ks ops) (join_each K d form ms (n ∷ []) c l w)
   unfolding join_each opened_outcome scalar_of opened_lists
   others_run K form [] [] h to s n d place ks ops c l w fits long has last =
       let e : place + 0 ≡ place = omega arith in
-      subst (λ q. Runs ask code Kept 1 1 (at d q ks (n ∷ ops) l w) c (landed to.named d (place + 0 + length (moved_to to s)) ks ops) (Gives (Goes (n ∷ [])) 0 c l w)) e
+      subst (λ q. Runs ask code Kept 1 1 (at d q ks (Scalar n ∷ ops) l w) c (landed to.named d (place + 0 + length (moved_to to s)) ks ops) (Gives (Goes (n ∷ [])) 0 c l w)) e
       (moved_by to.at to.named s n d (place + 0) ks ops c l w fits last)
   others_run K form [] (m ∷ ms) h to s n d place ks ops c l w fits long has last = absurd h
   others_run K form (x ∷ xs) [] h to s n d place ks ops c l w fits long has last = absurd h
@@ -453,8 +453,8 @@ module _ (ask : Ask) (k : Tables) (code : Code) (Fits : World → Type 0) where
       let js = others_code form xs s in
       let e0 : place + length (is ++ js) ≡ place + length is + length js = omega (arith, length-append is js) in
       let e : place + length is + length js + length (moved_to to s) ≡ place + length (is ++ js) + length (moved_to to s) = omega (arith, e0) in
-      subst (λ q. Runs ask code Kept 0 0 (at d place ks (n ∷ ops) l w) c (landed to.named d q ks ops) (bind (ticked (either (decides form (n ∷ [])) (done (n ∷ [])) (m K d)) c l w) (on_goes (join_each K d form ms)))) e
-      (subst (λ o. Runs ask code Kept 0 0 (at d place ks (n ∷ ops) l w) c (landed to.named d (place + length is + length js + length (moved_to to s)) ks ops) o) (sym (bind_add 1 (either (decides form (n ∷ [])) (done (n ∷ [])) (m K d) c l w) (on_goes (join_each K d form ms))))
+      subst (λ q. Runs ask code Kept 0 0 (at d place ks (Scalar n ∷ ops) l w) c (landed to.named d q ks ops) (bind (ticked (either (decides form (n ∷ [])) (done (n ∷ [])) (m K d)) c l w) (on_goes (join_each K d form ms)))) e
+      (subst (λ o. Runs ask code Kept 0 0 (at d place ks (Scalar n ∷ ops) l w) c (landed to.named d (place + length is + length js + length (moved_to to s)) ks ops) o) (sym (bind_add 1 (either (decides form (n ∷ [])) (done (n ∷ [])) (m K d) c l w) (on_goes (join_each K d form ms))))
       (added ask code Kept 1 2 2 0 0 _ c _ _ (omega arith) (omega arith)
       (both_cell ask code Kept Any 1 1 1 1 2 2 _ c (landed Operand d (place + length is) ks ops) (landed to.named d (place + length is + length js + length (moved_to to s)) ks ops) _ (on_goes (join_each K d form ms)) (omega arith) (omega arith) (omega arith)
       (either_cell (decides form (n ∷ [])) n (m K d) c l w (h.0.cell d c l w))

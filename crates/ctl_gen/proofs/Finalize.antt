@@ -18,7 +18,7 @@ use Rattle.ctl_meaning.specs.Choice.{Ask, picked}
 use Rattle.ctl_meaning.specs.Outcome.{Result, Goes, Leaves, Out, Gives, Stops, Cut, Act, Done, Fine, add, bind, on_goes, ◌>>=◌, ◌>>◌, done, nothing, tell, show, look, change, told, either, on_some, opened_outcome}
 use Rattle.ctl_meaning.specs.Types.{Tables, operation, depth, of_record}
 use Rattle.ctl_meaning.specs.Names.{OfSubprogram, Returned, Call, Default, Tools, gone, opened_names}
-use Rattle.ctl_meaning.specs.Finalization.{whole, Every, component_at, call_operation, after_finalize, own_finalize, in_any_order, finalize_part, finalize, finalize_object, finalize_if_controlled, opened_finalization}
+use Rattle.ctl_meaning.specs.Finalization.{Spot, whole, Every, component_at, call_operation, after_finalize, own_finalize, in_any_order, finalize_part, finalize, finalize_object, finalize_if_controlled, opened_finalization}
 use Rattle.ctl_meaning.specs.Storage.{close_pool, shut_pool, release_each, opened_storage}
 use Rattle.ctl_code.specs.declared.code.Beginning.{Beginning}
 use Rattle.ctl_code.specs.declared.code.Beginning.TheVariants.{ByDefault, ByCopy}
@@ -26,12 +26,12 @@ use Rattle.ctl_code.specs.declared.code.Operations.{Operations}
 use Rattle.ctl_code.specs.declared.code.Code.{Code}
 use Rattle.ctl_code.specs.States.{Handed, Complete, FinalizationFailed, Frame, Finalizing, State}
 use Rattle.ctl_code.specs.Table as Table
-use Rattle.ctl_code.specs.Table.{whole_part, first_operation, operation_of, operation_in}
+use Rattle.ctl_code.specs.Table.{part_at, whole_part, first_operation, operation_of, operation_in}
 use Rattle.ctl_code.specs.Steps.{moved, step}
 use Rattle.ctl_code.specs.Valid.{IsInScope, IsDeclarable, outermost}
 use Rattle.ctl_gen.proofs.Known.{IsPlain, IsUntagged}
 use Rattle.ctl_gen.proofs.Worlds.{IfFound, Fits, Settled, Since, IsInside, home, object_fits, since_begin, since_end}
-use Rattle.ctl_gen.proofs.Plain.{is_controlled_plain, has_controlled_plain, none_controlled_plain, parts_to_finalize_flat}
+use Rattle.ctl_gen.proofs.Plain.{is_controlled_plain, has_controlled_plain, none_controlled_plain, parts_to_finalize_laid}
 use Rattle.ctl_gen.proofs.Setting.{Setting, tools_with, returns, Told, Sure, Calls, enter_shows}
 use Rattle.ctl_gen.proofs.Follow.{by_raise, Runs, gives, way_of, both, no_step, last_step, stop_step, then_step, more_quits, more_halts}
 
@@ -108,7 +108,7 @@ module _ (ask : Ask) (k : Tables) (code : Code) (call : Call) (default : Default
   untouched_is : (n c : ℕ) (l : Log) (w : World) → Fits k code w → finalize_as (tools_with ask k call default) n (Record t) c l w ≡ Gives (Goes false) 0 c l w
   unfolding opened_finalization opened_outcome
   untouched_is n c l w fits =
-      ap (λ b. bind (either b (finalize_object (tools_with ask k call default) Scope (record { number = n; ty = Record t })) (done false) c l w) (on_goes (λ a. close_pool (tools_with ask k call default) n >>= (λ b1. done (a || b1))))) (none_controlled_plain k t r here plain.components plain.flat untagged)
+      ap (λ b. bind (either b (finalize_object (tools_with ask k call default) Scope (record { number = n; ty = Record t })) (done false) c l w) (on_goes (λ a. close_pool (tools_with ask k call default) n >>= (λ b1. done (a || b1))))) (none_controlled_plain k t r here plain.components plain.laid untagged)
       ∙ ap (λ x. add 0 (bind x (on_goes (λ b1. done (false || b1))))) (pool_closed k code (tools_with ask k call default) n c l w fits)
 
   pub untouched_runs : (n : ℕ) (w0 : World) (ks : List Frame) (c : ℕ) (l : Log) (w : World) (s0 : State) → Since k code w0 w → step ask code s0 ≡ gives ks (Fine Complete) l w → Runs ask code (Sure k code w0) 3 3 s0 c (tells ks) (finalize_as (tools_with ask k call default) n (Record t) c l w)
@@ -122,20 +122,20 @@ module _ (ask : Ask) (k : Tables) (code : Code) (setting : Setting k code) (call
   ends n = EventOf.Finalize (whole_part n) Scope
 
   -- for whatever cause, and no component has one
-  pub finalize_is : (cause : Cause) (g : Option ℕ) → operation (λ x. x.finalize) k t ≡ g → (n c : ℕ) (l : Log) (w : World) → finalize K cause Every (whole n) t c l w ≡ add 1 (bind (bind (bind (call_operation K (whole n) g (EventOf.Finalize (whole_part n) cause) c l w) told) (on_goes (after_finalize cause))) (on_goes (λ b. done b)))
+  pub finalize_is : (cause : Cause) (g : Option ℕ) → operation (λ x. x.finalize) k t ≡ g → (s : Spot) (c : ℕ) (l : Log) (w : World) → finalize K cause Every s t c l w ≡ add 1 (bind (bind (bind (call_operation K s g (EventOf.Finalize (part_at s) cause) c l w) told) (on_goes (after_finalize cause))) (on_goes (λ b. done b)))
   unfolding opened_finalization opened_outcome depth
-  finalize_is cause g e n c l w =
-      let shown = EventOf.Finalize (whole_part n) cause in
-      ap (λ ps. add 1 (bind (own_finalize K cause Every (whole n) t c l w) (on_goes (in_any_order K (λ p. of_record (done false) (finalize_part K cause Every (length k.records) (component_at (whole n) p)) p.ty) (length ps) ps)))) (parts_to_finalize_flat k t plain.components plain.flat K Every (whole n) refl)
-      ∙ ap (λ b. add 1 (bind (either (b && true) (λ c1 l1 w1. bind (bind (call_operation K (whole n) (operation (λ x. x.finalize) k t) shown c1 l1 w1) told) (on_goes (after_finalize cause))) (done false) c l w) (on_goes (λ b1. done b1)))) (is_controlled_plain k t r here controlled)
-      ∙ ap (λ x. add 1 (bind (bind (bind (call_operation K (whole n) x shown c l w) told) (on_goes (after_finalize cause))) (on_goes (λ b. done b)))) e
+  finalize_is cause g e s c l w =
+      let shown = EventOf.Finalize (part_at s) cause in
+      ap (λ ps. add 1 (bind (own_finalize K cause Every s t c l w) (on_goes (in_any_order K (λ p. of_record (done false) (finalize_part K cause Every (length k.records) (component_at s p)) p.ty) (length ps) ps)))) (parts_to_finalize_laid k t plain.components plain.laid K Every s refl)
+      ∙ ap (λ b. add 1 (bind (either (b && true) (λ c1 l1 w1. bind (bind (call_operation K s (operation (λ x. x.finalize) k t) shown c1 l1 w1) told) (on_goes (after_finalize cause))) (done false) c l w) (on_goes (λ b1. done b1)))) (is_controlled_plain k t r here controlled)
+      ∙ ap (λ x. add 1 (bind (bind (bind (call_operation K s x shown c l w) told) (on_goes (after_finalize cause))) (on_goes (λ b. done b)))) e
 
   -- an object that exists
   object_is : (g : Option ℕ) → operation (λ x. x.finalize) k t ≡ g → (n c : ℕ) (l : Log) (w : World) (o : Object) → object_at n w ≡ Some o → finalize_object K Scope (record { number = n; ty = Record t }) c l w ≡ unwritten n (call_operation K (whole n) g (ends n) c l (begin_finalization n w))
   unfolding opened_finalization opened_outcome opened_names of_record
   object_is g e n c l w o at =
       ap (λ x. bind (bind (on_some x gone (λ _. nothing) c l w) (on_goes (λ _. change (begin_finalization n)))) (on_goes (λ _. finalize K Scope Every (whole n) t >>= (λ b. change (end_finalization n) >> done b)))) at
-      ∙ ap (λ x. add 0 (bind x (on_goes (λ b. change (end_finalization n) >> done b)))) (finalize_is Scope g e n c l (begin_finalization n w))
+      ∙ ap (λ x. add 0 (bind x (on_goes (λ b. change (end_finalization n) >> done b)))) (finalize_is Scope g e (whole n) c l (begin_finalization n w))
 
   call_is : (f n c : ℕ) (l : Log) (w : World) (o : Object) → object_at n w ≡ Some o → call_operation K (whole n) (Some f) (ends n) c l w ≡ bind (add 0 (call (OfSubprogram f (holding (Binds n 0 []) ∷ [])) (home_of o.origin w) c (tell (ends n) l) w)) (on_goes (λ _. nothing))
   unfolding opened_finalization opened_outcome opened_names

@@ -6,7 +6,7 @@ use Rattle.ctl_meaning.specs.World.{Log, World}
 use Rattle.ctl_meaning.specs.Choice.{Ask}
 use Rattle.ctl_meaning.specs.Outcome.{completes_loop, raised_by, Way, ByExit, ByReturn, ByRaise, Result, Goes, Leaves, Out, Gives, Stops, Cut, Act, Done, Tried, add, bind, on_goes, given}
 use Rattle.ctl_code.specs.declared.code.Code.{Code}
-use Rattle.ctl_code.specs.States.{Handed, Mode, At, Transfers, Giving, Stopped, Stuck, Frame, State}
+use Rattle.ctl_code.specs.States.{Word, Handed, Mode, At, Transfers, Giving, Stopped, Stuck, Frame, State}
 use Rattle.ctl_layout.specs.Around.{Landing, OutOfMaster, BeforeLoop, Around, further as further_on}
 use Rattle.ctl_code.specs.Steps.{step, steps}
 
@@ -23,7 +23,7 @@ abbrev pub IsGoing : State → Type 0
 IsGoing s = GoingBy s.mode s.control
 
 -- before an instruction
-abbrev pub at : List ℕ → ℕ → List Frame → List ℕ → Log → World → State
+abbrev pub at : List ℕ → ℕ → List Frame → List Word → Log → World → State
 at d place k ops l w = record { mode = At d place; control = k; operands = ops; world = w; log = l }
 
 -- control is transferred to the innermost master
@@ -52,21 +52,21 @@ pub landing_further : (e : Landing) (n place : ℕ) → target_of (further_on n 
 landing_further OutOfMaster n place = refl
 landing_further (BeforeLoop back) n place = let e : place + n - (back + n) ≡ place - back = omega arith in ap On e
 
-abbrev pub landed_on : Target → List ℕ → List Frame → List ℕ → Log → World → State
+abbrev pub landed_on : Target → List ℕ → List Frame → List Word → Log → World → State
 landed_on OutOf d k ops l w = transferred ByExit k l w
 landed_on (On place) d k ops l w = at d place k ops l w
 
 -- what completes a loop leads to where control lands, and any other transfer of control to the innermost master
-abbrev pub leads : Target → Way → List ℕ → List Frame → List ℕ → Log → World → State
+abbrev pub leads : Target → Way → List ℕ → List Frame → List Word → Log → World → State
 leads e y d k ops l w = if completes_loop y then landed_on e d k ops l w else transferred y k l w
 
-pub leads_out : (y : Way) (d : List ℕ) (k : List Frame) (ops : List ℕ) (l : Log) (w : World) → leads OutOf y d k ops l w ≡ transferred y k l w
+pub leads_out : (y : Way) (d : List ℕ) (k : List Frame) (ops : List Word) (l : Log) (w : World) → leads OutOf y d k ops l w ≡ transferred y k l w
 leads_out ByExit d k ops l w = refl
 leads_out (ByReturn v) d k ops l w = refl
 leads_out (ByRaise x) d k ops l w = refl
 
 -- a statement's result, at the place behind it, at a landing or under way to the innermost master
-abbrev pub arrives : Target → List ℕ → ℕ → List Frame → List ℕ → Result Done → Log → World → State
+abbrev pub arrives : Target → List ℕ → ℕ → List Frame → List Word → Result Done → Log → World → State
 arrives e d place k ops (Goes a) l w = at d place k ops l w
 arrives e d place k ops (Leaves y) l w = leads e y d k ops l w
 
@@ -276,7 +276,7 @@ module _ (ask : Ask) (code : Code) (Before Fits : Option Way → World → Type 
 
 module _ (ask : Ask) (code : Code) (Fits : Option Way → World → Type 0) where
   -- statements one after another, where the first may leave
-  pub in_row : (b h b1 h1 d e : ℕ) (s : State) (c : ℕ) (x : Target) (v : List ℕ) (place place1 : ℕ) (k : List Frame) (ops : List ℕ) (o : Out Done) (f : Act Done) → b + b1 ≤ d → h ≤ e → b + h1 ≤ e → Runs ask code Fits b h s c (arrives x v place k ops) o → ((c1 : ℕ) (l : Log) (w : World) → c1 ≤ c → Fits None w → Runs ask code Fits b1 h1 (at v place k ops l w) c1 (arrives x v place1 k ops) (f c1 l w)) → Runs ask code Fits d e s c (arrives x v place1 k ops) (bind o (on_goes (λ _. f)))
+  pub in_row : (b h b1 h1 d e : ℕ) (s : State) (c : ℕ) (x : Target) (v : List ℕ) (place place1 : ℕ) (k : List Frame) (ops : List Word) (o : Out Done) (f : Act Done) → b + b1 ≤ d → h ≤ e → b + h1 ≤ e → Runs ask code Fits b h s c (arrives x v place k ops) o → ((c1 : ℕ) (l : Log) (w : World) → c1 ≤ c → Fits None w → Runs ask code Fits b1 h1 (at v place k ops l w) c1 (arrives x v place1 k ops) (f c1 l w)) → Runs ask code Fits d e s c (arrives x v place1 k ops) (bind o (on_goes (λ _. f)))
   unfolding on_goes given
   in_row b h b1 h1 d e s c x v place place1 k ops o f le he fe a z = both ask code Fits Fits b h b1 h1 d e s c (arrives x v place k ops) (arrives x v place1 k ops) o (on_goes (λ _. f)) le he fe a rest
     where

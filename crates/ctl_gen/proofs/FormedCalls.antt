@@ -14,17 +14,17 @@ use Rattle.ctl_code.specs.declared.kinds.Kind.{Kind}
 use Rattle.ctl_code.specs.declared.kinds.Kind.TheVariants.{Operand}
 use Rattle.ctl_code.specs.declared.code.Instr.TheVariants as InstrOf
 use Rattle.ctl_code.specs.declared.code.Code.{Code}
-use Rattle.ctl_code.specs.Windows.{depth, height}
+use Rattle.ctl_code.specs.Windows.{depth}
 use Rattle.ctl_code.specs.Valid.{HasFormals, HaveOperands, IsInScope, Leads}
-use Rattle.ctl_layout.specs.declared.right.Reached.{Reached}
-use Rattle.ctl_layout.specs.declared.right.Reached.TheVariants as ReachedOf
-use Rattle.ctl_layout.specs.Around.{new_operand, out_to}
+use Rattle.ctl_layout.specs.Around.{new_operand}
+use Rattle.ctl_layout.specs.Parts.{Reached}
 use Rattle.ctl_layout.specs.Values.{ValueCode, reached_by, value_code}
 use Rattle.ctl_layout.specs.Records.{is_run_type}
 use Rattle.ctl_layout.specs.Layout.{ActualCode, actual_code, actuals_code, actuals_run, by_reference, by_value, missing_actual, with_actuals}
-use Rattle.ctl_gen.proofs.Known.{both_true}
+use Rattle.ctl_layout.proofs.Extensions.{both_true}
 use Rattle.ctl_gen.proofs.EmittedCalls.{actual_of, actuals_left}
 use Rattle.ctl_gen.proofs.Formed.{Formed, both, none, one}
+use Rattle.ctl_gen.proofs.FormedParts.{part_formed}
 use Rattle.ctl_gen.proofs.FormedTypes.{run_scalar}
 use Rattle.ctl_gen.proofs.FormedValues.{Fine, Usable, typed_fine, usable_as}
 
@@ -93,14 +93,13 @@ module _ (code : Code) where
 
     reference_good : (o : Option Reached) (t : Ty) → (by_reference o t).runs records ≡ true → GoodActual (by_reference o t)
     reference_good None t runs s = absurd (cc)
-    reference_good (Some (ReachedOf.Component v u position)) t runs s = absurd (cc)
-    reference_good (Some (ReachedOf.Variable v)) (Record t) runs s = one code (InstrOf.Locate (out_to s v) v.slot t (height s)) s (Some (Operand (Record t) ∷ s)) (λ p next. (refl, next))
-    reference_good (Some (ReachedOf.Variable v)) Integer runs s = absurd (cc)
-    reference_good (Some (ReachedOf.Variable v)) Count runs s = absurd (cc)
-    reference_good (Some (ReachedOf.Variable v)) Boolean runs s = absurd (cc)
-    reference_good (Some (ReachedOf.Variable v)) Address runs s = absurd (cc)
-    reference_good (Some (ReachedOf.Variable v)) Handle runs s = absurd (cc)
-    reference_good (Some (ReachedOf.Variable v)) (Access a) runs s = absurd (cc)
+    reference_good (Some o) (Record t) runs s = part_formed code records o t s runs
+    reference_good (Some o) Integer runs s = absurd (cc)
+    reference_good (Some o) Count runs s = absurd (cc)
+    reference_good (Some o) Boolean runs s = absurd (cc)
+    reference_good (Some o) Address runs s = absurd (cc)
+    reference_good (Some o) Handle runs s = absurd (cc)
+    reference_good (Some o) (Access a) runs s = absurd (cc)
 
     -- another name of the same actual
     good_as : (a b : ActualCode) → a ≡ b → (b.runs records ≡ true → GoodActual b) → a.runs records ≡ true → GoodActual a

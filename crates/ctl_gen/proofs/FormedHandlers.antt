@@ -3,10 +3,6 @@
 use Rattle.std.proofs.Common.{◌≡◌, ℕ, ◌+◌, ◌-◌, ◌≤◌, List, [], ◌∷◌, ◌++◌, length, Some, refl, arith, length-append}
 use Rattle.ctl_program.specs.declared.statement.Choices.{Choices}
 use Rattle.ctl_program.specs.declared.statement.Choices.TheVariants as ChoicesOf
-use Rattle.ctl_program.specs.declared.statement.Arm.{Arm}
-use Rattle.ctl_program.specs.declared.statement.Handler.{Handler, Handler-F, roll-Handler, map-Handler, fold-roll-Handler}
-use Rattle.ctl_program.specs.declared.statement.Master.{Master}
-use Rattle.ctl_program.specs.declared.statement.Stmt.{Stmt}
 use Rattle.ctl_well_typed.specs.Setting as W
 use Rattle.ctl_code.specs.declared.kinds.Kind.{Kind}
 use Rattle.ctl_code.specs.declared.code.Instr.TheVariants as InstrOf
@@ -14,7 +10,7 @@ use Rattle.ctl_code.specs.declared.code.Code.{Code}
 use Rattle.ctl_code.specs.declared.template.TextPart.{TextPart}
 use Rattle.ctl_code.specs.Valid.{IsAtEnd, IsException, Leads}
 use Rattle.ctl_layout.specs.Around.{Line, Around, behind}
-use Rattle.ctl_layout.specs.Layout.{StatementCode, ArmCode, HandlerCode, MasterCode, arm_code, arm_step, catches_code, choices_code, choices_length, handled, handler_code, handler_lines, handler_step, handlers_code, handlers_texts, master_code, master_step, statement_code, statement_step}
+use Rattle.ctl_layout.specs.Layout.{StatementCode, HandlerCode, catches_code, choices_code, choices_length, handled, handler_lines, handlers_code, handlers_texts}
 use Rattle.ctl_gen.proofs.Place.{HasAt}
 use Rattle.ctl_gen.proofs.Place as Place
 use Rattle.ctl_gen.proofs.Formed.{both_at, fine_both, FormedAt, has_back, has_end, has_front, leads_at, none, one}

@@ -28,15 +28,12 @@ use Rattle.ctl_code.specs.declared.code.Code.{Code}
 use Rattle.ctl_code.specs.Windows.{variable_at}
 use Rattle.ctl_code.specs.Valid.{HasFormals, IsAtEnd, IsDeclarable, IsInScope, outermost}
 use Rattle.ctl_layout.specs.Around.{behind, local_at}
-use Rattle.ctl_layout.specs.declared.right.Reached.{Reached}
-use Rattle.ctl_layout.specs.declared.right.Reached.TheVariants as ReachedOf
-use Rattle.ctl_gen.proofs.Components.{part_formed}
-use Rattle.ctl_gen.proofs.RecordAssign.{record_formed}
+use Rattle.ctl_layout.specs.Parts.{Reached, Variable, Part, part_runs, parts_run}
 use Rattle.ctl_layout.specs.Values.{ValueCode, copied, sourced, value_code, reached_by}
 use Rattle.ctl_layout.specs.Records.{is_run_type}
-use Rattle.ctl_layout.specs.Defaults.{is_outermost}
+use Rattle.ctl_layout.specs.Defaults.{is_assignable, is_outermost}
 use Rattle.ctl_layout.specs.Layout.{ArmCode, HandlerCode, ItemCode, MasterCode, StatementCode, actual_code, all, all_items, arm_code, arms_run, assign, assign_record, block, call, exit, return, handled, handler_code, handlers_run, has_choice, in_master, inside, item_code, master_code, missing_statement, statement_code, tested, valued, with_value}
-use Rattle.ctl_gen.proofs.Known.{both_true}
+use Rattle.ctl_layout.proofs.Extensions.{both_true}
 use Rattle.ctl_layout.proofs.TreeLayers.{arm_roll, layer_of, master_roll, handler_roll}
 use Rattle.ctl_gen.proofs.Place.{HasAt}
 use Rattle.ctl_gen.proofs.Formed.{both, both_at, Formed, FormedAt, none, one}
@@ -45,7 +42,8 @@ use Rattle.ctl_gen.proofs.FormedArms.{GoodArms, branches_stay}
 use Rattle.ctl_gen.proofs.FormedHandlers.{AreChoices, AreExceptions, GoodHandlers, StaysAtEnd, handled_stays}
 use Rattle.ctl_gen.proofs.FormedCalls.{actuals_good, as_many, call_formed}
 use Rattle.ctl_gen.proofs.FormedLines.{block_formed}
-use Rattle.ctl_gen.proofs.FormedStatements.{MayDeclare, Stays, all_stay, assign_formed, copy_formed, declaration_formed, for_stays, leaves_stay, leaves_when_stay, loop_stays, tested_turns, valued_formed}
+use Rattle.ctl_gen.proofs.FormedParts.{record_formed}
+use Rattle.ctl_gen.proofs.FormedStatements.{MayDeclare, Stays, all_stay, assign_formed, assign_part_formed, copy_formed, declaration_formed, for_stays, leaves_stay, leaves_when_stay, loop_stays, tested_turns, valued_formed}
 use Rattle.ctl_gen.proofs.FormedTexts.{print_formed}
 use Rattle.ctl_gen.proofs.FormedTypes.{run_scalar}
 use Rattle.ctl_gen.proofs.FormedValues.{Fine, typed_fine, usable_as, value_usable}
@@ -122,15 +120,18 @@ module _ (code : Code) (records : List RecordType) (k : W.Setting) (declarable :
 
   assign_good : (env : W.Frames) (o : Option Reached) (x : ValueCode) (t : Ty) → (x.runs records ≡ true → Fine code x t) → GoodStatement env (assign o x)
   assign_good env None x t fine runs a n p agrees texts can = absurd (cc)
-  assign_good env (Some (ReachedOf.Component v u position)) x t fine runs a n p agrees texts can = part_formed code v u position x a.stack (value_usable code x t (fine (both_true _ _ runs).1)) p
-  assign_good env (Some (ReachedOf.Variable v)) x t fine runs a n p agrees texts can = assign_formed code (local_at a.stack v) v x a.stack refl (value_usable code x t (fine runs)) p
+  assign_good env (Some (Part v steps u position)) x t fine runs a n p agrees texts can =
+      let e = both_true (parts_run records steps u) (x.runs records) runs in
+      assign_part_formed code records v steps u position x a.stack e.0 (value_usable code x t (fine e.1)) p
+  assign_good env (Some (Variable v)) x t fine runs a n p agrees texts can = assign_formed code (local_at a.stack v) v x a.stack refl (value_usable code x t (fine runs)) p
 
   record_good : (env : W.Frames) (o : Option Reached) (t : ℕ) (q : Option Reached) → GoodStatement env (assign_record o t q)
   record_good env None t q runs a n p agrees texts can = absurd (cc)
-  record_good env (Some (ReachedOf.Component v u position)) t q runs a n p agrees texts can = absurd (cc)
-  record_good env (Some (ReachedOf.Variable v)) t None runs a n p agrees texts can = absurd (cc)
-  record_good env (Some (ReachedOf.Variable v)) t (Some (ReachedOf.Component x u position)) runs a n p agrees texts can = absurd (cc)
-  record_good env (Some (ReachedOf.Variable v)) t (Some (ReachedOf.Variable x)) runs a n p agrees texts can = record_formed code v x t a.stack (assignable t (both_true _ _ runs).1) p
+  record_good env (Some target) t None runs a n p agrees texts can = absurd (cc)
+  record_good env (Some target) t (Some source) runs a n p agrees texts can =
+      let e = both_true (part_runs target records) (part_runs source records && is_assignable records t) runs in
+      let f = both_true (part_runs source records) (is_assignable records t) e.1 in
+      record_formed code records target source t a.stack e.0 f.0 (assignable t (both_true _ _ f.1).1) p
 
   call_good : {env : W.Frames} {f : ℕ} {is : W.Signature} {actuals : List Actual} → W.Callable k env f is → T.FitEach k env is.formals actuals → GoodStatement env (call f (map actual_code actuals))
   call_good {env} {f} {is} {actuals} can_call fits = λ runs a n p agrees texts can.

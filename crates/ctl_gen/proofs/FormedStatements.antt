@@ -4,6 +4,7 @@ use Rattle.ctl_program.specs.declared.types.Ty.{Ty}
 use Rattle.ctl_program.specs.declared.types.Ty.TheVariants.{Integer, Count, Boolean, Address, Handle, Access, Record}
 use Rattle.ctl_program.specs.declared.types.Var.{Var}
 use Rattle.ctl_program.specs.declared.types.RecordType.{RecordType}
+use Rattle.ctl_program.specs.declared.expression.Step.{Step}
 use Rattle.ctl_program.specs.declared.operators.Direction.{Direction}
 use Rattle.ctl_well_typed.specs.Setting as W
 use Rattle.ctl_code.specs.declared.kinds.Kind.{Kind}
@@ -11,17 +12,20 @@ use Rattle.ctl_code.specs.declared.kinds.Kind.TheVariants.{Operand}
 use Rattle.ctl_code.specs.declared.code.Instr.TheVariants as InstrOf
 use Rattle.ctl_code.specs.declared.code.Code.{Code}
 use Rattle.ctl_code.specs.declared.template.TextPart.{TextPart}
-use Rattle.ctl_code.specs.Windows.{depth, height, variable_at}
+use Rattle.ctl_code.specs.Windows.{depth, variable_at}
 use Rattle.ctl_code.specs.Valid.{IsCellOf, IsDeclarable, Leads}
+use Rattle.ctl_layout.specs.Parts.{Reached, located_code, part_code, parts_run}
 use Rattle.ctl_layout.specs.Around.{Line, Around, behind, local_at, local_cell, new_operand, newest_at, newest_cell, out_to}
 use Rattle.ctl_layout.specs.Values.{ValueCode, held, value_type}
-use Rattle.ctl_layout.specs.Layout.{StatementCode, all, assign_code, bounds_code, copy, declaration, for, in_loop, leaves_code, loop, scalar_code, test_code, test_held, test_length, tested_code, turns_code, valued_code, with_bounds}
+use Rattle.ctl_layout.specs.Layout.{StatementCode, all, assign_code, assign_part_code, bounds_code, copy, declaration, for, in_loop, leaves_code, loop, scalar_code, store_part_code, test_code, test_held, test_length, tested_code, turns_code, valued_code, with_bounds}
 use Rattle.ctl_layout.specs.Defaults.{is_declared}
+use Rattle.ctl_layout.proofs.Extensions.{both_true}
 use Rattle.ctl_gen.proofs.Place.{HasAt}
 use Rattle.ctl_gen.proofs.Place as Place
 use Rattle.ctl_gen.proofs.Formed.{both, both_at, Formed, FormedAt, has_end, leads_at, one}
 use Rattle.ctl_gen.proofs.FormedAround.{Agrees, CanLeave, agrees_under, leave_behind, leaves_formed}
 use Rattle.ctl_gen.proofs.FormedLines.{loop_formed, test_formed, turns_formed}
+use Rattle.ctl_gen.proofs.FormedParts.{located_formed, part_formed}
 use Rattle.ctl_gen.proofs.FormedValues.{Usable, found}
 
 module _ (code : Code) where
@@ -57,16 +61,14 @@ module _ (code : Code) where
   declaration_formed records slot at Handle s runs there may = absurd (cc)
   declaration_formed records slot at (Access a) s runs there may = absurd (cc)
 
-  -- one with the value of a variable of its record type
-  pub copy_formed : (records : List RecordType) (slot t : ℕ) (o : Option Var) (s : List Kind) → (copy slot t o).runs records ≡ true → IsDeclarable code (depth s) t → Formed code ((copy slot t o).code s) s (Some s)
+  -- one with the value of a part of its record type
+  pub copy_formed : (records : List RecordType) (slot t : ℕ) (o : Option Reached) (s : List Kind) → (copy slot t o).runs records ≡ true → IsDeclarable code (depth s) t → Formed code ((copy slot t o).code s) s (Some s)
   copy_formed records slot t None s runs may = absurd (cc)
-  copy_formed records slot t (Some v) s runs may =
+  copy_formed records slot t (Some o) s runs may =
       let over = Operand (Record t) ∷ s in
-      let locate = InstrOf.Locate (out_to s v) v.slot t (height s) in
-      let declare = InstrOf.DeclareCopy slot t (height s) in
-      both code ((locate, s) ∷ []) ((declare, over) ∷ []) s over (Some s)
-      (one code locate s (Some over) (λ p next. (refl, next)))
-      (one code declare over (Some s) (λ p next. (may, (s, refl, (refl, next)))))
+      let declare = InstrOf.DeclareCopy slot t in
+      both code (part_code o t s) ((declare, over) ∷ []) s over (Some s) (part_formed code records o t s (both_true _ _ runs).1)
+      (one code declare over (Some s) (λ p next. (may, (s, refl, next))))
 
   -- Statements -------------------------------------------------------------------------------------
 
@@ -94,6 +96,17 @@ module _ (code : Code) where
       let store = InstrOf.Store h.cell (value_type x) (out_to s v) v.slot in
       both code h.code ((store, h.after) ∷ []) s h.after (Some s) f.formed
       (one code store h.after (Some s) (λ p next. (usable.scalar, (s, f.taken, next))))
+
+  -- a value goes into a component of a part
+  pub assign_part_formed : (records : List RecordType) (v : Var) (steps : List Step) (t position : ℕ) (x : ValueCode) (s : List Kind) → parts_run records steps t ≡ true → Usable code x (value_type x) → Formed code (assign_part_code v steps t position x s) s (Some s)
+  assign_part_formed records v steps t position x s runs usable =
+      let over = Operand (Record t) ∷ s in
+      let h = held x (value_type x) over in
+      let f = found code x (value_type x) over usable in
+      let store = InstrOf.StorePart h.cell (value_type x) t position in
+      both code (located_code v steps t s) (store_part_code t position x s) s over (Some s) (located_formed code records v steps t s runs)
+      (both code h.code ((store, h.after) ∷ []) over h.after (Some s) f.formed
+      (one code store h.after (Some s) (λ p next. (usable.scalar, (over, f.taken, (s, refl, next))))))
 
   -- Conditions -------------------------------------------------------------------------------------
 

@@ -10,6 +10,7 @@ use Rattle.ctl_program.specs.declared.operators.Shortcut.{Shortcut}
 use Rattle.ctl_program.specs.declared.operators.UnaryOp.{UnaryOp}
 use Rattle.ctl_program.specs.declared.operators.BinaryOp.{BinaryOp}
 use Rattle.ctl_program.specs.declared.expression.Expr.{Expr}
+use Rattle.ctl_program.specs.declared.expression.Step.{Step}
 use Rattle.ctl_program.specs.declared.expression.Operand.{Operand, roll-Operand}
 use Rattle.ctl_well_typed.specs.Setting as W
 use Rattle.ctl_well_typed.specs.Types.{Joins, IsCell}
@@ -26,16 +27,17 @@ use Rattle.ctl_code.specs.declared.code.Code.{Code}
 use Rattle.ctl_code.specs.Windows.{height, variable_at}
 use Rattle.ctl_code.specs.Valid as Valid
 use Rattle.ctl_code.specs.Valid.{BinaryOf, IsCellOf, IsFine, Leads, Puts, Taken, UnaryOf}
-use Rattle.ctl_layout.specs.declared.right.Reached.{Reached}
-use Rattle.ctl_layout.specs.declared.right.Reached.TheVariants as ReachedOf
 use Rattle.ctl_layout.specs.declared.right.Right.{Right}
 use Rattle.ctl_layout.specs.declared.right.Right.TheVariants as RightOf
 use Rattle.ctl_layout.specs.Around.{Line, local_at, new_operand, out_to}
+use Rattle.ctl_layout.specs.Records.{is_run_type}
+use Rattle.ctl_layout.specs.Parts.{Reached, Variable, Part, component_code, located_code, parts_run}
 use Rattle.ctl_layout.specs.Values.{Held, OperatorCode, ValueCode, binary_code, chain, common_type, constant, evaluated, first_type, held, held_by, in_cell, last_type, left_held, missing_value, moved_to, next_target, operand_type, operator_by, operator_code, operator_for, operator_of, operators_code, operators_run, other_code, others_code, read, read_from, short, unary, value_code, value_type, values_run, reached_by}
-use Rattle.ctl_gen.proofs.Known.{both_true}
+use Rattle.ctl_layout.proofs.Extensions.{both_true}
 use Rattle.ctl_layout.proofs.Layers.{value_access, value_call, value_chain, value_constant, value_convert, value_discriminant, value_new, value_read, value_short, value_subpool, value_unary}
 use Rattle.ctl_layout.proofs.TreeLayers.{operator_roll}
 use Rattle.ctl_gen.proofs.Formed.{Formed, both, has_end, none, one}
+use Rattle.ctl_gen.proofs.FormedParts.{located_formed}
 use Rattle.ctl_gen.proofs.FormedTypes.{arithmetic_of, cell_of, equality_relates, is_relation, joins_scalar, logical_of, number_of, number_scalar, of_arithmetic, of_logical, of_relation, ordering_relates, relation_of, run_scalar, takes_unary}
 
 -- Cells -------------------------------------------------------------------------------------------
@@ -282,17 +284,29 @@ module _ (code : Code) where
   read_fine None v ty to s p here scalar put = (scalar, put)
 
   module _ (records : List RecordType) where
+    -- the value of a component goes where it is wanted
+    component_formed : (v : Var) (steps : List Step) (t position : ℕ) (ty : Ty) (to : Cell) (s : List Kind) → Valid.IsScalar ty → parts_run records steps t ≡ true → Placed to s → Formed code (component_code v steps t position ty to s) s (Some (with_put to.named ty s))
+    component_formed v [] t position ty to s scalar runs at = one code (InstrOf.FetchPart (out_to s v) v.slot t position ty to) s (Some (with_put to.named ty s)) (λ p next. (scalar, puts p to ty s at next))
+    component_formed v (step ∷ steps) t position ty to s scalar runs at =
+        let part = KindOf.Operand (TyOf.Record t) ∷ s in
+        let after = Some (with_put to.named ty s) in
+        both code (located_code v (step ∷ steps) t s) ((InstrOf.TakePart t position ty to, part) ∷ []) s part after
+        (located_formed code records v (step ∷ steps) t s runs)
+        (one code (InstrOf.TakePart t position ty to) part after (λ p next. (scalar, (s, refl, puts p to ty s at next))))
+
     read_own : (o : Option Reached) (ty : Ty) → (read o ty).runs records ≡ true → Own (read o ty) ty
     read_own None ty runs = absurd (cc)
-    read_own (Some (ReachedOf.Component v t position)) ty runs = record {
-      own = refl;
-      usable = record {
-        scalar = run_scalar ty (both_true _ _ runs).0;
-        formed = λ to s at. one code (InstrOf.FetchPart (out_to s v) v.slot t position ty to) s (Some (with_put to.named ty s)) (λ p next. (run_scalar ty (both_true _ _ runs).0, puts p to ty s at next));
-        constant = λ n is. absurd (cc);
-      };
-    }
-    read_own (Some (ReachedOf.Variable v)) ty runs = record {
+    read_own (Some (Part v steps t position)) ty runs =
+        let e = both_true (is_run_type ty) (parts_run records steps t) runs in
+        record {
+          own = refl;
+          usable = record {
+            scalar = run_scalar ty e.0;
+            formed = λ to s at. component_formed v steps t position ty to s (run_scalar ty e.0) e.1 at;
+            constant = λ n is. absurd (cc);
+          };
+        }
+    read_own (Some (Variable v)) ty runs = record {
       own = refl;
       usable = record {
         scalar = run_scalar ty runs;

@@ -5,6 +5,7 @@ pub mod Follow
 pub mod Plain
 pub mod Values
 pub mod Cells
+pub mod Parts
 pub mod Components
 pub mod Worth
 pub mod Expressions
@@ -37,6 +38,7 @@ pub mod Formed
 pub mod FormedTypes
 pub mod FormedAround
 pub mod FormedValues
+pub mod FormedParts
 pub mod FormedTexts
 pub mod FormedCalls
 pub mod FormedLines
@@ -47,6 +49,7 @@ pub mod FormedMasters
 pub mod FormedWhole
 pub mod Emission
 pub mod EmittedValues
+pub mod EmittedParts
 pub mod EmittedTexts
 pub mod EmittedStatements
 pub mod EmittedCalls

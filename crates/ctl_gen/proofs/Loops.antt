@@ -14,7 +14,7 @@ use Rattle.ctl_meaning.specs.Statements.{leaving, turned, turns, loop, one_turn,
 use Rattle.ctl_code.specs.declared.code.Instr.TheVariants as InstrOf
 use Rattle.ctl_code.specs.declared.code.Code.{Code}
 use Rattle.ctl_code.specs.declared.kinds.Kind.{Kind}
-use Rattle.ctl_code.specs.States.{Frame, State}
+use Rattle.ctl_code.specs.States.{Word, Frame, State}
 use Rattle.ctl_code.specs.Table.{by_unless, caught_in}
 use Rattle.ctl_code.specs.Steps.{moved, step}
 use Rattle.ctl_layout.specs.Around.{Line, Landing, OutOfMaster, BeforeLoop, Around, behind, land}
@@ -44,11 +44,11 @@ module _ (ask : Ask) (k : Tables) (code : Code) (bound : ℕ) where
       on (Leaves y) c1 l1 w2 lo fits = added ask code (Kept k code w0) 0 4 4 4 4 _ c1 next _ (omega arith) (omega arith) (leave y c1 l1 w2 (omega (arith, lo)) fits)
 
   -- a landing leads behind its loop
-  abbrev pub Lands : List ℕ → ℕ → List Frame → List ℕ → ℕ → List ℕ → Type 0
+  abbrev pub Lands : List ℕ → ℕ → List Frame → List Word → ℕ → List Word → Type 0
   Lands d landing ks over place ops = (l : Log) (w : World) → step ask code (at d landing ks over l w) ≡ at d place ks ops l w
 
   -- a loop is left
-  pub loop_ends : (e : Target) (d : List ℕ) (landing q place : ℕ) (ks : List Frame) (over ops : List ℕ) (w0 : World) (again : Act Done) → Lands d landing ks over place ops → (y : Way) (c : ℕ) (l : Log) (w : World) → Since k code w0 w → Runs ask code (Kept k code w0) 4 4 (arrives (On landing) d q ks over (Leaves y) l w) c (arrives e d place ks ops) (turned again (Leaves y) c l w)
+  pub loop_ends : (e : Target) (d : List ℕ) (landing q place : ℕ) (ks : List Frame) (over ops : List Word) (w0 : World) (again : Act Done) → Lands d landing ks over place ops → (y : Way) (c : ℕ) (l : Log) (w : World) → Since k code w0 w → Runs ask code (Kept k code w0) 4 4 (arrives (On landing) d q ks over (Leaves y) l w) c (arrives e d place ks ops) (turned again (Leaves y) c l w)
   unfolding turned opened_outcome
   loop_ends e d landing q place ks over ops w0 again lands y c l w fits = by (completes_loop y) refl
     where
@@ -59,7 +59,7 @@ module _ (ask : Ask) (k : Tables) (code : Code) (bound : ℕ) where
   -- Without an iteration scheme ---------------------------------------------------------------------
 
   -- the turns of a loop, from the step that begins one of them
-  turns_run : (x : Around → List Line) (act : List ℕ → ℕ → Act Done) → Does ask k code bound x act → (s : List Kind) (n : ℕ) (e : Target) (w0 : World) (d : List ℕ) (start place : ℕ) (ks : List Frame) (ops : List ℕ) (c : ℕ) (l : Log) (w : World) (s0 : State) → c ≤ n → c ≤ bound → Since k code w0 w → Sees d s w0 → Laid code start (x (in_loop s) ++ (InstrOf.Back (length (x (in_loop s))), s) ∷ []) → Lands d (start - 1) ks ops place ops → step ask code s0 ≡ at d start ks ops l w → IsGoing s0 → s0.log ≡ l → Runs ask code (Kept k code w0) 1 2 s0 c (arrives e d place ks ops) (turns n (one_turn (act d (caught_in ks))) c l w)
+  turns_run : (x : Around → List Line) (act : List ℕ → ℕ → Act Done) → Does ask k code bound x act → (s : List Kind) (n : ℕ) (e : Target) (w0 : World) (d : List ℕ) (start place : ℕ) (ks : List Frame) (ops : List Word) (c : ℕ) (l : Log) (w : World) (s0 : State) → c ≤ n → c ≤ bound → Since k code w0 w → Sees d s w0 → Laid code start (x (in_loop s) ++ (InstrOf.Back (length (x (in_loop s))), s) ∷ []) → Lands d (start - 1) ks ops place ops → step ask code s0 ≡ at d start ks ops l w → IsGoing s0 → s0.log ≡ l → Runs ask code (Kept k code w0) 1 2 s0 c (arrives e d place ks ops) (turns n (one_turn (act d (caught_in ks))) c l w)
   unfolding turns turned opened_outcome
   turns_run x act does s zero e w0 d start place ks ops c l w s0 fuel le fits sees has lands first going logged = record { n = 0; in_time = omega arith; logged = logged; going = going; why = inl (omega (arith, fuel)) }
   turns_run x act does s (suc n) e w0 d start place ks ops c l w s0 fuel le fits sees has lands first going logged =
@@ -94,7 +94,7 @@ module _ (ask : Ask) (k : Tables) (code : Code) (bound : ℕ) where
   -- Conditions --------------------------------------------------------------------------------------
 
   -- a condition, from where it begins: what it guards, or behind it and so many instructions
-  pub test_runs : (f : Result (List ℕ) → Act Done) (w0 : World) (y : ValueCode) (test : List ℕ → Act (List ℕ)) → Value ask k code (Since k code w0) y test → (s : List Kind) (size : ℕ) (d : List ℕ) (place : ℕ) (ks : List Frame) (ops : List ℕ) (c : ℕ) (l : Log) (w : World) (next : Result Done → Log → World → State) → Since k code w0 w → Sees d s w0 → Laid code place (test_code y s size) → ((m c1 : ℕ) (l1 : Log) (w1 : World) (s0 : State) → c1 ≤ c → Since k code w0 w1 → step ask code s0 ≡ at d (place + test_length y s + (if is_true m then 0 else size)) ks ops l1 w1 → IsGoing s0 → s0.log ≡ l1 → Runs ask code (Kept k code w0) 8 8 s0 c1 next (f (Goes (m ∷ [])) c1 l1 w1)) → ((x c1 : ℕ) (l1 : Log) (w1 : World) → c1 ≤ c → Since k code w0 w1 → Runs ask code (Kept k code w0) 8 8 (transferred (ByRaise x) ks l1 w1) c1 next (f (Leaves (ByRaise x)) c1 l1 w1)) → Runs ask code (Kept k code w0) 0 0 (at d place ks ops l w) c next (bind (test d c l w) f)
+  pub test_runs : (f : Result (List ℕ) → Act Done) (w0 : World) (y : ValueCode) (test : List ℕ → Act (List ℕ)) → Value ask k code (Since k code w0) y test → (s : List Kind) (size : ℕ) (d : List ℕ) (place : ℕ) (ks : List Frame) (ops : List Word) (c : ℕ) (l : Log) (w : World) (next : Result Done → Log → World → State) → Since k code w0 w → Sees d s w0 → Laid code place (test_code y s size) → ((m c1 : ℕ) (l1 : Log) (w1 : World) (s0 : State) → c1 ≤ c → Since k code w0 w1 → step ask code s0 ≡ at d (place + test_length y s + (if is_true m then 0 else size)) ks ops l1 w1 → IsGoing s0 → s0.log ≡ l1 → Runs ask code (Kept k code w0) 8 8 s0 c1 next (f (Goes (m ∷ [])) c1 l1 w1)) → ((x c1 : ℕ) (l1 : Log) (w1 : World) → c1 ≤ c → Since k code w0 w1 → Runs ask code (Kept k code w0) 8 8 (transferred (ByRaise x) ks l1 w1) c1 next (f (Leaves (ByRaise x)) c1 l1 w1)) → Runs ask code (Kept k code w0) 0 0 (at d place ks ops l w) c next (bind (test d c l w) f)
   test_runs f w0 y test value s size d place ks ops c l w next fits sees has goes leaves =
       let h = held y Boolean s in
       let i = InstrOf.Unless h.cell size in
@@ -122,7 +122,7 @@ module _ (ask : Ask) (k : Tables) (code : Code) (bound : ℕ) where
   abbrev turn_of : ValueCode → (Around → List Line) → List Kind → List Line
   turn_of y x s = test_code y s (length (x (behind (test_length y s) (in_loop s))) + 1) ++ x (behind (test_length y s) (in_loop s))
 
-  whiles_run : (y : ValueCode) (test : List ℕ → Act (List ℕ)) → ((w0 : World) → Value ask k code (Since k code w0) y test) → (x : Around → List Line) (act : List ℕ → ℕ → Act Done) → Does ask k code bound x act → (s : List Kind) (n : ℕ) (e : Target) (w0 : World) (d : List ℕ) (start place : ℕ) (ks : List Frame) (ops : List ℕ) (c : ℕ) (l : Log) (w : World) → c ≤ n → c ≤ bound → Since k code w0 w → Sees d s w0 → Laid code start (turn_of y x s ++ (InstrOf.Back (length (turn_of y x s)), s) ∷ []) → Lands d (start - 1) ks ops place ops → start + length (turn_of y x s) + 1 ≡ place → Runs ask code (Kept k code w0) 0 2 (at d start ks ops l w) c (arrives e d place ks ops) (turns n (while (test d) (act d (caught_in ks))) c l w)
+  whiles_run : (y : ValueCode) (test : List ℕ → Act (List ℕ)) → ((w0 : World) → Value ask k code (Since k code w0) y test) → (x : Around → List Line) (act : List ℕ → ℕ → Act Done) → Does ask k code bound x act → (s : List Kind) (n : ℕ) (e : Target) (w0 : World) (d : List ℕ) (start place : ℕ) (ks : List Frame) (ops : List Word) (c : ℕ) (l : Log) (w : World) → c ≤ n → c ≤ bound → Since k code w0 w → Sees d s w0 → Laid code start (turn_of y x s ++ (InstrOf.Back (length (turn_of y x s)), s) ∷ []) → Lands d (start - 1) ks ops place ops → start + length (turn_of y x s) + 1 ≡ place → Runs ask code (Kept k code w0) 0 2 (at d start ks ops l w) c (arrives e d place ks ops) (turns n (while (test d) (act d (caught_in ks))) c l w)
   unfolding turns while turned opened_outcome scalar_of opened_lists
   whiles_run y test value x act does s zero e w0 d start place ks ops c l w fuel le fits sees has lands far = record { n = 0; in_time = omega arith; logged = refl; going = tt; why = inl (omega (arith, fuel)) }
   whiles_run y test value x act does s (suc n) e w0 d start place ks ops c l w fuel le fits sees has lands far =
@@ -197,6 +197,6 @@ module _ (ask : Ask) (k : Tables) (code : Code) (bound : ℕ) where
   -- Departures ---------------------------------------------------------------------------------------
 
   -- the instruction that leads to a landing
-  pub leave_step : (x : Landing) (d : List ℕ) (place : ℕ) (ks : List Frame) (ops : List ℕ) (l : Log) (w : World) → slice_get code.instructions.items place ≡ Some (land x) → step ask code (at d place ks ops l w) ≡ landed_on (target_of x place) d ks ops l w
+  pub leave_step : (x : Landing) (d : List ℕ) (place : ℕ) (ks : List Frame) (ops : List Word) (l : Log) (w : World) → slice_get code.instructions.items place ≡ Some (land x) → step ask code (at d place ks ops l w) ≡ landed_on (target_of x place) d ks ops l w
   leave_step OutOfMaster d place ks ops l w has = by_code ask code d place ks ops l w (land OutOfMaster) has
   leave_step (BeforeLoop back) d place ks ops l w has = by_code ask code d place ks ops l w (land (BeforeLoop back)) has

@@ -23,7 +23,7 @@ use Rattle.ctl_code.specs.declared.code.Instr.TheVariants as InstrOf
 use Rattle.ctl_code.specs.declared.code.Code.{Code}
 use Rattle.ctl_code.specs.declared.kinds.Kind.{Kind}
 use Rattle.ctl_code.specs.declared.kinds.Kind.TheVariants as KindOf
-use Rattle.ctl_code.specs.States.{Frame, State}
+use Rattle.ctl_code.specs.States.{Word, Scalar, Frame, State}
 use Rattle.ctl_code.specs.Table.{caught_in, out_of, present, bounds_after, with_parameter, in_turn, ahead, on}
 use Rattle.ctl_code.specs.Steps.{moved, step}
 use Rattle.ctl_code.specs.Valid.{IsValid}
@@ -141,7 +141,7 @@ is_newest s v d parameter long known = by (out_to s v) (out_is d s v long) known
 
 module _ (ask : Ask) (k : Tables) (code : Code) (valid : IsValid code) (bound : ℕ) where
   -- one of the turns, from the step that begins it, and what follows
-  counted_turn : (x : Around → List Line) (act : List ℕ → ℕ → Act Done) → Does ask k code bound x act → (s : List Kind) (v : Var) (z : ℤ) (again : Act Done) (e : Target) (w0 : World) (d : List ℕ) (start place : ℕ) (ks : List Frame) (over ops : List ℕ) (c : ℕ) (l : Log) (w : World) (s0 : State) → c ≤ bound → Since k code w0 w → Sees d s w0 → Laid code start (x (in_loop (with_bounds s))) → Lands ask k code bound d (start - 1) ks over place ops → step ask code s0 ≡ at d start ks over l (set_value (master_of d v) v.slot (cell_of z) w) → IsGoing s0 → s0.log ≡ l → ((c1 : ℕ) (l1 : Log) (w2 : World) → c1 + 1 ≤ c → Since k code w0 w2 → Runs ask code (Kept k code w0) 4 4 (at d (start + length (x (in_loop (with_bounds s)))) ks over l1 w2) c1 (arrives e d place ks ops) (again c1 l1 w2)) → Runs ask code (Kept k code w0) 1 2 s0 c (arrives e d place ks ops) (bind (one_turn (set_loop d v z >> act d (caught_in ks)) c l w) (turned again))
+  counted_turn : (x : Around → List Line) (act : List ℕ → ℕ → Act Done) → Does ask k code bound x act → (s : List Kind) (v : Var) (z : ℤ) (again : Act Done) (e : Target) (w0 : World) (d : List ℕ) (start place : ℕ) (ks : List Frame) (over ops : List Word) (c : ℕ) (l : Log) (w : World) (s0 : State) → c ≤ bound → Since k code w0 w → Sees d s w0 → Laid code start (x (in_loop (with_bounds s))) → Lands ask k code bound d (start - 1) ks over place ops → step ask code s0 ≡ at d start ks over l (set_value (master_of d v) v.slot (cell_of z) w) → IsGoing s0 → s0.log ≡ l → ((c1 : ℕ) (l1 : Log) (w2 : World) → c1 + 1 ≤ c → Since k code w0 w2 → Runs ask code (Kept k code w0) 4 4 (at d (start + length (x (in_loop (with_bounds s)))) ks over l1 w2) c1 (arrives e d place ks ops) (again c1 l1 w2)) → Runs ask code (Kept k code w0) 1 2 s0 c (arrives e d place ks ops) (bind (one_turn (set_loop d v z >> act d (caught_in ks)) c l w) (turned again))
   unfolding turned set_loop opened_outcome
   counted_turn x act does s v z again e w0 d start place ks over ops c l w s0 le fits sees has lands first going logged more =
       let b = x (in_loop (with_bounds s)) in
@@ -154,22 +154,22 @@ module _ (ask : Ask) (k : Tables) (code : Code) (valid : IsValid code) (bound : 
       (λ y c1 l1 w2 lo fits1. loop_ends ask k code bound e d (start - 1) (start + length b) place ks over ops w0 again lands y c1 l1 w2 fits1))
 
   -- the turns from one of them on, from the step that begins it
-  counted_run : (x : Around → List Line) (act : List ℕ → ℕ → Act Done) → Does ask k code bound x act → (s : List Kind) (v : Var) (low parameter : ℕ) (way : Direction) (n a b : ℕ) (e : Target) (w0 : World) (d : List ℕ) (start place : ℕ) (ks : List Frame) (ops : List ℕ) (c : ℕ) (l : Log) (w : World) (s0 : State) → signed b -ℤ signed a ≡ pos n → master_of d v ≡ last_of d → c ≤ bound → Since k code w0 w → Sees d s w0 → Laid code start (x (in_loop (with_bounds s))) → slice_get code.instructions.items (start + length (x (in_loop (with_bounds s)))) ≡ Some (InstrOf.Next low v.slot parameter way (length (x (in_loop (with_bounds s))))) → start + length (x (in_loop (with_bounds s))) + 1 ≡ place → ((b1 a1 : ℕ) → Lands ask k code bound d (start - 1) ks (b1 ∷ a1 ∷ ops) place ops) → step ask code s0 ≡ at d start ks (b ∷ a ∷ ops) l (with_parameter d v.slot (present way a b) w) → IsGoing s0 → s0.log ≡ l → Runs ask code (Kept k code w0) 1 2 s0 c (arrives e d place ks ops) (for_turns (suc n) (next_value way) (λ z. set_loop d v z >> act d (caught_in ks)) (value_at way a b) c l w)
+  counted_run : (x : Around → List Line) (act : List ℕ → ℕ → Act Done) → Does ask k code bound x act → (s : List Kind) (v : Var) (low parameter : ℕ) (way : Direction) (n a b : ℕ) (e : Target) (w0 : World) (d : List ℕ) (start place : ℕ) (ks : List Frame) (ops : List Word) (c : ℕ) (l : Log) (w : World) (s0 : State) → signed b -ℤ signed a ≡ pos n → master_of d v ≡ last_of d → c ≤ bound → Since k code w0 w → Sees d s w0 → Laid code start (x (in_loop (with_bounds s))) → slice_get code.instructions.items (start + length (x (in_loop (with_bounds s)))) ≡ Some (InstrOf.Next low v.slot parameter way (length (x (in_loop (with_bounds s))))) → start + length (x (in_loop (with_bounds s))) + 1 ≡ place → ((b1 a1 : ℕ) → Lands ask k code bound d (start - 1) ks (Scalar b1 ∷ Scalar a1 ∷ ops) place ops) → step ask code s0 ≡ at d start ks (Scalar b ∷ Scalar a ∷ ops) l (with_parameter d v.slot (present way a b) w) → IsGoing s0 → s0.log ≡ l → Runs ask code (Kept k code w0) 1 2 s0 c (arrives e d place ks ops) (for_turns (suc n) (next_value way) (λ z. set_loop d v z >> act d (caught_in ks)) (value_at way a b) c l w)
   unfolding for_turns then_always nothing given
   counted_run x act does s v low parameter way zero a b e w0 d start place ks ops c l w s0 left newest le fits sees has next far lands first going logged =
-      counted_turn x act does s v (value_at way a b) nothing e w0 d start place ks (b ∷ a ∷ ops) ops c l w s0 le fits sees has (lands b a) (first ∙ ap (at d start ks (b ∷ a ∷ ops) l) (parameter_is a b w)) going logged
-      (λ c1 l1 w2 lo fits1. last_step ask code (Kept k code w0) 4 4 (at d (start + length (x (in_loop (with_bounds s)))) ks (b ∷ a ∷ ops) l1 w2) c1 0 (arrives e d place ks ops) (Goes tt) l1 w2 (omega arith) fits1
-      (by_code ask code d (start + length (x (in_loop (with_bounds s)))) ks (b ∷ a ∷ ops) l1 w2 (InstrOf.Next low v.slot parameter way (length (x (in_loop (with_bounds s))))) next
+      counted_turn x act does s v (value_at way a b) nothing e w0 d start place ks (Scalar b ∷ Scalar a ∷ ops) ops c l w s0 le fits sees has (lands b a) (first ∙ ap (at d start ks (Scalar b ∷ Scalar a ∷ ops) l) (parameter_is a b w)) going logged
+      (λ c1 l1 w2 lo fits1. last_step ask code (Kept k code w0) 4 4 (at d (start + length (x (in_loop (with_bounds s)))) ks (Scalar b ∷ Scalar a ∷ ops) l1 w2) c1 0 (arrives e d place ks ops) (Goes tt) l1 w2 (omega arith) fits1
+      (by_code ask code d (start + length (x (in_loop (with_bounds s)))) ks (Scalar b ∷ Scalar a ∷ ops) l1 w2 (InstrOf.Next low v.slot parameter way (length (x (in_loop (with_bounds s))))) next
       ∙ ap (λ t. moved l1 (if t then in_turn way v.slot (bounds_after way a b) (start + length (x (in_loop (with_bounds s))) - length (x (in_loop (with_bounds s)))) ops (here d (start + length (x (in_loop (with_bounds s)))) ks w2) else on ops w2 (here d (start + length (x (in_loop (with_bounds s)))) ks w2))) (last_left (signed a) (signed b) left)
       ∙ ap (λ p. at d p ks ops l1 w2) far))
     where
       parameter_is : (a1 b1 : ℕ) (w1 : World) → with_parameter d v.slot (present way a1 b1) w1 ≡ set_value (master_of d v) v.slot (cell_of (value_at way a1 b1)) w1
       parameter_is a1 b1 w1 = ap (λ m. with_parameter d v.slot m w1) (present_is way a1 b1) ∙ ap (λ m. set_value m v.slot (cell_of (value_at way a1 b1)) w1) (sym newest)
   counted_run x act does s v low parameter way (suc n) a b e w0 d start place ks ops c l w s0 left newest le fits sees has next far lands first going logged =
-      counted_turn x act does s v (value_at way a b) (for_turns (suc n) (next_value way) (λ z. set_loop d v z >> act d (caught_in ks)) (next_value way (value_at way a b))) e w0 d start place ks (b ∷ a ∷ ops) ops c l w s0 le fits sees has (lands b a) (first ∙ ap (at d start ks (b ∷ a ∷ ops) l) (parameter_is a b w)) going logged
-      (λ c1 l1 w2 lo fits1. within ask code (Kept k code w0) 1 2 4 4 (at d q ks (b ∷ a ∷ ops) l1 w2) c1 (arrives e d place ks ops) (for_turns (suc n) (next_value way) (λ z. set_loop d v z >> act d (caught_in ks)) (next_value way (value_at way a b)) c1 l1 w2) (omega arith) (omega arith)
-      (subst (λ z1. Runs ask code (Kept k code w0) 1 2 (at d q ks (b ∷ a ∷ ops) l1 w2) c1 (arrives e d place ks ops) (for_turns (suc n) (next_value way) (λ z. set_loop d v z >> act d (caught_in ks)) z1 c1 l1 w2)) (value_after way a b n left)
-      (counted_run x act does s v low parameter way n (low_after way a b) (high_after way a b) e w0 d start place ks ops c1 l1 w2 (at d q ks (b ∷ a ∷ ops) l1 w2) (one_fewer way a b n left) newest (omega (arith, lo, le)) fits1 sees has next far lands (back l1 w2) tt refl)))
+      counted_turn x act does s v (value_at way a b) (for_turns (suc n) (next_value way) (λ z. set_loop d v z >> act d (caught_in ks)) (next_value way (value_at way a b))) e w0 d start place ks (Scalar b ∷ Scalar a ∷ ops) ops c l w s0 le fits sees has (lands b a) (first ∙ ap (at d start ks (Scalar b ∷ Scalar a ∷ ops) l) (parameter_is a b w)) going logged
+      (λ c1 l1 w2 lo fits1. within ask code (Kept k code w0) 1 2 4 4 (at d q ks (Scalar b ∷ Scalar a ∷ ops) l1 w2) c1 (arrives e d place ks ops) (for_turns (suc n) (next_value way) (λ z. set_loop d v z >> act d (caught_in ks)) (next_value way (value_at way a b)) c1 l1 w2) (omega arith) (omega arith)
+      (subst (λ z1. Runs ask code (Kept k code w0) 1 2 (at d q ks (Scalar b ∷ Scalar a ∷ ops) l1 w2) c1 (arrives e d place ks ops) (for_turns (suc n) (next_value way) (λ z. set_loop d v z >> act d (caught_in ks)) z1 c1 l1 w2)) (value_after way a b n left)
+      (counted_run x act does s v low parameter way n (low_after way a b) (high_after way a b) e w0 d start place ks ops c1 l1 w2 (at d q ks (Scalar b ∷ Scalar a ∷ ops) l1 w2) (one_fewer way a b n left) newest (omega (arith, lo, le)) fits1 sees has next far lands (back l1 w2) tt refl)))
     where
       size : ℕ
       size = length (x (in_loop (with_bounds s)))
@@ -180,20 +180,20 @@ module _ (ask : Ask) (k : Tables) (code : Code) (valid : IsValid code) (bound : 
       parameter_is : (a1 b1 : ℕ) (w1 : World) → with_parameter d v.slot (present way a1 b1) w1 ≡ set_value (master_of d v) v.slot (cell_of (value_at way a1 b1)) w1
       parameter_is a1 b1 w1 = ap (λ m. with_parameter d v.slot m w1) (present_is way a1 b1) ∙ ap (λ m. set_value m v.slot (cell_of (value_at way a1 b1)) w1) (sym newest)
 
-      back : (l1 : Log) (w2 : World) → step ask code (at d (start + length (x (in_loop (with_bounds s)))) ks (b ∷ a ∷ ops) l1 w2) ≡ at d start ks (high_after way a b ∷ low_after way a b ∷ ops) l1 (with_parameter d v.slot (present way (low_after way a b) (high_after way a b)) w2)
+      back : (l1 : Log) (w2 : World) → step ask code (at d (start + length (x (in_loop (with_bounds s)))) ks (Scalar b ∷ Scalar a ∷ ops) l1 w2) ≡ at d start ks (Scalar (high_after way a b) ∷ Scalar (low_after way a b) ∷ ops) l1 (with_parameter d v.slot (present way (low_after way a b) (high_after way a b)) w2)
       back l1 w2 =
           let e1 : q - size ≡ start = omega arith in
-          by_code ask code d q ks (b ∷ a ∷ ops) l1 w2 (InstrOf.Next low v.slot parameter way size) next
+          by_code ask code d q ks (Scalar b ∷ Scalar a ∷ ops) l1 w2 (InstrOf.Next low v.slot parameter way size) next
           ∙ ap (λ t. moved l1 (if t then in_turn way v.slot (bounds_after way a b) (q - size) ops (here d q ks w2) else on ops w2 (here d q ks w2))) (more_left (signed a) (signed b) n left)
           ∙ ap (λ os. moved l1 (in_turn way v.slot os (q - size) ops (here d q ks w2))) (after_is way a b)
-          ∙ ap (λ p. at d p ks (high_after way a b ∷ low_after way a b ∷ ops) l1 (with_parameter d v.slot (present way (low_after way a b) (high_after way a b)) w2)) e1
+          ∙ ap (λ p. at d p ks (Scalar (high_after way a b) ∷ Scalar (low_after way a b) ∷ ops) l1 (with_parameter d v.slot (present way (low_after way a b) (high_after way a b)) w2)) e1
 
   -- all the turns, from the instruction that looks at the bounds
-  ranged : (x : Around → List Line) (act : List ℕ → ℕ → Act Done) → Does ask k code bound x act → (s : List Kind) (v : Var) (way : Direction) (o : Option ℕ) (a b : ℕ) (e : Target) (w0 : World) (d : List ℕ) (q : ℕ) (ks : List Frame) (ops : List ℕ) (c : ℕ) (l : Log) (w : World) → newest_at s v ≡ o → c ≤ bound → Since k code w0 w → Sees d s w0 → Laid code q (turns_code o v way (x (in_loop (with_bounds s))) s) → Runs ask code (Kept k code w0) 1 2 (at d q ks (b ∷ a ∷ ops) l w) c (arrives e d (q + 1 + (length (x (in_loop (with_bounds s))) + 2)) ks ops) (for way (λ z. set_loop d v z >> act d (caught_in ks)) (signed a) (signed b) c l w)
+  ranged : (x : Around → List Line) (act : List ℕ → ℕ → Act Done) → Does ask k code bound x act → (s : List Kind) (v : Var) (way : Direction) (o : Option ℕ) (a b : ℕ) (e : Target) (w0 : World) (d : List ℕ) (q : ℕ) (ks : List Frame) (ops : List Word) (c : ℕ) (l : Log) (w : World) → newest_at s v ≡ o → c ≤ bound → Since k code w0 w → Sees d s w0 → Laid code q (turns_code o v way (x (in_loop (with_bounds s))) s) → Runs ask code (Kept k code w0) 1 2 (at d q ks (Scalar b ∷ Scalar a ∷ ops) l w) c (arrives e d (q + 1 + (length (x (in_loop (with_bounds s))) + 2)) ks ops) (for way (λ z. set_loop d v z >> act d (caught_in ks)) (signed a) (signed b) c l w)
   unfolding count_up for_turns nothing given
   ranged x act does s v way None a b e w0 d q ks ops c l w known le fits sees has = absurd (never_missing code valid q (with_bounds s) has.0 has.1)
   ranged x act does s v way (Some parameter) a b e w0 d q ks ops c l w known le fits sees has =
-      subst (λ y. Runs ask code (Kept k code w0) 1 2 (at d q ks (b ∷ a ∷ ops) l w) c (arrives e d (q + 1 + (length turn + 2)) ks ops) y) (sym (for_is way (λ z. set_loop d v z >> act d (caught_in ks)) a b c l w))
+      subst (λ y. Runs ask code (Kept k code w0) 1 2 (at d q ks (Scalar b ∷ Scalar a ∷ ops) l w) c (arrives e d (q + 1 + (length turn + 2)) ks ops) y) (sym (for_is way (λ z. set_loop d v z >> act d (caught_in ks)) a b c l w))
       (by (signed b -ℤ signed a) refl)
     where
       turn : List Line
@@ -202,31 +202,31 @@ module _ (ask : Ask) (k : Tables) (code : Code) (valid : IsValid code) (bound : 
       place : ℕ
       place = q + 1 + (length (x (in_loop (with_bounds s))) + 2)
 
-      first : step ask code (at d q ks (b ∷ a ∷ ops) l w) ≡ moved l (if int_le (signed a) (signed b) then in_turn way v.slot (b ∷ a ∷ []) (q + 2) ops (here d q ks w) else ahead (length (x (in_loop (with_bounds s))) + 2) ops w (here d q ks w))
-      first = by_code ask code d q ks (b ∷ a ∷ ops) l w (InstrOf.For (height s) v.slot parameter way (length (x (in_loop (with_bounds s))) + 2)) has.0
+      first : step ask code (at d q ks (Scalar b ∷ Scalar a ∷ ops) l w) ≡ moved l (if int_le (signed a) (signed b) then in_turn way v.slot (b ∷ a ∷ []) (q + 2) ops (here d q ks w) else ahead (length (x (in_loop (with_bounds s))) + 2) ops w (here d q ks w))
+      first = by_code ask code d q ks (Scalar b ∷ Scalar a ∷ ops) l w (InstrOf.For (height s) v.slot parameter way (length (x (in_loop (with_bounds s))) + 2)) has.0
 
       newest : master_of d v ≡ last_of d
       newest = is_newest s v d parameter sees.long known
 
-      lands : (b1 a1 : ℕ) → Lands ask k code bound d (q + 2 - 1) ks (b1 ∷ a1 ∷ ops) place ops
+      lands : (b1 a1 : ℕ) → Lands ask k code bound d (q + 2 - 1) ks (Scalar b1 ∷ Scalar a1 ∷ ops) place ops
       lands b1 a1 l1 w1 =
           let e0 : q + 1 ≡ q + 2 - 1 = omega arith in
           let e1 : q + 1 + 1 + (length turn + 1) ≡ place = omega arith in
-          subst (λ p. step ask code (at d p ks (b1 ∷ a1 ∷ ops) l1 w1) ≡ at d place ks ops l1 w1) e0
-          (by_code ask code d (q + 1) ks (b1 ∷ a1 ∷ ops) l1 w1 (InstrOf.Abandon (length turn + 1)) has.2.0 ∙ ap (λ p. at d p ks ops l1 w1) e1)
+          subst (λ p. step ask code (at d p ks (Scalar b1 ∷ Scalar a1 ∷ ops) l1 w1) ≡ at d place ks ops l1 w1) e0
+          (by_code ask code d (q + 1) ks (Scalar b1 ∷ Scalar a1 ∷ ops) l1 w1 (InstrOf.Abandon (length turn + 1)) has.2.0 ∙ ap (λ p. at d p ks ops l1 w1) e1)
 
       body : Laid code (q + 2) (turn ++ (next_of (Some parameter) (height s) v way (length turn), with_bounds s) ∷ [])
       body = let e0 : q + 1 + 1 ≡ q + 2 = omega arith in subst (λ p. Laid code p (turn ++ (next_of (Some parameter) (height s) v way (length turn), with_bounds s) ∷ [])) e0 has.2.2
 
-      by : (size : ℤ) → signed b -ℤ signed a ≡ size → Runs ask code (Kept k code w0) 1 2 (at d q ks (b ∷ a ∷ ops) l w) c (arrives e d (q + 1 + (length (x (in_loop (with_bounds s))) + 2)) ks ops) (for_turns (count_up size) (next_value way) (λ z. set_loop d v z >> act d (caught_in ks)) (value_at way a b) c l w)
+      by : (size : ℤ) → signed b -ℤ signed a ≡ size → Runs ask code (Kept k code w0) 1 2 (at d q ks (Scalar b ∷ Scalar a ∷ ops) l w) c (arrives e d (q + 1 + (length (x (in_loop (with_bounds s))) + 2)) ks ops) (for_turns (count_up size) (next_value way) (λ z. set_loop d v z >> act d (caught_in ks)) (value_at way a b) c l w)
       by (negsuc n) is =
-          last_step ask code (Kept k code w0) 1 2 (at d q ks (b ∷ a ∷ ops) l w) c 0 (arrives e d place ks ops) (Goes tt) l w (omega arith) fits
+          last_step ask code (Kept k code w0) 1 2 (at d q ks (Scalar b ∷ Scalar a ∷ ops) l w) c 0 (arrives e d place ks ops) (Goes tt) l w (omega arith) fits
           (first ∙ ap (λ t. moved l (if t then in_turn way v.slot (b ∷ a ∷ []) (q + 2) ops (here d q ks w) else ahead (length turn + 2) ops w (here d q ks w))) (none_left (signed a) (signed b) n is))
       by (pos n) is =
           let e0 : suc n ≡ n + 1 = omega arith in
           let far : q + 2 + length turn + 1 ≡ place = omega arith in
-          subst (λ m. Runs ask code (Kept k code w0) 1 2 (at d q ks (b ∷ a ∷ ops) l w) c (arrives e d place ks ops) (for_turns m (next_value way) (λ z. set_loop d v z >> act d (caught_in ks)) (value_at way a b) c l w)) e0
-          (counted_run x act does s v (height s) parameter way n a b e w0 d (q + 2) place ks ops c l w (at d q ks (b ∷ a ∷ ops) l w) is newest le fits sees (laid_front code (q + 2) turn ((next_of (Some parameter) (height s) v way (length turn), with_bounds s) ∷ []) body) (laid_back code (q + 2) turn ((next_of (Some parameter) (height s) v way (length turn), with_bounds s) ∷ []) body).0 far lands
+          subst (λ m. Runs ask code (Kept k code w0) 1 2 (at d q ks (Scalar b ∷ Scalar a ∷ ops) l w) c (arrives e d place ks ops) (for_turns m (next_value way) (λ z. set_loop d v z >> act d (caught_in ks)) (value_at way a b) c l w)) e0
+          (counted_run x act does s v (height s) parameter way n a b e w0 d (q + 2) place ks ops c l w (at d q ks (Scalar b ∷ Scalar a ∷ ops) l w) is newest le fits sees (laid_front code (q + 2) turn ((next_of (Some parameter) (height s) v way (length turn), with_bounds s) ∷ []) body) (laid_back code (q + 2) turn ((next_of (Some parameter) (height s) v way (length turn), with_bounds s) ∷ []) body).0 far lands
           (first ∙ ap (λ t. moved l (if t then in_turn way v.slot (b ∷ a ∷ []) (q + 2) ops (here d q ks w) else ahead (length turn + 2) ops w (here d q ks w))) (some_left (signed a) (signed b) n is)) tt refl)
 
   pub for_runs : (v : Var) (way : Direction) (low high : ValueCode) (low_of high_of : List ℕ → Act (List ℕ)) → ((w0 : World) → Value ask k code (Since k code w0) low low_of) → ((w0 : World) → Value ask k code (Since k code w0) high high_of) → (x : Around → List Line) (act : List ℕ → ℕ → Act Done) → Does ask k code bound x act → Does ask k code bound (λ a. bounds_code low high a.stack ++ turns_code (newest_at a.stack v) v way (x (in_loop (with_bounds a.stack))) a.stack) (λ d caught. ticked (leaving (scalar (low_of d) (λ a. scalar (high_of d) (λ b. for way (λ z. set_loop d v z >> act d caught) (signed a) (signed b))))))
@@ -237,8 +237,8 @@ module _ (ask : Ask) (k : Tables) (code : Code) (valid : IsValid code) (bound : 
       (left_behind ask code (Kept k code w0) 1 2 1 2 _ c (arrives e d end ks ops) _ (omega arith) (omega arith)
       (both_cell ask code (Kept k code w0) Any 0 0 1 2 1 2 _ c (landed Operand d (place + length is) ks ops) (arrives e d end ks ops) (low_of d c l w) _ (omega arith) (omega arith) (omega arith) ((low_value w0).cell d c l w)
       (value_runs ask k code (Since k code w0) low low_of (low_value w0) (new_operand s) Integer s d place ks ops c l w fits sees.long (laid_front code place is js bounds))
-      (λ a c1 l1 w1 lo fits1 p1. both_cell ask code (Kept k code w0) Any 0 0 1 2 1 2 (at d (place + length is) ks (a ∷ ops) l1 w1) c1 (landed Operand d q ks (a ∷ ops)) (arrives e d end ks ops) (high_of d c1 l1 w1) (on_goes (λ u. for way (λ z. set_loop d v z >> act d (caught_in ks)) (signed a) (signed (scalar_of u)))) (omega arith) (omega arith) (omega arith) ((high_value w0).cell d c1 l1 w1)
-      (value_runs ask k code (Since k code w0) high high_of (high_value w0) (new_operand (KindOf.Operand Integer ∷ s)) Integer (KindOf.Operand Integer ∷ s) d (place + length is) ks (a ∷ ops) c1 l1 w1 fits1 sees.long (laid_back code place is js bounds))
+      (λ a c1 l1 w1 lo fits1 p1. both_cell ask code (Kept k code w0) Any 0 0 1 2 1 2 (at d (place + length is) ks (Scalar a ∷ ops) l1 w1) c1 (landed Operand d q ks (Scalar a ∷ ops)) (arrives e d end ks ops) (high_of d c1 l1 w1) (on_goes (λ u. for way (λ z. set_loop d v z >> act d (caught_in ks)) (signed a) (signed (scalar_of u)))) (omega arith) (omega arith) (omega arith) ((high_value w0).cell d c1 l1 w1)
+      (value_runs ask k code (Since k code w0) high high_of (high_value w0) (new_operand (KindOf.Operand Integer ∷ s)) Integer (KindOf.Operand Integer ∷ s) d (place + length is) ks (Scalar a ∷ ops) c1 l1 w1 fits1 sees.long (laid_back code place is js bounds))
       (λ b c2 l2 w2 lo2 fits2 p2. ranged x act does s v way (newest_at s v) a b e w0 d q ks ops c2 l2 w2 refl (omega (arith, lo, lo2, le)) fits2 sees tail)
       (λ y c2 l2 w2 lo2 fits2. no_step ask code (Kept k code w0) 1 2 _ c2 0 (arrives e d end ks ops) (Leaves (ByRaise y)) l2 w2 fits2 refl))
       (λ y c1 l1 w1 lo fits1. no_step ask code (Kept k code w0) 1 2 _ c1 0 (arrives e d end ks ops) (Leaves (ByRaise y)) l1 w1 fits1 refl))))

@@ -15,7 +15,7 @@ use Rattle.ctl_code.specs.declared.code.Code.{Code}
 use Rattle.ctl_layout.specs.declared.right.Right.{Right}
 use Rattle.ctl_layout.specs.declared.right.Right.TheVariants as RightOf
 use Rattle.ctl_layout.specs.Values.{value_code}
-use Rattle.ctl_layout.specs.Records.{component_rows, inherited, none_if_absent, rows_from}
+use Rattle.ctl_layout.specs.Records.{all_components, component_rows, inherited, none_if_absent, rows_by}
 use Rattle.ctl_layout.specs.Defaults.{constant_by, constant_in, have_constants, may_default}
 use Rattle.ctl_gen.proofs.Known.{both_true}
 use Rattle.ctl_gen.proofs.Setting.{ArePlaced}
@@ -50,11 +50,11 @@ one_row_more : (rows : List (List Component)) (cs : List Component) → map defa
 one_row_more [] cs = refl
 one_row_more (x ∷ rows) cs = ap (λ (zs : List Row). defaults_in x ∷ zs) (one_row_more rows cs)
 
-all_rows : (rows : List (List Component)) (rs : List RecordType) → defaults_from (map defaults_in rows) rs ≡ map defaults_in (rows_from rows rs)
+all_rows : (rows : List (List Component)) (rs : List RecordType) → defaults_from (map defaults_in rows) rs ≡ map defaults_in (rows_by all_components rows rs)
 unfolding defaults_from
 all_rows rows [] = refl
 all_rows rows (r ∷ rs) =
-    let row = inherited rows r.parent ++ r.own in
+    let row = all_components rows r in
     ap (λ (zs : Row). defaults_from (map defaults_in rows ++ (zs ++ own_defaults r) ∷ []) rs) (from_parent rows r.parent)
     ∙ (ap (λ (zs : Row). defaults_from (map defaults_in rows ++ zs ∷ []) rs) (sym (defaults_both (inherited rows r.parent) r.own))
     ∙ (ap (λ (zs : List Row). defaults_from zs rs) (sym (one_row_more rows row))
@@ -87,7 +87,7 @@ module _ (ask : Ask) (p : Meaning) (code : Code) (placed : ArePlaced p.tables co
       ∙ by x.default (may_at p.tables.records plain.components i x plain.constants here) is))
     where
       row : row_of p.defaults t ≡ defaults_in plain.components
-      row = ap (λ z. row_of z t) (rows ∙ all_rows [] p.tables.records) ∙ (row_in (component_rows p.tables.records) t ∙ ap (λ o. defaults_in (none_if_absent o)) plain.flat.has.row)
+      row = ap (λ z. row_of z t) (rows ∙ all_rows [] p.tables.records) ∙ (row_in (component_rows p.tables.records) t ∙ ap (λ o. defaults_in (none_if_absent o)) plain.laid.has.row)
 
       back : i + 1 - 1 ≡ i
       back = omega arith

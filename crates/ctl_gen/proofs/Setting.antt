@@ -2,6 +2,7 @@
 use Rattle.std.proofs.Common.{◌≡◌, ℕ, ◌<◌, ◌≤◌, List, [], ◌∷◌, length, Option, Some, None, true, refl}
 use Rattle.std.specs.Prelude.{slice_get}
 use Rattle.ctl_program.specs.declared.program.Subprogram.{Subprogram}
+use Rattle.ctl_program.specs.declared.types.Ty.TheVariants.{Record}
 use Rattle.ctl_program.specs.declared.types.Component.{Component}
 use Rattle.ctl_program.specs.declared.types.Operations.{Operations}
 use Rattle.ctl_program.specs.declared.types.RecordType.{RecordType}
@@ -10,7 +11,7 @@ use Rattle.ctl_meaning.specs.World.{Log, World, Slot}
 use Rattle.ctl_meaning.specs.Lists.{last_of}
 use Rattle.ctl_meaning.specs.Choice.{Ask}
 use Rattle.ctl_meaning.specs.Outcome.{Way, Result, tell}
-use Rattle.ctl_meaning.specs.Types.{Tables, offset_in, operation, placed}
+use Rattle.ctl_meaning.specs.Types.{Tables, cells_of, offset_in, operation, placed}
 use Rattle.ctl_meaning.specs.Names.{OfSubprogram, Call, Default, Tools}
 use Rattle.ctl_code.specs.declared.code.Beginning.{Beginning}
 use Rattle.ctl_code.specs.declared.code.Beginning.TheVariants.{ByDefault, ByCopy}
@@ -23,15 +24,16 @@ use Rattle.ctl_code.specs.Table.{defaulted_of, ended, enter_body, offset_of, ope
 use Rattle.ctl_code.specs.Steps.{moved, step}
 use Rattle.ctl_code.specs.Valid.{IsInScope, IsValid, kinds_at}
 use Rattle.ctl_code.specs.Windows.{depth}
-use Rattle.ctl_layout.specs.Records.{adjust_by, component_rows, is_flat, parts_by}
+use Rattle.ctl_layout.specs.Records.{adjust_by, is_laid, parts_by}
 use Rattle.ctl_layout.specs.Defaults.{defaulted_from}
 use Rattle.ctl_layout.specs.Run.{IsBody}
-use Rattle.ctl_gen.proofs.Worlds.{Each, IsWhole, Since, home}
+use Rattle.ctl_gen.proofs.Known.{IsLaid}
+use Rattle.ctl_gen.proofs.Worlds.{Each, HoldsNoCopy, Since, home}
 use Rattle.ctl_gen.proofs.Follow.{IsRaise, Runs, gives}
 
--- the first cells of scalar components are those of the tables
+-- the first cells of the components of types that are laid out are those of the tables
 abbrev pub ArePlaced : Tables → Code → Type 0
-ArePlaced k code = (t position : ℕ) → is_flat k.records t ≡ true → offset_of code t position ≡ offset_in position (placed k t)
+ArePlaced k code = (t position : ℕ) → is_laid k.records t ≡ true → offset_of code t position ≡ offset_in position (placed k t)
 
 -- the machine's table names the operations and the components of the record types, the operations and all that have an entry are among
 -- these subprograms, and the code is well formed
@@ -39,9 +41,9 @@ pub record Setting (k : Tables) (code : Code) : Type 0 where
   pub subprograms : List Subprogram
   pub valid : IsValid code
   pub places : ArePlaced k code
-  pub sizes : (t : ℕ) (cs : List Component) → slice_get (component_rows k.records) t ≡ Some cs → size_of code t ≡ length cs
+  pub sizes : (t : ℕ) → is_laid k.records t ≡ true → size_of code t ≡ cells_of k (Record t)
   pub parts : (t : ℕ) (r : RecordType) → slice_get k.records t ≡ Some r → parts_of code t ≡ parts_by r.root
-  pub defaults : (t : ℕ) (cs : List Component) → slice_get (component_rows k.records) t ≡ Some cs → defaulted_of code t ≡ defaulted_from 0 cs
+  pub defaults : (t : ℕ) (cs : List Component) → IsLaid k.records t cs → defaulted_of code t ≡ defaulted_from (cells_of k) 0 cs
   pub initialize : (t : ℕ) → operation_of (λ x. x.initialize) code t ≡ operation (λ x. x.initialize) k t
   pub adjust : (t : ℕ) (r : RecordType) → slice_get k.records t ≡ Some r → operation_of (λ x. x.adjust) code t ≡ adjust_by r.root r.operations.adjust
   pub finalize : (t : ℕ) → operation_of (λ x. x.finalize) code t ≡ operation (λ x. x.finalize) k t
@@ -92,7 +94,7 @@ Sure k code w0 y w = IsSure y × Since k code w0 w
 
 -- bodies behave, while at most this much is on the clock: from the state whose step enters the body, in so many masters as are around it
 pub record Calls (ask : Ask) (k : Tables) (code : Code) (setting : Setting k code) (bound : ℕ) (call : Call) : Type 0 where
-  pub runs : (f : ℕ) (s : Subprogram) → slice_get setting.subprograms f ≡ Some s → (w0 : World) (v : List ℕ) (actuals : List Slot) (ks : List Frame) (c : ℕ) (l : Log) (w : World) (s0 : State) → c ≤ bound → Since k code w0 w → IsInScope code (length v) (Some f) → Each IsWhole actuals → step ask code s0 ≡ moved l (enter_body (slice_get code.entries.items f) [] v actuals ks w) → Runs ask code (Told k code w0) 2 3 s0 c (returns ks) (call (OfSubprogram f actuals) v c l w)
+  pub runs : (f : ℕ) (s : Subprogram) → slice_get setting.subprograms f ≡ Some s → (w0 : World) (v : List ℕ) (actuals : List Slot) (ks : List Frame) (c : ℕ) (l : Log) (w : World) (s0 : State) → c ≤ bound → Since k code w0 w → IsInScope code (length v) (Some f) → Each HoldsNoCopy actuals → step ask code s0 ≡ moved l (enter_body (slice_get code.entries.items f) [] v actuals ks w) → Runs ask code (Told k code w0) 2 3 s0 c (returns ks) (call (OfSubprogram f actuals) v c l w)
 
 -- what is shown when a body is entered is shown before
 pub enter_shows : (x : Option Entry) (e : Event) (v : List ℕ) (actuals : List Slot) (k : List Frame) (l : Log) (w : World) → moved l (enter_body x (e ∷ []) v actuals k w) ≡ moved (tell e l) (enter_body x [] v actuals k w)

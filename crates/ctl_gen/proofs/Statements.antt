@@ -3,7 +3,6 @@ use Rattle.std.proofs.Common.{◌≡◌, ℕ, ◌+◌, ◌-◌, ◌<◌, ◌≤�
 use Rattle.std.specs.Prelude.{slice_get, replicate, ◌&&◌, if◌then◌else◌}
 use Rattle.ctl_program.specs.declared.types.Ty.{Ty}
 use Rattle.ctl_program.specs.declared.types.Ty.TheVariants.{Integer, Count, Boolean, Address, Handle, Access, Record}
-use Rattle.ctl_program.specs.declared.types.Var.{Var}
 use Rattle.ctl_program.specs.declared.expression.Expr.{Expr}
 use Rattle.ctl_program.specs.declared.statement.Item.{Item}
 use Rattle.ctl_program.specs.declared.statement.Item.TheVariants.{Collections, Object, Pool, Silent}
@@ -23,17 +22,18 @@ use Rattle.ctl_code.specs.declared.code.Instr.TheVariants as InstrOf
 use Rattle.ctl_code.specs.declared.code.Code.{Code}
 use Rattle.ctl_code.specs.declared.kinds.Kind.{Kind}
 use Rattle.ctl_code.specs.declared.kinds.Kind.TheVariants as KindOf
-use Rattle.ctl_code.specs.States.{After, AfterBlock, Point, Frame, State}
+use Rattle.ctl_code.specs.States.{Word, After, AfterBlock, Point, Frame, State}
 use Rattle.ctl_code.specs.Table.{behind as goes_behind, caught_in, on_at, transfers}
 use Rattle.ctl_code.specs.Steps.{moved, step}
 use Rattle.ctl_code.specs.Windows.{depth}
 use Rattle.ctl_layout.specs.Around.{Line, Landing, OutOfMaster, BeforeLoop, Around, behind, land, further as further_on}
+use Rattle.ctl_layout.specs.Parts.{Reached}
 use Rattle.ctl_layout.specs.Values.{ValueCode, copied, value_code}
 use Rattle.ctl_layout.specs.Layout.{ArmCode, ItemCode, MasterCode, StatementCode, all, all_items, arms_code, arms_run, arms_texts, block, block_code, branches, copy, in_master as in_new, inside, item_code, leaves_code, turn_code, valued, with_value}
 use Rattle.ctl_layout.specs.Defaults.{is_declared}
 use Rattle.ctl_gen.proofs.Known.{both_true, plain_if, scalar_if}
 use Rattle.ctl_gen.proofs.Place.{HasAt, has_front, has_back, Laid, laid_front, laid_back}
-use Rattle.ctl_gen.proofs.Worlds.{home, Each, IsWhole, whole_unset, Since, Kept, home_new, keeps_itself, keeps_on, keeps_open, fits_open}
+use Rattle.ctl_gen.proofs.Worlds.{home, Each, HoldsNoCopy, no_copy_unset, Since, Kept, home_new, keeps_itself, keeps_on, keeps_open, fits_open}
 use Rattle.ctl_gen.proofs.Setting.{Setting, tools_with, Sees, Told, Calls}
 use Rattle.ctl_gen.proofs.Defaults.{GivesDefaults}
 use Rattle.ctl_gen.proofs.Cells.{by_code}
@@ -66,7 +66,7 @@ unfolding opened_changes opened_ledger
 next_after env slots w = refl
 
 -- the instructions of a statement behind another one, from where control lands as before
-pub continues : (e : Landing) (n place : ℕ) (d : List ℕ) (q : ℕ) (ks : List Frame) (ops : List ℕ) (r : Result Done) (l : Log) (w : World) → arrives (target_of (further_on n e) (place + n)) d q ks ops r l w ≡ arrives (target_of e place) d q ks ops r l w
+pub continues : (e : Landing) (n place : ℕ) (d : List ℕ) (q : ℕ) (ks : List Frame) (ops : List Word) (r : Result Done) (l : Log) (w : World) → arrives (target_of (further_on n e) (place + n)) d q ks ops r l w ≡ arrives (target_of e place) d q ks ops r l w
 continues e n place d q ks ops r l w = ap (λ x. arrives x d q ks ops r l w) (landing_further e n place)
 
 -- what stands around the statements and handlers of a master: control that leaves them leaves it
@@ -82,7 +82,7 @@ module _ (ask : Ask) (k : Tables) (code : Code) (setting : Setting k code) (call
   K = tools_with ask k call default
 
   -- no instruction, and a tick or none
-  pub still_there : (t : ℕ) (e : Target) (w0 : World) (d : List ℕ) (place : ℕ) (ks : List Frame) (ops : List ℕ) (c : ℕ) (l : Log) (w : World) → Since k code w0 w → Runs ask code (Kept k code w0) 0 0 (at d place ks ops l w) c (arrives e d (place + 0) ks ops) (Gives (Goes tt) t c l w)
+  pub still_there : (t : ℕ) (e : Target) (w0 : World) (d : List ℕ) (place : ℕ) (ks : List Frame) (ops : List Word) (c : ℕ) (l : Log) (w : World) → Since k code w0 w → Runs ask code (Kept k code w0) 0 0 (at d place ks ops l w) c (arrives e d (place + 0) ks ops) (Gives (Goes tt) t c l w)
   still_there t e w0 d place ks ops c l w fits = let e1 : place ≡ place + 0 = omega arith in no_step ask code (Kept k code w0) 0 0 _ c t (arrives e d (place + 0) ks ops) (Goes tt) l w fits (ap (λ p. at d p ks ops l w) e1)
 
   -- two stretches, one behind the other
@@ -123,11 +123,12 @@ module _ (ask : Ask) (k : Tables) (code : Code) (setting : Setting k code) (call
       let h = both_true _ _ runs in
       valued_runs ask k code setting.valid bound call default slot ty (value_code e) (eval e K) (scalar_if ty h.0) (value_since ask k code setting.places call default e h.1)
 
-  copied_object : (slot t : ℕ) (e : Expr) (o : Option Var) → copied t (value_code e) ≡ o → (copy slot t o).runs k.records ≡ true → Does ask k code bound (λ a. (copy slot t o).code a.stack) (λ d caught. object slot (Record t) (Some (eval e)) K d (last_of d))
+  copied_object : (slot t : ℕ) (e : Expr) (o : Option Reached) → copied t (value_code e) ≡ o → (copy slot t o).runs k.records ≡ true → Does ask k code bound (λ a. (copy slot t o).code a.stack) (λ d caught. object slot (Record t) (Some (eval e)) K d (last_of d))
   copied_object slot t e None is runs = absurd (cc)
-  copied_object slot t e (Some v) is runs =
-      let known = plain_if k t runs in
-      copy_does ask k code setting call default constants t known.0 known.1 known.2 bound calls slot v e is
+  copied_object slot t e (Some x) is runs =
+      let h = both_true _ _ runs in
+      let known = plain_if k t h.0 in
+      copy_does ask k code setting call default constants t known.0 known.1 known.2 bound calls slot x e is h.1
 
   given_object : (slot : ℕ) (ty : Ty) (e : Expr) → (with_value slot ty (value_code e)).runs k.records ≡ true → Does ask k code bound (λ a. (with_value slot ty (value_code e)).code a.stack) (λ d caught. object slot ty (Some (eval e)) K d (last_of d))
   given_object slot (Record t) e runs = copied_object slot t e (copied t (value_code e)) refl runs
@@ -179,7 +180,7 @@ module _ (ask : Ask) (k : Tables) (code : Code) (setting : Setting k code) (call
   -- an arm, before what is done where it does not apply
   abbrev pub Guards : ArmCode → Guarding → Type 0
   Guards x m =
-      x.test.runs k.records ≡ true → x.body.runs k.records ≡ true → (n : ℕ) → HasAt code.texts.items n x.body.texts → (other : Act Done) (a : Around) (w0 : World) (d : List ℕ) (place place1 : ℕ) (ks : List Frame) (ops : List ℕ) (c : ℕ) (l : Log) (w : World) → c ≤ bound → Since k code w0 w → Sees d a.stack w0 →
+      x.test.runs k.records ≡ true → x.body.runs k.records ≡ true → (n : ℕ) → HasAt code.texts.items n x.body.texts → (other : Act Done) (a : Around) (w0 : World) (d : List ℕ) (place place1 : ℕ) (ks : List Frame) (ops : List Word) (c : ℕ) (l : Log) (w : World) → c ≤ bound → Since k code w0 w → Sees d a.stack w0 →
       Laid code place (turn_code x a n) → Ends ask k code bound d (place + length (turn_code x a n)) place1 ks ops →
       ((c1 : ℕ) (l1 : Log) (w1 : World) → c1 ≤ c → Since k code w0 w1 → Runs ask code (Kept k code w0) 0 0 (at d (place + length (turn_code x a n) + 1) ks ops l1 w1) c1 (arrives (lands a place) d place1 ks ops) (other c1 l1 w1)) →
       Runs ask code (Kept k code w0) 0 0 (at d place ks ops l w) c (arrives (lands a place) d place1 ks ops) (m K d (caught_in ks) other c l w)
@@ -195,7 +196,7 @@ module _ (ask : Ask) (k : Tables) (code : Code) (setting : Setting k code) (call
   EachGuards _ _ = ⊥
 
   -- further arms, behind the end of the first one: control lands from each as from where they begin
-  further_run : (arms : List ArmCode) (ms : List Guarding) → EachGuards arms ms → arms_run arms k.records ≡ true → (n : ℕ) → HasAt code.texts.items n (arms_texts arms) → (others : Around → List Line) (act : List ℕ → ℕ → Act Done) → Does ask k code bound others act → (back end place1 size : ℕ) (a : Around) (w0 : World) (d : List ℕ) (ks : List Frame) (ops : List ℕ) (c : ℕ) (l : Log) (w : World) → c ≤ bound → Since k code w0 w → Sees d a.stack w0 → slice_get code.instructions.items end ≡ Some (InstrOf.Skip size) → end + 1 + size ≡ place1 → Laid code (end + back) (arms_code back arms a n ++ others (behind (length (arms_code back arms a n)) a)) → end + back + length (arms_code back arms a n) + length (others (behind (length (arms_code back arms a n)) a)) ≡ place1 → Runs ask code (Kept k code w0) 0 0 (at d (end + back) ks ops l w) c (arrives (lands a (end + back)) d place1 ks ops) (do_first K d (caught_in ks) ms (act d (caught_in ks)) c l w)
+  further_run : (arms : List ArmCode) (ms : List Guarding) → EachGuards arms ms → arms_run arms k.records ≡ true → (n : ℕ) → HasAt code.texts.items n (arms_texts arms) → (others : Around → List Line) (act : List ℕ → ℕ → Act Done) → Does ask k code bound others act → (back end place1 size : ℕ) (a : Around) (w0 : World) (d : List ℕ) (ks : List Frame) (ops : List Word) (c : ℕ) (l : Log) (w : World) → c ≤ bound → Since k code w0 w → Sees d a.stack w0 → slice_get code.instructions.items end ≡ Some (InstrOf.Skip size) → end + 1 + size ≡ place1 → Laid code (end + back) (arms_code back arms a n ++ others (behind (length (arms_code back arms a n)) a)) → end + back + length (arms_code back arms a n) + length (others (behind (length (arms_code back arms a n)) a)) ≡ place1 → Runs ask code (Kept k code w0) 0 0 (at d (end + back) ks ops l w) c (arrives (lands a (end + back)) d place1 ks ops) (do_first K d (caught_in ks) ms (act d (caught_in ks)) c l w)
   unfolding do_first
   further_run [] [] each runs n texts others act does back end place1 size a w0 d ks ops c l w le fits sees here far has last =
       let e : end + back + length (others (behind 0 a)) ≡ place1 = omega (arith, last) in
@@ -325,14 +326,14 @@ module _ (ask : Ask) (k : Tables) (code : Code) (setting : Setting k code) (call
   -- a master, from the step that enters it
   abbrev pub Masters : StatementCode → Doing → Type 0
   Masters x m =
-      x.runs k.records ≡ true → (n : ℕ) → HasAt code.texts.items n x.texts → (caught : ℕ) (new : Kind) (s : List Kind) (w0 : World) (env : List ℕ) (slots : List Slot) (after : After) (ks : List Frame) (c0 c : ℕ) (l : Log) (w : World) (s0 : State) (place : ℕ) → c ≤ bound → c ≤ c0 → c0 ≤ c + 1 → Since k code w0 w → length env + 1 ≡ depth (new ∷ s) → Each IsWhole slots → Laid code place (x.code (in_new new s) n) →
+      x.runs k.records ≡ true → (n : ℕ) → HasAt code.texts.items n x.texts → (caught : ℕ) (new : Kind) (s : List Kind) (w0 : World) (env : List ℕ) (slots : List Slot) (after : After) (ks : List Frame) (c0 c : ℕ) (l : Log) (w : World) (s0 : State) (place : ℕ) → c ≤ bound → c ≤ c0 → c0 ≤ c + 1 → Since k code w0 w → length env + 1 ≡ depth (new ∷ s) → Each HoldsNoCopy slots → Laid code place (x.code (in_new new s) n) →
       step ask code s0 ≡ at (env ++ w.ledger.next_master ∷ []) place (in_frame w.ledger.next_master caught after ks) [] l (open_master env slots w) →
       Runs ask code (Told k code w0) 0 2 s0 c0 (leaves after ks) (in_master K env slots (λ inner. m K inner caught) c l w)
 
   -- its items come first
   pub master_runs : (items : List Item) (x : StatementCode) (m : Doing) → Closes x m → Masters (inside (all_items (map item_code items)) x) (λ j env caught. elaborate j env (last_of env) (map elaborate_item items) >> m j env caught)
   unfolding in_master opened_outcome
-  master_runs items x m closes runs n texts caught new s w0 env slots after ks c0 c l w s0 place le lo hi fits long whole has first =
+  master_runs items x m closes runs n texts caught new s w0 env slots after ks c0 c l w s0 place le lo hi fits long uncopied has first =
       let front : Comes ask code 1 s0 c0 0 c (at inner place frames [] l w2) (Unit {0}) = record { n = 1; falls = lo; enough = omega (arith, hi); in_time = omega arith; comes = first; fits = tt } in
       subst (λ o. Runs ask code (Told k code w0) 0 2 s0 c0 (leaves after ks) (add 0 o)) (sym (bind_bind (elaborate K inner (last_of inner) (map elaborate_item items) c l w2) (on_goes (λ _. m K inner caught)) (leave K master)))
       (both_from ask code (Kept k code w2) (Told k code w0) 1 0 0 1 2 0 s0 (at inner place frames [] l w2) c0 c 0 (arrives OutOf inner (place + length is) frames []) (leaves after ks) _ _ (omega arith) (omega arith) front
@@ -360,7 +361,7 @@ module _ (ask : Ask) (k : Tables) (code : Code) (setting : Setting k code) (call
       js = x.code (in_new new s) n
 
       fits2 : Since k code (open_master env slots w) (open_master env slots w)
-      fits2 = (fits_open k code env slots w whole fits.0, keeps_itself k code w2)
+      fits2 = (fits_open k code env slots w uncopied fits.0, keeps_itself k code w2)
 
       next : (open_master env slots w).ledger.next_master ≡ w.ledger.next_master + 1
       next = next_after env slots w
@@ -399,7 +400,7 @@ module _ (ask : Ask) (k : Tables) (code : Code) (setting : Setting k code) (call
     pub inside : Masters x.inside b.inside
 
   -- a block's result goes on behind it: to the landing by the instruction that leads there
-  behind_block : (e : Landing) (n : ℕ) (w0 : World) (d : List ℕ) (place q : ℕ) (ks : List Frame) (ops : List ℕ) → q ≡ place + n → slice_get code.instructions.items q ≡ Some (land (further_on n e)) → (r : Result Left) (c : ℕ) (l : Log) (w : World) → Told k code w0 (way_of r) w → Runs ask code (Kept k code w0) 1 1 (leaves (AfterBlock (record { display = d; place = q; operands = ops })) ks r l w) c (arrives (target_of e place) d (q + 1) ks ops) (on_goes (λ (x : Left). given x.result) r c l w)
+  behind_block : (e : Landing) (n : ℕ) (w0 : World) (d : List ℕ) (place q : ℕ) (ks : List Frame) (ops : List Word) → q ≡ place + n → slice_get code.instructions.items q ≡ Some (land (further_on n e)) → (r : Result Left) (c : ℕ) (l : Log) (w : World) → Told k code w0 (way_of r) w → Runs ask code (Kept k code w0) 1 1 (leaves (AfterBlock (record { display = d; place = q; operands = ops })) ks r l w) c (arrives (target_of e place) d (q + 1) ks ops) (on_goes (λ (x : Left). given x.result) r c l w)
   unfolding opened_outcome
   behind_block e n w0 d place q ks ops is here (Leaves y) c l w fits =
       by_raise (λ v. Runs ask code (Kept k code w0) 1 1 (leaves (AfterBlock (record { display = d; place = q; operands = ops })) ks (Leaves v) l w) c (arrives (target_of e place) d (q + 1) ks ops) (Gives (Leaves v) 0 c l w))
@@ -429,6 +430,6 @@ module _ (ask : Ask) (k : Tables) (code : Code) (setting : Setting k code) (call
       added ask code (Kept k code w0) 1 1 2 0 0 _ c _ _ (omega arith) (omega arith)
       (arriving ask code (Kept k code w0) 1 2 _ c _ _ _ (λ r l1 w1. ap (λ z. arrives (lands a place) d z ks ops r l1 w1) e)
       (both ask code (Told k code w0) (Kept k code w0) 0 2 1 1 1 2 _ c (leaves (AfterBlock p) ks) (arrives (lands a place) d (q + 1) ks ops) _ (on_goes (λ (y : Left). given y.result)) (omega arith) (omega arith) (omega arith)
-      (mastered.inside runs n texts (caught_in ks) (KindOf.Block x.slots) a.stack w0 d (replicate b.slots unset) (AfterBlock p) ks c c l w (at d place ks ops l w) (place + 1) le (omega arith) (omega arith) fits (ap (λ z. z + 1) sees.long) (whole_unset b.slots) (laid_front code (place + 1) inner out has.2)
+      (mastered.inside runs n texts (caught_in ks) (KindOf.Block x.slots) a.stack w0 d (replicate b.slots unset) (AfterBlock p) ks c c l w (at d place ks ops l w) (place + 1) le (omega arith) (omega arith) fits (ap (λ z. z + 1) sees.long) (no_copy_unset b.slots) (laid_front code (place + 1) inner out has.2)
       (by_code ask code d place ks ops l w (InstrOf.Enter x.slots (length inner)) has.0 ∙ ap (λ j. at (d ++ w.ledger.next_master ∷ []) (place + 1) (in_frame w.ledger.next_master (caught_in ks) (AfterBlock p) ks) [] l (open_master d (replicate j unset) w)) mastered.slots))
       (λ r c1 l1 w1 lo fits1. behind_block a.landing (length inner + 1) w0 d place q ks ops at_end (laid_back code (place + 1) inner out has.2).0 r c1 l1 w1 fits1)))

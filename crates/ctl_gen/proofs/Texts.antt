@@ -20,7 +20,7 @@ use Rattle.ctl_code.specs.declared.template.TextPart.{TextPart}
 use Rattle.ctl_code.specs.declared.template.TextPart.TheVariants.{Literal, IntegerImage, BooleanImage}
 use Rattle.ctl_code.specs.declared.code.Instr.TheVariants as InstrOf
 use Rattle.ctl_code.specs.declared.code.Code.{Code}
-use Rattle.ctl_code.specs.States.{At, Frame, State}
+use Rattle.ctl_code.specs.States.{Word, Scalar, cells_of, At, Frame, State}
 use Rattle.ctl_code.specs.Table.{images_in, text_of, showing, by_text}
 use Rattle.ctl_code.specs.Steps.{moved}
 use Rattle.ctl_program.specs.declared.types.Ty.{Ty}
@@ -61,11 +61,16 @@ text_both (IntegerImage ∷ a) b (x ∷ xs) ys e = ap (λ u. integer_image x ++ 
 text_both (BooleanImage ∷ a) b [] ys e = absurd (omega (arith, e))
 text_both (BooleanImage ∷ a) b (x ∷ xs) ys e = ap (λ u. boolean_image x ++ u) (text_both a b xs ys (omega (arith, e))) ∙ sym (append_assoc (boolean_image x) (text_of a xs) (text_of b ys))
 
-take_front : (xs ops : List ℕ) → take (length xs) (xs ++ ops) ≡ xs
+-- these values as operands
+abbrev operands : List ℕ → List Word
+operands [] = []
+operands (x ∷ xs) = Scalar x ∷ operands xs
+
+take_front : (xs : List ℕ) (ops : List Word) → cells_of (take (length xs) (operands xs ++ ops)) ≡ xs
 take_front [] ops = refl
 take_front (x ∷ xs) ops = ap (λ ys. x ∷ ys) (take_front xs ops)
 
-drop_front : (xs ops : List ℕ) → drop (length xs) (xs ++ ops) ≡ ops
+drop_front : (xs : List ℕ) (ops : List Word) → drop (length xs) (operands xs ++ ops) ≡ ops
 drop_front [] ops = refl
 drop_front (x ∷ xs) ops = drop_front xs ops
 
@@ -111,7 +116,7 @@ module _ (ask : Ask) (k : Tables) (code : Code) (placed : ArePlaced k code) (cal
   piece_depth (PieceOf.BooleanImage e) s = refl
 
   -- the image of a value, and what follows it
-  image_runs : (e : Expr) (ty : Ty) (image : ℕ → List ℕ) → (value_code e).runs k.records ≡ true → (f : Result (List ℕ) → Act Done) (s : List Kind) (w0 : World) (d : List ℕ) (place : ℕ) (ks : List Frame) (ops : List ℕ) (c : ℕ) (l : Log) (w : World) (next : Result Done → Log → World → State) → Since k code w0 w → length d ≡ depth s → Laid code place ((value_code e).code (new_operand s) ty s) → ((y c1 : ℕ) (l1 : Log) (w1 : World) → c1 ≤ c → Since k code w0 w1 → Runs ask code (Kept k code w0) 1 1 (transferred (ByRaise y) ks l1 w1) c1 next (f (Leaves (ByRaise y)) c1 l1 w1)) → ((n c1 : ℕ) (l1 : Log) (w1 : World) → c1 ≤ c → Since k code w0 w1 → Runs ask code (Kept k code w0) 1 1 (at d (place + length ((value_code e).code (new_operand s) ty s)) ks (n ∷ ops) l1 w1) c1 next (f (Goes (image n)) c1 l1 w1)) → Runs ask code (Kept k code w0) 1 1 (at d place ks ops l w) c next (bind (ticked (eval e K d >>= (λ x. done (image (scalar_of x)))) c l w) f)
+  image_runs : (e : Expr) (ty : Ty) (image : ℕ → List ℕ) → (value_code e).runs k.records ≡ true → (f : Result (List ℕ) → Act Done) (s : List Kind) (w0 : World) (d : List ℕ) (place : ℕ) (ks : List Frame) (ops : List Word) (c : ℕ) (l : Log) (w : World) (next : Result Done → Log → World → State) → Since k code w0 w → length d ≡ depth s → Laid code place ((value_code e).code (new_operand s) ty s) → ((y c1 : ℕ) (l1 : Log) (w1 : World) → c1 ≤ c → Since k code w0 w1 → Runs ask code (Kept k code w0) 1 1 (transferred (ByRaise y) ks l1 w1) c1 next (f (Leaves (ByRaise y)) c1 l1 w1)) → ((n c1 : ℕ) (l1 : Log) (w1 : World) → c1 ≤ c → Since k code w0 w1 → Runs ask code (Kept k code w0) 1 1 (at d (place + length ((value_code e).code (new_operand s) ty s)) ks (Scalar n ∷ ops) l1 w1) c1 next (f (Goes (image n)) c1 l1 w1)) → Runs ask code (Kept k code w0) 1 1 (at d place ks ops l w) c next (bind (ticked (eval e K d >>= (λ x. done (image (scalar_of x)))) c l w) f)
   unfolding opened_outcome scalar_of opened_lists
   image_runs e ty image known f s w0 d place ks ops c l w next fits long has leaves more =
       let value = value_since ask k code placed call default e known w0 in
@@ -119,43 +124,43 @@ module _ (ask : Ask) (k : Tables) (code : Code) (placed : ArePlaced k code) (cal
       (added ask code (Kept k code w0) 1 1 1 1 1 _ c next _ (omega arith) (omega arith)
       (both_cell ask code (Kept k code w0) Any 0 0 1 1 1 1 _ c (landed Operand d (place + length ((value_code e).code (new_operand s) ty s)) ks ops) next (eval e K d c l w) _ (omega arith) (omega arith) (omega arith) (value.cell d c l w)
       (value_runs ask k code (Since k code w0) (value_code e) (eval e K) value (new_operand s) ty s d place ks ops c l w fits long has)
-      (λ n c1 l1 w1 lo fits1 p. added ask code (Kept k code w0) 0 1 1 1 1 (at d (place + length ((value_code e).code (new_operand s) ty s)) ks (n ∷ ops) l1 w1) c1 next (f (Goes (image n)) c1 l1 w1) (omega arith) (omega arith) (more n c1 l1 w1 lo fits1))
+      (λ n c1 l1 w1 lo fits1 p. added ask code (Kept k code w0) 0 1 1 1 1 (at d (place + length ((value_code e).code (new_operand s) ty s)) ks (Scalar n ∷ ops) l1 w1) c1 next (f (Goes (image n)) c1 l1 w1) (omega arith) (omega arith) (more n c1 l1 w1 lo fits1))
       (λ y c1 l1 w1 lo fits1. added ask code (Kept k code w0) 0 1 1 1 1 (transferred (ByRaise y) ks l1 w1) c1 next (f (Leaves (ByRaise y)) c1 l1 w1) (omega arith) (omega arith) (leaves y c1 l1 w1 lo fits1))))
 
   -- a piece, and what follows it
-  piece_runs : (p : Piece) → piece_is_run k.records p ≡ true → (qs : List TextPart) (rs u : List ℕ) → Holds qs rs u → (f : Result (List ℕ) → Act Done) (s : List Kind) (w0 : World) (d : List ℕ) (place : ℕ) (ks : List Frame) (ops : List ℕ) (c : ℕ) (l : Log) (w : World) (next : Result Done → Log → World → State) → Since k code w0 w → length d ≡ depth s → Laid code place (piece_code p s) → ((y c1 : ℕ) (l1 : Log) (w1 : World) → c1 ≤ c → Since k code w0 w1 → Runs ask code (Kept k code w0) 1 1 (transferred (ByRaise y) ks l1 w1) c1 next (f (Leaves (ByRaise y)) c1 l1 w1)) → ((rs1 x : List ℕ) (c1 : ℕ) (l1 : Log) (w1 : World) → c1 ≤ c → Since k code w0 w1 → Holds (qs ++ part_of p ∷ []) rs1 (u ++ x) → Runs ask code (Kept k code w0) 1 1 (at d (place + length (piece_code p s)) ks (rs1 ++ ops) l1 w1) c1 next (f (Goes x) c1 l1 w1)) → Runs ask code (Kept k code w0) 1 1 (at d place ks (rs ++ ops) l w) c next (bind (eval_piece p K d c l w) f)
+  piece_runs : (p : Piece) → piece_is_run k.records p ≡ true → (qs : List TextPart) (rs u : List ℕ) → Holds qs rs u → (f : Result (List ℕ) → Act Done) (s : List Kind) (w0 : World) (d : List ℕ) (place : ℕ) (ks : List Frame) (ops : List Word) (c : ℕ) (l : Log) (w : World) (next : Result Done → Log → World → State) → Since k code w0 w → length d ≡ depth s → Laid code place (piece_code p s) → ((y c1 : ℕ) (l1 : Log) (w1 : World) → c1 ≤ c → Since k code w0 w1 → Runs ask code (Kept k code w0) 1 1 (transferred (ByRaise y) ks l1 w1) c1 next (f (Leaves (ByRaise y)) c1 l1 w1)) → ((rs1 x : List ℕ) (c1 : ℕ) (l1 : Log) (w1 : World) → c1 ≤ c → Since k code w0 w1 → Holds (qs ++ part_of p ∷ []) rs1 (u ++ x) → Runs ask code (Kept k code w0) 1 1 (at d (place + length (piece_code p s)) ks (operands rs1 ++ ops) l1 w1) c1 next (f (Goes x) c1 l1 w1)) → Runs ask code (Kept k code w0) 1 1 (at d place ks (operands rs ++ ops) l w) c next (bind (eval_piece p K d c l w) f)
   unfolding literal integer_text boolean_text opened_outcome
   piece_runs (PieceOf.Text t) known qs rs u holds f s w0 d place ks ops c l w next fits long has leaves more =
       let e : place + 0 ≡ place = omega arith in
       added ask code (Kept k code w0) 1 1 1 1 1 _ c next _ (omega arith) (omega arith)
-      (subst (λ p. Runs ask code (Kept k code w0) 1 1 (at d p ks (rs ++ ops) l w) c next (f (Goes t) c l w)) e (more rs t c l w (omega arith) fits (hold_literal qs rs u t holds)))
+      (subst (λ p. Runs ask code (Kept k code w0) 1 1 (at d p ks (operands rs ++ ops) l w) c next (f (Goes t) c l w)) e (more rs t c l w (omega arith) fits (hold_literal qs rs u t holds)))
   piece_runs (PieceOf.IntegerImage e) known qs rs u holds f s w0 d place ks ops c l w next fits long has leaves more =
-      image_runs e Integer integer_image known f s w0 d place ks (rs ++ ops) c l w next fits long has leaves (λ n c1 l1 w1 lo fits1. more (n ∷ rs) (integer_image n) c1 l1 w1 lo fits1 (hold_integer qs rs u n holds))
+      image_runs e Integer integer_image known f s w0 d place ks (operands rs ++ ops) c l w next fits long has leaves (λ n c1 l1 w1 lo fits1. more (n ∷ rs) (integer_image n) c1 l1 w1 lo fits1 (hold_integer qs rs u n holds))
   piece_runs (PieceOf.BooleanImage e) known qs rs u holds f s w0 d place ks ops c l w next fits long has leaves more =
-      image_runs e Boolean boolean_image known f s w0 d place ks (rs ++ ops) c l w next fits long has leaves (λ n c1 l1 w1 lo fits1. more (n ∷ rs) (boolean_image n) c1 l1 w1 lo fits1 (hold_boolean qs rs u n holds))
+      image_runs e Boolean boolean_image known f s w0 d place ks (operands rs ++ ops) c l w next fits long has leaves (λ n c1 l1 w1 lo fits1. more (n ∷ rs) (boolean_image n) c1 l1 w1 lo fits1 (hold_boolean qs rs u n holds))
 
   -- the text that is printed, and the operands that are left
-  shown : {X : Type 0} (full : List TextPart) (rs u ops : List ℕ) → Holds full rs u → (f : List ℕ → List ℕ → X) → f (text_of full (reverse (take (images_in full) (rs ++ ops)))) (drop (images_in full) (rs ++ ops)) ≡ f u ops
+  shown : {X : Type 0} (full : List TextPart) (rs u : List ℕ) (ops : List Word) → Holds full rs u → (f : List ℕ → List Word → X) → f (text_of full (reverse (cells_of (take (images_in full) (operands rs ++ ops))))) (drop (images_in full) (operands rs ++ ops)) ≡ f u ops
   shown full rs u ops holds f =
-      ap (λ m. f (text_of full (reverse (take m (rs ++ ops)))) (drop m (rs ++ ops))) holds.count
-      ∙ ap (λ xs. f (text_of full (reverse xs)) (drop (length rs) (rs ++ ops))) (take_front rs ops)
+      ap (λ m. f (text_of full (reverse (cells_of (take m (operands rs ++ ops))))) (drop m (operands rs ++ ops))) holds.count
+      ∙ ap (λ xs. f (text_of full (reverse xs)) (drop (length rs) (operands rs ++ ops))) (take_front rs ops)
       ∙ ap (λ os. f (text_of full (reverse rs)) os) (drop_front rs ops)
       ∙ ap (λ t. f t ops) holds.text
 
   -- the instruction that prints
-  put_runs : (ends_line : Bool) (n first : ℕ) (t : List Kind) (full : List TextPart) → HasAt code.texts.items n (full ∷ []) → (rs u : List ℕ) → Holds full rs u → (e : Target) (w0 : World) (d : List ℕ) (place : ℕ) (ks : List Frame) (ops : List ℕ) (c : ℕ) (l : Log) (w : World) → Since k code w0 w → Laid code place ((print_of ends_line n first, t) ∷ []) → Runs ask code (Kept k code w0) 1 1 (at d place ks (rs ++ ops) l w) c (arrives e d (place + 1) ks ops) (printed ends_line u c l w)
+  put_runs : (ends_line : Bool) (n first : ℕ) (t : List Kind) (full : List TextPart) → HasAt code.texts.items n (full ∷ []) → (rs u : List ℕ) → Holds full rs u → (e : Target) (w0 : World) (d : List ℕ) (place : ℕ) (ks : List Frame) (ops : List Word) (c : ℕ) (l : Log) (w : World) → Since k code w0 w → Laid code place ((print_of ends_line n first, t) ∷ []) → Runs ask code (Kept k code w0) 1 1 (at d place ks (operands rs ++ ops) l w) c (arrives e d (place + 1) ks ops) (printed ends_line u c l w)
   unfolding opened_outcome
   put_runs true n first t full texts rs u holds e w0 d place ks ops c l w fits has =
-      last_step ask code (Kept k code w0) 1 1 _ c 0 (arrives e d (place + 1) ks ops) (Goes tt) _ w (omega arith) fits (by_code ask code d place ks (rs ++ ops) l w (InstrOf.PutLine n first) has.0 ∙ ap (λ x. moved l (by_text x (Newline ∷ []) (rs ++ ops) (here d place ks w))) texts.0 ∙ shown full rs u ops holds (λ v os. moved l (showing (Print v ∷ Newline ∷ []) (At d (place + 1)) ks os w)))
+      last_step ask code (Kept k code w0) 1 1 _ c 0 (arrives e d (place + 1) ks ops) (Goes tt) _ w (omega arith) fits (by_code ask code d place ks (operands rs ++ ops) l w (InstrOf.PutLine n first) has.0 ∙ ap (λ x. moved l (by_text x (Newline ∷ []) (operands rs ++ ops) (here d place ks w))) texts.0 ∙ shown full rs u ops holds (λ v os. moved l (showing (Print v ∷ Newline ∷ []) (At d (place + 1)) ks os w)))
   put_runs false n first t full texts rs u holds e w0 d place ks ops c l w fits has =
-      last_step ask code (Kept k code w0) 1 1 _ c 0 (arrives e d (place + 1) ks ops) (Goes tt) _ w (omega arith) fits (by_code ask code d place ks (rs ++ ops) l w (InstrOf.Put n first) has.0 ∙ ap (λ x. moved l (by_text x [] (rs ++ ops) (here d place ks w))) texts.0 ∙ shown full rs u ops holds (λ v os. moved l (showing (Print v ∷ []) (At d (place + 1)) ks os w)))
+      last_step ask code (Kept k code w0) 1 1 _ c 0 (arrives e d (place + 1) ks ops) (Goes tt) _ w (omega arith) fits (by_code ask code d place ks (operands rs ++ ops) l w (InstrOf.Put n first) has.0 ∙ ap (λ x. moved l (by_text x [] (operands rs ++ ops) (here d place ks w))) texts.0 ∙ shown full rs u ops holds (λ v os. moved l (showing (Print v ∷ []) (At d (place + 1)) ks os w)))
 
   -- the pieces that are left, and the instruction that prints
   abbrev printing : Bool → ℕ → ℕ → List Kind → List Piece → List Kind → List Line
   printing b n first t ps s = pieces_code ps s ++ (print_of b n first, t) ∷ []
 
   -- the rest of the pieces
-  join_runs : (b : Bool) (n first : ℕ) (t : List Kind) (full : List TextPart) → HasAt code.texts.items n (full ∷ []) → (ps : List Piece) → pieces_are_run k.records ps ≡ true → (qs : List TextPart) (rs u : List ℕ) → Holds qs rs u → qs ++ parts_of ps ≡ full → (s : List Kind) (e : Target) (w0 : World) (d : List ℕ) (place : ℕ) (ks : List Frame) (ops : List ℕ) (c : ℕ) (l : Log) (w : World) → Since k code w0 w → length d ≡ depth s → Laid code place (printing b n first t ps s) → Runs ask code (Kept k code w0) 1 1 (at d place ks (rs ++ ops) l w) c (arrives e d (place + length (printing b n first t ps s)) ks ops) (bind (join_pieces K d (map eval_piece ps) u c l w) (on_goes (printed b)))
+  join_runs : (b : Bool) (n first : ℕ) (t : List Kind) (full : List TextPart) → HasAt code.texts.items n (full ∷ []) → (ps : List Piece) → pieces_are_run k.records ps ≡ true → (qs : List TextPart) (rs u : List ℕ) → Holds qs rs u → qs ++ parts_of ps ≡ full → (s : List Kind) (e : Target) (w0 : World) (d : List ℕ) (place : ℕ) (ks : List Frame) (ops : List Word) (c : ℕ) (l : Log) (w : World) → Since k code w0 w → length d ≡ depth s → Laid code place (printing b n first t ps s) → Runs ask code (Kept k code w0) 1 1 (at d place ks (operands rs ++ ops) l w) c (arrives e d (place + length (printing b n first t ps s)) ks ops) (bind (join_pieces K d (map eval_piece ps) u c l w) (on_goes (printed b)))
   unfolding join_pieces opened_outcome
   join_runs b n first t full texts [] known qs rs u holds same s e w0 d place ks ops c l w fits long has =
       added ask code (Kept k code w0) 0 1 1 1 1 _ c _ _ (omega arith) (omega arith)
@@ -165,11 +170,11 @@ module _ (ask : Ask) (k : Tables) (code : Code) (placed : ArePlaced k code) (cal
       let flat : printing b n first t (p ∷ ps) s ≡ piece_code p s ++ is = append_assoc (piece_code p s) (pieces_code ps (with_piece p s)) ((print_of b n first, t) ∷ []) in
       let far : place + length (piece_code p s) + length is ≡ place + length (printing b n first t (p ∷ ps) s) = omega (arith, ap length flat, length-append (piece_code p s) is) in
       let has1 = subst (Laid code place) flat has in
-      subst (λ o. Runs ask code (Kept k code w0) 1 1 (at d place ks (rs ++ ops) l w) c (arrives e d (place + length (printing b n first t (p ∷ ps) s)) ks ops) o) (sym (bind_bind (add 1 (eval_piece p K d c l w)) (on_goes (λ x. join_pieces K d (map eval_piece ps) (u ++ x))) (on_goes (printed b)) ∙ bind_add 1 (eval_piece p K d c l w) _))
+      subst (λ o. Runs ask code (Kept k code w0) 1 1 (at d place ks (operands rs ++ ops) l w) c (arrives e d (place + length (printing b n first t (p ∷ ps) s)) ks ops) o) (sym (bind_bind (add 1 (eval_piece p K d c l w)) (on_goes (λ x. join_pieces K d (map eval_piece ps) (u ++ x))) (on_goes (printed b)) ∙ bind_add 1 (eval_piece p K d c l w) _))
       (added ask code (Kept k code w0) 1 1 1 1 1 _ c _ _ (omega arith) (omega arith)
       (piece_runs p (both_true _ _ known).0 qs rs u holds (λ r c1 l1 w1. bind (on_goes (λ x. join_pieces K d (map eval_piece ps) (u ++ x)) r c1 l1 w1) (on_goes (printed b))) s w0 d place ks ops c l w (arrives e d (place + length (printing b n first t (p ∷ ps) s)) ks ops) fits long (laid_front code place (piece_code p s) is has1)
       (λ y c1 l1 w1 lo fits1. no_step ask code (Kept k code w0) 1 1 (transferred (ByRaise y) ks l1 w1) c1 0 (arrives e d (place + length (printing b n first t (p ∷ ps) s)) ks ops) (Leaves (ByRaise y)) l1 w1 fits1 refl)
-      (λ rs1 x c1 l1 w1 lo fits1 holds1. subst (λ q. Runs ask code (Kept k code w0) 1 1 (at d (place + length (piece_code p s)) ks (rs1 ++ ops) l1 w1) c1 (arrives e d q ks ops) (bind (join_pieces K d (map eval_piece ps) (u ++ x) c1 l1 w1) (on_goes (printed b)))) far
+      (λ rs1 x c1 l1 w1 lo fits1 holds1. subst (λ q. Runs ask code (Kept k code w0) 1 1 (at d (place + length (piece_code p s)) ks (operands rs1 ++ ops) l1 w1) c1 (arrives e d q ks ops) (bind (join_pieces K d (map eval_piece ps) (u ++ x) c1 l1 w1) (on_goes (printed b)))) far
       (join_runs b n first t full texts ps (both_true _ _ known).1 (qs ++ part_of p ∷ []) rs1 (u ++ x) holds1 (append_assoc qs (part_of p ∷ []) (parts_of ps) ∙ same) (with_piece p s) e w0 d (place + length (piece_code p s)) ks ops c1 l1 w1 fits1 (long ∙ sym (piece_depth p s)) (laid_back code place (piece_code p s) is has1)))))
 
   -- the pieces in turn, and then the text
@@ -191,5 +196,5 @@ module _ (ask : Ask) (k : Tables) (code : Code) (placed : ArePlaced k code) (cal
       (subst (λ o. Runs ask code (Kept k code w0) 1 1 (at d place ks ops l w) c (arrives e d (place + length (printing b n first t (p ∷ ps) s)) ks ops) o) (sym (bind_bind (eval_piece p K d c l w) (on_goes (λ x. join_pieces K d (map eval_piece ps) x)) (on_goes (printed b))))
       (piece_runs p (both_true _ _ known).0 [] [] [] (record { count = refl; text = refl }) (λ r c1 l1 w1. bind (on_goes (λ x. join_pieces K d (map eval_piece ps) x) r c1 l1 w1) (on_goes (printed b))) s w0 d place ks ops c l w (arrives e d (place + length (printing b n first t (p ∷ ps) s)) ks ops) fits sees.long (laid_front code place (piece_code p s) is has1)
       (λ y c1 l1 w1 lo fits1. no_step ask code (Kept k code w0) 1 1 (transferred (ByRaise y) ks l1 w1) c1 0 (arrives e d (place + length (printing b n first t (p ∷ ps) s)) ks ops) (Leaves (ByRaise y)) l1 w1 fits1 refl)
-      (λ rs1 x c1 l1 w1 lo fits1 holds1. subst (λ q. Runs ask code (Kept k code w0) 1 1 (at d (place + length (piece_code p s)) ks (rs1 ++ ops) l1 w1) c1 (arrives e d q ks ops) (bind (join_pieces K d (map eval_piece ps) x c1 l1 w1) (on_goes (printed b)))) far
+      (λ rs1 x c1 l1 w1 lo fits1 holds1. subst (λ q. Runs ask code (Kept k code w0) 1 1 (at d (place + length (piece_code p s)) ks (operands rs1 ++ ops) l1 w1) c1 (arrives e d q ks ops) (bind (join_pieces K d (map eval_piece ps) x c1 l1 w1) (on_goes (printed b)))) far
       (join_runs b n first t (parts_of (p ∷ ps)) texts ps (both_true _ _ known).1 (part_of p ∷ []) rs1 x holds1 refl (with_piece p s) e w0 d (place + length (piece_code p s)) ks ops c1 l1 w1 fits1 (sees.long ∙ sym (piece_depth p s)) (laid_back code place (piece_code p s) is has1)))))

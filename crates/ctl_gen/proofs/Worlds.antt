@@ -7,7 +7,7 @@ use Rattle.std.proofs.lemmas.Bool.{eqb-true, eqb-false, eq-eqb, ne_eqb}
 use Rattle.ctl_program.specs.declared.types.Ty.{Ty}
 use Rattle.ctl_program.specs.declared.types.Ty.TheVariants.{Record}
 use Rattle.ctl_meaning.specs.Types.{Tables}
-use Rattle.ctl_meaning.specs.World.{Finalized, Origin, Declared, Allocated, Object, Layer, Single, Sets, Master, Content, Nothing, Holds, Binds, Copies, Gathers, holding, Slot, unset, Activation, World, opened_world, empty_world}
+use Rattle.ctl_meaning.specs.World.{Finalized, Origin, Declared, Allocated, Object, Layer, Single, Sets, Master, Content, Holds, Copies, holding, Slot, unset, Activation, World, opened_world, empty_world}
 use Rattle.ctl_meaning.specs.Lists.{first_with, change_each, keep, item_or, opened_lists}
 use Rattle.ctl_meaning.specs.Ledger.{with_layer, without_newest, layers_in, layers_of, opened_ledger}
 use Rattle.ctl_meaning.specs.Activations.{with_slot, slots_in, display_in, activation_at, slot_in, opened_activations}
@@ -107,43 +107,39 @@ home_kept n m e (a ∷ as') = one (nat_eq a.master m) refl (home_kept n m e as')
 
 -- Slots -----------------------------------------------------------------------------------------------
 
--- no record is copied, and a formal stands for a whole object
-abbrev pub HoldsWhole : Content → Type 0
-HoldsWhole Nothing = Unit {0}
-HoldsWhole (Holds n) = Unit {0}
-HoldsWhole (Binds n zero []) = Unit {0}
-HoldsWhole (Binds n i p) = ⊥
-HoldsWhole (Copies v) = ⊥
-HoldsWhole (Gathers n) = Unit {0}
+-- no record is copied
+abbrev pub IsNoCopy : Content → Type 0
+IsNoCopy (Copies v) = ⊥
+IsNoCopy _ = Unit {0}
 
-abbrev pub IsWhole : Slot → Type 0
-IsWhole s = HoldsWhole s.content
+abbrev pub HoldsNoCopy : Slot → Type 0
+HoldsNoCopy s = IsNoCopy s.content
 
-abbrev pub AreWhole : Activation → Type 0
-AreWhole a = Each IsWhole a.slots
+abbrev pub HoldNoCopies : Activation → Type 0
+HoldNoCopies a = Each HoldsNoCopy a.slots
 
-whole_set : (xs : List Slot) (i : ℕ) (x : Slot) → IsWhole x → Each IsWhole xs → Each IsWhole (slice_set xs i x)
-whole_set [] i x known h = tt
-whole_set (y ∷ xs) zero x known h = (known, h.1)
-whole_set (y ∷ xs) (suc i) x known h = (h.0, whole_set xs i x known h.1)
+no_copy_set : (xs : List Slot) (i : ℕ) (x : Slot) → HoldsNoCopy x → Each HoldsNoCopy xs → Each HoldsNoCopy (slice_set xs i x)
+no_copy_set [] i x known h = tt
+no_copy_set (y ∷ xs) zero x known h = (known, h.1)
+no_copy_set (y ∷ xs) (suc i) x known h = (h.0, no_copy_set xs i x known h.1)
 
-pub whole_unset : (n : ℕ) → Each IsWhole (replicate n unset)
-whole_unset zero = tt
-whole_unset (suc n) = (tt, whole_unset n)
+pub no_copy_unset : (n : ℕ) → Each HoldsNoCopy (replicate n unset)
+no_copy_unset zero = tt
+no_copy_unset (suc n) = (tt, no_copy_unset n)
 
-whole_get : (xs : List Slot) (i : ℕ) → Each IsWhole xs → IsWhole (item_or unset (slice_get xs i))
+no_copy_get : (xs : List Slot) (i : ℕ) → Each HoldsNoCopy xs → HoldsNoCopy (item_or unset (slice_get xs i))
 unfolding opened_lists
-whole_get [] i h = tt
-whole_get (x ∷ xs) zero h = h.0
-whole_get (x ∷ xs) (suc i) h = whole_get xs i h.1
+no_copy_get [] i h = tt
+no_copy_get (x ∷ xs) zero h = h.0
+no_copy_get (x ∷ xs) (suc i) h = no_copy_get xs i h.1
 
-whole_in : (n i : ℕ) (as' : List Activation) → Each AreWhole as' → IsWhole (item_or unset (slice_get (slots_in (first_with (λ a. nat_eq a.master n) as')) i))
+no_copy_in : (n i : ℕ) (as' : List Activation) → Each HoldNoCopies as' → HoldsNoCopy (item_or unset (slice_get (slots_in (first_with (λ a. nat_eq a.master n) as')) i))
 unfolding slots_in
-whole_in n i as' h = by (first_with (λ a. nat_eq a.master n) as') (each_found AreWhole (λ a. nat_eq a.master n) as' h)
+no_copy_in n i as' h = by (first_with (λ a. nat_eq a.master n) as') (each_found HoldNoCopies (λ a. nat_eq a.master n) as' h)
   where
-    by : (o : Option Activation) → IfFound AreWhole o → IsWhole (item_or unset (slice_get (slots_in o) i))
-    by None h1 = whole_get [] i tt
-    by (Some a) h1 = whole_get a.slots i h1
+    by : (o : Option Activation) → IfFound HoldNoCopies o → HoldsNoCopy (item_or unset (slice_get (slots_in o) i))
+    by None h1 = no_copy_get [] i tt
+    by (Some a) h1 = no_copy_get a.slots i h1
 
 -- Layers ----------------------------------------------------------------------------------------------
 
@@ -198,7 +194,7 @@ module _ (k : Tables) (code : Code) where
     pub objects : Each (Settled w.ledger.next_master w.activations) w.objects
     pub numbers : Each (λ o. o.number < w.ledger.next_object) w.objects
     pub masters : Each AreSingle w.ledger.masters
-    pub slots : Each AreWhole w.activations
+    pub slots : Each HoldNoCopies w.activations
     pub block_pools : w.pools.block_pools ≡ []
     pub mark_pools : w.pools.mark_pools ≡ []
 
@@ -246,29 +242,29 @@ module _ (k : Tables) (code : Code) where
   unfolding opened_changes opened_ledger
   since_number w0 w h = (fits_number w h.0, record { later = h.1.later; homes = h.1.homes })
 
-  fits_slot : (n i : ℕ) (x : Slot) (w : World) → IsWhole x → Fits w → Fits (set_slot n i x w)
+  fits_slot : (n i : ℕ) (x : Slot) (w : World) → HoldsNoCopy x → Fits w → Fits (set_slot n i x w)
   unfolding opened_changes opened_activations
-  fits_slot n i x w whole h = record {
+  fits_slot n i x w uncopied h = record {
     objects = each_all (Settled w.ledger.next_master w.activations) (Settled w.ledger.next_master (change_each (λ a. nat_eq a.master n) (with_slot i x) w.activations)) (settled_in w.ledger.next_master w.ledger.next_master w.activations _ (omega arith) (λ m lt. home_slot m n i x w.activations)) w.objects h.objects;
     numbers = h.numbers;
     masters = h.masters;
-    slots = each_changed AreWhole _ (with_slot i x) (λ a y. whole_set a.slots i x whole y) w.activations h.slots;
+    slots = each_changed HoldNoCopies _ (with_slot i x) (λ a y. no_copy_set a.slots i x uncopied y) w.activations h.slots;
     block_pools = h.block_pools;
     mark_pools = h.mark_pools;
   }
 
-  pub since_slot : (n i : ℕ) (x : Slot) (w0 w : World) → IsWhole x → Since w0 w → Since w0 (set_slot n i x w)
+  pub since_slot : (n i : ℕ) (x : Slot) (w0 w : World) → HoldsNoCopy x → Since w0 w → Since w0 (set_slot n i x w)
   unfolding opened_changes opened_activations
-  since_slot n i x w0 w whole h = (fits_slot n i x w whole h.0, record { later = h.1.later; homes = λ m lt. home_slot m n i x w.activations ∙ h.1.homes m lt })
+  since_slot n i x w0 w uncopied h = (fits_slot n i x w uncopied h.0, record { later = h.1.later; homes = λ m lt. home_slot m n i x w.activations ∙ h.1.homes m lt })
 
-  -- what a slot holds is whole
-  pub whole_at : (n i : ℕ) (w : World) → Fits w → IsWhole (slot_at n i w)
+  -- no slot holds a copy
+  pub no_copy_at : (n i : ℕ) (w : World) → Fits w → HoldsNoCopy (slot_at n i w)
   unfolding slot_at slot_in activation_at
-  whole_at n i w h = whole_in n i w.activations h.slots
+  no_copy_at n i w h = no_copy_in n i w.activations h.slots
 
   pub since_value : (n i x : ℕ) (w0 w : World) → Since w0 w → Since w0 (set_value n i x w)
   unfolding set_value
-  since_value n i x w0 w h = since_slot n i _ w0 w (whole_at n i w h.0) h
+  since_value n i x w0 w h = since_slot n i _ w0 w (no_copy_at n i w h.0) h
 
   pub fits_create : (ty : Ty) (cells : List ℕ) (m : ℕ) (w : World) → IsPlainType k ty → m < w.ledger.next_master → IsInside code ty (length (home m w.activations)) → 1 ≤ length (home m w.activations) → Fits w → Fits (create ty cells (Declared m) w)
   unfolding opened_changes opened_ledger
@@ -346,13 +342,13 @@ module _ (k : Tables) (code : Code) where
   unfolding open_master opened_ledger
   keeps_open d slots w = record { later = omega arith; homes = λ n lt. home_open n d slots w lt }
 
-  pub fits_open : (d : List ℕ) (slots : List Slot) (w : World) → Each IsWhole slots → Fits w → Fits (open_master d slots w)
+  pub fits_open : (d : List ℕ) (slots : List Slot) (w : World) → Each HoldsNoCopy slots → Fits w → Fits (open_master d slots w)
   unfolding open_master opened_ledger opened_activations
-  fits_open d slots w whole h = record {
+  fits_open d slots w uncopied h = record {
     objects = each_all (Settled w.ledger.next_master w.activations) (Settled (w.ledger.next_master + 1) (open_master d slots w).activations) (settled_in w.ledger.next_master (w.ledger.next_master + 1) w.activations (open_master d slots w).activations (omega arith) (λ n lt. home_open n d slots w lt)) w.objects h.objects;
     numbers = h.numbers;
     masters = (tt, h.masters);
-    slots = (whole, h.slots);
+    slots = (uncopied, h.slots);
     block_pools = h.block_pools;
     mark_pools = h.mark_pools;
   }
@@ -364,7 +360,7 @@ module _ (k : Tables) (code : Code) where
     objects = each_kept (Settled w.ledger.next_master w.activations) (Settled w.ledger.next_master (keep (λ a. not (nat_eq a.master m)) w.activations)) _ left w.objects h.objects;
     numbers = each_kept (λ o. o.number < w.ledger.next_object) (λ o. o.number < w.ledger.next_object) _ (λ o e y. y) w.objects h.numbers;
     masters = each_kept AreSingle AreSingle (λ x. not (nat_eq x.number m)) (λ x e y. y) w.ledger.masters h.masters;
-    slots = each_kept AreWhole AreWhole (λ a. not (nat_eq a.master m)) (λ x e y. y) w.activations h.slots;
+    slots = each_kept HoldNoCopies HoldNoCopies (λ a. not (nat_eq a.master m)) (λ x e y. y) w.activations h.slots;
     block_pools = ap (keep _) h.block_pools;
     mark_pools = ap (keep _) h.mark_pools;
   }

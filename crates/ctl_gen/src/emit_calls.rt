@@ -1,7 +1,6 @@
 //! The instructions of calls, and of their actuals (RM 6.4).
 
-ghost use Rattle.std.specs.Prelude.{◌≡◌, ◌∷◌, [], drop, length, map, OnOk, None, Some};
-ghost use Rattle.ctl_layout.specs.declared.right.Reached.TheVariants as ReachedOf;
+ghost use Rattle.std.specs.Prelude.{◌≡◌, ◌∷◌, [], drop, length, map, OnOk, None};
 ghost use Rattle.ctl_gen.specs.Emitted.{lined, passed, standing, stated};
 ghost use Rattle.ctl_layout.specs.Values as values;
 ghost use Rattle.ctl_layout.specs.Layout as spec;
@@ -9,9 +8,9 @@ ghost use Rattle.ctl_layout.specs.Layout as spec;
 use crate::emit::Emitter;
 use ctl_code::code::Instr;
 use ctl_code::kinds::Kind;
-use ctl_layout::right::{Reached, reached_by};
+use ctl_layout::right::reached_by;
 use ctl_program::expression::{Actual, Name};
-use ctl_program::types::{Ty, Var};
+use ctl_program::types::Ty;
 use std::alloc::AllocError;
 
 impl Emitter {
@@ -59,33 +58,13 @@ impl Emitter {
         }
     }
 
-    /// Emits what finds the object that a name denotes.
+    /// Emits what finds the part that a name denotes.
     fn reference(&mut self, name: &Name, ty: Ty) -> Result<(), AllocError>
         ensures { OnOk result (self.new ≡ lined (spec.by_reference (values.reached_by name.now) ty).code self.old) }
     {
-        match reached_by(name) {
-            Some(Reached::Variable(of)) => self.object_in(of, ty),
-            Some(Reached::Component { .. }) | None => self.put(Instr::Missing),
-        }
-    }
-
-    /// Emits what finds the object in a variable.
-    fn object_in(&mut self, of: Var, ty: Ty) -> Result<(), AllocError>
-        ensures { OnOk result (self.new ≡ lined (spec.by_reference (Some (ReachedOf.Variable of)) ty).code self.old) }
-    {
-        match ty {
-            Ty::Record(record) => {
-                let (out, slot, at) = (self.out_to(of), of.slot, self.height());
-                self.put(Instr::Locate {
-                    out,
-                    slot,
-                    record,
-                    at,
-                })
-            }
-            Ty::Integer | Ty::Count | Ty::Boolean | Ty::Address | Ty::Handle | Ty::Access(_) => {
-                self.put(Instr::Missing)
-            }
+        match (reached_by(name), ty) {
+            (Some(part), Ty::Record(record)) => self.part(part, record),
+            _ => self.put(Instr::Missing),
         }
     }
 

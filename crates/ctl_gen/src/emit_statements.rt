@@ -5,8 +5,8 @@
 
 ghost use Rattle.std.specs.Prelude.{◌≡◌, ◌≤◌, ◌-◌, [], IfOk, length, map, option_map, OnOk, None, Some};
 ghost use Rattle.std.specs.Option.{ForSome};
-ghost use Rattle.ctl_layout.specs.declared.right.Reached.TheVariants as ReachedOf;
-ghost use Rattle.ctl_layout.specs.Around as cells;
+ghost use Rattle.ctl_layout.specs.Parts as parts;
+ghost use Rattle.ctl_layout.specs.Parts.{seen};
 ghost use Rattle.ctl_gen.specs.Emitted.{appended, first_end, further_arms, lined, open_arms, repeated, skipping, standing, stated, without_image, without_images};
 ghost use Rattle.ctl_layout.specs.Values as values;
 ghost use Rattle.ctl_layout.specs.Texts as texts;
@@ -17,7 +17,7 @@ use ctl_code::code::{Instr, Way};
 use ctl_code::kinds::Kind;
 use ctl_layout::right::{Reached, reached_by, sourced};
 use ctl_layout::typing::{copied, value_type};
-use ctl_program::expression::{Actual, Expr, Name};
+use ctl_program::expression::{Actual, Expr, Name, Step};
 use ctl_program::operators::Direction;
 use ctl_program::program::Subprogram;
 use ctl_program::statement::{Arm, Item, Master, Piece, Stmt};
@@ -90,31 +90,15 @@ impl Emitter {
         }
     }
 
-    /// Emits the declaration of an object of a record type with the value of a variable: the object in that is found first (RM 3.3.1).
+    /// Emits the declaration of an object of a record type with the value of a part, which is found first (RM 3.3.1).
     fn copy(&mut self, slot: usize, record: usize, value: &Expr) -> Result<(), AllocError>
         ensures { OnOk result (self.new ≡ lined (spec.copy slot «record» (values.copied «record» (values.value_code value.now))).code self.old) }
     {
-        let Some(of) = copied(record, value) else {
+        let Some(part) = copied(record, value) else {
             return self.put(Instr::Missing);
         };
-        let (out, from, at) = (self.out_to(of), of.slot, self.height());
-        self.put(Instr::Locate {
-            out,
-            slot: from,
-            record,
-            at,
-        })?;
-        self.declare_copy(slot, record, at)
-    }
-
-    /// Emits the declaration of an object over the number of the one whose value it takes, a new operand in this cell.
-    fn declare_copy(&mut self, slot: usize, record: usize, at: usize) -> Result<(), AllocError>
-        ensures { OnOk result (self.new ≡ lined (spec.copy_code slot «record» at) self.old) }
-    {
-        self.enter(Kind::Operand(Ty::Record(record)))?;
-        self.put(Instr::DeclareCopy { slot, record, at })?;
-        self.leave();
-        Ok(())
+        self.part(part, record)?;
+        self.over_operand(Ty::Record(record), Instr::DeclareCopy { slot, record })
     }
 
     /// Emits the declaration of an object without a value: of a record type, or an elementary one.
@@ -207,25 +191,20 @@ impl Emitter {
         match reached_by(name) {
             Some(Reached::Variable(variable)) => self.assign_variable(variable, value),
             Some(
-                Reached::Component {
+                Reached::Part {
                     of,
+                    steps,
                     record,
                     position,
                 },
-            ) => self.assign_component(of, record, position, value),
+            ) => self.assign_component(of, steps, record, position, value),
             None => self.put(Instr::Missing),
         }
     }
 
-    /// Emits the value of a component over the number of its object, a new operand in this cell, and what gives it to the component.
-    fn store_part(
-        &mut self,
-        at: usize,
-        record: usize,
-        position: usize,
-        value: &Expr,
-    ) -> Result<(), AllocError>
-        ensures { OnOk result (self.new ≡ lined (spec.store_part_code at «record» position (values.value_code value.now)) self.old) }
+    /// Emits the value of a component over the part that has it, a new operand of this record type, and what gives it to the component.
+    fn store_part(&mut self, record: usize, position: usize, value: &Expr) -> Result<(), AllocError>
+        ensures { OnOk result (self.new ≡ lined (spec.store_part_code «record» position (values.value_code value.now)) self.old) }
     {
         let ty = value_type(value);
         self.enter(Kind::Operand(Ty::Record(record)))?;
@@ -234,7 +213,6 @@ impl Emitter {
             Instr::StorePart {
                 from,
                 ty,
-                at,
                 record,
                 position,
             },
@@ -244,29 +222,24 @@ impl Emitter {
         Ok(())
     }
 
-    /// Emits the assignment of a value to a component of the object in a variable: the object comes before the value (RM 5.2).
+    /// Emits the assignment of a value to a component: the part that has it comes before the value (RM 5.2).
     fn assign_component(
         &mut self,
         of: Var,
+        steps: &[Step],
         record: usize,
         position: usize,
         value: &Expr,
     ) -> Result<(), AllocError>
-        ensures { OnOk result (self.new ≡ stated (spec.assign (Some (ReachedOf.Component of «record» position)) (values.value_code value.now)) None self.old) }
+        ensures { OnOk result (self.new ≡ stated (spec.assign (Some (parts.Part of steps.now «record» position)) (values.value_code value.now)) None self.old) }
     {
-        let (out, slot, at) = (self.out_to(of), of.slot, self.height());
-        self.put(Instr::Locate {
-            out,
-            slot,
-            record,
-            at,
-        })?;
-        self.store_part(at, record, position, value)
+        self.located(of, steps, record)?;
+        self.store_part(record, position, value)
     }
 
     /// Emits the assignment of a value to a variable.
     fn assign_variable(&mut self, variable: Var, value: &Expr) -> Result<(), AllocError>
-        ensures { OnOk result (self.new ≡ stated (spec.assign (Some (ReachedOf.Variable variable)) (values.value_code value.now)) None self.old) }
+        ensures { OnOk result (self.new ≡ stated (spec.assign (Some (parts.Variable variable)) (values.value_code value.now)) None self.old) }
     {
         let ty = value_type(value);
         match self.local_cell(variable) {
@@ -296,57 +269,25 @@ impl Emitter {
     ) -> Result<(), AllocError>
         ensures { OnOk result (self.new ≡ stated (spec.assign_record (values.reached_by name.now) «record» (values.sourced value.now)) None self.old) }
     {
-        match reached_by(name) {
-            Some(Reached::Variable(target)) => self.assign_object(target, record, value),
-            Some(Reached::Component { .. }) | None => self.put(Instr::Missing),
+        match (reached_by(name), sourced(value)) {
+            (Some(target), Some(source)) => self.overwrite(target, record, source),
+            (None, _) | (_, None) => self.put(Instr::Missing),
         }
     }
 
-    /// Emits the assignment of a record to the object in a variable.
-    fn assign_object(
+    /// Emits the assignment of one part to another: the target is found before the source (RM 5.2).
+    fn overwrite(
         &mut self,
-        target: Var,
+        target: Reached<'_>,
         record: usize,
-        value: &Actual,
+        source: Reached<'_>,
     ) -> Result<(), AllocError>
-        ensures { OnOk result (self.new ≡ stated (spec.assign_object target «record» (values.sourced value.now)) None self.old) }
+        ensures { OnOk result (self.new ≡ stated (spec.assign_record (seen (Some target.entry)) «record» (seen (Some source.entry))) None self.old) }
     {
-        match sourced(value) {
-            Some(Reached::Variable(source)) => self.overwrite(target, record, source),
-            Some(Reached::Component { .. }) | None => self.put(Instr::Missing),
-        }
-    }
-
-    /// Emits the assignment of the object in one variable to the object in another: the target is found before the source (RM 5.2).
-    fn overwrite(&mut self, target: Var, record: usize, source: Var) -> Result<(), AllocError>
-        ensures { OnOk result (self.new ≡ lined (spec.record_code target «record» source) self.old) }
-    {
-        let (out, slot, at) = (self.out_to(target), target.slot, self.height());
-        self.put(Instr::Locate {
-            out,
-            slot,
-            record,
-            at,
-        })?;
+        self.part(target, record)?;
         self.enter(Kind::Operand(Ty::Record(record)))?;
-        self.take_over(at, record, source)?;
-        self.leave();
-        Ok(())
-    }
-
-    /// Emits what gives the object whose number is the newest operand, in this cell, the value of the object in a variable.
-    fn take_over(&mut self, at: usize, record: usize, source: Var) -> Result<(), AllocError>
-        ensures { OnOk result (self.new ≡ lined (spec.take_over_code at «record» source) self.old) }
-    {
-        let (out, slot, from) = (self.out_to(source), source.slot, self.new_operand());
-        self.put(Instr::Locate {
-            out,
-            slot,
-            record,
-            at: from.at,
-        })?;
-        self.enter(Kind::Operand(Ty::Record(record)))?;
-        self.put(Instr::Assign { from, at, record })?;
+        self.part(source, record)?;
+        self.over_operand(Ty::Record(record), Instr::Assign { record })?;
         self.leave();
         Ok(())
     }

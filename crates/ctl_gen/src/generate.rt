@@ -1,22 +1,22 @@
 //! The code of a whole program.
 
-ghost use Rattle.std.specs.Prelude.{◌≡◌, ◌⊎◌, ◌<◌, ◌^◌, ◌++◌, List, IfErr, IfOk, length};
+ghost use Rattle.std.specs.Prelude.{◌≡◌, ◌⊎◌, ◌+◌, ◌++◌, [], ◌∷◌, IfErr, IfOk, OnOk, length};
 ghost use Rattle.ctl_tree.specs.declared.fault.FaultCode.TheVariants.{LeftOut, Memory};
 ghost use Rattle.ctl_well_typed.specs.Programs.{WellTyped};
 ghost use Rattle.ctl_gen.specs.Correct.{Behaves};
 ghost use Rattle.ctl_layout.specs.Run.{AreLinked, IsRun};
-ghost use Rattle.ctl_layout.specs.Defaults.{constant_of, defaulted_from};
+ghost use Rattle.ctl_code.specs.Table.{defaulted_in, size_in};
+ghost use Rattle.ctl_layout.specs.Defaults.{constant_of, defaulted_before};
 ghost use Rattle.ctl_layout.specs.Records as types;
-ghost use Rattle.ctl_layout.specs.Records.{component_rows};
 ghost use Rattle.ctl_layout.specs.Layout as spec;
-ghost use Rattle.ctl_layout.specs.Layout.{AreLayouts, HasKinds, IsLaidOut, IsLayout, count_from, entry_at, operations_of};
+ghost use Rattle.ctl_layout.specs.Layout.{AreLayouts, HasKinds, IsLaidOut, IsLayout, entry_at, operations_of};
 
 use crate::emit::Emitter;
 use ctl_code::code::{Code, Defaulted, Entry, Instr, Layout, Operations, Parts};
 use ctl_code::valid::ValidCode;
 use ctl_layout::right::constant;
 use ctl_program::program::{Checked, Subprogram};
-use ctl_program::types::{Component, RecordType, Root};
+use ctl_program::types::{Component, RecordType, Root, Ty};
 use ctl_tree::fault::{Fault, FaultCode};
 use ctl_tree::text::Text;
 use std::alloc::{AllocError, Global};
@@ -127,7 +127,7 @@ fn default_of(component: &Component) -> Option<u64>
     }
 }
 
-/// Tells whether the objects of a type with scalar components have a controlled part: where it is tagged, they are controlled themselves
+/// Tells whether the objects of a type that is laid out have a controlled part: where it is tagged, they are controlled themselves
 /// (RM 7.6).
 fn parts_by(root: Root) -> Parts
     ensures { result ≡ types.parts_by root }
@@ -138,99 +138,92 @@ fn parts_by(root: Root) -> Parts
     }
 }
 
-/// Counts the cells that a type inherits from its parent, where one of these layouts is the parent's (RM 3.9.1).
-fn cells_inherited(layouts: &[Layout], parent: Option<usize>) -> usize
-    ensures cells { result ≡ spec.cells_inherited (spec.parent_layout layouts.now parent) }
-    ensures bound { result < 2 ^ 63 }
+/// Counts the cells of a value of a type: one, or those of a record type, of which there is one of these layouts.
+fn cells_by(layouts: &[Layout], ty: Ty) -> usize
+    ensures { result ≡ spec.cells_by layouts.now ty }
 {
-    let Some(number) = parent else {
-        return 0;
+    let Ty::Record(number) = ty else {
+        return 1;
     };
     match layouts.get(number) {
-        Some(layout) => layout.offsets.as_slice().len(),
+        Some(layout) => layout.cells,
         None => 0,
     }
 }
 
-/// Copies components with defaults.
-fn copied(alloc: Global, components: &[Defaulted]) -> Result<Vec<Defaulted>, AllocError>
-    ensures { IfOk result (λ all. all.items ≡ components.now) }
+/// Gives a layout of such parts without components.
+fn without_components(alloc: Global, parts: Parts) -> Layout
+    ensures parts { result.parts ≡ parts }
+    ensures cells { result.cells ≡ 0 }
+    ensures offsets { result.offsets.items ≡ [] }
+    ensures defaulted { result.defaulted.items ≡ [] }
 {
-    let mut all = Vec::new(alloc);
-    for component in components {
-        all.push(*component)?;
+    Layout {
+        parts,
+        cells: 0,
+        offsets: Vec::new(alloc),
+        defaulted: Vec::new(alloc),
     }
-    Ok(all)
 }
 
-/// Gives the components with defaults that a type inherits from its parent, where one of these layouts is the parent's (RM 3.9.1).
-fn defaults_inherited(
-    alloc: Global,
-    layouts: &[Layout],
-    parent: Option<usize>,
-) -> Result<Vec<Defaulted>, AllocError>
-    ensures { IfOk result (λ all. all.items ≡ spec.defaults_inherited (spec.parent_layout layouts.now parent)) }
+/// Gives what a type inherits from its parent, where one of these layouts is the parent's (RM 3.9.1).
+fn inherited(alloc: Global, layouts: &[Layout], entry: &RecordType) -> Result<Layout, AllocError>
+    ensures parts { IfOk result (λ x. x.parts ≡ types.parts_by entry.now.root) }
+    ensures cells { IfOk result (λ x. x.cells ≡ size_in (spec.parent_layout layouts.now entry.now.parent)) }
+    ensures offsets { IfOk result (λ x. x.offsets.items ≡ spec.offsets_in (spec.parent_layout layouts.now entry.now.parent)) }
+    ensures defaulted { IfOk result (λ x. x.defaulted.items ≡ defaulted_in (spec.parent_layout layouts.now entry.now.parent)) }
 {
-    let Some(number) = parent else {
-        return Ok(Vec::new(alloc));
+    let parts = parts_by(entry.root);
+    let Some(number) = entry.parent else {
+        return Ok(without_components(alloc, parts));
     };
     match layouts.get(number) {
-        Some(layout) => copied(alloc, layout.defaulted.as_slice()),
-        None => Ok(Vec::new(alloc)),
+        Some(layout) => Ok(Layout {
+            parts,
+            cells: layout.cells,
+            offsets: layout.offsets.clone()?,
+            defaulted: layout.defaulted.clone()?,
+        }),
+        None => Ok(without_components(alloc, parts)),
     }
 }
 
-/// Gives so many numbers, from 0.
-fn numbers_to(alloc: Global, count: usize) -> Result<Vec<usize>, AllocError>
-    ensures { IfOk result (λ all. all.items ≡ count_from 0 count) }
+/// Puts a component behind those of a layout, of so many cells. No memory has more cells than there are numbers for them.
+fn add_component(layout: &mut Layout, component: &Component, cells: usize) -> Result<(), AllocError>
+    ensures parts { OnOk result (layout.new.parts ≡ layout.old.parts) }
+    ensures cells { OnOk result (layout.new.cells ≡ layout.old.cells + cells) }
+    ensures offsets { OnOk result (layout.new.offsets.items ≡ layout.old.offsets.items ++ layout.old.cells ∷ []) }
+    ensures defaulted { OnOk result (layout.new.defaulted.items ≡ layout.old.defaulted.items ++ defaulted_before layout.old.cells (constant_of component.now) []) }
 {
-    let mut all = Vec::new(alloc);
-    for number in 0..count {
-        all.push(number)?;
+    let offset = layout.cells;
+    layout.offsets.push(offset)?;
+    if let Some(value) = default_of(component) {
+        layout.defaulted.push(Defaulted { offset, value })?;
     }
-    Ok(all)
+    layout.cells = offset.checked_add(cells).ok_or(AllocError)?;
+    Ok(())
 }
 
-/// Gives the layout of a record type with such parts: behind so many inherited cells, with these defaults, stand its own components, of one
-/// cell each (RM 3.8, 3.9.1).
-fn layout_of(
-    alloc: Global,
-    parts: Parts,
-    first: usize,
-    inherited: Vec<Defaulted>,
-    own: &[Component],
-) -> Result<Layout, AllocError>
-    requires { first < 2 ^ 63 }
-    ensures { IfOk result (λ layout. (cs : List Component) → first ≡ length cs → inherited.items ≡ defaulted_from 0 cs → IsLayout layout parts (cs ++ own.now)) }
+/// Gives the layout of a record type, where the types that stand before have these (RM 3.8, 3.9.1).
+fn layout_of(alloc: Global, layouts: &[Layout], entry: &RecordType) -> Result<Layout, AllocError>
+    ensures { IfOk result (λ layout. IsLayout layouts.now entry.now layout) }
 {
-    let mut defaulted = inherited;
-    for (index, component) in own.iter().enumerate() {
-        if let Some(value) = default_of(component) {
-            defaulted.push(Defaulted {
-                offset: first + index,
-                value,
-            })?;
-        }
+    let mut layout = inherited(alloc, layouts, entry)?;
+    for component in entry.own.as_slice() {
+        let cells = cells_by(layouts, component.ty);
+        add_component(&mut layout, component, cells)?;
     }
-    let cells = first + own.len();
-    Ok(Layout {
-        parts,
-        cells,
-        offsets: numbers_to(alloc, cells)?,
-        defaulted,
-    })
+    Ok(layout)
 }
 
 /// Gives the layouts of record types.
 fn layouts_of(alloc: Global, records: &[RecordType]) -> Result<Vec<Layout>, AllocError>
-    ensures { IfOk result (λ all. AreLayouts all.items records.now (component_rows records.now)) }
+    ensures { IfOk result (λ all. AreLayouts [] all.items records.now) }
 {
     let mut all = Vec::new(alloc);
-    for record in records {
-        let parts = parts_by(record.root);
-        let first = cells_inherited(all.as_slice(), record.parent);
-        let inherited = defaults_inherited(alloc, all.as_slice(), record.parent)?;
-        all.push(layout_of(alloc, parts, first, inherited, record.own.as_slice())?)?;
+    for entry in records {
+        let layout = layout_of(alloc, all.as_slice(), entry)?;
+        all.push(layout)?;
     }
     Ok(all)
 }

@@ -5,5 +5,6 @@ mod emit;
 mod emit_calls;
 mod emit_expressions;
 mod emit_handlers;
+mod emit_parts;
 mod emit_statements;
 pub mod generate;

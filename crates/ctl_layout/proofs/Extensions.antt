@@ -6,7 +6,7 @@ use Rattle.std.proofs.lemmas.Option.{slice_get_within}
 use Rattle.ctl_program.specs.declared.types.Component.{Component}
 use Rattle.ctl_program.specs.declared.types.RecordType.{RecordType}
 use Rattle.ctl_meaning.specs.Types.{components, with_own, of_parent}
-use Rattle.ctl_layout.specs.Records.{component_rows, each_extension, holds_before, holds_in, holds_within, inherited, none_if_absent, rows_from}
+use Rattle.ctl_layout.specs.Records.{all_components, component_rows, each_extension, holds_before, holds_in, holds_within, inherited, none_if_absent, rows_by}
 
 -- both hold where their conjunction does
 pub both_true : (a b : Bool) → (a && b) ≡ true → (a ≡ true) × (b ≡ true)
@@ -16,44 +16,58 @@ both_true false b e = absurd (cc)
 
 -- Rows ------------------------------------------------------------------------------------------
 
-get_front : {A : Type 0} (xs ys : List A) (i : ℕ) → i < length xs → slice_get (xs ++ ys) i ≡ slice_get xs i
+pub get_front : {A : Type 0} (xs ys : List A) (i : ℕ) → i < length xs → slice_get (xs ++ ys) i ≡ slice_get xs i
 get_front [] ys i lt = absurd (omega (arith, lt))
 get_front (x ∷ xs) ys zero lt = refl
 get_front (x ∷ xs) ys (suc i) lt = get_front xs ys i (omega (arith, lt))
 
-get_last : {A : Type 0} (xs : List A) (y : A) (i : ℕ) → i ≡ length xs → slice_get (xs ++ y ∷ []) i ≡ Some y
-get_last [] y zero e = refl
-get_last [] y (suc i) e = absurd (omega (arith, e))
-get_last (x ∷ xs) y zero e = absurd (omega (arith, e))
-get_last (x ∷ xs) y (suc i) e = get_last xs y i (omega (arith, e))
+pub get_behind : {A : Type 0} (xs : List A) (y : A) (ys : List A) (i : ℕ) → i ≡ length xs → slice_get (xs ++ y ∷ ys) i ≡ Some y
+get_behind [] y ys zero e = refl
+get_behind [] y ys (suc i) e = absurd (omega (arith, e))
+get_behind (x ∷ xs) y ys zero e = absurd (omega (arith, e))
+get_behind (x ∷ xs) y ys (suc i) e = get_behind xs y ys i (omega (arith, e))
 
 -- a row that stands there already
-row_kept : (rows : List (List Component)) (rs : List RecordType) (i : ℕ) → i < length rows → slice_get (rows_from rows rs) i ≡ slice_get rows i
-row_kept rows [] i lt = refl
-row_kept rows (r ∷ rs) i lt =
-    let row = inherited rows r.parent ++ r.own in
-    row_kept (rows ++ row ∷ []) rs i (omega (arith, lt, length-append rows (row ∷ []))) ∙ get_front rows (row ∷ []) i lt
+row_kept : {A : Type 0} (row : List A → RecordType → A) (rows : List A) (rs : List RecordType) (i : ℕ) → i < length rows → slice_get (rows_by row rows rs) i ≡ slice_get rows i
+row_kept row rows [] i lt = refl
+row_kept row rows (r ∷ rs) i lt =
+    let y = row rows r in
+    row_kept row (rows ++ y ∷ []) rs i (omega (arith, lt, length-append rows (y ∷ []))) ∙ get_front rows (y ∷ []) i lt
 
 -- the row of a type is made of those that stand before it
-record IsRow (rows : List (List Component)) (t : ℕ) (r : RecordType) : Type 0 where
-  before : List (List Component)
-  is : slice_get rows t ≡ Some (inherited before r.parent ++ r.own)
-  same : (p : ℕ) → p < t → slice_get rows p ≡ slice_get before p
+pub record IsRow {A : Type 0} (row : List A → RecordType → A) (rows : List A) (t : ℕ) (r : RecordType) : Type 0 where
+  pub before : List A
+  pub many : length before ≡ t
+  pub is : slice_get rows t ≡ Some (row before r)
+  pub same : (p : ℕ) → p < t → slice_get rows p ≡ slice_get before p
 
-row_at : (rows : List (List Component)) (rs : List RecordType) (i t : ℕ) (r : RecordType) → slice_get rs i ≡ Some r → t ≡ length rows + i → IsRow (rows_from rows rs) t r
-row_at rows [] i t r at e = absurd (cc)
-row_at rows (s ∷ rs) zero t r at e =
-    let row = inherited rows s.parent ++ s.own in
-    let longer = length-append rows (row ∷ []) in
-    let is : s ≡ r = cc at in
+row_from : {A : Type 0} (row : List A → RecordType → A) (rows : List A) (rs : List RecordType) (i t : ℕ) (r : RecordType) → slice_get rs i ≡ Some r → t ≡ length rows + i → IsRow row (rows_by row rows rs) t r
+row_from row rows [] i t r at e = absurd (cc)
+row_from row rows (s ∷ rs) zero t r at e =
+    let same : s ≡ r = cc at in
+    let y = row rows s in
+    let longer = length-append rows (y ∷ []) in
     record {
       before = rows;
-      is = row_kept (rows ++ row ∷ []) rs t (omega (arith, e, longer)) ∙ (get_last rows row t (omega (arith, e)) ∙ ap (λ (y : RecordType). Some (inherited rows y.parent ++ y.own)) is);
-      same = λ p lt. row_kept (rows ++ row ∷ []) rs p (omega (arith, e, lt, longer)) ∙ get_front rows (row ∷ []) p (omega (arith, e, lt));
+      many = omega (arith, e);
+      is = row_kept row (rows ++ y ∷ []) rs t (omega (arith, e, longer)) ∙ (get_behind rows y [] t (omega (arith, e)) ∙ ap (λ z. Some (row rows z)) same);
+      same = λ p lt. row_kept row (rows ++ y ∷ []) rs p (omega (arith, e, lt, longer)) ∙ get_front rows (y ∷ []) p (omega (arith, e, lt));
     }
-row_at rows (s ∷ rs) (suc i) t r at e =
-    let row = inherited rows s.parent ++ s.own in
-    row_at (rows ++ row ∷ []) rs i t r at (omega (arith, e, length-append rows (row ∷ [])))
+row_from row rows (s ∷ rs) (suc i) t r at e =
+    let y = row rows s in
+    row_from row (rows ++ y ∷ []) rs i t r at (omega (arith, e, length-append rows (y ∷ [])))
+
+pub row_at : {A : Type 0} (row : List A → RecordType → A) (records : List RecordType) (t : ℕ) (r : RecordType) → slice_get records t ≡ Some r → IsRow row (rows_by row [] records) t r
+row_at row records t r at = row_from row [] records t t r at (omega arith)
+
+-- there is a row for each type, and no more
+pub rows_length : {A : Type 0} (row : List A → RecordType → A) (rows : List A) (rs : List RecordType) → length (rows_by row rows rs) ≡ length rows + length rs
+rows_length row rows [] = omega arith
+rows_length row rows (r ∷ rs) =
+    let y = row rows r in
+    let rest = rows_length row (rows ++ y ∷ []) rs in
+    let longer = length-append rows (y ∷ []) in
+    omega (arith, rest, longer)
 
 -- Components --------------------------------------------------------------------------------------
 
@@ -70,12 +84,21 @@ unfolding components with_own of_parent
 inherits records t r cs at found row = record {
   within = slice_get_within records t r at;
   found = each;
-  row = let x = row_at [] records t t r at (omega arith) in x.is ∙ ap (λ ys. Some (ys ++ r.own)) (row x.before x.same);
+  row = let x = row_at all_components records t r at in x.is ∙ ap (λ ys. Some (ys ++ r.own)) (row x.before x.same);
 }
   where
     each : (n : ℕ) → t < n → components n records t ≡ cs ++ r.own
     each zero lt = absurd (omega (arith, lt))
     each (suc n) lt = ap (with_own (components n records)) at ∙ ap (λ ys. ys ++ r.own) (found n lt)
+
+pub extends_none : (records : List RecordType) (t : ℕ) (r : RecordType) → slice_get records t ≡ Some r → r.parent ≡ None → HasComponents records t r.own
+unfolding of_parent
+extends_none records t r at is = inherits records t r [] at (λ m lt. ap (of_parent [] (components m records)) is) (λ rows same. ap (inherited rows) is)
+
+pub extends_one : (records : List RecordType) (t : ℕ) (r : RecordType) (q : ℕ) (cs : List Component) → slice_get records t ≡ Some r → r.parent ≡ Some q → q < t → HasComponents records q cs → HasComponents records t (cs ++ r.own)
+unfolding of_parent
+extends_one records t r q cs at is less has =
+    inherits records t r cs at (λ m lt. ap (of_parent [] (components m records)) is ∙ has.found m (omega (arith, lt, less))) (λ rows same. ap (inherited rows) is ∙ ap none_if_absent (sym (same q less) ∙ has.row))
 
 -- what holds of what a type adds and of what it inherits holds of all of its components
 module _ (p : List Component → Bool) (Q : List Component → Type 0) (each : (cs : List Component) → p cs ≡ true → Q cs) (none : Q []) (both : (xs ys : List Component) → Q xs → Q ys → Q (xs ++ ys)) (records : List RecordType) where
@@ -83,17 +106,11 @@ module _ (p : List Component → Bool) (Q : List Component → Type 0) (each : (
   Extends t = (cs : List Component) × HasComponents records t cs × Q cs
 
   extended : (n t : ℕ) (r : RecordType) (o : Option ℕ) → r.parent ≡ o → slice_get records t ≡ Some r → Q r.own → ((q : ℕ) → holds_within p n records q ≡ true → Extends q) → holds_before (holds_within p n records) t o ≡ true → Extends t
-  unfolding of_parent
-  extended n t r None is at own before e =
-      (r.own, inherits records t r [] at (λ m lt. ap (of_parent [] (components m records)) is) (λ rows same. ap (inherited rows) is), own)
+  extended n t r None is at own before e = (r.own, extends_none records t r at is, own)
   extended n t r (Some q) is at own before e =
       let h = both_true (nat_lt q t) (holds_within p n records q) e in
-      let less = ltb-true q t h.0 in
-      let x = before q h.1 in (
-        x.0 ++ r.own,
-        inherits records t r x.0 at (λ m lt. ap (of_parent [] (components m records)) is ∙ x.1.found m (omega (arith, lt, less))) (λ rows same. ap (inherited rows) is ∙ ap none_if_absent (sym (same q less) ∙ x.1.row)),
-        both x.0 r.own x.2 own,
-      )
+      let x = before q h.1 in
+      (x.0 ++ r.own, extends_one records t r q x.0 at is (ltb-true q t h.0) x.1, both x.0 r.own x.2 own)
 
   extends_within : (n t : ℕ) → holds_within p n records t ≡ true → Extends t
   extends_within zero t e = absurd (cc)

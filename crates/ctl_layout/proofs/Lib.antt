@@ -1,3 +1,4 @@
+pub mod Selectors
 pub mod Layers
 pub mod TreeLayers
 pub mod StatementLayers

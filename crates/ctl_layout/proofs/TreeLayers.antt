@@ -1,6 +1,6 @@
 -- What each layer of a tree has, by what its parts have.
 use Rattle.std.proofs.Common.{◌≡◌, Option, ap, ◌∙◌}
-use Rattle.ctl_layout.specs.declared.right.Reached.{Reached}
+use Rattle.ctl_layout.specs.Parts.{Reached}
 use Rattle.ctl_program.specs.declared.expression.Expr.{Expr, roll-Expr, map-Expr, fold-roll-Expr}
 use Rattle.ctl_program.specs.declared.expression.Name.{Name, roll-Name, map-Name, fold-roll-Name}
 use Rattle.ctl_program.specs.declared.expression.Actual.{Actual, roll-Actual, map-Actual, fold-roll-Actual}

@@ -10,7 +10,7 @@ use Rattle.ctl_code.specs.Valid.{outermost}
 use Rattle.ctl_layout.specs.declared.right.Right.{Right}
 use Rattle.ctl_layout.specs.declared.right.Right.TheVariants as RightOf
 use Rattle.ctl_layout.specs.Values.{ValueCode, value_code}
-use Rattle.ctl_layout.specs.Records.{each_extension, has_root_run, is_flat, is_run_type}
+use Rattle.ctl_layout.specs.Records.{each_extension, has_root_run, is_laid, is_run_type}
 
 -- the constant that an expression is, if it is one
 abbrev pub constant_by : Right → Option ℕ
@@ -34,9 +34,9 @@ abbrev pub have_constants : List RecordType → List Component → Bool
 have_constants records [] = true
 have_constants records (c ∷ cs) = may_default records (option_map value_code c.default) && have_constants records cs
 
--- such a type with scalar components whose defaults are constants, inherited ones too
+-- such a type that is laid out, where the defaults of its components, inherited ones too, are constants
 abbrev pub is_plain : List RecordType → ℕ → Bool
-is_plain records t = has_root_run (slice_get records t) && (is_flat records t && each_extension (have_constants records) records t)
+is_plain records t = has_root_run (slice_get records t) && (is_laid records t && each_extension (have_constants records) records t)
 
 -- such a type of the table, or a scalar one
 abbrev pub is_declared : List RecordType → Ty → Bool
@@ -52,11 +52,11 @@ is_outermost (Some r) = nat_le r.level outermost
 abbrev pub is_assignable : List RecordType → ℕ → Bool
 is_assignable records t = is_plain records t && is_outermost (slice_get records t)
 
--- the components of these that have defaults, where the first has this cell
+-- the components of these that have defaults, where the first has this cell, and the values of each type so many
 abbrev pub defaulted_before : ℕ → Option ℕ → List Defaulted → List Defaulted
 defaulted_before offset None rest = rest
 defaulted_before offset (Some n) rest = (record { offset = offset; value = n }) ∷ rest
 
-abbrev pub defaulted_from : ℕ → List Component → List Defaulted
-defaulted_from offset [] = []
-defaulted_from offset (c ∷ cs) = defaulted_before offset (constant_of c) (defaulted_from (offset + 1) cs)
+abbrev pub defaulted_from : (Ty → ℕ) → ℕ → List Component → List Defaulted
+defaulted_from cells offset [] = []
+defaulted_from cells offset (c ∷ cs) = defaulted_before offset (constant_of c) (defaulted_from cells (offset + cells c.ty) cs)

@@ -1,5 +1,6 @@
 pub mod Records
 pub mod Around
+pub mod Parts
 pub mod Values
 pub mod Defaults
 pub mod Texts

@@ -1,12 +1,13 @@
 //! The types of expressions (RM 4.4, 4.5).
 
 ghost use Rattle.std.specs.Prelude.{◌≡◌, map};
+ghost use Rattle.ctl_layout.specs.Parts.{seen};
 ghost use Rattle.ctl_layout.specs.Values as spec;
 
-use crate::right::{Right, right_of};
+use crate::right::{Reached, reached_of};
 use ctl_program::expression::{Expr, Operand};
 use ctl_program::operators::BinaryOp;
-use ctl_program::types::{Ty, Var};
+use ctl_program::types::Ty;
 
 /// Gives the type of a value; a constant has none of its own.
 #[tactic(auto, using(crate::proofs::Layers::value_constant, crate::proofs::Layers::read_own, crate::proofs::Layers::value_call, crate::proofs::Layers::value_unary, crate::proofs::Layers::value_chain, crate::proofs::Layers::operator_is, crate::proofs::Layers::value_short, crate::proofs::Layers::value_convert, crate::proofs::Layers::value_access, crate::proofs::Layers::value_new, crate::proofs::Layers::value_subpool, crate::proofs::Layers::value_discriminant))]
@@ -55,14 +56,14 @@ fn is_of(record: usize, ty: Option<Ty>) -> bool
     }
 }
 
-/// Gives the variable of a record type that a value is, if it is one (RM 3.3.1).
-pub fn copied(record: usize, value: &Expr) -> Option<Var>
-    ensures { result ≡ spec.copied «record» (spec.value_code value.now) }
+/// Gives the part of a record type that a value is read from, if it is read from one (RM 3.3.1).
+pub fn copied(record: usize, value: &Expr) -> Option<Reached<'_>>
+    ensures { seen result ≡ spec.copied «record» (spec.value_code value.now) }
 {
     let same = is_of(record, type_of(value));
-    match right_of(value) {
-        Right::Variable(variable) if same => Some(variable),
-        Right::Variable(_) | Right::Constant(_) | Right::Evaluated => None,
+    match reached_of(value) {
+        Some(part) if same => Some(part),
+        Some(_) | None => None,
     }
 }
 

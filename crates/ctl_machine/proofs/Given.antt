@@ -7,7 +7,7 @@ use Rattle.ctl_meaning.specs.Changes.{take_object_number, opened_changes}
 use Rattle.ctl_code.specs.declared.code.Code.{Code}
 use Rattle.ctl_code.specs.declared.code.Instr.TheVariants.{Number}
 use Rattle.ctl_code.specs.States as T
-use Rattle.ctl_code.specs.States.{State, At}
+use Rattle.ctl_code.specs.States.{Word, State, At}
 use Rattle.ctl_code.specs.Table.{by_instr}
 use Rattle.ctl_machine.specs.declared.engine.Engine.{Engine}
 use Rattle.ctl_machine.specs.declared.frame.Mode.{Mode}
@@ -16,6 +16,7 @@ use Rattle.ctl_machine.specs.declared.frame.Owned.{Owned}
 use Rattle.ctl_machine.specs.Masters.{heads_of, first_display, RiseBelow}
 use Rattle.ctl_machine.specs.Shows.{ShowsMode, Kept, Holds, kept}
 use Rattle.ctl_machine.specs.Moves.{Before, Makes, here_of}
+use Rattle.ctl_machine.specs.Spots.{KeepsSpots}
 
 rise_further : (os : List Owned) (low high : ℕ) → RiseBelow low os high → RiseBelow low os (high + 1)
 rise_further [] low high h = omega (arith, h)
@@ -24,7 +25,7 @@ rise_further (o ∷ os) low high h = (h.0, rise_further os (o.number + 1) high h
 abbrev pub with_number : Kept → Kept
 with_number e = record e { next_object = e.next_object + 1 }
 
-numbered : (code : Code) (e : Kept) (k : List T.Frame) (ops : List ℕ) (w : World) → Holds code e k ops w → Holds code (with_number e) k ops (take_object_number w)
+numbered : (code : Code) (e : Kept) (k : List T.Frame) (ops : List Word) (w : World) → Holds code e k ops w → Holds code (with_number e) k ops (take_object_number w)
 unfolding opened_changes opened_ledger
 numbered code e k ops w h = record {
   cells = h.cells;
@@ -55,6 +56,7 @@ number_makes code old new place s b is mode events picks =
       mode = subst (λ (m : Mode). ShowsMode code m (At d (place + 1)) s.control (heads_of (take_object_number s.world).activations)) (sym mode)
           (subst (λ hs. ShowsMode code (ModeOf.At (place + 1)) (At d (place + 1)) s.control hs) (sym heads) (refl, refl, b.stack, b.fine, b.inside.sized));
       holds = subst (λ (e : Kept). Holds code e s.control s.operands (take_object_number s.world)) (sym is) (numbered code (kept old) s.control s.operands s.world b.inside.holds);
+      spots = subst (λ (m : Mode). KeepsSpots m new.spots.items s.control s.operands) (sym mode) (ap (λ (e : Kept). e.spots) is ∙ b.inside.spots);
       shows = events ∙ sym (append-nil old.events.items);
       picks = picks;
     }

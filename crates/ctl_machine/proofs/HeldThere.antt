@@ -1,7 +1,7 @@
 -- The object that a slot of an active master holds is found among the objects that the master owns.
-use Rattle.std.proofs.Common.{◌≡◌, ℕ, zero, suc, ◌+◌, ◌-◌, ◌<◌, ◌≤◌, List, [], ◌∷◌, ◌++◌, Option, Some, None, length, refl, sym, ap, ◌∙◌, subst, arith, reverse, drop, take, ◌⊎◌, inl, inr}
+use Rattle.std.proofs.Common.{◌≡◌, ℕ, zero, suc, ◌+◌, ◌<◌, ◌≤◌, List, [], ◌∷◌, ◌++◌, Option, Some, None, length, refl, sym, ap, ◌∙◌, subst, arith, reverse, drop, take, ◌⊎◌, inl, inr}
 use Rattle.std.specs.Prelude.{slice_get}
-use Rattle.std.proofs.lemmas.List.{drop-take, reverse-append, reverse-reverse, take_all}
+use Rattle.std.proofs.lemmas.List.{reverse-append, reverse-reverse, take_all}
 use Rattle.std.proofs.lemmas.Option.{slice_get_within}
 use Rattle.ctl_meaning.specs.World as W
 use Rattle.ctl_meaning.specs.World.{World, Content, Slot, unset, Activation}
@@ -9,7 +9,8 @@ use Rattle.ctl_meaning.specs.Activations.{slot_in}
 use Rattle.ctl_meaning.specs.Changes.{opened_changes}
 use Rattle.ctl_code.specs.declared.code.Code.{Code}
 use Rattle.ctl_code.specs.States as T
-use Rattle.ctl_code.specs.Table.{out_of, holder_at, whole_of}
+use Rattle.ctl_code.specs.States.{Word}
+use Rattle.ctl_code.specs.Table.{out_of, holder_at, spot_of}
 use Rattle.ctl_machine.specs.declared.engine.Engine.{Engine}
 use Rattle.ctl_machine.specs.declared.frame.Formal.{Formal}
 use Rattle.ctl_machine.specs.declared.frame.Master.{Master}
@@ -79,7 +80,7 @@ ends_within {ms = m ∷ ms} x end (newest_master {owned = owned} g o r) (inr h) 
     let within = ends_within x end r (subst (λ n. EndsOwn x end ms n) (sym long) h) in
     omega (arith, less, long, within)
 
-pub own_end_within : (code : Code) (e : Engine) (k : List T.Frame) (ops : List ℕ) (w : World) (i : ℕ) (x : Master) → Holds code (kept e) k ops w → slice_get e.masters.items i ≡ Some x → own_end (slice_get e.masters.items (i + 1)) (length e.owned.items) ≤ length e.owned.items
+pub own_end_within : (code : Code) (e : Engine) (k : List T.Frame) (ops : List Word) (w : World) (i : ℕ) (x : Master) → Holds code (kept e) k ops w → slice_get e.masters.items i ≡ Some x → own_end (slice_get e.masters.items (i + 1)) (length e.owned.items) ≤ length e.owned.items
 own_end_within code e k ops w i x h found = ends_within x _ h.masters (ends_own e.masters.items i (length e.owned.items) x found)
 
 -- What a slot holds --------------------------------------------------------------------------------------
@@ -103,7 +104,7 @@ formals_within (m ∷ ms) (act ∷ acts) owned fs x h (inr i) =
     let less = below.1 in
     (below.0, omega (arith, less, long, rise, within))
 
-pub own_formals_within : (code : Code) (e : Engine) (k : List T.Frame) (ops : List ℕ) (w : World) (i : ℕ) (x : Master) → Holds code (kept e) k ops w → slice_get e.masters.items i ≡ Some x → (x.outer_formals ≤ x.formals) × (x.formals ≤ length e.formals.items)
+pub own_formals_within : (code : Code) (e : Engine) (k : List T.Frame) (ops : List Word) (w : World) (i : ℕ) (x : Master) → Holds code (kept e) k ops w → slice_get e.masters.items i ≡ Some x → (x.outer_formals ≤ x.formals) × (x.formals ≤ length e.formals.items)
 own_formals_within code e k ops w i x h found = formals_within (reverse e.masters.items) w.activations e.owned.items e.formals.items x h.held (ends_among (reverse e.masters.items) x _ (length e.owned.items) (ends_own e.masters.items i (length e.owned.items) x found))
 
 content_there : (ms : List Master) (acts : List Activation) (ks : List W.Master) (owned : List Owned) (fs : List Formal) (bound : ℕ) (x : Master) (end slot : ℕ)
@@ -136,17 +137,13 @@ content_there (m ∷ ms) (act ∷ acts) _ owned fs bound x end slot (newest_mast
     ∙ (ap (λ (l : List Formal). holder_in (drop x.owned (take end (take m.owned owned))) slot (formal_in l slot)) formals
     ∙ ap (λ (l : List Owned). holder_in (drop x.owned l) slot (formal_in (own_formals x fs) slot)) (take_less owned end m.owned (omega (arith, within, long)))))
 
-pub holder_is : (code : Code) (e : Engine) (k : List T.Frame) (ops : List ℕ) (w : World) (d : List ℕ) (out slot i : ℕ) (x : Master) → Holds code (kept e) k ops w → slice_get e.masters.items i ≡ Some x → out_of d out ≡ x.number → slot < x.slots
-    → holder_at d out slot w ≡ whole_of (holder_in (drop x.owned (take (own_end (slice_get e.masters.items (i + 1)) (length e.owned.items)) e.owned.items)) slot (formal_in (own_formals x e.formals.items) slot))
+pub holder_is : (code : Code) (e : Engine) (k : List T.Frame) (ops : List Word) (w : World) (d : List ℕ) (out slot i : ℕ) (x : Master) → Holds code (kept e) k ops w → slice_get e.masters.items i ≡ Some x → out_of d out ≡ x.number → slot < x.slots
+    → holder_at d out slot w ≡ spot_of (holder_in (drop x.owned (take (own_end (slice_get e.masters.items (i + 1)) (length e.owned.items)) e.owned.items)) slot (formal_in (own_formals x e.formals.items) slot))
 unfolding opened_changes
 holder_is code e k ops w d out slot i x h found number less =
-    ap (λ n. whole_of (slot_in n slot w.activations).content) number
-    ∙ ap (λ c. whole_of c) (content_there (reverse e.masters.items) w.activations w.ledger.masters e.owned.items e.formals.items (e.given_masters + 1) x _ slot h.masters h.below h.held (ends_own e.masters.items i (length e.owned.items) x found) less)
+    ap (λ n. spot_of (slot_in n slot w.activations).content) number
+    ∙ ap (λ c. spot_of c) (content_there (reverse e.masters.items) w.activations w.ledger.masters e.owned.items e.formals.items (e.given_masters + 1) x _ slot h.masters h.below h.held (ends_own e.masters.items i (length e.owned.items) x found) less)
 
-pub no_holder : (code : Code) (e : Engine) (k : List T.Frame) (ops : List ℕ) (w : World) (d : List ℕ) (out slot : ℕ) → Holds code (kept e) k ops w → IsNoVariable d out slot (reverse e.masters.items) → holder_at d out slot w ≡ None
+pub no_holder : (code : Code) (e : Engine) (k : List T.Frame) (ops : List Word) (w : World) (d : List ℕ) (out slot : ℕ) → Holds code (kept e) k ops w → IsNoVariable d out slot (reverse e.masters.items) → holder_at d out slot w ≡ None
 unfolding opened_changes
-no_holder code e k ops w d out slot h none = ap (λ (y : Slot). whole_of y.content) (no_variable_slot code (kept e) k ops w d out slot h none)
-
--- so many formals from one on
-pub own_slice : (i j : ℕ) (fs : List Formal) → i ≤ j → take (j - i) (drop i fs) ≡ drop i (take j fs)
-own_slice i j fs less = sym (drop-take i (j - i) fs) ∙ ap (λ n. drop i (take n fs)) (omega (arith, less))
+no_holder code e k ops w d out slot h none = ap (λ (y : Slot). spot_of y.content) (no_variable_slot code (kept e) k ops w d out slot h none)

@@ -7,7 +7,7 @@ use Rattle.ctl_code.specs.declared.kinds.Kind.{Kind}
 use Rattle.ctl_code.specs.declared.kinds.Kind.TheVariants.{Operand, Block, Body}
 use Rattle.ctl_code.specs.declared.code.Code.{Code}
 use Rattle.ctl_code.specs.States as T
-use Rattle.ctl_code.specs.States.{InMaster, AfterBlock, AfterBody}
+use Rattle.ctl_code.specs.States.{Word, InMaster, AfterBlock, AfterBody}
 use Rattle.ctl_code.specs.Fits.{Stands}
 use Rattle.ctl_machine.specs.declared.frame.After.{After}
 use Rattle.ctl_machine.specs.declared.frame.Frame.{Frame}
@@ -20,8 +20,8 @@ use Rattle.ctl_machine.specs.Shows.{Wait, Kept, Holds}
 use Rattle.ctl_machine.proofs.Left.{top_of}
 
 -- where something stands, a master is being executed
-pub inside_master : (code : Code) (stack : List Kind) (k : List T.Frame) (ops : List ℕ) → Stands code stack k ops → (n : ℕ) × (handling : T.Handling) × (leads : T.After) × (waiting : List T.Frame) × (k ≡ InMaster n handling leads ∷ waiting)
-inside_master code (Operand ty ∷ stack) k (x ∷ ops) stands = inside_master code stack k ops stands
+pub inside_master : (code : Code) (stack : List Kind) (k : List T.Frame) (ops : List Word) → Stands code stack k ops → (n : ℕ) × (handling : T.Handling) × (leads : T.After) × (waiting : List T.Frame) × (k ≡ InMaster n handling leads ∷ waiting)
+inside_master code (Operand ty ∷ stack) k (x ∷ ops) stands = inside_master code stack k ops stands.1
 inside_master code (Block slots ∷ stack) (InMaster n g (AfterBlock p) ∷ k) [] stands = (n, g, AfterBlock p, k, refl)
 inside_master code (Body level slots ∷ []) (InMaster n g AfterBody ∷ k) [] stands = (n, g, AfterBody, k, refl)
 inside_master code _ _ _ stands = elim stands [ ]
@@ -52,7 +52,7 @@ pub record IsInnermost (e : Kept) (k : List T.Frame) (hs : List Head) : Type 0 w
   pub masters : e.masters ≡ master ∷ others
   pub last : last_of (first_display hs) ≡ master.number
 
-pub innermost : (code : Code) (e : Kept) (stack : List Kind) (k : List T.Frame) (there ops : List ℕ) (w : World) → Stands code stack k there → Holds code e k ops w → IsInnermost e k (heads_of w.activations)
+pub innermost : (code : Code) (e : Kept) (stack : List Kind) (k : List T.Frame) (there ops : List Word) (w : World) → Stands code stack k there → Holds code e k ops w → IsInnermost e k (heads_of w.activations)
 innermost code e stack k there ops w stands h =
     let hs = heads_of w.activations in
     let i = inside_master code stack k there stands in

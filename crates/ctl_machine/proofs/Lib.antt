@@ -1,4 +1,8 @@
 pub mod Lists
+pub mod Words
+pub mod Scalars
+pub mod Transferred
+pub mod Located
 pub mod Slots
 pub mod Places
 pub mod Values

@@ -8,6 +8,7 @@ use Rattle.ctl_meaning.specs.Objects.{object_in, opened_objects}
 use Rattle.ctl_meaning.specs.Changes.{object_at, opened_changes}
 use Rattle.ctl_code.specs.declared.code.Code.{Code}
 use Rattle.ctl_code.specs.States as T
+use Rattle.ctl_code.specs.States.{Word}
 use Rattle.ctl_machine.specs.declared.frame.Owned.{Owned}
 use Rattle.ctl_machine.specs.Holders.{Lacks}
 use Rattle.ctl_machine.specs.Masters.{RiseBelow, object_of}
@@ -71,6 +72,6 @@ unfolding opened_lists opened_objects
 lacking parts [] n h = refl
 lacking parts (o ∷ os) n h = rw (eq_differs o.number n h.0) (lacking parts os n h.1)
 
-pub no_object : (code : Code) (e : Kept) (k : List T.Frame) (ops : List ℕ) (w : World) (n : ℕ) → Holds code e k ops w → Lacks n e.owned → object_at n w ≡ None
+pub no_object : (code : Code) (e : Kept) (k : List T.Frame) (ops : List Word) (w : World) (n : ℕ) → Holds code e k ops w → Lacks n e.owned → object_at n w ≡ None
 unfolding opened_changes
 no_object code e k ops w n h none = ap (λ (l : List W.Object). object_in n l) h.objects ∙ lacking e.parts e.owned n none

@@ -1,17 +1,20 @@
 -- The actuals of a call become the first slots of a body: their cells stand where the slots begin, and formals stand for the objects.
-use Rattle.std.proofs.Common.{◌≡◌, ℕ, zero, suc, ◌+◌, ◌-◌, ◌<◌, ◌≤◌, List, [], ◌∷◌, ◌++◌, Some, Bool, true, false, length, refl, sym, ap, ◌∙◌, subst, arith, map, reverse, drop, replicate}
+use Rattle.std.proofs.Common.{◌≡◌, ℕ, zero, suc, ◌+◌, ◌-◌, ◌≤◌, List, [], ◌∷◌, ◌++◌, Some, Bool, true, false, length, refl, sym, ap, ◌∙◌, subst, arith, map, reverse, drop, take, replicate}
 use Rattle.std.specs.Prelude.{slice_get, slice_set, nat_eq, if◌then◌else◌}
-use Rattle.std.proofs.lemmas.List.{length-append, append-nil, append_assoc, reverse-append, map-append, length-replicate, drop-replicate}
+use Rattle.std.proofs.lemmas.List.{length-append, length-drop, length-reverse, append-nil, append_assoc, reverse-append, map-append, length-replicate, drop-replicate}
 use Rattle.std.proofs.lemmas.Bool.Decides.{nat_tests}
+use Rattle.ctl_program.specs.declared.types.Ty.{Ty}
 use Rattle.ctl_program.specs.declared.types.Ty.TheVariants.{Integer, Count, Boolean, Address, Handle, Access, Record}
 use Rattle.ctl_meaning.specs.World as W
-use Rattle.ctl_meaning.specs.World.{Content, Binds, Slot, unset}
+use Rattle.ctl_meaning.specs.World.{Content, Slot, unset}
+use Rattle.ctl_meaning.specs.Finalization.{Spot}
 use Rattle.ctl_meaning.specs.Lists.{opened_lists}
 use Rattle.ctl_meaning.specs.Names.{opened_names}
 use Rattle.ctl_code.specs.declared.code.Code.{Code}
 use Rattle.ctl_code.specs.declared.code.Entry.{Entry}
-use Rattle.ctl_code.specs.Fits.{Stands}
+use Rattle.ctl_code.specs.Fits.{IsOperandOf, Stands}
 use Rattle.ctl_code.specs.States as T
+use Rattle.ctl_code.specs.States.{Word, Scalar, Located, cells_of, worth}
 use Rattle.ctl_machine.specs.Masters.{Head}
 use Rattle.ctl_machine.specs.Shows.{Sized}
 use Rattle.ctl_code.specs.declared.kinds.Kind.{Kind}
@@ -19,40 +22,15 @@ use Rattle.ctl_code.specs.declared.kinds.Kind.TheVariants.{Operand, Block, Body}
 use Rattle.ctl_code.specs.Table.{formal_of, slots_of}
 use Rattle.ctl_code.specs.Table as Table
 use Rattle.ctl_code.specs.Valid.{HaveOperands}
-use Rattle.ctl_machine.specs.declared.frame.Formal.{Formal}
-use Rattle.ctl_machine.specs.Holders.{formal_in}
+use Rattle.ctl_machine.specs.Holders.{binding, bound_in, formal_in}
 use Rattle.ctl_machine.specs.Moves.{cleared}
-use Rattle.ctl_machine.specs.Passing.{is_object, is_object_at, is_object_if, passed, bound, formal_if}
+use Rattle.ctl_machine.specs.Passing.{AreActuals, is_located, is_part, is_part_at, is_part_if, cell_passed, passed, bound, formal_if}
+use Rattle.ctl_machine.specs.Spots.{located}
 use Rattle.ctl_machine.specs.Under.{cell_in}
 use Rattle.ctl_machine.proofs.Cleared.{cleared_is, unset_cells}
-use Rattle.ctl_machine.proofs.Held.{bound_more, content_in, unset_contents}
-use Rattle.ctl_machine.proofs.Lists.{eq_differs, eq_same, get_right, set_right, length_set}
-
--- One formal --------------------------------------------------------------------------------------------
-
-kind_cell : (kind : Kind) (x : ℕ) → cell_in (formal_of kind x) ≡ (if is_object kind then 0 else x)
-unfolding opened_lists opened_names
-kind_cell (Operand (Record t)) x = refl
-kind_cell (Operand Integer) x = refl
-kind_cell (Operand Count) x = refl
-kind_cell (Operand Boolean) x = refl
-kind_cell (Operand Address) x = refl
-kind_cell (Operand Handle) x = refl
-kind_cell (Operand (Access t)) x = refl
-kind_cell (Block slots) x = refl
-kind_cell (Body level slots) x = refl
-
-kind_content : (kind : Kind) (x : ℕ) → (formal_of kind x).content ≡ (if is_object kind then Binds x 0 [] else W.Nothing)
-unfolding opened_lists opened_names
-kind_content (Operand (Record t)) x = refl
-kind_content (Operand Integer) x = refl
-kind_content (Operand Count) x = refl
-kind_content (Operand Boolean) x = refl
-kind_content (Operand Address) x = refl
-kind_content (Operand Handle) x = refl
-kind_content (Operand (Access t)) x = refl
-kind_content (Block slots) x = refl
-kind_content (Body level slots) x = refl
+use Rattle.ctl_machine.proofs.Held.{content_in, unset_contents}
+use Rattle.ctl_machine.proofs.Lists.{eq_differs, eq_same, set_right, length_set}
+use Rattle.ctl_machine.proofs.Words.{length_cells}
 
 -- One slot more -------------------------------------------------------------------------------------------
 
@@ -84,136 +62,197 @@ content_padded [] n slot = unset_contents n slot
 content_padded (x ∷ xs) n zero = refl
 content_padded (x ∷ xs) n (suc slot) = content_padded xs n slot
 
-found_object : (x : ℕ) (xs rest : List ℕ) (at n : ℕ) → at ≡ length xs + 0 → formal_if true n (slice_get (xs ++ x ∷ rest) at) ≡ record { slot = n; object = x } ∷ []
-found_object x xs rest at n e = ap (λ o. formal_if true n o) (get_right xs (x ∷ rest) 0 at e)
-
 pub length_map : (xs : List Slot) → length (map cell_in xs) ≡ length xs
 length_map [] = refl
 length_map (z ∷ xs) = ap (λ j. suc j) (length_map xs)
 
+-- the formals of the first slots say nothing of later ones
+none_bound : (n : ℕ) (ops : List Word) (slot : ℕ) (c : Content) → n ≤ slot → bound_in (bound n ops) slot c ≡ c
+none_bound zero ops slot c less = refl
+none_bound (suc n) [] slot c less = refl
+none_bound (suc n) (Scalar x ∷ ops) slot c less = none_bound n ops slot c (omega (arith, less))
+none_bound (suc n) (Located s ∷ ops) slot c less =
+    ap (λ b. bound_in (bound n ops) slot (if b then binding s else c)) (eq_differs n slot (λ e. omega (arith, e, less)))
+    ∙ none_bound n ops slot c (omega (arith, less))
+
 -- All of them -------------------------------------------------------------------------------------------
 
 -- so many actuals stand behind these cells, and others behind them
-pub record ArePassed (n : ℕ) (kinds : List Kind) (u ops rest : List ℕ) (base : ℕ) (row : List ℕ) : Type 0 where
-  pub cells : passed n kinds base row ≡ ((u ++ reverse (drop n ops)) ++ map cell_in (Table.formals_of n kinds ops)) ++ rest
-  pub contents : (slot : ℕ) → content_in (Table.formals_of n kinds ops) slot ≡ formal_in (bound n kinds base row) slot
-  pub many : length (Table.formals_of n kinds ops) ≡ n
+pub record ArePassed (n : ℕ) (u : List ℕ) (ops : List Word) (rest : List ℕ) (base : ℕ) (row : List ℕ) : Type 0 where
+  pub cells : passed n ops base row ≡ ((u ++ reverse (cells_of (drop n ops))) ++ map cell_in (Table.formals_of n ops)) ++ rest
+  pub contents : (slot : ℕ) → content_in (Table.formals_of n ops) slot ≡ formal_in (bound n ops) slot
+  pub many : length (Table.formals_of n ops) ≡ n
 
-with_next : (u ops rest : List ℕ) (x : ℕ) → (u ++ reverse (x ∷ ops)) ++ rest ≡ (u ++ reverse ops) ++ (x ∷ rest)
-with_next u ops rest x =
-    ap (λ l. (u ++ l) ++ rest) (reverse-append (x ∷ []) ops)
-    ∙ (ap (λ (l : List ℕ). l ++ rest) (sym (append_assoc u (reverse ops) (x ∷ [])))
-    ∙ append_assoc (u ++ reverse ops) (x ∷ []) rest)
+with_next : (u row rest : List ℕ) (x : ℕ) → (u ++ reverse (x ∷ row)) ++ rest ≡ (u ++ reverse row) ++ (x ∷ rest)
+with_next u row rest x =
+    ap (λ l. (u ++ l) ++ rest) (reverse-append (x ∷ []) row)
+    ∙ (ap (λ (l : List ℕ). l ++ rest) (sym (append_assoc u (reverse row) (x ∷ [])))
+    ∙ append_assoc (u ++ reverse row) (x ∷ []) rest)
 
-next_cells : (b : Bool) (front rest cells : List ℕ) (x y at : ℕ) → y ≡ (if b then 0 else x) → at ≡ length front + 0 → cells ≡ front ++ x ∷ rest → (if b then slice_set cells at 0 else cells) ≡ front ++ y ∷ rest
-next_cells true front rest cells x y at e long is = ap (λ l. slice_set l at 0) is ∙ (set_right front (x ∷ rest) 0 at 0 long ∙ ap (λ c. front ++ c ∷ rest) (sym e))
-next_cells false front rest cells x y at e long is = is ∙ ap (λ c. front ++ c ∷ rest) (sym e)
+next_cell : (x : Word) (front rest row : List ℕ) (at : ℕ) → at ≡ length front + 0 → row ≡ front ++ worth x ∷ rest → cell_passed x at row ≡ front ++ cell_in (formal_of x) ∷ rest
+unfolding opened_lists opened_names
+next_cell (Scalar n) front rest row at long is = is
+next_cell (Located s) front rest row at long is = ap (λ l. slice_set l at 0) is ∙ set_right front (s.object ∷ rest) 0 at 0 long
 
-next_content : (b : Bool) (xs : List Slot) (y : Slot) (fs : List Formal) (front rest cells : List ℕ) (x at slot : ℕ) → y.content ≡ (if b then Binds x 0 [] else W.Nothing) → at ≡ length front + 0 → cells ≡ front ++ x ∷ rest
-    → content_in xs slot ≡ formal_in fs slot → content_in (xs ++ y ∷ []) slot ≡ formal_in (fs ++ formal_if b (length xs) (slice_get cells at)) slot
-next_content true xs y fs front rest cells x at slot e long is h =
-    content_more xs y slot
-    ∙ (ap (λ (c : Content). if nat_eq (length xs) slot then c else content_in xs slot) e
-    ∙ (ap (λ (c : Content). if nat_eq (length xs) slot then Binds x 0 [] else c) h
-    ∙ (sym (bound_more fs (record { slot = length xs; object = x }) slot W.Nothing)
-    ∙ ap (λ (l : List Formal). formal_in (fs ++ l) slot) (sym (ap (λ l. formal_if true (length xs) (slice_get l at)) is ∙ found_object x front rest at (length xs) long)))))
-next_content false xs y fs front rest cells x at slot e long is h = content_same xs y slot e ∙ (h ∙ ap (λ (l : List Formal). formal_in l slot) (sym (append-nil fs)))
+next_content : (x : Word) (n : ℕ) (xs : List Slot) (ops : List Word) (slot : ℕ) → length xs ≡ n → content_in xs slot ≡ formal_in (bound n ops) slot → content_in (xs ++ formal_of x ∷ []) slot ≡ formal_in (formal_if x n ++ bound n ops) slot
+unfolding opened_lists opened_names
+next_content (Scalar v) n xs ops slot many h = content_same xs (formal_of (Scalar v)) slot refl ∙ h
+next_content (Located s) n xs ops slot many h =
+    content_more xs (formal_of (Located s)) slot
+    ∙ (ap (λ j. if nat_eq j slot then binding s else content_in xs slot) many
+    ∙ by (nat_eq n slot) refl)
+  where
+    by : (b : Bool) → nat_eq n slot ≡ b → (if nat_eq n slot then binding s else content_in xs slot) ≡ bound_in (bound n ops) slot (if nat_eq n slot then binding s else W.Nothing)
+    by true e =
+        let same : n ≡ slot = grind (arith, nat_tests, e) in
+        ap (λ c. if c then binding s else content_in xs slot) e
+        ∙ (sym (none_bound n ops slot (binding s) (omega (arith, same)))
+        ∙ ap (λ c. bound_in (bound n ops) slot (if c then binding s else W.Nothing)) (sym e))
+    by false e =
+        ap (λ c. if c then binding s else content_in xs slot) e
+        ∙ (h ∙ ap (λ c. bound_in (bound n ops) slot (if c then binding s else W.Nothing)) (sym e))
 
-pub are_passed : (n : ℕ) (kinds : List Kind) (u ops rest : List ℕ) (base : ℕ) (row : List ℕ) → HaveOperands n kinds → n ≤ length ops → base ≡ length (u ++ reverse (drop n ops)) → row ≡ (u ++ reverse ops) ++ rest → ArePassed n kinds u ops rest base row
+pub are_passed : (n : ℕ) (u : List ℕ) (ops : List Word) (rest : List ℕ) (base : ℕ) (row : List ℕ) → n ≤ length ops → base ≡ length (u ++ reverse (cells_of (drop n ops))) → row ≡ (u ++ reverse (cells_of ops)) ++ rest → ArePassed n u ops rest base row
 unfolding opened_lists
-are_passed zero kinds u ops rest base row h enough e is = record { cells = is ∙ ap (λ (l : List ℕ). l ++ rest) (sym (append-nil (u ++ reverse ops))); contents = λ slot. refl; many = refl }
-are_passed (suc n) [] u ops rest base row h enough e is = absurd h
-are_passed (suc n) (Block slots ∷ kinds) u ops rest base row h enough e is = absurd h
-are_passed (suc n) (Body level slots ∷ kinds) u ops rest base row h enough e is = absurd h
-are_passed (suc n) (Operand ty ∷ kinds) u [] rest base row h enough e is = absurd (omega (arith, enough))
-are_passed (suc n) (Operand ty ∷ kinds) u (x ∷ ops) rest base row h enough e is =
-    let kind = Operand ty in
-    let y = formal_of kind x in
-    let fs = Table.formals_of n kinds ops in
-    let a : List ℕ = u ++ reverse (drop n ops) in
-    let front : List ℕ = a ++ map cell_in fs in
-    let ih = are_passed n kinds u ops (x ∷ rest) base row h (omega (arith, enough)) e (is ∙ with_next u ops rest x) in
+are_passed zero u ops rest base row enough e is = record { cells = is ∙ ap (λ (l : List ℕ). l ++ rest) (sym (append-nil (u ++ reverse (cells_of ops)))); contents = λ slot. refl; many = refl }
+are_passed (suc n) u [] rest base row enough e is = absurd (omega (arith, enough))
+are_passed (suc n) u (x ∷ ops) rest base row enough e is =
+    let y = formal_of x in
+    let fs = Table.formals_of n ops in
+    let a : List ℕ = u ++ reverse (cells_of (drop n ops)) in
+    let all : List ℕ = u ++ reverse (cells_of ops) in
+    let below = length-append u (reverse (cells_of (drop n ops))) in
+    let above = length-append u (reverse (cells_of ops)) in
+    let turned : length (reverse (cells_of (drop n ops))) ≡ length (drop n ops) = length-reverse (cells_of (drop n ops)) ∙ length_cells (drop n ops) in
+    let turned' : length (reverse (cells_of ops)) ≡ length ops = length-reverse (cells_of ops) ∙ length_cells ops in
+    let fewer : length (drop n ops) ≡ length ops - n = length-drop n ops in
+    let long : base + n ≡ length all + 0 = omega (arith, e, below, above, turned, turned', fewer, enough) in
+    let next = next_cell x all rest row (base + n) long (is ∙ with_next u (cells_of ops) rest (worth x)) in
+    let ih = are_passed n u ops (cell_in y ∷ rest) base (cell_passed x (base + n) row) (omega (arith, enough)) e next in
     let many = ih.many in
-    let cells_long : length (map cell_in fs) ≡ n = length_map fs ∙ many in
-    let both : length front ≡ length a + length (map cell_in fs) = length-append a (map cell_in fs) in
-    let long : base + n ≡ length front + 0 = omega (arith, e, both, cells_long) in
-    let last : length fs + 1 ≡ suc n = omega (arith, many) in
     record {
-      cells = next_cells (is_object kind) front rest (passed n kinds base row) x (cell_in y) (base + n) (kind_cell kind x) long ih.cells
-          ∙ (sym (append_assoc front (cell_in y ∷ []) rest)
+      cells = ih.cells
+          ∙ (sym (append_assoc (a ++ map cell_in fs) (cell_in y ∷ []) rest)
           ∙ (ap (λ (l : List ℕ). l ++ rest) (append_assoc a (map cell_in fs) (cell_in y ∷ []))
           ∙ ap (λ (l : List ℕ). (a ++ l) ++ rest) (sym (map-append cell_in fs (y ∷ [])))));
-      contents = λ slot. next_content (is_object kind) fs y (bound n kinds base row) front rest (passed n kinds base row) x (base + n) slot (kind_content kind x) long ih.cells (ih.contents slot)
-          ∙ ap (λ j. formal_in (bound n kinds base row ++ formal_if (is_object kind) j (slice_get (passed n kinds base row) (base + n))) slot) many;
-      many = length-append fs (y ∷ []) ∙ last;
+      contents = λ slot. next_content x n fs ops slot many (ih.contents slot);
+      many = length-append fs (y ∷ []) ∙ omega (arith, many);
     }
 
 -- What stands below them -----------------------------------------------------------------------------------
 
-pub record Below (code : Code) (n : ℕ) (stack : List Kind) (k : List T.Frame) (ops : List ℕ) (hs : List Head) : Type 0 where
+pub record Below (code : Code) (n : ℕ) (stack : List Kind) (k : List T.Frame) (ops : List Word) (hs : List Head) : Type 0 where
   pub enough : n ≤ length ops
   pub stands : Stands code (drop n stack) k (drop n ops)
   pub sized : Sized code (drop n stack) k hs
 
-pub below_actuals : (code : Code) (n : ℕ) (stack : List Kind) (k : List T.Frame) (ops : List ℕ) (hs : List Head) → HaveOperands n stack → Stands code stack k ops → Sized code stack k hs → Below code n stack k ops hs
+pub below_actuals : (code : Code) (n : ℕ) (stack : List Kind) (k : List T.Frame) (ops : List Word) (hs : List Head) → HaveOperands n stack → Stands code stack k ops → Sized code stack k hs → Below code n stack k ops hs
 below_actuals code zero stack k ops hs h stands sized = record { enough = omega arith; stands = stands; sized = sized }
 below_actuals code (suc n) [] k ops hs h stands sized = absurd h
 below_actuals code (suc n) (Block slots ∷ stack) k ops hs h stands sized = absurd h
 below_actuals code (suc n) (Body level slots ∷ stack) k ops hs h stands sized = absurd h
 below_actuals code (suc n) (Operand ty ∷ stack) k [] hs h stands sized = absurd stands
 below_actuals code (suc n) (Operand ty ∷ stack) k (x ∷ ops) hs h stands sized =
-    let b = below_actuals code n stack k ops hs h stands sized in
+    let b = below_actuals code n stack k ops hs h stands.1 sized in
     let enough = b.enough in
     record { enough = omega (arith, enough); stands = b.stands; sized = b.sized }
 
+-- and they are of these kinds
+pub are_actuals : (code : Code) (n : ℕ) (stack : List Kind) (k : List T.Frame) (ops : List Word) → HaveOperands n stack → Stands code stack k ops → AreActuals n stack ops
+are_actuals code zero stack k ops h stands = tt
+are_actuals code (suc n) [] k ops h stands = absurd h
+are_actuals code (suc n) (Block slots ∷ stack) k ops h stands = absurd h
+are_actuals code (suc n) (Body level slots ∷ stack) k ops h stands = absurd h
+are_actuals code (suc n) (Operand ty ∷ stack) k [] h stands = absurd stands
+are_actuals code (suc n) (Operand ty ∷ stack) k (x ∷ ops) h stands = (stands.0, are_actuals code n stack k ops h stands.1)
+
 -- One actual after another ------------------------------------------------------------------------------
 
-drop_next : (xs : List Kind) (i : ℕ) → i < length xs → (x : Kind) × (slice_get xs i ≡ Some x) × (drop i xs ≡ x ∷ drop (suc i) xs)
-drop_next [] i less = absurd (omega (arith, less))
-drop_next (x ∷ xs) zero less = (x, refl, refl)
-drop_next (x ∷ xs) (suc i) less = drop_next xs i (omega (arith, less))
+kind_is : (ty : Ty) (x : Word) → IsOperandOf ty x → is_part (Operand ty) ≡ is_located x
+kind_is (Record t) (Scalar n) h = absurd h
+kind_is (Record t) (Located s) h = refl
+kind_is Integer (Scalar n) h = refl
+kind_is Count (Scalar n) h = refl
+kind_is Boolean (Scalar n) h = refl
+kind_is Address (Scalar n) h = refl
+kind_is Handle (Scalar n) h = refl
+kind_is (Access a) (Scalar n) h = refl
+kind_is Integer (Located s) h = absurd h
+kind_is Count (Located s) h = absurd h
+kind_is Boolean (Located s) h = absurd h
+kind_is Address (Located s) h = absurd h
+kind_is Handle (Located s) h = absurd h
+kind_is (Access a) (Located s) h = absurd h
 
--- what stands below the actuals up to a slot
-stack_next : (n slot : ℕ) (stack : List Kind) → slot < n → n ≤ length stack → (x : Kind) × (is_object_at stack (n - 1 - slot) ≡ is_object x) × (drop (n - suc slot) stack ≡ x ∷ drop (n - slot) stack)
-stack_next n slot stack less many =
-    let d = drop_next stack (n - 1 - slot) (omega (arith, less, many)) in
-    let here : n - suc slot ≡ n - 1 - slot = omega (arith, less) in
-    let next : suc (n - 1 - slot) ≡ n - slot = omega (arith, less) in (
-      d.0,
-      ap (λ o. is_object_if o) d.1,
-      ap (λ i. drop i stack) here ∙ (d.2 ∙ ap (λ i. d.0 ∷ drop i stack) next),
-    )
+dropped_next : {X : Type 0} (xs : List X) (i : ℕ) (x : X) (ys : List X) → drop i xs ≡ x ∷ ys → (slice_get xs i ≡ Some x) × (drop (suc i) xs ≡ ys)
+dropped_next [] zero x ys e = absurd (cc)
+dropped_next [] (suc i) x ys e = absurd (cc)
+dropped_next (z ∷ xs) zero x ys e = (cc, cc)
+dropped_next (z ∷ xs) (suc i) x ys e = dropped_next xs i x ys e
 
-pub passed_next : (n slot base : ℕ) (stack : List Kind) (cells : List ℕ) → slot < n → n ≤ length stack
-    → (if is_object_at stack (n - 1 - slot) then slice_set (passed slot (drop (n - slot) stack) base cells) (base + slot) 0 else passed slot (drop (n - slot) stack) base cells) ≡ passed (slot + 1) (drop (n - (slot + 1)) stack) base cells
-passed_next n slot base stack cells less many =
-    let s = stack_next n slot stack less many in
-    let before = passed slot (drop (n - slot) stack) base cells in
-    let next : suc slot ≡ slot + 1 = omega arith in
-    ap (λ b. if b then slice_set before (base + slot) 0 else before) s.1
-    ∙ (sym (ap (λ l. passed (suc slot) l base cells) s.2)
-    ∙ ap (λ j. passed j (drop (n - j) stack) base cells) next)
+-- the actual that is passed next, of so many that are left
+pub record IsNext (m i : ℕ) (stack : List Kind) (ops : List Word) : Type 0 where
+  pub word : Word
+  pub rest : List Word
+  pub are : drop i ops ≡ word ∷ rest
+  pub next : drop (suc i) ops ≡ rest
+  pub is : is_part_at stack i ≡ is_located word
+  pub actuals : AreActuals m (drop (suc i) stack) (drop (suc i) ops)
 
-pub bound_next : (n slot base : ℕ) (stack : List Kind) (cells : List ℕ) → slot < n → n ≤ length stack
-    → bound slot (drop (n - slot) stack) base cells ++ formal_if (is_object_at stack (n - 1 - slot)) slot (slice_get (passed slot (drop (n - slot) stack) base cells) (base + slot)) ≡ bound (slot + 1) (drop (n - (slot + 1)) stack) base cells
-bound_next n slot base stack cells less many =
-    let s = stack_next n slot stack less many in
-    let cell = slice_get (passed slot (drop (n - slot) stack) base cells) (base + slot) in
-    let next : suc slot ≡ slot + 1 = omega arith in
-    ap (λ b. bound slot (drop (n - slot) stack) base cells ++ formal_if b slot cell) s.1
-    ∙ (sym (ap (λ l. bound (suc slot) l base cells) s.2)
-    ∙ ap (λ j. bound j (drop (n - j) stack) base cells) next)
+pub is_next : (m i : ℕ) (stack : List Kind) (ops : List Word) → AreActuals (suc m) (drop i stack) (drop i ops) → IsNext m i stack ops
+is_next m i stack ops h = by (drop i stack) (drop i ops) refl refl h
+  where
+    by : (kinds : List Kind) (words : List Word) → drop i stack ≡ kinds → drop i ops ≡ words → AreActuals (suc m) kinds words → IsNext m i stack ops
+    by (Operand ty ∷ kinds) (x ∷ words) e f g =
+        let k = dropped_next stack i (Operand ty) kinds e in
+        let w = dropped_next ops i x words f in
+        record {
+          word = x;
+          rest = words;
+          are = f;
+          next = w.1;
+          is = ap (λ o. is_part_if o) k.0 ∙ kind_is ty x g.0;
+          actuals = subst (λ (l : List Kind). AreActuals m l (drop (suc i) ops)) (sym k.1) (subst (λ (l : List Word). AreActuals m kinds l) (sym w.1) g.1);
+        }
+    by _ _ e f g = elim g [ ]
+
+-- the newest part among operands
+pub located_more : (x : Word) (ops : List Word) → located (x ∷ ops) ≡ located ops ++ located (x ∷ [])
+located_more (Scalar n) ops = sym (append-nil (located ops))
+located_more (Located s) ops = refl
+
+pub located_parted : (n : ℕ) (ops : List Word) → located ops ≡ located (drop n ops) ++ located (take n ops)
+located_parted zero ops = sym (append-nil (located ops))
+located_parted (suc n) [] = refl
+located_parted (suc n) (x ∷ ops) =
+    located_more x ops
+    ∙ (ap (λ (l : List Spot). l ++ located (x ∷ [])) (located_parted n ops)
+    ∙ (append_assoc (located (drop n ops)) (located (take n ops)) (located (x ∷ []))
+    ∙ ap (λ (l : List Spot). located (drop n ops) ++ l) (sym (located_more x (take n ops)))))
+
+pub some_located : (x : Word) → is_located x ≡ true → length (located (x ∷ [])) ≡ 1
+some_located (Scalar n) e = absurd (cc)
+some_located (Located s) e = refl
+
+-- the actual that is passed next is the newest part, if it is one
+pub next_spots : (m i : ℕ) (stack : List Kind) (ops : List Word) (below spots : List Spot) (x : IsNext m i stack ops) → spots ≡ below ++ located (take (suc m) (drop i ops)) → spots ≡ (below ++ located (take m (drop (suc i) ops))) ++ located (x.word ∷ [])
+next_spots m i stack ops below spots x e =
+    e
+    ∙ (ap (λ (l : List Word). below ++ located (take (suc m) l)) x.are
+    ∙ (ap (λ (l : List Spot). below ++ l) (located_more x.word (take m x.rest))
+    ∙ (sym (append_assoc below (located (take m x.rest)) (located (x.word ∷ [])))
+    ∙ ap (λ (l : List Word). (below ++ located (take m l)) ++ located (x.word ∷ [])) (sym x.next))))
 
 -- The other slots ----------------------------------------------------------------------------------------
 
-pub length_passed : (n : ℕ) (kinds : List Kind) (base : ℕ) (cells : List ℕ) → length (passed n kinds base cells) ≡ length cells
-length_passed zero kinds base cells = refl
+pub length_cell : (x : Word) (at : ℕ) (cells : List ℕ) → length (cell_passed x at cells) ≡ length cells
+length_cell (Scalar n) at cells = refl
+length_cell (Located s) at cells = length_set cells at 0
+
+pub length_passed : (n : ℕ) (ops : List Word) (base : ℕ) (cells : List ℕ) → length (passed n ops base cells) ≡ length cells
+length_passed zero ops base cells = refl
 length_passed (suc n) [] base cells = refl
-length_passed (suc n) (kind ∷ kinds) base cells = by (is_object kind) (length_passed n kinds base cells)
-  where
-    by : (b : Bool) → length (passed n kinds base cells) ≡ length cells → length (if b then slice_set (passed n kinds base cells) (base + n) 0 else passed n kinds base cells) ≡ length cells
-    by true h = length_set (passed n kinds base cells) (base + n) 0 ∙ h
-    by false h = h
+length_passed (suc n) (x ∷ ops) base cells = length_passed n ops base (cell_passed x (base + n) cells) ∙ length_cell x (base + n) cells
 
 -- the slots of a body with so many actuals
 slots_are : (actuals : List Slot) (entry : Entry) → slots_of actuals entry ≡ actuals ++ replicate (entry.slots - length actuals) unset

@@ -10,6 +10,7 @@ use Rattle.ctl_meaning.specs.Activations.{slot_in, opened_activations}
 use Rattle.ctl_meaning.specs.Changes.{opened_changes}
 use Rattle.ctl_code.specs.declared.code.Code.{Code}
 use Rattle.ctl_code.specs.States as T
+use Rattle.ctl_code.specs.States.{Word}
 use Rattle.ctl_code.specs.Table.{out_of, cell_at}
 use Rattle.ctl_machine.specs.declared.engine.Engine.{Engine}
 use Rattle.ctl_machine.specs.declared.frame.Master.{Master}
@@ -50,7 +51,7 @@ out_of_all count out hs e = ap (λ n. out_of (display_from n hs) out) e ∙ ap (
 
 -- Cells ------------------------------------------------------------------------------------------------
 
-pub linked_in : (code : Code) (e : Engine) (k : List T.Frame) (ops : List ℕ) (w : World) → Holds code (kept e) k ops w → AreLinked e.masters.items (heads_of w.activations)
+pub linked_in : (code : Code) (e : Engine) (k : List T.Frame) (ops : List Word) (w : World) → Holds code (kept e) k ops w → AreLinked e.masters.items (heads_of w.activations)
 linked_in code e k ops w h = subst (λ (l : List Master). AreLinked l (heads_of w.activations)) (reverse-reverse e.masters.items) (are_linked h.masters)
 
 -- the master at a place, as it is read
@@ -120,9 +121,9 @@ unfolding opened_changes opened_lists
 unset_reads_zero d out slot w e = ap (λ (x : Slot). x.value) e
 
 -- a slot that no master has holds nothing
-pub no_variable_slot : (code : Code) (e : Kept) (k : List T.Frame) (ops : List ℕ) (w : World) (d : List ℕ) (out slot : ℕ) → Holds code e k ops w → IsNoVariable d out slot e.masters → slot_in (out_of d out) slot w.activations ≡ unset
+pub no_variable_slot : (code : Code) (e : Kept) (k : List T.Frame) (ops : List Word) (w : World) (d : List ℕ) (out slot : ℕ) → Holds code e k ops w → IsNoVariable d out slot e.masters → slot_in (out_of d out) slot w.activations ≡ unset
 no_variable_slot code e k ops w d out slot h (inl none) = ap (λ n. slot_in n slot w.activations) none ∙ not_there 0 slot w.activations (no_zero e.masters w.activations w.ledger.masters e.owned e.next_master h.masters h.below)
 no_variable_slot code e k ops w d out slot h (inr v) = ap (λ n. slot_in n slot w.activations) v.number ∙ beyond_in e.masters w.activations w.ledger.masters e.owned e.next_master v.master slot h.masters h.below v.among v.beyond
 
-pub no_variable_read : (code : Code) (e : Kept) (k : List T.Frame) (ops : List ℕ) (w : World) (d : List ℕ) (out slot : ℕ) → Holds code e k ops w → IsNoVariable d out slot e.masters → cell_at d out slot w ≡ 0
+pub no_variable_read : (code : Code) (e : Kept) (k : List T.Frame) (ops : List Word) (w : World) (d : List ℕ) (out slot : ℕ) → Holds code e k ops w → IsNoVariable d out slot e.masters → cell_at d out slot w ≡ 0
 no_variable_read code e k ops w d out slot h none = unset_reads_zero d out slot w (no_variable_slot code e k ops w d out slot h none)

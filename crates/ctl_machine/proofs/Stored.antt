@@ -10,7 +10,7 @@ use Rattle.ctl_code.specs.declared.code.Code.{Code}
 use Rattle.ctl_code.specs.declared.code.Cell.{Cell}
 use Rattle.ctl_code.specs.declared.code.Instr.TheVariants.{Store}
 use Rattle.ctl_code.specs.States as T
-use Rattle.ctl_code.specs.States.{State, Move, At}
+use Rattle.ctl_code.specs.States.{Word, State, Move, At}
 use Rattle.ctl_code.specs.Table.{by_instr, on, quiet, with_cell, out_of}
 use Rattle.ctl_machine.specs.declared.engine.Engine.{Engine}
 use Rattle.ctl_machine.specs.declared.frame.Master.{Master}
@@ -53,7 +53,7 @@ nothing_valued : (n slot x : ℕ) (w : World) → ((y : Slot) → change_slot n 
 unfolding set_value
 nothing_valued n slot x w e = set_nothing n slot (record (slot_at n slot w) { value = x }) w (e (record (slot_at n slot w) { value = x }))
 
-nothing_written : (code : Code) (e : Kept) (k : List T.Frame) (ops : List ℕ) (w : World) (d : List ℕ) (out slot x : ℕ) → Holds code e k ops w → IsNoVariable d out slot e.masters → with_cell d out slot x w ≡ w
+nothing_written : (code : Code) (e : Kept) (k : List T.Frame) (ops : List Word) (w : World) (d : List ℕ) (out slot x : ℕ) → Holds code e k ops w → IsNoVariable d out slot e.masters → with_cell d out slot x w ≡ w
 nothing_written code e k ops w d out slot x h (inl none) =
     nothing_valued (out_of d out) slot x w (λ y. ap (λ n. change_slot n slot y w.activations) none ∙ unwritten 0 slot y w.activations (no_zero e.masters w.activations w.ledger.masters e.owned e.next_master h.masters h.below))
 nothing_written code e k ops w d out slot x h (inr v) =
@@ -62,7 +62,7 @@ nothing_written code e k ops w d out slot x h (inr v) =
 -- A value is given ----------------------------------------------------------------------------------------
 
 from_taken : (code : Code) (e : Engine) (place : ℕ) (s : State) (from : Cell) (ty : Ty) (out slot : ℕ) → (b : Before code e place (Store from ty out slot) s) → IsTaken code (kept e) from b.fine.1.0 s.control s.operands s.world (first_display (heads_of s.world.activations))
-from_taken code e place s from ty out slot b = taken code (kept e) from ty b.stack b.fine.1.0 s.control s.operands s.world b.inside b.fine.1.1
+from_taken code e place s from ty out slot b = taken code (kept e) from ty b.stack b.fine.1.0 s.control s.operands s.world b.fine.0 b.inside b.fine.1.1
 
 -- the move, once the value is taken
 stored_move : (code : Code) (e new : Engine) (place : ℕ) (s : State) (from : Cell) (ty : Ty) (out slot x : ℕ) → (b : Before code e place (Store from ty out slot) s) → slice_get e.cells.items (cell_of e from) ≡ Some x
@@ -88,6 +88,7 @@ store_makes code e new place s from ty out slot at x b read v g =
       stands = t.left.stands;
       sized = subst (λ hs. Sized code b.fine.1.0 s.control hs) (sym p.2) t.left.sized;
       holds = p.0;
+      spots = t.left.spots;
     }) g))
 
 pub store_none : (code : Code) (e new : Engine) (place : ℕ) (s : State) (from : Cell) (ty : Ty) (out slot x : ℕ) → Before code e place (Store from ty out slot) s → slice_get e.cells.items (cell_of e from) ≡ Some x → IsNoVariable (first_display (heads_of s.world.activations)) out slot (kept e).masters

@@ -1,10 +1,9 @@
--- Components are read, and the object of a slot is found.
+-- Components of what slots hold are read.
 use Rattle.std.proofs.Common.{◌≡◌, ℕ, ◌+◌, List, [], Option, Some, None, refl, sym, ap, ◌∙◌, subst, reverse}
 use Rattle.std.specs.Prelude.{slice_get, slice_set}
 use Rattle.std.proofs.lemmas.List.{append-nil}
 use Rattle.ctl_tree.specs.declared.ending.Stop.TheVariants.{UseAfterFree}
 use Rattle.ctl_program.specs.declared.types.Ty.{Ty}
-use Rattle.ctl_program.specs.declared.types.Ty.TheVariants.{Record}
 use Rattle.ctl_meaning.specs.World as W
 use Rattle.ctl_meaning.specs.World.{World}
 use Rattle.ctl_meaning.specs.Names.{scalar_of}
@@ -13,11 +12,10 @@ use Rattle.ctl_meaning.specs.Changes.{object_at}
 use Rattle.ctl_code.specs.declared.code.Code.{Code}
 use Rattle.ctl_code.specs.declared.code.Cell.{Cell}
 use Rattle.ctl_code.specs.declared.code.Named.{Named}
-use Rattle.ctl_code.specs.declared.code.Named.TheVariants as NamedOf
-use Rattle.ctl_code.specs.declared.code.Instr.TheVariants.{FetchPart, Locate}
+use Rattle.ctl_code.specs.declared.code.Instr.TheVariants.{FetchPart}
 use Rattle.ctl_code.specs.States as T
-use Rattle.ctl_code.specs.States.{State, Move}
-use Rattle.ctl_code.specs.Table.{Here, by_instr, by_fetch_part, by_locate, fetched, gone, holder_at, offset_of, put}
+use Rattle.ctl_code.specs.States.{Word, State, Move}
+use Rattle.ctl_code.specs.Table.{Here, by_instr, by_fetch_part, fetched, gone, holder_at, offset_of, put}
 use Rattle.ctl_code.specs.Valid.{IsValid}
 use Rattle.ctl_machine.specs.declared.engine.Engine.{Engine}
 use Rattle.ctl_machine.specs.declared.frame.Mode.{Mode}
@@ -31,12 +29,15 @@ use Rattle.ctl_machine.specs.Moves.{Before, Makes, GoesOn, here_of}
 use Rattle.ctl_machine.proofs.Finalized.{object_is}
 use Rattle.ctl_machine.proofs.Numbers.{no_object}
 use Rattle.ctl_machine.proofs.Plain.{no_operands, put_makes}
+use Rattle.ctl_machine.specs.Spots.{KeepsSpots}
+use Rattle.ctl_meaning.specs.Finalization.{Spot}
 
 -- what the machine uses has ceased to exist
-pub gone_makes : (code : Code) (old new : Engine) (k : List T.Frame) (ops : List ℕ) (w : World) → Holds code (kept old) k ops w → GoesOn old new (ModeOf.Stopped UseAfterFree) old.cells.items → Makes code old new (gone k w)
+pub gone_makes : (code : Code) (old new : Engine) (k : List T.Frame) (ops : List Word) (w : World) → Holds code (kept old) k ops w → GoesOn old new (ModeOf.Stopped UseAfterFree) old.cells.items → Makes code old new (gone k w)
 gone_makes code old new k ops w h g = record {
   mode = subst (λ (m : Mode). ShowsMode code m (T.Stopped UseAfterFree) k (heads_of w.activations)) (sym g.mode) refl;
   holds = subst (λ (e : Kept). Holds code e k [] w) (sym g.kept) (no_operands code (kept old) k ops w h);
+  spots = subst (λ (m : Mode). KeepsSpots m new.spots.items k []) (sym g.mode) tt;
   shows = g.events ∙ sym (append-nil old.events.items);
   picks = g.picks;
 }
@@ -44,17 +45,17 @@ gone_makes code old new k ops w h g = record {
 -- A component --------------------------------------------------------------------------------------------
 
 -- the table's move, once the component is read
-abbrev part_move : Option ℕ → Named → List ℕ → Here → Move
+abbrev pub part_move : Option ℕ → Named → List Word → Here → Move
 part_move None to ops h = gone h.control h.world
 part_move (Some x) to ops h = put to x ops h
 
-fetched_is : (offset : ℕ) (o : Option W.Object) (to : Named) (ops : List ℕ) (h : Here) → fetched offset o to ops h ≡ part_move (part_in offset o) to ops h
+pub fetched_is : (offset : ℕ) (o : Option W.Object) (to : Named) (ops : List Word) (h : Here) → fetched offset o to ops h ≡ part_move (part_in offset o) to ops h
 fetched_is offset None to ops h = refl
 fetched_is offset (Some o) to ops h = refl
 
-fetch_is : (offset : ℕ) (holder : Option ℕ) (to : Named) (ops : List ℕ) (h : Here) → by_fetch_part offset holder to ops h ≡ part_move (part_at offset holder h.world) to ops h
+fetch_is : (offset : ℕ) (holder : Option Spot) (to : Named) (ops : List Word) (h : Here) → by_fetch_part offset holder to ops h ≡ part_move (part_at offset holder h.world) to ops h
 fetch_is offset None to ops h = refl
-fetch_is offset (Some n) to ops h = fetched_is offset (object_at n h.world) to ops h
+fetch_is offset (Some s) to ops h = fetched_is (s.offset + offset) (object_at s.object h.world) to ops h
 
 fetch_move : (code : Code) (place : ℕ) (s : State) (out slot t position offset : ℕ) (ty : Ty) (to : Cell) (x : Option ℕ) → offset ≡ offset_of code t position → x ≡ part_at offset (holder_at (first_display (heads_of s.world.activations)) out slot s.world) s.world
     → by_instr code (Some (FetchPart out slot t position ty to)) s.operands (here_of place s) ≡ part_move x to.named s.operands (here_of place s)
@@ -69,7 +70,7 @@ pub fetch_makes : (code : Code) (old new : Engine) (place : ℕ) (s : State) (ou
     → (t' position' : ℕ) (ty' : Ty) → offset ≡ offset_of code t' position' → Makes code old new (by_instr code (Some (FetchPart out slot t' position' ty' to)) s.operands (here_of place s))
 fetch_makes code old new place s out slot t position offset ty to x valid b is g t' position' ty' same =
     subst (λ (m : Move). Makes code old new m) (sym (fetch_move code place s out slot t' position' offset ty' to (Some x) same is))
-    (put_makes code old new place to ty b.stack s.control s.operands s.world x valid b.inside b.fine.1 g)
+    (put_makes code old new place to ty b.stack s.control s.operands s.world x b.fine.0 valid b.inside b.fine.1 g)
 
 pub fetch_gone : (code : Code) (old new : Engine) (place : ℕ) (s : State) (out slot t position offset : ℕ) (ty : Ty) (to : Cell) → Before code old place (FetchPart out slot t position ty to) s
     → None ≡ part_at offset (holder_at (first_display (heads_of s.world.activations)) out slot s.world) s.world → GoesOn old new (ModeOf.Stopped UseAfterFree) old.cells.items
@@ -79,31 +80,9 @@ fetch_gone code old new place s out slot t position offset ty to b is g t' posit
     (gone_makes code old new s.control s.operands s.world b.inside.holds g)
 
 -- the component of an object that is there
-pub part_there : (code : Code) (e : Engine) (k : List T.Frame) (ops : List ℕ) (w : World) (at n offset : ℕ) (o : Owned) → Holds code (kept e) k ops w → slice_get e.owned.items at ≡ Some o → o.number ≡ n → part_at offset (Some n) w ≡ Some (scalar_of (cells_at offset 1 (object_of e.parts.items o)))
+pub part_there : (code : Code) (e : Engine) (k : List T.Frame) (ops : List Word) (w : World) (at n offset : ℕ) (o : Owned) → Holds code (kept e) k ops w → slice_get e.owned.items at ≡ Some o → o.number ≡ n → part_in offset (object_at n w) ≡ Some (scalar_of (cells_at offset 1 (object_of e.parts.items o)))
 part_there code e k ops w at n offset o h found number =
     ap (λ c. part_in offset (object_at c w)) (sym number) ∙ ap (λ (x : Option W.Object). part_in offset x) (object_is code (kept e) k ops w at o h found)
 
-pub part_gone : (code : Code) (e : Engine) (k : List T.Frame) (ops : List ℕ) (w : World) (n offset : ℕ) → Holds code (kept e) k ops w → Lacks n e.owned.items → part_at offset (Some n) w ≡ None
+pub part_gone : (code : Code) (e : Engine) (k : List T.Frame) (ops : List Word) (w : World) (n offset : ℕ) → Holds code (kept e) k ops w → Lacks n e.owned.items → part_in offset (object_at n w) ≡ None
 part_gone code e k ops w n offset h none = ap (λ (x : Option W.Object). part_in offset x) (no_object code (kept e) k ops w n h none)
-
--- The object of a slot -----------------------------------------------------------------------------------
-
-abbrev operand_at : ℕ → Cell
-operand_at at = record { at = at; named = NamedOf.Operand }
-
-locate_move : (code : Code) (place : ℕ) (s : State) (out slot t at : ℕ) (x : Option ℕ) → x ≡ holder_at (first_display (heads_of s.world.activations)) out slot s.world
-    → by_instr code (Some (Locate out slot t at)) s.operands (here_of place s) ≡ by_locate x s.operands (here_of place s)
-locate_move code place s out slot t at x is = ap (λ y. by_locate y s.operands (here_of place s)) (sym is)
-
-pub locate_makes : (code : Code) (old new : Engine) (place : ℕ) (s : State) (out slot t at x : ℕ) → IsValid code → Before code old place (Locate out slot t at) s → Some x ≡ holder_at (first_display (heads_of s.world.activations)) out slot s.world
-    → GoesOn old new (ModeOf.At (place + 1)) (slice_set old.cells.items (first_window (reverse old.masters.items) + at) x)
-    → Makes code old new (by_instr code (Some (Locate out slot t at)) s.operands (here_of place s))
-locate_makes code old new place s out slot t at x valid b is g =
-    subst (λ (m : Move). Makes code old new m) (sym (locate_move code place s out slot t at (Some x) is))
-    (put_makes code old new place (operand_at at) (Record t) b.stack s.control s.operands s.world x valid b.inside b.fine g)
-
-pub locate_gone : (code : Code) (old new : Engine) (place : ℕ) (s : State) (out slot t at : ℕ) → Before code old place (Locate out slot t at) s → None ≡ holder_at (first_display (heads_of s.world.activations)) out slot s.world
-    → GoesOn old new (ModeOf.Stopped UseAfterFree) old.cells.items → Makes code old new (by_instr code (Some (Locate out slot t at)) s.operands (here_of place s))
-locate_gone code old new place s out slot t at b is g =
-    subst (λ (m : Move). Makes code old new m) (sym (locate_move code place s out slot t at None is))
-    (gone_makes code old new s.control s.operands s.world b.inside.holds g)

@@ -11,7 +11,7 @@ use Rattle.ctl_code.specs.declared.kinds.Kind.{Kind}
 use Rattle.ctl_code.specs.declared.kinds.Kind.TheVariants.{Operand}
 use Rattle.ctl_code.specs.declared.code.Code.{Code}
 use Rattle.ctl_code.specs.declared.code.Instr.TheVariants.{For, Next}
-use Rattle.ctl_code.specs.States.{Move, State, At}
+use Rattle.ctl_code.specs.States.{Word, Scalar, Move, State, At}
 use Rattle.ctl_code.specs.Table.{Here, by_instr, by_for, by_next, bounds_after, in_turn, quiet, with_parameter}
 use Rattle.ctl_code.specs.Valid.{Leads}
 use Rattle.ctl_machine.specs.declared.engine.Engine.{Engine}
@@ -51,16 +51,16 @@ following_fits Downward a b = cell_fits (signed b -ℤ pos 1) (omega (arith, int
 -- Turns of the table --------------------------------------------------------------------------------------
 
 -- the operands and the world of a turn with this value
-abbrev turn_of : Direction → ℕ → ℕ → ℕ → ℕ → ℕ → List ℕ → Here → Move
-turn_of way slot a b x place ops h = quiet (At h.display place) h.control (upper_of way x b ∷ lower_of way x a ∷ ops) (with_parameter h.display slot x h.world)
+abbrev turn_of : Direction → ℕ → ℕ → ℕ → ℕ → ℕ → List Word → Here → Move
+turn_of way slot a b x place ops h = quiet (At h.display place) h.control (Scalar (upper_of way x b) ∷ Scalar (lower_of way x a) ∷ ops) (with_parameter h.display slot x h.world)
 
 -- the first turn: the bounds stay
-first_turn : (way : Direction) (slot a b place : ℕ) (ops : List ℕ) (h : Here) → a < 2 ^ 64 → b < 2 ^ 64 → in_turn way slot (b ∷ a ∷ []) place ops h ≡ turn_of way slot a b (start way a b) place ops h
+first_turn : (way : Direction) (slot a b place : ℕ) (ops : List Word) (h : Here) → a < 2 ^ 64 → b < 2 ^ 64 → in_turn way slot (b ∷ a ∷ []) place ops h ≡ turn_of way slot a b (start way a b) place ops h
 first_turn Upward slot a b place ops h fa fb = rw (cell_stays a fa) refl
 first_turn Downward slot a b place ops h fa fb = rw (cell_stays b fb) refl
 
 -- each other turn
-next_turn : (way : Direction) (slot a b place : ℕ) (ops : List ℕ) (h : Here) → in_turn way slot (bounds_after way a b) place ops h ≡ turn_of way slot a b (following way a b) place ops h
+next_turn : (way : Direction) (slot a b place : ℕ) (ops : List Word) (h : Here) → in_turn way slot (bounds_after way a b) place ops h ≡ turn_of way slot a b (following way a b) place ops h
 next_turn Upward slot a b place ops h = rw (cell_stays (following Upward a b) (following_fits Upward a b)) refl
 next_turn Downward slot a b place ops h = rw (cell_stays (following Downward a b) (following_fits Downward a b)) refl
 

@@ -3,11 +3,11 @@ use Rattle.std.proofs.Common.{◌≡◌, ◌≢◌, ℕ, zero, suc, ◌-◌, ◌
 use Rattle.std.specs.Prelude.{slice_get, slice_index_or, nat_eq, if◌then◌else◌}
 use Rattle.std.proofs.lemmas.Option.{slice_get_within}
 use Rattle.ctl_meaning.specs.World as W
-use Rattle.ctl_meaning.specs.World.{Content, Binds}
+use Rattle.ctl_meaning.specs.World.{Content}
 use Rattle.ctl_machine.specs.declared.frame.Life.TheVariants as LifeOf
 use Rattle.ctl_machine.specs.declared.frame.Formal.{Formal}
 use Rattle.ctl_machine.specs.declared.frame.Owned.{Owned}
-use Rattle.ctl_machine.specs.Holders.{holder_in, formal_in}
+use Rattle.ctl_machine.specs.Holders.{binding, holder_in, formal_in}
 use Rattle.ctl_machine.proofs.Lists.{eq_same, eq_differs, get_index}
 use Rattle.ctl_machine.proofs.Laid.{length_taken}
 use Rattle.ctl_machine.proofs.Held.{holder_more, bound_more}
@@ -54,27 +54,26 @@ holder_passed os start at slot d c some within differs =
 
 -- Formals ------------------------------------------------------------------------------------------------
 
--- what is read where no formal is
-abbrev pub any_formal : Formal
-any_formal = record { slot = 0; object = 0 }
-
 -- one formal further down
-formal_walk : (fs : List Formal) (at slot : ℕ) (f : Formal) → slice_get fs at ≡ Some f → formal_in (take (suc at) fs) slot ≡ (if nat_eq f.slot slot then Binds f.object 0 [] else formal_in (take at fs) slot)
-formal_walk fs at slot f found = ap (λ (l : List Formal). formal_in l slot) (take_last fs at f found) ∙ bound_more (take at fs) f slot W.Nothing
+formal_walk : (fs : List Formal) (start at slot : ℕ) (f : Formal) → start ≤ at → slice_get fs at ≡ Some f → formal_in (drop start (take (suc at) fs)) slot ≡ (if nat_eq f.slot slot then binding f.spot else formal_in (drop start (take at fs)) slot)
+formal_walk fs start at slot f less found =
+    let within = slice_get_within fs at f found in
+    let long : length (take at fs) ≡ at = length_taken at fs (omega (arith, within)) in
+    ap (λ (l : List Formal). formal_in (drop start l) slot) (take_last fs at f found)
+    ∙ (ap (λ (l : List Formal). formal_in l slot) (drop_more (take at fs) start f (omega (arith, less, long)))
+    ∙ bound_more (drop start (take at fs)) f slot W.Nothing)
 
 -- the newest of them has the slot, or has not
-pub formal_found : (fs : List Formal) (at slot : ℕ) (d : Formal) → 0 < at → at ≤ length fs → (slice_index_or fs (at - 1) d).slot ≡ slot → formal_in (take at fs) slot ≡ Binds (slice_index_or fs (at - 1) d).object 0 []
-formal_found fs at slot d some within same =
-    let f = slice_index_or fs (at - 1) d in
+pub formal_found : (fs : List Formal) (start at slot : ℕ) (f : Formal) → start < at → slice_get fs (at - 1) ≡ Some f → f.slot ≡ slot → formal_in (drop start (take at fs)) slot ≡ binding f.spot
+formal_found fs start at slot f some found same =
     let last : suc (at - 1) ≡ at = omega (arith, some) in
-    ap (λ n. formal_in (take n fs) slot) (sym last)
-    ∙ (formal_walk fs (at - 1) slot f (get_index fs (at - 1) d (omega (arith, some, within)))
-    ∙ ap (λ b. if b then Binds f.object 0 [] else formal_in (take (at - 1) fs) slot) (eq_same f.slot slot same))
+    ap (λ n. formal_in (drop start (take n fs)) slot) (sym last)
+    ∙ (formal_walk fs start (at - 1) slot f (omega (arith, some)) found
+    ∙ ap (λ b. if b then binding f.spot else formal_in (drop start (take (at - 1) fs)) slot) (eq_same f.slot slot same))
 
-pub formal_passed : (fs : List Formal) (at slot : ℕ) (d : Formal) → 0 < at → at ≤ length fs → (slice_index_or fs (at - 1) d).slot ≢ slot → formal_in (take (at - 1) fs) slot ≡ formal_in (take at fs) slot
-formal_passed fs at slot d some within differs =
-    let f = slice_index_or fs (at - 1) d in
+pub formal_passed : (fs : List Formal) (start at slot : ℕ) (f : Formal) → start < at → slice_get fs (at - 1) ≡ Some f → f.slot ≢ slot → formal_in (drop start (take (at - 1) fs)) slot ≡ formal_in (drop start (take at fs)) slot
+formal_passed fs start at slot f some found differs =
     let last : suc (at - 1) ≡ at = omega (arith, some) in
-    sym (ap (λ n. formal_in (take n fs) slot) (sym last)
-    ∙ (formal_walk fs (at - 1) slot f (get_index fs (at - 1) d (omega (arith, some, within)))
-    ∙ ap (λ b. if b then Binds f.object 0 [] else formal_in (take (at - 1) fs) slot) (eq_differs f.slot slot differs)))
+    sym (ap (λ n. formal_in (drop start (take n fs)) slot) (sym last)
+    ∙ (formal_walk fs start (at - 1) slot f (omega (arith, some)) found
+    ∙ ap (λ b. if b then binding f.spot else formal_in (drop start (take (at - 1) fs)) slot) (eq_differs f.slot slot differs)))

@@ -9,6 +9,7 @@ use Rattle.ctl_meaning.specs.Objects.{overwritten, with_cells, change_in, opened
 use Rattle.ctl_meaning.specs.Changes.{write_cells, opened_changes}
 use Rattle.ctl_code.specs.declared.code.Code.{Code}
 use Rattle.ctl_code.specs.States as T
+use Rattle.ctl_code.specs.States.{Word}
 use Rattle.ctl_machine.specs.declared.frame.Owned.{Owned}
 use Rattle.ctl_machine.specs.Parts.{part_written, parts_written}
 use Rattle.ctl_machine.specs.Shows.{Kept, Holds}
@@ -103,7 +104,7 @@ unfolding opened_changes
 written_nothing n offset w = ap (λ (l : List W.Object). record w { objects = l }) (change_nothing n (with_cells offset []) (same_object offset) w.objects)
 
 -- cells of an object have these values
-pub parts_stored : (code : Code) (e : Kept) (k : List T.Frame) (ops : List ℕ) (w : World) (at offset : ℕ) (v : List ℕ) (o : Owned) → Holds code e k ops w → slice_get e.owned at ≡ Some o
+pub parts_stored : (code : Code) (e : Kept) (k : List T.Frame) (ops : List Word) (w : World) (at offset : ℕ) (v : List ℕ) (o : Owned) → Holds code e k ops w → slice_get e.owned at ≡ Some o
     → Holds code (with_parts (parts_written o offset v e.parts) e) k ops (write_cells o.number offset v w)
 parts_stored code e k ops w at offset [] o h found = subst (λ (u : World). Holds code e k ops u) (sym (written_nothing o.number offset w)) h
 parts_stored code e k ops w at offset (x ∷ v) o h found =

@@ -1,28 +1,36 @@
--- What the slots of active masters hold: the objects that were declared there, and the formals of bodies the objects that they stand for.
+-- What the slots of active masters hold: the objects that were declared there, and the formals of bodies the parts that they stand for.
 use Rattle.std.specs.Prelude.{◌≡◌, ◌≢◌, ℕ, ◌-◌, ◌<◌, ◌≤◌, List, [], ◌∷◌, Option, Some, None, length, drop, take, slice_get, nat_eq, if◌then◌else◌}
 use Rattle.ctl_meaning.specs.World.{Content, Nothing, Holds, Binds, unset, Activation}
+use Rattle.ctl_meaning.specs.Finalization.{Spot}
 use Rattle.ctl_meaning.specs.Lists.{item_or}
 use Rattle.ctl_machine.specs.declared.frame.Formal.{Formal}
 use Rattle.ctl_machine.specs.declared.frame.Master.{Master}
+use Rattle.ctl_machine.specs.declared.frame.Holder.{Holder}
+use Rattle.ctl_machine.specs.declared.frame.Holder.TheVariants as HolderOf
 use Rattle.ctl_machine.specs.declared.frame.Owned.{Owned}
+use Rattle.ctl_machine.specs.Spots.{whole_spot}
 
 -- what a slot holds where these objects were declared in its master, the oldest first, and what it held before them
 abbrev pub holder_in : List Owned → ℕ → Content → Content
 holder_in [] slot before = before
 holder_in (o ∷ os) slot before = holder_in os slot (if nat_eq o.slot slot then Holds o.number else before)
 
+-- what the slot of a formal holds that stands for this part
+abbrev pub binding : Spot → Content
+binding s = Binds s.object s.offset s.path
+
 -- what a slot holds by these formals, the newest last, and what it held before them
 abbrev pub bound_in : List Formal → ℕ → Content → Content
 bound_in [] slot before = before
-bound_in (f ∷ fs) slot before = bound_in fs slot (if nat_eq f.slot slot then Binds f.object 0 [] else before)
+bound_in (f ∷ fs) slot before = bound_in fs slot (if nat_eq f.slot slot then binding f.spot else before)
 
--- what a slot holds when its master is entered, by the formals of its body that stand for objects
+-- what a slot holds when its master is entered, by the formals of its body that stand for parts
 abbrev pub formal_in : List Formal → ℕ → Content
 formal_in fs slot = bound_in fs slot Nothing
 
--- the formal of an operation has the first slot, and stands for the object that it was called for
-abbrev pub first_formal : ℕ → Formal
-first_formal n = record { slot = 0; object = n }
+-- the formal of an operation has the first slot, and stands for the part that it was called for
+abbrev pub first_formal : Spot → Formal
+first_formal s = record { slot = 0; spot = s }
 
 -- the formals of a master, among those of all active ones
 abbrev pub own_formals : Master → List Formal → List Formal
@@ -56,3 +64,18 @@ pub record IsOwnerOf (masters : List Master) (at count : ℕ) : Type 0 where
   pub bound : count ≤ length masters
   pub before : (m : Master) → 0 < count → slice_get masters (count - 1) ≡ Some m → m.owned ≤ at
   pub behind : (m : Master) → slice_get masters count ≡ Some m → at < m.owned
+
+-- what was found is there, among these formals
+abbrev pub IsThere : List Formal → Holder → Type 0
+IsThere formals (HolderOf.Whole n) = Unit {0}
+IsThere formals (HolderOf.Bound at) = at < length formals
+
+-- the part that was found, among these formals: a whole object, or the one that a formal stands for
+abbrev pub part_of_formal : Option Formal → Option Spot
+part_of_formal None = None
+part_of_formal (Some f) = Some f.spot
+
+abbrev pub found_in : List Formal → Option Holder → Option Spot
+found_in formals None = None
+found_in formals (Some (HolderOf.Whole n)) = Some (whole_spot n)
+found_in formals (Some (HolderOf.Bound at)) = part_of_formal (slice_get formals at)

@@ -19,3 +19,4 @@ pub mod Filling
 pub mod Saved
 pub mod Assigning
 pub mod Handlers
+pub mod Spots

@@ -1,6 +1,7 @@
 -- The cells of owned objects lie one behind another, those of the newest object last.
 use Rattle.std.specs.Prelude.{◌≡◌, ℕ, ◌+◌, List, [], ◌∷◌, Option, Some, None, nat_lt, slice_set, if◌then◌else◌}
 use Rattle.ctl_meaning.specs.World.{Object, World}
+use Rattle.ctl_meaning.specs.Finalization.{Spot}
 use Rattle.ctl_meaning.specs.Names.{scalar_of}
 use Rattle.ctl_meaning.specs.Objects.{cells_at}
 use Rattle.ctl_meaning.specs.Changes.{object_at}
@@ -30,6 +31,7 @@ abbrev pub part_in : ℕ → Option Object → Option ℕ
 part_in offset None = None
 part_in offset (Some o) = Some (scalar_of (cells_at offset 1 o))
 
-abbrev pub part_at : ℕ → Option ℕ → World → Option ℕ
+-- that of a component of a part
+abbrev pub part_at : ℕ → Option Spot → World → Option ℕ
 part_at offset None w = None
-part_at offset (Some n) w = part_in offset (object_at n w)
+part_at offset (Some s) w = part_in (s.offset + offset) (object_at s.object w)

@@ -1,42 +1,60 @@
--- The actuals of a call become the first slots of a body: which of them are objects, and what becomes of their cells.
-use Rattle.std.specs.Prelude.{ℕ, zero, suc, ◌+◌, ◌-◌, List, [], ◌∷◌, ◌++◌, Option, Some, None, Bool, true, false, if◌then◌else◌, slice_get, slice_set}
+-- The actuals of a call become the first slots of a body: which of them are parts of objects, and what becomes of their cells.
+use Rattle.std.specs.Prelude.{ℕ, zero, suc, ◌+◌, ◌-◌, List, [], ◌∷◌, ◌++◌, Option, Some, None, Bool, true, false, slice_get, slice_set}
 use Rattle.ctl_program.specs.declared.types.Ty.TheVariants.{Record}
+use Rattle.ctl_meaning.specs.Finalization.{Spot}
 use Rattle.ctl_code.specs.declared.kinds.Kind.{Kind}
 use Rattle.ctl_code.specs.declared.kinds.Kind.TheVariants.{Operand}
+use Rattle.ctl_code.specs.States.{Word, Scalar, Located}
+use Rattle.ctl_code.specs.Fits.{IsOperandOf}
 use Rattle.ctl_machine.specs.declared.frame.Formal.{Formal}
 use Rattle.ctl_machine.specs.Shows.{Kept}
 use Rattle.ctl_machine.specs.Moves.{cleared}
 
--- an operand of this kind is the number of an object
-abbrev pub is_object : Kind → Bool
-is_object (Operand (Record t)) = true
-is_object _ = false
+-- an operand of this kind is a part of an object
+abbrev pub is_part : Kind → Bool
+is_part (Operand (Record t)) = true
+is_part _ = false
 
-abbrev pub is_object_if : Option Kind → Bool
-is_object_if None = false
-is_object_if (Some kind) = is_object kind
+abbrev pub is_part_if : Option Kind → Bool
+is_part_if None = false
+is_part_if (Some kind) = is_part kind
 
 -- so is the operand under so many newer ones
-abbrev pub is_object_at : List Kind → ℕ → Bool
-is_object_at stack depth = is_object_if (slice_get stack depth)
+abbrev pub is_part_at : List Kind → ℕ → Bool
+is_part_at stack depth = is_part_if (slice_get stack depth)
 
--- the cells with 0 in place of each number of an object: so many actuals of these kinds, the last one first, stand in the cells from one on
-abbrev pub passed : ℕ → List Kind → ℕ → List ℕ → List ℕ
-passed zero kinds base cells = cells
+abbrev pub is_located : Word → Bool
+is_located (Scalar n) = false
+is_located (Located s) = true
+
+-- so many of the newest operands are of these kinds
+abbrev pub AreActuals : ℕ → List Kind → List Word → Type 0
+AreActuals zero kinds ops = Unit {0}
+AreActuals (suc n) (Operand ty ∷ kinds) (x ∷ ops) = IsOperandOf ty x × AreActuals n kinds ops
+AreActuals (suc n) _ _ = ⊥
+
+-- the cell of an actual becomes 0 where it is a part
+abbrev pub cell_passed : Word → ℕ → List ℕ → List ℕ
+cell_passed (Scalar n) cell cells = cells
+cell_passed (Located s) cell cells = slice_set cells cell 0
+
+-- so many actuals, the last one first, stand in the cells from one on
+abbrev pub passed : ℕ → List Word → ℕ → List ℕ → List ℕ
+passed zero ops base cells = cells
 passed (suc n) [] base cells = cells
-passed (suc n) (kind ∷ kinds) base cells = if is_object kind then slice_set (passed n kinds base cells) (base + n) 0 else passed n kinds base cells
+passed (suc n) (x ∷ ops) base cells = passed n ops base (cell_passed x (base + n) cells)
 
--- a formal that stands for the object whose number is in a cell, if the actual is an object
-abbrev pub formal_if : Bool → ℕ → Option ℕ → List Formal
-formal_if true slot (Some n) = record { slot = slot; object = n } ∷ []
-formal_if _ slot cell = []
+-- a formal that stands for the part, if the actual is one
+abbrev pub formal_if : Word → ℕ → List Formal
+formal_if (Scalar n) slot = []
+formal_if (Located s) slot = record { slot = slot; spot = s } ∷ []
 
--- the formals that stand for these objects, that of the first slot first
-abbrev pub bound : ℕ → List Kind → ℕ → List ℕ → List Formal
-bound zero kinds base cells = []
-bound (suc n) [] base cells = []
-bound (suc n) (kind ∷ kinds) base cells = bound n kinds base cells ++ formal_if (is_object kind) n (slice_get (passed n kinds base cells) (base + n))
+-- the formals that stand for these parts, that of the last slot first
+abbrev pub bound : ℕ → List Word → List Formal
+bound zero ops = []
+bound (suc n) [] = []
+bound (suc n) (x ∷ ops) = formal_if x n ++ bound n ops
 
--- so many slots of a body begin, with so many actuals of these kinds
-abbrev pub with_actuals : Kept → List Kind → ℕ → ℕ → ℕ → Kept
-with_actuals e kinds base slots actuals = record e { cells = cleared (base + actuals) (slots - actuals) (passed actuals kinds base e.cells); formals = e.formals ++ bound actuals kinds base e.cells }
+-- so many slots of a body begin, with so many of the newest operands as actuals, and these parts are left
+abbrev pub with_actuals : Kept → List Word → List Spot → ℕ → ℕ → ℕ → Kept
+with_actuals e ops below base slots actuals = record e { cells = cleared (base + actuals) (slots - actuals) (passed actuals ops base e.cells); formals = e.formals ++ bound actuals ops; spots = below }

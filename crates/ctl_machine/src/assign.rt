@@ -1,8 +1,9 @@
 //! Records are assigned to (RM 5.2, 7.6): the target is finalized, takes the value, and is adjusted.
 
-ghost use Rattle.std.specs.Prelude.{◌≡◌, ◌+◌, ◌^◌, ◌<◌, ◌≤◌, ◌∷◌, ◌++◌, List, Option, ℕ, IfNone, IfSome, None, OnErr, OnOk, Some, length, reverse, slice_get, vec_capacity, vec_len};
+ghost use Rattle.std.specs.Prelude.{◌≡◌, ◌+◌, ◌^◌, ◌<◌, ◌≤◌, ◌∷◌, ◌++◌, List, Option, ℕ, IfNone, IfOk, IfSome, None, OnErr, OnOk, Some, length, reverse, slice_get, vec_capacity, vec_len};
 ghost use Rattle.ctl_code.specs.declared.code.Instr.TheVariants as InstrOf;
 ghost use Rattle.ctl_meaning.specs.Changes.{object_at};
+ghost use Rattle.ctl_meaning.specs.Finalization as S;
 ghost use Rattle.ctl_meaning.specs.Outcome.{Fine};
 ghost use Rattle.ctl_code.specs.Table as Table;
 ghost use Rattle.ctl_code.specs.Kinds.{stack_at};
@@ -13,10 +14,11 @@ ghost use Rattle.ctl_machine.specs.declared.frame.Frame.{Frame};
 ghost use Rattle.ctl_machine.specs.declared.frame.Frame.TheVariants as FrameOf;
 ghost use Rattle.ctl_machine.specs.declared.frame.Value.TheVariants as ValueOf;
 ghost use Rattle.ctl_machine.specs.declared.assign.Assignment.{Assignment};
-ghost use Rattle.ctl_machine.specs.Assigning.{Assigned, Assigns, HasRoom, IsAdjustOf, Pending, Replaces, with_value};
+ghost use Rattle.ctl_machine.specs.Assigning.{AreCopies, Assigned, Assigns, HasRoom, IsAdjustOf, Pending, Replaces, with_value};
 ghost use Rattle.ctl_machine.specs.Masters.{first_window};
 ghost use Rattle.ctl_machine.specs.Moves.{Before, BeforeResuming, GoesOn, Makes, here_of};
 ghost use Rattle.ctl_machine.specs.Saved as Saved;
+ghost use Rattle.ctl_machine.specs.Spots.{standing};
 ghost use Rattle.ctl_machine.specs.Shows as Shows;
 
 use crate::calls::replace_top;
@@ -25,10 +27,10 @@ use crate::frame::{Ended, Frame, Mode, Value};
 use crate::holders::find;
 use crate::layers::{PROGRAM_ERROR, finalize_of};
 use crate::parts::{save_copy, size_of, write_parts};
-use crate::showing::whole;
-use ctl_code::code::{Cell, Code, Entry, Named, Way};
+use crate::spots::Spot;
+use ctl_code::code::{Code, Entry, Way};
 use ctl_tree::ending::Stop;
-use ctl_tree::event::{Cause, Event};
+use ctl_tree::event::{Cause, Event, Part};
 use std::alloc::AllocError;
 
 /// An assignment that is under way: its target, by its place among the owned objects, and their record type; the place where it goes
@@ -39,6 +41,14 @@ pub struct Assignment {
     pub record_type: usize,
     pub place: usize,
     pub base: usize,
+}
+
+/// The target of an assignment once more, for the formal of a body that is called for it and for what is shown of the call: both are
+/// made before anything changes.
+#[derive(Drop)]
+pub struct Copies {
+    pub spot: Spot,
+    pub part: Part,
 }
 
 /// Answers the body that the user wrote for the Adjust of a record type, if there is one (RM 7.6).
@@ -64,17 +74,19 @@ fn cells_below(value: Value, size: usize, total: usize) -> usize
 }
 
 impl Engine {
-    /// Takes the frame of an assignment off, with the value that is saved for it, if it is, and goes on so.
+    /// Takes the frame of an assignment off, with its target and the value that is saved for it, if it is, and goes on so.
     fn end_assignment(&mut self, code: &Code, record: usize, value: Value, mode: Mode)
         ghost t: { Assigned × Option (List ℕ) }
         requires pending { (x : Assignment) × (x.record_type ≡ «record») × Pending code.now self.old x t.1 t.0 }
         requires value { value ≡ Saved.value_in t.1 }
         ensures mode { self.new.mode ≡ mode }
         ensures holds { Shows.Holds code.now (Shows.kept self.new) t.0.control t.0.point.operands t.0.world }
+        ensures spots { self.new.spots.items ≡ standing t.0.control t.0.point.operands }
         ensures events { self.new.events.items ≡ self.old.events.items }
         ensures picks { self.new.picks.items ≡ self.old.picks.items }
     {
         let _ = self.control.take_last();
+        let _ = self.spots.take_last();
         let size = size_of(code, record);
         let below = cells_below(value, size, self.saved.as_slice().len());
         self.saved.truncate(below);
@@ -83,18 +95,26 @@ impl Engine {
 
     /// Adjusts the target, which has taken the value, if the user wrote an Adjust for its type: the body is called, for which there is
     /// room. Where there is none the assignment has ended (RM 7.6).
-    fn adjust_target(&mut self, code: &Code, assignment: Assignment)
+    fn adjust_target(&mut self, code: &Code, assignment: Assignment, copies: Copies)
         ghost t: { Assigned }
         requires valid { IsValid code.now }
         requires assigns { Assigns code.now self.old assignment None t }
         requires room { HasRoom code.now self.old assignment.base }
-        ensures { Makes code.now self.old self.new (Table.adjust_taken code.now t.object.number assignment.record_type t.point t.control t.world) }
+        requires copies { AreCopies copies t.spot }
+        ensures { Makes code.now self.old self.new (Table.adjust_taken code.now t.spot assignment.record_type t.point t.control t.world) }
     {
         match adjust_of(code, assignment.record_type) {
             Some(entry) => {
-                let object = self.owned[assignment.target].number;
-                let event = Event::Adjust(whole(self.alloc, object));
-                self.call_operation(code, &entry, assignment.target, assignment.base, event);
+                let Copies { spot, part } = copies;
+                let target = assignment.target;
+                self.call_operation(
+                    code,
+                    &entry,
+                    target,
+                    assignment.base,
+                    Event::Adjust(part),
+                    spot,
+                );
             }
             None => self.end_assignment(
                 code,
@@ -116,17 +136,19 @@ impl Engine {
         ensures picks { self.new.picks.items ≡ self.old.picks.items }
     {
         let object = self.owned[assignment.target];
+        let newest = self.count_spots() - 1;
+        let offset = self.spots[newest].offset();
         let start = self.saved.as_slice().len() - size_of(code, assignment.record_type);
         write_parts(
             self.parts.as_mut_slice(),
             &object,
+            offset,
             &self.saved.as_slice()[start..],
         );
         self.saved.truncate(start);
         replace_top(
             &mut self.control,
             Frame::Assigning {
-                object: object.number,
                 record: assignment.record_type,
                 value: Value::Taken,
                 place: assignment.place,
@@ -135,33 +157,36 @@ impl Engine {
     }
 
     /// Lets the target take the value that is saved for it, and adjusts it (RM 7.6); there is room for a call.
-    fn take_over(&mut self, code: &Code, assignment: Assignment)
+    fn take_over(&mut self, code: &Code, assignment: Assignment, copies: Copies)
         ghost t: { Assigned × List ℕ }
         requires valid { IsValid code.now }
         requires assigns { Assigns code.now self.old assignment (Some t.1) t.0 }
         requires room { HasRoom code.now self.old assignment.base }
-        ensures { Makes code.now self.old self.new (Table.take_over code.now t.0.object.number assignment.record_type t.1 (object_at t.0.object.number t.0.world) t.0.point t.0.control t.0.world) }
+        requires copies { AreCopies copies t.0.spot }
+        ensures { Makes code.now self.old self.new (Table.take_over code.now t.0.spot assignment.record_type t.1 (object_at t.0.spot.object t.0.world) t.0.point t.0.control t.0.world) }
     {
         self.take_value(code, assignment);
-        self.adjust_target(code, assignment);
+        self.adjust_target(code, assignment, copies);
     }
 
     /// Finalizes the target, which is still to take the value that is saved for it, if the user wrote a Finalize for its type: the body
     /// is called, for which there is room. Where there is none the target takes the value, and is adjusted (RM 7.6).
-    fn finalize_target(&mut self, code: &Code, assignment: Assignment)
+    fn finalize_target(&mut self, code: &Code, assignment: Assignment, copies: Copies)
         ghost t: { Assigned × List ℕ }
         requires valid { IsValid code.now }
         requires assigns { Assigns code.now self.old assignment (Some t.1) t.0 }
         requires room { HasRoom code.now self.old assignment.base }
-        ensures { Makes code.now self.old self.new (Table.replace_value code.now t.0.object.number assignment.record_type t.1 t.0.point t.0.control t.0.world) }
+        requires copies { AreCopies copies t.0.spot }
+        ensures { Makes code.now self.old self.new (Table.replace_value code.now t.0.spot assignment.record_type t.1 t.0.point t.0.control t.0.world) }
     {
         match finalize_of(code, assignment.record_type) {
             Some(entry) => {
-                let object = self.owned[assignment.target].number;
-                let event = Event::Finalize(whole(self.alloc, object), Cause::Assign);
-                self.call_operation(code, &entry, assignment.target, assignment.base, event);
+                let Copies { spot, part } = copies;
+                let event = Event::Finalize(part, Cause::Assign);
+                let target = assignment.target;
+                self.call_operation(code, &entry, target, assignment.base, event, spot);
             }
-            None => self.take_over(code, assignment),
+            None => self.take_over(code, assignment, copies),
         }
     }
 
@@ -183,7 +208,8 @@ impl Engine {
         self.prepare(base, code.room, 1)
     }
 
-    /// Saves the value of an object for the target of an assignment, and lets the assignment wait; there is room for both.
+    /// Saves the value of the newest part, of an object at this place, for the target of an assignment, the part below it, and lets the
+    /// assignment wait; there is room for both.
     fn begin_assignment(&mut self, code: &Code, source: usize, assignment: Assignment)
         ghost t: { Assigned × List ℕ }
         requires replaces { Replaces code.now self.old source assignment.target assignment.record_type assignment.place t.0 t.1 }
@@ -198,22 +224,32 @@ impl Engine {
     {
         let object = self.owned[source];
         let size = size_of(code, assignment.record_type);
-        save_copy(&mut self.saved, self.parts.as_slice(), &object, size);
+        let start = self.spots.take_last().offset();
+        save_copy(&mut self.saved, self.parts.as_slice(), &object, start, size);
         self.control.push_reserved(Frame::Assigning {
-            object: self.owned[assignment.target].number,
             record: assignment.record_type,
             value: Value::Saved,
             place: assignment.place,
         });
     }
 
-    /// Assigns the value of an owned object, by its place, to another one of this record type (RM 5.2, 7.6). The assignment goes on at
-    /// this place; unchanged where memory is refused.
-    // By the cell a caller picks the operands that are left.
+    /// Copies the target of an assignment, the part at this place among those of the engine.
+    fn copies_of(&self, at: usize) -> Result<Copies, AllocError>
+        requires { at < length self.now.spots.items }
+        ensures { IfOk result (λ copies. (s : S.Spot) × (slice_get self.now.spots.items at ≡ Some s) × AreCopies copies s) }
+    {
+        let target = &self.spots[at];
+        Ok(Copies {
+            spot: target.copied(self.alloc)?,
+            part: target.part(self.alloc)?,
+        })
+    }
+
+    /// Assigns the value of the newest part to the part below it, both of this record type, by the places of their objects among the owned
+    /// ones (RM 5.2, 7.6). The assignment goes on at this place; unchanged where memory is refused.
     fn replace_value(
         &mut self,
         code: &Code,
-        from: &Cell,
         source: usize,
         target: usize,
         record: usize,
@@ -223,11 +259,11 @@ impl Engine {
         requires valid { IsValid code.now }
         requires replaces { Replaces code.now self.old source target «record» place t.0 t.1 }
         requires number { self.old.given_masters + 1 < 2 ^ 64 }
-        ensures ok { OnOk result (Makes code.now self.old self.new (Table.replace_value code.now t.0.object.number «record» t.1 t.0.point t.0.control t.0.world)) }
+        ensures ok { OnOk result (Makes code.now self.old self.new (Table.replace_value code.now t.0.spot «record» t.1 t.0.point t.0.control t.0.world)) }
         ensures err { OnErr result (GoesOn self.old self.new self.old.mode self.old.cells.items) }
     {
-        let _ = from;
         let base = self.window() + code.kinds.height_at(place, 0);
+        let copies = self.copies_of(self.count_spots() - 2)?;
         self.prepare_assignment(code, base, size_of(code, record))?;
         let assignment = Assignment {
             target,
@@ -236,66 +272,59 @@ impl Engine {
             base,
         };
         self.begin_assignment(code, source, assignment);
-        self.finalize_target(code, assignment);
+        self.finalize_target(code, assignment, copies);
         Ok(())
     }
 
-    /// Assigns to the object whose number is the newest operand, in this cell, the value of the object whose number is the value of
-    /// another cell (RM 5.2, 7.6); an object that is assigned to itself stays as it is. Where one of them is not there, the program is
-    /// erroneous (RM 13.11.2). Unchanged where memory is refused.
+    /// Assigns the value of the part that is the newest operand to the part below it (RM 5.2, 7.6); one that is assigned to itself stays as
+    /// it is. Where the object of one of them is not there, the program is erroneous (RM 13.11.2). Unchanged where memory is refused.
     #[inline(never)]
     pub(crate) fn assign(
         &mut self,
         code: &Code,
-        from: &Cell,
-        at: usize,
         record: usize,
         place: usize,
     ) -> Result<(), AllocError>
         ghost s: { State }
         requires valid { IsValid code.now }
-        requires before { Before code.now self.old place (InstrOf.Assign from.now at «record») s }
+        requires before { Before code.now self.old place (InstrOf.Assign «record») s }
         requires place { place + 1 < 2 ^ 64 }
         requires number { self.old.given_masters + 1 < 2 ^ 64 }
-        ensures ok { OnOk result (Makes code.now self.old self.new (Table.by_instr code.now (Some (InstrOf.Assign from.now at «record»)) s.operands (here_of place s))) }
+        ensures ok { OnOk result (Makes code.now self.old self.new (Table.by_instr code.now (Some (InstrOf.Assign «record»)) s.operands (here_of place s))) }
         ensures err { OnErr result (GoesOn self.old self.new self.old.mode self.old.cells.items) }
     {
-        let source = self.take(from);
-        let named = Named::Operand;
-        let target = self.take(&Cell { at, named });
-        let Some(source_at) = find(self.owned.as_slice(), source) else {
+        let count = self.count_spots();
+        let source = &self.spots[count - 1];
+        let target = &self.spots[count - 2];
+        let Some(source_at) = find(self.owned.as_slice(), source.object()) else {
             self.mode = Mode::Stopped(Stop::UseAfterFree);
             return Ok(());
         };
-        if target == source {
+        if target.is_same(source) {
+            self.spots.truncate(count - 2);
             self.mode = Mode::At(place + 1);
             return Ok(());
         }
-        let Some(target_at) = find(self.owned.as_slice(), target) else {
+        let Some(target_at) = find(self.owned.as_slice(), target.object()) else {
             self.mode = Mode::Stopped(Stop::UseAfterFree);
             return Ok(());
         };
-        self.replace_value(code, from, source_at, target_at, record, place + 1)
+        self.replace_value(code, source_at, target_at, record, place + 1)
     }
 
     /// Goes on with an assignment behind the Finalize of its target, if the target is still there (RM 13.11.2): it takes the value, and
     /// is adjusted (RM 7.6); unchanged where memory is refused.
-    fn resume_taking(
-        &mut self,
-        code: &Code,
-        object: u64,
-        record: usize,
-        place: usize,
-    ) -> Result<(), AllocError>
+    fn resume_taking(&mut self, code: &Code, record: usize, place: usize) -> Result<(), AllocError>
         ghost s: { State }
         requires valid { IsValid code.now }
         requires before { BeforeResuming code.now self.old s }
-        requires top { (fs : List Frame) × (reverse self.old.control.items ≡ FrameOf.Assigning object «record» ValueOf.Saved place ∷ fs) }
+        requires top { (fs : List Frame) × (reverse self.old.control.items ≡ FrameOf.Assigning «record» ValueOf.Saved place ∷ fs) }
         requires number { self.old.given_masters + 1 < 2 ^ 64 }
         ensures ok { OnOk result ((h : Handed) → Makes code.now self.old self.new (Table.act code.now (Giving (Fine h)) s.control s.operands s.world 0)) }
         ensures err { OnErr result (GoesOn self.old self.new self.old.mode self.old.cells.items) }
     {
-        let Some(target) = find(self.owned.as_slice(), object) else {
+        let newest = self.count_spots() - 1;
+        let Some(target) = find(self.owned.as_slice(), self.spots[newest].object()) else {
             self.end_assignment(
                 code,
                 record,
@@ -305,6 +334,7 @@ impl Engine {
             return Ok(());
         };
         let base = self.window() + code.kinds.height_at(place, 0);
+        let copies = self.copies_of(newest)?;
         self.prepare_assignment(code, base, 0)?;
         let assignment = Assignment {
             target,
@@ -312,7 +342,7 @@ impl Engine {
             place,
             base,
         };
-        self.take_over(code, assignment);
+        self.take_over(code, assignment, copies);
         Ok(())
     }
 
@@ -323,7 +353,6 @@ impl Engine {
         &mut self,
         code: &Code,
         ended: Ended,
-        object: u64,
         record: usize,
         value: Value,
         place: usize,
@@ -331,7 +360,7 @@ impl Engine {
         ghost s: { State }
         requires valid { IsValid code.now }
         requires before { BeforeResuming code.now self.old s }
-        requires top { (fs : List Frame) × (reverse self.old.control.items ≡ FrameOf.Assigning object «record» value place ∷ fs) }
+        requires top { (fs : List Frame) × (reverse self.old.control.items ≡ FrameOf.Assigning «record» value place ∷ fs) }
         requires number { self.old.given_masters + 1 < 2 ^ 64 }
         ensures ok { OnOk result (Makes code.now self.old self.new (Table.act code.now (Giving (Shows.tried_of ended)) s.control s.operands s.world 0)) }
         ensures err { OnErr result (GoesOn self.old self.new self.old.mode self.old.cells.items) }
@@ -342,7 +371,7 @@ impl Engine {
             return Ok(());
         }
         match value {
-            Value::Saved => self.resume_taking(code, object, record, place),
+            Value::Saved => self.resume_taking(code, record, place),
             Value::Taken => {
                 self.end_assignment(code, record, value, Mode::At(place));
                 Ok(())

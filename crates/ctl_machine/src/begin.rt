@@ -35,6 +35,7 @@ impl Engine {
             owned: self.count_owned(),
             outer_formals: formals,
             formals,
+            spots: self.count_spots(),
         };
         self.reserve()?;
         self.open(master, 0, After::Body, entry.place);

@@ -19,6 +19,7 @@ use crate::engine::Engine;
 use crate::frame::{After, Completion, Formal, Frame, Life, Master};
 use crate::holders::owner_of;
 use crate::showing::whole;
+use crate::spots::Spot;
 use ctl_code::code::{Code, Entry};
 use ctl_tree::event::{Cause, Event};
 use std::alloc::AllocError;
@@ -154,23 +155,23 @@ impl Engine {
         make_room(&mut self.cells, wanted)
     }
 
-    /// Enters the master of an operation's body, whose first slot is the formal that stands for this object; there is room for it, and its
+    /// Enters the master of an operation's body, whose first slot is the formal that stands for this part; there is room for it, and its
     /// cells are cleared. Goes on at this place.
-    pub(crate) fn open_for(&mut self, master: Master, object: u64, place: usize)
+    pub(crate) fn open_for(&mut self, master: Master, spot: Spot, place: usize)
         requires masters { vec_len self.old.masters < vec_capacity self.old.masters }
         requires control { vec_len self.old.control < vec_capacity self.old.control }
         requires formals { vec_len self.old.formals < vec_capacity self.old.formals }
         requires number { self.old.given_masters + 1 < 2 ^ 64 }
         requires cells { master.base + master.slots ≤ length self.old.cells.items }
-        ensures { OpensBody self.old self.new master place (cleared master.base master.slots self.old.cells.items) (self.old.formals.items ++ first_formal object ∷ []) }
+        ensures { OpensBody self.old self.new master place (cleared master.base master.slots self.old.cells.items) (self.old.formals.items ++ first_formal spot ∷ []) }
     {
-        self.formals.push_reserved(Formal { slot: 0, object });
+        self.formals.push_reserved(Formal { slot: 0, spot });
         self.open(master, 0, After::Body, place);
     }
 
-    /// Calls a body that the user wrote, with what is shown of the call, for the owned object at this place, whichever active master owns
-    /// it: the body is entered inside the masters around it that the object's master sees (RM 7.6). Its window begins with this cell, and
-    /// there is room for it.
+    /// Calls a body that the user wrote, with what is shown of the call, for a part of the owned object at this place, whichever active
+    /// master owns it: the body is entered inside the masters around it that the object's master sees (RM 7.6). Its window begins with
+    /// this cell, and there is room for it.
     pub(crate) fn call_operation(
         &mut self,
         code: &Code,
@@ -178,18 +179,19 @@ impl Engine {
         at: usize,
         base: usize,
         event: Event,
+        spot: Spot,
     )
         ghost t: { Called }
         requires valid { IsValid code.now }
         requires calls { Calls code.now self.old entry.now at base t }
+        requires spot { spot ≡ t.spot }
         requires room { HasRoom code.now self.old base }
-        ensures { Makes code.now self.old self.new (Table.call_operation code.now t.body event t.object.number (object_of self.old.parts.items t.object) t.control t.world) }
+        ensures { Makes code.now self.old self.new (Table.call_operation code.now t.body event t.spot (object_of self.old.parts.items t.object) t.control t.world) }
     {
         let _ = code;
         let owner = owner_of(self.masters.as_slice(), at);
         let link = self.around_from(owner, entry.level);
         let outer_formals = self.count_formals();
-        let object = self.owned[at].number;
         let master = Master {
             number: self.given_masters + 1,
             window: base,
@@ -200,9 +202,10 @@ impl Engine {
             owned: self.count_owned(),
             outer_formals,
             formals: outer_formals + 1,
+            spots: self.count_spots(),
         };
         self.events.push_reserved(event);
-        self.open_for(master, object, entry.place);
+        self.open_for(master, spot, entry.place);
     }
 
     /// Begins the finalization of an owned object, a layer of the master that this frame leaves (RM 7.6.1).
@@ -221,6 +224,7 @@ impl Engine {
         ensures parts { self.new.parts ≡ self.old.parts }
         ensures saved { self.new.saved ≡ self.old.saved }
         ensures formals { self.new.formals ≡ self.old.formals }
+        ensures spots { self.new.spots ≡ self.old.spots }
         ensures numbers { (self.new.given_masters ≡ self.old.given_masters) × (self.new.given_objects ≡ self.old.given_objects) }
         ensures events { self.new.events.items ≡ self.old.events.items ++ Finalize (Table.whole_part o.number) Scope ∷ [] }
         ensures picks { self.new.picks.items ≡ self.old.picks.items }
@@ -264,11 +268,12 @@ impl Engine {
             owned: self.count_owned(),
             outer_formals,
             formals: outer_formals + 1,
+            spots: self.count_spots(),
         };
         let object = self.owned[at].number;
         self.prepare(base, code.room, 1)?;
         self.begin_layer(at, departure.frame(at));
-        self.open_for(master, object, entry.place);
+        self.open_for(master, Spot::whole(self.alloc, object), entry.place);
         Ok(())
     }
 }

@@ -1,27 +1,29 @@
-//! Instructions that reach components of objects, or find the object of a slot (RM 4.1.3, 5.2).
+//! Instructions that reach components of objects, or find parts of them (RM 4.1.3, 5.2).
 
-ghost use Rattle.std.specs.Prelude.{◌≡◌, ◌+◌, ◌^◌, ◌<◌, ℕ, IfNone, IfSome, Some, length, slice_get};
+ghost use Rattle.std.specs.Prelude.{◌≡◌, ◌+◌, ◌^◌, ◌<◌, ℕ, IfNone, IfOk, IfSome, OnErr, OnOk, Some, length, slice_get};
 ghost use Rattle.ctl_code.specs.declared.code.Instr.TheVariants as InstrOf;
 ghost use Rattle.ctl_program.specs.declared.types.Ty.{Ty};
 ghost use Rattle.ctl_code.specs.Table as Table;
 ghost use Rattle.ctl_code.specs.States.{State};
+ghost use Rattle.ctl_meaning.specs.Changes.{object_at};
 ghost use Rattle.ctl_code.specs.Valid.{IsValid};
 ghost use Rattle.ctl_machine.specs.declared.frame.Mode.TheVariants as ModeOf;
-ghost use Rattle.ctl_machine.specs.Holders.{own_end};
+ghost use Rattle.ctl_machine.specs.Holders.{IsThere, found_in, own_end};
 ghost use Rattle.ctl_machine.specs.Instructions.{Touches};
 ghost use Rattle.ctl_machine.specs.Masters.{first_display, heads_of};
 ghost use Rattle.ctl_machine.specs.Moves.{Before, GoesOn, Makes, here_of};
-ghost use Rattle.ctl_machine.specs.Parts.{part_at};
+ghost use Rattle.ctl_machine.specs.Parts.{part_at, part_in};
 ghost use Rattle.ctl_machine.specs.Shows.{Holds, kept};
 ghost use Rattle.ctl_machine.specs.Windows.{Comes};
 ghost use Rattle.ctl_tree.specs.declared.ending.Stop.TheVariants as StopOf;
 
 use crate::engine::Engine;
-use crate::frame::Mode;
+use crate::frame::{Holder, Mode};
 use crate::holders::{find, holder};
-use crate::parts::{offset_of, read_part, write_part};
-use ctl_code::code::{Cell, Code, Instr, Named};
+use crate::parts::{offset_of, read_component};
+use ctl_code::code::{Cell, Code, Instr};
 use ctl_tree::ending::Stop;
+use std::alloc::AllocError;
 
 impl Engine {
     /// Answers where the objects of the master at this place end among all owned objects.
@@ -35,11 +37,12 @@ impl Engine {
         }
     }
 
-    /// Answers the number of the object that this slot of the master so many further out than the newest holds, if there is one.
-    fn holder_out(&self, code: &Code, out: usize, slot: usize) -> Option<u64>
+    /// Answers what this slot of the master so many further out than the newest holds, if that is an object, or a part of one.
+    pub(crate) fn holder_out(&self, code: &Code, out: usize, slot: usize) -> Option<Holder>
         ghost s: { State }
         requires { Holds code.now (kept self.now) s.control s.operands s.world }
-        ensures { result ≡ Table.holder_at (first_display (heads_of s.world.activations)) out slot s.world }
+        ensures part { found_in self.now.formals.items result ≡ Table.holder_at (first_display (heads_of s.world.activations)) out slot s.world }
+        ensures there { IfSome result (IsThere self.now.formals.items) }
     {
         let _ = code;
         let place = self.master_out(out)?;
@@ -52,20 +55,42 @@ impl Engine {
             master.owned,
             self.own_end(place),
             slot,
-            &self.formals.as_slice()[master.outer_formals..master.formals],
+            self.formals.as_slice(),
+            &master,
         )
     }
 
-    /// Reads a component of the object that this slot holds, by the first cell of the component; None where there is no such object.
-    fn read_component(&self, code: &Code, out: usize, slot: usize, offset: usize) -> Option<u64>
+    /// Reads a cell of an object, by the first cell of a part of it and how much further it is; None where there is no such object.
+    pub(crate) fn read_at(
+        &self,
+        code: &Code,
+        object: u64,
+        start: usize,
+        offset: usize,
+    ) -> Option<u64>
+        ghost s: { State }
+        requires { Holds code.now (kept self.now) s.control s.operands s.world }
+        ensures { result ≡ part_in (start + offset) (object_at object s.world) }
+    {
+        let _ = code;
+        let found = find(self.owned.as_slice(), object)?;
+        let object = self.owned[found];
+        Some(read_component(self.parts.as_slice(), &object, start, offset))
+    }
+
+    /// Reads a component of what this slot holds, by the first cell of the component; None where there is no such object.
+    fn read_held(&self, code: &Code, out: usize, slot: usize, offset: usize) -> Option<u64>
         ghost s: { State }
         requires { Holds code.now (kept self.now) s.control s.operands s.world }
         ensures { result ≡ part_at offset (Table.holder_at (first_display (heads_of s.world.activations)) out slot s.world) s.world }
     {
-        let number = self.holder_out(code, out, slot)?;
-        let found = find(self.owned.as_slice(), number)?;
-        let object = self.owned[found];
-        Some(read_part(self.parts.as_slice(), &object, offset))
+        match self.holder_out(code, out, slot)? {
+            Holder::Whole(object) => self.read_at(code, object, 0, offset),
+            Holder::Bound(at) => {
+                let spot = &self.formals[at].spot;
+                self.read_at(code, spot.object(), spot.offset(), offset)
+            }
+        }
     }
 
     /// Puts the value of such a component, and answers what comes next; where there is no such object, the program is erroneous (RM 13.11.2),
@@ -87,7 +112,7 @@ impl Engine {
         ensures left { IfNone result (GoesOn self.old self.new self.old.mode self.old.cells.items) }
         ensures gone { (t position : ℕ) (ty : Ty) → offset ≡ Table.offset_of code.now t position → IfNone result (Comes code.now self.new (ModeOf.Stopped StopOf.UseAfterFree) self.new.cells.items (Table.by_instr code.now (Some (InstrOf.FetchPart out slot t position ty to.now)) s.operands (here_of place s))) }
     {
-        match self.read_component(code, out, slot, offset) {
+        match self.read_held(code, out, slot, offset) {
             Some(value) => {
                 self.put(value, to, place);
                 Some(place + 1)
@@ -96,78 +121,24 @@ impl Engine {
         }
     }
 
-    /// Puts the number of the object that this slot holds, as a new operand in this cell, and answers what comes next; where there is none,
-    /// the program is erroneous (RM 13.11.2), and nothing changes.
-    fn locate(
-        &mut self,
-        code: &Code,
-        out: usize,
-        slot: usize,
-        at: usize,
-        place: usize,
-    ) -> Option<usize>
-        ghost s: { State }
-        requires valid { IsValid code.now }
-        requires before { (t : ℕ) × Before code.now self.old place (InstrOf.Locate out slot t at) s }
-        requires place { place + 1 < 2 ^ 64 }
-        ensures passed { (t : ℕ) → IfSome result (λ next. (self.new.mode ≡ ModeOf.At next) × Makes code.now self.old self.new (Table.by_instr code.now (Some (InstrOf.Locate out slot t at)) s.operands (here_of place s))) }
-        ensures left { IfNone result (GoesOn self.old self.new self.old.mode self.old.cells.items) }
-        ensures gone { (t : ℕ) → IfNone result (Comes code.now self.new (ModeOf.Stopped StopOf.UseAfterFree) self.new.cells.items (Table.by_instr code.now (Some (InstrOf.Locate out slot t at)) s.operands (here_of place s))) }
-    {
-        match self.holder_out(code, out, slot) {
-            Some(number) => {
-                let named = Named::Operand;
-                self.put(number, &Cell { at, named }, place);
-                Some(place + 1)
-            }
-            None => None,
-        }
-    }
-
-    /// Gives a component of the object whose number is the newest operand, in this cell, the value of a cell, by the first cell of the
-    /// component, and answers what comes next; where there is no such object, the program is erroneous (RM 13.11.2), and nothing changes.
-    fn store_part(
-        &mut self,
-        code: &Code,
-        from: &Cell,
-        at: usize,
-        offset: usize,
-        place: usize,
-    ) -> Option<usize>
-        ghost s: { State }
-        requires before { (t : ℕ) × (position : ℕ) × (ty : Ty) × Before code.now self.old place (InstrOf.StorePart from.now ty at t position) s }
-        requires place { place + 1 < 2 ^ 64 }
-        ensures passed { (t position : ℕ) (ty : Ty) → offset ≡ Table.offset_of code.now t position → IfSome result (λ next. (self.new.mode ≡ ModeOf.At next) × Makes code.now self.old self.new (Table.by_instr code.now (Some (InstrOf.StorePart from.now ty at t position)) s.operands (here_of place s))) }
-        ensures left { IfNone result (GoesOn self.old self.new self.old.mode self.old.cells.items) }
-        ensures gone { (t position : ℕ) (ty : Ty) → offset ≡ Table.offset_of code.now t position → IfNone result (Comes code.now self.new (ModeOf.Stopped StopOf.UseAfterFree) self.new.cells.items (Table.by_instr code.now (Some (InstrOf.StorePart from.now ty at t position)) s.operands (here_of place s))) }
-    {
-        let _ = code;
-        let value = self.take(from);
-        let named = Named::Operand;
-        let number = self.take(&Cell { at, named });
-        match find(self.owned.as_slice(), number) {
-            Some(found) => {
-                let object = self.owned[found];
-                write_part(self.parts.as_mut_slice(), &object, offset, value);
-                self.mode = Mode::At(place + 1);
-                Some(place + 1)
-            }
-            None => None,
-        }
-    }
-
-    /// Executes this instruction, which stands at this place and reaches a component, or finds the object of a slot, and answers what comes
-    /// next; where there is no such object, the program is erroneous (RM 13.11.2), and nothing changes.
+    /// Executes this instruction, which stands at this place and reaches a component, or finds a part of an object, and answers what comes
+    /// next; where there is no such object, the program is erroneous (RM 13.11.2), and nothing changes, and so where memory is refused.
     #[inline(always)]
-    pub(crate) fn touch_object(&mut self, code: &Code, instr: &Instr, place: usize) -> Option<usize>
+    pub(crate) fn touch_object(
+        &mut self,
+        code: &Code,
+        instr: &Instr,
+        place: usize,
+    ) -> Result<Option<usize>, AllocError>
         ghost s: { State }
         requires valid { IsValid code.now }
         requires before { Before code.now self.old place instr.now s }
         requires touches { Touches instr.now }
         requires place { place + 1 < 2 ^ 64 }
-        ensures passed { IfSome result (λ next. (self.new.mode ≡ ModeOf.At next) × Makes code.now self.old self.new (Table.by_instr code.now (Some instr.now) s.operands (here_of place s))) }
-        ensures left { IfNone result (GoesOn self.old self.new self.old.mode self.old.cells.items) }
-        ensures gone { IfNone result (Comes code.now self.new (ModeOf.Stopped StopOf.UseAfterFree) self.new.cells.items (Table.by_instr code.now (Some instr.now) s.operands (here_of place s))) }
+        ensures passed { IfOk result (λ some. IfSome some (λ next. (self.new.mode ≡ ModeOf.At next) × Makes code.now self.old self.new (Table.by_instr code.now (Some instr.now) s.operands (here_of place s)))) }
+        ensures left { IfOk result (λ some. IfNone some (GoesOn self.old self.new self.old.mode self.old.cells.items)) }
+        ensures gone { IfOk result (λ some. IfNone some (Comes code.now self.new (ModeOf.Stopped StopOf.UseAfterFree) self.new.cells.items (Table.by_instr code.now (Some instr.now) s.operands (here_of place s)))) }
+        ensures err { OnErr result (GoesOn self.old self.new self.old.mode self.old.cells.items) }
     {
         match instr {
             Instr::FetchPart {
@@ -179,36 +150,60 @@ impl Engine {
                 ..
             } => {
                 let offset = offset_of(code, *record, *position);
-                self.fetch_part(code, *out, *slot, offset, to, place)
+                Ok(self.fetch_part(code, *out, *slot, offset, to, place))
             }
             Instr::Locate { out, slot, at, .. } => self.locate(code, *out, *slot, *at, place),
-            Instr::StorePart {
-                from,
-                at,
+            Instr::Select {
                 record,
                 position,
                 ..
             } => {
                 let offset = offset_of(code, *record, *position);
-                self.store_part(code, from, *at, offset, place)
+                self.select(code, offset, *position, place)?;
+                Ok(Some(place + 1))
+            }
+            Instr::TakePart {
+                record,
+                position,
+                to,
+                ..
+            } => {
+                let offset = offset_of(code, *record, *position);
+                Ok(self.take_part(code, offset, to, place))
+            }
+            Instr::StorePart {
+                from,
+                record,
+                position,
+                ..
+            } => {
+                let offset = offset_of(code, *record, *position);
+                Ok(self.store_part(code, from, offset, place))
             }
             _ => unreachable!(),
         }
     }
 
-    /// Executes this instruction, which stands at this place and reaches a component, or finds the object of a slot; where there is no such
-    /// object, the program is erroneous (RM 13.11.2).
-    pub(crate) fn touch(&mut self, code: &Code, instr: &Instr, place: usize)
+    /// Executes this instruction, which stands at this place and reaches a component, or finds a part of an object; where there is no such
+    /// object, the program is erroneous (RM 13.11.2). Unchanged where memory is refused.
+    pub(crate) fn touch(
+        &mut self,
+        code: &Code,
+        instr: &Instr,
+        place: usize,
+    ) -> Result<(), AllocError>
         ghost s: { State }
         requires valid { IsValid code.now }
         requires before { Before code.now self.old place instr.now s }
         requires touches { Touches instr.now }
         requires place { place + 1 < 2 ^ 64 }
-        ensures { Makes code.now self.old self.new (Table.by_instr code.now (Some instr.now) s.operands (here_of place s)) }
+        ensures ok { OnOk result (Makes code.now self.old self.new (Table.by_instr code.now (Some instr.now) s.operands (here_of place s))) }
+        ensures err { OnErr result (GoesOn self.old self.new self.old.mode self.old.cells.items) }
     {
-        match self.touch_object(code, instr, place) {
+        match self.touch_object(code, instr, place)? {
             Some(_) => (),
             None => self.go_on(Mode::Stopped(Stop::UseAfterFree)),
         }
+        Ok(())
     }
 }

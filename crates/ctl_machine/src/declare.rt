@@ -13,7 +13,7 @@ use crate::engine::Engine;
 use crate::frame::{Ended, Frame, Left, Life, Master, Mode, Owned};
 use crate::holders::find;
 use crate::parts::{add_copy, add_zeros, count_defaulted, size_of};
-use ctl_code::code::{Beginning, Cell, Code, Named};
+use ctl_code::code::{Beginning, Code};
 use ctl_tree::ending::Stop;
 use std::alloc::AllocError;
 
@@ -96,30 +96,30 @@ impl Engine {
         Ok(())
     }
 
-    /// Declares an object of a record type with the value of the object whose number is the newest operand, in this cell (RM 3.3.1): it is
-    /// created and takes the value, and its Adjust is to come (RM 7.6). Where there is no such object, the program is erroneous
-    /// (RM 13.11.2). Unchanged where memory is refused.
+    /// Declares an object of a record type with the value of the part that is the newest operand (RM 3.3.1): it is created and takes the
+    /// value, and its Adjust is to come (RM 7.6). Where there is no such object, the program is erroneous (RM 13.11.2). Unchanged where
+    /// memory is refused.
     #[inline(never)]
     pub(crate) fn declare_copy(
         &mut self,
         code: &Code,
         slot: usize,
         record: usize,
-        at: usize,
         place: usize,
     ) -> Result<(), AllocError>
         ghost s: { State }
         requires valid { IsValid code.now }
-        requires before { Before code.now self.old place (InstrOf.DeclareCopy slot «record» at) s }
+        requires before { Before code.now self.old place (InstrOf.DeclareCopy slot «record») s }
         requires place { place + 1 < 2 ^ 64 }
         requires objects { self.old.given_objects + 1 < 2 ^ 64 }
-        ensures ok { OnOk result (Makes code.now self.old self.new (Table.by_instr code.now (Some (InstrOf.DeclareCopy slot «record» at)) s.operands (here_of place s))) }
+        ensures ok { OnOk result (Makes code.now self.old self.new (Table.by_instr code.now (Some (InstrOf.DeclareCopy slot «record»)) s.operands (here_of place s))) }
         ensures err { OnErr result (GoesOn self.old self.new self.old.mode self.old.cells.items) }
     {
         let newest = self.newest();
-        let named = Named::Operand;
-        let number = self.take(&Cell { at, named });
-        let Some(found) = find(self.owned.as_slice(), number) else {
+        let newest_spot = self.count_spots() - 1;
+        let spot = &self.spots[newest_spot];
+        let start = spot.offset();
+        let Some(found) = find(self.owned.as_slice(), spot.object()) else {
             self.mode = Mode::Stopped(Stop::UseAfterFree);
             return Ok(());
         };
@@ -127,7 +127,8 @@ impl Engine {
         let size = size_of(code, record);
         self.reserve_object(size)?;
         self.create(newest, slot, record, size);
-        add_copy(&mut self.parts, &source, size);
+        add_copy(&mut self.parts, &source, start, size);
+        let _ = self.spots.take_last();
         self.control.push_reserved(Frame::Filling {
             how: Beginning::ByCopy,
             left: Left { first: 0, last: 0 },

@@ -1,5 +1,6 @@
 //! Where the machine is, what waits on the control stack, the active masters, and the objects that they own.
 
+use crate::spots::Spot;
 use ctl_code::code::{Beginning, Way};
 use ctl_tree::ending::Stop;
 
@@ -72,10 +73,9 @@ pub enum Frame {
         how: Beginning,
         place: usize,
     },
-    /// an object of a record type that is assigned to, under Finalize where its value is saved, else under Adjust, and the place where
-    /// the assignment goes on (RM 5.2, 7.6)
+    /// the newest part among those of the engine, of a record type, is assigned to, under Finalize where its value is saved, else under
+    /// Adjust, and the place where the assignment goes on (RM 5.2, 7.6)
     Assigning {
-        object: u64,
         record: usize,
         value: Value,
         place: usize,
@@ -115,16 +115,25 @@ pub struct Master {
     pub depth: usize,
     /// how many objects were owned when it was entered
     pub owned: usize,
-    /// how many formals of older masters stood for objects when it was entered, and how many do with its own
+    /// how many formals of older masters stood for parts of objects when it was entered, and how many do with its own
     pub outer_formals: usize,
     pub formals: usize,
+    /// how many parts there were when it was entered, with those that were put aside
+    pub spots: usize,
 }
 
-/// A formal that stands for an object: its slot in the master of the body, and the number of the object (RM 6.2).
-#[derive(Clone, Copy)]
+/// A formal that stands for a part of an object: its slot in the master of the body, and the part (RM 6.2).
+#[derive(Drop)]
 pub struct Formal {
     pub slot: usize,
-    pub object: u64,
+    pub spot: Spot,
+}
+
+/// What a slot holds: a whole object, of this number, or the part that the formal at this place stands for.
+#[derive(Clone, Copy)]
+pub enum Holder {
+    Whole(u64),
+    Bound(usize),
 }
 
 /// How far the life of an owned object has come. Between its creation and its finalization it is a layer of its master (RM 7.6.1).

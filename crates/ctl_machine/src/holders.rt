@@ -1,49 +1,53 @@
-//! Which object a slot holds, where it stands among the owned objects, and which master owns it.
+//! What a slot holds, where an object stands among the owned objects, and which master owns it.
 
 ghost use Rattle.std.specs.Prelude.{◌≡◌, ◌≤◌, ℕ, IfSome, IsNone, Some, drop, length, slice_get, take};
 ghost use Rattle.ctl_code.specs.Table as Table;
 ghost use Rattle.ctl_machine.specs.declared.frame.Owned.{Owned};
-ghost use Rattle.ctl_machine.specs.Holders.{IsOwnerOf, Lacks, formal_in, holder_in};
+ghost use Rattle.ctl_machine.specs.Holders.{IsOwnerOf, IsThere, Lacks, formal_in, found_in, holder_in, own_formals};
 ghost use Rattle.ctl_machine.specs.Masters.{RiseBelow};
 
-use crate::frame::{Formal, Master, Owned};
+use crate::frame::{Formal, Holder, Master, Owned};
 
-/// Answers the object that the formal of this slot stands for, if there is one among these.
-fn formal(formals: &[Formal], slot: usize) -> Option<u64>
-    ensures { result ≡ Table.whole_of (formal_in formals.now slot) }
+/// Answers the place of the formal of this slot, if there is one among those from one place up to another.
+fn formal(formals: &[Formal], start: usize, end: usize, slot: usize) -> Option<Holder>
+    requires { end ≤ length formals.now }
+    ensures part { found_in formals.now result ≡ Table.spot_of (formal_in (drop start (take end formals.now)) slot) }
+    ensures there { IfSome result (IsThere formals.now) }
 {
-    let mut at = formals.len();
-    while at > 0 {
+    let mut at = end;
+    while at > start {
         at -= 1;
-        let formal = formals[at];
-        if formal.slot == slot {
-            return Some(formal.object);
+        if formals[at].slot == slot {
+            return Some(Holder::Bound(at));
         }
     }
     None
 }
 
-/// Answers the number of the object that a slot of a master holds: of the newest object that was declared there, among those from one place
-/// up to another, which the master owns, or else the object that one of its formals stands for.
+/// Answers what a slot of a master holds: the newest object that was declared there, among those from one place up to another, which the
+/// master owns, or else the part that one of its formals stands for, which are those from one place up to another, too.
 pub(crate) fn holder(
     owned: &[Owned],
     start: usize,
     end: usize,
     slot: usize,
     formals: &[Formal],
-) -> Option<u64>
-    requires { end ≤ length owned.now }
-    ensures { result ≡ Table.whole_of (holder_in (drop start (take end owned.now)) slot (formal_in formals.now slot)) }
+    master: &Master,
+) -> Option<Holder>
+    requires owned { end ≤ length owned.now }
+    requires formals { master.now.formals ≤ length formals.now }
+    ensures part { found_in formals.now result ≡ Table.spot_of (holder_in (drop start (take end owned.now)) slot (formal_in (own_formals master.now formals.now) slot)) }
+    ensures there { IfSome result (IsThere formals.now) }
 {
     let mut at = end;
     while at > start {
         at -= 1;
         let object = owned[at];
         if object.slot == slot {
-            return Some(object.number);
+            return Some(Holder::Whole(object.number));
         }
     }
-    formal(formals, slot)
+    formal(formals, master.outer_formals, master.formals, slot)
 }
 
 /// Finds the owned object of this number; the numbers rise.

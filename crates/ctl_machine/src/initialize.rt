@@ -20,6 +20,7 @@ use crate::engine::Engine;
 use crate::frame::{After, Ended, Frame, Life, Master, Mode, Owned};
 use crate::layers::PROGRAM_ERROR;
 use crate::showing::{show_life, whole};
+use crate::spots::Spot;
 use ctl_code::code::{Beginning, Code, Entry, Operations, Way};
 use ctl_tree::event::Event;
 use std::alloc::{AllocError, Global};
@@ -132,8 +133,9 @@ impl Engine {
             owned: self.count_owned(),
             outer_formals,
             formals: outer_formals + 1,
+            spots: self.count_spots(),
         };
-        self.open_for(master, object.number, entry.place);
+        self.open_for(master, Spot::whole(self.alloc, object.number), entry.place);
         Ok(())
     }
 

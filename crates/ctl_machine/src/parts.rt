@@ -83,27 +83,33 @@ pub(crate) fn add_zeros(parts: &mut Vec<u64>, count: usize)
     }
 }
 
-/// Adds the first cells of an object again, so many, for which there is room; one that the object does not have counts as 0.
-pub(crate) fn add_copy(parts: &mut Vec<u64>, source: &Owned, count: usize)
+/// Adds cells of an object again, so many from one on, for which there is room; one that the object does not have counts as 0.
+pub(crate) fn add_copy(parts: &mut Vec<u64>, source: &Owned, start: usize, count: usize)
     requires room { vec_len parts.old + count ≤ vec_capacity parts.old }
     requires source { source.now.first + source.now.cells ≤ vec_len parts.old }
-    ensures { parts.new.items ≡ parts.old.items ++ cells_at 0 count (object_of parts.old.items source.now) }
+    ensures { parts.new.items ≡ parts.old.items ++ cells_at start count (object_of parts.old.items source.now) }
 {
     for at in 0..count {
-        let value = read_part(parts.as_slice(), source, at);
+        let value = read_component(parts.as_slice(), source, start, at);
         parts.push_reserved(value);
     }
 }
 
-/// Saves the first cells of an object, so many, behind those that are saved already, for which there is room; one that the object does
+/// Saves cells of an object, so many from one on, behind those that are saved already, for which there is room; one that the object does
 /// not have counts as 0.
-pub(crate) fn save_copy(saved: &mut Vec<u64>, parts: &[u64], source: &Owned, count: usize)
+pub(crate) fn save_copy(
+    saved: &mut Vec<u64>,
+    parts: &[u64],
+    source: &Owned,
+    start: usize,
+    count: usize,
+)
     requires room { vec_len saved.old + count ≤ vec_capacity saved.old }
     requires source { source.now.first + source.now.cells ≤ length parts.now }
-    ensures items { saved.new.items ≡ saved.old.items ++ cells_at 0 count (object_of parts.now source.now) }
+    ensures items { saved.new.items ≡ saved.old.items ++ cells_at start count (object_of parts.now source.now) }
 {
     for at in 0..count {
-        let value = read_part(parts, source, at);
+        let value = read_component(parts, source, start, at);
         saved.push_reserved(value);
     }
 }
@@ -129,6 +135,17 @@ pub(crate) fn read_part(parts: &[u64], object: &Owned, offset: usize) -> u64
     parts[object.first + offset]
 }
 
+/// Reads a cell of a part of an object, by the first cell of the part; 0 where the object has no such cell.
+pub(crate) fn read_component(parts: &[u64], object: &Owned, start: usize, offset: usize) -> u64
+    requires { object.now.first + object.now.cells ≤ length parts.now }
+    ensures { result ≡ scalar_of (cells_at (start + offset) 1 (object_of parts.now object.now)) }
+{
+    if start >= object.cells || offset >= object.cells - start {
+        return 0;
+    }
+    read_part(parts, object, start + offset)
+}
+
 /// Writes a cell of an object; nothing where the object has no such cell.
 pub(crate) fn write_part(parts: &mut [u64], object: &Owned, offset: usize, value: u64)
     requires { object.now.first + object.now.cells ≤ length parts.old }
@@ -139,12 +156,28 @@ pub(crate) fn write_part(parts: &mut [u64], object: &Owned, offset: usize, value
     }
 }
 
-/// Writes these values into the first cells of an object; one for which the object has no cell is not written.
-pub(crate) fn write_parts(parts: &mut [u64], object: &Owned, values: &[u64])
+/// Writes a cell of a part of an object, by the first cell of the part; nothing where the object has no such cell.
+pub(crate) fn write_component(
+    parts: &mut [u64],
+    object: &Owned,
+    start: usize,
+    offset: usize,
+    value: u64,
+)
     requires { object.now.first + object.now.cells ≤ length parts.old }
-    ensures { parts.new ≡ Cells.parts_written object.now 0 values.now parts.old }
+    ensures { parts.new ≡ Cells.part_written object.now (start + offset) value parts.old }
+{
+    if let Some(at) = start.checked_add(offset) {
+        write_part(parts, object, at, value);
+    }
+}
+
+/// Writes these values into cells of an object, from one on; one for which the object has no cell is not written.
+pub(crate) fn write_parts(parts: &mut [u64], object: &Owned, start: usize, values: &[u64])
+    requires { object.now.first + object.now.cells ≤ length parts.old }
+    ensures { parts.new ≡ Cells.parts_written object.now start values.now parts.old }
 {
     for at in 0..values.len() {
-        write_part(parts, object, at, values[at]);
+        write_component(parts, object, start, at, values[at]);
     }
 }

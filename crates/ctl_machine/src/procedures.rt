@@ -1,28 +1,31 @@
 //! Procedures are called (RM 6.4).
 
-ghost use Rattle.std.specs.Prelude.{◌≡◌, ◌+◌, ◌^◌, ◌<◌, ◌≤◌, ◌∷◌, ◌++◌, List, OnErr, OnOk, Some, if◌then◌else◌, length, reverse, slice_get, slice_set, vec_capacity, vec_len};
+ghost use Rattle.std.specs.Prelude.{◌≡◌, ◌+◌, ◌^◌, ◌<◌, ◌≤◌, ◌∷◌, ◌++◌, [], IsTrue, List, OnErr, OnOk, Some, length, reverse, take, vec_capacity, vec_len};
 ghost use Rattle.ctl_code.specs.declared.code.Instr.TheVariants as InstrOf;
 ghost use Rattle.ctl_code.specs.Kinds.{stack_at};
 ghost use Rattle.ctl_code.specs.Table as Table;
-ghost use Rattle.ctl_code.specs.States.{Giving, State};
+ghost use Rattle.ctl_code.specs.States.{Giving, State, Word};
+ghost use Rattle.ctl_meaning.specs.Finalization as S;
 ghost use Rattle.ctl_code.specs.Valid.{IsValid};
 ghost use Rattle.ctl_machine.specs.declared.frame.Frame.{Frame};
 ghost use Rattle.ctl_machine.specs.declared.frame.Frame.TheVariants as FrameOf;
 ghost use Rattle.ctl_machine.specs.Moves.{Before, BeforeResuming, GoesOn, Makes, here_of};
-ghost use Rattle.ctl_machine.specs.Passing.{bound, formal_if, is_object_at, passed, with_actuals};
+ghost use Rattle.ctl_machine.specs.Passing.{AreActuals, bound, cell_passed, formal_if, is_located, is_part_at, passed, with_actuals};
+ghost use Rattle.ctl_machine.specs.Spots.{located};
 ghost use Rattle.ctl_machine.specs.Shows as Shows;
 ghost use Rattle.ctl_machine.specs.Shows.{kept};
 
 use crate::engine::{Engine, clear};
 use crate::frame::{After, Ended, Formal, Frame, Master, Mode};
+use crate::spots::Spot;
 use ctl_code::code::{Code, Way};
 use ctl_code::kinds::Kind;
 use ctl_program::types::Ty;
 use std::alloc::AllocError;
 
-/// Tells whether the operand under so many newer ones before the instruction at a place is the number of an object (RM 6.2).
-fn is_object(code: &Code, place: usize, depth: usize) -> bool
-    ensures { result ≡ is_object_at (stack_at code.now.kinds place) depth }
+/// Tells whether the operand under so many newer ones before the instruction at a place is a part of an object (RM 6.2).
+fn is_part(code: &Code, place: usize, depth: usize) -> bool
+    ensures { result ≡ is_part_at (stack_at code.now.kinds place) depth }
 {
     matches!(
         code.kinds.kind_at(place, depth),
@@ -30,55 +33,69 @@ fn is_object(code: &Code, place: usize, depth: usize) -> bool
     )
 }
 
-/// Passes the actual in a cell to the formal of a slot: where it is the number of an object, the formal stands for it from then on, and the
-/// cell becomes 0 (RM 6.2); there is room for the formal.
-fn pass(cells: &mut [u64], formals: &mut Vec<Formal>, cell: usize, slot: usize, is_object: bool)
+/// Passes the actual in a cell to the formal of a slot: where it is a part of an object, the newest one, the formal stands for it from then
+/// on, and the cell becomes 0 (RM 6.2); there is room for the formal.
+fn pass(
+    cells: &mut [u64],
+    spots: &mut Vec<Spot>,
+    formals: &mut Vec<Formal>,
+    cell: usize,
+    slot: usize,
+    is_part: bool,
+)
     requires cell { cell < length cells.old }
     requires room { vec_len formals.old < vec_capacity formals.old }
-    ensures cells { cells.new ≡ (if is_object then slice_set cells.old cell 0 else cells.old) }
-    ensures formals { formals.new.items ≡ formals.old.items ++ formal_if is_object slot (slice_get cells.old cell) }
+    requires some { IsTrue is_part → 0 < vec_len spots.old }
+    ensures passed { (x : Word) (below : List S.Spot) → is_part ≡ is_located x → spots.old.items ≡ below ++ located (x ∷ []) → (cells.new ≡ cell_passed x cell cells.old) × (spots.new.items ≡ below) × (formals.new.items ≡ formals.old.items ++ formal_if x slot) }
     ensures length { vec_len formals.new ≤ vec_len formals.old + 1 }
     ensures capacity { vec_capacity formals.new ≡ vec_capacity formals.old }
 {
-    if is_object {
-        let object = cells[cell];
-        formals.push_reserved(Formal { slot, object });
+    if is_part {
+        let spot = spots.take_last();
+        formals.push_reserved(Formal { slot, spot });
         cells[cell] = 0;
     }
 }
 
-/// Lets the formals of a body stand for the objects that are passed to it: the cells from one on are the actuals of a call, so many, the
-/// first one first, and those that are numbers of objects become 0 (RM 6.2, 6.4.1).
+/// Lets the formals of a body stand for the parts that are passed to it, the last one first: the cells from one on are the actuals of a
+/// call, so many, and those of parts become 0 (RM 6.2, 6.4.1).
 fn bind(
     code: &Code,
     place: usize,
     cells: &mut [u64],
+    spots: &mut Vec<Spot>,
     formals: &mut Vec<Formal>,
     base: usize,
     actuals: usize,
 )
+    ghost t: { List Word × List S.Spot }
     requires cells { base + actuals ≤ length cells.old }
     requires formals { vec_len formals.old + actuals ≤ vec_capacity formals.old }
-    requires stack { actuals ≤ length (stack_at code.now.kinds place) }
-    ensures cells { cells.new ≡ passed actuals (stack_at code.now.kinds place) base cells.old }
-    ensures formals { formals.new.items ≡ formals.old.items ++ bound actuals (stack_at code.now.kinds place) base cells.old }
+    requires stack { AreActuals actuals (stack_at code.now.kinds place) t.0 }
+    requires spots { spots.old.items ≡ t.1 ++ located (take actuals t.0) }
+    ensures cells { cells.new ≡ passed actuals t.0 base cells.old }
+    ensures spots { spots.new.items ≡ t.1 }
+    ensures formals { formals.new.items ≡ formals.old.items ++ bound actuals t.0 }
 {
-    for slot in 0..actuals {
-        let object = is_object(code, place, actuals - 1 - slot);
-        pass(cells, formals, base + slot, slot, object);
+    for depth in 0..actuals {
+        let slot = actuals - 1 - depth;
+        let is_part = is_part(code, place, depth);
+        pass(cells, spots, formals, base + slot, slot, is_part);
     }
 }
 
 impl Engine {
-    /// Begins the slots of a body, whose first cells are the actuals of its call: the formals stand for objects or have values, and all
-    /// other slots are cleared (RM 6.4.1).
+    /// Begins the slots of a body, whose first cells are the actuals of its call: the formals stand for parts of objects or have values,
+    /// and all other slots are cleared (RM 6.4.1).
     fn begin_slots(&mut self, code: &Code, place: usize, base: usize, slots: usize, actuals: usize)
+        ghost t: { List Word × List S.Spot }
         requires cells { base + slots ≤ length self.old.cells.items }
         requires many { actuals ≤ slots }
         requires formals { vec_len self.old.formals + actuals ≤ vec_capacity self.old.formals }
-        requires stack { actuals ≤ length (stack_at code.now.kinds place) }
+        requires stack { AreActuals actuals (stack_at code.now.kinds place) t.0 }
+        requires spots { self.old.spots.items ≡ t.1 ++ located (take actuals t.0) }
         ensures mode { self.new.mode ≡ self.old.mode }
-        ensures kept { kept self.new ≡ with_actuals (kept self.old) (stack_at code.now.kinds place) base slots actuals }
+        ensures kept { kept self.new ≡ with_actuals (kept self.old) t.0 t.1 base slots actuals }
         ensures events { self.new.events ≡ self.old.events }
         ensures picks { self.new.picks ≡ self.old.picks }
         ensures given { self.new.given_masters ≡ self.old.given_masters }
@@ -89,6 +106,7 @@ impl Engine {
             code,
             place,
             &mut self.cells,
+            &mut self.spots,
             &mut self.formals,
             base,
             actuals,
@@ -133,6 +151,7 @@ impl Engine {
             owned: self.count_owned(),
             outer_formals,
             formals: self.count_formals(),
+            spots: self.count_spots(),
         };
         self.stand(master, 0, After::Body, entry.place);
         Ok(())

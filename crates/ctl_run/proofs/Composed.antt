@@ -22,7 +22,7 @@ use Rattle.ctl_run.specs.Headline.{ByItself, Reaches, Headline}
 -- A machine that has ended ----------------------------------------------------------------------------
 
 -- changes no more
-stays_at : (ask : Ask) (code : Code) (mode : T.Mode) (k : List T.Frame) (ops : List ℕ) (w : World) (l : Log) (e : End) → end_at code.exceptions.items mode k ≡ Some e → step ask code (record { mode = mode; control = k; operands = ops; world = w; log = l }) ≡ record { mode = mode; control = k; operands = ops; world = w; log = l }
+stays_at : (ask : Ask) (code : Code) (mode : T.Mode) (k : List T.Frame) (ops : List T.Word) (w : World) (l : Log) (e : End) → end_at code.exceptions.items mode k ≡ Some e → step ask code (record { mode = mode; control = k; operands = ops; world = w; log = l }) ≡ record { mode = mode; control = k; operands = ops; world = w; log = l }
 unfolding picked
 stays_at ask code (T.At d place) k ops w l e h = absurd (cc)
 stays_at ask code (T.Transfers way) k ops w l e h = absurd (cc)

@@ -12,11 +12,12 @@ use Rattle.ctl_front.specs.Text.{IsAnswer, SpellsNamed}
 use Rattle.ctl_layout.specs.Run.{IsRun, is_run}
 use Rattle.ctl_slice.specs.Places.{first_left_out}
 
--- where a text is left out: at the first construct that is not run, or at the procedure, where what its names denote does not tell one
+-- where a text is left out: at the first construct that is not run for certain, or else the first that may not be by what its types are, or
+-- else at the procedure
 abbrev pub place_left_out : Tree Definition Use → Span
 place_left_out t = unwrap_or (first_left_out t) t.span
 
--- the bytes spell a tree, and this is the fault at its first construct that is not run
+-- the bytes spell a tree, and this is the fault where it is left out
 pub record IsLeftOut (source : List ℕ) (fault : Fault) : Type 0 where
   pub named : Tree Definition Use
   pub spelled : SpellsNamed source named

@@ -24,7 +24,8 @@ pub fn check_source(alloc: Global, source: &[u8]) -> Result<Checked, Fault>
     ensures { Settles source.now result }
 {
     let program = program_of(alloc, source)?;
-    if is_run(&program) {
+    let runs = is_run(alloc, &program)?;
+    if runs {
         return Ok(program);
     }
     Err(left_out(alloc, source))

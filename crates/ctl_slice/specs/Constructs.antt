@@ -19,7 +19,7 @@ use Rattle.ctl_syntax.specs.declared.item.Objects.{Objects}
 use Rattle.ctl_syntax.specs.declared.item.Specification.{Specification}
 use Rattle.ctl_syntax.specs.declared.name.Name.{Name}
 use Rattle.ctl_slice.specs.declared.construct.Support.{Support}
-use Rattle.ctl_slice.specs.declared.construct.Support.TheVariants.{Run, LeftOut}
+use Rattle.ctl_slice.specs.declared.construct.Support.TheVariants.{Run, ByTypes, LeftOut}
 
 abbrev pub support_when : Bool → Support
 support_when is_run = if is_run then Run else LeftOut
@@ -89,18 +89,27 @@ abbrev pub may_default : Option (Expression Use) → Bool
 may_default None = true
 may_default (Some e) = is_literal e
 
--- components of a scalar type, with such a default (3.8)
-abbrev pub is_plain : Components Use → Bool
-is_plain c = is_scalar c.mark.first.denoted && may_default c.default
+-- the one that is further from being run
+abbrev pub worse : Support → Support → Support
+worse Run s = s
+worse ByTypes LeftOut = LeftOut
+worse ByTypes s = ByTypes
+worse LeftOut s = LeftOut
 
-abbrev pub are_plain : List (Components Use) → Bool
-are_plain [] = true
-are_plain (c ∷ cs) = is_plain c && are_plain cs
+-- components of a scalar type, with such a default (3.8); of a type of the text and without one, it is that type that tells
+abbrev pub of_components : Components Use → Support
+of_components c =
+    if is_scalar c.mark.first.denoted && may_default c.default then Run
+    else (if is_of_text c.mark.first.denoted && is_none c.default then ByTypes else LeftOut)
+
+abbrev pub of_all : List (Components Use) → Support
+of_all [] = Run
+of_all (c ∷ cs) = worse (of_components c) (of_all cs)
 
 -- a record of such components (3.8), or a type that extends such a type by them (3.9.1)
 abbrev pub of_type : Type_definition Use → Support
-of_type (Record limitation components) = support_when (are_plain components)
-of_type (Extension parent added) = support_when (are_plain added && may_be_extended parent.first.denoted)
+of_type (Record limitation components) = of_all components
+of_type (Extension parent added) = worse (support_when (may_be_extended parent.first.denoted)) (of_all added)
 of_type d = LeftOut
 
 -- objects of this type, with these discriminants: of a type of the text without any, and of a scalar one (3.3.1)

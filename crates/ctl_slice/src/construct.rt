@@ -11,10 +11,11 @@ use ctl_syntax::item::{
 };
 use ctl_syntax::name::Name;
 
-/// Whether this version runs a construct.
+/// Whether this version runs a construct: it does, it does or does not by what its types are, or it does not.
 #[derive(Clone, Copy, Debug, PartialEq, Eq)]
 pub enum Support {
     Run,
+    ByTypes,
     LeftOut,
 }
 
@@ -90,27 +91,51 @@ fn is_literal(expression: &Expression<Use>) -> bool
     }
 }
 
-/// Tells whether components are of a scalar type, without a default expression or with a literal (RM 3.8).
-fn is_plain(components: &Components<Use>) -> bool
-    ensures { result ≡ spec.is_plain components.now }
+/// Answers the one that is further from being run.
+fn worse(left: Support, right: Support) -> Support
+    ensures { result ≡ spec.worse left right }
 {
-    is_scalar(components.mark.first.denoted)
-        && match &components.default {
-            Some(default) => is_literal(default),
-            None => true,
-        }
+    match (left, right) {
+        (Support::Run, support) => support,
+        (Support::LeftOut, _) | (Support::ByTypes, Support::LeftOut) => Support::LeftOut,
+        (Support::ByTypes, _) => Support::ByTypes,
+    }
 }
 
-/// Tells whether all of these are.
-fn are_plain(added: &[Components<Use>]) -> bool
-    ensures { result ≡ spec.are_plain added.now }
+/// Tells whether there is no default expression, or a literal (RM 3.8).
+fn may_default(default: &Option<Expression<Use>>) -> bool
+    ensures { result ≡ spec.may_default default.now }
 {
-    for components in added {
-        if !is_plain(components) {
-            return false;
-        }
+    match default {
+        Some(default) => is_literal(default),
+        None => true,
     }
-    true
+}
+
+/// Judges components: those of a scalar type are run, without a default expression or with a literal; of those of a type of the text
+/// without one that type tells it (RM 3.8).
+fn of_components(components: &Components<Use>) -> Support
+    ensures { result ≡ spec.of_components components.now }
+{
+    let denoted = components.mark.first.denoted;
+    if is_scalar(denoted) && may_default(&components.default) {
+        Support::Run
+    } else if is_of_text(denoted) && components.default.is_none() {
+        Support::ByTypes
+    } else {
+        Support::LeftOut
+    }
+}
+
+/// Judges all of these.
+fn of_all(all: &[Components<Use>]) -> Support
+    ensures { result ≡ spec.of_all all.now }
+{
+    let mut support = Support::Run;
+    for components in all {
+        support = worse(support, of_components(components));
+    }
+    support
 }
 
 /// Judges a type: a record with such components alone is run (RM 3.8), and so is one that extends Controlled, Limited_Controlled or a type of
@@ -119,10 +144,11 @@ pub(crate) fn of_type(definition: &TypeDefinition<Use>) -> Support
     ensures { result ≡ spec.of_type definition.now }
 {
     match definition {
-        TypeDefinition::Record(_, components) => support_when(are_plain(components.as_slice())),
-        TypeDefinition::Extension(parent, added) => {
-            support_when(are_plain(added.as_slice()) && may_be_extended(parent.first.denoted))
-        }
+        TypeDefinition::Record(_, components) => of_all(components.as_slice()),
+        TypeDefinition::Extension(parent, added) => worse(
+            support_when(may_be_extended(parent.first.denoted)),
+            of_all(added.as_slice()),
+        ),
         _ => Support::LeftOut,
     }
 }

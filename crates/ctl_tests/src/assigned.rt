@@ -47,17 +47,12 @@ const FROM_SECOND: Instr = Instr::Locate {
 const STORE: Instr = Instr::StorePart {
     from: CELL_5,
     ty: Ty::Integer,
-    at: 4,
     record: 0,
     position: 1,
 };
 
 /// Assigns to the object that is the first operand the value of the second one.
-const ASSIGN: Instr = Instr::Assign {
-    from: CELL_5,
-    at: 4,
-    record: 0,
-};
+const ASSIGN: Instr = Instr::Assign { record: 0 };
 
 /// Reads the first component of the first object.
 const FETCH: Instr = Instr::FetchPart {

@@ -21,6 +21,29 @@ const CELL_5: Cell = Cell {
 /// The code of an empty main procedure.
 const EMPTY: &[Line] = &[(Instr::Start(0), ""), (Instr::Leave, "m")];
 
+/// Finds the object of the first slot of a body, as its first operand.
+const PART: Instr = Instr::Locate {
+    out: 0,
+    slot: 0,
+    record: 0,
+    at: 1,
+};
+
+/// Goes on to the first component of the part on top.
+const SELECT: Instr = Instr::Select {
+    record: 0,
+    position: 1,
+    part: 0,
+};
+
+/// Puts the value of its second component, as the first operand of a body.
+const TAKE: Instr = Instr::TakePart {
+    record: 0,
+    position: 2,
+    ty: Ty::Integer,
+    to: CELL_1,
+};
+
 /// Each instruction at least once, and behind the main procedure the body of a Finalize.
 const EACH_INSTRUCTION: &[Line] = &[
     (Instr::Start(0), ""),
@@ -234,18 +257,58 @@ const EACH_INSTRUCTION: &[Line] = &[
         Instr::StorePart {
             from: CELL_2,
             ty: Ty::Integer,
-            at: 1,
             record: 0,
             position: 1,
         },
         "fri",
     ),
+    (PART, "f"),
+    (SELECT, "fr"),
+    (TAKE, "fr"),
+    (
+        Instr::Store {
+            from: CELL_1,
+            ty: Ty::Integer,
+            out: 1,
+            slot: 1,
+        },
+        "fi",
+    ),
+    (PART, "f"),
+    (
+        Instr::Locate {
+            out: 0,
+            slot: 0,
+            record: 0,
+            at: 2,
+        },
+        "fr",
+    ),
+    (Instr::Assign { record: 0 }, "frr"),
+    (PART, "f"),
+    (Instr::DeclareCopy { slot: 0, record: 0 }, "fr"),
+    (
+        Instr::Call {
+            procedure: 1,
+            actuals: 0,
+        },
+        "f",
+    ),
+    (Instr::Handle(0), "f"),
+    (
+        Instr::Catch {
+            exception: 0,
+            length: 0,
+        },
+        "f",
+    ),
+    (Instr::RaiseAgain, "f"),
     (Instr::Transfer(Way::Raise(0)), "f"),
     (Instr::Transfer(Way::Return), "f"),
 ];
 
-/// A component that takes a value where the number of its object is taken for one.
-const NUMBER_FOR_AN_OBJECT: &[Line] = &[
+/// A component that takes a value where a number stands for the part that has it.
+const NUMBER_FOR_A_PART: &[Line] = &[
     (Instr::Start(0), ""),
     (
         Instr::Set {
@@ -259,12 +322,67 @@ const NUMBER_FOR_AN_OBJECT: &[Line] = &[
         Instr::StorePart {
             from: FIRST,
             ty: Ty::Integer,
-            at: 2,
             record: 0,
             position: 1,
         },
         "mi",
     ),
+    (Instr::Leave, "m"),
+];
+
+/// A selector of a number.
+const SELECTOR_OF_A_NUMBER: &[Line] = &[
+    (Instr::Start(0), ""),
+    (
+        Instr::Set {
+            value: 1,
+            ty: Ty::Integer,
+            to: CELL_2,
+        },
+        "m",
+    ),
+    (SELECT, "mi"),
+    (TAKE, "mr"),
+    (Instr::Leave, "m"),
+];
+
+/// A component's value in another cell than that of its part.
+const COMPONENT_IN_ANOTHER_CELL: &[Line] = &[
+    (Instr::Start(0), ""),
+    (
+        Instr::Locate {
+            out: 0,
+            slot: 0,
+            record: 0,
+            at: 2,
+        },
+        "m",
+    ),
+    (TAKE, "mr"),
+    (
+        Instr::Move {
+            from: CELL_2,
+            ty: Ty::Integer,
+            to: FIRST,
+        },
+        "mi",
+    ),
+    (Instr::Leave, "m"),
+];
+
+/// An assignment with a source alone.
+const ASSIGNMENT_WITHOUT_A_TARGET: &[Line] = &[
+    (Instr::Start(0), ""),
+    (
+        Instr::Locate {
+            out: 0,
+            slot: 0,
+            record: 0,
+            at: 2,
+        },
+        "m",
+    ),
+    (Instr::Assign { record: 0 }, "mr"),
     (Instr::Leave, "m"),
 ];
 
@@ -501,7 +619,13 @@ fn faults_are_refused(rt: HostRuntime) -> Result<(), Fail> {
         (BRANCH_PAST_THE_END, "a branch past the end"),
         (BOOLEAN_FOR_A_NUMBER, "a Boolean for a number"),
         (NUMBER_FOR_A_BOOLEAN, "a number for a Boolean"),
-        (NUMBER_FOR_AN_OBJECT, "a number for an object"),
+        (NUMBER_FOR_A_PART, "a number for a part"),
+        (SELECTOR_OF_A_NUMBER, "a selector of a number"),
+        (COMPONENT_IN_ANOTHER_CELL, "a component in another cell"),
+        (
+            ASSIGNMENT_WITHOUT_A_TARGET,
+            "an assignment without a target",
+        ),
         (MISSING_OPERAND, "a missing operand"),
         (ANOTHER_CELL, "an operand in another cell"),
         (NEXT_OUTSIDE, "a next turn without bounds"),

@@ -81,11 +81,7 @@ const LOCATE_SOURCE: Instr = Instr::Locate {
 };
 
 /// Declares an object with its value in the second slot.
-const COPY: Instr = Instr::DeclareCopy {
-    slot: 1,
-    record: 0,
-    at: 4,
-};
+const COPY: Instr = Instr::DeclareCopy { slot: 1, record: 0 };
 
 /// Reads the first component of the new object.
 const FETCH_COPIED_FIRST: Instr = Instr::FetchPart {

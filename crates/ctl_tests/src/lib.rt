@@ -20,4 +20,6 @@ mod parse;
 #[cfg(test)]
 mod resolve;
 #[cfg(test)]
+mod selected;
+#[cfg(test)]
 mod text;

@@ -7,7 +7,7 @@ use ctl_program::types::Ty;
 use std::alloc::{AllocError, Global};
 
 /// An instruction, and what stands in the window before it, the newest last: `m` is the main procedure and `f` another body, `[` a block with
-/// one slot and `{` one with two, `i` and `b` are operands, an Integer and a Boolean, and `r` is the number of an object of record type 0.
+/// one slot and `{` one with two, `i` and `b` are operands, an Integer and a Boolean, and `r` is a part of record type 0.
 pub type Line = (Instr, &'static str);
 
 /// How many slots the main procedure has.

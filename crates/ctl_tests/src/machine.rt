@@ -69,7 +69,6 @@ const COMPONENT: &[Line] = &[
         Instr::StorePart {
             from: CELL_4,
             ty: Ty::Integer,
-            at: 3,
             record: 0,
             position: 2,
         },

@@ -157,6 +157,14 @@ const PARAMETERS: &[u8] =
 const PARAMETERS_TRACE: &str =
     "live 2 m1\nlive 3 m1\nlive 4 m5\nprint  61\nnewline\nfinalize 4 scope\nprint f 61\nnewline\nprint  10\nnewline\nprint zero\nnewline\nprint f 1\nnewline\nfinalize 3 scope\nprint f 1\nnewline\nfinalize 2 scope\nprint f 6\nnewline\nend done\n";
 
+/// Records in a record: names with several selectors, parts that are passed by reference, that an object begins with, and that are assigned to,
+/// also where a formal stands for one. Only the whole is controlled (RM 4.1.3, 5.2, 6.2, 7.6).
+const NESTED: &[u8] =
+    b"with Ada.Finalization; use Ada.Finalization; with Ada.Text_IO; use Ada.Text_IO; procedure Main is type P is record X : Integer; Y : Integer; end record; type Q is record A : P; B : P; end record; type T is new Controlled with record N : Integer := 1; C : Q; end record; overriding procedure Adjust (X : in out T); overriding procedure Finalize (X : in out T); procedure Adjust (X : in out T) is begin X.N := X.N + 1; Put_Line (\"a\"); end Adjust; procedure Finalize (X : in out T) is begin Put_Line (\"f\" & Integer'Image (X.N) & Integer'Image (X.C.A.X) & Integer'Image (X.C.B.Y)); end Finalize; procedure Set (X : in out P; Y : P; N : Integer) is begin X := Y; X.Y := X.Y + N; end Set; V : T; begin V.C.A.X := 3; V.C.A.Y := 4; Set (V.C.B, V.C.A, 5); V.C.A := V.C.A; declare W : T := V; begin W.C.B := W.C.A; Set (W.C.A, W.C.B, 1); V := W; declare U : P := W.C.A; begin Put_Line (\"u\" & Integer'Image (U.Y)); end; end; end Main;";
+
+const NESTED_TRACE: &str =
+    "live 1 m1\nadjust 2\nprint a\nnewline\nlive 2 m3\nfinalize 1 assign\nprint f 1 3 9\nnewline\nadjust 1\nprint a\nnewline\nprint u 5\nnewline\nfinalize 2 scope\nprint f 2 3 4\nnewline\nfinalize 1 scope\nprint f 3 3 4\nnewline\nend done\n";
+
 /// A type of which there is no object.
 const TYPE_ALONE: &[u8] =
     b"procedure Main is type R is record N : Integer; end record; begin null; end Main;";
@@ -195,6 +203,7 @@ fn traces_of_runs(rt: HostRuntime) -> Result<(), Fail> {
         (NOT_HANDLED, 1000, NOT_HANDLED_TRACE),
         (FAILURE_HANDLED, 1000, FAILURE_HANDLED_TRACE),
         (PARAMETERS, 1000, PARAMETERS_TRACE),
+        (NESTED, 1000, NESTED_TRACE),
         (TYPE_ALONE, 1000, "end done\n"),
         (TURNS, 100, "end limit\n"),
     ] {
@@ -235,8 +244,8 @@ fn faults_of_texts(rt: HostRuntime) -> Result<(), Fail> {
         ),
         // an object of a type that is not run; its type stands first
         (
-            b"procedure Main is type R is record N : Integer; end record; type Q is record X : R; end record; Y : Q; begin null; end Main;",
-            "1:61: 12 LEFT_OUT",
+            b"procedure Main is type R is record N : Integer := 1; end record; type Q is record X : R; end record; Y : Q; begin null; end Main;",
+            "1:66: 12 LEFT_OUT",
         ),
         // a rule on names or types is judged before a construct is left out, wherever they stand
         (

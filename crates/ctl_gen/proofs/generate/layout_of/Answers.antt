@@ -1,59 +1,30 @@
-use Rattle.std.proofs.Common.{◌≡◌, ◌+◌, [], ◌∷◌, ◌++◌, List, None, Some, drop, length, refl, ap, sym, ◌∙◌, arith, append_assoc, append-nil, length-append}
+use Rattle.std.proofs.Common.{◌≡◌, ◌+◌, ◌<◌, ◌≤◌, [], drop, length, get_or, sym, ap, ◌∙◌, subst}
 use Rattle.std.proofs.lemmas.List.{drop_all}
-use Rattle.ctl_code.specs.declared.code.Defaulted.{Defaulted}
-use Rattle.ctl_layout.specs.Defaults.{constant_of, defaulted_before, defaulted_from}
-use Rattle.ctl_layout.specs.Layout.{count_from}
+use Rattle.ctl_layout.specs.Layout.{cells_by}
 use Rattle.ctl_layout.proofs.Turns.{turn_of}
-use Rattle.ctl_gen.proofs.Layouts.{defaulted_both, none_of}
+use Rattle.ctl_gen.proofs.Layouts.{Grows, grows_more, grows_none}
 use Rattle.ctl_gen.proofs.generate.layout_of.Goals as goal
-use Rattle.ctl_gen.proofs.generate.layout_of.Goals.{in-Some+in_ok-push, in_default}
 
-pub loop-index-init : goal.loop-index-init
-loop-index-init c =
-    let same : c.args.first + 0 ≡ c.args.first = omega arith in
-    ap (λ n. c.args.inherited.items ++ defaulted_from n c.args.own.now) same
-
-pub loop-index-preserved : goal.loop-index-preserved
-loop-index-preserved c =
-    let cs = c.args.own.now in
-    let i = c.loop-index.index in
-    let first = c.args.first in
-    let x = c.index-own-index.result in
-    let old = c.loop-index.defaulted.items in
-    let more = defaulted_from (first + i + 1) (drop (i + 1) cs) in
-    let next : first + (i + 1) ≡ first + i + 1 = omega arith in
-    let turned = turn_of (λ zs. old ++ defaulted_from (first + i) zs) cs i x c.loop-index-test.true c.index-own-index.is ∙ c.loop-index.invariant in
-    let second : c.match-default_of.defaulted.items ++ more ≡ c.args.inherited.items ++ defaulted_from first cs = elim c.match-default_of.branch [
-      | in-Some+in_ok-push w ↦
-          let n = w.in-Some.value in
-          let is : constant_of x ≡ Some n = sym c.default_of.ensures ∙ w.in-Some.is in
-          let line : Defaulted = record { offset = first + i; value = n } in
-          ap (λ v. v.items ++ more) w.defaulted-is
-          ∙ (ap (λ (xs : List Defaulted). xs ++ more) w.in_ok-push.ensures.items
-          ∙ (append_assoc old (line ∷ []) more
-          ∙ (ap (λ o. old ++ defaulted_before (first + i) o more) (sym is) ∙ turned)))
-      | in_default w ↦
-          let is : constant_of x ≡ None = none_of (constant_of x) (λ n e. w.in_default.not-Some n (c.default_of.ensures ∙ e)) in
-          ap (λ v. v.items ++ more) w.defaulted-is ∙ (ap (λ o. old ++ defaulted_before (first + i) o more) (sym is) ∙ turned)
-    ] in
-    ap (λ n. c.match-default_of.defaulted.items ++ defaulted_from n (drop (i + 1) cs)) next ∙ second
+pub loop-component-preserved : goal.loop-component-preserved
+loop-component-preserved c = λ y more.
+    let size = cells_by c.args.layouts.now in
+    let own = c.args.entry.now.own in
+    let i = c.loop-component.component-index in
+    let x = c.loop-component.layout in
+    let item = c.component-item.result in
+    let z = c.add_component.new.layout in
+    let items = c.as_slice-component-items.ensures in
+    let within = subst (λ xs. i < length xs) items c.loop-component-test.true in
+    let is = subst (λ xs. item ≡ get_or xs i item) items c.component-item.is in
+    let cells = c.in_ok-add_component.ensures.cells ∙ ap (λ n. x.cells + n) c.cells_by-cells.ensures in
+    c.loop-component.invariant y
+    (subst (λ cs. Grows size x cs y) (turn_of (λ cs. cs) own i item within is)
+    (grows_more size x z item (drop (i + 1) own) y c.in_ok-add_component.ensures.parts cells c.in_ok-add_component.ensures.offsets c.in_ok-add_component.ensures.defaulted more))
 
 pub returns : goal.returns
-returns c = λ cs many given.
-    let own = c.args.own.now in
-    let i = c.loop-index.index in
-    let first = c.args.first in
-    let rest : drop i own ≡ [] = drop_all i own c.loop-index-test.false in
-    let behind : first ≡ 0 + length cs = omega (arith, many) in
-    let all : first + length own ≡ length (cs ++ own) = omega (arith, many, length-append cs own) in
-    record {
-      parts = refl;
-      cells = all;
-      offsets = c.in_ok-numbers_to.ensures ∙ ap (count_from 0) all;
-      defaulted =
-          sym (append-nil c.loop-index.defaulted.items)
-          ∙ (ap (λ zs. c.loop-index.defaulted.items ++ defaulted_from (first + i) zs) (sym rest)
-          ∙ (c.loop-index.invariant
-          ∙ (ap (λ xs. xs ++ defaulted_from first own) given
-          ∙ (ap (λ n. defaulted_from 0 cs ++ defaulted_from n own) behind ∙ sym (defaulted_both 0 cs own)))));
-    }
+returns c =
+    let own = c.args.entry.now.own in
+    let i = c.loop-component.component-index in
+    let x = c.loop-component.layout in
+    let rest : drop i own ≡ [] = drop_all i own (subst (λ xs. length xs ≤ i) c.as_slice-component-items.ensures c.loop-component-test.false) in
+    c.loop-component.invariant x (subst (λ cs. Grows (cells_by c.args.layouts.now) x cs x) (sym rest) (grows_none (cells_by c.args.layouts.now) x))

@@ -4,10 +4,10 @@ use Rattle.ctl_layout.specs.Layout.{all, arm_code, arms_run, handler_code, handl
 use Rattle.ctl_layout.proofs.runs.+statements.Given as goal
 
 abbrev pub invariant-statements-loop-one : goal.invariant-statements-loop-one
-invariant-statements-loop-one l = (all (map statement_code (drop l.one-index l.statements))).runs l.records ≡ (all (map statement_code l.statements)).runs l.records
+invariant-statements-loop-one l = (all (map statement_code (drop l.one-index l.statements))).runs l.table.records.now ≡ (all (map statement_code l.statements)).runs l.table.records.now
 
 abbrev pub invariant-conditional-loop-one : goal.invariant-conditional-loop-one
-invariant-conditional-loop-one l = arms_run (map arm_code (drop l.one-index l.arms)) l.records ≡ arms_run (map arm_code l.arms) l.records
+invariant-conditional-loop-one l = arms_run (map arm_code (drop l.one-index l.arms)) l.table.records.now ≡ arms_run (map arm_code l.arms) l.table.records.now
 
 abbrev pub invariant-handlers-loop-one : goal.invariant-handlers-loop-one
-invariant-handlers-loop-one l = handlers_run (map handler_code (drop l.one-index l.handlers)) l.records ≡ handlers_run (map handler_code l.handlers) l.records
+invariant-handlers-loop-one l = handlers_run (map handler_code (drop l.one-index l.handlers)) l.table.records.now ≡ handlers_run (map handler_code l.handlers) l.table.records.now

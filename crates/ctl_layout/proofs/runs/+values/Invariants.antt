@@ -4,7 +4,7 @@ use Rattle.ctl_layout.specs.Values.{operator_of, operators_run, value_code, valu
 use Rattle.ctl_layout.proofs.runs.+values.Given as goal
 
 abbrev pub invariant-operands-loop-one : goal.invariant-operands-loop-one
-invariant-operands-loop-one l = operators_run l.records (map operator_of (drop l.one-index l.operands)) ≡ operators_run l.records (map operator_of l.operands)
+invariant-operands-loop-one l = operators_run l.table.records.now (map operator_of (drop l.one-index l.operands)) ≡ operators_run l.table.records.now (map operator_of l.operands)
 
 abbrev pub invariant-values-loop-one : goal.invariant-values-loop-one
-invariant-values-loop-one l = values_run l.records (map value_code (drop l.one-index l.operands)) ≡ values_run l.records (map value_code l.operands)
+invariant-values-loop-one l = values_run l.table.records.now (map value_code (drop l.one-index l.operands)) ≡ values_run l.table.records.now (map value_code l.operands)

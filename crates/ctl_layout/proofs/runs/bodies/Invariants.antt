@@ -4,4 +4,4 @@ use Rattle.ctl_layout.specs.Layout.{bodies}
 use Rattle.ctl_layout.proofs.runs.bodies.Given as goal
 
 abbrev pub invariant-loop-subprogram : goal.invariant-loop-subprogram
-invariant-loop-subprogram l = (bodies (drop l.subprogram-index l.subprograms)).runs l.records ≡ (bodies l.subprograms).runs l.records
+invariant-loop-subprogram l = (bodies (drop l.subprogram-index l.subprograms)).runs l.table.records.now ≡ (bodies l.subprograms).runs l.table.records.now

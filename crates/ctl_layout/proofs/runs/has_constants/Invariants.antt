@@ -5,7 +5,7 @@ use Rattle.ctl_layout.specs.Defaults.{have_constants}
 use Rattle.ctl_layout.proofs.runs.has_constants.Given as goal
 
 abbrev pub invariant-loop-entry : goal.invariant-loop-entry
-invariant-loop-entry l = holds_within (have_constants l.records) (suc l.at) l.records l.at ≡ each_extension (have_constants l.records) l.records l.number
+invariant-loop-entry l = holds_within (have_constants l.table.records.now) (suc l.at) l.table.records.now l.at ≡ each_extension (have_constants l.table.records.now) l.table.records.now l.number
 
 abbrev pub decreases-loop-entry : goal.decreases-loop-entry
 decreases-loop-entry l = l.at

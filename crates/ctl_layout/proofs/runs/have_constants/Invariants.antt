@@ -4,4 +4,4 @@ use Rattle.ctl_layout.specs.Defaults.{have_constants}
 use Rattle.ctl_layout.proofs.runs.have_constants.Given as goal
 
 abbrev pub invariant-loop-component : goal.invariant-loop-component
-invariant-loop-component l = have_constants l.records (drop l.component-index l.components) ≡ have_constants l.records l.components
+invariant-loop-component l = have_constants l.table.records.now (drop l.component-index l.components) ≡ have_constants l.table.records.now l.components

@@ -4,4 +4,4 @@ use Rattle.ctl_layout.specs.Layout.{actual_code, actuals_run}
 use Rattle.ctl_layout.proofs.runs.is_call.Given as goal
 
 abbrev pub invariant-loop-one : goal.invariant-loop-one
-invariant-loop-one l = actuals_run (map actual_code (drop l.one-index l.actuals)) l.records ≡ actuals_run (map actual_code l.actuals) l.records
+invariant-loop-one l = actuals_run (map actual_code (drop l.one-index l.actuals)) l.table.records.now ≡ actuals_run (map actual_code l.actuals) l.table.records.now

@@ -1,23 +1,27 @@
-use Rattle.std.proofs.Common.{◌∙◌, List, ap, arith, sym}
-use Rattle.std.proofs.lemmas.List.{take_all}
-use Rattle.ctl_code.specs.Table.{whole_of}
+use Rattle.std.proofs.Common.{◌≡◌, ◌∙◌, ◌-◌, Some, ap, arith, sym}
+use Rattle.std.specs.Prelude.{slice_get}
+use Rattle.ctl_code.specs.Table.{spot_of}
 use Rattle.ctl_machine.specs.declared.frame.Formal.{Formal}
-use Rattle.ctl_machine.specs.Holders.{formal_in}
-use Rattle.ctl_machine.proofs.Walked.{any_formal, formal_found, formal_passed}
+use Rattle.ctl_machine.specs.Holders.{part_of_formal}
+use Rattle.ctl_machine.proofs.Links.{got}
+use Rattle.ctl_machine.proofs.Walked.{formal_found, formal_passed}
 use Rattle.ctl_machine.proofs.holders.formal.Goals as goal
 
-pub loop-at-init : goal.loop-at-init
-loop-at-init c = (omega arith, ap (λ (l : List Formal). formal_in l c.args.slot) (take_all _ c.args.formals.now (omega arith)))
-
-pub returns-then-formal-slot : goal.returns-then-formal-slot
-returns-then-formal-slot c =
+pub returns-then-formals-at-clause-part : goal.returns-then-formals-at-clause-part
+returns-then-formals-at-clause-part c =
     let some = c.loop-at-test.true in
-    let same = c.if-formal-slot.true in
-    ap (λ x. whole_of x) (sym (formal_found c.args.formals.now c.loop-at.at c.args.slot any_formal (omega (arith, some)) c.loop-at.invariant.0 (omega (arith, same))) ∙ c.loop-at.invariant.1)
+    let same = c.if-formals-at.true in
+    let within = c.loop-at.invariant.0 in
+    let f = c.index-formals-at.result in
+    let found : slice_get c.args.formals.now (c.loop-at.at - 1) ≡ Some f = got c.args.formals.now (c.loop-at.at - 1) f (omega (arith, some, within)) c.index-formals-at.is in
+    ap (λ o. part_of_formal o) found
+    ∙ ap (λ x. spot_of x) (sym (formal_found c.args.formals.now c.args.start c.loop-at.at c.args.slot f (omega (arith, some)) found (let is = ap (λ (x : Formal). x.slot) c.index-formals-at.is in omega (arith, same, is))) ∙ c.loop-at.invariant.1)
 
 pub loop-at-preserved : goal.loop-at-preserved
 loop-at-preserved c =
     let some = c.loop-at-test.true in
-    let differs = c.if-formal-slot.false in
+    let differs = c.if-formals-at.false in
     let within = c.loop-at.invariant.0 in
-    (omega (arith, within), formal_passed c.args.formals.now c.loop-at.at c.args.slot any_formal (omega (arith, some)) within (λ same. omega (arith, differs, same)) ∙ c.loop-at.invariant.1)
+    let f = c.index-formals-at.result in
+    let found : slice_get c.args.formals.now (c.loop-at.at - 1) ≡ Some f = got c.args.formals.now (c.loop-at.at - 1) f (omega (arith, some, within)) c.index-formals-at.is in
+    (omega (arith, within), formal_passed c.args.formals.now c.args.start c.loop-at.at c.args.slot f (omega (arith, some)) found (λ same. let is = ap (λ (x : Formal). x.slot) c.index-formals-at.is in omega (arith, differs, same, is)) ∙ c.loop-at.invariant.1)

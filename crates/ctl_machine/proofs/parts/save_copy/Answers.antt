@@ -8,7 +8,7 @@ use Rattle.ctl_machine.proofs.parts.save_copy.Goals as goal
 pub loop-at-init : goal.loop-at-init
 loop-at-init c =
     let items = c.args.saved.now.items in
-    (sym (ap (λ (l : List ℕ). items ++ l) (none_copied (object_of c.args.parts.now c.args.source.now)) ∙ append-nil items), omega arith, refl)
+    (sym (ap (λ (l : List ℕ). items ++ l) (none_copied c.args.start (object_of c.args.parts.now c.args.source.now)) ∙ append-nil items), omega arith, refl)
 
 pub loop-at-preserved : goal.loop-at-preserved
 loop-at-preserved c =
@@ -16,13 +16,13 @@ loop-at-preserved c =
     let o = object_of c.args.parts.now c.args.source.now in
     let at = c.loop-at.at in
     let before = c.loop-at.invariant in
-    let copied = cells_at 0 at o in
+    let copied = cells_at c.args.start at o in
     let long = c.push_reserved.ensures.len in
     let longer = before.1 in (
       c.push_reserved.ensures.items
-          ∙ (ap (λ (l : List ℕ). l ++ c.read_part-value.result ∷ []) before.0
-          ∙ (append_assoc items copied (c.read_part-value.result ∷ [])
-          ∙ ap (λ (l : List ℕ). items ++ l) (ap (λ n. copied ++ n ∷ []) c.read_part-value.ensures ∙ sym (copied_more at o)))),
+          ∙ (ap (λ (l : List ℕ). l ++ c.read_component-value.result ∷ []) before.0
+          ∙ (append_assoc items copied (c.read_component-value.result ∷ [])
+          ∙ ap (λ (l : List ℕ). items ++ l) (ap (λ n. copied ++ n ∷ []) c.read_component-value.ensures ∙ sym (copied_more c.args.start at o)))),
       omega (arith, long, longer),
       c.push_reserved.ensures.capacity ∙ before.2,
     )

@@ -4,4 +4,4 @@ use Rattle.ctl_machine.specs.Masters.{object_of}
 use Rattle.ctl_machine.proofs.parts.save_copy.Given as goal
 
 abbrev pub invariant-loop-at : goal.invariant-loop-at
-invariant-loop-at l = (l.saved.items ≡ l.fn.saved.items ++ cells_at 0 l.at (object_of l.fn.parts l.fn.source)) × (vec_len l.saved ≡ vec_len l.fn.saved + l.at) × (vec_capacity l.saved ≡ vec_capacity l.fn.saved)
+invariant-loop-at l = (l.saved.items ≡ l.fn.saved.items ++ cells_at l.fn.start l.at (object_of l.fn.parts l.fn.source)) × (vec_len l.saved ≡ vec_len l.fn.saved + l.at) × (vec_capacity l.saved ≡ vec_capacity l.fn.saved)

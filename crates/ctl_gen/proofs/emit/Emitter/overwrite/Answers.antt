@@ -1,7 +1,7 @@
-use Rattle.ctl_gen.proofs.RecordAssign.{overwritten}
+use Rattle.ctl_gen.proofs.EmittedParts.{overwritten}
 use Rattle.ctl_gen.proofs.emit.Emitter.overwrite.Goals as goal
 
 pub returns : goal.returns
 returns c =
-    overwritten c.args.target c.args.source c.args.record c.out_to-out.result c.height-at.result c.args.self.now c.put.new.self c.enter.new.self c.take_over.new.self c.leave.new.self
-    c.out_to-out.ensures c.height-at.ensures c.in_ok-put.ensures c.in_ok-enter.ensures c.in_ok-take_over.ensures c.leave.ensures
+    overwritten c.args.target c.args.source c.args.record c.args.self.now c.part.new.self c.enter.new.self c.part-2.new.self c.over_operand.new.self c.leave.new.self
+    c.in_ok-part.ensures c.in_ok-enter.ensures c.in_ok-part-2.ensures c.in_ok-over_operand.ensures c.leave.ensures

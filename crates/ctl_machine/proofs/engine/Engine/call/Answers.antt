@@ -1,4 +1,4 @@
-use Rattle.std.proofs.Common.{◌≡◌, ◌+◌, ◌≤◌, ◌∷◌, ◌++◌, ◌∙◌, List, [], ℕ, Some, ap, arith, length, refl, reverse, subst, sym}
+use Rattle.std.proofs.Common.{◌≡◌, ◌+◌, ◌≤◌, ◌∷◌, ◌++◌, ◌∙◌, List, [], ℕ, Some, ap, arith, drop, length, refl, reverse, subst, sym}
 use Rattle.std.specs.Prelude.{slice_get}
 use Rattle.std.proofs.lemmas.List.{append-nil, reverse-append}
 use Rattle.std.proofs.lemmas.Option.{slice_get_within}
@@ -8,11 +8,11 @@ use Rattle.ctl_machine.specs.declared.frame.Frame.{Frame}
 use Rattle.ctl_machine.specs.declared.frame.Frame.TheVariants.{Calling}
 use Rattle.ctl_machine.specs.declared.frame.Master.{Master}
 use Rattle.ctl_machine.specs.Masters.{first_window, heads_of}
-use Rattle.ctl_code.specs.Kinds.{stack_at}
+use Rattle.ctl_machine.specs.Spots.{standing}
 use Rattle.ctl_machine.specs.Passing.{with_actuals}
 use Rattle.ctl_machine.specs.Shows.{Kept, kept, with_cells, with_master}
 use Rattle.ctl_machine.proofs.Links.{got}
-use Rattle.ctl_machine.proofs.ProcedureCalled.{call_makes, has_actuals, has_slots, linked_before}
+use Rattle.ctl_machine.proofs.ProcedureCalled.{call_makes, has_actuals, has_slots, linked_before, passed_spots}
 use Rattle.ctl_machine.proofs.engine.Engine.call.Goals as goal
 
 pub around-link-requires : goal.around-link-requires
@@ -29,13 +29,19 @@ begin_slots-requires g c =
     let scope = c.requires.1.0.fine.0 in
     let found : slice_get code.entries.items c.args.body ≡ Some entry = got code.entries.items c.args.body entry (slice_get_within code.entries.items c.args.body scope.0 scope.1) c.index-entry.ensures in
     let fits : 0 + entry.slots ≤ code.room = c.requires.0.room entry.place (Body entry.level entry.slots ∷ []) (c.requires.0.entries c.args.body entry found) in
-    let room = c.in_ok-prepare.ensures.cells in
-    record {
-      cells = omega (arith, fits, room);
-      many = has_slots code old c.args.place c.args.body c.args.actuals g.s entry c.requires.1.0 found;
-      formals = c.in_ok-prepare.ensures.formals;
-      stack = has_actuals code old c.args.place c.args.body c.args.actuals g.s c.requires.1.0;
-    }
+    let room = c.in_ok-prepare.ensures.cells in (
+      omega (arith, fits, room),
+      (
+        has_slots code old c.args.place c.args.body c.args.actuals g.s entry c.requires.1.0 found,
+        (
+          c.in_ok-prepare.ensures.formals,
+          (
+            has_actuals code old c.args.place c.args.body c.args.actuals g.s c.requires.1.0,
+            ap (λ (e : Kept). e.spots) c.in_ok-prepare.ensures.ok.1.kept ∙ passed_spots code old c.args.place c.args.body c.args.actuals g.s c.requires.1.0,
+          ),
+        ),
+      ),
+    )
 
 pub returns-clause-ok : goal.returns-clause-ok
 returns-clause-ok g c =
@@ -51,17 +57,18 @@ returns-clause-ok g c =
     let row = old.cells.items ++ more in
     let frame = Calling (c.args.place + 1) in
     let hs = heads_of g.s.world.activations in
-    let kinds = stack_at code.kinds c.args.place in
+    let ops = g.s.operands in
+    let below = standing g.s.control (drop count ops) in
     let base = c.window.result + c.height_at.result in
-    let b : Master = record { number = c.begin_slots.new.self.given_masters + 1; window = base; base = base; slots = entry.slots; link = c.around-link.result; depth = c.depth_at-depth.result + 1; owned = c.count_owned.result; outer_formals = c.count_formals-outer_formals.result; formals = c.count_formals.result } in
+    let b : Master = record { number = c.begin_slots.new.self.given_masters + 1; window = base; base = base; slots = entry.slots; link = c.around-link.result; depth = c.depth_at-depth.result + 1; owned = c.count_owned.result; outer_formals = c.count_formals-outer_formals.result; formals = c.count_formals.result; spots = c.count_spots.result } in
     let control : reverse c.push_reserved.new.self.items ≡ frame ∷ reverse old.control.items =
     ap (λ (l : List Frame). reverse l) c.push_reserved.ensures.items
     ∙ (reverse-append ready.control.items (frame ∷ [])
     ∙ ap (λ (e : Kept). frame ∷ e.control) goes.kept) in
-    let begun : kept c.begin_slots.new.self ≡ with_actuals (record (with_cells (kept old) row) { control = frame ∷ reverse old.control.items }) kinds base entry.slots count =
+    let begun : kept c.begin_slots.new.self ≡ with_actuals (record (with_cells (kept old) row) { control = frame ∷ reverse old.control.items }) ops below base entry.slots count =
     c.begin_slots.ensures.kept
-    ∙ (ap (λ (l : List Frame). with_actuals (record (kept ready) { control = l }) kinds base entry.slots count) control
-    ∙ ap (λ (e : Kept). with_actuals (record e { control = frame ∷ reverse old.control.items }) kinds base entry.slots count) goes.kept) in
+    ∙ (ap (λ (l : List Frame). with_actuals (record (kept ready) { control = l }) ops below base entry.slots count) control
+    ∙ ap (λ (e : Kept). with_actuals (record e { control = frame ∷ reverse old.control.items }) ops below base entry.slots count) goes.kept) in
     let cells : ready.cells.items ≡ row = ap (λ (e : Kept). e.cells) goes.kept in
     call_makes code old c.stand.new.self c.args.place c.args.body count g.s entry b more c.requires.0 c.requires.1.0 found
     (record {
@@ -77,6 +84,7 @@ returns-clause-ok g c =
       outer = c.count_formals-outer_formals.ensures.count;
       formals = c.count_formals.ensures.count ∙ ap (λ (e : Kept). length e.formals) begun;
     })
+    (c.count_spots.ensures.count ∙ ap (λ (e : Kept). length e.spots) begun)
     (subst (λ (l : List ℕ). b.base + code.room ≤ length l) cells c.in_ok-prepare.ensures.cells)
     (record {
       kept = c.stand.ensures.kept ∙ ap (λ (e : Kept). with_master e 0 AfterOf.Body b e.cells) begun;

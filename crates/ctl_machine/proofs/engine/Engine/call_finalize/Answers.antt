@@ -15,6 +15,9 @@ use Rattle.ctl_machine.specs.declared.frame.Owned.{Owned}
 use Rattle.ctl_machine.proofs.Links.{got}
 use Rattle.ctl_machine.proofs.Resumed.{same_object}
 use Rattle.ctl_machine.proofs.engine.Engine.call_finalize.Goals as goal
+use Rattle.ctl_meaning.specs.Finalization.{Spot}
+use Rattle.ctl_machine.specs.Holders.{first_formal}
+use Rattle.ctl_machine.specs.Moves.{OpensBody, cleared}
 
 pub index-requires : goal.index-requires
 index-requires g c =
@@ -53,8 +56,8 @@ returns-clause-ok g c =
     let more = c.in_ok-prepare.ensures.ok.0 in
     let goes = c.in_ok-prepare.ensures.ok.1 in
     let entry = c.args.entry.now in
-    let m : Master = record { number = old.given_masters + 1; window = c.end_of_newest-base.result; base = c.end_of_newest-base.result; slots = entry.slots; link = c.around-link.result; depth = c.depth_at.result + 1; owned = c.count_owned.result; outer_formals = c.count_formals-outer_formals.result; formals = c.count_formals-outer_formals.result + 1 } in
-    let is : IsFinalizer old m entry _ = record { number = refl; window = refl; base = c.end_of_newest-base.ensures; slots = refl; link = c.around-link.ensures.bound; display = c.around-link.ensures.display; depth = ap (λ n. n + 1) c.depth_at.ensures.depth; shallow = let s = c.depth_at.ensures.shallow in omega (arith, s); owned = c.count_owned.ensures; outer = c.count_formals-outer_formals.ensures.count; formals = ap (λ n. n + 1) c.count_formals-outer_formals.ensures.count } in
+    let m : Master = record { number = old.given_masters + 1; window = c.end_of_newest-base.result; base = c.end_of_newest-base.result; slots = entry.slots; link = c.around-link.result; depth = c.depth_at.result + 1; owned = c.count_owned.result; outer_formals = c.count_formals-outer_formals.result; formals = c.count_formals-outer_formals.result + 1; spots = c.count_spots.result } in
+    let is : IsFinalizer old m entry _ = record { number = refl; window = refl; base = c.end_of_newest-base.ensures; slots = refl; link = c.around-link.ensures.bound; display = c.around-link.ensures.display; depth = ap (λ n. n + 1) c.depth_at.ensures.depth; shallow = let s = c.depth_at.ensures.shallow in omega (arith, s); owned = c.count_owned.ensures; outer = c.count_formals-outer_formals.ensures.count; formals = ap (λ n. n + 1) c.count_formals-outer_formals.ensures.count; mark = c.count_spots.ensures.count } in
     let cells : prepared.cells.items ≡ old.cells.items ++ more = ap (λ (e : Kept). e.cells) goes.kept in
     let has : HasBegun old ready c.args.departure.failed c.args.departure.pending c.args.departure.after c.args.at g.t.1 (old.cells.items ++ more) = record {
       control = c.begin_layer.ensures.control ∙ (ap (λ (f : Frame). FrameOf.Finalizing c.args.at ∷ f ∷ drop 1 (reverse prepared.control.items)) c.frame.ensures ∙ ap (λ (e : Kept). FrameOf.Finalizing c.args.at ∷ FrameOf.Leaving c.args.departure.failed c.args.departure.pending c.args.departure.after c.args.at ∷ drop 1 e.control) goes.kept);
@@ -64,6 +67,7 @@ returns-clause-ok g c =
       parts = ap (λ v. v.items) c.begin_layer.ensures.parts ∙ ap (λ v. v.items) c.in_ok-prepare.ensures.parts;
       saved = ap (λ v. v.items) c.begin_layer.ensures.saved ∙ ap (λ v. v.items) c.in_ok-prepare.ensures.saved;
       formals = ap (λ v. v.items) c.begin_layer.ensures.formals ∙ ap (λ (e : Kept). e.formals) goes.kept;
+      spots = ap (λ v. v.items) c.begin_layer.ensures.spots ∙ ap (λ (e : Kept). e.spots) goes.kept;
       given_masters = c.begin_layer.ensures.numbers.0 ∙ c.in_ok-prepare.ensures.number;
       given_objects = c.begin_layer.ensures.numbers.1 ∙ c.in_ok-prepare.ensures.objects;
     } in
@@ -75,4 +79,4 @@ returns-clause-ok g c =
     subject has
     (c.begin_layer.ensures.events ∙ ap (λ (l : List Event). l ++ Finalize (whole_part g.t.1.number) Scope ∷ []) goes.events)
     (c.begin_layer.ensures.picks ∙ goes.picks)
-    c.open_for.ensures
+    (subst (λ (p : Spot). OpensBody ready c.open_for.new.self m entry.place (cleared m.base entry.slots ready.cells.items) (ready.formals.items ++ first_formal p ∷ [])) c.whole.ensures c.open_for.ensures)

@@ -1,4 +1,4 @@
-use Rattle.std.proofs.Common.{◌≡◌, ◌∷◌, ◌∙◌, ◌+◌, ◌++◌, ◌<◌, List, ℕ, Some, ap, arith, length, refl, reverse, subst, sym, []}
+use Rattle.std.proofs.Common.{drop, ◌≡◌, ◌∷◌, ◌∙◌, ◌+◌, ◌++◌, ◌<◌, List, ℕ, Some, ap, arith, length, refl, reverse, subst, sym, []}
 use Rattle.std.specs.Prelude.{slice_get}
 use Rattle.std.proofs.lemmas.List.{reverse-append}
 use Rattle.std.proofs.lemmas.Option.{slice_get_within}
@@ -11,9 +11,14 @@ use Rattle.ctl_machine.specs.declared.frame.Owned.{Owned}
 use Rattle.ctl_machine.specs.Declaring.{with_row}
 use Rattle.ctl_machine.specs.Holders.{Lacks}
 use Rattle.ctl_machine.specs.Masters.{RiseBelow, object_of}
-use Rattle.ctl_machine.specs.Shows.{Kept, kept}
+use Rattle.ctl_machine.specs.Shows.{Kept, kept, with_spots}
 use Rattle.ctl_machine.proofs.Copied.{with_parts}
-use Rattle.ctl_machine.proofs.CopyDeclared.{copied_gone, copied_makes, has_source, source_within}
+use Rattle.ctl_machine.proofs.CopyDeclared.{copied_gone, copied_makes, copied_part}
+use Rattle.ctl_machine.proofs.Words.{newest_read, same_front}
+use Rattle.ctl_machine.specs.Spots.{first_spot, standing}
+use Rattle.ctl_meaning.specs.Finalization.{Spot}
+use Rattle.ctl_code.specs.Table.{size_of}
+use Rattle.ctl_machine.specs.declared.engine.Engine.{Engine}
 use Rattle.ctl_machine.proofs.Links.{got}
 use Rattle.ctl_machine.proofs.Lists.{same_at}
 use Rattle.ctl_machine.proofs.Newborn.{some_masters, has_object}
@@ -24,17 +29,19 @@ use Rattle.ctl_machine.proofs.engine.Engine.declare_copy.Goals as goal
 pub newest-newest-requires : goal.newest-newest-requires
 newest-newest-requires g c = let b = c.requires.1.0 in some_masters c.args.code.now c.args.self.now b.stack g.s b.inside
 
-pub take-number-requires : goal.take-number-requires
-take-number-requires g c = source_within c.args.code.now c.args.self.now c.args.place c.args.slot c.args.record c.args.at g.s c.requires.1.0
-
 pub find-requires : goal.find-requires
 find-requires g c = (c.args.self.now.given_objects + 1, subst (λ (l : List Owned). RiseBelow 1 l (c.args.self.now.given_objects + 1)) (sym c.as_slice.ensures.value) c.requires.1.0.inside.holds.rise)
 
 pub returns-in_default-clause-ok : goal.returns-in_default-clause-ok
 returns-in_default-clause-ok g c =
+    let code = c.args.code.now in
     let old = c.args.self.now in
-    let none : Lacks c.take-number.result old.owned.items = subst (λ (l : List Owned). Lacks c.take-number.result l) c.as_slice.ensures.value (c.in_default.ensures.none refl) in
-    copied_gone c.args.code.now old _ c.args.place c.args.slot c.args.record c.args.at c.take-number.result g.s c.requires.1.0 c.take-number.ensures none
+    let p = copied_part code old c.args.place c.args.slot c.args.record g.s c.requires.1.0 in
+    let count = c.count_spots-newest_spot in
+    let y = first_spot g.s.operands in
+    let spot = newest_read old.spots.items (standing g.s.control (drop 1 g.s.operands)) y c.index-spot.result.now count.result p.spots count.ensures.count c.index-spot.ensures in
+    let none : Lacks c.object.result old.owned.items = subst (λ (l : List Owned). Lacks c.object.result l) c.as_slice.ensures.value (c.in_default.ensures.none refl) in
+    copied_gone code old _ c.args.place c.args.slot c.args.record g.s c.requires.1.0 (subst (λ n. Lacks n old.owned.items) (c.object.ensures ∙ ap (λ (x : Spot). x.object) spot) none)
     (record { mode = refl; kept = refl; events = refl; picks = refl })
 
 pub index-requires : goal.index-requires
@@ -50,8 +57,8 @@ create-requires-clause-cell g c =
     let code = c.args.code.now in
     let old = c.args.self.now in
     let m = c.newest-newest.result in
-    let source = has_source code old c.args.place c.args.slot c.args.record c.args.at g.s c.requires.1.0 in
-    let has = has_object code old source.below c.args.slot c.args.record g.s source.rest m source.inside c.newest-newest.ensures.last in
+    let b = c.requires.1.0 in
+    let has = has_object code old b.stack c.args.slot c.args.record g.s g.s.operands m b.inside c.newest-newest.ensures.last in
     subst (λ (l : List ℕ). c.args.slot < m.slots → m.base + c.args.slot < length l) (sym (ap (λ (e : Kept). e.cells) c.in_ok-reserve_object.ensures.same.kept)) has.made.within
 
 pub add_copy-requires-clause-source : goal.add_copy-requires-clause-source
@@ -70,33 +77,45 @@ add_copy-requires-clause-source g c =
 
 pub returns-clause-ok : goal.returns-clause-ok
 returns-clause-ok g c =
+    let code = c.args.code.now in
     let old = c.args.self.now in
     let same = c.in_ok-reserve_object.ensures.same in
     let ready = c.reserve_object.new.self in
     let made = c.create.new.self in
     let m = c.newest-newest.result in
+    let p = copied_part code old c.args.place c.args.slot c.args.record g.s c.requires.1.0 in
+    let count = c.count_spots-newest_spot in
+    let y = first_spot g.s.operands in
+    let below = standing g.s.control (drop 1 g.s.operands) in
+    let spot = newest_read old.spots.items below y c.index-spot.result.now count.result p.spots count.ensures.count c.index-spot.ensures in
+    let spots : made.spots.items ≡ old.spots.items = ap (λ (e : Kept). e.spots) c.create.ensures.kept ∙ ap (λ (e : Kept). e.spots) same.kept in
+    let popped = (same_front c.take_last.new.self.items below c.take_last.result y (sym c.take_last.ensures.items ∙ (spots ∙ p.spots))).0 in
+    let mid : Engine = record old { spots = c.take_last.new.self } in
     let size = c.size_of-size.result in
     let owned = old.owned.items in
     let some = c.in-Some.ensures.some in
     let found = subst (λ (l : List Owned). slice_get l c.in-Some.found ≡ Some some.0) c.as_slice.ensures.value some.1 in
     let o = c.index.result.now in
     let read = got owned c.in-Some.found o (slice_get_within owned c.in-Some.found some.0 found) c.index.ensures in
-    let number = ap (λ (x : Owned). x.number) (same_at o some.0 (slice_get owned c.in-Some.found) read found) ∙ some.2 in
-    let value : ℕ → List ℕ = λ n. cells_at 0 n (object_of old.parts.items o) in
+    let number = ap (λ (x : Owned). x.number) (same_at o some.0 (slice_get owned c.in-Some.found) read found) ∙ (some.2 ∙ (c.object.ensures ∙ ap (λ (x : Spot). x.object) spot)) in
+    let value : ℕ → ℕ → List ℕ = λ start n. cells_at start n (object_of old.parts.items o) in
+    let start = c.offset-start.result in
     let those : Left = record { first = 0; last = 0 } in
     let frame = FrameOf.Filling ByCopy those (c.args.place + 1) in
+    let here : Kept → Kept = λ e. record e { spots = c.take_last.new.self.items } in
     let control : reverse c.push_reserved.new.self.items ≡ frame ∷ reverse made.control.items = ap (λ (l : List Frame). reverse l) c.push_reserved.ensures.items ∙ reverse-append made.control.items (frame ∷ []) in
-    let row : c.add_copy.new.parts.items ≡ ready.parts.items ++ value size =
+    let row : c.add_copy.new.parts.items ≡ ready.parts.items ++ value start size =
     c.add_copy.ensures
-    ∙ (ap (λ v. v.items ++ cells_at 0 size (object_of v.items o)) c.create.ensures.parts
-    ∙ ap (λ (e : Kept). ready.parts.items ++ cells_at 0 size (object_of e.parts o)) same.kept) in
-    copied_makes c.args.code.now old _ c.args.place c.args.slot c.args.record c.args.at c.take-number.result c.in-Some.found g.s m those o c.requires.1.0 c.newest-newest.ensures.last
-    c.take-number.ensures read number refl refl
-    (ap (λ (l : List Frame). record (kept made) { control = l; parts = c.add_copy.new.parts.items }) control
-    ∙ (ap (λ (l : List ℕ). with_parts l (with_frame frame (kept made))) row
-    ∙ (ap (λ (e : Kept). with_parts (ready.parts.items ++ value size) (with_frame frame e)) c.create.ensures.kept
-    ∙ (ap (λ (e : Kept). with_frame frame (with_row m c.args.slot c.args.record size (value size) e)) same.kept
-    ∙ ap (λ n. with_frame frame (with_row m c.args.slot c.args.record n (value n) (kept old))) c.size_of-size.ensures))))
+    ∙ (ap (λ v. v.items ++ cells_at start size (object_of v.items o)) c.create.ensures.parts
+    ∙ ap (λ (e : Kept). ready.parts.items ++ cells_at start size (object_of e.parts o)) same.kept) in
+    copied_makes code old mid _ c.args.place c.args.slot c.args.record c.in-Some.found g.s m those o c.requires.1.0 (ap (λ (l : List Spot). with_spots (kept old) l) popped) c.newest-newest.ensures.last
+    read number refl refl
+    (ap (λ (l : List Frame). record (here (kept made)) { control = l; parts = c.add_copy.new.parts.items }) control
+    ∙ (ap (λ (l : List ℕ). with_parts l (with_frame frame (here (kept made)))) row
+    ∙ (ap (λ (e : Kept). with_parts (ready.parts.items ++ value start size) (with_frame frame (here e))) c.create.ensures.kept
+    ∙ (ap (λ (e : Kept). with_frame frame (with_row m c.args.slot c.args.record size (value start size) (here e))) same.kept
+    ∙ (ap (λ n. with_frame frame (with_row m c.args.slot c.args.record n (value start n) (kept mid))) c.size_of-size.ensures
+    ∙ ap (λ n. with_frame frame (with_row m c.args.slot c.args.record (size_of code c.args.record) (value n (size_of code c.args.record)) (kept mid))) (c.offset-start.ensures ∙ ap (λ (x : Spot). x.offset) spot))))))
     refl
     (ap (λ v. v.items) c.create.ensures.events ∙ same.events)
     (ap (λ v. v.items) c.create.ensures.picks ∙ same.picks)

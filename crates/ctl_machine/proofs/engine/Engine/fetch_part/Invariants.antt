@@ -1,4 +1,4 @@
 use Rattle.ctl_machine.proofs.engine.Engine.fetch_part.Given as goal
 
-abbrev pub ghost-read_component : goal.ghost-read_component
-ghost-read_component g a = g.s
+abbrev pub ghost-read_held : goal.ghost-read_held
+ghost-read_held g a = g.s

@@ -1,9 +1,14 @@
-use Rattle.std.proofs.Common.{◌≡◌, ◌+◌, ◌≤◌, ◌∙◌, ap, reverse, subst, sym}
-use Rattle.std.specs.Prelude.{vec_capacity, vec_len}
+use Rattle.std.proofs.Common.{◌≡◌, ◌+◌, ◌-◌, ◌≤◌, ◌∙◌, ap, reverse, subst, sym}
+use Rattle.std.specs.Prelude.{slice_get, vec_capacity, vec_len}
 use Rattle.ctl_code.specs.Kinds.{stack_at}
 use Rattle.ctl_code.specs.Windows.{height}
 use Rattle.ctl_machine.specs.Masters.{first_window}
 use Rattle.ctl_machine.specs.Shows.{Kept}
+use Rattle.ctl_meaning.specs.Finalization.{Spot}
+use Rattle.ctl_machine.specs.Assigning.{AreCopies}
+use Rattle.ctl_machine.specs.Spots.{standing}
+use Rattle.ctl_machine.proofs.Lists.{same_at}
+use Rattle.ctl_machine.proofs.Words.{next_there}
 use Rattle.ctl_machine.proofs.Assignments.{replaces_more}
 use Rattle.ctl_machine.proofs.Following.{makes_later}
 use Rattle.ctl_machine.proofs.engine.Engine.replace_value.Goals as goal
@@ -25,7 +30,15 @@ begin_assignment-requires g c =
     )
 
 pub finalize_target-requires : goal.finalize_target-requires
-finalize_target-requires g c = (c.requires.0, (c.begin_assignment.ensures.assigns, c.begin_assignment.ensures.room))
+finalize_target-requires g c =
+    let old = c.args.self.now in
+    let r = c.requires.1.0 in
+    let spot = g.t.0.spot in
+    let copied = c.in_ok-copies.ensures in
+    let count = c.count_spots in
+    let there = next_there old.spots.items (standing g.t.0.control g.t.0.point.operands) spot r.from count.result r.spots count.ensures.count in
+    let same : copied.0 ≡ spot = same_at copied.0 spot (slice_get old.spots.items (count.result - 2)) copied.1 there in
+    (c.requires.0, (c.begin_assignment.ensures.assigns, (c.begin_assignment.ensures.room, subst (λ (s : Spot). AreCopies c.in_ok-copies.copies s) same copied.2)))
 
 pub returns-clause-ok : goal.returns-clause-ok
 returns-clause-ok g c =

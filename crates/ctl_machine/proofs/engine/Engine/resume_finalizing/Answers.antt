@@ -41,7 +41,7 @@ returns g c =
     let read = got old.owned.items at c.index.result.now within c.index.ensures in
     let last : reverse old.control.items ≡ c.take_last.result ∷ reverse c.take_last.new.self.items = ap (λ (l : List Frame). reverse l) c.take_last.ensures.items ∙ reverse-append c.take_last.new.self.items (c.take_last.result ∷ []) in
     record {
-      done = resumes_finalizing c.args.code.now old _ c.args.ended c.remembered.result g.s.control g.s.operands g.s.world at top.0 c.index_mut.result.now before.holds before.sized top.1 found c.remembered.ensures
+      done = resumes_finalizing c.args.code.now old _ c.args.ended c.remembered.result g.s.control g.s.operands g.s.world at top.0 c.index_mut.result.now before.holds before.spots before.sized top.1 found c.remembered.ensures
           (record {
             mode = refl;
             control = tail_is c.take_last.result (FrameOf.Finalizing at) (reverse c.take_last.new.self.items) top.0 (sym last ∙ top.1);
@@ -51,6 +51,7 @@ returns g c =
             parts = refl;
             saved = refl;
             formals = refl;
+            spots = refl;
             given_masters = refl;
             given_objects = refl;
             events = refl;

@@ -10,7 +10,7 @@ use Rattle.ctl_machine.proofs.engine.Engine.store.Goals as goal
 pub take-value-requires : goal.take-value-requires
 take-value-requires g c =
     let b = c.requires.1.0.1 in
-    taken_within c.args.code.now c.args.self.now c.args.from.now c.requires.1.0.0 b.stack b.fine.1.0 g.s.control g.s.operands g.s.world b.inside b.fine.1.1
+    taken_within c.args.code.now c.args.self.now c.args.from.now c.requires.1.0.0 b.stack b.fine.1.0 g.s.control g.s.operands g.s.world b.fine.0 b.inside b.fine.1.1
 
 pub index_mut-requires : goal.index_mut-requires
 index_mut-requires g c =

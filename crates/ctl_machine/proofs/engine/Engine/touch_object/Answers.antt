@@ -1,5 +1,5 @@
-use Rattle.std.proofs.Common.{◌≡◌, Some, sym, subst}
-use Rattle.std.specs.Prelude.{IfNone, IfSome}
+use Rattle.std.proofs.Common.{◌≡◌, ◌+◌, Some, sym, subst}
+use Rattle.std.specs.Prelude.{IfNone, IfOk, IfSome}
 use Rattle.ctl_tree.specs.declared.ending.Stop.TheVariants.{UseAfterFree}
 use Rattle.ctl_code.specs.declared.code.Instr.{Instr}
 use Rattle.ctl_code.specs.Table.{by_instr}
@@ -15,13 +15,22 @@ pub returns-in-FetchPart-clause-gone : goal.returns-in-FetchPart-clause-gone
 returns-in-FetchPart-clause-gone g c = subst (λ (i : Instr). IfNone c.fetch_part.result (Comes c.args.code.now c.fetch_part.new.self (Stopped UseAfterFree) c.fetch_part.new.self.cells.items (by_instr c.args.code.now (Some i) g.s.operands (here_of c.args.place g.s)))) (sym c.in-FetchPart.is) (c.fetch_part.ensures.gone c.in-FetchPart.record c.in-FetchPart.position c.in-FetchPart.ty c.offset_of-offset.ensures)
 
 pub returns-in-Locate-clause-passed : goal.returns-in-Locate-clause-passed
-returns-in-Locate-clause-passed g c = subst (λ (i : Instr). IfSome c.locate.result (λ next. (c.locate.new.self.mode ≡ At next) × Makes c.args.code.now c.args.self.now c.locate.new.self (by_instr c.args.code.now (Some i) g.s.operands (here_of c.args.place g.s)))) (sym c.in-Locate.is) (c.locate.ensures.passed c.in-Locate.record)
+returns-in-Locate-clause-passed g c = subst (λ (i : Instr). IfOk c.locate.result (λ some. IfSome some (λ next. (c.locate.new.self.mode ≡ At next) × Makes c.args.code.now c.args.self.now c.locate.new.self (by_instr c.args.code.now (Some i) g.s.operands (here_of c.args.place g.s))))) (sym c.in-Locate.is) (c.locate.ensures.passed c.in-Locate.record)
 
 pub returns-in-Locate-clause-gone : goal.returns-in-Locate-clause-gone
-returns-in-Locate-clause-gone g c = subst (λ (i : Instr). IfNone c.locate.result (Comes c.args.code.now c.locate.new.self (Stopped UseAfterFree) c.locate.new.self.cells.items (by_instr c.args.code.now (Some i) g.s.operands (here_of c.args.place g.s)))) (sym c.in-Locate.is) (c.locate.ensures.gone c.in-Locate.record)
+returns-in-Locate-clause-gone g c = subst (λ (i : Instr). IfOk c.locate.result (λ some. IfNone some (Comes c.args.code.now c.locate.new.self (Stopped UseAfterFree) c.locate.new.self.cells.items (by_instr c.args.code.now (Some i) g.s.operands (here_of c.args.place g.s))))) (sym c.in-Locate.is) (c.locate.ensures.gone c.in-Locate.record)
+
+pub returns-in-TakePart-clause-passed : goal.returns-in-TakePart-clause-passed
+returns-in-TakePart-clause-passed g c = subst (λ (i : Instr). IfSome c.take_part.result (λ next. (c.take_part.new.self.mode ≡ At next) × Makes c.args.code.now c.args.self.now c.take_part.new.self (by_instr c.args.code.now (Some i) g.s.operands (here_of c.args.place g.s)))) (sym c.in-TakePart.is) (c.take_part.ensures.passed c.in-TakePart.record c.in-TakePart.position c.in-TakePart.ty c.offset_of-offset-in-TakePart.ensures)
+
+pub returns-in-TakePart-clause-gone : goal.returns-in-TakePart-clause-gone
+returns-in-TakePart-clause-gone g c = subst (λ (i : Instr). IfNone c.take_part.result (Comes c.args.code.now c.take_part.new.self (Stopped UseAfterFree) c.take_part.new.self.cells.items (by_instr c.args.code.now (Some i) g.s.operands (here_of c.args.place g.s)))) (sym c.in-TakePart.is) (c.take_part.ensures.gone c.in-TakePart.record c.in-TakePart.position c.in-TakePart.ty c.offset_of-offset-in-TakePart.ensures)
 
 pub returns-in-StorePart-clause-passed : goal.returns-in-StorePart-clause-passed
 returns-in-StorePart-clause-passed g c = subst (λ (i : Instr). IfSome c.store_part.result (λ next. (c.store_part.new.self.mode ≡ At next) × Makes c.args.code.now c.args.self.now c.store_part.new.self (by_instr c.args.code.now (Some i) g.s.operands (here_of c.args.place g.s)))) (sym c.in-StorePart.is) (c.store_part.ensures.passed c.in-StorePart.record c.in-StorePart.position c.in-StorePart.ty c.offset_of-offset-in-StorePart.ensures)
 
 pub returns-in-StorePart-clause-gone : goal.returns-in-StorePart-clause-gone
 returns-in-StorePart-clause-gone g c = subst (λ (i : Instr). IfNone c.store_part.result (Comes c.args.code.now c.store_part.new.self (Stopped UseAfterFree) c.store_part.new.self.cells.items (by_instr c.args.code.now (Some i) g.s.operands (here_of c.args.place g.s)))) (sym c.in-StorePart.is) (c.store_part.ensures.gone c.in-StorePart.record c.in-StorePart.position c.in-StorePart.ty c.offset_of-offset-in-StorePart.ensures)
+
+pub returns-in_ok-select-in-Select-clause-passed : goal.returns-in_ok-select-in-Select-clause-passed
+returns-in_ok-select-in-Select-clause-passed g c = subst (λ (i : Instr). (c.select.new.self.mode ≡ At (c.args.place + 1)) × Makes c.args.code.now c.args.self.now c.select.new.self (by_instr c.args.code.now (Some i) g.s.operands (here_of c.args.place g.s))) (sym c.in-Select.is) (c.in_ok-select-in-Select.ensures.mode, c.in_ok-select-in-Select.ensures.ok c.in-Select.record c.in-Select.part c.offset_of-offset-in-Select.ensures)

@@ -8,3 +8,9 @@ ghost-locate g a = g.s
 
 abbrev pub ghost-store_part : goal.ghost-store_part
 ghost-store_part g a = g.s
+
+abbrev pub ghost-select : goal.ghost-select
+ghost-select g a = g.s
+
+abbrev pub ghost-take_part : goal.ghost-take_part
+ghost-take_part g a = g.s

@@ -1,0 +1,15 @@
+use Rattle.std.proofs.Common.{refl}
+use Rattle.ctl_program.specs.declared.types.Ty.TheVariants.{Record}
+use Rattle.ctl_code.specs.Kinds.{stack_at}
+use Rattle.ctl_code.specs.Valid.{Puts}
+use Rattle.ctl_code.proofs.Shapes.{under_top, not_under_top}
+use Rattle.ctl_code.proofs.fine.takes_part.Goals as goal
+
+pub returns-then-is_part : goal.returns-then-is_part
+returns-then-is_part c =
+    let step = under_top 0 (Record c.args.record) (stack_at c.args.code.now.kinds c.args.place) (Puts c.args.code.now c.args.place c.args.to c.args.ty) (c.if-is_part.ensures.0 refl) in
+    (λ t. step.0 (c.puts.ensures.0 t), λ u. c.puts.ensures.1 (step.1 u))
+
+pub returns-else-is_part : goal.returns-else-is_part
+returns-else-is_part c =
+    (λ t. cc (t, c.if-is_part.false), λ u. absurd (not_under_top 0 (Record c.args.record) (stack_at c.args.code.now.kinds c.args.place) (Puts c.args.code.now c.args.place c.args.to c.args.ty) (λ top. cc (c.is_part.ensures.1 top, c.if-is_part.false)) u))

@@ -1,0 +1,197 @@
+-- Parts of objects as operands: one is put, one of its components takes its place, or the value of one does.
+use Rattle.std.proofs.Common.{◌≡◌, ℕ, ◌+◌, ◌<◌, List, [], ◌∷◌, ◌++◌, Option, Some, None, drop, length, refl, sym, ap, ◌∙◌, subst, arith, reverse}
+use Rattle.std.specs.Prelude.{slice_set}
+use Rattle.std.proofs.lemmas.List.{append-nil, append_assoc}
+use Rattle.ctl_tree.specs.declared.ending.Stop.TheVariants.{UseAfterFree}
+use Rattle.ctl_program.specs.declared.types.Ty.{Ty}
+use Rattle.ctl_program.specs.declared.types.Ty.TheVariants.{Record}
+use Rattle.ctl_meaning.specs.World.{World}
+use Rattle.ctl_meaning.specs.Finalization.{Spot}
+use Rattle.ctl_meaning.specs.Changes.{object_at}
+use Rattle.ctl_code.specs.declared.kinds.Kind.{Kind}
+use Rattle.ctl_code.specs.declared.kinds.Kind.TheVariants.{Operand}
+use Rattle.ctl_code.specs.declared.code.Code.{Code}
+use Rattle.ctl_code.specs.declared.code.Cell.{Cell}
+use Rattle.ctl_code.specs.declared.code.Instr.TheVariants.{Locate, Select, TakePart}
+use Rattle.ctl_code.specs.States as T
+use Rattle.ctl_code.specs.States.{Word, Located, Move, State}
+use Rattle.ctl_code.specs.Table.{Here, by_instr, by_locate, component_of, fetch_from, holder_at, locating, offset_of, on, quiet}
+use Rattle.ctl_code.specs.Valid.{IsValid, Leads}
+use Rattle.ctl_code.specs.Windows.{height}
+use Rattle.ctl_machine.specs.declared.engine.Engine.{Engine}
+use Rattle.ctl_machine.specs.declared.frame.Mode.{Mode}
+use Rattle.ctl_machine.specs.declared.frame.Mode.TheVariants as ModeOf
+use Rattle.ctl_machine.specs.Masters.{heads_of, first_display, first_window}
+use Rattle.ctl_machine.specs.Moves.{Before, GoesOn, Inside, Makes, here_of}
+use Rattle.ctl_machine.specs.Parts.{part_in}
+use Rattle.ctl_machine.specs.Shows.{ShowsMode, Kept, Holds, kept, with_cells, with_spots}
+use Rattle.ctl_machine.specs.Spots.{KeepsSpots, first_spot, located, spots_in, standing}
+use Rattle.ctl_machine.specs.Under.{under}
+use Rattle.ctl_machine.proofs.Following.{makes_later}
+use Rattle.ctl_machine.proofs.Operands.{HasPart, has_part, other_spots}
+use Rattle.ctl_machine.proofs.Places.{place_is}
+use Rattle.ctl_machine.proofs.Plain.{put_makes, put_within}
+use Rattle.ctl_machine.proofs.Touched.{fetched_is, gone_makes, part_move}
+use Rattle.ctl_machine.proofs.Values.{operand_put, room_for, window_in}
+
+-- the machine goes on before an instruction, and keeps other parts
+pub goes_keeping : (code : Code) (old new : Engine) (e : Kept) (place : ℕ) (stack : List Kind) (k : List T.Frame) (ops : List Word) (w : World) → Leads code place stack → Inside code e stack k ops w
+    → new.mode ≡ ModeOf.At place → kept new ≡ e → new.events.items ≡ old.events.items → new.picks.items ≡ old.picks.items
+    → Makes code old new (quiet (T.At (first_display (heads_of w.activations)) place) k ops w)
+goes_keeping code old new e place stack k ops w leads i mode kept_is events picks = record {
+  mode = subst (λ (m : Mode). ShowsMode code m (T.At (first_display (heads_of w.activations)) place) k (heads_of w.activations)) (sym mode) (refl, refl, stack, leads, i.sized);
+  holds = subst (λ (x : Kept). Holds code x k ops w) (sym kept_is) i.holds;
+  spots = subst (λ (m : Mode). KeepsSpots m new.spots.items k ops) (sym mode) (ap (λ (x : Kept). x.spots) kept_is ∙ i.spots);
+  shows = events ∙ sym (append-nil old.events.items);
+  picks = picks;
+}
+
+-- A part is put (4.1) ----------------------------------------------------------------------------------
+
+-- with one part more, whose object's number stands in a cell
+abbrev pub with_part_at : ℕ → Spot → Kept → Kept
+with_part_at at s e = with_spots (with_cells e (slice_set e.cells at s.object)) (e.spots ++ s ∷ [])
+
+pub located_put : (code : Code) (e : Kept) (place t at : ℕ) (stack : List Kind) (k : List T.Frame) (ops : List Word) (w : World) (s : Spot) → IsValid code → Inside code e stack k ops w → at ≡ height stack → Leads code (place + 1) (Operand (Record t) ∷ stack)
+    → (first_window e.masters + at < length e.cells) × Inside code (with_part_at (first_window e.masters + at) s e) (Operand (Record t) ∷ stack) k (Located s ∷ ops) w
+located_put code e place t at stack k ops w s valid i is leads =
+    let here = place_is (window_in i) in
+    let room = room_for code.room e.masters (length e.cells) i.holds.room in
+    let fits = valid.room (place + 1) (Operand (Record t) ∷ stack) leads in
+    let cell = first_window e.masters + at in
+    let within : cell < length e.cells = omega (arith, room, fits, is) in (
+      within,
+      record {
+        stands = (tt, i.stands);
+        sized = i.sized;
+        holds = other_spots code (with_cells e (slice_set e.cells cell s.object)) (e.spots ++ s ∷ []) k (Located s ∷ ops) w (operand_put code e k ops w (Located s) cell i.holds (omega (arith, here, is)) within);
+        spots = ap (λ (l : List Spot). l ++ s ∷ []) i.spots ∙ append_assoc (spots_in k) (located ops) (s ∷ []);
+      },
+    )
+
+locate_move : (code : Code) (place : ℕ) (s : State) (out slot t at : ℕ) (x : Option Spot) → x ≡ holder_at (first_display (heads_of s.world.activations)) out slot s.world
+    → by_instr code (Some (Locate out slot t at)) s.operands (here_of place s) ≡ by_locate x s.operands (here_of place s)
+locate_move code place s out slot t at x is = ap (λ y. by_locate y s.operands (here_of place s)) (sym is)
+
+pub locate_within : (code : Code) (e : Engine) (place : ℕ) (s : State) (out slot t at : ℕ) → IsValid code → Before code e place (Locate out slot t at) s → first_window (reverse e.masters.items) + at < length e.cells.items
+locate_within code e place s out slot t at valid b = (located_put code (kept e) place t at b.stack s.control s.operands s.world (record { object = 0; offset = 0; path = [] }) valid b.inside b.fine.0 b.fine.1).0
+
+pub locate_makes : (code : Code) (old new : Engine) (place : ℕ) (s : State) (out slot t at : ℕ) (x : Spot) → IsValid code → Before code old place (Locate out slot t at) s → Some x ≡ holder_at (first_display (heads_of s.world.activations)) out slot s.world
+    → new.mode ≡ ModeOf.At (place + 1) → kept new ≡ with_part_at (first_window (reverse old.masters.items) + at) x (kept old) → new.events.items ≡ old.events.items → new.picks.items ≡ old.picks.items
+    → Makes code old new (by_instr code (Some (Locate out slot t at)) s.operands (here_of place s))
+locate_makes code old new place s out slot t at x valid b is mode kept_is events picks =
+    subst (λ (m : Move). Makes code old new m) (sym (locate_move code place s out slot t at (Some x) is))
+    (goes_keeping code old new (with_part_at (first_window (reverse old.masters.items) + at) x (kept old)) (place + 1) (Operand (Record t) ∷ b.stack) s.control (Located x ∷ s.operands) s.world b.fine.1
+    (located_put code (kept old) place t at b.stack s.control s.operands s.world x valid b.inside b.fine.0 b.fine.1).1 mode kept_is events picks)
+
+pub locate_gone : (code : Code) (old new : Engine) (place : ℕ) (s : State) (out slot t at : ℕ) → Before code old place (Locate out slot t at) s → None ≡ holder_at (first_display (heads_of s.world.activations)) out slot s.world
+    → GoesOn old new (ModeOf.Stopped UseAfterFree) old.cells.items → Makes code old new (by_instr code (Some (Locate out slot t at)) s.operands (here_of place s))
+locate_gone code old new place s out slot t at b is g =
+    subst (λ (m : Move). Makes code old new m) (sym (locate_move code place s out slot t at None is))
+    (gone_makes code old new s.control s.operands s.world b.inside.holds g)
+
+-- A component takes the place of a part (4.1.3) --------------------------------------------------------
+
+-- the part on top, and what is below it, before an instruction that finds it there
+pub part_on_top : (code : Code) (e : Engine) (t : ℕ) (stack below : List Kind) (s : State) → Inside code (kept e) stack s.control s.operands s.world → stack ≡ Operand (Record t) ∷ below → HasPart code (kept e) below s.control s.operands s.world
+part_on_top code e t stack below s i is = has_part code (kept e) t below s.control s.operands s.world (subst (λ (l : List Kind). Inside code (kept e) l s.control s.operands s.world) is i)
+
+-- what the table makes of it
+pub locating_is : (f : Spot → List Word → Move) (ops : List Word) (h : Here) → ops ≡ Located (first_spot ops) ∷ drop 1 ops → locating f ops h ≡ f (first_spot ops) (drop 1 ops)
+locating_is f ops h are = ap (λ (l : List Word). locating f l h) are
+
+pub located_move : (code : Code) (e : Engine) (below : List Kind) (s : State) (f : Spot → List Word → Move) (h : Here) → HasPart code (kept e) below s.control s.operands s.world → locating f s.operands h ≡ f (first_spot s.operands) (drop 1 s.operands)
+located_move code e below s f h p = locating_is f s.operands h p.are
+
+-- a part of the same object in its place
+changed_part : (code : Code) (e : Kept) (spots : List Spot) (t part : ℕ) (below : List Kind) (k : List T.Frame) (ops : List Word) (w : World) (x : Spot) → ops ≡ Located (first_spot ops) ∷ drop 1 ops → Inside code e (Operand (Record t) ∷ below) k ops w → x.object ≡ (first_spot ops).object → spots ≡ standing k (drop 1 ops) ++ x ∷ []
+    → Inside code (with_spots e spots) (Operand (Record part) ∷ below) k (Located x ∷ drop 1 ops) w
+changed_part code e spots t part below k [] w x are i same is = absurd i.stands
+changed_part code e spots t part below k (y ∷ ops) w x are i same is =
+    let cell : T.worth y ≡ x.object = ap (λ (z : Word). T.worth z) first ∙ sym same in
+    let h = i.holds in
+    record {
+      stands = (tt, i.stands.1);
+      sized = i.sized;
+      holds = record {
+        cells = (h.cells.0, h.cells.1 ∙ ap (λ n. (under k w.activations ++ reverse (n ∷ T.cells_of ops)) ++ h.cells.0) cell);
+        room = h.room;
+        masters = h.masters;
+        below = h.below;
+        waits = h.waits;
+        objects = h.objects;
+        lie = h.lie;
+        held = h.held;
+        rise = h.rise;
+        next_master = h.next_master;
+        next_object = h.next_object;
+        left = h.left;
+        saved = h.saved;
+      };
+      spots = is ∙ append_assoc (spots_in k) (located ops) (x ∷ []);
+    }
+  where
+    first : y ≡ Located (first_spot (y ∷ ops))
+    first = cc
+
+pub select_makes : (code : Code) (old new : Engine) (place : ℕ) (s : State) (t position part offset : ℕ) → (b : Before code old place (Select t position part) s)
+    → new.mode ≡ ModeOf.At (place + 1) → kept new ≡ with_spots (kept old) (standing s.control (drop 1 s.operands) ++ component_of (first_spot s.operands) offset position ∷ []) → new.events.items ≡ old.events.items → new.picks.items ≡ old.picks.items
+    → (t' part' : ℕ) → offset ≡ offset_of code t' position → Makes code old new (by_instr code (Some (Select t' position part')) s.operands (here_of place s))
+select_makes code old new place s t position part offset b mode kept_is events picks t' part' same =
+    let below = b.fine.0 in
+    let p = part_on_top code old t b.stack below s b.inside b.fine.1 in
+    let x = component_of (first_spot s.operands) offset position in
+    let spots = standing s.control (drop 1 s.operands) ++ x ∷ [] in
+    let i = changed_part code (kept old) spots t part below s.control s.operands s.world x p.are (subst (λ (l : List Kind). Inside code (kept old) l s.control s.operands s.world) b.fine.1 b.inside) refl refl in
+    let h = here_of place s in
+    subst (λ (m : Move). Makes code old new m) (sym (located_move code old below s (λ y rest. on (Located (component_of y (offset_of code t' position) position) ∷ rest) s.world h) h p
+    ∙ ap (λ n. on (Located (component_of (first_spot s.operands) n position) ∷ drop 1 s.operands) s.world h) (sym same)))
+    (goes_keeping code old new (with_spots (kept old) spots) (place + 1) (Operand (Record part) ∷ below) s.control (Located x ∷ drop 1 s.operands) s.world b.fine.2 i mode kept_is events picks)
+
+-- Its value does (4.1.3) -------------------------------------------------------------------------------
+
+take_move : (code : Code) (e : Engine) (place : ℕ) (s : State) (below : List Kind) (t position offset : ℕ) (ty : Ty) (to : Cell) (x : Option ℕ) → HasPart code (kept e) below s.control s.operands s.world → offset ≡ offset_of code t position
+    → x ≡ part_in ((first_spot s.operands).offset + offset) (object_at (first_spot s.operands).object s.world)
+    → by_instr code (Some (TakePart t position ty to)) s.operands (here_of place s) ≡ part_move x to.named (drop 1 s.operands) (here_of place s)
+take_move code e place s below t position offset ty to x p same is =
+    let h = here_of place s in
+    let y = first_spot s.operands in
+    let rest = drop 1 s.operands in
+    located_move code e below s (λ z below. fetch_from (offset_of code t position) z to.named below h) h p
+    ∙ (ap (λ n. fetch_from n y to.named rest h) (sym same)
+    ∙ (fetched_is (y.offset + offset) (object_at y.object s.world) to.named rest h
+    ∙ ap (λ z. part_move z to.named rest h) (sym is)))
+
+pub take_makes : (code : Code) (old mid new : Engine) (place : ℕ) (s : State) (t position offset : ℕ) (ty : Ty) (to : Cell) (x : ℕ) → IsValid code → Before code old place (TakePart t position ty to) s
+    → Some x ≡ part_in ((first_spot s.operands).offset + offset) (object_at (first_spot s.operands).object s.world) → kept mid ≡ with_spots (kept old) (standing s.control (drop 1 s.operands)) → mid.events.items ≡ old.events.items → mid.picks.items ≡ old.picks.items
+    → GoesOn mid new (ModeOf.At (place + 1)) (slice_set mid.cells.items (first_window (reverse mid.masters.items) + to.at) x)
+    → (t' position' : ℕ) (ty' : Ty) → offset ≡ offset_of code t' position' → Makes code old new (by_instr code (Some (TakePart t' position' ty' to)) s.operands (here_of place s))
+take_makes code old mid new place s t position offset ty to x valid b is mid_is events picks g t' position' ty' same =
+    let below = b.fine.1.0 in
+    let p = part_on_top code old t b.stack below s b.inside b.fine.1.1 in
+    let made = put_makes code mid new place to ty below s.control (drop 1 s.operands) s.world x b.fine.0 valid (subst (λ (e : Kept). Inside code e below s.control (drop 1 s.operands) s.world) (sym mid_is) p.left) b.fine.1.2 g in
+    subst (λ (m : Move). Makes code old new m) (sym (take_move code old place s below t' position' offset ty' to (Some x) p same is))
+    (makes_later code old mid new _ events picks made)
+
+-- what was read of the part
+pub read_is : (r : Option ℕ) (start number offset : ℕ) (x y : Spot) (w : World) → r ≡ part_in (start + offset) (object_at number w) → start ≡ x.offset → number ≡ x.object → x ≡ y → r ≡ part_in (y.offset + offset) (object_at y.object w)
+read_is r start number offset x y w read first object same =
+    read
+    ∙ (ap (λ n. part_in (n + offset) (object_at number w)) (first ∙ ap (λ (z : Spot). z.offset) same)
+    ∙ ap (λ n. part_in (y.offset + offset) (object_at n w)) (object ∙ ap (λ (z : Spot). z.object) same))
+
+pub take_within : (code : Code) (old mid : Engine) (place : ℕ) (s : State) (t position : ℕ) (ty : Ty) (to : Cell) → IsValid code → Before code old place (TakePart t position ty to) s → kept mid ≡ with_spots (kept old) (standing s.control (drop 1 s.operands))
+    → first_window (reverse mid.masters.items) + to.at < length mid.cells.items
+take_within code old mid place s t position ty to valid b mid_is =
+    let below = b.fine.1.0 in
+    let p = part_on_top code old t b.stack below s b.inside b.fine.1.1 in
+    put_within code mid place to ty below s.control (drop 1 s.operands) s.world b.fine.0 valid (subst (λ (e : Kept). Inside code e below s.control (drop 1 s.operands) s.world) (sym mid_is) p.left) b.fine.1.2
+
+pub take_gone : (code : Code) (old new : Engine) (place : ℕ) (s : State) (t position offset : ℕ) (ty : Ty) (to : Cell) → Before code old place (TakePart t position ty to) s
+    → None ≡ part_in ((first_spot s.operands).offset + offset) (object_at (first_spot s.operands).object s.world) → GoesOn old new (ModeOf.Stopped UseAfterFree) old.cells.items
+    → (t' position' : ℕ) (ty' : Ty) → offset ≡ offset_of code t' position' → Makes code old new (by_instr code (Some (TakePart t' position' ty' to)) s.operands (here_of place s))
+take_gone code old new place s t position offset ty to b is g t' position' ty' same =
+    let below = b.fine.1.0 in
+    let p = part_on_top code old t b.stack below s b.inside b.fine.1.1 in
+    subst (λ (m : Move). Makes code old new m) (sym (take_move code old place s below t' position' offset ty' to None p same is))
+    (gone_makes code old new s.control s.operands s.world b.inside.holds g)

@@ -1,0 +1,151 @@
+//! Instructions whose operand is a part of an object (RM 4.1, 4.1.3, 5.2): it is found, one of its components takes its place, or the value
+//! of one does, and a component takes a value.
+
+ghost use Rattle.std.specs.Prelude.{◌≡◌, ◌+◌, ◌^◌, ◌<◌, ℕ, IfNone, IfOk, IfSome, OnErr, OnOk, Some, slice_get};
+ghost use Rattle.ctl_code.specs.declared.code.Instr.TheVariants as InstrOf;
+ghost use Rattle.ctl_program.specs.declared.types.Ty.{Ty};
+ghost use Rattle.ctl_code.specs.Table as Table;
+ghost use Rattle.ctl_code.specs.States.{State};
+ghost use Rattle.ctl_code.specs.Valid.{IsValid};
+ghost use Rattle.ctl_machine.specs.declared.frame.Mode.TheVariants as ModeOf;
+ghost use Rattle.ctl_machine.specs.Holders.{IsThere, found_in};
+ghost use Rattle.ctl_machine.specs.Moves.{Before, GoesOn, Makes, here_of};
+ghost use Rattle.ctl_machine.specs.Windows.{Comes};
+ghost use Rattle.ctl_tree.specs.declared.ending.Stop.TheVariants as StopOf;
+
+use crate::engine::Engine;
+use crate::frame::{Holder, Mode};
+use crate::holders::find;
+use crate::parts::write_component;
+use crate::spots::Spot;
+use ctl_code::code::{Cell, Code, Named};
+use std::alloc::AllocError;
+
+impl Engine {
+    /// Answers the part that a slot holds, as a copy.
+    fn spot_of(&self, holder: Holder) -> Result<Spot, AllocError>
+        requires { IsThere self.now.formals.items holder }
+        ensures { IfOk result (λ spot. found_in self.now.formals.items (Some holder) ≡ Some spot) }
+    {
+        match holder {
+            Holder::Whole(object) => Ok(Spot::whole(self.alloc, object)),
+            Holder::Bound(at) => self.formals[at].spot.copied(self.alloc),
+        }
+    }
+
+    /// Puts the part that this slot holds, as a new operand with this cell, and answers what comes next; where there is none, the program is
+    /// erroneous (RM 13.11.2), and nothing changes, and so where memory is refused.
+    pub(crate) fn locate(
+        &mut self,
+        code: &Code,
+        out: usize,
+        slot: usize,
+        at: usize,
+        place: usize,
+    ) -> Result<Option<usize>, AllocError>
+        ghost s: { State }
+        requires valid { IsValid code.now }
+        requires before { (t : ℕ) × Before code.now self.old place (InstrOf.Locate out slot t at) s }
+        requires place { place + 1 < 2 ^ 64 }
+        ensures passed { (t : ℕ) → IfOk result (λ some. IfSome some (λ next. (self.new.mode ≡ ModeOf.At next) × Makes code.now self.old self.new (Table.by_instr code.now (Some (InstrOf.Locate out slot t at)) s.operands (here_of place s)))) }
+        ensures left { IfOk result (λ some. IfNone some (GoesOn self.old self.new self.old.mode self.old.cells.items)) }
+        ensures gone { (t : ℕ) → IfOk result (λ some. IfNone some (Comes code.now self.new (ModeOf.Stopped StopOf.UseAfterFree) self.new.cells.items (Table.by_instr code.now (Some (InstrOf.Locate out slot t at)) s.operands (here_of place s)))) }
+        ensures err { OnErr result (GoesOn self.old self.new self.old.mode self.old.cells.items) }
+    {
+        let Some(holder) = self.holder_out(code, out, slot) else {
+            return Ok(None);
+        };
+        let spot = self.spot_of(holder)?;
+        self.spots.reserve(1)?;
+        let object = spot.object();
+        self.spots.push_reserved(spot);
+        let named = Named::Operand;
+        self.put(object, &Cell { at, named }, place);
+        Ok(Some(place + 1))
+    }
+
+    /// Goes on from the part that is the newest operand to a component of it, by the first cell of the component and its position (RM 4.1.3);
+    /// unchanged where memory is refused.
+    pub(crate) fn select(
+        &mut self,
+        code: &Code,
+        offset: usize,
+        position: usize,
+        place: usize,
+    ) -> Result<(), AllocError>
+        ghost s: { State }
+        requires before { (t : ℕ) × (part : ℕ) × Before code.now self.old place (InstrOf.Select t position part) s }
+        requires place { place + 1 < 2 ^ 64 }
+        ensures mode { OnOk result (self.new.mode ≡ ModeOf.At (place + 1)) }
+        ensures ok { (t part : ℕ) → offset ≡ Table.offset_of code.now t position → OnOk result (Makes code.now self.old self.new (Table.by_instr code.now (Some (InstrOf.Select t position part)) s.operands (here_of place s))) }
+        ensures err { OnErr result (GoesOn self.old self.new self.old.mode self.old.cells.items) }
+    {
+        let _ = code;
+        let newest = self.count_spots() - 1;
+        self.spots[newest].select(offset, position)?;
+        self.mode = Mode::At(place + 1);
+        Ok(())
+    }
+
+    /// Puts the value of a component in place of the part that is the newest operand, by the first cell of the component, and answers what
+    /// comes next; where there is no such object, the program is erroneous (RM 13.11.2), and nothing changes.
+    pub(crate) fn take_part(
+        &mut self,
+        code: &Code,
+        offset: usize,
+        to: &Cell,
+        place: usize,
+    ) -> Option<usize>
+        ghost s: { State }
+        requires valid { IsValid code.now }
+        requires before { (t : ℕ) × (position : ℕ) × (ty : Ty) × Before code.now self.old place (InstrOf.TakePart t position ty to.now) s }
+        requires place { place + 1 < 2 ^ 64 }
+        ensures passed { (t position : ℕ) (ty : Ty) → offset ≡ Table.offset_of code.now t position → IfSome result (λ next. (self.new.mode ≡ ModeOf.At next) × Makes code.now self.old self.new (Table.by_instr code.now (Some (InstrOf.TakePart t position ty to.now)) s.operands (here_of place s))) }
+        ensures left { IfNone result (GoesOn self.old self.new self.old.mode self.old.cells.items) }
+        ensures gone { (t position : ℕ) (ty : Ty) → offset ≡ Table.offset_of code.now t position → IfNone result (Comes code.now self.new (ModeOf.Stopped StopOf.UseAfterFree) self.new.cells.items (Table.by_instr code.now (Some (InstrOf.TakePart t position ty to.now)) s.operands (here_of place s))) }
+    {
+        let newest = self.count_spots() - 1;
+        let spot = &self.spots[newest];
+        match self.read_at(code, spot.object(), spot.offset(), offset) {
+            Some(value) => {
+                let _ = self.spots.take_last();
+                self.put(value, to, place);
+                Some(place + 1)
+            }
+            None => None,
+        }
+    }
+
+    /// Gives a component of the part that is the newest operand the value of a cell, by the first cell of the component, and answers what
+    /// comes next; where there is no such object, the program is erroneous (RM 13.11.2), and nothing changes.
+    pub(crate) fn store_part(
+        &mut self,
+        code: &Code,
+        from: &Cell,
+        offset: usize,
+        place: usize,
+    ) -> Option<usize>
+        ghost s: { State }
+        requires before { (t : ℕ) × (position : ℕ) × (ty : Ty) × Before code.now self.old place (InstrOf.StorePart from.now ty t position) s }
+        requires place { place + 1 < 2 ^ 64 }
+        ensures passed { (t position : ℕ) (ty : Ty) → offset ≡ Table.offset_of code.now t position → IfSome result (λ next. (self.new.mode ≡ ModeOf.At next) × Makes code.now self.old self.new (Table.by_instr code.now (Some (InstrOf.StorePart from.now ty t position)) s.operands (here_of place s))) }
+        ensures left { IfNone result (GoesOn self.old self.new self.old.mode self.old.cells.items) }
+        ensures gone { (t position : ℕ) (ty : Ty) → offset ≡ Table.offset_of code.now t position → IfNone result (Comes code.now self.new (ModeOf.Stopped StopOf.UseAfterFree) self.new.cells.items (Table.by_instr code.now (Some (InstrOf.StorePart from.now ty t position)) s.operands (here_of place s))) }
+    {
+        let _ = code;
+        let value = self.take(from);
+        let newest = self.count_spots() - 1;
+        let spot = &self.spots[newest];
+        let start = spot.offset();
+        match find(self.owned.as_slice(), spot.object()) {
+            Some(found) => {
+                let object = self.owned[found];
+                write_component(self.parts.as_mut_slice(), &object, start, offset, value);
+                let _ = self.spots.take_last();
+                self.mode = Mode::At(place + 1);
+                Some(place + 1)
+            }
+            None => None,
+        }
+    }
+}
