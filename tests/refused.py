@@ -89,22 +89,29 @@ TEXTS = [
     ("procedure Main is task T; begin null; end Main;", 12, 1, 19),
     # a broken rule on names comes before a construct that is left out, wherever they stand
     ("procedure Main is begin Put_Line (\"x\"); end Main;", 20, 1, 25),
-    # a record that is not tagged is run where its components are: of Integer, of Boolean, or of another such record without a default and
-    # without a controlled part. Where it is the type of a component that is not run, the first type with such a component is told
+    # a record is run where its components are: of Integer, of Boolean, or of another such record
     (ITEM + "type R is record N : Integer; end record; type Q is record X : R; end record; Y : Q; begin Y.X.N := 1; end Main;", ACCEPTED, 1, 1),
-    (ITEM + "type R is record N : Integer := 1; end record; type Q is record X : R; end record; Y : Q; begin null; end Main;", 12, 1, 66),
+    (ITEM + "type R is record N : Integer := 1; end record; type Q is record X : R; end record; Y : Q; begin null; end Main;", ACCEPTED, 1, 1),
     (ITEM + "type R is record N : Integer; end record; type Q is record X : R; end record; A, B : Q; begin A.X := B.X; end Main;", ACCEPTED, 1, 1),
-    (CONTROLLED + "type R is new Controlled with null record; type Q is record X : R; end record; Y : Q; begin null; end Main;", 12, 1, 107),
+    (CONTROLLED + "type R is new Controlled with null record; type Q is record X : R; end record; Y : Q; begin null; end Main;", ACCEPTED, 1, 1),
     (CONTROLLED + "type R is record N : Integer; end record; type T is new Controlled with record X : R; end record; Y : T; begin null; end Main;", ACCEPTED, 1, 1),
     (ITEM + "type R is record N : Integer; end record; type Q is record X : R; end record; A : Q; B : R := A.X; begin null; end Main;", ACCEPTED, 1, 1),
-    # also where it is run itself, and another one is not; what is left out for certain is told before it
+    # no such object takes the value of another one where a component has a controlled part. Where it does, the first object is told that
+    # takes a value of a type of the text, also where it is run itself; what is left out for certain is told before it
     (
         CONTROLLED
-        + "type G is record N : Integer; end record; type H is record X : G; end record; type C is new Controlled with null record;"
-        + " type Q is record X : C; end record; Y : Q; begin null; end Main;",
+        + "type G is record N : Integer; end record; type C is new Controlled with null record; type Q is record X : C; end record;"
+        + " A : G; B : G := A; Y : Q; Z : Q := Y; begin null; end Main;",
         12,
         1,
-        106,
+        192,
+    ),
+    (
+        CONTROLLED
+        + "type C is new Controlled with null record; type Q is record X : C; end record; Y, Z : Q; begin Y := Z; end Main;",
+        12,
+        1,
+        46,
     ),
     (
         ITEM

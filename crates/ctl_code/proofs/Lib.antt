@@ -5,6 +5,7 @@ pub mod FittingFrames
 pub mod FittingInstructions
 pub mod FittingSteps
 pub mod FittingWorlds
+pub mod Declarable
 pub mod Links
 pub mod Lists
 pub mod Logs

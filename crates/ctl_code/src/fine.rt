@@ -16,6 +16,7 @@ ghost use Rattle.ctl_code.specs.Windows.{depth, height, variable_at};
 use crate::code::{Cell, Code, Instr, Named, Operator, Way};
 use crate::images::count_images;
 use crate::kinds::{Kind, is_same_kind};
+use crate::layouts::{is_declarable, is_in_scope};
 use crate::types::{is_binary_of, is_cell_of, is_scalar, is_unary_of};
 use ctl_program::types::Ty;
 
@@ -70,33 +71,6 @@ pub fn is_entry(code: &Code, number: usize) -> bool
     ensures { IsTrue result ↔ IsEntry code.now number }
 {
     number < code.entries.len()
-}
-
-/// Tells whether there is no operation, or one that is declared in one of so many masters around.
-fn is_in_scope(code: &Code, masters: usize, number: Option<usize>) -> bool
-    ensures { IsTrue result ↔ IsInScope code.now masters number }
-{
-    let Some(number) = number else {
-        return true;
-    };
-    match code.entries.get(number) {
-        Some(entry) => entry.level <= masters,
-        None => false,
-    }
-}
-
-/// Tells whether it is the number of a record type whose operations are declared in some of so many masters around (RM 7.6).
-fn is_declarable(code: &Code, masters: usize, number: usize) -> bool
-    ensures { IsTrue result ↔ IsDeclarable code.now masters number }
-{
-    match code.records.get(number) {
-        Some(operations) => {
-            is_in_scope(code, masters, operations.initialize)
-                && is_in_scope(code, masters, operations.finalize)
-                && is_in_scope(code, masters, operations.adjust)
-        }
-        None => false,
-    }
 }
 
 // Cells ----------------------------------------------------------------------------------------

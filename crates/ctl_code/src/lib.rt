@@ -6,6 +6,7 @@ mod fine;
 mod images;
 pub mod kinds;
 pub mod laws;
+mod layouts;
 mod stacks;
 pub mod template;
 mod types;

@@ -12,6 +12,7 @@ ghost use Rattle.ctl_code.specs.Valid.{IsBegun, IsFine, IsStarted, IsValid, MayB
 use crate::code::{Code, Instr};
 use crate::fine::{has_formals, is_entry, is_fine};
 use crate::kinds::Kind;
+use crate::layouts::are_layouts_fine;
 
 /// Tells whether each instruction is well formed where it stands.
 fn are_instructions_fine(code: &Code) -> bool
@@ -115,7 +116,7 @@ pub fn is_valid(code: &Code) -> bool
     if !is_started(code) || !are_stacks_fine(code) || !are_instructions_fine(code) {
         return false;
     }
-    if !are_formals_fine(code) {
+    if !are_formals_fine(code) || !are_layouts_fine(code) {
         return false;
     }
     are_entries_fine(code) && are_records_fine(code)

@@ -28,7 +28,7 @@ use Rattle.ctl_layout.proofs.StatementLayers.{master_is}
 use Rattle.ctl_gen.proofs.Place.{HasAt, Laid}
 use Rattle.ctl_gen.proofs.Worlds.{Each, HoldsNoCopy, no_copy_unset, Since, fits_empty, keeps_itself}
 use Rattle.ctl_gen.proofs.Setting.{Setting, returns, Told, Calls}
-use Rattle.ctl_gen.proofs.Defaults.{GivesDefaults}
+use Rattle.ctl_gen.proofs.Parted.{GivesDefaults}
 use Rattle.ctl_gen.proofs.Cells.{by_code}
 use Rattle.ctl_gen.proofs.Leave.{in_frame, leaves}
 use Rattle.ctl_gen.proofs.Executed.{master_does}

@@ -1,7 +1,7 @@
 -- The code of a well-typed program is valid, and the subprograms that such a program names are in its table.
-use Rattle.std.proofs.Common.{◌<◌, ◌≡◌, ℕ, zero, suc, ◌+◌, ◌≤◌, List, [], ◌∷◌, ◌++◌, length, map, Option, Some, None, true, refl, sym, ap, ◌∙◌, subst, arith, take, length-append}
+use Rattle.std.proofs.Common.{◌<◌, ◌≡◌, ℕ, zero, suc, ◌+◌, ◌≤◌, List, [], ◌∷◌, ◌++◌, length, map, Option, Some, None, true, refl, sym, ap, ◌∙◌, subst, arith, length-append}
 use Rattle.std.specs.Prelude.{slice_get}
-use Rattle.std.proofs.lemmas.List.{length-map, length-take}
+use Rattle.std.proofs.lemmas.List.{length-map}
 use Rattle.std.proofs.lemmas.Bool.{leb-true}
 use Rattle.ctl_program.specs.declared.types.RecordType.{RecordType}
 use Rattle.ctl_program.specs.declared.types.Root.{Root}
@@ -16,7 +16,7 @@ use Rattle.ctl_code.specs.declared.code.Instr.{Instr}
 use Rattle.ctl_code.specs.declared.code.Entry.{Entry}
 use Rattle.ctl_code.specs.declared.code.Operations.{Operations}
 use Rattle.ctl_code.specs.declared.code.Code.{Code}
-use Rattle.ctl_code.specs.Valid.{HasFormals, IsBegun, IsDeclarable, IsEntry, IsFine, IsInScope, IsValid, Leads, MayBeEntry, TakesObject, outermost}
+use Rattle.ctl_code.specs.Valid.{AreInScope, HasFormals, IsBegun, IsDeclarable, IsEntry, IsFine, IsInScope, IsValid, Leads, MayBeEntry, TakesObject, outermost}
 use Rattle.ctl_layout.specs.Around.{Line, Around, behind}
 use Rattle.ctl_layout.specs.Layout.{bodies, body_code, entries_from, entry_at, HasKinds, in_body, instructions_of, IsLaidOut, kinds_of, master_code, nowhere, operations_in, operations_of, program_code}
 use Rattle.ctl_layout.specs.Defaults.{is_outermost}
@@ -27,16 +27,10 @@ use Rattle.ctl_gen.proofs.Place.{HasAt, has_all}
 use Rattle.ctl_gen.proofs.Place as Place
 use Rattle.ctl_gen.proofs.Formed.{AreFine, fine_both, FormedAt, Has, has_back, has_front}
 use Rattle.ctl_gen.proofs.FormedAround.{Agrees, agrees_body}
+use Rattle.ctl_gen.proofs.FormedLayouts.{alike, declarable, declarable_in, home_of, layouts_laid, not_more}
 use Rattle.ctl_gen.proofs.FormedMasters.{master_good, slots_told}
 
 -- Tables ---------------------------------------------------------------------------------------------
-
--- a place in a list is one in each list of the same length
-alike : (A B : Type 0) → (xs : List A) (ys : List B) → length xs ≡ length ys → (n : ℕ) (x : A) → slice_get xs n ≡ Some x → (y : B) × (slice_get ys n ≡ Some y)
-alike A B [] ys e n x h = absurd (cc)
-alike A B (z ∷ xs) [] e n x h = absurd (omega (arith, e))
-alike A B (z ∷ xs) (y ∷ ys) e zero x h = (y, refl)
-alike A B (z ∷ xs) (y ∷ ys) e (suc n) x h = alike A B xs ys (omega (arith, e)) n x h
 
 -- each type has its operations
 -- what holds of no operation and of one that the user wrote
@@ -62,13 +56,6 @@ entry_there : (place n : ℕ) (ss : List Subprogram) (f : ℕ) (s : Subprogram) 
 entry_there place n [] f s h = absurd (cc)
 entry_there place n (x ∷ ss) zero s h = let same : x ≡ s = cc h in (place, ap (λ (y : Subprogram). Some (entry_at place y)) same)
 entry_there place n (x ∷ ss) (suc f) s h = entry_there (place + length ((body_code x).code nowhere n)) (n + length (body_code x).texts) ss f s h
-
--- masters that stand around others are not more
-not_more : (home env : W.Frames) → W.Encloses home env → length home ≤ length env
-not_more home env e =
-    let size : length (take (length home) env) ≡ length home = ap length e in
-    let least = length-take (length home) env in
-    omega (arith, size, least)
 
 -- the first formal has a slot
 formal_slot : (formals : List W.Formal) (first : W.Formal) (rest : List W.Formal) (others : W.Frame) → formals ≡ first ∷ rest → 1 ≤ length (map W.OfFormal formals ++ others)
@@ -122,9 +109,6 @@ module _ (program : Checked) (typed : WellTyped program) where
   written home None h = tt
   written home (Some f) h = (h.body, h.found)
 
-  home_of : (t : ℕ) (r : RecordType) → slice_get program.records t ≡ Some r → (home : W.Frames) × (slice_get typed.k.record_homes t ≡ Some home)
-  home_of t r e = alike RecordType W.Frames program.records typed.k.record_homes (sym typed.fits.record_homes) t r e
-
   initialize_written : (t : ℕ) (r : RecordType) (home : W.Frames) → slice_get program.records t ≡ Some r → slice_get typed.k.record_homes t ≡ Some home → MayBeOperation home r.operations.initialize
   initialize_written t r home e at = overrides home t [] r.operations.initialize (typed.each_record t r home e at).operations.initialize
 
@@ -137,9 +121,9 @@ module _ (program : Checked) (typed : WellTyped program) where
   pub linked_of : AreLinked program
   linked_of = record {
     main = let s = called [] program.main _ typed.main in (s.body, s.found);
-    initialize = λ t r e. let home = home_of t r e in written home.0 r.operations.initialize (initialize_written t r home.0 e home.1);
-    adjust = λ t r e. let home = home_of t r e in written home.0 r.operations.adjust (adjust_written t r home.0 e home.1);
-    finalize = λ t r e. let home = home_of t r e in written home.0 r.operations.finalize (finalize_written t r home.0 e home.1);
+    initialize = λ t r e. let home = home_of program typed t r e in written home.0 r.operations.initialize (initialize_written t r home.0 e home.1);
+    adjust = λ t r e. let home = home_of program typed t r e in written home.0 r.operations.adjust (adjust_written t r home.0 e home.1);
+    finalize = λ t r e. let home = home_of program typed t r e in written home.0 r.operations.finalize (finalize_written t r home.0 e home.1);
   }
 
 -- Bodies ---------------------------------------------------------------------------------------------
@@ -248,17 +232,16 @@ module _ (program : Checked) (code : Code) (laid : IsLaidOut program code) (kind
       let level = h.level in
       (entry_at x.0 h.body, x.1, omega (arith, least, level))
 
-  declarable_in : (masters t : ℕ) (r : RecordType) (home : W.Frames) → length home ≤ masters → slice_get program.records t ≡ Some r → slice_get typed.k.record_homes t ≡ Some home → IsDeclarable code masters t
-  declarable_in masters t r home least e at = (
-    operations_in r,
-    operations_there t r e,
-    in_scope home masters r.operations.initialize least (initialize_written program typed t r home e at),
-    in_scope home masters r.operations.finalize least (finalize_written program typed t r home e at),
-    adjust_has (IsInScope code masters) r.root r.operations.adjust tt (in_scope home masters r.operations.adjust least (adjust_written program typed t r home e at)),
-  )
-
-  declarable : (env : W.Frames) (t : ℕ) → W.HasRecord typed.k env t → IsDeclarable code (length env) t
-  declarable env t h = declarable_in (length env) t h.is h.home (not_more h.home env h.encloses) (sym (ap (λ rs. slice_get rs t) typed.fits.records) ∙ h.found) h.at_home
+  operations_in_scope : (t : ℕ) (r : RecordType) (home : W.Frames) → slice_get program.records t ≡ Some r → slice_get typed.k.record_homes t ≡ Some home → AreInScope code (length home) t
+  operations_in_scope t r home e at =
+      let masters = length home in
+      let least : masters ≤ masters = omega arith in (
+        operations_in r,
+        operations_there t r e,
+        in_scope home masters r.operations.initialize least (initialize_written program typed t r home e at),
+        in_scope home masters r.operations.finalize least (finalize_written program typed t r home e at),
+        adjust_has (IsInScope code masters) r.root r.operations.adjust tt (in_scope home masters r.operations.adjust least (adjust_written program typed t r home e at)),
+      )
 
   -- a subprogram that can be called there is in scope there
   callable : (env : W.Frames) (f : ℕ) (is : W.Signature) → W.Callable typed.k env f is → IsInScope code (length env) (Some f)
@@ -286,7 +269,7 @@ module _ (program : Checked) (code : Code) (laid : IsLaidOut program code) (kind
           let home = home_of program typed t r there in
           let level = (typed.each_record t r home.0 there home.1).level in
           let few : r.level ≤ outermost = leb-true r.level outermost outer in
-          declarable_in outermost t r home.0 (omega (arith, level, few)) there home.1
+          declarable_in program typed code laid outermost t r home.0 (omega (arith, level, few)) there home.1
 
   raisable : (x : ℕ) → x < typed.k.exceptions → x < length code.exceptions.items
   raisable x known = let all = ap (λ (names : List (List ℕ)). length names) laid.exceptions in omega (arith, known, typed.fits.exceptions, all)
@@ -304,7 +287,7 @@ module _ (program : Checked) (code : Code) (laid : IsLaidOut program code) (kind
       let frame = map W.OfFormal is.formals ++ h.others in
       let slots = (master_code s.body).slots in
       let over = subst (λ m. Agrees (is.home ++ frame ∷ []) (Body s.level m ∷ [])) (sym (slots_told h.body)) (agrees_body is.home frame s.level h.level) in
-      master_good code program.records typed.k declarable callable formals assignable raisable h.body runs (Body s.level slots) [] n p over texts tt
+      master_good code program.records typed.k (declarable program typed code laid) callable formals assignable raisable h.body runs (Body s.level slots) [] n p over texts tt
 
   good : (f : ℕ) (s : Subprogram) → slice_get program.subprograms f ≡ Some s → GoodBody code program.records s
   good f s e =
@@ -337,4 +320,5 @@ module _ (program : Checked) (code : Code) (laid : IsLaidOut program code) (kind
     entries = λ f e h. formed.begin f e (sym (ap (λ es. slice_get es f) laid.entries) ∙ h);
     records = records_of;
     formals = formals_of;
+    layouts = layouts_laid program typed code laid operations_in_scope;
   }

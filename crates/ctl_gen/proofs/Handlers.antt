@@ -26,7 +26,7 @@ use Rattle.ctl_gen.proofs.Known.{both_true}
 use Rattle.ctl_gen.proofs.Place.{HasAt, has_front, has_back, Laid, laid_front, laid_back}
 use Rattle.ctl_gen.proofs.Worlds.{home, Since, Kept}
 use Rattle.ctl_gen.proofs.Setting.{Setting, tools_with, Sees, Told, Calls}
-use Rattle.ctl_gen.proofs.Defaults.{GivesDefaults}
+use Rattle.ctl_gen.proofs.Parted.{GivesDefaults}
 use Rattle.ctl_gen.proofs.Cells.{by_code}
 use Rattle.ctl_gen.proofs.Branches.{Ends}
 use Rattle.ctl_gen.proofs.Leave.{ends_out, in_frame, leaves, left_after, left_runs, passes_out, steps_out}
@@ -254,7 +254,7 @@ module _ (ask : Ask) (k : Tables) (code : Code) (setting : Setting k code) (call
           (after_paid ask code (Told k code w0) 3 4 4 0 2 s0 (at d (end + 1) (in_frame master e after ks) [] l1 w1) c0 c1 t1 (leaves after ks) (bind first.0 (leave K master)) (omega arith) (omega arith)
           (then_step ask code (Kept k code w2) 2 3 s0 (transferred (ByRaise e) armed l1 w1) (at d (end + 1) (in_frame master e after ks) [] l1 w1) c0 c1 t1 t1 there begins fits1 (omega arith))
           (both ask code (Kept k code w2) (Told k code w0) 4 4 0 0 4 4 (at d (end + 1) (in_frame master e after ks) [] l1 w1) c1 (arrives OutOf d place1 (in_frame master e after ks) []) (leaves after ks) first.0 (leave K master) (omega arith) (omega arith) (omega arith) first.2
-          (λ r c2 l2 w3 lo2 fits2. left_runs ask k code setting call default bound calls r master after w0 ks c2 l2 w3 (arrives OutOf d place1 (in_frame master e after ks) [] r l2 w3) opened.young (omega (arith, lo, lo2, le)) (opened.since w3 fits2) (steps_out ask code master e after d place1 ks at_end r l2 w3))))
+          (λ r c2 l2 w3 lo2 fits2. left_runs ask k code setting call default constants bound calls r master after w0 ks c2 l2 w3 (arrives OutOf d place1 (in_frame master e after ks) [] r l2 w3) opened.young (omega (arith, lo, lo2, le)) (opened.since w3 fits2) (steps_out ask code master e after d place1 ks at_end r l2 w3))))
         where
           seen : home master w1.activations ≡ d
           seen = ap (λ m. home m w1.activations) (sym opened.newest) ∙ fits1.1.homes (last_of d) opened.sees.old ∙ opened.sees.home
@@ -273,13 +273,13 @@ module _ (ask : Ask) (k : Tables) (code : Code) (setting : Setting k code) (call
       by_way None y is t1 c1 l1 w1 lo fits1 there =
           subst (λ o. Runs ask code (Told k code w0) 0 2 s0 c0 (leaves after ks) (add t1 (bind (on_some o (leave_by y) (handle K d (g ∷ gs)) c1 l1 w1) (leave K master)))) (sym is)
           (subst (λ o. Runs ask code (Told k code w0) 0 2 s0 c0 (leaves after ks) (add t1 o)) (sym (add_none (leave K master (Leaves y) c1 l1 w1)))
-          (left_after ask k code setting call default bound calls 2 (omega arith) (Leaves y) master after w0 ks c0 c1 t1 l1 w1 s0 _ opened.young (omega (arith, lo, le)) (opened.since w1 fits1) there (passes_out ask code master _ after ks y l1 w1 is)))
+          (left_after ask k code setting call default constants bound calls 2 (omega arith) (Leaves y) master after w0 ks c0 c1 t1 l1 w1 s0 _ opened.young (omega (arith, lo, le)) (opened.since w1 fits1) there (passes_out ask code master _ after ks y l1 w1 is)))
       by_way (Some e) y is t1 c1 l1 w1 lo fits1 there = subst (λ v. Comes ask code 2 s0 c0 t1 c1 (transferred v armed l1 w1) (Since k code w2 w1) → IsLeft (Leaves v) t1 c1 l1 w1) (sym (raised_is y e is)) (raised e t1 c1 l1 w1 lo fits1) there
 
       on : (r : Result Done) (t1 c1 : ℕ) (l1 : Log) (w1 : World) → c1 ≤ c → Since k code w2 w1 → Comes ask code 2 s0 c0 t1 c1 (arrives OutOf d (place + 1 + length ((all xs).code (inside_master s) n)) armed [] r l1 w1) (Since k code w2 w1) → IsLeft r t1 c1 l1 w1
       on (Goes a) t1 c1 l1 w1 lo fits1 there =
           subst (λ o. Runs ask code (Told k code w0) 0 2 s0 c0 (leaves after ks) (add t1 o)) (sym (add_none (leave K master (Goes tt) c1 l1 w1)))
-          (left_after ask k code setting call default bound calls 3 (omega arith) (Goes tt) master after w0 ks c0 c1 t1 l1 w1 s0 (at d place1 armed [] l1 w1) opened.young (omega (arith, lo, le)) (opened.since w1 fits1)
+          (left_after ask k code setting call default constants bound calls 3 (omega arith) (Goes tt) master after w0 ks c0 c1 t1 l1 w1 s0 (at d place1 armed [] l1 w1) opened.young (omega (arith, lo, le)) (opened.since w1 fits1)
           (then_step ask code (Kept k code w2) 2 3 s0 (at d end armed [] l1 w1) (at d place1 armed [] l1 w1) c0 c1 t1 t1 there (by_code ask code d end armed [] l1 w1 (InstrOf.Skip (length rest)) tail.0 ∙ ap (λ p. at d p armed [] l1 w1) far) fits1 (omega arith))
           (ends_out ask code master _ after d place1 ks l1 w1 at_end))
       on (Leaves y) t1 c1 l1 w1 lo fits1 there = by_way (raised_by y) y refl t1 c1 l1 w1 lo fits1 (subst (λ z. Comes ask code 2 s0 c0 t1 c1 z (Since k code w2 w1)) (leads_out y d armed [] l1 w1) there)

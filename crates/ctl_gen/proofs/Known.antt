@@ -1,7 +1,7 @@
--- The types of the variables of this version: scalar ones, and record types that are laid out and whose defaults are constants, controlled
--- or not tagged.
+-- The types of the variables of this version: scalar ones, and record types whose objects are declared, controlled or not tagged, whose
+-- defaults are constants and whose components are of such types again.
 use Rattle.std.proofs.Common.{◌≡◌, ℕ, zero, suc, ◌<◌, ◌≤◌, List, [], ◌∷◌, ◌++◌, length, get_or, Option, Some, None, Bool, true, false, refl, sym, ap, ◌∙◌, subst, arith, ◌⊎◌, inl, inr}
-use Rattle.std.specs.Prelude.{slice_get, is_none, if◌then◌else◌, ◌&&◌, ◌||◌}
+use Rattle.std.specs.Prelude.{slice_get, is_none, if◌then◌else◌, ◌&&◌}
 use Rattle.std.proofs.lemmas.Option.{slice_get_cases, slice_get_past, slice_get_within}
 use Rattle.ctl_program.specs.declared.types.Ty.{Ty}
 use Rattle.ctl_program.specs.declared.types.Ty.TheVariants.{Integer, Count, Boolean, Address, Handle, Access, Record}
@@ -12,10 +12,9 @@ use Rattle.ctl_program.specs.declared.types.RecordType.{RecordType}
 use Rattle.ctl_meaning.specs.Types.{Tables, Elementary, category_of}
 use Rattle.ctl_layout.specs.declared.forms.Form.{Form}
 use Rattle.ctl_layout.specs.declared.forms.Form.TheVariants as FormOf
-use Rattle.ctl_layout.specs.Records.{are_bare, are_laid, each_extension, extends_laid, form_by, forms_of, has_root_run, is_bare, is_bare_by, is_bare_form, is_bare_part, is_laid, is_laid_by, is_laid_form, is_laid_part, is_part, is_root_run, is_run_type, is_untagged, is_unwritten}
-use Rattle.ctl_layout.specs.Defaults.{have_constants, is_plain}
+use Rattle.ctl_layout.specs.Records.{are_free, are_parts, extends_such, form_by, forms_of, have_constants, is_free, is_laid, is_laid_by, is_laid_form, is_part, is_plain, is_plain_by, is_plain_form, is_root_run, is_run_type, is_uncontrolled, is_uncontrolled_form, is_whole, is_whole_by, is_whole_form, may_default, whole_form}
 pub use Rattle.ctl_layout.proofs.Extensions.{both_true}
-use Rattle.ctl_layout.proofs.Extensions.{HasComponents, IsRow, extends_all, extends_none, extends_one, row_at, rows_length, same_components}
+use Rattle.ctl_layout.proofs.Extensions.{HasComponents, IsRow, extends_none, extends_one, row_at, rows_length, same_components}
 
 abbrev pub IsScalar : Ty → Type 0
 IsScalar Integer = Unit {0}
@@ -42,38 +41,26 @@ scalar_if Handle e = absurd (cc)
 scalar_if (Access a) e = absurd (cc)
 scalar_if (Record t) e = absurd (cc)
 
--- a component of a bare type that stands before this one in the table: it has no default
-pub record IsOfBare (records : List RecordType) (t : ℕ) (c : Component) : Type 0 where
+-- a component of a type whose objects are declared and which stands before this one in the table: it has no default
+pub record IsOfPlain (records : List RecordType) (t : ℕ) (c : Component) : Type 0 where
   pub number : ℕ
   pub ty : c.ty ≡ Record number
   pub less : number < t
-  pub bare : is_bare records number ≡ true
+  pub plain : is_plain records number ≡ true
   pub unset : c.default ≡ None
 
 -- a component of a type that is laid out (3.8)
 abbrev pub IsPart : List RecordType → ℕ → Component → Type 0
-IsPart records t c = IsScalar c.ty ⊎ IsOfBare records t c
+IsPart records t c = IsScalar c.ty ⊎ IsOfPlain records t c
 
 abbrev pub AreParts : List RecordType → ℕ → List Component → Type 0
 AreParts records t [] = Unit {0}
 AreParts records t (c ∷ cs) = IsPart records t c × AreParts records t cs
 
--- components without defaults
-abbrev pub AreUnset : List Component → Type 0
-AreUnset [] = Unit {0}
-AreUnset (c ∷ cs) = (c.default ≡ None) × AreUnset cs
-
--- a bare type of the table
-pub record IsBare (records : List RecordType) (t : ℕ) (r : RecordType) : Type 0 where
-  pub here : slice_get records t ≡ Some r
-  pub root : r.root ≡ Untagged
-  pub parent : r.parent ≡ None
-  pub parts : AreParts records t r.own
-  pub unset : AreUnset r.own
-
 -- a type of the table that is laid out, with these components
 pub record IsLaid (records : List RecordType) (t : ℕ) (cs : List Component) : Type 0 where
   pub is : is_laid records t ≡ true
+  pub here : (r : RecordType) × (slice_get records t ≡ Some r)
   pub has : HasComponents records t cs
   pub parts : AreParts records t cs
 
@@ -83,50 +70,91 @@ pub record IsUntagged (r : RecordType) : Type 0 where
   pub initialize : r.operations.initialize ≡ None
   pub finalize : r.operations.finalize ≡ None
 
--- a type that is laid out, and descends from Controlled, or Limited_Controlled (7.6), or is not tagged, with constants as defaults
+-- a type that descends from Controlled, or Limited_Controlled (7.6), or is not tagged
+abbrev pub IsRootRun : RecordType → Type 0
+IsRootRun r = (r.root ≡ Controlled) ⊎ IsUntagged r
+
+-- such a type that is laid out, with constants as defaults
 pub record IsPlain (k : Tables) (t : ℕ) (r : RecordType) : Type 0 where
   pub kind : (r.root ≡ Controlled) ⊎ IsUntagged r
   pub components : List Component
   pub laid : IsLaid k.records t components
-  pub constants : have_constants k.records components ≡ true
+  pub constants : have_constants components ≡ true
 
 abbrev pub IsPlainType : Tables → Ty → Type 0
 IsPlainType k (Record t) = (r : RecordType) × (slice_get k.records t ≡ Some r) × IsPlain k t r
 IsPlainType k _ = ⊥
 
-unwritten_if : (o : Option ℕ) → is_unwritten o ≡ true → o ≡ None
-unwritten_if None e = refl
-unwritten_if (Some f) e = absurd (cc)
+none_if : {A : Type 0} (o : Option A) → is_none o ≡ true → o ≡ None
+none_if None e = refl
+none_if (Some x) e = absurd (cc)
 
-root_if : (r : RecordType) (x : Root) → r.root ≡ x → is_root_run x r.operations ≡ true → (r.root ≡ Controlled) ⊎ IsUntagged r
+root_if : (r : RecordType) (x : Root) → r.root ≡ x → is_root_run x r.operations ≡ true → IsRootRun r
 root_if r Controlled is e = inl is
 root_if r Untagged is e =
-    let h = both_true (is_unwritten r.operations.initialize) (is_unwritten r.operations.finalize) e in
-    inr (record { root = is; initialize = unwritten_if r.operations.initialize h.0; finalize = unwritten_if r.operations.finalize h.1 })
+    let h = both_true (is_none r.operations.initialize) (is_none r.operations.finalize) e in
+    inr (record { root = is; initialize = none_if r.operations.initialize h.0; finalize = none_if r.operations.finalize h.1 })
 root_if r BlockPool is e = absurd (cc)
 root_if r MarkPool is e = absurd (cc)
 
--- Types that are laid out -------------------------------------------------------------------------
+-- Forms -------------------------------------------------------------------------------------------
 
 some_form : (o : Option Form) → is_laid_form o ≡ true → (x : Form) × (o ≡ Some x)
 some_form None e = absurd (cc)
 some_form (Some x) e = (x, refl)
 
-pub bare_laid : (o : Option Form) → is_bare_form o ≡ true → is_laid_form o ≡ true
-bare_laid None e = absurd (cc)
-bare_laid (Some FormOf.Bare) e = refl
-bare_laid (Some FormOf.Laid) e = absurd (cc)
-bare_laid (Some FormOf.Other) e = absurd (cc)
+pub plain_laid : (o : Option Form) → is_plain_form o ≡ true → is_laid_form o ≡ true
+plain_laid None e = absurd (cc)
+plain_laid (Some FormOf.Uncontrolled) e = refl
+plain_laid (Some FormOf.Controlled) e = refl
+plain_laid (Some FormOf.Holding) e = refl
+plain_laid (Some FormOf.Laid) e = absurd (cc)
+plain_laid (Some FormOf.Other) e = absurd (cc)
 
-bare_by : (b c : Bool) → is_bare_form (Some (if b then FormOf.Bare else (if c then FormOf.Laid else FormOf.Other))) ≡ true → b ≡ true
-bare_by true c e = refl
-bare_by false true e = absurd (cc)
-bare_by false false e = absurd (cc)
+pub whole_plain : (o : Option Form) → is_whole_form o ≡ true → is_plain_form o ≡ true
+whole_plain None e = absurd (cc)
+whole_plain (Some FormOf.Uncontrolled) e = refl
+whole_plain (Some FormOf.Controlled) e = refl
+whole_plain (Some FormOf.Holding) e = absurd (cc)
+whole_plain (Some FormOf.Laid) e = absurd (cc)
+whole_plain (Some FormOf.Other) e = absurd (cc)
 
-laid_by : (b c : Bool) → is_laid_form (Some (if b then FormOf.Bare else (if c then FormOf.Laid else FormOf.Other))) ≡ true → (b ≡ true) ⊎ (c ≡ true)
-laid_by true c e = inl refl
-laid_by false true e = inr refl
-laid_by false false e = absurd (cc)
+pub uncontrolled_whole : (o : Option Form) → is_uncontrolled_form o ≡ true → is_whole_form o ≡ true
+uncontrolled_whole None e = absurd (cc)
+uncontrolled_whole (Some FormOf.Uncontrolled) e = refl
+uncontrolled_whole (Some FormOf.Controlled) e = absurd (cc)
+uncontrolled_whole (Some FormOf.Holding) e = absurd (cc)
+uncontrolled_whole (Some FormOf.Laid) e = absurd (cc)
+uncontrolled_whole (Some FormOf.Other) e = absurd (cc)
+
+-- the form that is chosen by whether a type is plain, whole and laid out
+abbrev chosen : Bool → Bool → Bool → Root → Form
+chosen p w l x = if p then (if w then whole_form x else FormOf.Holding) else (if l then FormOf.Laid else FormOf.Other)
+
+laid_by : (p w l : Bool) (x : Root) → is_laid_form (Some (chosen p w l x)) ≡ true → (p ≡ true) ⊎ (l ≡ true)
+laid_by true w l x e = inl refl
+laid_by false w true x e = inr refl
+laid_by false w false x e = absurd (cc)
+
+plain_by : (p w l : Bool) (x : Root) → is_plain_form (Some (chosen p w l x)) ≡ true → p ≡ true
+plain_by true w l x e = refl
+plain_by false w true x e = absurd (cc)
+plain_by false w false x e = absurd (cc)
+
+whole_by : (p w l : Bool) (x : Root) → is_whole_form (Some (chosen p w l x)) ≡ true → w ≡ true
+whole_by true true l x e = refl
+whole_by true false l x e = absurd (cc)
+whole_by false w true x e = absurd (cc)
+whole_by false w false x e = absurd (cc)
+
+untagged_by : (p w l : Bool) (x : Root) → is_uncontrolled_form (Some (chosen p w l x)) ≡ true → x ≡ Untagged
+untagged_by true true l Untagged e = refl
+untagged_by true true l Controlled e = absurd (cc)
+untagged_by true true l BlockPool e = absurd (cc)
+untagged_by true true l MarkPool e = absurd (cc)
+untagged_by true false l x e = absurd (cc)
+untagged_by false w true x e = absurd (cc)
+untagged_by false w false x e = absurd (cc)
 
 -- a type with a form is in the table
 entry_of : (records : List RecordType) (t : ℕ) → is_laid records t ≡ true → (r : RecordType) × (slice_get records t ≡ Some r)
@@ -139,31 +167,23 @@ entry_of records t e = by (slice_get_cases records t).1
         let none : slice_get (forms_of records) t ≡ None = slice_get_past (forms_of records) t (omega (arith, many, h.0)) in
         absurd (let bad : is_laid_form None ≡ true = ap is_laid_form (sym none) ∙ e in cc)
 
-untagged_if : (x : Root) → is_untagged x ≡ true → x ≡ Untagged
-untagged_if Untagged e = refl
-untagged_if Controlled e = absurd (cc)
-untagged_if BlockPool e = absurd (cc)
-untagged_if MarkPool e = absurd (cc)
+-- Types that are laid out -------------------------------------------------------------------------
 
-none_if : {A : Type 0} (o : Option A) → is_none o ≡ true → o ≡ None
-none_if None e = refl
-none_if (Some x) e = absurd (cc)
+-- a type extends none, or one that stands before it and is such
+abbrev pub ExtendsSuch : (ℕ → Bool) → ℕ → RecordType → Type 0
+ExtendsSuch is_such t r = (r.parent ≡ None) ⊎ ((p : ℕ) × (r.parent ≡ Some p) × (p < t) × (is_such p ≡ true))
 
-unset_if : (forms : List Form) (cs : List Component) → are_bare forms cs ≡ true → AreUnset cs
-unset_if forms [] e = tt
-unset_if forms (c ∷ cs) e =
-    let h = both_true (is_bare_part forms c) (are_bare forms cs) e in
-    (none_if c.default (both_true (is_part forms c.ty) (is_none c.default) h.0).1, unset_if forms cs h.1)
+-- what a type that is laid out adds, and what it extends
+pub record Extends (records : List RecordType) (t : ℕ) (r : RecordType) : Type 0 where
+  pub parts : AreParts records t r.own
+  pub parent : (r.parent ≡ None) ⊎ ((p : ℕ) × (r.parent ≡ Some p) × (p < t) × (is_laid records p ≡ true))
 
-bare_are_laid : (forms : List Form) (cs : List Component) → are_bare forms cs ≡ true → are_laid forms cs ≡ true
-bare_are_laid forms [] e = refl
-bare_are_laid forms (c ∷ cs) e =
-    let h = both_true (is_bare_part forms c) (are_bare forms cs) e in
-    ap (λ b. b && are_laid forms cs) (either_true (is_run_type c.ty) (is_bare_part forms c) h.0) ∙ bare_are_laid forms cs h.1
-  where
-    either_true : (a b : Bool) → b ≡ true → (a || b) ≡ true
-    either_true true b e1 = refl
-    either_true false b e1 = e1
+-- and what one whose objects are declared does
+record ExtendsPlain (records : List RecordType) (t : ℕ) (r : RecordType) : Type 0 where
+  kind : IsRootRun r
+  parts : AreParts records t r.own
+  constants : have_constants r.own ≡ true
+  parent : ExtendsSuch (is_plain records) t r
 
 module _ (records : List RecordType) (t : ℕ) (r : RecordType) (here : slice_get records t ≡ Some r) where
   made : IsRow form_by (forms_of records) t r
@@ -178,7 +198,11 @@ module _ (records : List RecordType) (t : ℕ) (r : RecordType) (here : slice_ge
       let less : u < t = omega (arith, within, many) in
       (less, made.same u less)
 
-  part_if : (c : Component) (ty : Ty) → c.ty ≡ ty → (is_run_type ty || (is_part made.before ty && is_none c.default)) ≡ true → IsPart records t c
+  parent_if : (is_such : Option Form → Bool) → ((o : Option Form) → is_such o ≡ true → is_laid_form o ≡ true) → (o : Option ℕ) → r.parent ≡ o → extends_such is_such made.before o ≡ true → ExtendsSuch (λ u. is_such (slice_get (forms_of records) u)) t r
+  parent_if is_such laid None is e = inl is
+  parent_if is_such laid (Some p) is e = let z = before_if p (laid (slice_get made.before p) e) in inr (p, is, z.0, ap is_such z.1 ∙ e)
+
+  part_if : (c : Component) (ty : Ty) → c.ty ≡ ty → is_part made.before ty c.default ≡ true → IsPart records t c
   part_if c Integer is e = inl (subst IsScalar (sym is) tt)
   part_if c Boolean is e = inl (subst IsScalar (sym is) tt)
   part_if c Count is e = absurd (cc)
@@ -186,54 +210,44 @@ module _ (records : List RecordType) (t : ℕ) (r : RecordType) (here : slice_ge
   part_if c Handle is e = absurd (cc)
   part_if c (Access a) is e = absurd (cc)
   part_if c (Record u) is e =
-      let h = both_true (is_bare_form (slice_get made.before u)) (is_none c.default) e in
-      let x = before_if u (bare_laid (slice_get made.before u) h.0) in
-      inr (record { number = u; ty = is; less = x.0; bare = ap is_bare_form x.1 ∙ h.0; unset = none_if c.default h.1 })
+      let h = both_true (is_plain_form (slice_get made.before u)) (is_none c.default) e in
+      let x = before_if u (plain_laid (slice_get made.before u) h.0) in
+      inr (record { number = u; ty = is; less = x.0; plain = ap is_plain_form x.1 ∙ h.0; unset = none_if c.default h.1 })
 
-  parts_if : (cs : List Component) → are_laid made.before cs ≡ true → AreParts records t cs
+  parts_if : (cs : List Component) → are_parts made.before cs ≡ true → AreParts records t cs
   parts_if [] e = tt
   parts_if (c ∷ cs) e =
-      let h = both_true (is_laid_part made.before c) (are_laid made.before cs) e in
+      let h = both_true (is_part made.before c.ty c.default) (are_parts made.before cs) e in
       (part_if c c.ty refl h.0, parts_if cs h.1)
 
-  bare_made : is_bare_by made.before r ≡ true → IsBare records t r
-  bare_made e =
-      let h = both_true (is_untagged r.root) (is_none r.parent && are_bare made.before r.own) e in
-      let g = both_true (is_none r.parent) (are_bare made.before r.own) h.1 in
-      record {
-        here = here;
-        root = untagged_if r.root h.0;
-        parent = none_if r.parent g.0;
-        parts = parts_if r.own (bare_are_laid made.before r.own g.1);
-        unset = unset_if made.before r.own g.1;
-      }
+  laid_made : is_laid_by made.before r ≡ true → Extends records t r
+  laid_made e =
+      let h = both_true (extends_such is_laid_form made.before r.parent) (are_parts made.before r.own) e in
+      record { parts = parts_if r.own h.1; parent = parent_if is_laid_form (λ o i. i) r.parent refl h.0 }
 
--- what a type that is laid out adds, and what it extends
-pub record Extends (records : List RecordType) (t : ℕ) (r : RecordType) : Type 0 where
-  pub parts : AreParts records t r.own
-  pub parent : (r.parent ≡ None) ⊎ ((p : ℕ) × (r.parent ≡ Some p) × (p < t) × (is_laid records p ≡ true))
+  plain_made : is_plain_by made.before r ≡ true → ExtendsPlain records t r
+  plain_made e =
+      let h = both_true (is_root_run r.root r.operations) (extends_such is_plain_form made.before r.parent && (are_parts made.before r.own && have_constants r.own)) e in
+      let g = both_true (extends_such is_plain_form made.before r.parent) (are_parts made.before r.own && have_constants r.own) h.1 in
+      let f = both_true (are_parts made.before r.own) (have_constants r.own) g.1 in
+      record { kind = root_if r r.root refl h.0; parts = parts_if r.own f.0; constants = f.1; parent = parent_if is_plain_form plain_laid r.parent refl g.0 }
 
-pub bare_if : (records : List RecordType) (t : ℕ) → is_bare records t ≡ true → (r : RecordType) × IsBare records t r
-bare_if records t e =
-    let x = entry_of records t (bare_laid (slice_get (forms_of records) t) e) in
-    let y = made records t x.0 x.1 in
-    (x.0, bare_made records t x.0 x.1 (bare_by (is_bare_by y.before x.0) (is_laid_by y.before x.0) (ap is_bare_form (sym y.is) ∙ e)))
+  -- a type that is plain is laid out too
+  both_made : (is_plain_by made.before r ≡ true) ⊎ (is_laid_by made.before r ≡ true) → Extends records t r
+  both_made (inr h) = laid_made h
+  both_made (inl h) = let x = plain_made h in record { parts = x.parts; parent = by x.parent }
+    where
+      by : ExtendsSuch (is_plain records) t r → ExtendsSuch (is_laid records) t r
+      by (inl none) = inl none
+      by (inr q) = inr (q.0, q.1, q.2, plain_laid (slice_get (forms_of records) q.0) q.3)
+
+  form_is : slice_get (forms_of records) t ≡ Some (chosen (is_plain_by made.before r) (is_whole_by made.before r) (is_laid_by made.before r) r.root)
+  form_is = made.is
 
 pub extends_if : (records : List RecordType) (t : ℕ) → is_laid records t ≡ true → (r : RecordType) × (slice_get records t ≡ Some r) × Extends records t r
 extends_if records t e =
     let x = entry_of records t e in
-    let y = made records t x.0 x.1 in
-    (x.0, x.1, by x.0 x.1 (laid_by (is_bare_by y.before x.0) (is_laid_by y.before x.0) (ap is_laid_form (sym y.is) ∙ e)))
-  where
-    parent_if : (r : RecordType) (here : slice_get records t ≡ Some r) (o : Option ℕ) → r.parent ≡ o → extends_laid (made records t r here).before o ≡ true → (r.parent ≡ None) ⊎ ((p : ℕ) × (r.parent ≡ Some p) × (p < t) × (is_laid records p ≡ true))
-    parent_if r here None is e1 = inl is
-    parent_if r here (Some p) is e1 = let z = before_if records t r here p e1 in inr (p, is, z.0, ap is_laid_form z.1 ∙ e1)
-
-    by : (r : RecordType) (here : slice_get records t ≡ Some r) → (is_bare_by (made records t r here).before r ≡ true) ⊎ (is_laid_by (made records t r here).before r ≡ true) → Extends records t r
-    by r here (inl h) = let y = bare_made records t r here h in record { parts = y.parts; parent = inl y.parent }
-    by r here (inr h) =
-        let e1 = both_true (extends_laid (made records t r here).before r.parent) (are_laid (made records t r here).before r.own) h in
-        record { parts = parts_if records t r here r.own e1.1; parent = parent_if r here r.parent refl e1.0 }
+    (x.0, x.1, both_made records t x.0 x.1 (laid_by _ _ _ x.0.root (ap is_laid_form (sym (form_is records t x.0 x.1)) ∙ e)))
 
 parts_later : (records : List RecordType) (p t : ℕ) (cs : List Component) → p < t → AreParts records p cs → AreParts records t cs
 parts_later records p t [] lt h = tt
@@ -241,7 +255,7 @@ parts_later records p t (c ∷ cs) lt h = (by h.0, parts_later records p t cs lt
   where
     by : IsPart records p c → IsPart records t c
     by (inl scalar) = inl scalar
-    by (inr x) = let less = x.less in inr (record { number = x.number; ty = x.ty; less = omega (arith, less, lt); bare = x.bare; unset = x.unset })
+    by (inr x) = let less = x.less in inr (record { number = x.number; ty = x.ty; less = omega (arith, less, lt); plain = x.plain; unset = x.unset })
 
 parts_both : (records : List RecordType) (t : ℕ) (xs ys : List Component) → AreParts records t xs → AreParts records t ys → AreParts records t (xs ++ ys)
 parts_both records t [] ys h g = g
@@ -253,12 +267,13 @@ laid_within zero records t lt e = absurd (omega (arith, lt))
 laid_within (suc n) records t lt e = let x = extends_if records t e in by x.0 x.1 x.2 (λ p less is. laid_within n records p (omega (arith, less, lt)) is) x.2.parent
   where
     by : (r : RecordType) → slice_get records t ≡ Some r → Extends records t r → ((p : ℕ) → p < t → is_laid records p ≡ true → (cs : List Component) × IsLaid records p cs) → (r.parent ≡ None) ⊎ ((p : ℕ) × (r.parent ≡ Some p) × (p < t) × (is_laid records p ≡ true)) → (cs : List Component) × IsLaid records t cs
-    by r here x parent (inl none) = (r.own, record { is = e; has = extends_none records t r here none; parts = x.parts })
+    by r here x parent (inl none) = (r.own, record { is = e; here = (r, here); has = extends_none records t r here none; parts = x.parts })
     by r here x parent (inr q) =
         let y = parent q.0 q.2 q.3 in (
           y.0 ++ r.own,
           record {
             is = e;
+            here = (r, here);
             has = extends_one records t r q.0 y.0 here q.1 q.2 y.1.has;
             parts = parts_both records t y.0 r.own (parts_later records q.0 t y.0 q.2 y.1.parts) x.parts;
           },
@@ -267,24 +282,85 @@ laid_within (suc n) records t lt e = let x = extends_if records t e in by x.0 x.
 pub laid_if : (records : List RecordType) (t : ℕ) → is_laid records t ≡ true → (cs : List Component) × IsLaid records t cs
 laid_if records t e = laid_within (suc t) records t (omega arith) e
 
+-- the type of a component is laid out itself
+pub part_laid : (records : List RecordType) (t : ℕ) (c : Component) (x : IsOfPlain records t c) → is_laid records x.number ≡ true
+part_laid records t c x = plain_laid (slice_get (forms_of records) x.number) x.plain
+
 -- Types whose objects are declared ----------------------------------------------------------------
 
-constants_both : (records : List RecordType) (xs ys : List Component) → have_constants records xs ≡ true → have_constants records ys ≡ true → have_constants records (xs ++ ys) ≡ true
-constants_both records [] ys h g = g
-constants_both records (x ∷ xs) ys h g =
-    let first = both_true _ (have_constants records xs) h in
-    ap (λ b. b && have_constants records (xs ++ ys)) first.0 ∙ constants_both records xs ys first.1 g
+constants_both : (xs ys : List Component) → have_constants xs ≡ true → have_constants ys ≡ true → have_constants (xs ++ ys) ≡ true
+constants_both [] ys h g = g
+constants_both (x ∷ xs) ys h g =
+    let first = both_true (may_default x) (have_constants xs) h in
+    ap (λ b. b && have_constants (xs ++ ys)) first.0 ∙ constants_both xs ys first.1 g
 
-root_in : (o : Option RecordType) → has_root_run o ≡ true → (r : RecordType) × (o ≡ Some r) × ((r.root ≡ Controlled) ⊎ IsUntagged r)
-root_in None e = absurd (cc)
-root_in (Some r) e = (r, refl, root_if r r.root refl e)
+plain_extends : (records : List RecordType) (t : ℕ) → is_plain records t ≡ true → (r : RecordType) × (slice_get records t ≡ Some r) × ExtendsPlain records t r
+plain_extends records t e =
+    let x = entry_of records t (plain_laid (slice_get (forms_of records) t) e) in
+    (x.0, x.1, plain_made records t x.0 x.1 (plain_by _ _ _ x.0.root (ap is_plain_form (sym (form_is records t x.0 x.1)) ∙ e)))
+
+-- the defaults of all of its components are constants
+constants_within : (n : ℕ) (records : List RecordType) (t : ℕ) → t < n → is_plain records t ≡ true → (cs : List Component) × HasComponents records t cs × (have_constants cs ≡ true)
+constants_within zero records t lt e = absurd (omega (arith, lt))
+constants_within (suc n) records t lt e = let x = plain_extends records t e in by x.0 x.1 x.2 (λ p less is. constants_within n records p (omega (arith, less, lt)) is) x.2.parent
+  where
+    by : (r : RecordType) → slice_get records t ≡ Some r → ExtendsPlain records t r → ((p : ℕ) → p < t → is_plain records p ≡ true → (cs : List Component) × HasComponents records p cs × (have_constants cs ≡ true)) → ExtendsSuch (is_plain records) t r → (cs : List Component) × HasComponents records t cs × (have_constants cs ≡ true)
+    by r here x parent (inl none) = (r.own, extends_none records t r here none, x.constants)
+    by r here x parent (inr q) = let y = parent q.0 q.2 q.3 in (y.0 ++ r.own, extends_one records t r q.0 y.0 here q.1 q.2 y.1, constants_both y.0 r.own y.2 x.constants)
 
 pub plain_if : (k : Tables) (t : ℕ) → is_plain k.records t ≡ true → (r : RecordType) × (slice_get k.records t ≡ Some r) × IsPlain k t r
 plain_if k t e =
-    let h = both_true (has_root_run (slice_get k.records t)) (is_laid k.records t && each_extension (have_constants k.records) k.records t) e in
-    let g = both_true (is_laid k.records t) (each_extension (have_constants k.records) k.records t) h.1 in
-    let r = root_in (slice_get k.records t) h.0 in
-    let laid = laid_if k.records t g.0 in
-    let x = extends_all (have_constants k.records) (λ cs. have_constants k.records cs ≡ true) (λ cs i. i) refl (constants_both k.records) k.records t g.1 in
-    let constants = subst (λ cs. have_constants k.records cs ≡ true) (same_components k.records t x.0 laid.0 x.1 laid.1.has) x.2 in
-    (r.0, r.1, record { kind = r.2; components = laid.0; laid = laid.1; constants = constants })
+    let x = plain_extends k.records t e in
+    let laid = laid_if k.records t (plain_laid (slice_get (forms_of k.records) t) e) in
+    let y = constants_within (suc t) k.records t (omega arith) e in
+    let constants = subst (λ cs. have_constants cs ≡ true) (same_components k.records t y.0 laid.0 y.1 laid.1.has) y.2 in
+    (x.0, x.1, record { kind = x.2.kind; components = laid.0; laid = laid.1; constants = constants })
+
+-- so the type of a component is one of them
+pub part_plain : (k : Tables) (t : ℕ) (c : Component) (x : IsOfPlain k.records t c) → IsPlainType k (Record x.number)
+part_plain k t c x = plain_if k x.number x.plain
+
+-- Types none of whose components has a controlled part --------------------------------------------
+
+-- components of no type that is controlled or has a controlled part
+abbrev pub AreOfFree : List RecordType → List Component → Type 0
+AreOfFree records [] = Unit {0}
+AreOfFree records (c ∷ cs) = (IsScalar c.ty ⊎ ((u : ℕ) × (c.ty ≡ Record u) × (is_uncontrolled records u ≡ true))) × AreOfFree records cs
+
+-- what such a type adds, and what it extends
+pub record ExtendsWhole (records : List RecordType) (t : ℕ) (r : RecordType) : Type 0 where
+  pub free : AreOfFree records r.own
+  pub parent : (r.parent ≡ None) ⊎ ((p : ℕ) × (r.parent ≡ Some p) × (p < t) × (is_whole records p ≡ true))
+
+module _ (records : List RecordType) (t : ℕ) (r : RecordType) (here : slice_get records t ≡ Some r) where
+  free_part : (c : Component) (ty : Ty) → c.ty ≡ ty → IsPart records t c → is_free (made records t r here).before ty ≡ true → IsScalar c.ty ⊎ ((u : ℕ) × (c.ty ≡ Record u) × (is_uncontrolled records u ≡ true))
+  free_part c ty is (inl scalar) e = inl scalar
+  free_part c (Record u) is (inr x) e =
+      let before = (made records t r here).before in
+      let z = before_if records t r here u (plain_laid (slice_get before u) (whole_plain (slice_get before u) (uncontrolled_whole (slice_get before u) e))) in
+      inr (u, is, ap is_uncontrolled_form z.1 ∙ e)
+  free_part c Integer is (inr x) e = inl (subst IsScalar (sym is) tt)
+  free_part c Boolean is (inr x) e = inl (subst IsScalar (sym is) tt)
+  free_part c Count is (inr x) e = absurd (let bad : Count ≡ Record x.number = sym is ∙ x.ty in cc)
+  free_part c Address is (inr x) e = absurd (let bad : Address ≡ Record x.number = sym is ∙ x.ty in cc)
+  free_part c Handle is (inr x) e = absurd (let bad : Handle ≡ Record x.number = sym is ∙ x.ty in cc)
+  free_part c (Access a) is (inr x) e = absurd (let bad : Access a ≡ Record x.number = sym is ∙ x.ty in cc)
+
+  free_parts : (cs : List Component) → AreParts records t cs → are_free (made records t r here).before cs ≡ true → AreOfFree records cs
+  free_parts [] h e = tt
+  free_parts (c ∷ cs) h e =
+      let g = both_true (is_free (made records t r here).before c.ty) (are_free (made records t r here).before cs) e in
+      (free_part c c.ty refl h.0 g.0, free_parts cs h.1 g.1)
+
+pub whole_extends : (records : List RecordType) (t : ℕ) → is_whole records t ≡ true → (r : RecordType) × (slice_get records t ≡ Some r) × ExtendsWhole records t r
+whole_extends records t e =
+    let x = extends_if records t (plain_laid (slice_get (forms_of records) t) (whole_plain (slice_get (forms_of records) t) e)) in
+    let r = x.0 in
+    let before = (made records t r x.1).before in
+    let w = whole_by _ _ _ r.root (ap is_whole_form (sym (form_is records t r x.1)) ∙ e) in
+    let h = both_true (extends_such is_whole_form before r.parent) (are_free before r.own) w in
+    (r, x.1, record { free = free_parts records t r x.1 r.own x.2.parts h.1; parent = parent_if records t r x.1 is_whole_form (λ o i. plain_laid o (whole_plain o i)) r.parent refl h.0 })
+
+-- where no part at all is controlled the type is not tagged
+pub uncontrolled_root : (records : List RecordType) (t : ℕ) (r : RecordType) → slice_get records t ≡ Some r → is_uncontrolled records t ≡ true → r.root ≡ Untagged
+uncontrolled_root records t r here e = untagged_by _ _ _ r.root (ap is_uncontrolled_form (sym (form_is records t r here)) ∙ e)

@@ -1,19 +1,15 @@
 -- A master is left: its layers are finalized, from the newest on, and what it declared is gone.
-use Rattle.std.proofs.Common.{◌≡◌, ℕ, ◌≤◌, List, [], ◌∷◌, Option, Some, None, Bool, true, false, refl, sym, ap, ◌∙◌, subst, arith, ◌⊎◌, inl, inr}
-use Rattle.std.specs.Prelude.{◌||◌, if◌then◌else◌, nat_eq, slice_get}
+use Rattle.std.proofs.Common.{◌≡◌, ℕ, ◌≤◌, List, [], ◌∷◌, Option, Some, None, Bool, true, false, refl, sym, ap, ◌∙◌, subst, arith}
+use Rattle.std.specs.Prelude.{◌||◌, slice_get}
 use Rattle.ctl_program.specs.declared.types.Ty.{Ty}
 use Rattle.ctl_program.specs.declared.types.Ty.TheVariants.{Integer, Count, Boolean, Address, Handle, Access, Record}
-use Rattle.ctl_program.specs.declared.types.RecordType.{RecordType}
-use Rattle.ctl_program.specs.declared.types.Root.TheVariants.{Controlled}
 use Rattle.ctl_tree.specs.declared.ending.Stop.TheVariants.{UseAfterFree}
 use Rattle.ctl_meaning.specs.World.{Object, Layer, Single, Sets, Log, World}
-use Rattle.ctl_meaning.specs.Lists.{first_with, change_each, opened_lists}
-use Rattle.ctl_meaning.specs.Objects.{object_in, change_in, with_begun}
 use Rattle.ctl_meaning.specs.Ledger.{layers_of, drop_layer}
 use Rattle.ctl_meaning.specs.Activations.{slots_in, activation_at}
-use Rattle.ctl_meaning.specs.Changes.{object_at, take_layer, close_master, begin_finalization, opened_changes}
+use Rattle.ctl_meaning.specs.Changes.{object_at, take_layer, close_master}
 use Rattle.ctl_meaning.specs.Choice.{Ask, picked}
-use Rattle.ctl_meaning.specs.Outcome.{program_error, raised_by, Way, ByRaise, Result, Goes, Leaves, Out, Act, Done, Fine, add, bind, on_goes, ◌>>◌, ticked, change, on_some, opened_outcome}
+use Rattle.ctl_meaning.specs.Outcome.{program_error, raised_by, Way, ByRaise, Result, Goes, Leaves, Out, Act, Done, add, bind, on_goes, ◌>>◌, ticked, change, on_some, opened_outcome}
 use Rattle.ctl_meaning.specs.Types.{Tables}
 use Rattle.ctl_meaning.specs.Names.{Call, Default, Tools, gone, existing}
 use Rattle.ctl_meaning.specs.Storage.{program_error_if}
@@ -23,37 +19,21 @@ use Rattle.ctl_code.specs.declared.code.Code.{Code}
 use Rattle.ctl_code.specs.declared.code.Instr.TheVariants as InstrOf
 use Rattle.ctl_code.specs.States.{After, Frame, Handling, handling, InMaster, Leaving, State}
 use Rattle.ctl_code.specs.Table as Table
-use Rattle.ctl_code.specs.Table.{behind, by_transfer, handlers_in, finalize_declared, finalize_parts, next_layer, parts_of, says_failed}
+use Rattle.ctl_code.specs.Table.{behind, by_transfer, handlers_in, finalize_declared, next_layer}
 use Rattle.ctl_code.specs.Steps.{moved, step}
-use Rattle.ctl_layout.specs.Records.{parts_by}
-use Rattle.ctl_gen.proofs.Known.{IsPlain, IsPlainType, IsUntagged}
+use Rattle.ctl_gen.proofs.Known.{IsPlainType}
+use Rattle.ctl_gen.proofs.Parted.{GivesDefaults}
 use Rattle.ctl_gen.proofs.Worlds.{Each, IfFound, IsSingle, Settled, Since, object_fits, layers_fit, since_take, since_close}
 use Rattle.ctl_gen.proofs.Setting.{Setting, tools_with, Calls, Told, Sure}
 use Rattle.ctl_gen.proofs.Cells.{by_code}
-use Rattle.ctl_gen.proofs.Finalize.{finalize_as, declared_runs, untouched_runs, handed, tells}
+use Rattle.ctl_gen.proofs.FinalizedParts.{heard, tells}
+use Rattle.ctl_gen.proofs.Finalize.{finalize_as, declared_runs}
 use Rattle.ctl_gen.proofs.Follow.{Runs, Comes, OutOf, at, transferred, arrives, leads_out, raised_is, way_of, both, added, after_paid, stop_step, end_step, bind_bind}
 
 -- where the end of a master leads
 abbrev pub leaves : After → List Frame → Result Left → Log → World → State
 leaves after ks (Goes x) l w = moved l (behind after x.result ks w)
 leaves after ks (Leaves y) l w = moved l (behind after (Leaves y) ks w)
-
--- an object whose finalization begins keeps its type
-begun_ty : (n : ℕ) (os : List Object) (o p : Object) → first_with (λ x. nat_eq x.number n) os ≡ Some o → first_with (λ x. nat_eq x.number n) (change_each (λ x. nat_eq x.number n) with_begun os) ≡ Some p → p.ty ≡ o.ty
-unfolding opened_lists with_begun
-begun_ty n [] o p e g = absurd (cc)
-begun_ty n (x ∷ os) o p e g = by (nat_eq x.number n) refl (begun_ty n os o p) e g
-  where
-    by : (b : Bool) → nat_eq x.number n ≡ b → (first_with (λ y. nat_eq y.number n) os ≡ Some o → first_with (λ y. nat_eq y.number n) (change_each (λ y. nat_eq y.number n) with_begun os) ≡ Some p → p.ty ≡ o.ty) → (if b then Some x else first_with (λ y. nat_eq y.number n) os) ≡ Some o → (if nat_eq (if b then with_begun x else x).number n then Some (if b then with_begun x else x) else first_with (λ y. nat_eq y.number n) (change_each (λ y. nat_eq y.number n) with_begun os)) ≡ Some p → p.ty ≡ o.ty
-    by true is rest e1 g1 =
-        let same : x ≡ o = cc e1 in
-        let here : with_begun x ≡ p = cc (sym (ap (λ b. if b then Some (with_begun x) else first_with (λ y. nat_eq y.number n) (change_each (λ y. nat_eq y.number n) with_begun os)) is) ∙ g1) in
-        sym (ap (λ (y : Object). y.ty) here) ∙ ap (λ (y : Object). y.ty) same
-    by false is rest e1 g1 = rest e1 (sym (ap (λ b. if b then Some x else first_with (λ y. nat_eq y.number n) (change_each (λ y. nat_eq y.number n) with_begun os)) is) ∙ g1)
-
-keeps_ty : (n : ℕ) (w : World) (o p : Object) → object_at n w ≡ Some o → object_at n (begin_finalization n w) ≡ Some p → p.ty ≡ o.ty
-unfolding opened_changes object_in change_in
-keeps_ty n w o p e g = begun_ty n w.objects o p e g
 
 -- The step that leaves a master ---------------------------------------------------------------------
 
@@ -94,17 +74,12 @@ module _ (ask : Ask) (code : Code) where
 
 -- What it does ---------------------------------------------------------------------------------------
 
-module _ (ask : Ask) (k : Tables) (code : Code) (setting : Setting k code) (call : Call) (default : Default) (bound : ℕ) (calls : Calls ask k code setting bound call) where
+module _ (ask : Ask) (k : Tables) (code : Code) (setting : Setting k code) (call : Call) (default : Default) (constants : GivesDefaults k default) (bound : ℕ) (calls : Calls ask k code setting bound call) where
   abbrev K : Tools
   K = tools_with ask k call default
 
   abbrev rest : ℕ → List Layer → Result Done → Bool → Result Bool → Act Left
   rest m xs r failed s c l w = bind (on_goes (λ b. leave_layers K m xs (failed || b)) s c l w) (on_goes (left m r))
-
-  -- a declared object of a record type, by whether it has a controlled part
-  record_runs : (t n : ℕ) (w0 : World) (ks : List Frame) (c : ℕ) (l : Log) (w : World) (s0 : State) (o : Object) → c ≤ bound → Since k code w0 w → object_at n w ≡ Some o → o.ty ≡ Record t → (r : RecordType) → slice_get k.records t ≡ Some r → IsPlain k t r → (r.root ≡ Controlled) ⊎ IsUntagged r → step ask code s0 ≡ moved l (finalize_parts code (parts_of code t) n t ks w) → Runs ask code (Sure k code w0) 3 3 s0 c (tells ks) (finalize_as K n (Record t) c l w)
-  record_runs t n w0 ks c l w s0 o le fits at is r here plain (inl controlled) e = declared_runs ask k code setting call default t r here plain controlled bound calls n w0 ks c l w s0 o le fits at is (λ p at1. keeps_ty n w o p at at1 ∙ is) (e ∙ ap (λ p. moved l (finalize_parts code p n t ks w)) (setting.parts t r here ∙ ap parts_by controlled))
-  record_runs t n w0 ks c l w s0 o le fits at is r here plain (inr untagged) e = untouched_runs ask k code call default t r here plain untagged n w0 ks c l w s0 fits (e ∙ ap (λ p. moved l (finalize_parts code p n t ks w)) (setting.parts t r here ∙ ap parts_by untagged.root))
 
   -- a declared object that is found, or not, from the step that looks for it
   found_runs : (n : ℕ) (w0 : World) (ks : List Frame) (c : ℕ) (l : Log) (w : World) (s0 : State) → c ≤ bound → Since k code w0 w → (y : Option Object) → object_at n w ≡ y → IfFound (Settled k code w.ledger.next_master w.activations) y → step ask code s0 ≡ moved l (finalize_declared code n y ks w) → Runs ask code (Sure k code w0) 3 3 s0 c (tells ks) (on_some y gone (λ o. finalize_as K n o.ty) c l w)
@@ -116,7 +91,7 @@ module _ (ask : Ask) (k : Tables) (code : Code) (setting : Setting k code) (call
       goal x = Runs ask code (Sure k code w0) 3 3 s0 c (tells ks) x
 
       by : (ty : Ty) → o.ty ≡ ty → IsPlainType k ty → step ask code s0 ≡ moved l (finalize_declared code n (Some (record o { ty = ty })) ks w) → Runs ask code (Sure k code w0) 3 3 s0 c (tells ks) (finalize_as K n ty c l w)
-      by (Record t) is known1 e = record_runs t n w0 ks c l w s0 o le fits at is known1.0 known1.1 known1.2 known1.2.kind e
+      by (Record t) is known1 e = declared_runs ask k code setting call default constants bound calls t n w0 ks c l w s0 o le fits at is known1 e
       by Integer is known1 e = absurd known1
       by Boolean is known1 e = absurd known1
       by Count is known1 e = absurd known1
@@ -149,10 +124,6 @@ module _ (ask : Ask) (k : Tables) (code : Code) (setting : Setting k code) (call
 
       goal : Out Left → Type 0
       goal o = Runs ask code (Told k code w0) 1 1 s0 c (leaves after ks) o
-
-      heard : (b : Bool) → says_failed (Fine (handed b)) ≡ b
-      heard true = refl
-      heard false = refl
 
       on : ((b : Bool) (c1 : ℕ) (l1 : Log) (w1 : World) → c1 ≤ c → Since k code w0 w1 → step ask code (tells (Leaving m xs failed r after ∷ ks) (Goes b) l1 w1) ≡ moved l1 (next_layer code m xs (failed || b) r after ks w1) → Runs ask code (Told k code w0) 1 1 (tells (Leaving m xs failed r after ∷ ks) (Goes b) l1 w1) c1 (leaves after ks) (bind (leave_layers K m xs (failed || b) c1 l1 w1) (on_goes (left m r)))) → (s : Result Bool) (c1 : ℕ) (l1 : Log) (w1 : World) → c1 ≤ c → Sure k code w0 (way_of s) w1 → Runs ask code (Told k code w0) 1 1 (tells (Leaving m xs failed r after ∷ ks) s l1 w1) c1 (leaves after ks) (rest m xs r failed s c1 l1 w1)
       on more (Goes b) c1 l1 w1 lo fits1 = more b c1 l1 w1 lo fits1.1 (ap (λ z. moved l1 (next_layer code m xs (failed || z) r after ks w1)) (heard b))

@@ -1,7 +1,10 @@
 pub mod Layouts
+pub mod Depths
 pub mod Known
 pub mod Place
 pub mod Follow
+pub mod Parted
+pub mod Picks
 pub mod Plain
 pub mod Values
 pub mod Cells
@@ -10,6 +13,7 @@ pub mod Components
 pub mod Worth
 pub mod Expressions
 pub mod Worlds
+pub mod Scopes
 pub mod Setting
 pub mod Evaluated
 pub mod Defaults
@@ -18,12 +22,19 @@ pub mod Does
 pub mod Loops
 pub mod Assign
 pub mod Branches
+pub mod FinalizedParts
 pub mod Finalize
+pub mod ChosenParts
+pub mod FailedParts
+pub mod Complete
+pub mod KeptPaths
+pub mod CreatedParts
 pub mod Sources
 pub mod Adjust
 pub mod Leave
 pub mod Declare
 pub mod Copies
+pub mod Alone
 pub mod RecordAssign
 pub mod Actuals
 pub mod Calls
@@ -35,6 +46,7 @@ pub mod Executed
 pub mod Bodies
 pub mod Whole
 pub mod Formed
+pub mod FormedLayouts
 pub mod FormedTypes
 pub mod FormedAround
 pub mod FormedValues

@@ -1,6 +1,6 @@
 -- The assignment of a part of a record type to another, or to itself: its code does what the program means (5.2, 7.6).
 use Rattle.std.proofs.Common.{◌≡◌, ℕ, ◌+◌, ◌≤◌, List, [], ◌∷◌, length, Option, Some, None, Bool, true, false, refl, sym, ap, ◌∙◌, subst, arith, length-append, ◌⊎◌, inl, inr}
-use Rattle.std.specs.Prelude.{slice_get, if◌then◌else◌}
+use Rattle.std.specs.Prelude.{slice_get, ◌&&◌, if◌then◌else◌}
 use Rattle.ctl_program.specs.declared.types.Ty.TheVariants.{Record}
 use Rattle.ctl_program.specs.declared.types.RecordType.{RecordType}
 use Rattle.ctl_program.specs.declared.types.Root.TheVariants.{Controlled}
@@ -14,9 +14,10 @@ use Rattle.ctl_meaning.specs.Objects.{cells_at}
 use Rattle.ctl_meaning.specs.Changes.{object_at, write_cells, home_of}
 use Rattle.ctl_meaning.specs.Choice.{Ask, picked}
 use Rattle.ctl_meaning.specs.Outcome.{Result, Goes, Leaves, Out, Gives, Stops, Cut, Act, Done, Fine, add, bind, on_goes, ◌>>=◌, ◌>>◌, done, nothing, tell, show, look, change, ticked, told, either, when, on_some, opened_outcome}
-use Rattle.ctl_meaning.specs.Types.{Tables, cells_of, has_controlled, operation}
+use Rattle.ctl_meaning.specs.Types.{Tables, cells_of, has_controlled, of_record, operation, placed}
+use Rattle.ctl_meaning.specs.Types as Types
 use Rattle.ctl_meaning.specs.Names.{Found, OfSubprogram, Returned, Call, Default, Tools, existing, gone, read_found, read_part, same_found, write_found, write_part, opened_names}
-use Rattle.ctl_meaning.specs.Finalization.{Spot, Every, call_operation, after_finalize, finalize, opened_finalization}
+use Rattle.ctl_meaning.specs.Finalization.{Spot, Every, call_operation, component_at, after_finalize, finalize, finalize_part, in_any_order, own_finalize, parts_to_finalize, opened_finalization}
 use Rattle.ctl_meaning.specs.Adjustment.{adjust, opened_adjustment}
 use Rattle.ctl_meaning.specs.Statements.{assign_record as assign_found, overwrite, spot_of as spot_found}
 use Rattle.ctl_code.specs.declared.code.Beginning.TheVariants.{ByCopy}
@@ -28,22 +29,21 @@ use Rattle.ctl_code.specs.States.{Word, Located, Complete, Point, Frame, Assigni
 use Rattle.ctl_code.specs.Valid.{IsDeclarable, outermost}
 use Rattle.ctl_code.specs.Windows.{depth}
 use Rattle.ctl_code.specs.Table as Table
-use Rattle.ctl_code.specs.Table.{is_same_part, operation_of, part_at, size_of, spot_of}
+use Rattle.ctl_code.specs.Table.{controlled_of, is_same_part, operation_of, part_at, size_of, spot_of}
 use Rattle.ctl_code.specs.Steps.{moved, step}
 use Rattle.ctl_layout.specs.Around.{Line}
 use Rattle.ctl_layout.specs.Parts.{Reached, are_selectors, part_code, part_runs}
 use Rattle.ctl_layout.specs.Layout.{record_code, take_over_code}
 use Rattle.ctl_gen.proofs.Known.{IsPlain, IsUntagged}
 use Rattle.ctl_gen.proofs.Worlds.{IfFound, Settled, Since, Kept, object_fits, since_written, no_copy_at, written_there}
-use Rattle.ctl_gen.proofs.Plain.{has_controlled_plain, no_finalize, none_controlled_plain}
-use Rattle.ctl_gen.proofs.Defaults.{GivesDefaults}
+use Rattle.ctl_gen.proofs.Parted.{GivesDefaults}
 use Rattle.ctl_gen.proofs.Setting.{Setting, Calls, Told, enter_shows, first_of, returns, tools_with}
 use Rattle.ctl_gen.proofs.Cells.{by_code, here}
 use Rattle.ctl_gen.proofs.Place.{Laid, laid_front, laid_back}
 use Rattle.ctl_gen.proofs.Parts.{agree_part, content_of, find_by, finds_part, found_at, part_found, part_then, selectors_of, variable_of}
-use Rattle.ctl_gen.proofs.Finalize.{finalize_in, finalize_is, first_in, outermost_scope}
+use Rattle.ctl_gen.proofs.Scopes.{finalize_in, first_in, outermost_scope}
+use Rattle.ctl_gen.proofs.FinalizedParts.{and_true, call_is, keep_same}
 use Rattle.ctl_gen.proofs.Adjust as A
-use Rattle.ctl_gen.proofs.Declare as D
 use Rattle.ctl_gen.proofs.Does.{Does}
 use Rattle.ctl_gen.proofs.Follow.{by_raise, gives, Runs, Target, add_none, added, arrives, at, bind_add, bind_bind, both, lands, last_step, leads, more_halts, more_quits, no_step, stop_step, then_step, within}
 
@@ -52,14 +52,18 @@ not_called : (code : Code) (part : Spot) (t : ℕ) (v : List ℕ) (x : Option Ob
 not_called code part t v None p ks w = refl
 not_called code part t v (Some o) p ks w = refl
 
-module _ (ask : Ask) (k : Tables) (code : Code) (setting : Setting k code) (call : Call) (default : Default) (constants : GivesDefaults k default) (t : ℕ) (r : RecordType) (record_is : slice_get k.records t ≡ Some r) (plain : IsPlain k t r) where
+module _ (ask : Ask) (k : Tables) (code : Code) (setting : Setting k code) (call : Call) (default : Default) (constants : GivesDefaults k default) (t : ℕ) (r : RecordType) (record_is : slice_get k.records t ≡ Some r) (plain : IsPlain k t r) (none : controlled_of code t ≡ []) where
   abbrev K : Tools
   K = tools_with ask k call default
+
+  -- no component of it has a controlled part
+  has_none : A.HasNone k t
+  has_none = A.has_none k code setting default constants t (r, record_is, plain) none
 
   -- What the assignment means ------------------------------------------------------------------------
 
   abbrev settled : Spot → Out Done → Out Done
-  settled part x = A.settled ask k code setting call default t r record_is plain None part x
+  settled part x = A.settled ask k code setting call default t r record_is has_none None part x
 
   -- a part takes a value, and is adjusted
   abbrev taking : Spot → List ℕ → Act Done
@@ -80,19 +84,30 @@ module _ (ask : Ask) (k : Tables) (code : Code) (setting : Setting k code) (call
   abbrev ends : Spot → Event
   ends part = EventOf.Finalize (part_at part) Assign
 
+  none_finalized : (part : Spot) → parts_to_finalize K Every part t ≡ []
+  unfolding opened_finalization
+  none_finalized part = keep_same (λ p. has_controlled k p.ty && true) (λ p. has_controlled k p.ty) (λ p. and_true (has_controlled k p.ty)) (placed k t) ∙ has_none
+
+  finalize_is : r.root ≡ Controlled → (g : Option ℕ) → operation (λ x. x.finalize) k t ≡ g → (part : Spot) (c : ℕ) (l : Log) (w : World) → finalize K Assign Every part t c l w ≡ add 1 (bind (bind (bind (call_operation K part g (ends part) c l w) told) (on_goes (after_finalize Assign))) (on_goes (λ b. done b)))
+  unfolding opened_finalization opened_outcome Types.depth
+  finalize_is controlled g e part c l w =
+      ap (λ ps. add 1 (bind (own_finalize K Assign Every part t c l w) (on_goes (in_any_order K (λ p. of_record (done false) (finalize_part K Assign Every (length k.records) (component_at part p)) p.ty) (length ps) ps)))) (none_finalized part)
+      ∙ ap (λ b. add 1 (bind (either (b && true) (λ c1 l1 w1. bind (bind (call_operation K part (operation (λ x. x.finalize) k t) (ends part) c1 l1 w1) told) (on_goes (after_finalize Assign))) (done false) c l w) (on_goes (λ b1. done b1)))) (A.is_controlled_by k t r record_is controlled)
+      ∙ ap (λ x. add 1 (bind (bind (bind (call_operation K part x (ends part) c l w) told) (on_goes (after_finalize Assign))) (on_goes (λ b. done b)))) e
+
   controlled_is : r.root ≡ Controlled → (g : Option ℕ) → operation (λ x. x.finalize) k t ≡ g → (part : Spot) (v : List ℕ) (c : ℕ) (l : Log) (w : World) → overwrite K t (found_at part) v c l w ≡ bind (finalized (call_operation K part g (ends part) c l w)) (then_takes part v)
   unfolding opened_outcome
   controlled_is controlled g e part v c l w =
       overwrite_is part v c l w
-      ∙ ap (λ b. bind (when b (finalize K Assign Every part t >> nothing) c l w) (then_takes part v)) (has_controlled_plain k t r record_is controlled)
-      ∙ ap (λ x. bind (bind x (on_goes (λ _. nothing))) (then_takes part v)) (finalize_is ask k code setting call default t r record_is plain controlled Assign g e part c l w)
+      ∙ ap (λ b. bind (when b (finalize K Assign Every part t >> nothing) c l w) (then_takes part v)) (A.has_itself k t (A.is_controlled_by k t r record_is controlled))
+      ∙ ap (λ x. bind (bind x (on_goes (λ _. nothing))) (then_takes part v)) (finalize_is controlled g e part c l w)
 
   -- one without a controlled part is not finalized
   untagged_is : IsUntagged r → (part : Spot) (v : List ℕ) (c : ℕ) (l : Log) (w : World) → overwrite K t (found_at part) v c l w ≡ taking part v c l w
   unfolding opened_outcome
   untagged_is untagged part v c l w =
       overwrite_is part v c l w
-      ∙ ap (λ b. bind (when b (finalize K Assign Every part t >> nothing) c l w) (then_takes part v)) (none_controlled_plain k t r record_is plain.components plain.laid untagged)
+      ∙ ap (λ b. bind (when b (finalize K Assign Every part t >> nothing) c l w) (then_takes part v)) (A.has_no_part k t has_none (A.not_controlled_by k t r record_is untagged))
       ∙ add_none (taking part v c l w)
 
   -- What its code does -------------------------------------------------------------------------------
@@ -128,25 +143,25 @@ module _ (ask : Ask) (k : Tables) (code : Code) (setting : Setting k code) (call
     unfolding opened_finalization opened_names opened_outcome opened_adjustment
     adjusts (inr untagged) w0 part e p ks s0 c l w o le fits there first =
         subst (Runs ask code (Kept k code w0) 3 3 s0 c (arrives e p.display p.place ks p.operands))
-        (sym (A.adjust_is ask k code setting call default t r record_is plain None part c l w ∙ A.none_is ask k code setting call default t r record_is plain untagged None part c l w))
+        (sym (A.adjust_is ask k code setting call default t r record_is has_none None part c l w ∙ A.none_is ask k code setting call default t r record_is has_none untagged None part c l w))
         (last_step ask code (Kept k code w0) 3 3 s0 c 0 (arrives e p.display p.place ks p.operands) (Goes tt) l w (omega arith) fits
-        (first ∙ ap (λ f. moved l (Table.adjust_target code f part t (object_at part.object w) p ks w)) (A.not_adjusted ask k code setting call default t r record_is plain untagged) ∙ ap (λ y. moved l (Table.adjust_target code None part t y p ks w)) there))
+        (first ∙ ap (λ f. moved l (Table.adjust_target code f part t (object_at part.object w) p ks w)) (A.not_adjusted ask k code setting call default t r record_is has_none untagged) ∙ ap (λ y. moved l (Table.adjust_target code None part t y p ks w)) there))
     adjusts (inl controlled) w0 part e p ks s0 c l w o le fits there first =
         subst (Runs ask code (Kept k code w0) 3 3 s0 c (arrives e p.display p.place ks p.operands))
-        (sym (A.adjust_is ask k code setting call default t r record_is plain None part c l w ∙ A.own_is ask k code setting call default t r record_is plain controlled None (operation (first_of ByCopy) k t) refl part c l w))
+        (sym (A.adjust_is ask k code setting call default t r record_is has_none None part c l w ∙ A.own_is ask k code setting call default t r record_is has_none controlled None (operation (first_of ByCopy) k t) refl part c l w))
         (by (operation (first_of ByCopy) k t) refl (first ∙ ap (λ f. moved l (Table.adjust_target code f part t (object_at part.object w) p ks w)) named ∙ ap (λ y. moved l (Table.adjust_target code (operation (first_of ByCopy) k t) part t y p ks w)) there))
       where
         named : operation_of (λ x. x.adjust) code t ≡ operation (first_of ByCopy) k t
-        named = A.adjust_named ask k code setting call default t r record_is plain controlled
+        named = A.adjust_named ask k code setting call default t r record_is has_none controlled
 
         by : (g : Option ℕ) → operation (first_of ByCopy) k t ≡ g → step ask code s0 ≡ moved l (Table.adjust_target code g part t (Some o) p ks w) → Runs ask code (Kept k code w0) 3 3 s0 c (arrives e p.display p.place ks p.operands) (settled part (call_operation K part g (EventOf.Adjust (part_at part)) c l w))
         by None op go = subst (λ y. Runs ask code (Kept k code w0) 3 3 s0 c (arrives e p.display p.place ks p.operands) (settled part (add 1 (on_some y gone (λ _. nothing) c l w)))) (sym there) (last_step ask code (Kept k code w0) 3 3 s0 c 1 (arrives e p.display p.place ks p.operands) (Goes tt) l w (omega arith) fits go)
         by (Some f) op go =
             let body = setting.adjust_body t f op in
             let home = subst (IfFound (Settled k code w.ledger.next_master w.activations)) there (object_fits k code part.object w fits.0) in
-            subst (λ x. Runs ask code (Kept k code w0) 3 3 s0 c (arrives e p.display p.place ks p.operands) (settled part x)) (sym (D.call_is ask k code setting call default constants t r record_is plain f part c (EventOf.Adjust (part_at part)) l w o there))
+            subst (λ x. Runs ask code (Kept k code w0) 3 3 s0 c (arrives e p.display p.place ks p.operands) (settled part x)) (sym (call_is ask k call default f part c (EventOf.Adjust (part_at part)) l w o there))
             (adjust_over w0 part e p ks s0 c (call (OfSubprogram f (holding (Binds part.object part.offset part.path) ∷ [])) (home_of o.origin w) c (tell (EventOf.Adjust (part_at part)) l) w)
-            (calls.runs f body.0 body.1 w0 (home_of o.origin w) (holding (Binds part.object part.offset part.path) ∷ []) (Assigning part t None p ∷ ks) c (tell (EventOf.Adjust (part_at part)) l) w s0 le fits (outermost_scope k code w o f home (first_in ByCopy code outermost t f declarable (named ∙ op))) (tt, tt)
+            (calls.runs f body.0 body.1 w0 (home_of o.origin w) (holding (Binds part.object part.offset part.path) ∷ []) (Assigning part t None p ∷ ks) c (tell (EventOf.Adjust (part_at part)) l) w s0 le fits (outermost_scope k code w o f home (first_in ByCopy code setting.valid outermost t f declarable (named ∙ op))) (tt, tt)
             (go ∙ enter_shows (slice_get code.entries.items f) (EventOf.Adjust (part_at part)) (home_of o.origin w) (holding (Binds part.object part.offset part.path) ∷ []) (Assigning part t None p ∷ ks) l w)))
 
     -- a part takes a value, from the step that looks for its object
@@ -169,7 +184,7 @@ module _ (ask : Ask) (k : Tables) (code : Code) (setting : Setting k code) (call
         subst (Runs ask code (Kept k code w0) 6 6 s0 c (arrives e p.display p.place ks p.operands)) (sym (untagged_is untagged part v c l w))
         (within ask code (Kept k code w0) 3 3 6 6 s0 c (arrives e p.display p.place ks p.operands) (taking part v c l w) (omega arith) (omega arith)
         (takes w0 part v e p ks s0 c l w le fits
-        (first ∙ ap (λ f. moved l (Table.finalize_target code f part t v (object_at part.object w) p ks w)) (setting.finalize t ∙ no_finalize k t r record_is plain.components plain.laid untagged)
+        (first ∙ ap (λ f. moved l (Table.finalize_target code f part t v (object_at part.object w) p ks w)) (setting.finalize t ∙ A.operation_at k t r record_is (λ x. x.finalize) ∙ untagged.finalize)
         ∙ ap (moved l) (not_called code part t v (object_at part.object w) p ks w))))
     overwrites (inl controlled) w0 part v e p ks s0 c l w le fits first =
         subst (Runs ask code (Kept k code w0) 6 6 s0 c (arrives e p.display p.place ks p.operands)) (sym (controlled_is controlled (operation (λ x. x.finalize) k t) refl part v c l w))
@@ -192,10 +207,10 @@ module _ (ask : Ask) (k : Tables) (code : Code) (setting : Setting k code) (call
         by (Some f) (Some o) op there go =
             let body = setting.finalize_body t f op in
             let home = subst (IfFound (Settled k code w.ledger.next_master w.activations)) there (object_fits k code part.object w fits.0) in
-            subst goal (sym (D.call_is ask k code setting call default constants t r record_is plain f part c (ends part) l w o there))
+            subst goal (sym (call_is ask k call default f part c (ends part) l w o there))
             (both ask code (Kept k code w0) (Kept k code w0) 3 3 3 3 6 6 s0 c (finalizing e part v p ks) (arrives e p.display p.place ks p.operands) _ (then_takes part v) (omega arith) (omega arith) (omega arith)
             (finalize_over w0 part v e p ks s0 c (call (OfSubprogram f (holding (Binds part.object part.offset part.path) ∷ [])) (home_of o.origin w) c (tell (ends part) l) w)
-            (calls.runs f body.0 body.1 w0 (home_of o.origin w) (holding (Binds part.object part.offset part.path) ∷ []) (Assigning part t (Some v) p ∷ ks) c (tell (ends part) l) w s0 le fits (outermost_scope k code w o f home (finalize_in code outermost t f declarable (setting.finalize t ∙ op))) (tt, tt)
+            (calls.runs f body.0 body.1 w0 (home_of o.origin w) (holding (Binds part.object part.offset part.path) ∷ []) (Assigning part t (Some v) p ∷ ks) c (tell (ends part) l) w s0 le fits (outermost_scope k code w o f home (finalize_in code setting.valid outermost t f declarable (setting.finalize t ∙ op))) (tt, tt)
             (go ∙ ap (λ y. moved l (Table.finalize_target code (Some f) part t v y p ks w)) there ∙ enter_shows (slice_get code.entries.items f) (ends part) (home_of o.origin w) (holding (Binds part.object part.offset part.path) ∷ []) (Assigning part t (Some v) p ∷ ks) l w)))
             then_on)
 

@@ -1,6 +1,6 @@
 -- The default expressions of the components of a type, as the meaning finds them, and what those come to that are constants (3.8).
-use Rattle.std.proofs.Common.{◌≡◌, ℕ, zero, suc, ◌+◌, ◌-◌, List, [], ◌∷◌, ◌++◌, map, Option, Some, None, true, refl, sym, ap, ◌∙◌, subst, arith}
-use Rattle.std.specs.Prelude.{slice_get, is_some, option_map}
+use Rattle.std.proofs.Common.{◌≡◌, ℕ, zero, suc, ◌+◌, ◌-◌, List, [], ◌∷◌, ◌++◌, map, Option, Some, None, refl, sym, ap, ◌∙◌, arith}
+use Rattle.std.specs.Prelude.{slice_get, option_map}
 use Rattle.ctl_program.specs.declared.expression.Expr.{Expr}
 use Rattle.ctl_program.specs.declared.types.Component.{Component}
 use Rattle.ctl_program.specs.declared.types.RecordType.{RecordType}
@@ -12,15 +12,12 @@ use Rattle.ctl_meaning.specs.Names.{Call, gone}
 use Rattle.ctl_meaning.specs.Expressions.{Valued, eval}
 use Rattle.ctl_meaning.specs.Run.{Meaning, row_of, own_defaults, defaults_from, default_at, default_in, expression_tools}
 use Rattle.ctl_code.specs.declared.code.Code.{Code}
-use Rattle.ctl_layout.specs.declared.right.Right.{Right}
-use Rattle.ctl_layout.specs.declared.right.Right.TheVariants as RightOf
-use Rattle.ctl_layout.specs.Values.{value_code}
-use Rattle.ctl_layout.specs.Records.{all_components, component_rows, inherited, none_if_absent, rows_by}
-use Rattle.ctl_layout.specs.Defaults.{constant_by, constant_in, have_constants, may_default}
-use Rattle.ctl_gen.proofs.Known.{both_true}
+use Rattle.ctl_layout.specs.Values.{ValueCode}
+use Rattle.ctl_layout.specs.Records.{all_components, component_rows, constant_in, inherited, none_if_absent, rows_by}
+use Rattle.ctl_layout.proofs.Layers.{constant_is}
 use Rattle.ctl_gen.proofs.Setting.{ArePlaced}
 use Rattle.ctl_gen.proofs.Evaluated.{value_since}
-use Rattle.ctl_gen.proofs.Defaults.{GivesDefaults}
+use Rattle.ctl_gen.proofs.Parted.{GivesDefaults}
 
 -- Rows ------------------------------------------------------------------------------------------
 
@@ -67,16 +64,6 @@ default_of [] i x at = absurd (cc)
 default_of (c ∷ cs) zero x at = let same : c ≡ x = cc at in ap (λ (y : Component). Some (option_map eval y.default)) same
 default_of (c ∷ cs) (suc i) x at = default_of cs i x at
 
-may_at : (records : List RecordType) (cs : List Component) (i : ℕ) (x : Component) → have_constants records cs ≡ true → slice_get cs i ≡ Some x → may_default records (option_map value_code x.default) ≡ true
-may_at records [] i x h at = absurd (cc)
-may_at records (c ∷ cs) zero x h at = let same : c ≡ x = cc at in subst (λ (y : Component). may_default records (option_map value_code y.default) ≡ true) same (both_true _ _ h).0
-may_at records (c ∷ cs) (suc i) x h at = may_at records cs i x (both_true _ _ h).1 at
-
-constant_is : (x : Right) (n : ℕ) → constant_by x ≡ Some n → x ≡ RightOf.Constant n
-constant_is (RightOf.Constant m) n e = let same : m ≡ n = cc e in ap (λ i. RightOf.Constant i) same
-constant_is (RightOf.Variable v) n e = absurd (cc)
-constant_is RightOf.Evaluated n e = absurd (cc)
-
 module _ (ask : Ask) (p : Meaning) (code : Code) (placed : ArePlaced p.tables code) (call : Call) (rows : p.defaults ≡ defaults_from [] p.tables.records) where
   pub gives_defaults : GivesDefaults p.tables (default_in p.defaults (expression_tools ask p call))
   unfolding default_in default_at expression_tools item_or on_some
@@ -84,7 +71,7 @@ module _ (ask : Ask) (p : Meaning) (code : Code) (placed : ArePlaced p.tables co
       ap (λ o. on_some (item_or None (slice_get o (i + 1 - 1))) gone (λ (e : Valued). e (expression_tools ask p call) env) c l w) row
       ∙ (ap (λ j. on_some (item_or None (slice_get (defaults_in plain.components) j)) gone (λ (e : Valued). e (expression_tools ask p call) env) c l w) back
       ∙ (ap (λ o. on_some (item_or None o) gone (λ (e : Valued). e (expression_tools ask p call) env) c l w) (default_of plain.components i x here)
-      ∙ by x.default (may_at p.tables.records plain.components i x plain.constants here) is))
+      ∙ by x.default is))
     where
       row : row_of p.defaults t ≡ defaults_in plain.components
       row = ap (λ z. row_of z t) (rows ∙ all_rows [] p.tables.records) ∙ (row_in (component_rows p.tables.records) t ∙ ap (λ o. defaults_in (none_if_absent o)) plain.laid.has.row)
@@ -92,6 +79,8 @@ module _ (ask : Ask) (p : Meaning) (code : Code) (placed : ArePlaced p.tables co
       back : i + 1 - 1 ≡ i
       back = omega arith
 
-      by : (o : Option Expr) → may_default p.tables.records (option_map value_code o) ≡ true → constant_in (option_map value_code o) ≡ Some n → on_some (option_map eval o) gone (λ (e : Valued). e (expression_tools ask p call) env) c l w ≡ Gives (Goes (n ∷ [])) 1 c l w
-      by None may e = absurd (cc)
-      by (Some y) may e = (value_since ask p.tables code placed call (λ t1 position env1. gone) y (both_true ((value_code y).runs p.tables.records) (is_some (constant_by (value_code y).right)) may).0 w).constant n (constant_is (value_code y).right n e) env c l w
+      by : (o : Option Expr) → constant_in o ≡ Some n → on_some (option_map eval o) gone (λ (e : Valued). e (expression_tools ask p call) env) c l w ≡ Gives (Goes (n ∷ [])) 1 c l w
+      by None e = absurd (cc)
+      by (Some y) e =
+          let code_is = constant_is y n e in
+          (value_since ask p.tables code placed call (λ t1 position env1. gone) y (ap (λ (v : ValueCode). v.runs p.tables.records) code_is) w).constant n (ap (λ (v : ValueCode). v.right) code_is) env c l w

@@ -3,7 +3,6 @@ use Rattle.std.proofs.Common.{◌≡◌, ℕ, ◌<◌, ◌≤◌, List, [], ◌�
 use Rattle.std.specs.Prelude.{slice_get}
 use Rattle.ctl_program.specs.declared.program.Subprogram.{Subprogram}
 use Rattle.ctl_program.specs.declared.types.Ty.TheVariants.{Record}
-use Rattle.ctl_program.specs.declared.types.Component.{Component}
 use Rattle.ctl_program.specs.declared.types.Operations.{Operations}
 use Rattle.ctl_program.specs.declared.types.RecordType.{RecordType}
 use Rattle.ctl_tree.specs.declared.event.Event.{Event}
@@ -20,14 +19,13 @@ use Rattle.ctl_code.specs.declared.code.Instr.TheVariants as InstrOf
 use Rattle.ctl_code.specs.declared.code.Code.{Code}
 use Rattle.ctl_code.specs.declared.kinds.Kind.{Kind}
 use Rattle.ctl_code.specs.States.{Frame, State}
-use Rattle.ctl_code.specs.Table.{defaulted_of, ended, enter_body, offset_of, operation_of, parts_of, size_of}
+use Rattle.ctl_code.specs.Table.{ended, enter_body, offset_of, operation_of, size_of}
 use Rattle.ctl_code.specs.Steps.{moved, step}
 use Rattle.ctl_code.specs.Valid.{IsInScope, IsValid, kinds_at}
 use Rattle.ctl_code.specs.Windows.{depth}
-use Rattle.ctl_layout.specs.Records.{adjust_by, is_laid, parts_by}
-use Rattle.ctl_layout.specs.Defaults.{defaulted_from}
+use Rattle.ctl_layout.specs.Records.{adjust_by, is_laid}
 use Rattle.ctl_layout.specs.Run.{IsBody}
-use Rattle.ctl_gen.proofs.Known.{IsLaid}
+use Rattle.ctl_gen.proofs.Parted.{Agree, GivesDefaults}
 use Rattle.ctl_gen.proofs.Worlds.{Each, HoldsNoCopy, Since, home}
 use Rattle.ctl_gen.proofs.Follow.{IsRaise, Runs, gives}
 
@@ -42,8 +40,7 @@ pub record Setting (k : Tables) (code : Code) : Type 0 where
   pub valid : IsValid code
   pub places : ArePlaced k code
   pub sizes : (t : ℕ) → is_laid k.records t ≡ true → size_of code t ≡ cells_of k (Record t)
-  pub parts : (t : ℕ) (r : RecordType) → slice_get k.records t ≡ Some r → parts_of code t ≡ parts_by r.root
-  pub defaults : (t : ℕ) (cs : List Component) → IsLaid k.records t cs → defaulted_of code t ≡ defaulted_from (cells_of k) 0 cs
+  pub agrees : (default : Default) → GivesDefaults k default → Agree k code default
   pub initialize : (t : ℕ) → operation_of (λ x. x.initialize) code t ≡ operation (λ x. x.initialize) k t
   pub adjust : (t : ℕ) (r : RecordType) → slice_get k.records t ≡ Some r → operation_of (λ x. x.adjust) code t ≡ adjust_by r.root r.operations.adjust
   pub finalize : (t : ℕ) → operation_of (λ x. x.finalize) code t ≡ operation (λ x. x.finalize) k t

@@ -26,7 +26,8 @@ use Rattle.ctl_code.specs.Laws.{IsPrefix, Grows}
 use Rattle.ctl_code.proofs.Logs.{obeys_none, obeys_itself, no_more_than, Stays, steps_obey, grow, stay, meet, ended_stays, agree}
 use Rattle.ctl_layout.specs.Around.{Line}
 use Rattle.ctl_layout.specs.Layout.{HasKinds, IsLaidOut, bodies, body_code, entries_from, entry_at, instructions_of, kinds_of, nowhere, operations_of, program_code}
-use Rattle.ctl_gen.proofs.Layouts.{defaults, parts_are, places, sizes}
+use Rattle.ctl_gen.proofs.Defaults.{agrees}
+use Rattle.ctl_gen.proofs.Layouts.{places, sizes}
 use Rattle.ctl_gen.proofs.Rows.{gives_defaults}
 use Rattle.ctl_layout.specs.Records.{adjust_by}
 use Rattle.ctl_layout.specs.Run.{AreLinked, IsBody, IsRun, IsWritten, are_procedures, is_procedure}
@@ -186,8 +187,7 @@ module _ (program : Checked) (code : Code) (laid : IsLaidOut program code) (kind
     valid = valid;
     places = places (tables_of program) code.layouts.items laid.layouts;
     sizes = sizes (tables_of program) code.layouts.items laid.layouts;
-    parts = parts_are (tables_of program) code.layouts.items laid.layouts;
-    defaults = defaults (tables_of program) code.layouts.items laid.layouts;
+    agrees = agrees (tables_of program) code laid.layouts;
     initialize = λ t. ap (λ xs. Table.operation_in (λ x. x.initialize) (slice_get xs t)) laid.records ∙ initialize_in program.records t;
     adjust = λ t r e. ap (λ xs. Table.operation_in (λ x. x.adjust) (slice_get xs t)) laid.records ∙ adjust_in program.records t r e;
     finalize = λ t. ap (λ xs. Table.operation_in (λ x. x.finalize) (slice_get xs t)) laid.records ∙ finalize_in program.records t;

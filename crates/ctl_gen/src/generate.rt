@@ -1,18 +1,22 @@
 //! The code of a whole program.
 
-ghost use Rattle.std.specs.Prelude.{◌≡◌, ◌⊎◌, ◌+◌, ◌++◌, [], ◌∷◌, IfErr, IfOk, OnOk, length};
+ghost use Rattle.std.specs.Prelude.{◌≡◌, ◌⊎◌, ◌+◌, ◌++◌, [], ◌∷◌, IfErr, IfOk, OnOk, length, slice_get};
 ghost use Rattle.ctl_tree.specs.declared.fault.FaultCode.TheVariants.{LeftOut, Memory};
 ghost use Rattle.ctl_well_typed.specs.Programs.{WellTyped};
 ghost use Rattle.ctl_gen.specs.Correct.{Behaves};
 ghost use Rattle.ctl_layout.specs.Run.{AreLinked, IsRun};
-ghost use Rattle.ctl_code.specs.Table.{defaulted_in, size_in};
-ghost use Rattle.ctl_layout.specs.Defaults.{constant_of, defaulted_before};
+ghost use Rattle.ctl_meaning.specs.Types.{total};
+ghost use Rattle.ctl_code.specs.Table.{begun_in, size_in};
+ghost use Rattle.ctl_code.specs.Valid as valid;
+ghost use Rattle.ctl_layout.specs.Defaults as starts;
+ghost use Rattle.ctl_layout.specs.Defaults.{begun_before, begun_from, finalized_by};
 ghost use Rattle.ctl_layout.specs.Records as types;
+ghost use Rattle.ctl_layout.specs.Records.{constant_of};
 ghost use Rattle.ctl_layout.specs.Layout as spec;
 ghost use Rattle.ctl_layout.specs.Layout.{AreLayouts, HasKinds, IsLaidOut, IsLayout, entry_at, operations_of};
 
 use crate::emit::Emitter;
-use ctl_code::code::{Code, Defaulted, Entry, Instr, Layout, Operations, Parts};
+use ctl_code::code::{Begun, Code, Entry, Initial, Instr, Layout, Operations, Parts};
 use ctl_code::valid::ValidCode;
 use ctl_layout::right::constant;
 use ctl_program::program::{Checked, Subprogram};
@@ -127,17 +131,6 @@ fn default_of(component: &Component) -> Option<u64>
     }
 }
 
-/// Tells whether the objects of a type that is laid out have a controlled part: where it is tagged, they are controlled themselves
-/// (RM 7.6).
-fn parts_by(root: Root) -> Parts
-    ensures { result ≡ types.parts_by root }
-{
-    match root {
-        Root::Untagged => Parts::Plain,
-        Root::Controlled | Root::BlockPool | Root::MarkPool => Parts::Controlled,
-    }
-}
-
 /// Counts the cells of a value of a type: one, or those of a record type, of which there is one of these layouts.
 fn cells_by(layouts: &[Layout], ty: Ty) -> usize
     ensures { result ≡ spec.cells_by layouts.now ty }
@@ -151,68 +144,178 @@ fn cells_by(layouts: &[Layout], ty: Ty) -> usize
     }
 }
 
-/// Gives a layout of such parts without components.
-fn without_components(alloc: Global, parts: Parts) -> Layout
-    ensures parts { result.parts ≡ parts }
+/// Tells whether there is a controlled part (RM 7.6).
+fn has_part(parts: Parts) -> bool
+    ensures { result ≡ valid.has_part parts }
+{
+    !matches!(parts, Parts::Plain)
+}
+
+/// Tells whether something begins in the objects of the record type of this number, where it has one of these layouts.
+fn is_begun(layouts: &[Layout], number: usize) -> bool
+    ensures { result ≡ starts.is_begun (slice_get layouts.now number) }
+{
+    match layouts.get(number) {
+        Some(layout) => has_part(layout.parts) || !layout.begun.as_slice().is_empty(),
+        None => false,
+    }
+}
+
+/// Answers how a component of a type without a default begins: by its own record type, or with nothing (RM 3.8).
+fn by_type(layouts: &[Layout], ty: Ty) -> Option<Initial>
+    ensures { result ≡ starts.by_type layouts.now ty }
+{
+    match ty {
+        Ty::Record(number) if is_begun(layouts, number) => Some(Initial::ByType(number)),
+        _ => None,
+    }
+}
+
+/// Answers how a component begins, if it begins with something (RM 3.8).
+fn initial_of(layouts: &[Layout], component: &Component) -> Option<Initial>
+    ensures { result ≡ starts.initial_of layouts.now component.now }
+{
+    match default_of(component) {
+        Some(value) => Some(Initial::Constant(value)),
+        None => by_type(layouts, component.ty),
+    }
+}
+
+/// Tells whether what begins so has a controlled part (RM 7.6.1).
+fn is_finalized(layouts: &[Layout], initial: Initial) -> bool
+    ensures { result ≡ starts.is_finalized_by layouts.now initial }
+{
+    let Initial::ByType(number) = initial else {
+        return false;
+    };
+    match layouts.get(number) {
+        Some(layout) => has_part(layout.parts),
+        None => false,
+    }
+}
+
+/// Tells those components apart that have a controlled part (RM 7.6.1).
+#[tactic(auto, unfolding(ctl_meaning::specs::Lists::keep))]
+fn finalized_of(
+    alloc: Global,
+    layouts: &[Layout],
+    begun: &[Begun],
+) -> Result<Vec<Begun>, AllocError>
+    ensures { IfOk result (λ all. all.items ≡ finalized_by layouts.now begun.now) }
+{
+    let mut all = Vec::new(alloc);
+    for component in begun {
+        if is_finalized(layouts, component.initial) {
+            all.push(*component)?;
+        }
+    }
+    Ok(all)
+}
+
+/// Answers whether the objects of a type are finalized, of whose components these have a controlled part: where it is tagged, they are
+/// controlled themselves (RM 7.6).
+fn parts_by(root: Root, controlled: &[Begun]) -> Parts
+    ensures { result ≡ starts.parts_by root controlled.now }
+{
+    match root {
+        Root::Untagged if controlled.is_empty() => Parts::Plain,
+        Root::Untagged => Parts::Within,
+        Root::Controlled | Root::BlockPool | Root::MarkPool => Parts::Controlled,
+    }
+}
+
+/// Gives a layout without components, for a type that is declared in so many masters.
+fn without_components(alloc: Global, level: usize) -> Layout
+    ensures level { result.level ≡ level }
     ensures cells { result.cells ≡ 0 }
     ensures offsets { result.offsets.items ≡ [] }
-    ensures defaulted { result.defaulted.items ≡ [] }
+    ensures begun { result.begun.items ≡ [] }
 {
     Layout {
-        parts,
+        parts: Parts::Plain,
+        level,
         cells: 0,
         offsets: Vec::new(alloc),
-        defaulted: Vec::new(alloc),
+        begun: Vec::new(alloc),
+        controlled: Vec::new(alloc),
     }
 }
 
 /// Gives what a type inherits from its parent, where one of these layouts is the parent's (RM 3.9.1).
 fn inherited(alloc: Global, layouts: &[Layout], entry: &RecordType) -> Result<Layout, AllocError>
-    ensures parts { IfOk result (λ x. x.parts ≡ types.parts_by entry.now.root) }
+    ensures level { IfOk result (λ x. x.level ≡ entry.now.level) }
     ensures cells { IfOk result (λ x. x.cells ≡ size_in (spec.parent_layout layouts.now entry.now.parent)) }
     ensures offsets { IfOk result (λ x. x.offsets.items ≡ spec.offsets_in (spec.parent_layout layouts.now entry.now.parent)) }
-    ensures defaulted { IfOk result (λ x. x.defaulted.items ≡ defaulted_in (spec.parent_layout layouts.now entry.now.parent)) }
+    ensures begun { IfOk result (λ x. x.begun.items ≡ begun_in (spec.parent_layout layouts.now entry.now.parent)) }
 {
-    let parts = parts_by(entry.root);
     let Some(number) = entry.parent else {
-        return Ok(without_components(alloc, parts));
+        return Ok(without_components(alloc, entry.level));
     };
     match layouts.get(number) {
         Some(layout) => Ok(Layout {
-            parts,
+            parts: layout.parts,
+            level: entry.level,
             cells: layout.cells,
             offsets: layout.offsets.clone()?,
-            defaulted: layout.defaulted.clone()?,
+            begun: layout.begun.clone()?,
+            controlled: Vec::new(alloc),
         }),
-        None => Ok(without_components(alloc, parts)),
+        None => Ok(without_components(alloc, entry.level)),
     }
 }
 
 /// Puts a component behind those of a layout, of so many cells. No memory has more cells than there are numbers for them.
-fn add_component(layout: &mut Layout, component: &Component, cells: usize) -> Result<(), AllocError>
-    ensures parts { OnOk result (layout.new.parts ≡ layout.old.parts) }
+fn add_component(
+    layout: &mut Layout,
+    cells: usize,
+    initial: Option<Initial>,
+) -> Result<(), AllocError>
+    ensures level { OnOk result (layout.new.level ≡ layout.old.level) }
     ensures cells { OnOk result (layout.new.cells ≡ layout.old.cells + cells) }
     ensures offsets { OnOk result (layout.new.offsets.items ≡ layout.old.offsets.items ++ layout.old.cells ∷ []) }
-    ensures defaulted { OnOk result (layout.new.defaulted.items ≡ layout.old.defaulted.items ++ defaulted_before layout.old.cells (constant_of component.now) []) }
+    ensures begun { OnOk result (layout.new.begun.items ≡ layout.old.begun.items ++ begun_before (length layout.old.offsets.items + 1) layout.old.cells initial []) }
 {
     let offset = layout.cells;
     layout.offsets.push(offset)?;
-    if let Some(value) = default_of(component) {
-        layout.defaulted.push(Defaulted { offset, value })?;
+    if let Some(initial) = initial {
+        let position = layout.offsets.len();
+        layout.begun.push(Begun {
+            position,
+            offset,
+            initial,
+        })?;
     }
     layout.cells = offset.checked_add(cells).ok_or(AllocError)?;
     Ok(())
+}
+
+/// Puts the components that a record type adds behind those that it inherits (RM 3.8, 3.9.1).
+fn components_of(
+    alloc: Global,
+    layouts: &[Layout],
+    entry: &RecordType,
+) -> Result<Layout, AllocError>
+    ensures level { IfOk result (λ x. x.level ≡ entry.now.level) }
+    ensures cells { IfOk result (λ x. x.cells ≡ size_in (spec.parent_layout layouts.now entry.now.parent) + total (spec.cells_by layouts.now) entry.now.own) }
+    ensures offsets { IfOk result (λ x. x.offsets.items ≡ spec.offsets_in (spec.parent_layout layouts.now entry.now.parent) ++ spec.offsets_from (spec.cells_by layouts.now) (size_in (spec.parent_layout layouts.now entry.now.parent)) entry.now.own) }
+    ensures begun { IfOk result (λ x. x.begun.items ≡ begun_in (spec.parent_layout layouts.now entry.now.parent) ++ begun_from layouts.now (spec.cells_by layouts.now) (spec.next_position (spec.parent_layout layouts.now entry.now.parent)) (size_in (spec.parent_layout layouts.now entry.now.parent)) entry.now.own) }
+{
+    let mut layout = inherited(alloc, layouts, entry)?;
+    for component in entry.own.as_slice() {
+        let cells = cells_by(layouts, component.ty);
+        let initial = initial_of(layouts, component);
+        add_component(&mut layout, cells, initial)?;
+    }
+    Ok(layout)
 }
 
 /// Gives the layout of a record type, where the types that stand before have these (RM 3.8, 3.9.1).
 fn layout_of(alloc: Global, layouts: &[Layout], entry: &RecordType) -> Result<Layout, AllocError>
     ensures { IfOk result (λ layout. IsLayout layouts.now entry.now layout) }
 {
-    let mut layout = inherited(alloc, layouts, entry)?;
-    for component in entry.own.as_slice() {
-        let cells = cells_by(layouts, component.ty);
-        add_component(&mut layout, component, cells)?;
-    }
+    let mut layout = components_of(alloc, layouts, entry)?;
+    layout.controlled = finalized_of(alloc, layouts, layout.begun.as_slice())?;
+    layout.parts = parts_by(entry.root, layout.controlled.as_slice());
     Ok(layout)
 }
 

@@ -1,12 +1,11 @@
 -- The components of types that extend others: what the meaning finds is the row of the table, the inherited ones first (3.9.1).
-use Rattle.std.proofs.Common.{◌≡◌, ℕ, zero, suc, ◌+◌, ◌<◌, List, [], ◌∷◌, ◌++◌, length, Option, Some, None, Bool, true, false, refl, sym, ap, ◌∙◌, arith, length-append}
-use Rattle.std.specs.Prelude.{slice_get, nat_lt, ◌&&◌}
-use Rattle.std.proofs.lemmas.Bool.{lt-ltb, ltb-true}
+use Rattle.std.proofs.Common.{◌≡◌, ℕ, zero, suc, ◌+◌, ◌<◌, List, [], ◌∷◌, ◌++◌, length, Some, None, Bool, true, false, refl, sym, ap, ◌∙◌, arith, length-append}
+use Rattle.std.specs.Prelude.{slice_get, ◌&&◌}
 use Rattle.std.proofs.lemmas.Option.{slice_get_within}
 use Rattle.ctl_program.specs.declared.types.Component.{Component}
 use Rattle.ctl_program.specs.declared.types.RecordType.{RecordType}
 use Rattle.ctl_meaning.specs.Types.{components, with_own, of_parent}
-use Rattle.ctl_layout.specs.Records.{all_components, component_rows, each_extension, holds_before, holds_in, holds_within, inherited, none_if_absent, rows_by}
+use Rattle.ctl_layout.specs.Records.{all_components, component_rows, inherited, none_if_absent, rows_by}
 
 -- both hold where their conjunction does
 pub both_true : (a b : Bool) → (a && b) ≡ true → (a ≡ true) × (b ≡ true)
@@ -99,69 +98,6 @@ pub extends_one : (records : List RecordType) (t : ℕ) (r : RecordType) (q : �
 unfolding of_parent
 extends_one records t r q cs at is less has =
     inherits records t r cs at (λ m lt. ap (of_parent [] (components m records)) is ∙ has.found m (omega (arith, lt, less))) (λ rows same. ap (inherited rows) is ∙ ap none_if_absent (sym (same q less) ∙ has.row))
-
--- what holds of what a type adds and of what it inherits holds of all of its components
-module _ (p : List Component → Bool) (Q : List Component → Type 0) (each : (cs : List Component) → p cs ≡ true → Q cs) (none : Q []) (both : (xs ys : List Component) → Q xs → Q ys → Q (xs ++ ys)) (records : List RecordType) where
-  abbrev Extends : ℕ → Type 0
-  Extends t = (cs : List Component) × HasComponents records t cs × Q cs
-
-  extended : (n t : ℕ) (r : RecordType) (o : Option ℕ) → r.parent ≡ o → slice_get records t ≡ Some r → Q r.own → ((q : ℕ) → holds_within p n records q ≡ true → Extends q) → holds_before (holds_within p n records) t o ≡ true → Extends t
-  extended n t r None is at own before e = (r.own, extends_none records t r at is, own)
-  extended n t r (Some q) is at own before e =
-      let h = both_true (nat_lt q t) (holds_within p n records q) e in
-      let x = before q h.1 in
-      (x.0 ++ r.own, extends_one records t r q x.0 at is (ltb-true q t h.0) x.1, both x.0 r.own x.2 own)
-
-  extends_within : (n t : ℕ) → holds_within p n records t ≡ true → Extends t
-  extends_within zero t e = absurd (cc)
-  extends_within (suc n) t e = by (λ q e1. extends_within n q e1) (slice_get records t) refl e
-    where
-      by : ((q : ℕ) → holds_within p n records q ≡ true → Extends q) → (o : Option RecordType) → slice_get records t ≡ o → holds_in p (holds_within p n records) t o ≡ true → Extends t
-      by before None at e1 = absurd (cc)
-      by before (Some r) at e1 =
-          let h = both_true (p r.own) (holds_before (holds_within p n records) t r.parent) e1 in
-          extended n t r r.parent refl at (each r.own h.0) before h.1
-
-  pub extends_all : (t : ℕ) → each_extension p records t ≡ true → Extends t
-  extends_all t e = extends_within (suc t) t e
-
--- so many types are enough
-pub holds_enough : (p : List Component → Bool) (records : List RecordType) (n m t : ℕ) → t < n → t < m → holds_within p n records t ≡ holds_within p m records t
-holds_enough p records zero m t lt less = absurd (omega (arith, lt))
-holds_enough p records (suc n) zero t lt less = absurd (omega (arith, less))
-holds_enough p records (suc n) (suc m) t lt less = by (λ q first. holds_enough p records n m q (omega (arith, first, lt)) (omega (arith, first, less))) (slice_get records t)
-  where
-    step : (q : ℕ) → (q < t → holds_within p n records q ≡ holds_within p m records q) → (b : Bool) → nat_lt q t ≡ b → (b && holds_within p n records q) ≡ (b && holds_within p m records q)
-    step q same false e = refl
-    step q same true e = same (ltb-true q t e)
-
-    parent : ((q : ℕ) → q < t → holds_within p n records q ≡ holds_within p m records q) → (o : Option ℕ) → holds_before (holds_within p n records) t o ≡ holds_before (holds_within p m records) t o
-    parent same None = refl
-    parent same (Some q) = step q (same q) (nat_lt q t) refl
-
-    by : ((q : ℕ) → q < t → holds_within p n records q ≡ holds_within p m records q) → (o : Option RecordType) → holds_in p (holds_within p n records) t o ≡ holds_in p (holds_within p m records) t o
-    by same None = refl
-    by same (Some r) = ap (λ b. p r.own && b) (parent same r.parent)
-
--- what is asked of a type is asked of the one that it extends, and of none where it extends none
-module _ (p : List Component → Bool) (records : List RecordType) (t : ℕ) where
-  pub asks_parent : (r : RecordType) (q : ℕ) → slice_get records t ≡ Some r → p r.own ≡ true → r.parent ≡ Some q → q < t → holds_within p (suc q) records q ≡ each_extension p records t
-  asks_parent r q at own parent lt =
-      holds_enough p records (suc q) t q (omega arith) lt
-      ∙ (ap (λ b. b && holds_within p t records q) (sym (lt-ltb q t lt))
-      ∙ (ap (holds_before (holds_within p t records) t) (sym parent)
-      ∙ (ap (λ b. b && holds_before (holds_within p t records) t r.parent) (sym own)
-      ∙ ap (holds_in p (holds_within p t records) t) (sym at))))
-
-  pub asks_none_behind : (r : RecordType) (q : ℕ) → slice_get records t ≡ Some r → p r.own ≡ true → r.parent ≡ Some q → nat_lt q t ≡ false → each_extension p records t ≡ false
-  asks_none_behind r q at own parent less =
-      ap (holds_in p (holds_within p t records) t) at
-      ∙ (ap (λ b. b && holds_before (holds_within p t records) t r.parent) own
-      ∙ (ap (holds_before (holds_within p t records) t) parent
-      ∙ ap (λ b. b && holds_within p t records q) less))
-
-  pub asks_no_type : slice_get records t ≡ None → each_extension p records t ≡ false
-  asks_no_type at = ap (holds_in p (holds_within p t records) t) at
 
 -- a type has its components alone
 pub same_components : (records : List RecordType) (t : ℕ) (xs ys : List Component) → HasComponents records t xs → HasComponents records t ys → xs ≡ ys

@@ -1,44 +1,25 @@
--- The record types whose objects this version declares, and those whose objects it assigns to; the defaults of their components: constants,
--- which stand in the layout (3.8).
-use Rattle.std.specs.Prelude.{ℕ, ◌+◌, List, [], ◌∷◌, slice_get, option_map, Option, Some, None, Bool, true, false, is_some, ◌&&◌, nat_le}
+-- The types of the objects that this version declares, and of those that it assigns to; which components default initialization begins, and
+-- which of those have a controlled part (3.8, 7.6).
+use Rattle.std.specs.Prelude.{ℕ, ◌+◌, List, [], ◌∷◌, slice_get, Option, Some, None, Bool, true, false, not, ◌&&◌, ◌||◌, nat_le}
 use Rattle.ctl_program.specs.declared.types.Ty.{Ty}
 use Rattle.ctl_program.specs.declared.types.Ty.TheVariants.{Record}
 use Rattle.ctl_program.specs.declared.types.Component.{Component}
 use Rattle.ctl_program.specs.declared.types.RecordType.{RecordType}
-use Rattle.ctl_code.specs.declared.code.Defaulted.{Defaulted}
-use Rattle.ctl_code.specs.Valid.{outermost}
-use Rattle.ctl_layout.specs.declared.right.Right.{Right}
-use Rattle.ctl_layout.specs.declared.right.Right.TheVariants as RightOf
-use Rattle.ctl_layout.specs.Values.{ValueCode, value_code}
-use Rattle.ctl_layout.specs.Records.{each_extension, has_root_run, is_laid, is_run_type}
+use Rattle.ctl_program.specs.declared.types.Root.{Root}
+use Rattle.ctl_program.specs.declared.types.Root.TheVariants.{Untagged}
+use Rattle.ctl_meaning.specs.Lists.{keep}
+use Rattle.ctl_code.specs.declared.code.Begun.{Begun}
+use Rattle.ctl_code.specs.declared.code.Initial.{Initial}
+use Rattle.ctl_code.specs.declared.code.Initial.TheVariants.{Constant, ByType}
+use Rattle.ctl_code.specs.declared.code.Layout.{Layout}
+use Rattle.ctl_code.specs.declared.code.Parts.{Parts}
+use Rattle.ctl_code.specs.declared.code.Parts.TheVariants as PartsOf
+use Rattle.ctl_code.specs.Table.{parts_in}
+use Rattle.ctl_code.specs.Valid.{has_part, outermost}
+pub use Rattle.ctl_layout.specs.Records.{constant_of, have_constants, is_plain}
+use Rattle.ctl_layout.specs.Records.{is_run_type, is_whole}
 
--- the constant that an expression is, if it is one
-abbrev pub constant_by : Right → Option ℕ
-constant_by (RightOf.Constant n) = Some n
-constant_by _ = None
-
-abbrev pub constant_in : Option ValueCode → Option ℕ
-constant_in None = None
-constant_in (Some x) = constant_by x.right
-
--- the constant that is the default of a component
-abbrev pub constant_of : Component → Option ℕ
-constant_of c = constant_in (option_map value_code c.default)
-
--- no default, or a constant
-abbrev pub may_default : List RecordType → Option ValueCode → Bool
-may_default records None = true
-may_default records (Some x) = x.runs records && is_some (constant_by x.right)
-
-abbrev pub have_constants : List RecordType → List Component → Bool
-have_constants records [] = true
-have_constants records (c ∷ cs) = may_default records (option_map value_code c.default) && have_constants records cs
-
--- such a type that is laid out, where the defaults of its components, inherited ones too, are constants
-abbrev pub is_plain : List RecordType → ℕ → Bool
-is_plain records t = has_root_run (slice_get records t) && (is_laid records t && each_extension (have_constants records) records t)
-
--- such a type of the table, or a scalar one
+-- a type of the table whose objects are declared, or a scalar one
 abbrev pub is_declared : List RecordType → Ty → Bool
 is_declared records (Record t) = is_plain records t
 is_declared records ty = is_run_type ty
@@ -48,15 +29,64 @@ abbrev pub is_outermost : Option RecordType → Bool
 is_outermost None = false
 is_outermost (Some r) = nat_le r.level outermost
 
--- one of them whose objects are declared: an object of it takes the value of another one as a whole (5.2)
+-- one of them whose objects are copied: an object of it takes the value of another one as a whole (5.2)
 abbrev pub is_assignable : List RecordType → ℕ → Bool
-is_assignable records t = is_plain records t && is_outermost (slice_get records t)
+is_assignable records t = is_whole records t && is_outermost (slice_get records t)
 
--- the components of these that have defaults, where the first has this cell, and the values of each type so many
-abbrev pub defaulted_before : ℕ → Option ℕ → List Defaulted → List Defaulted
-defaulted_before offset None rest = rest
-defaulted_before offset (Some n) rest = (record { offset = offset; value = n }) ∷ rest
+-- Components that begin with something (3.8, 7.6) -------------------------------------------------
 
-abbrev pub defaulted_from : (Ty → ℕ) → ℕ → List Component → List Defaulted
-defaulted_from cells offset [] = []
-defaulted_from cells offset (c ∷ cs) = defaulted_before offset (constant_of c) (defaulted_from cells (offset + cells c.ty) cs)
+abbrev pub are_none : List Begun → Bool
+are_none [] = true
+are_none (x ∷ xs) = false
+
+-- whether something begins in the objects of a record type that has this layout: a component of it does, or a part is controlled
+abbrev pub is_begun : Option Layout → Bool
+is_begun None = false
+is_begun (Some x) = has_part x.parts || not (are_none x.begun.items)
+
+abbrev pub type_if : ℕ → Bool → Option Initial
+type_if t true = Some (ByType t)
+type_if t false = None
+
+-- by its own record type, where something begins in that and it has one of these layouts
+abbrev pub by_type : List Layout → Ty → Option Initial
+by_type layouts (Record t) = type_if t (is_begun (slice_get layouts t))
+by_type layouts ty = None
+
+-- how a component begins: with its default, or else by its type (3.8); most begin with nothing
+abbrev pub initial_by : Option ℕ → Option Initial → Option Initial
+initial_by (Some n) other = Some (Constant n)
+initial_by None other = other
+
+abbrev pub initial_of : List Layout → Component → Option Initial
+initial_of layouts c = initial_by (constant_of c) (by_type layouts c.ty)
+
+abbrev pub begun_before : ℕ → ℕ → Option Initial → List Begun → List Begun
+begun_before position offset None rest = rest
+begun_before position offset (Some x) rest = (record { position = position; offset = offset; initial = x }) ∷ rest
+
+-- those of these components that begin with something, where the first has this position and this cell, and the values of each type have so
+-- many
+abbrev pub begun_from : List Layout → (Ty → ℕ) → ℕ → ℕ → List Component → List Begun
+begun_from layouts cells position offset [] = []
+begun_from layouts cells position offset (c ∷ cs) = begun_before position offset (initial_of layouts c) (begun_from layouts cells (position + 1) (offset + cells c.ty) cs)
+
+-- Components with a controlled part (7.6, 7.6.1) --------------------------------------------------
+
+-- whether what begins so has a controlled part, where the types that stand before have these layouts
+abbrev pub is_finalized_by : List Layout → Initial → Bool
+is_finalized_by layouts (Constant n) = false
+is_finalized_by layouts (ByType t) = has_part (parts_in (slice_get layouts t))
+
+abbrev pub finalized_by : List Layout → List Begun → List Begun
+finalized_by layouts xs = keep (λ x. is_finalized_by layouts x.initial) xs
+
+abbrev pub parts_with : List Begun → Parts
+parts_with [] = PartsOf.Plain
+parts_with (x ∷ xs) = PartsOf.Within
+
+-- whether the objects of a type are finalized, of whose components these have a controlled part: where it is tagged, they are controlled
+-- themselves (7.6)
+abbrev pub parts_by : Root → List Begun → Parts
+parts_by Untagged controlled = parts_with controlled
+parts_by _ controlled = PartsOf.Controlled

@@ -1,17 +1,24 @@
-//! Which record types this version lays out (RM 3.8, 3.9.1): found once for the whole table, from the first type to the last.
+//! Which record types this version lays out (RM 3.8, 3.9.1), and the objects of which it declares and copies (RM 7.6): found once for the whole
+//! table, from the first type to the last.
 
 ghost use Rattle.std.specs.Prelude.{◌≡◌, List, IfOk, slice_get};
 ghost use Rattle.ctl_layout.specs.Records as types;
 
+use crate::right::constant;
+use ctl_program::expression::Expr;
 use ctl_program::types::{Component, RecordType, Root, Ty};
 use std::alloc::{AllocError, Global};
 
 /// What a record type consists of.
 #[derive(Clone, Copy)]
 pub enum Form {
-    /// It is not tagged, extends none, and nothing in it takes a default, at any depth. So it may be the type of a component.
-    Bare,
-    /// Its components, inherited ones too, are scalar or of bare types.
+    /// Its objects are declared, and no part of them is controlled.
+    Uncontrolled,
+    /// Its objects are declared, and controlled; no component of them has a controlled part.
+    Controlled,
+    /// Its objects are declared, and some component of them has a controlled part.
+    Holding,
+    /// Its components, inherited ones too, are scalar, or of types whose objects are declared.
     Laid,
     Other,
 }
@@ -31,106 +38,182 @@ pub(crate) fn is_run_type(ty: Ty) -> bool
     matches!(ty, Ty::Integer | Ty::Boolean)
 }
 
-/// Tells whether the type of this number is bare.
-fn is_bare_form(forms: &[Form], number: usize) -> bool
-    ensures { result ≡ types.is_bare_form (slice_get forms.now number) }
+/// Tells whether a component has no default, or a constant (RM 3.8).
+fn may_default(component: &Component) -> bool
+    ensures { result ≡ types.may_default component.now }
 {
-    match forms.get(number) {
-        Some(form) => matches!(form, Form::Bare),
-        None => false,
-    }
-}
-
-/// Tells whether the type of this number is laid out.
-fn is_laid_form(forms: &[Form], number: usize) -> bool
-    ensures { result ≡ types.is_laid_form (slice_get forms.now number) }
-{
-    match forms.get(number) {
-        Some(form) => matches!(form, Form::Bare | Form::Laid),
-        None => false,
-    }
-}
-
-/// Tells whether a type is scalar and run, or bare.
-fn is_part(forms: &[Form], ty: Ty) -> bool
-    ensures { result ≡ types.is_part forms.now ty }
-{
-    match ty {
-        Ty::Record(number) => is_bare_form(forms, number),
-        _ => is_run_type(ty),
-    }
-}
-
-/// Tells whether a bare type may have this component.
-fn is_bare_part(forms: &[Form], component: &Component) -> bool
-    ensures { result ≡ types.is_bare_part forms.now component.now }
-{
-    is_part(forms, component.ty) && component.default.is_none()
-}
-
-/// Tells whether a bare type may have these components.
-fn are_bare(forms: &[Form], components: &[Component]) -> bool
-    ensures { result ≡ types.are_bare forms.now components.now }
-{
-    for component in components {
-        if !is_bare_part(forms, component) {
-            return false;
-        }
-    }
-    true
-}
-
-/// Tells whether a type that is laid out may have this component.
-fn is_laid_part(forms: &[Form], component: &Component) -> bool
-    ensures { result ≡ types.is_laid_part forms.now component.now }
-{
-    is_run_type(component.ty) || is_bare_part(forms, component)
-}
-
-/// Tells whether a type that is laid out may have these components.
-fn are_laid(forms: &[Form], components: &[Component]) -> bool
-    ensures { result ≡ types.are_laid forms.now components.now }
-{
-    for component in components {
-        if !is_laid_part(forms, component) {
-            return false;
-        }
-    }
-    true
-}
-
-/// Tells whether a type is bare, where the types that stand before have these forms.
-fn is_bare_by(forms: &[Form], entry: &RecordType) -> bool
-    ensures { result ≡ types.is_bare_by forms.now entry.now }
-{
-    matches!(entry.root, Root::Untagged)
-        && entry.parent.is_none()
-        && are_bare(forms, entry.own.as_slice())
-}
-
-/// Tells whether a type extends none, or one that is laid out (RM 3.9.1).
-fn extends_laid(forms: &[Form], parent: Option<usize>) -> bool
-    ensures { result ≡ types.extends_laid forms.now parent }
-{
-    match parent {
-        Some(number) => is_laid_form(forms, number),
+    match &component.default {
+        Some(default) => constant(default).is_some(),
         None => true,
     }
 }
 
-/// Tells whether a type is laid out, where the types that stand before have these forms.
+/// Tells whether the defaults of these components are constants.
+fn have_constants(components: &[Component]) -> bool
+    ensures { result ≡ types.have_constants components.now }
+{
+    for component in components {
+        if !may_default(component) {
+            return false;
+        }
+    }
+    true
+}
+
+/// Tells whether a type descends from Controlled or Limited_Controlled (RM 7.6), or is not tagged and has none of their operations.
+fn is_root_run(entry: &RecordType) -> bool
+    ensures { result ≡ types.is_root_run entry.now.root entry.now.operations }
+{
+    match entry.root {
+        Root::Controlled => true,
+        Root::Untagged => {
+            entry.operations.initialize.is_none() && entry.operations.finalize.is_none()
+        }
+        Root::BlockPool | Root::MarkPool => false,
+    }
+}
+
+/// Tells whether the components of the type of this number are run.
+fn is_laid_form(forms: &[Form], number: usize) -> bool
+    ensures { result ≡ types.is_laid_form (slice_get forms.now number) }
+{
+    match forms.get(number) {
+        Some(form) => !matches!(form, Form::Other),
+        None => false,
+    }
+}
+
+/// Tells whether the objects of the type of this number are run.
+fn is_plain_form(forms: &[Form], number: usize) -> bool
+    ensures { result ≡ types.is_plain_form (slice_get forms.now number) }
+{
+    match forms.get(number) {
+        Some(form) => matches!(form, Form::Uncontrolled | Form::Controlled | Form::Holding),
+        None => false,
+    }
+}
+
+/// Tells whether the objects of the type of this number are run, and no component of them has a controlled part.
+fn is_whole_form(forms: &[Form], number: usize) -> bool
+    ensures { result ≡ types.is_whole_form (slice_get forms.now number) }
+{
+    match forms.get(number) {
+        Some(form) => matches!(form, Form::Uncontrolled | Form::Controlled),
+        None => false,
+    }
+}
+
+/// Tells whether the objects of the type of this number are run, and no part of them is controlled.
+fn is_uncontrolled_form(forms: &[Form], number: usize) -> bool
+    ensures { result ≡ types.is_uncontrolled_form (slice_get forms.now number) }
+{
+    match forms.get(number) {
+        Some(form) => matches!(form, Form::Uncontrolled),
+        None => false,
+    }
+}
+
+/// Tells whether a component of this type and with this default is run: of a scalar type, or of a record type that is declared, without a
+/// default.
+fn is_part(forms: &[Form], ty: Ty, default: &Option<Expr>) -> bool
+    ensures { result ≡ types.is_part forms.now ty default.now }
+{
+    match ty {
+        Ty::Record(number) => is_plain_form(forms, number) && default.is_none(),
+        _ => is_run_type(ty),
+    }
+}
+
+/// Tells whether components are run.
+fn are_parts(forms: &[Form], components: &[Component]) -> bool
+    ensures { result ≡ types.are_parts forms.now components.now }
+{
+    for component in components {
+        if !is_part(forms, component.ty, &component.default) {
+            return false;
+        }
+    }
+    true
+}
+
+/// Tells whether a component of this type, which is run, has no controlled part.
+fn is_free(forms: &[Form], ty: Ty) -> bool
+    ensures { result ≡ types.is_free forms.now ty }
+{
+    match ty {
+        Ty::Record(number) => is_uncontrolled_form(forms, number),
+        _ => true,
+    }
+}
+
+/// Tells whether none of these components has a controlled part.
+fn are_free(forms: &[Form], components: &[Component]) -> bool
+    ensures { result ≡ types.are_free forms.now components.now }
+{
+    for component in components {
+        if !is_free(forms, component.ty) {
+            return false;
+        }
+    }
+    true
+}
+
+/// Tells whether the components of a type are run, where the types that stand before have these forms.
 fn is_laid_by(forms: &[Form], entry: &RecordType) -> bool
     ensures { result ≡ types.is_laid_by forms.now entry.now }
 {
-    extends_laid(forms, entry.parent) && are_laid(forms, entry.own.as_slice())
+    let is_parent_run = match entry.parent {
+        Some(number) => is_laid_form(forms, number),
+        None => true,
+    };
+    is_parent_run && are_parts(forms, entry.own.as_slice())
+}
+
+/// Tells whether the objects of a type are run, where the types that stand before have these forms.
+fn is_plain_by(forms: &[Form], entry: &RecordType) -> bool
+    ensures { result ≡ types.is_plain_by forms.now entry.now }
+{
+    let is_parent_run = match entry.parent {
+        Some(number) => is_plain_form(forms, number),
+        None => true,
+    };
+    is_root_run(entry)
+        && is_parent_run
+        && are_parts(forms, entry.own.as_slice())
+        && have_constants(entry.own.as_slice())
+}
+
+/// Tells whether no component of a type, inherited or not, has a controlled part, where the types that stand before have these forms.
+fn is_whole_by(forms: &[Form], entry: &RecordType) -> bool
+    ensures { result ≡ types.is_whole_by forms.now entry.now }
+{
+    let is_parent_whole = match entry.parent {
+        Some(number) => is_whole_form(forms, number),
+        None => true,
+    };
+    is_parent_whole && are_free(forms, entry.own.as_slice())
+}
+
+/// Gives the form of a type without a component that has a controlled part.
+fn whole_form(root: Root) -> Form
+    ensures { result ≡ types.whole_form root }
+{
+    match root {
+        Root::Untagged => Form::Uncontrolled,
+        Root::Controlled | Root::BlockPool | Root::MarkPool => Form::Controlled,
+    }
 }
 
 /// Gives the form of a type, where the types that stand before have these.
 fn form_by(forms: &[Form], entry: &RecordType) -> Form
     ensures { result ≡ types.form_by forms.now entry.now }
 {
-    if is_bare_by(forms, entry) {
-        Form::Bare
+    if is_plain_by(forms, entry) {
+        if is_whole_by(forms, entry) {
+            whole_form(entry.root)
+        } else {
+            Form::Holding
+        }
     } else if is_laid_by(forms, entry) {
         Form::Laid
     } else {
@@ -159,10 +242,25 @@ impl<'a> Table<'a> {
         Ok(Table { records, forms })
     }
 
-    /// Tells whether the record type of this number is laid out: its components, inherited ones too, are scalar or of bare types.
+    /// Tells whether the record type of this number is laid out: its components, inherited ones too, are scalar, or of types whose objects
+    /// are declared.
     pub fn is_laid(&self, number: usize) -> bool
         ensures { result ≡ types.is_laid self.now.records.now number }
     {
         is_laid_form(self.forms.as_slice(), number)
+    }
+
+    /// Tells whether objects of the record type of this number are declared.
+    pub fn is_plain(&self, number: usize) -> bool
+        ensures { result ≡ types.is_plain self.now.records.now number }
+    {
+        is_plain_form(self.forms.as_slice(), number)
+    }
+
+    /// Tells whether objects of the record type of this number are declared and copied: no component of them has a controlled part.
+    pub fn is_whole(&self, number: usize) -> bool
+        ensures { result ≡ types.is_whole self.now.records.now number }
+    {
+        is_whole_form(self.forms.as_slice(), number)
     }
 }

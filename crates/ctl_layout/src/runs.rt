@@ -13,13 +13,13 @@ ghost use Rattle.ctl_layout.specs.Texts as texts;
 ghost use Rattle.ctl_layout.specs.Values as values;
 
 use crate::forms::{Table, is_run_type};
-use crate::right::{Reached, constant, reached_by, sourced};
+use crate::right::{Reached, reached_by, sourced};
 use crate::typing::copied;
 use ctl_program::expression::{Actual, Expr, Name, Operand, Step};
 use ctl_program::operators::SubprogramKind;
 use ctl_program::program::{Checked, Subprogram};
 use ctl_program::statement::{Arm, Choices, Handler, Item, Master, Piece, Stmt};
-use ctl_program::types::{Component, RecordType, Root, Ty};
+use ctl_program::types::{RecordType, Ty};
 use std::alloc::{AllocError, Global};
 
 /// Tells whether this version runs each construct of a program.
@@ -170,71 +170,6 @@ fn pieces(pieces: &[Piece], table: &Table) -> bool
     true
 }
 
-/// Tells whether a component has no default, or a constant (RM 3.8).
-fn may_default(component: &Component, table: &Table) -> bool
-    ensures { result ≡ defaults.may_default table.now.records.now (option_map values.value_code component.now.default) }
-{
-    match &component.default {
-        Some(default) => value(default, table) && constant(default).is_some(),
-        None => true,
-    }
-}
-
-/// Tells whether the defaults of these components are constants.
-fn have_constants(components: &[Component], table: &Table) -> bool
-    ensures { result ≡ defaults.have_constants table.now.records.now components.now }
-{
-    for component in components {
-        if !may_default(component, table) {
-            return false;
-        }
-    }
-    true
-}
-
-/// Tells whether a type descends from Controlled or Limited_Controlled (RM 7.6), or is not tagged and has none of their operations.
-fn is_root_run(entry: &RecordType) -> bool
-    ensures { result ≡ types.is_root_run entry.now.root entry.now.operations }
-{
-    match entry.root {
-        Root::Controlled => true,
-        Root::Untagged => {
-            entry.operations.initialize.is_none() && entry.operations.finalize.is_none()
-        }
-        Root::BlockPool | Root::MarkPool => false,
-    }
-}
-
-/// Tells whether the defaults of the components of a record type, inherited ones too, are constants (RM 3.8, 3.9.1).
-fn has_constants(table: &Table, number: usize) -> bool
-    ensures { result ≡ types.each_extension (defaults.have_constants table.now.records.now) table.now.records.now number }
-{
-    let mut at = number;
-    while let Some(entry) = table.records.get(at) {
-        if !have_constants(entry.own.as_slice(), table) {
-            return false;
-        }
-        match entry.parent {
-            None => return true,
-            Some(parent) if parent < at => at = parent,
-            Some(_) => return false,
-        }
-    }
-    false
-}
-
-/// Tells whether objects of the record type of this number are run: it is laid out, and the defaults of its components are constants (RM 3.8).
-fn is_plain(table: &Table, number: usize) -> bool
-    ensures { result ≡ defaults.is_plain table.now.records.now number }
-{
-    match table.records.get(number) {
-        Some(entry) => {
-            is_root_run(entry) && table.is_laid(number) && has_constants(table, number)
-        }
-        None => false,
-    }
-}
-
 /// How many masters every object is declared in at least: the main procedure's own.
 const OUTERMOST: usize = 1;
 
@@ -250,7 +185,7 @@ fn is_assignable(table: &Table, number: usize) -> bool
     ensures { result ≡ defaults.is_assignable table.now.records.now number }
 {
     match table.records.get(number) {
-        Some(entry) => is_plain(table, number) && is_outermost(entry),
+        Some(entry) => table.is_whole(number) && is_outermost(entry),
         None => false,
     }
 }
@@ -260,16 +195,17 @@ fn is_declared(table: &Table, ty: Ty) -> bool
     ensures { result ≡ defaults.is_declared table.now.records.now ty }
 {
     match ty {
-        Ty::Record(number) => is_plain(table, number),
+        Ty::Record(number) => table.is_plain(number),
         _ => is_run_type(ty),
     }
 }
 
-/// Tells whether an object of a record type may begin with this value: that of a part of the type (RM 3.3.1).
+/// Tells whether an object of a record type may begin with this value: that of a part of the type (RM 3.3.1), no component of which has a
+/// controlled part.
 fn is_copied(table: &Table, number: usize, expression: &Expr) -> bool
     ensures { result ≡ (spec.copy 0 number (values.copied number (values.value_code expression.now))).runs table.now.records.now }
 {
-    is_plain(table, number) && may_be_part(copied(number, expression), table)
+    table.is_whole(number) && may_be_part(copied(number, expression), table)
 }
 
 /// Tells whether a declaration with this value is run, in each slot.

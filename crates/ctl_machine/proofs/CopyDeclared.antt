@@ -1,5 +1,5 @@
 -- An object is declared with the value of another one.
-use Rattle.std.proofs.Common.{◌≡◌, ℕ, ◌+◌, ◌-◌, List, [], ◌∷◌, Some, None, length, refl, sym, ap, ◌∙◌, subst, arith, drop, take}
+use Rattle.std.proofs.Common.{◌≡◌, ℕ, ◌+◌, ◌-◌, List, [], ◌∷◌, Some, None, length, refl, sym, ap, ◌∙◌, subst, drop}
 use Rattle.std.specs.Prelude.{slice_get}
 use Rattle.std.proofs.lemmas.List.{append-nil}
 use Rattle.ctl_tree.specs.declared.ending.Stop.TheVariants.{UseAfterFree}
@@ -7,30 +7,27 @@ use Rattle.ctl_meaning.specs.World as W
 use Rattle.ctl_meaning.specs.Objects.{cells_at}
 use Rattle.ctl_meaning.specs.Outcome.{Fine}
 use Rattle.ctl_meaning.specs.Changes.{object_at, write_cells, opened_changes}
-use Rattle.ctl_code.specs.declared.code.Beginning.TheVariants.{ByCopy}
 use Rattle.ctl_code.specs.declared.code.Code.{Code}
 use Rattle.ctl_code.specs.declared.code.Instr.TheVariants.{DeclareCopy}
 use Rattle.ctl_code.specs.States as T
 use Rattle.ctl_code.specs.States.{Word, Located, Move, State}
 use Rattle.ctl_code.specs.Table as Table
-use Rattle.ctl_code.specs.Table.{Here, by_instr, by_declare_copy, defaulted_of, filling, gone, size_of}
+use Rattle.ctl_code.specs.Table.{Here, by_instr, by_declare_copy, gives, gone, size_of}
 use Rattle.ctl_machine.specs.declared.engine.Engine.{Engine}
 use Rattle.ctl_machine.specs.declared.frame.Ended.TheVariants as EndedOf
 use Rattle.ctl_machine.specs.declared.frame.Frame.TheVariants as FrameOf
-use Rattle.ctl_machine.specs.declared.frame.Left.{Left}
 use Rattle.ctl_machine.specs.declared.frame.Master.{Master}
 use Rattle.ctl_machine.specs.declared.frame.Mode.{Mode}
 use Rattle.ctl_machine.specs.declared.frame.Mode.TheVariants as ModeOf
 use Rattle.ctl_machine.specs.declared.frame.Owned.{Owned}
 use Rattle.ctl_machine.specs.Masters.{Head, heads_of, first_display, object_of}
 use Rattle.ctl_machine.specs.Holders.{Lacks}
-use Rattle.ctl_machine.specs.Shows.{ShowsMode, Sized, Kept, Holds, kept, with_spots, IsInitialized}
+use Rattle.ctl_machine.specs.Shows.{ShowsMode, Sized, Kept, Holds, kept, with_spots, IsCreated}
 use Rattle.ctl_machine.specs.Spots.{KeepsSpots, first_spot, standing}
 use Rattle.ctl_meaning.specs.Finalization.{Spot}
 use Rattle.ctl_machine.proofs.Located.{part_on_top}
 use Rattle.ctl_machine.specs.Moves.{Before, GoesOn, Inside, Makes, here_of}
 use Rattle.ctl_machine.specs.Declaring.{with_object, with_row}
-use Rattle.ctl_machine.specs.Filling.{AreLeft}
 use Rattle.ctl_machine.proofs.Copied.{length_copied, value_taken}
 use Rattle.ctl_machine.proofs.Created.{newborn}
 use Rattle.ctl_machine.proofs.Finalized.{object_is}
@@ -38,12 +35,12 @@ use Rattle.ctl_machine.proofs.Newborn.{has_object}
 use Rattle.ctl_machine.proofs.Newest.{get_newest}
 use Rattle.ctl_machine.proofs.Numbers.{no_object}
 use Rattle.ctl_machine.proofs.Operands.{HasPart}
-use Rattle.ctl_machine.proofs.Stages.{with_frame, Fills, stage_begins}
+use Rattle.ctl_machine.proofs.Stages.{with_frame, Copies, stage_begins}
 use Rattle.ctl_machine.proofs.Touched.{gone_makes}
 
 -- what the table makes of it, where there is the object
 table_copies : (code : Code) (slot t : ℕ) (y : Spot) (ops rest : List Word) (h : Here) (o x : W.Object) → ops ≡ Located y ∷ rest → object_at y.object h.world ≡ Some o → object_at h.world.ledger.next_object (Table.with_object code h.display slot t h.world) ≡ Some x
-    → by_declare_copy code slot t ops h ≡ filling ByCopy h.world.ledger.next_object t [] (record { display = h.display; place = h.place + 1; operands = rest }) h.control (write_cells h.world.ledger.next_object 0 (cells_at y.offset (size_of code t) o) (Table.with_object code h.display slot t h.world))
+    → by_declare_copy code slot t ops h ≡ gives (Fine T.Complete) (T.Copying h.world.ledger.next_object t (record { display = h.display; place = h.place + 1; operands = rest }) ∷ h.control) (write_cells h.world.ledger.next_object 0 (cells_at y.offset (size_of code t) o) (Table.with_object code h.display slot t h.world))
 table_copies code slot t y ops rest h o x are there new = rw (are, there, new) refl
 
 -- the part whose value is taken
@@ -51,13 +48,13 @@ pub copied_part : (code : Code) (e : Engine) (place slot t : ℕ) (s : State) �
 copied_part code e place slot t s b = part_on_top code e t b.stack b.fine.1.0 s b.inside b.fine.1.1
 
 -- the object is created, and takes the value
-pub copied_makes : (code : Code) (old mid new : Engine) (place slot t found : ℕ) (s : State) (m : Master) (those : Left) (source : Owned) → Before code old place (DeclareCopy slot t) s → kept mid ≡ with_spots (kept old) (standing s.control (drop 1 s.operands))
-    → slice_get mid.masters.items (length mid.masters.items - 1) ≡ Some m → slice_get mid.owned.items found ≡ Some source → source.number ≡ (first_spot s.operands).object → those.first ≡ 0 → those.last ≡ 0
-    → kept new ≡ with_frame (FrameOf.Filling ByCopy those (place + 1)) (with_row m slot t (size_of code t) (cells_at (first_spot s.operands).offset (size_of code t) (object_of mid.parts.items source)) (kept mid)) → new.mode ≡ ModeOf.Giving EndedOf.Complete
+pub copied_makes : (code : Code) (old mid new : Engine) (place slot t found : ℕ) (s : State) (m : Master) (source : Owned) → Before code old place (DeclareCopy slot t) s → kept mid ≡ with_spots (kept old) (standing s.control (drop 1 s.operands))
+    → slice_get mid.masters.items (length mid.masters.items - 1) ≡ Some m → slice_get mid.owned.items found ≡ Some source → source.number ≡ (first_spot s.operands).object
+    → kept new ≡ with_frame (FrameOf.Copying (place + 1)) (with_row m slot t (size_of code t) (cells_at (first_spot s.operands).offset (size_of code t) (object_of mid.parts.items source)) (kept mid)) → new.mode ≡ ModeOf.Giving EndedOf.Complete
     → new.events.items ≡ old.events.items → new.picks.items ≡ old.picks.items
     → Makes code old new (by_instr code (Some (DeclareCopy slot t)) s.operands (here_of place s))
 unfolding opened_changes
-copied_makes code old mid new place slot t found s m those source b mid_is newest there number first last kept_is mode events picks =
+copied_makes code old mid new place slot t found s m source b mid_is newest there number kept_is mode events picks =
     let w = s.world in
     let hs = heads_of w.activations in
     let d = first_display hs in
@@ -82,13 +79,10 @@ copied_makes code old mid new place slot t found s m those source b mid_is newes
     let holds : Holds code e s.control rest w' = subst (λ c. Holds code e s.control rest (write_cells c 0 v created)) is taken in
     let heads : heads_of w'.activations ≡ hs = has.made.heads in
     let p : T.Point = record { display = d; place = place + 1; operands = rest } in
-    let i : IsInitialized j t m e.owned = record { before = mid.owned.items; object = x; is_newest = refl; is_own = has.owned; number = is; record_type = refl; life = refl } in
-    let all = defaulted_of code t in
-    let none : those.last - those.first ≡ 0 = omega (arith, first, last) in
-    let left : AreLeft all those [] = record { rising = omega (arith, first, last); within = omega (arith, last); are = sym (ap (λ c. take c (drop those.first all)) none) } in
-    let h' = stage_begins (Fills ByCopy those []) code e m has.first.0 j t (place + 1) p s.control w' holds has.first.1 i refl (ap first_display (sym heads)) left in
-    let k' : List T.Frame = T.Filling ByCopy j t [] p ∷ s.control in
-    let made : Makes code old new (filling ByCopy j t [] p s.control w') = record {
+    let i : IsCreated j t m e.owned = record { before = mid.owned.items; object = x; is_newest = refl; is_own = has.owned; number = is; record_type = refl; no_layer = refl } in
+    let h' = stage_begins Copies code e m has.first.0 j t (place + 1) p s.control w' holds has.first.1 i refl (ap first_display (sym heads)) in
+    let k' : List T.Frame = T.Copying j t p ∷ s.control in
+    let made : Makes code old new (gives (Fine T.Complete) k' w') = record {
       mode = subst (λ (z : Mode). ShowsMode code z (T.Giving (Fine T.Complete)) k' (heads_of w'.activations)) (sym mode)
           (refl, (below, b.fine.1.2, subst (λ (l : List Head). Sized code below s.control l) (sym heads) inside.sized));
       holds = subst (λ (z : Kept). Holds code z k' [] w') (sym kept_is) h';

@@ -21,6 +21,14 @@ pub mod Declared
 pub mod Departures
 pub mod Links
 pub mod Bodies
+pub mod PartFrames
+pub mod Lives
+pub mod Finishing
+pub mod AfterFinalize
+pub mod GivingUp
+pub mod NextWindow
+pub mod NextPart
+pub mod Chosen
 pub mod Passed
 pub mod Behind
 pub mod Finalized
@@ -40,6 +48,7 @@ pub mod Resumed
 pub mod NewestLayers
 pub mod LeftOwner
 pub mod AtOnce
+pub mod FinalizedLayers
 pub mod Retargeted
 pub mod LeavesNow
 pub mod LeavesFurther
@@ -80,3 +89,8 @@ pub mod Targets
 pub mod AfterAssigning
 pub mod ProcedureCalled
 pub mod Caught
+pub mod PartBegun
+pub mod Creations
+pub mod CopyAdjusted
+pub mod GivesUp
+pub mod Complete

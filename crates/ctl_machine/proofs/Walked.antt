@@ -1,5 +1,5 @@
 -- The walk over the objects of a master, from the newest on, to the one that was declared in a slot.
-use Rattle.std.proofs.Common.{◌≡◌, ◌≢◌, ℕ, zero, suc, ◌-◌, ◌<◌, ◌≤◌, List, [], ◌∷◌, ◌++◌, Option, Some, None, length, sym, ap, ◌∙◌, arith, drop, take}
+use Rattle.std.proofs.Common.{◌≡◌, ◌≢◌, ℕ, zero, suc, ◌-◌, ◌<◌, ◌≤◌, List, [], ◌∷◌, ◌++◌, Option, Some, None, length, sym, ap, ◌∙◌, arith, drop, take, false}
 use Rattle.std.specs.Prelude.{slice_get, slice_index_or, nat_eq, if◌then◌else◌}
 use Rattle.std.proofs.lemmas.Option.{slice_get_within}
 use Rattle.ctl_meaning.specs.World as W
@@ -15,7 +15,7 @@ use Rattle.ctl_machine.proofs.Created.{drop_more}
 
 -- what is read where no object is
 abbrev pub any_owned : Owned
-any_owned = record { number = 0; slot = 0; «record» = 0; master = 0; first = 0; cells = 0; life = LifeOf.Created }
+any_owned = record { number = 0; slot = 0; «record» = 0; master = 0; first = 0; cells = 0; life = LifeOf.Untouched; is_layer = false }
 
 pub take_last : {X : Type 0} (os : List X) (i : ℕ) (o : X) → slice_get os i ≡ Some o → take (suc i) os ≡ take i os ++ o ∷ []
 take_last [] i o e = absurd (cc)

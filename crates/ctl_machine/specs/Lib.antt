@@ -6,6 +6,8 @@ pub mod Machine
 pub mod Prints
 pub mod Links
 pub mod Departing
+pub mod GivingUp
+pub mod Finishing
 pub mod Instructions
 pub mod Turns
 pub mod Initializing

@@ -52,7 +52,7 @@ pub struct Copies {
 }
 
 /// Answers the body that the user wrote for the Adjust of a record type, if there is one (RM 7.6).
-fn adjust_of(code: &Code, record: usize) -> Option<Entry>
+pub(crate) fn adjust_of(code: &Code, record: usize) -> Option<Entry>
     requires valid { IsValid code.now }
     requires known { IsRecord code.now «record» }
     ensures none { IfNone result (Table.operation_of (λ x. x.adjust) code.now «record» ≡ None) }

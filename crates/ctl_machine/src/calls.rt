@@ -1,27 +1,21 @@
-//! Calls of the bodies of operations: room is made, the call for an owned object of whichever active master, and the call of the
-//! Finalize of a layer.
+//! Calls of the bodies of operations: room is made, and the call for an owned object of whichever active master.
 
 ghost use Rattle.std.specs.Prelude.{◌≡◌, ◌+◌, ◌^◌, ◌<◌, ◌≤◌, [], ◌∷◌, ◌++◌, List, ℕ, OnErr, OnOk, Some, drop, length, reverse, slice_get, slice_set, take, vec_capacity, vec_len};
-ghost use Rattle.ctl_tree.specs.declared.event.Cause.TheVariants.{Scope};
-ghost use Rattle.ctl_tree.specs.declared.event.Event.TheVariants.{Finalize};
 ghost use Rattle.ctl_code.specs.Table as Table;
 ghost use Rattle.ctl_machine.specs.declared.frame.Frame.TheVariants as FrameOf;
-ghost use Rattle.ctl_machine.specs.declared.frame.Owned.{Owned};
 ghost use Rattle.ctl_code.specs.Valid.{IsValid};
-ghost use Rattle.ctl_machine.specs.Departing.{CallsFinalize, Departed, begun};
-ghost use Rattle.ctl_machine.specs.Links.{AreLinked, first_end};
+ghost use Rattle.ctl_machine.specs.Links.{AreLinked, end_behind, first_end};
 ghost use Rattle.ctl_machine.specs.Assigning.{Called, Calls, HasRoom};
 ghost use Rattle.ctl_machine.specs.Masters.{Head, display_from, first_display, object_of};
 ghost use Rattle.ctl_machine.specs.Holders.{first_formal};
 ghost use Rattle.ctl_machine.specs.Moves.{GoesOn, Makes, OpensBody, cleared};
 
 use crate::engine::Engine;
-use crate::frame::{After, Completion, Formal, Frame, Life, Master};
+use crate::frame::{After, Completion, Formal, Frame, Master};
 use crate::holders::owner_of;
-use crate::showing::whole;
 use crate::spots::Spot;
 use ctl_code::code::{Code, Entry};
-use ctl_tree::event::{Cause, Event};
+use ctl_tree::event::Event;
 use std::alloc::AllocError;
 
 /// Makes so many cells, if there are fewer; the new ones are 0.
@@ -79,6 +73,29 @@ impl Engine {
             [.., newest] => newest.base + newest.slots,
             [] => 0,
         }
+    }
+
+    /// Answers the cell where the window of a body begins that is called now: behind those of the newest master, and behind the operands
+    /// that a statement has put aside which is under way in it.
+    pub(crate) fn next_window(&self, code: &Code) -> usize
+        requires { end_behind code.now (reverse self.now.masters.items) (reverse self.now.control.items) < 2 ^ 64 }
+        ensures { result ≡ end_behind code.now (reverse self.now.masters.items) (reverse self.now.control.items) }
+    {
+        let mut count = self.control.as_slice().len();
+        while count > 0 {
+            count -= 1;
+            match self.control[count] {
+                Frame::InMaster(..) | Frame::Leaving { .. } => return self.end_of_newest(),
+                Frame::Creating { place, .. }
+                | Frame::Copying { place }
+                | Frame::Assigning { place, .. }
+                | Frame::Calling { place } => {
+                    return self.window() + code.kinds.height_at(place, 0);
+                }
+                _ => {}
+            }
+        }
+        0
     }
 
     /// Answers the master that a body of this level is declared in, where the newest master sees it: it is the newest of so many.
@@ -146,6 +163,9 @@ impl Engine {
         ensures owned { self.new.owned ≡ self.old.owned }
         ensures parts { self.new.parts ≡ self.old.parts }
         ensures saved { self.new.saved ≡ self.old.saved }
+        ensures spots { self.new.spots ≡ self.old.spots }
+        ensures frames { vec_capacity self.old.control ≤ vec_capacity self.new.control }
+        ensures choices { self.new.picks ≡ self.old.picks }
     {
         let wanted = base.checked_add(room).ok_or(AllocError)?;
         self.masters.reserve(1)?;
@@ -206,74 +226,5 @@ impl Engine {
         };
         self.events.push_reserved(event);
         self.open_for(master, spot, entry.place);
-    }
-
-    /// Begins the finalization of an owned object, a layer of the master that this frame leaves (RM 7.6.1).
-    fn begin_layer(&mut self, at: usize, leaving: Frame)
-        ghost o: { Owned }
-        requires found { slice_get self.old.owned.items at ≡ Some o }
-        requires top { 0 < vec_len self.old.control }
-        requires control { vec_len self.old.control < vec_capacity self.old.control }
-        requires events { vec_len self.old.events < vec_capacity self.old.events }
-        ensures control { reverse self.new.control.items ≡ FrameOf.Finalizing at ∷ leaving ∷ drop 1 (reverse self.old.control.items) }
-        ensures room { vec_len self.new.control ≡ vec_len self.old.control + 1 }
-        ensures capacity { vec_capacity self.new.control ≡ vec_capacity self.old.control }
-        ensures owned { self.new.owned.items ≡ slice_set self.old.owned.items at (begun o) }
-        ensures masters { self.new.masters ≡ self.old.masters }
-        ensures cells { self.new.cells ≡ self.old.cells }
-        ensures parts { self.new.parts ≡ self.old.parts }
-        ensures saved { self.new.saved ≡ self.old.saved }
-        ensures formals { self.new.formals ≡ self.old.formals }
-        ensures spots { self.new.spots ≡ self.old.spots }
-        ensures numbers { (self.new.given_masters ≡ self.old.given_masters) × (self.new.given_objects ≡ self.old.given_objects) }
-        ensures events { self.new.events.items ≡ self.old.events.items ++ Finalize (Table.whole_part o.number) Scope ∷ [] }
-        ensures picks { self.new.picks.items ≡ self.old.picks.items }
-    {
-        let object = self.owned[at].number;
-        self.owned[at].life = Life::Finalizing;
-        replace_top(&mut self.control, leaving);
-        self.control.push_reserved(Frame::Finalizing(at));
-        self.events
-            .push_reserved(Event::Finalize(whole(self.alloc, object), Cause::Scope));
-    }
-
-    /// Finalizes the object at this place, the newest layer of the newest master, which is left so, by the body that the user wrote for
-    /// its type (RM 7.6.1); unchanged where memory is refused.
-    pub(crate) fn call_finalize(
-        &mut self,
-        code: &Code,
-        entry: &Entry,
-        departure: Departure,
-        at: usize,
-    ) -> Result<(), AllocError>
-        ghost t: { Departed × Owned }
-        requires valid { IsValid code.now }
-        requires calls { CallsFinalize code.now self.old departure.failed departure.pending departure.after at entry.now t.0 t.1 }
-        requires waiting { 0 < vec_len self.old.control }
-        requires end { first_end (reverse self.old.masters.items) < 2 ^ 64 }
-        requires number { self.old.given_masters + 1 < 2 ^ 64 }
-        ensures ok { OnOk result (Makes code.now self.old self.new (Table.next_layer code.now t.0.master t.0.layers t.0.failed t.0.pending t.0.after t.0.control t.0.world)) }
-        ensures err { OnErr result (GoesOn self.old self.new self.old.mode self.old.cells.items) }
-    {
-        let base = self.end_of_newest();
-        let link = self.around(entry.level);
-        let outer_formals = self.count_formals();
-        let master = Master {
-            number: self.given_masters + 1,
-            window: base,
-            base,
-            slots: entry.slots,
-            link,
-            depth: self.depth_at(link) + 1,
-            owned: self.count_owned(),
-            outer_formals,
-            formals: outer_formals + 1,
-            spots: self.count_spots(),
-        };
-        let object = self.owned[at].number;
-        self.prepare(base, code.room, 1)?;
-        self.begin_layer(at, departure.frame(at));
-        self.open_for(master, Spot::whole(self.alloc, object), entry.place);
-        Ok(())
     }
 }

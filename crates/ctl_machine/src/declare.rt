@@ -10,25 +10,28 @@ ghost use Rattle.ctl_machine.specs.Shows.{kept};
 ghost use Rattle.ctl_machine.specs.Declaring.{with_row};
 
 use crate::engine::Engine;
-use crate::frame::{Ended, Frame, Left, Life, Master, Mode, Owned};
+use crate::frame::{Ended, Frame, Life, Master, Mode, Owned};
 use crate::holders::find;
-use crate::parts::{add_copy, add_zeros, count_defaulted, size_of};
+use crate::parts::{add_copy, add_zeros, size_of};
+use crate::spots::Spot;
 use ctl_code::code::{Beginning, Code};
 use ctl_tree::ending::Stop;
 use std::alloc::AllocError;
 
 impl Engine {
-    /// Reserves room for an object of so many cells and for the frame that fills it; nothing else changes.
+    /// Reserves room for an object of so many cells, for the frames that wait for it, and for the part that it is; nothing else changes.
     fn reserve_object(&mut self, size: usize) -> Result<(), AllocError>
         ensures same { GoesOn self.old self.new self.old.mode self.old.cells.items }
         ensures owned { OnOk result (vec_len self.new.owned < vec_capacity self.new.owned) }
         ensures parts { OnOk result (vec_len self.new.parts + size ≤ vec_capacity self.new.parts) }
-        ensures control { OnOk result (vec_len self.new.control < vec_capacity self.new.control) }
+        ensures control { OnOk result (vec_len self.new.control + 2 ≤ vec_capacity self.new.control) }
+        ensures spots { OnOk result (vec_len self.new.spots < vec_capacity self.new.spots) }
         ensures number { self.new.given_objects ≡ self.old.given_objects }
     {
         self.owned.reserve(1)?;
         self.parts.reserve(size)?;
-        self.control.reserve(1)?;
+        self.control.reserve(2)?;
+        self.spots.reserve(1)?;
         Ok(())
     }
 
@@ -42,6 +45,8 @@ impl Engine {
         ensures masters { self.new.masters ≡ self.old.masters }
         ensures parts { self.new.parts ≡ self.old.parts }
         ensures control { self.new.control ≡ self.old.control }
+        ensures spots { self.new.spots ≡ self.old.spots }
+        ensures number { self.new.given_objects ≡ self.old.given_objects + 1 }
         ensures events { self.new.events ≡ self.old.events }
         ensures picks { self.new.picks ≡ self.old.picks }
     {
@@ -53,15 +58,16 @@ impl Engine {
             master: newest.number,
             first: self.parts.as_slice().len(),
             cells: size,
-            life: Life::Created,
+            life: Life::Untouched,
+            is_layer: false,
         });
         if slot < newest.slots {
             self.cells[newest.base + slot] = 0;
         }
     }
 
-    /// Declares an object of a record type without a value (RM 3.3.1): it is created, and all of its components that have defaults are
-    /// to take them (RM 7.6); unchanged where memory is refused.
+    /// Declares an object of a record type without a value (RM 3.3.1): it is created, and its components are to begin (RM 7.6); unchanged
+    /// where memory is refused.
     #[inline(never)]
     pub(crate) fn declare(
         &mut self,
@@ -83,16 +89,13 @@ impl Engine {
         self.reserve_object(size)?;
         self.create(newest, slot, record, size);
         add_zeros(&mut self.parts, size);
-        let left = Left {
-            first: 0,
-            last: count_defaulted(code, record),
-        };
-        self.control.push_reserved(Frame::Filling {
-            how: Beginning::ByDefault,
-            left,
+        let how = Beginning::ByDefault;
+        self.control.push_reserved(Frame::Creating {
+            how,
             place: place + 1,
         });
-        self.mode = Mode::Giving(Ended::Complete);
+        let spot = Spot::whole(self.alloc, self.given_objects);
+        self.begin_part(code, spot, record, newest.number);
         Ok(())
     }
 
@@ -129,11 +132,8 @@ impl Engine {
         self.create(newest, slot, record, size);
         add_copy(&mut self.parts, &source, start, size);
         let _ = self.spots.take_last();
-        self.control.push_reserved(Frame::Filling {
-            how: Beginning::ByCopy,
-            left: Left { first: 0, last: 0 },
-            place: place + 1,
-        });
+        self.control
+            .push_reserved(Frame::Copying { place: place + 1 });
         self.mode = Mode::Giving(Ended::Complete);
         Ok(())
     }

@@ -1,34 +1,52 @@
-//! Components of a declared object take their defaults, one chosen after another (RM 3.8, 7.6).
+//! Parts are created: their components begin, one chosen after another, with constants or as parts of their own (RM 3.8, 7.6).
 
-ghost use Rattle.std.specs.Prelude.{◌≡◌, ◌-◌, ◌^◌, ◌+◌, ◌<◌, ◌≤◌, ◌∷◌, ◌++◌, List, OnErr, OnOk, reverse, vec_capacity, vec_len};
-ghost use Rattle.ctl_code.specs.declared.code.Defaulted.{Defaulted};
-ghost use Rattle.ctl_meaning.specs.Outcome.{Tried};
+ghost use Rattle.std.specs.Prelude.{◌≡◌, ◌-◌, ◌^◌, ◌+◌, ◌<◌, ◌≤◌, ◌∷◌, ◌++◌, List, OnErr, OnOk, length, reverse, take, vec_capacity, vec_len};
+ghost use Rattle.ctl_meaning.specs.Changes.{object_at};
+ghost use Rattle.ctl_meaning.specs.Outcome.{Fine};
+ghost use Rattle.ctl_code.specs.declared.code.Begun.{Begun};
+ghost use Rattle.ctl_code.specs.declared.code.Initial.TheVariants.{ByType};
+ghost use Rattle.ctl_code.specs.Table as Table;
 ghost use Rattle.ctl_code.specs.States.{Handed, State};
+ghost use Rattle.ctl_meaning.specs.Lists.{keep};
+ghost use Rattle.ctl_code.specs.Valid as Valid;
 ghost use Rattle.ctl_code.specs.Valid.{IsValid};
 ghost use Rattle.ctl_machine.specs.declared.frame.Frame.{Frame};
 ghost use Rattle.ctl_machine.specs.declared.frame.Frame.TheVariants as FrameOf;
-ghost use Rattle.ctl_machine.specs.Filling.{AreLeft, IsChosen, noted_among, pick_among};
-ghost use Rattle.ctl_machine.specs.Moves.{BeforeResuming, GoesOn, Resumes};
+ghost use Rattle.ctl_machine.specs.Filling.{AreApart, AreLeft, IsChosen, noted_among, pick_among};
+ghost use Rattle.ctl_machine.specs.Initializing.{Awaits, Grown, Grows, IsOf};
+ghost use Rattle.ctl_machine.specs.Moves.{BeforeResuming, GoesOn, Makes, Resumes};
+ghost use Rattle.ctl_machine.specs.Shows.{tried_of};
 
 use crate::calls::replace_top;
 use crate::engine::Engine;
-use crate::frame::{Ended, Frame, Left, Mode};
-use crate::parts::{defaulted_at, write_part};
-use ctl_code::code::{Beginning, Code};
+use crate::frame::{Apart, Ended, Frame, Left, Mode};
+use crate::holders::find;
+use crate::parts::{begun_at, count_begun, count_controlled, parts_of, write_component};
+use crate::spots::Spot;
+use ctl_code::code::{Begun, Code, Initial, Parts};
+use ctl_tree::ending::Stop;
 use ctl_tree::request::Order;
 use std::alloc::AllocError;
 
-/// The component that is chosen: its place among those that have defaults, the number of the candidate that it was, and what is left then.
+/// The creation of the newest part: its record type, and the master whose object it is.
 #[derive(Clone, Copy)]
-struct Chosen {
-    at: usize,
-    pick: usize,
-    rest: Left,
+pub struct Creation {
+    pub record_type: usize,
+    pub master: u64,
+}
+
+/// The component that is chosen: its place among those that begin with something, the number of the candidate that it was, and what is
+/// left then.
+#[derive(Clone, Copy)]
+pub(crate) struct Chosen {
+    pub(crate) at: usize,
+    pub(crate) pick: usize,
+    pub(crate) rest: Left,
 }
 
 impl Left {
     /// Counts the components that are left.
-    fn count(self) -> usize
+    pub(crate) fn count(self) -> usize
         requires { self.first ≤ self.last }
         ensures { result ≡ self.last - self.first }
     {
@@ -36,10 +54,10 @@ impl Left {
     }
 
     /// Chooses a component by an order, the candidates being in the order of their positions.
-    fn choose(self, order: Order) -> Chosen
+    pub(crate) fn choose(self, order: Order) -> Chosen
         requires { self.first < self.last }
         ensures pick { result.pick ≡ pick_among order (self.last - self.first) }
-        ensures chosen { (all : List Defaulted) (left : List Defaulted) → AreLeft all self left → IsChosen all left result.pick result.at result.rest }
+        ensures chosen { (all : List Begun) (left : List Begun) → AreLeft all self left → IsChosen all left result.pick result.at result.rest }
     {
         match order {
             Order::Newest => {
@@ -66,7 +84,7 @@ impl Left {
 }
 
 /// Notes a pick among so many candidates, for which there is room; with one candidate nothing was asked.
-fn note_pick(picks: &mut Vec<u64>, candidates: usize, pick: usize)
+pub(crate) fn note_pick(picks: &mut Vec<u64>, candidates: usize, pick: usize)
     requires { vec_len picks.old < vec_capacity picks.old }
     ensures { picks.new.items ≡ picks.old.items ++ noted_among candidates pick }
 {
@@ -75,69 +93,255 @@ fn note_pick(picks: &mut Vec<u64>, candidates: usize, pick: usize)
     }
 }
 
+/// Answers all components of a record type with a controlled part (RM 7.6.1).
+pub(crate) fn all_controlled(code: &Code, record: usize) -> Apart
+    ensures { AreApart (Table.controlled_of code.now «record») result (Table.controlled_of code.now «record») }
+{
+    let count = count_controlled(code, record);
+    Apart {
+        low: Left {
+            first: 0,
+            last: count,
+        },
+        high: Left {
+            first: count,
+            last: count,
+        },
+    }
+}
+
+/// Tells whether a component has a controlled part (RM 7.6.1).
+fn is_finalized(code: &Code, component: &Begun) -> bool
+    ensures { result ≡ Valid.is_finalized code.now component.now.initial }
+{
+    match component.initial {
+        Initial::Constant(_) => false,
+        Initial::ByType(record) => !matches!(parts_of(code, record), Parts::Plain),
+    }
+}
+
+/// Counts those that have a controlled part of the first components of a record type that begin with something, so many (RM 7.6.1).
+fn count_finalized(code: &Code, record: usize, end: usize) -> usize
+    requires { end ≤ length (Table.begun_of code.now «record») }
+    ensures { result ≡ length (keep (λ x. Valid.is_finalized code.now x.initial) (take end (Table.begun_of code.now «record»))) }
+{
+    let mut count = 0;
+    for at in 0..end {
+        if is_finalized(code, &begun_at(code, record, at)) {
+            count += 1;
+        }
+    }
+    count
+}
+
+/// Answers the components of a record type with a controlled part that are complete where these, of those that begin with something, are
+/// not (RM 7.6.1).
+fn complete_of(code: &Code, record: usize, incomplete: Left) -> Apart
+    ghost those: { List Begun }
+    requires valid { IsValid code.now }
+    requires left { AreLeft (Table.begun_of code.now «record») incomplete those }
+    ensures { AreApart (Table.controlled_of code.now «record») result (Table.complete_of code.now «record» those) }
+{
+    Apart {
+        low: Left {
+            first: 0,
+            last: count_finalized(code, record, incomplete.first),
+        },
+        high: Left {
+            first: count_finalized(code, record, incomplete.last),
+            last: count_controlled(code, record),
+        },
+    }
+}
+
 impl Engine {
-    /// Gives the component that an order chooses among those that are left of the newest owned object its default (RM 3.8); unchanged
+    /// Begins a part of an object of this master, of a record type: its components are to begin (RM 7.6). There is room for it, and for
+    /// the frame that waits for it.
+    pub(crate) fn begin_part(&mut self, code: &Code, spot: Spot, record: usize, master: u64)
+        ghost t: { Grown }
+        requires awaits { Awaits code.now self.old t.control t.world }
+        requires is_of { IsOf «record» master t.new }
+        requires spot { t.new.spot ≡ spot }
+        requires control { vec_len self.old.control < vec_capacity self.old.control }
+        requires spots { vec_len self.old.spots < vec_capacity self.old.spots }
+        ensures begins { Makes code.now self.old self.new (Table.begin_part code.now t.new t.control t.world) }
+        ensures picks { self.new.picks ≡ self.old.picks }
+    {
+        let all = Left {
+            first: 0,
+            last: count_begun(code, record),
+        };
+        self.spots.push_reserved(spot);
+        self.control.push_reserved(Frame::Filling {
+            record,
+            master,
+            left: all,
+            incomplete: all,
+        });
+        self.mode = Mode::Giving(Ended::Complete);
+    }
+
+    /// Gives a component of the newest part, by its first cell in the part, the value of its default, where these are left then (RM 3.8).
+    /// Where the object is not there, the program is erroneous (RM 13.11.2).
+    fn take_default(
+        &mut self,
+        code: &Code,
+        creation: Creation,
+        offset: usize,
+        value: u64,
+        rest: Left,
+    )
+        ghost t: { Grown × List Begun }
+        requires grows { Grows code.now self.old creation.record_type creation.master t.0 }
+        requires rest { AreLeft (Table.begun_of code.now creation.record_type) rest t.1 }
+        ensures takes { Makes code.now self.old self.new (Table.take_default t.0.new offset value t.1 (object_at t.0.new.spot.object t.0.world) t.0.control t.0.world) }
+        ensures picks { self.new.picks ≡ self.old.picks }
+    {
+        let _ = code;
+        let newest = self.count_spots() - 1;
+        let spot = &self.spots[newest];
+        let start = spot.offset();
+        let Some(at) = find(self.owned.as_slice(), spot.object()) else {
+            let _ = self.control.take_last();
+            self.mode = Mode::Stopped(Stop::UseAfterFree);
+            return;
+        };
+        let object = self.owned[at];
+        write_component(self.parts.as_mut_slice(), &object, start, offset, value);
+        replace_top(
+            &mut self.control,
+            Frame::Filling {
+                record: creation.record_type,
+                master: creation.master,
+                left: rest,
+                incomplete: rest,
+            },
+        );
+        self.mode = Mode::Giving(Ended::Complete);
+    }
+
+    /// Begins a component of the newest part, of this record type, where these are left then and these were before (RM 7.6); unchanged
     /// where memory is refused.
+    fn begin_component(
+        &mut self,
+        code: &Code,
+        creation: Creation,
+        component: &Begun,
+        record: usize,
+        left: Left,
+        rest: Left,
+    ) -> Result<(), AllocError>
+        ghost t: { Grown × List Begun × List Begun }
+        requires grows { Grows code.now self.old creation.record_type creation.master t.0 }
+        requires left { AreLeft (Table.begun_of code.now creation.record_type) left t.1 }
+        requires rest { AreLeft (Table.begun_of code.now creation.record_type) rest t.2 }
+        ensures ok { OnOk result (Makes code.now self.old self.new (Table.begin_component code.now t.0.new component.now (ByType «record») t.2 t.1 t.0.control t.0.world)) }
+        ensures err { OnErr result (GoesOn self.old self.new self.old.mode self.old.cells.items) }
+        ensures picks { self.new.picks ≡ self.old.picks }
+    {
+        let newest = self.count_spots() - 1;
+        let mut spot = self.spots[newest].copied(self.alloc)?;
+        spot.select(component.offset, component.position)?;
+        self.control.reserve(1)?;
+        self.spots.reserve(1)?;
+        replace_top(
+            &mut self.control,
+            Frame::Filling {
+                record: creation.record_type,
+                master: creation.master,
+                left: rest,
+                incomplete: left,
+            },
+        );
+        self.begin_part(code, spot, record, creation.master);
+        Ok(())
+    }
+
+    /// Begins a component of the newest part, with a constant or as a part of its own, where these are left then and these were before
+    /// (RM 3.8, 7.6); unchanged where memory is refused.
+    fn begin_chosen(
+        &mut self,
+        code: &Code,
+        creation: Creation,
+        component: &Begun,
+        left: Left,
+        rest: Left,
+    ) -> Result<(), AllocError>
+        ghost t: { Grown × List Begun × List Begun }
+        requires grows { Grows code.now self.old creation.record_type creation.master t.0 }
+        requires left { AreLeft (Table.begun_of code.now creation.record_type) left t.1 }
+        requires rest { AreLeft (Table.begun_of code.now creation.record_type) rest t.2 }
+        ensures ok { OnOk result (Makes code.now self.old self.new (Table.begin_component code.now t.0.new component.now component.now.initial t.2 t.1 t.0.control t.0.world)) }
+        ensures err { OnErr result (GoesOn self.old self.new self.old.mode self.old.cells.items) }
+        ensures picks { self.new.picks ≡ self.old.picks }
+    {
+        match component.initial {
+            Initial::Constant(value) => {
+                self.take_default(code, creation, component.offset, value, rest);
+                Ok(())
+            }
+            Initial::ByType(record) => {
+                self.begin_component(code, creation, component, record, left, rest)
+            }
+        }
+    }
+
+    /// Begins the component of the newest part that an order chooses among those that are left (RM 3.8, 7.6); unchanged where memory is
+    /// refused.
     fn fill(
         &mut self,
         code: &Code,
         order: Order,
-        how: Beginning,
+        creation: Creation,
         left: Left,
-        place: usize,
     ) -> Result<(), AllocError>
         ghost s: { State }
         requires before { BeforeResuming code.now self.old s }
-        requires top { (fs : List Frame) × (reverse self.old.control.items ≡ FrameOf.Filling how left place ∷ fs) }
+        requires top { (incomplete : Left) × (fs : List Frame) × (reverse self.old.control.items ≡ FrameOf.Filling creation.record_type creation.master left incomplete ∷ fs) }
         requires some { left.first < left.last }
-        ensures ok { OnOk result ((ended : Tried Handed) → Resumes code.now self.old self.new order ended s) }
+        ensures ok { OnOk result ((h : Handed) → Resumes code.now self.old self.new order (Fine h) s) }
         ensures err { OnErr result (GoesOn self.old self.new self.old.mode self.old.cells.items) }
     {
         self.picks.reserve(1)?;
-        let object = self.newest_object();
         let chosen = left.choose(order);
-        let component = defaulted_at(code, object.record, chosen.at);
-        write_part(
-            self.parts.as_mut_slice(),
-            &object,
-            component.offset,
-            component.value,
-        );
+        let component = begun_at(code, creation.record_type, chosen.at);
+        self.begin_chosen(code, creation, &component, left, chosen.rest)?;
         note_pick(&mut self.picks, left.count(), chosen.pick);
-        replace_top(
-            &mut self.control,
-            Frame::Filling {
-                how,
-                left: chosen.rest,
-                place,
-            },
-        );
-        self.mode = Mode::Giving(Ended::Complete);
         Ok(())
     }
 
-    /// Goes on with the newest owned object, which begins so, and of which these components are left: one of them, by the order, takes its
-    /// default, or else the object is initialized or adjusted, and its declaration goes on at this place (RM 7.6); unchanged where memory
-    /// is refused.
+    /// Goes on with the creation of the newest part, of a record type, of an object of this master: the last one of its components that
+    /// have begun has ended so, some are left, and some are not complete (RM 7.6). A component is chosen by the order, or else the part is
+    /// initialized, or its creation has failed (RM 7.6.1). Unchanged where memory is refused.
     pub(crate) fn resume_filling(
         &mut self,
         code: &Code,
         order: Order,
-        how: Beginning,
+        ended: Ended,
+        record: usize,
+        master: u64,
         left: Left,
-        place: usize,
+        incomplete: Left,
     ) -> Result<(), AllocError>
         ghost s: { State }
         requires valid { IsValid code.now }
         requires before { BeforeResuming code.now self.old s }
-        requires top { (fs : List Frame) × (reverse self.old.control.items ≡ FrameOf.Filling how left place ∷ fs) }
+        requires top { (fs : List Frame) × (reverse self.old.control.items ≡ FrameOf.Filling «record» master left incomplete ∷ fs) }
         requires number { self.old.given_masters + 1 < 2 ^ 64 }
-        ensures ok { OnOk result ((ended : Tried Handed) → Resumes code.now self.old self.new order ended s) }
+        ensures ok { OnOk result (Resumes code.now self.old self.new order (tried_of ended) s) }
         ensures err { OnErr result (GoesOn self.old self.new self.old.mode self.old.cells.items) }
     {
-        if left.first == left.last {
-            return self.initialize(code, how, place);
+        if let Ended::Raised(exception) = ended {
+            let complete = complete_of(code, record, incomplete);
+            return self.fail(code, record, complete, exception);
         }
-        self.fill(code, order, how, left, place)
+        let creation = Creation {
+            record_type: record,
+            master,
+        };
+        if left.first == left.last {
+            return self.initialize(code, creation);
+        }
+        self.fill(code, order, creation, left)
     }
 }

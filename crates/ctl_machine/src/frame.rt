@@ -3,6 +3,7 @@
 use crate::spots::Spot;
 use ctl_code::code::{Beginning, Way};
 use ctl_tree::ending::Stop;
+use ctl_tree::event::Cause;
 
 /// How the statements of a master are completed (RM 7.6.1).
 #[derive(Clone, Copy)]
@@ -34,11 +35,18 @@ pub struct Handling {
     pub caught: usize,
 }
 
-/// Components that are still to take their defaults: of those of a record type that have one, from `first` on and before `last`.
+/// Components that are left among those that a frame goes through: from `first` on and before `last`.
 #[derive(Clone, Copy)]
 pub struct Left {
     pub first: usize,
     pub last: usize,
+}
+
+/// Components with a controlled part that are still to be finalized: some that stand side by side, and behind them some more.
+#[derive(Clone, Copy)]
+pub struct Apart {
+    pub low: Left,
+    pub high: Left,
 }
 
 /// Where the value of an assignment is: it is the newest one that is saved, for the target is still to take it; or the target has taken it.
@@ -61,17 +69,31 @@ pub enum Frame {
         after: After,
         next: usize,
     },
-    /// how the newest owned object begins, its components that are still to take their defaults, and the place where its declaration
-    /// goes on (RM 3.8, 7.6)
-    Filling {
+    /// the newest owned object begins so, and the place where its declaration goes on (RM 3.3.1)
+    Creating {
         how: Beginning,
-        left: Left,
         place: usize,
     },
-    /// the Initialize of the newest owned object, or its Adjust, and the place where its declaration goes on (RM 7.6)
-    Initializing {
-        how: Beginning,
+    /// the newest owned object has taken a value and is to be adjusted, and the place where its declaration goes on (RM 3.3.1, 7.6)
+    Copying {
         place: usize,
+    },
+    /// the newest part among those of the engine, of a record type, is created for an object of this master: of the components of its type
+    /// that begin with something, those that are left, and those that are not complete (RM 3.8, 7.6)
+    Filling {
+        record: usize,
+        master: u64,
+        left: Left,
+        incomplete: Left,
+    },
+    /// the Initialize of the newest part, of a record type, which is created for an object of this master (RM 7.6)
+    Initializing {
+        record: usize,
+        master: u64,
+    },
+    /// the creation of the newest part failed by this exception, and what is complete of it is finalized (RM 7.6.1)
+    Failing {
+        exception: usize,
     },
     /// the newest part among those of the engine, of a record type, is assigned to, under Finalize where its value is saved, else under
     /// Adjust, and the place where the assignment goes on (RM 5.2, 7.6)
@@ -84,8 +106,21 @@ pub enum Frame {
     Calling {
         place: usize,
     },
-    /// the Finalize of an owned object, by its place
+    /// the finalization of an owned object, by its place
     Finalizing(usize),
+    /// the Finalize of the newest part, of a record type, for this cause (RM 7.6.1)
+    FinalizingOwn {
+        cause: Cause,
+        record: usize,
+    },
+    /// the components of the newest part that are still to be finalized, of those of its record type with a controlled part, and whether a
+    /// finalization in the part failed (RM 7.6.1)
+    FinalizingParts {
+        cause: Cause,
+        record: usize,
+        left: Apart,
+        failed: bool,
+    },
 }
 
 /// What the machine does next.
@@ -136,12 +171,10 @@ pub enum Holder {
     Bound(usize),
 }
 
-/// How far the life of an owned object has come. Between its creation and its finalization it is a layer of its master (RM 7.6.1).
+/// How far the finalization of an owned object has come (RM 7.6.1).
 #[derive(Clone, Copy)]
 pub enum Life {
-    /// not finalized, and no layer: not yet, or no more, where none of its parts is controlled and its master is left
-    Created,
-    Layer,
+    Untouched,
     Finalizing,
     Finalized,
 }
@@ -157,4 +190,6 @@ pub struct Owned {
     pub first: usize,
     pub cells: usize,
     pub life: Life,
+    /// whether it is a layer of its master: from the end of its creation on, until it is taken out (RM 7.6.1)
+    pub is_layer: bool,
 }

@@ -1,196 +1,176 @@
-//! Objects that have begun, by default or by a value that was copied, are initialized or adjusted, and come to life (RM 7.6).
+//! Parts whose components have all begun are initialized, and their creation is complete (RM 7.6).
 
-ghost use Rattle.std.specs.Prelude.{◌≡◌, ◌+◌, ◌^◌, ◌<◌, [], ◌∷◌, List, OnErr, OnOk, length, reverse, vec_capacity, vec_len};
+ghost use Rattle.std.specs.Prelude.{◌≡◌, ◌+◌, ◌^◌, ◌<◌, ◌∷◌, List, IfNone, IfSome, None, OnErr, OnOk, reverse, vec_len};
+ghost use Rattle.ctl_meaning.specs.Changes.{object_at};
 ghost use Rattle.ctl_code.specs.Table as Table;
-ghost use Rattle.ctl_meaning.specs.Outcome.{Tried};
-ghost use Rattle.ctl_code.specs.States.{Giving, Handed, State};
+ghost use Rattle.ctl_code.specs.States.{Giving, State};
 ghost use Rattle.ctl_code.specs.Valid.{IsValid};
 ghost use Rattle.ctl_machine.specs.declared.frame.Frame.{Frame};
 ghost use Rattle.ctl_machine.specs.declared.frame.Frame.TheVariants as FrameOf;
-ghost use Rattle.ctl_machine.specs.declared.frame.Life.TheVariants as LifeOf;
-ghost use Rattle.ctl_machine.specs.declared.frame.Mode.TheVariants as ModeOf;
 ghost use Rattle.ctl_machine.specs.declared.frame.Owned.{Owned};
-ghost use Rattle.ctl_code.specs.declared.code.Way.TheVariants as WayOf;
-ghost use Rattle.ctl_machine.specs.Initializing.{HasFirst, IsFull, IsNewest, Turns};
+ghost use Rattle.ctl_machine.specs.Initializing.{Grown, Grows, IsInitializeOf, IsPartOf, ended_part, front_of};
 ghost use Rattle.ctl_machine.specs.Moves.{BeforeResuming, GoesOn, Makes};
 ghost use Rattle.ctl_machine.specs.Shows as Shows;
 
 use crate::calls::replace_top;
 use crate::engine::Engine;
-use crate::frame::{After, Ended, Frame, Life, Master, Mode, Owned};
-use crate::layers::PROGRAM_ERROR;
-use crate::showing::{show_life, whole};
-use crate::spots::Spot;
-use ctl_code::code::{Beginning, Code, Entry, Operations, Way};
+use crate::filling::{Creation, all_controlled};
+use crate::frame::{Ended, Frame, Mode};
+use crate::holders::find;
+use crate::parts::parts_of;
+use crate::showing::show_life;
+use ctl_code::code::{Code, Entry, Parts};
+use ctl_tree::ending::Stop;
 use ctl_tree::event::Event;
-use std::alloc::{AllocError, Global};
+use std::alloc::AllocError;
 
-/// Answers the body that the user wrote for the operation that is called once an object has begun so, if there is one (RM 7.6).
-fn first_operation(operations: &Operations, how: Beginning) -> Option<usize>
-    ensures { result ≡ Table.first_operation how operations.now }
+/// Answers the body that the user wrote for the Initialize of a record type, if there is one (RM 7.6).
+fn initialize_of(code: &Code, record: usize) -> Option<Entry>
+    requires valid { IsValid code.now }
+    ensures none { IfNone result (Table.operation_of (λ x. x.initialize) code.now «record» ≡ None) }
+    ensures some { IfSome result (λ entry. IsInitializeOf code.now «record» entry) }
 {
-    match how {
-        Beginning::ByDefault => operations.initialize,
-        Beginning::ByCopy => operations.adjust,
-    }
+    let initialize = code.records.as_slice().get(record)?.initialize?;
+    Some(code.entries[initialize])
 }
 
-/// Makes the event of the call of this operation for an object (RM 7.6).
-fn first_call(alloc: Global, how: Beginning, object: u64) -> Event
-    ensures { result ≡ Table.first_call how object }
+/// Answers the number of the body that the user wrote for the Finalize of a record type, if there is one (RM 7.6).
+fn finalize_in(code: &Code, record: usize) -> Option<usize>
+    ensures { result ≡ Table.operation_of (λ x. x.finalize) code.now «record» }
 {
-    match how {
-        Beginning::ByDefault => Event::Initialize(whole(alloc, object)),
-        Beginning::ByCopy => Event::Adjust(whole(alloc, object)),
-    }
-}
-
-/// Answers the exception that is raised where this one has ended the operation: one of an Initialize goes on, and one of an Adjust is
-/// Program_Error (RM 7.6.1).
-#[tactic(auto, unfolding(ctl_meaning::specs::Outcome::program_error))]
-fn raised_in(how: Beginning, exception: usize) -> usize
-    ensures { result ≡ Table.raised_in how exception }
-{
-    match how {
-        Beginning::ByDefault => exception,
-        Beginning::ByCopy => PROGRAM_ERROR,
-    }
+    code.records.as_slice().get(record)?.finalize
 }
 
 impl Engine {
-    /// Makes the newest owned object a layer of its master, which is shown where the user wrote a Finalize for its type (RM 7.6.1); goes
-    /// on at this place.
-    fn bring_to_life(&mut self, code: &Code, place: usize)
-        ghost o: { Owned }
-        requires newest { IsNewest self.old o }
-        requires known { o.record < length code.now.records.items }
-        requires room { vec_len self.old.events < vec_capacity self.old.events }
-        ensures turns { Turns self.old self.new o LifeOf.Layer (ModeOf.At place) (Table.birth (Table.operation_of (λ x. x.finalize) code.now o.record) o.number o.master) }
-        ensures control { self.new.control ≡ self.old.control }
+    /// Takes the frame of the newest part off, with the part, and goes on so.
+    fn end_part(&mut self, mode: Mode)
+        requires control { 0 < vec_len self.old.control }
+        requires spots { 0 < vec_len self.old.spots }
+        ensures mode { self.new.mode ≡ mode }
+        ensures kept { Shows.kept self.new ≡ ended_part (front_of self.old.spots.items) (Shows.kept self.old) }
+        ensures events { self.new.events ≡ self.old.events }
+        ensures picks { self.new.picks ≡ self.old.picks }
     {
-        let newest = self.count_owned() - 1;
-        let object = self.owned[newest];
-        self.owned[newest].life = Life::Layer;
-        let finalize = code.records[object.record].finalize;
-        show_life(
-            self.alloc,
-            &mut self.events,
-            object.number,
-            object.master,
-            finalize,
-        );
-        self.mode = Mode::At(place);
+        let _ = self.control.take_last();
+        let _ = self.spots.take_last();
+        self.mode = mode;
     }
 
-    /// Ends the newest owned object, whose Initialize or Adjust has raised an exception, and raises this one: it never was a layer, and is not finalized (RM 7.6.1).
-    fn give_up(&mut self, exception: usize)
-        ghost o: { Owned }
-        requires { IsNewest self.old o }
-        ensures turns { Turns self.old self.new o LifeOf.Finalized (ModeOf.Transfers (WayOf.Raise exception)) [] }
-        ensures control { self.new.control ≡ self.old.control }
+    /// Notes that the creation of the newest part is complete, which is shown where the user wrote a Finalize for its type (RM 7.6);
+    /// unchanged where memory is refused.
+    fn complete(&mut self, code: &Code, creation: Creation) -> Result<(), AllocError>
+        ghost t: { Grown }
+        requires grows { Grows code.now self.old creation.record_type creation.master t }
+        ensures ok { OnOk result (Makes code.now self.old self.new (Table.completed code.now t.new t.control t.world)) }
+        ensures err { OnErr result (GoesOn self.old self.new self.old.mode self.old.cells.items) }
     {
-        let newest = self.count_owned() - 1;
-        self.owned[newest].life = Life::Finalized;
-        self.mode = Mode::Transfers(Way::Raise(exception));
+        let newest = self.count_spots() - 1;
+        let part = self.spots[newest].part(self.alloc)?;
+        self.events.reserve(1)?;
+        let finalize = finalize_in(code, creation.record_type);
+        show_life(&mut self.events, part, creation.master, finalize);
+        self.end_part(Mode::Giving(Ended::Complete));
+        Ok(())
     }
 
-    /// Calls the Initialize of the newest owned object, or its Adjust where it began by a copy, which the user wrote for its type with this
-    /// body (RM 7.6). No component is left that is to take its default, and the declaration goes on at this place; unchanged where memory
-    /// is refused.
+    /// Calls the Initialize of the newest part, of the owned object at this place, by the body that the user wrote for its type (RM 7.6);
+    /// unchanged where memory is refused.
     fn call_initialize(
         &mut self,
         code: &Code,
-        object: &Owned,
         entry: &Entry,
-        how: Beginning,
-        place: usize,
+        at: usize,
+        creation: Creation,
     ) -> Result<(), AllocError>
-        ghost s: { State }
+        ghost t: { Grown × Owned }
         requires valid { IsValid code.now }
-        requires before { BeforeResuming code.now self.old s }
-        requires full { IsFull self.old how place }
-        requires newest { IsNewest self.old object.now }
+        requires grows { Grows code.now self.old creation.record_type creation.master t.0 }
+        requires part { IsPartOf self.old at t.1 t.0 }
+        requires body { IsInitializeOf code.now creation.record_type entry.now }
         requires number { self.old.given_masters + 1 < 2 ^ 64 }
-        requires body { HasFirst code.now how object.now.record entry.now }
-        ensures ok { OnOk result ((ended : Tried Handed) → Makes code.now self.old self.new (Table.act code.now (Giving ended) s.control s.operands s.world 0)) }
+        ensures ok { OnOk result (Makes code.now self.old self.new (Table.initialize_by code.now (Table.operation_of (λ x. x.initialize) code.now creation.record_type) t.0.new (object_at t.0.new.spot.object t.0.world) t.0.control t.0.world)) }
         ensures err { OnErr result (GoesOn self.old self.new self.old.mode self.old.cells.items) }
     {
-        let base = self.window() + code.kinds.height_at(place, 0);
-        let link = self.around(entry.level);
-        let depth = self.depth_at(link) + 1;
-        let outer_formals = self.count_formals();
+        let newest = self.count_spots() - 1;
+        let target = &self.spots[newest];
+        let spot = target.copied(self.alloc)?;
+        let part = target.part(self.alloc)?;
+        let base = self.next_window(code);
         self.prepare(base, code.room, 1)?;
-        replace_top(&mut self.control, Frame::Initializing { how, place });
-        self.events
-            .push_reserved(first_call(self.alloc, how, object.number));
-        let master = Master {
-            number: self.given_masters + 1,
-            window: base,
-            base,
-            slots: entry.slots,
-            link,
-            depth,
-            owned: self.count_owned(),
-            outer_formals,
-            formals: outer_formals + 1,
-            spots: self.count_spots(),
-        };
-        self.open_for(master, Spot::whole(self.alloc, object.number), entry.place);
+        replace_top(
+            &mut self.control,
+            Frame::Initializing {
+                record: creation.record_type,
+                master: creation.master,
+            },
+        );
+        self.call_operation(code, entry, at, base, Event::Initialize(part), spot);
         Ok(())
     }
 
-    /// Goes on with the newest owned object, of which no component is left that is to take its default: its Initialize is called, or its
-    /// Adjust where it began by a copy, or it comes to life where the user wrote none for its type (RM 7.6). Its declaration goes on at
-    /// this place; unchanged where memory is refused.
-    pub(crate) fn initialize(
-        &mut self,
-        code: &Code,
-        how: Beginning,
-        place: usize,
-    ) -> Result<(), AllocError>
-        ghost s: { State }
+    /// Goes on with the newest part, which is controlled: its Initialize is called, or its creation is complete where the user wrote none
+    /// for its type (RM 7.6). Where its object is not there, the program is erroneous (RM 13.11.2). Unchanged where memory is refused.
+    fn initialize_controlled(&mut self, code: &Code, creation: Creation) -> Result<(), AllocError>
+        ghost t: { Grown }
         requires valid { IsValid code.now }
-        requires before { BeforeResuming code.now self.old s }
-        requires full { IsFull self.old how place }
+        requires grows { Grows code.now self.old creation.record_type creation.master t }
         requires number { self.old.given_masters + 1 < 2 ^ 64 }
-        ensures ok { OnOk result ((ended : Tried Handed) → Makes code.now self.old self.new (Table.act code.now (Giving ended) s.control s.operands s.world 0)) }
+        ensures ok { OnOk result (Makes code.now self.old self.new (Table.initialize_by code.now (Table.operation_of (λ x. x.initialize) code.now creation.record_type) t.new (object_at t.new.spot.object t.world) t.control t.world)) }
         ensures err { OnErr result (GoesOn self.old self.new self.old.mode self.old.cells.items) }
     {
-        let object = self.newest_object();
-        let operations = &code.records[object.record];
-        if let Some(body) = first_operation(operations, how) {
-            return self.call_initialize(code, &object, &code.entries[body], how, place);
+        let newest = self.count_spots() - 1;
+        let spot = &self.spots[newest];
+        let Some(at) = find(self.owned.as_slice(), spot.object()) else {
+            self.end_part(Mode::Stopped(Stop::UseAfterFree));
+            return Ok(());
+        };
+        match initialize_of(code, creation.record_type) {
+            Some(entry) => self.call_initialize(code, &entry, at, creation),
+            None => self.complete(code, creation),
         }
-        self.events.reserve(1)?;
-        let _ = self.control.take_last();
-        self.bring_to_life(code, place);
-        Ok(())
     }
 
-    /// Goes on behind the Initialize of the newest owned object, or its Adjust, which has ended so (RM 7.6): the object is a layer of its
-    /// master, or an exception is raised, after an Adjust Program_Error (RM 7.6.1); unchanged where memory is refused.
+    /// Goes on with the newest part, of which no component is left that is to begin: it is initialized if it is controlled (RM 7.6);
+    /// unchanged where memory is refused.
+    pub(crate) fn initialize(&mut self, code: &Code, creation: Creation) -> Result<(), AllocError>
+        ghost t: { Grown }
+        requires valid { IsValid code.now }
+        requires grows { Grows code.now self.old creation.record_type creation.master t }
+        requires number { self.old.given_masters + 1 < 2 ^ 64 }
+        ensures ok { OnOk result (Makes code.now self.old self.new (Table.initialize_own code.now (Table.parts_of code.now t.new.type) t.new t.control t.world)) }
+        ensures err { OnErr result (GoesOn self.old self.new self.old.mode self.old.cells.items) }
+    {
+        match parts_of(code, creation.record_type) {
+            Parts::Controlled => self.initialize_controlled(code, creation),
+            _ => {
+                self.end_part(Mode::Giving(Ended::Complete));
+                Ok(())
+            }
+        }
+    }
+
+    /// Goes on behind the Initialize of the newest part, which has ended so (RM 7.6): its creation is complete, or it has failed
+    /// (RM 7.6.1); unchanged where memory is refused.
     pub(crate) fn resume_initializing(
         &mut self,
         code: &Code,
         ended: Ended,
-        how: Beginning,
-        place: usize,
+        record: usize,
+        master: u64,
     ) -> Result<(), AllocError>
         ghost s: { State }
-        requires valid { IsValid code.now }
         requires before { BeforeResuming code.now self.old s }
-        requires top { (fs : List Frame) × (reverse self.old.control.items ≡ FrameOf.Initializing how place ∷ fs) }
+        requires top { (fs : List Frame) × (reverse self.old.control.items ≡ FrameOf.Initializing «record» master ∷ fs) }
         ensures ok { OnOk result (Makes code.now self.old self.new (Table.act code.now (Giving (Shows.tried_of ended)) s.control s.operands s.world 0)) }
         ensures err { OnErr result (GoesOn self.old self.new self.old.mode self.old.cells.items) }
     {
         if let Ended::Raised(exception) = ended {
-            let _ = self.control.take_last();
-            self.give_up(raised_in(how, exception));
-            return Ok(());
+            return self.fail(code, record, all_controlled(code, record), exception);
         }
-        self.events.reserve(1)?;
-        let _ = self.control.take_last();
-        self.bring_to_life(code, place);
-        Ok(())
+        let creation = Creation {
+            record_type: record,
+            master,
+        };
+        self.complete(code, creation)
     }
 }

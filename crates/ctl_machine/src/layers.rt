@@ -1,22 +1,22 @@
 //! The layers of a master: its owned objects, which are left one by one, the newest first, and finalized where some part of them is
 //! controlled (RM 7.6.1).
 
-ghost use Rattle.std.specs.Prelude.{◌≡◌, ◌<◌, [], ◌∷◌, List, IfNone, IfSome, None, Some, drop, reverse, slice_get, vec_len};
+ghost use Rattle.std.specs.Prelude.{◌≡◌, ◌||◌, ◌+◌, ◌<◌, [], ◌∷◌, List, IfNone, IfSome, None, Some, drop, reverse, slice_get, slice_set, vec_capacity, vec_len};
 ghost use Rattle.ctl_meaning.specs.Outcome.{Fine};
 ghost use Rattle.ctl_code.specs.States.{Giving, State};
 ghost use Rattle.ctl_code.specs.Table as Table;
-ghost use Rattle.ctl_code.specs.Valid.{IsRecord, IsValid};
+ghost use Rattle.ctl_code.specs.Valid.{IsValid};
 ghost use Rattle.ctl_machine.specs.declared.frame.Frame.{Frame};
 ghost use Rattle.ctl_machine.specs.declared.frame.Frame.TheVariants as FrameOf;
-ghost use Rattle.ctl_machine.specs.Departing.{IsFinalizeOf, IsNewestLayer, TakesOut, ended_life};
-ghost use Rattle.ctl_machine.specs.Initializing.{in_life};
+ghost use Rattle.ctl_machine.specs.declared.frame.Owned.{Owned};
+ghost use Rattle.ctl_machine.specs.Departing.{IsFinalizeOf, IsNewestLayer, TakesOut, ended_life, out, taken};
 ghost use Rattle.ctl_machine.specs.Masters.{layers_from, rising_layers};
 ghost use Rattle.ctl_machine.specs.Moves.{BeforeResuming, Makes};
 ghost use Rattle.ctl_machine.specs.Shows as Shows;
 
 use crate::calls::{Departure, replace_top};
 use crate::engine::Engine;
-use crate::frame::{Completion, Ended, Life, Master, Mode, Owned};
+use crate::frame::{Completion, Ended, Frame, Life, Master, Mode};
 use ctl_code::code::{Code, Entry, Way};
 
 /// The number of Program_Error in the table of exceptions (RM 11.1).
@@ -24,7 +24,7 @@ pub(crate) const PROGRAM_ERROR: usize = 1;
 
 impl Life {
     /// Answers how far the life has come where a finalization has ended.
-    fn ended(self) -> Life
+    pub(crate) fn ended(self) -> Life
         ensures { result ≡ ended_life self }
     {
         match self {
@@ -34,13 +34,13 @@ impl Life {
     }
 }
 
-/// Answers what the Finalize of an object hands on: one that raised is remembered, and the exception goes no further (RM 7.6.1).
+/// Answers what the finalization of an object hands on: one that raised is remembered, and the exception goes no further (RM 7.6.1).
 fn remembered(ended: Ended) -> Ended
     ensures { Shows.tried_of result ≡ Fine (Table.finalized (Shows.tried_of ended)) }
 {
     match ended {
         Ended::Raised(_) => Ended::FinalizationFailed,
-        _ => Ended::Complete,
+        other => other,
     }
 }
 
@@ -65,14 +65,20 @@ pub(crate) fn says_failed(ended: Ended) -> bool
     !matches!(ended, Ended::Complete)
 }
 
+/// Tells whether a finalization has failed, before or in what has ended so (RM 7.6.1).
+pub(crate) fn fails_with(failed: bool, ended: Ended) -> bool
+    ensures { result ≡ (failed || Table.says_failed (Shows.tried_of ended)) }
+{
+    failed || says_failed(ended)
+}
+
 /// Answers the body that the user wrote for the Finalize of a record type, if there is one (RM 7.6).
 pub(crate) fn finalize_of(code: &Code, record_type: usize) -> Option<Entry>
     requires valid { IsValid code.now }
-    requires known { IsRecord code.now record_type }
     ensures none { IfNone result (Table.operation_of (λ x. x.finalize) code.now record_type ≡ None) }
     ensures some { IfSome result (λ entry. IsFinalizeOf code.now record_type entry) }
 {
-    let finalize = code.records[record_type].finalize?;
+    let finalize = code.records.as_slice().get(record_type)?.finalize?;
     Some(code.entries[finalize])
 }
 
@@ -86,24 +92,52 @@ impl Engine {
         let mut end = next.min(self.count_owned());
         while end > master.owned {
             end -= 1;
-            if matches!(self.owned[end].life, Life::Layer) {
+            if self.owned[end].is_layer {
                 return Some(end);
             }
         }
         None
     }
 
-    /// Takes the object at this place out of the layers of the master that is left so, of which it is the newest, and leaves it in this
-    /// life: nothing is executed for it (RM 7.6.1).
-    pub(crate) fn take_out(&mut self, departure: Departure, at: usize, life: Life)
+    /// Takes the object at this place out of the layers of the master that is left so, of which it is the newest: nothing is executed for
+    /// it (RM 7.6.1).
+    pub(crate) fn take_out(&mut self, departure: Departure, at: usize)
         ghost o: { Owned }
         requires found { slice_get self.old.owned.items at ≡ Some o }
         requires waiting { 0 < vec_len self.old.control }
-        ensures { TakesOut self.old self.new departure.failed departure.pending departure.after at (in_life life o) }
+        ensures { TakesOut self.old self.new departure.failed departure.pending departure.after at (out o) }
     {
-        self.owned[at].life = life;
+        self.owned[at].is_layer = false;
         replace_top(&mut self.control, departure.frame(at));
         self.mode = Mode::Giving(Ended::Complete);
+    }
+
+    /// Takes the object at this place out of the layers of the master that is left so, of which it is the newest, and begins its
+    /// finalization (RM 7.6.1); there is room for its frame.
+    pub(crate) fn begin_layer(&mut self, departure: Departure, at: usize)
+        ghost o: { Owned }
+        requires found { slice_get self.old.owned.items at ≡ Some o }
+        requires top { 0 < vec_len self.old.control }
+        requires control { vec_len self.old.control < vec_capacity self.old.control }
+        ensures control { reverse self.new.control.items ≡ FrameOf.Finalizing at ∷ FrameOf.Leaving departure.failed departure.pending departure.after at ∷ drop 1 (reverse self.old.control.items) }
+        ensures room { vec_len self.new.control ≡ vec_len self.old.control + 1 }
+        ensures capacity { vec_capacity self.new.control ≡ vec_capacity self.old.control }
+        ensures owned { self.new.owned.items ≡ slice_set self.old.owned.items at (taken o) }
+        ensures masters { self.new.masters ≡ self.old.masters }
+        ensures cells { self.new.cells ≡ self.old.cells }
+        ensures parts { self.new.parts ≡ self.old.parts }
+        ensures saved { self.new.saved ≡ self.old.saved }
+        ensures formals { self.new.formals ≡ self.old.formals }
+        ensures spots { self.new.spots ≡ self.old.spots }
+        ensures numbers { (self.new.given_masters ≡ self.old.given_masters) × (self.new.given_objects ≡ self.old.given_objects) }
+        ensures events { self.new.events ≡ self.old.events }
+        ensures picks { self.new.picks ≡ self.old.picks }
+    {
+        let object = &mut self.owned[at];
+        object.is_layer = false;
+        object.life = Life::Finalizing;
+        replace_top(&mut self.control, departure.frame(at));
+        self.control.push_reserved(Frame::Finalizing(at));
     }
 
     /// Notes that the finalization of an owned object has ended, and hands on whether it failed (RM 7.6.1).

@@ -1,6 +1,6 @@
 //! The cells of owned objects: they lie one object behind another, those of the newest object last (RM 3.8).
 
-ghost use Rattle.std.specs.Prelude.{◌≡◌, ◌+◌, ◌-◌, ◌<◌, ◌≤◌, ◌++◌, Some, drop, length, replicate, slice_get, vec_capacity, vec_len};
+ghost use Rattle.std.specs.Prelude.{◌≡◌, ◌+◌, ◌-◌, ◌^◌, ◌<◌, ◌≤◌, ◌++◌, Some, drop, length, replicate, slice_get, vec_capacity, vec_len};
 ghost use Rattle.ctl_meaning.specs.Lists.{item_or};
 ghost use Rattle.ctl_meaning.specs.Names.{scalar_of};
 ghost use Rattle.ctl_meaning.specs.Objects.{cells_at};
@@ -9,7 +9,7 @@ ghost use Rattle.ctl_machine.specs.Masters.{object_of};
 ghost use Rattle.ctl_machine.specs.Parts as Cells;
 
 use crate::frame::Owned;
-use ctl_code::code::{Code, Defaulted, Parts};
+use ctl_code::code::{Begun, Code, Parts};
 
 /// Answers how many cells an object of a record type has; none where the code knows no such type.
 pub(crate) fn size_of(code: &Code, record: usize) -> usize
@@ -31,24 +31,35 @@ pub(crate) fn parts_of(code: &Code, record: usize) -> Parts
     }
 }
 
-/// Counts the components of a record type that have defaults (RM 3.8); none where the code knows no such type.
-pub(crate) fn count_defaulted(code: &Code, record: usize) -> usize
-    ensures { result ≡ length (Table.defaulted_of code.now «record») }
+/// Counts the components of a record type that begin with something (RM 3.8, 7.6); none where the code knows no such type.
+pub(crate) fn count_begun(code: &Code, record: usize) -> usize
+    ensures { result ≡ length (Table.begun_of code.now «record») }
 {
     match code.layouts.as_slice().get(record) {
-        Some(layout) => layout.defaulted.as_slice().len(),
+        Some(layout) => layout.begun.as_slice().len(),
         None => 0,
     }
 }
 
-/// Answers the component at a place among those of a record type that have defaults.
-pub(crate) fn defaulted_at(code: &Code, record: usize, at: usize) -> Defaulted
-    requires { at < length (Table.defaulted_of code.now «record») }
-    ensures { slice_get (Table.defaulted_of code.now «record») at ≡ Some result }
+/// Answers the component at a place among those of a record type that begin with something.
+pub(crate) fn begun_at(code: &Code, record: usize, at: usize) -> Begun
+    requires { at < length (Table.begun_of code.now «record») }
+    ensures { slice_get (Table.begun_of code.now «record») at ≡ Some result }
 {
     match code.layouts.as_slice().get(record) {
-        Some(layout) => layout.defaulted[at],
+        Some(layout) => layout.begun[at],
         None => unreachable!(),
+    }
+}
+
+/// Counts the components of a record type with a controlled part (RM 7.6.1); none where the code knows no such type.
+pub(crate) fn count_controlled(code: &Code, record: usize) -> usize
+    ensures count { result ≡ length (Table.controlled_of code.now «record») }
+    ensures bound { result < 2 ^ 63 }
+{
+    match code.layouts.as_slice().get(record) {
+        Some(layout) => layout.controlled.as_slice().len(),
+        None => 0,
     }
 }
 

@@ -17,19 +17,13 @@ pub(crate) fn whole(alloc: Global, object: u64) -> Part
     }
 }
 
-/// Shows that an object of this master has come to life, where the user wrote a Finalize for its type (RM 7.6).
+/// Shows that a part of an object of this master has come to life, where the user wrote a Finalize for its type (RM 7.6).
 #[tactic(auto, unfolding(ctl_meaning::specs::Changes::owner_of))]
-pub(crate) fn show_life(
-    alloc: Global,
-    events: &mut Vec<Event>,
-    object: u64,
-    master: u64,
-    finalize: Option<usize>,
-)
+pub(crate) fn show_life(events: &mut Vec<Event>, part: Part, master: u64, finalize: Option<usize>)
     requires { vec_len events.old < vec_capacity events.old }
-    ensures { events.new.items ≡ events.old.items ++ Table.birth finalize object master }
+    ensures { events.new.items ≡ events.old.items ++ Table.birth finalize part master }
 {
     if finalize.is_some() {
-        events.push_reserved(Event::Live(whole(alloc, object), Owner::Master(master)));
+        events.push_reserved(Event::Live(part, Owner::Master(master)));
     }
 }

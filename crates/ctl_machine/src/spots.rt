@@ -3,6 +3,7 @@
 ghost use Rattle.std.specs.Prelude.{◌≡◌, ◌+◌, ◌++◌, [], ◌∷◌, IfOk, OnErr, OnOk};
 ghost use Rattle.ctl_code.specs.Table as Table;
 ghost use Rattle.ctl_meaning.specs.Lists.{same_list};
+ghost use Rattle.ctl_meaning.specs.Finalization.{is_whole};
 ghost use Rattle.ctl_machine.specs.Spots.{whole_spot};
 
 use ctl_tree::event::Part;
@@ -63,6 +64,14 @@ impl Spot {
             offset: self.offset,
             path: Path::from_slice(alloc, self.path.as_slice())?,
         })
+    }
+
+    /// Tells whether it is the whole of its object.
+    #[tactic(auto, unfolding(ctl_meaning::specs::Finalization::is_whole))]
+    pub(crate) fn is_whole(&self) -> bool
+        ensures { result ≡ is_whole self.now }
+    {
+        is_same_path(self.path.as_slice(), &[])
     }
 
     /// Answers the part as what is shown names it.

@@ -1,5 +1,5 @@
 -- Which items and statements by themselves this version runs.
-use Rattle.std.specs.Prelude.{Bool, true, false, ◌&&◌, ◌||◌, List, [], ◌∷◌, codes, is_none, Option, Some, None, if◌then◌else◌}
+use Rattle.std.specs.Prelude.{Bool, true, false, ◌&&◌, ◌||◌, List, [], ◌∷◌, codes, is_none, is_some, Option, Some, None, if◌then◌else◌}
 use Rattle.ctl_grammar.specs.Spelling.{same_name}
 use Rattle.ctl_syntax.specs.declared.denoted.Definition.{Definition}
 use Rattle.ctl_syntax.specs.declared.denoted.Denoted.{Denoted}
@@ -89,36 +89,31 @@ abbrev pub may_default : Option (Expression Use) → Bool
 may_default None = true
 may_default (Some e) = is_literal e
 
--- the one that is further from being run
-abbrev pub worse : Support → Support → Support
-worse Run s = s
-worse ByTypes LeftOut = LeftOut
-worse ByTypes s = ByTypes
-worse LeftOut s = LeftOut
+-- components of a scalar type, with such a default; or of a type of the text, which is judged where it is declared, without one (3.8)
+abbrev pub may_be_component : Components Use → Bool
+may_be_component c = (is_scalar c.mark.first.denoted && may_default c.default) || (is_of_text c.mark.first.denoted && is_none c.default)
 
--- components of a scalar type, with such a default (3.8); of a type of the text and without one, it is that type that tells
-abbrev pub of_components : Components Use → Support
-of_components c =
-    if is_scalar c.mark.first.denoted && may_default c.default then Run
-    else (if is_of_text c.mark.first.denoted && is_none c.default then ByTypes else LeftOut)
-
-abbrev pub of_all : List (Components Use) → Support
-of_all [] = Run
-of_all (c ∷ cs) = worse (of_components c) (of_all cs)
+abbrev pub may_all_be_components : List (Components Use) → Bool
+may_all_be_components [] = true
+may_all_be_components (c ∷ cs) = may_be_component c && may_all_be_components cs
 
 -- a record of such components (3.8), or a type that extends such a type by them (3.9.1)
 abbrev pub of_type : Type_definition Use → Support
-of_type (Record limitation components) = of_all components
-of_type (Extension parent added) = worse (support_when (may_be_extended parent.first.denoted)) (of_all added)
+of_type (Record limitation components) = support_when (may_all_be_components components)
+of_type (Extension parent added) = support_when (may_be_extended parent.first.denoted && may_all_be_components added)
 of_type d = LeftOut
 
--- objects of this type, with these discriminants: of a type of the text without any, and of a scalar one (3.3.1)
-abbrev pub of_objects_as : Denoted → List (Association Use) → Support
-of_objects_as (Declared number level) discriminants = support_when (is_empty discriminants)
-of_objects_as d discriminants = support_when (is_scalar d)
+-- where there are discriminants, objects of a type of the text are not run; where they have a value, it is that type that tells
+abbrev pub of_text_objects : Bool → Bool → Support
+of_text_objects bare valued = if bare then (if valued then ByTypes else Run) else LeftOut
+
+-- objects of this type, with these discriminants, and with a value or without: of a type of the text, and of a scalar one (3.3.1)
+abbrev pub of_objects_as : Denoted → List (Association Use) → Bool → Support
+of_objects_as (Declared number level) discriminants valued = of_text_objects (is_empty discriminants) valued
+of_objects_as d discriminants valued = support_when (is_scalar d)
 
 abbrev pub of_objects : Objects Definition Use → Support
-of_objects o = of_objects_as o.mark.first.denoted o.discriminants
+of_objects o = of_objects_as o.mark.first.denoted o.discriminants (is_some o.value)
 
 -- calls of Put, Put_Line and New_Line (A.10.7)
 abbrev pub is_output : Denoted → Bool

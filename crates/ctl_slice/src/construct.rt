@@ -91,17 +91,6 @@ fn is_literal(expression: &Expression<Use>) -> bool
     }
 }
 
-/// Answers the one that is further from being run.
-fn worse(left: Support, right: Support) -> Support
-    ensures { result ≡ spec.worse left right }
-{
-    match (left, right) {
-        (Support::Run, support) => support,
-        (Support::LeftOut, _) | (Support::ByTypes, Support::LeftOut) => Support::LeftOut,
-        (Support::ByTypes, _) => Support::ByTypes,
-    }
-}
-
 /// Tells whether there is no default expression, or a literal (RM 3.8).
 fn may_default(default: &Option<Expression<Use>>) -> bool
     ensures { result ≡ spec.may_default default.now }
@@ -112,30 +101,26 @@ fn may_default(default: &Option<Expression<Use>>) -> bool
     }
 }
 
-/// Judges components: those of a scalar type are run, without a default expression or with a literal; of those of a type of the text
-/// without one that type tells it (RM 3.8).
-fn of_components(components: &Components<Use>) -> Support
-    ensures { result ≡ spec.of_components components.now }
+/// Tells whether components are run: of a scalar type, without a default expression or with a literal; or of a type of the text without one
+/// (RM 3.8).
+fn may_be_component(components: &Components<Use>) -> bool
+    ensures { result ≡ spec.may_be_component components.now }
 {
     let denoted = components.mark.first.denoted;
-    if is_scalar(denoted) && may_default(&components.default) {
-        Support::Run
-    } else if is_of_text(denoted) && components.default.is_none() {
-        Support::ByTypes
-    } else {
-        Support::LeftOut
-    }
+    (is_scalar(denoted) && may_default(&components.default))
+        || (is_of_text(denoted) && components.default.is_none())
 }
 
-/// Judges all of these.
-fn of_all(all: &[Components<Use>]) -> Support
-    ensures { result ≡ spec.of_all all.now }
+/// Tells whether all of these are.
+fn may_all_be_components(all: &[Components<Use>]) -> bool
+    ensures { result ≡ spec.may_all_be_components all.now }
 {
-    let mut support = Support::Run;
     for components in all {
-        support = worse(support, of_components(components));
+        if !may_be_component(components) {
+            return false;
+        }
     }
-    support
+    true
 }
 
 /// Judges a type: a record with such components alone is run (RM 3.8), and so is one that extends Controlled, Limited_Controlled or a type of
@@ -144,10 +129,11 @@ pub(crate) fn of_type(definition: &TypeDefinition<Use>) -> Support
     ensures { result ≡ spec.of_type definition.now }
 {
     match definition {
-        TypeDefinition::Record(_, components) => of_all(components.as_slice()),
-        TypeDefinition::Extension(parent, added) => worse(
-            support_when(may_be_extended(parent.first.denoted)),
-            of_all(added.as_slice()),
+        TypeDefinition::Record(_, components) => {
+            support_when(may_all_be_components(components.as_slice()))
+        }
+        TypeDefinition::Extension(parent, added) => support_when(
+            may_be_extended(parent.first.denoted) && may_all_be_components(added.as_slice()),
         ),
         _ => Support::LeftOut,
     }
@@ -174,12 +160,26 @@ fn is_scalar(denoted: Denoted) -> bool
     )
 }
 
+/// Judges objects of a type of the text: those without discriminants are run; where they have a value, it is the type that tells.
+fn of_text_objects(is_bare: bool, is_valued: bool) -> Support
+    ensures { result ≡ spec.of_text_objects is_bare is_valued }
+{
+    match (is_bare, is_valued) {
+        (true, false) => Support::Run,
+        (true, true) => Support::ByTypes,
+        (false, _) => Support::LeftOut,
+    }
+}
+
 /// Judges objects: scalar ones are run, and others of a declared type without discriminants (RM 3.3.1).
 pub(crate) fn of_objects(objects: &Objects<Definition, Use>) -> Support
     ensures { result ≡ spec.of_objects objects.now }
 {
     match objects.mark.first.denoted {
-        Denoted::Declared(_, _) => { support_when(objects.discriminants.as_slice().is_empty()) }
+        Denoted::Declared(_, _) => {
+            let is_bare = objects.discriminants.as_slice().is_empty();
+            of_text_objects(is_bare, objects.value.is_some())
+        }
         denoted => support_when(is_scalar(denoted)),
     }
 }

@@ -1,7 +1,7 @@
 //! Record objects are assigned to: the target is finalized, takes the value, and is adjusted.
 
+use crate::codes::{FAREWELL, outcome_shown, printed, valid_code_with_both};
 use crate::lines::{CELL_4, CELL_5, Line};
-use crate::machine::{FAREWELL, outcome_shown, printed, valid_code_with_both};
 use ctl_code::code::{Instr, Way};
 use ctl_machine::machine::Machine;
 use ctl_machine::outcome::Outcome;

@@ -1,7 +1,7 @@
 //! Procedures are called in a loop: each call goes on behind it, or the exception of its body goes on.
 
+use crate::codes::{FAREWELL, printed, valid_code_with_both};
 use crate::lines::{CELL_2, CELL_3, CELL_4, FIRST, Line};
-use crate::machine::{FAREWELL, printed, valid_code_with_both};
 use ctl_code::code::{Instr, Way};
 use ctl_machine::machine::Machine;
 use ctl_machine::outcome::Outcome;

@@ -1,8 +1,8 @@
 //! Components of a declared object take their defaults, one chosen after another, or the object takes a copy of another's value.
 
-use crate::lines::{CELL_3, CELL_4, Line};
-use crate::machine::{FAREWELL, outcome_shown, printed, valid_code_with, valid_code_with_adjust};
-use ctl_code::code::{Defaulted, Instr, Layout, Parts, Way};
+use crate::codes::{FAREWELL, outcome_shown, printed, valid_code_with, valid_code_with_adjust};
+use crate::lines::{BODY_LEVEL, CELL_3, CELL_4, Line};
+use ctl_code::code::{Begun, Initial, Instr, Layout, Parts, Way};
 use ctl_code::valid::ValidCode;
 use ctl_machine::machine::Machine;
 use ctl_machine::outcome::{Outcome, Progress};
@@ -157,32 +157,25 @@ const RAISED: &[Line] = &[
 ];
 
 /// The defaults of the components.
-const DEFAULTS: [Defaulted; 3] = [
-    Defaulted {
-        offset: 0,
-        value: 10,
-    },
-    Defaulted {
-        offset: 1,
-        value: 20,
-    },
-    Defaulted {
-        offset: 2,
-        value: 30,
-    },
-];
+const DEFAULTS: [u64; 3] = [10, 20, 30];
 
 /// A layout with such parts and three components, of which so many, the first ones, have defaults.
 fn layout_of_three(alloc: Global, parts: Parts, count: usize) -> Result<Layout, AllocError> {
-    let mut defaulted = Vec::new(alloc);
-    for component in DEFAULTS.iter().take(count) {
-        defaulted.push(*component)?;
+    let mut begun = Vec::new(alloc);
+    for (offset, value) in DEFAULTS.iter().enumerate().take(count) {
+        begun.push(Begun {
+            position: offset + 1,
+            offset,
+            initial: Initial::Constant(*value),
+        })?;
     }
     Ok(Layout {
         parts,
+        level: BODY_LEVEL,
         cells: 3,
         offsets: vec![in alloc; 0, 1, 2]?,
-        defaulted,
+        begun,
+        controlled: Vec::new(alloc),
     })
 }
 
@@ -246,14 +239,14 @@ fn each_component_costs_a_step(rt: HostRuntime) -> Result<(), Fail> {
     Ok(())
 }
 
-/// The machine goes by the layout: after the birth of the object there are only the three lines, and nothing that the Finalize prints.
+/// The machine goes by the layout: there are only the three lines, no birth, and nothing that the Finalize prints.
 #[test]
 fn an_object_without_a_controlled_part_is_not_finalized(rt: HostRuntime) -> Result<(), Fail> {
     let alloc = rt.alloc();
     let code = code_with_defaults(alloc, Parts::Plain, 3)?;
     let outcome = outcome_of(alloc, &code, Order::Newest, 1000)?;
     assert!(rt; matches!(&outcome.end, End::Done));
-    assert_eq!(rt; outcome.events.len(), 7);
+    assert_eq!(rt; outcome.events.len(), 6);
     let bytes = printed(alloc, &outcome)?;
     assert_eq!(rt; bytes.as_slice(), b" 10\n 20\n 30\n".as_slice());
     Ok(())

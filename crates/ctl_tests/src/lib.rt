@@ -8,6 +8,10 @@ mod called;
 #[cfg(test)]
 mod code;
 #[cfg(test)]
+mod codes;
+#[cfg(test)]
+mod controlled;
+#[cfg(test)]
 mod filled;
 #[cfg(test)]
 mod lex;

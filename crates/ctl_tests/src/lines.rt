@@ -13,6 +13,9 @@ pub type Line = (Instr, &'static str);
 /// How many slots the main procedure has.
 pub const MAIN_SLOTS: usize = 2;
 
+/// How many masters stand around each other body, and around the record types.
+pub const BODY_LEVEL: usize = 1;
+
 /// How many slots each other body has.
 pub const BODY_SLOTS: usize = 1;
 
@@ -116,7 +119,7 @@ fn kind_of(letter: char) -> Kind {
             slots: MAIN_SLOTS,
         },
         'f' => Kind::Body {
-            level: 1,
+            level: BODY_LEVEL,
             slots: BODY_SLOTS,
         },
         '[' => Kind::Block(1),
@@ -155,8 +158,10 @@ pub fn instructions_of(alloc: Global, lines: &[Line]) -> Result<Vec<Instr>, Allo
 pub fn layout_of_two(alloc: Global) -> Result<Layout, AllocError> {
     Ok(Layout {
         parts: Parts::Controlled,
+        level: BODY_LEVEL,
         cells: 2,
         offsets: vec![in alloc; 0, 1]?,
-        defaulted: Vec::new(alloc),
+        begun: Vec::new(alloc),
+        controlled: Vec::new(alloc),
     })
 }

@@ -1,21 +1,18 @@
 //! Small codes, run to their ends and to a limit.
 
+use crate::codes::{FAREWELL, code_of, outcome_shown, printed, valid_code_of};
 use crate::lines::{
-    ADD, BODY_SLOTS, CELL_1, CELL_2, CELL_3, CELL_4, DIVIDE, EQUAL, FIRST, Line, MAIN_SLOTS,
-    MODULO, MULTIPLY, OUTER, REMAINDER, instructions_of, layout_of_two, notes_of,
+    ADD, CELL_1, CELL_2, CELL_3, CELL_4, DIVIDE, EQUAL, FIRST, Line, MODULO, MULTIPLY, OUTER,
+    REMAINDER, SECOND,
 };
-use ctl_code::code::{Cell, Code, Entry, Instr, Layout, Operations};
-use ctl_code::template::{Template, TextPart};
-use ctl_code::valid::ValidCode;
+use ctl_code::code::{Cell, Instr};
 use ctl_machine::machine::Machine;
 use ctl_machine::outcome::{Outcome, Progress};
 use ctl_program::operators::Direction;
 use ctl_program::types::Ty;
 use ctl_tree::ending::{End, Stop};
-use ctl_tree::event::{Event, Owner};
 use ctl_tree::request::Order;
-use ctl_tree::text::Text;
-use std::alloc::{AllocError, Global};
+use std::alloc::Global;
 use std::test::Fail;
 
 /// A main procedure with a block that declares two objects of one type, whose Finalize prints a line.
@@ -509,9 +506,6 @@ const BODY_IN_ITS_HOME: &[Line] = &[
     (Instr::Leave, "f"),
 ];
 
-/// Prints a line, in a body without operands.
-pub const FAREWELL: Instr = Instr::PutLine { text: 0, first: 1 };
-
 /// Puts the first variable of the main procedure, in the body of another.
 const FETCH_OUTER: Instr = Instr::Fetch {
     out: 1,
@@ -519,206 +513,6 @@ const FETCH_OUTER: Instr = Instr::Fetch {
     ty: Ty::Integer,
     to: CELL_1,
 };
-
-/// A text of these parts.
-fn template_of(alloc: Global, parts: Vec<TextPart>) -> Result<Template, AllocError> {
-    let mut template = Template::new(alloc);
-    for part in parts {
-        template.push(part)?;
-    }
-    Ok(template)
-}
-
-/// A farewell, an image, and three images.
-fn texts_of(alloc: Global) -> Result<Vec<Template>, AllocError> {
-    let farewell = TextPart::Literal(Text::from_slice(alloc, b"bye")?);
-    let blank = TextPart::Literal(Text::from_slice(alloc, b" ")?);
-    let texts = vec![in alloc;
-        template_of(alloc, vec![in alloc; farewell]?)?,
-        template_of(alloc, vec![in alloc; TextPart::IntegerImage]?)?,
-        template_of(
-            alloc,
-            vec![in alloc;
-                TextPart::IntegerImage,
-                TextPart::IntegerImage,
-                blank,
-                TextPart::BooleanImage
-            ]?
-        )?,
-    ]?;
-    Ok(texts)
-}
-
-/// The layouts of so many record types, of which the first has this one.
-fn layouts_of(alloc: Global, first: Layout, count: usize) -> Result<Vec<Layout>, AllocError> {
-    let mut layouts = vec![in alloc; first]?;
-    for _ in 1..count {
-        layouts.push(layout_of_two(alloc)?)?;
-    }
-    Ok(layouts)
-}
-
-/// The code of these lines: the main procedure stands behind the first of them, and at each of these places the Finalize of a record
-/// type. The first record type has this layout.
-fn code_with(
-    alloc: Global,
-    lines: &[Line],
-    finalizers: &[usize],
-    layout: Layout,
-) -> Result<Code, AllocError> {
-    let mut entries = vec![in alloc;
-        Entry {
-            level: 0,
-            slots: MAIN_SLOTS,
-            place: 1
-        },
-    ]?;
-    let mut records = Vec::new(alloc);
-    for place in finalizers {
-        records.push(Operations {
-            initialize: None,
-            adjust: None,
-            finalize: Some(entries.len()),
-        })?;
-        entries.push(Entry {
-            level: 1,
-            slots: BODY_SLOTS,
-            place: *place,
-        })?;
-    }
-    let notes = notes_of(alloc, lines)?;
-    let room = notes.room();
-    Ok(Code {
-        instructions: instructions_of(alloc, lines)?,
-        kinds: notes.finish(),
-        room,
-        entries,
-        records,
-        layouts: layouts_of(alloc, layout, finalizers.len())?,
-        texts: texts_of(alloc)?,
-        exceptions: vec![in alloc; Text::from_slice(alloc, b"CONSTRAINT_ERROR")?]?,
-    })
-}
-
-/// Such code, whose record type has two components without defaults.
-fn code_of(alloc: Global, lines: &[Line], finalizers: &[usize]) -> Result<Code, AllocError> {
-    code_with(alloc, lines, finalizers, layout_of_two(alloc)?)
-}
-
-/// Code that is well formed.
-fn validated(code: Code) -> Result<ValidCode, Fail> {
-    match code.validate() {
-        Some(valid) => Ok(valid),
-        None => Err(Fail::new("the code is not well formed")),
-    }
-}
-
-/// The code of these lines, which is well formed, where the first record type has this layout.
-pub fn valid_code_with(
-    alloc: Global,
-    lines: &[Line],
-    finalizers: &[usize],
-    layout: Layout,
-) -> Result<ValidCode, Fail> {
-    validated(code_with(alloc, lines, finalizers, layout)?)
-}
-
-/// The code of these lines, which is well formed, where the first record type has this layout, and the body at this place is its Adjust.
-/// Exceptions are Constraint_Error and Program_Error.
-pub fn valid_code_with_adjust(
-    alloc: Global,
-    lines: &[Line],
-    adjust: usize,
-    layout: Layout,
-) -> Result<ValidCode, Fail> {
-    let mut code = code_with(alloc, lines, &[adjust], layout)?;
-    code.records = vec![in alloc;
-        Operations {
-            initialize: None,
-            adjust: Some(1),
-            finalize: None
-        },
-    ]?;
-    code.exceptions
-        .push(Text::from_slice(alloc, b"PROGRAM_ERROR")?)?;
-    validated(code)
-}
-
-/// The code of these lines, which is well formed, whose record type has the body at the first place as its Finalize and the one at the
-/// second as its Adjust. Exceptions are Constraint_Error and Program_Error.
-pub fn valid_code_with_both(
-    alloc: Global,
-    lines: &[Line],
-    finalize: usize,
-    adjust: usize,
-) -> Result<ValidCode, Fail> {
-    let mut code = code_of(alloc, lines, &[finalize, adjust])?;
-    code.records = vec![in alloc;
-        Operations {
-            initialize: None,
-            adjust: Some(2),
-            finalize: Some(1)
-        },
-    ]?;
-    code.layouts = layouts_of(alloc, layout_of_two(alloc)?, 1)?;
-    code.exceptions
-        .push(Text::from_slice(alloc, b"PROGRAM_ERROR")?)?;
-    validated(code)
-}
-
-/// The code of these lines, which is well formed.
-fn valid_code_of(alloc: Global, lines: &[Line], finalizers: &[usize]) -> Result<ValidCode, Fail> {
-    validated(code_of(alloc, lines, finalizers)?)
-}
-
-/// One thing that was shown, as a word.
-fn event_shown(alloc: Global, event: &Event) -> Result<String, AllocError> {
-    match event {
-        Event::Print(_) => "print".to_string(alloc),
-        Event::Newline => "newline".to_string(alloc),
-        Event::Live(part, Owner::Master(master)) => {
-            format!(in alloc; "live-{}-m{master}", part.object)
-        }
-        Event::Adjust(part) => format!(in alloc; "adjust-{}", part.object),
-        Event::Finalize(part, cause) => format!(in alloc; "finalize-{}-{cause}", part.object),
-        _ => "other".to_string(alloc),
-    }
-}
-
-/// What a run came to, in one line.
-pub fn outcome_shown(alloc: Global, outcome: &Outcome) -> Result<String, AllocError> {
-    let mut line = String::new(alloc);
-    for event in outcome.events.as_slice() {
-        let shown = event_shown(alloc, event)?;
-        line.push_str(shown.as_str())?;
-        line.push(' ')?;
-    }
-    let end = match &outcome.end {
-        End::Done => "done",
-        End::Raised(_) => "raised",
-        End::Stopped(Stop::UseAfterFree) => "gone",
-        End::StepLimit => "limit",
-        _ => "other",
-    };
-    format!(in alloc;
-        "{line}{end} picks={} steps={}",
-        outcome.picks.len(),
-        outcome.steps
-    )
-}
-
-/// What a run has printed.
-pub fn printed(alloc: Global, outcome: &Outcome) -> Result<Vec<u8>, AllocError> {
-    let mut bytes = Vec::new(alloc);
-    for event in outcome.events.as_slice() {
-        match event {
-            Event::Print(text) => bytes.extend_from_slice(text.as_bytes())?,
-            Event::Newline => bytes.push(b'\n')?,
-            _ => (),
-        }
-    }
-    Ok(bytes)
-}
 
 /// A run of the code of these lines, of at most so many steps.
 fn outcome_of(
@@ -745,7 +539,7 @@ fn objects_are_finalized_newest_first(rt: HostRuntime) -> Result<(), Fail> {
     let shown = outcome_shown(alloc, &outcome)?;
     assert_eq!(rt;
         shown.as_str(),
-        "live-1-m2 live-2-m2 finalize-2-scope print newline finalize-1-scope print newline done picks=0 steps=16"
+        "live-1-m2 live-2-m2 finalize-2-scope print newline finalize-1-scope print newline done picks=0 steps=20"
     );
     Ok(())
 }
@@ -755,11 +549,11 @@ fn a_run_ends_at_its_limit(rt: HostRuntime) -> Result<(), Fail> {
     let alloc = rt.alloc();
     let code = valid_code_of(alloc, TWO_OBJECTS, &[7])?;
     let mut machine = Machine::new(alloc, &code, Order::Oldest)?;
-    assert_eq!(rt; machine.run(5), Progress::Running);
+    assert_eq!(rt; machine.run(6), Progress::Running);
     assert_eq!(rt; machine.step(), Progress::Running);
     let outcome = machine.finish();
     let shown = outcome_shown(alloc, &outcome)?;
-    assert_eq!(rt; shown.as_str(), "live-1-m2 live-2-m2 limit picks=0 steps=6");
+    assert_eq!(rt; shown.as_str(), "live-1-m2 live-2-m2 limit picks=0 steps=7");
     Ok(())
 }
 
@@ -816,7 +610,7 @@ fn a_zero_divisor_raises_and_finalizes(rt: HostRuntime) -> Result<(), Fail> {
     let shown = outcome_shown(alloc, &outcome)?;
     assert_eq!(rt;
         shown.as_str(),
-        "live-1-m2 finalize-1-scope print newline raised picks=0 steps=12"
+        "live-1-m2 finalize-1-scope print newline raised picks=0 steps=14"
     );
     Ok(())
 }
@@ -828,7 +622,7 @@ fn an_overflow_raises_and_finalizes(rt: HostRuntime) -> Result<(), Fail> {
     let shown = outcome_shown(alloc, &outcome)?;
     assert_eq!(rt;
         shown.as_str(),
-        "live-1-m2 finalize-1-scope print newline raised picks=0 steps=13"
+        "live-1-m2 finalize-1-scope print newline raised picks=0 steps=15"
     );
     Ok(())
 }

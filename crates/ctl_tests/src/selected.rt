@@ -1,7 +1,7 @@
 //! Parts of objects as operands: components of them are read and written, and a formal stands for one.
 
+use crate::codes::{FAREWELL, printed, valid_code_with};
 use crate::lines::{CELL_2, CELL_3, CELL_4, Line, layout_of_two};
-use crate::machine::{FAREWELL, printed, valid_code_with};
 use ctl_code::code::Instr;
 use ctl_machine::machine::Machine;
 use ctl_program::types::Ty;

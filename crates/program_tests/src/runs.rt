@@ -242,10 +242,10 @@ fn faults_of_texts(rt: HostRuntime) -> Result<(), Fail> {
             b"procedure Main is task T; begin null; end Main;",
             "1:19: 12 LEFT_OUT",
         ),
-        // an object of a type that is not run; its type stands first
+        // an object that takes a value of a type with a controlled component
         (
-            b"procedure Main is type R is record N : Integer := 1; end record; type Q is record X : R; end record; Y : Q; begin null; end Main;",
-            "1:66: 12 LEFT_OUT",
+            b"with Ada.Finalization; procedure Main is type C is new Ada.Finalization.Controlled with null record; type Q is record X : C; end record; Y : Q; Z : Q := Y; begin null; end Main;",
+            "1:145: 12 LEFT_OUT",
         ),
         // a rule on names or types is judged before a construct is left out, wherever they stand
         (

@@ -21,12 +21,12 @@ returns-in_default-clause-ok g c =
     let owned = old.owned.items in
     let t = c.args.record in
     let b = c.requires.1.0 in
-    let i = are_given code old c.args.place g.s t b in
+    let i = are_given code old c.args.place g.s t c.requires.0 b in
     let count = c.count_spots-count in
     let below = standing g.s.control (rest_of g.s) in
     let source_is = newest_read old.spots.items (below ++ target_of g.s ∷ []) (source_of g.s) c.index-source.result.now count.result i.spots count.ensures.count c.index-source.ensures in
     let none : Lacks c.object.result owned = subst (λ (l : List Owned). Lacks c.object.result l) c.as_slice.ensures.value (c.in_default.ensures.none refl) in
-    source_gone code old _ c.args.place g.s t b (subst (λ n. Lacks n owned) (c.object.ensures ∙ ap (λ (x : Spot). x.object) source_is) none)
+    source_gone code old _ c.args.place g.s t c.requires.0 b (subst (λ n. Lacks n owned) (c.object.ensures ∙ ap (λ (x : Spot). x.object) source_is) none)
     (record { mode = refl; kept = refl; events = refl; picks = refl })
 
 pub returns-then-is_same-clause-ok : goal.returns-then-is_same-clause-ok
@@ -36,7 +36,7 @@ returns-then-is_same-clause-ok g c =
     let owned = old.owned.items in
     let t = c.args.record in
     let b = c.requires.1.0 in
-    let i = are_given code old c.args.place g.s t b in
+    let i = are_given code old c.args.place g.s t c.requires.0 b in
     let count = c.count_spots-count in
     let below = standing g.s.control (rest_of g.s) in
     let source_is = newest_read old.spots.items (below ++ target_of g.s ∷ []) (source_of g.s) c.index-source.result.now count.result i.spots count.ensures.count c.index-source.ensures in
@@ -45,7 +45,7 @@ returns-then-is_same-clause-ok g c =
     let found = subst (λ (l : List Owned). slice_get l c.in-Some.source_at ≡ Some some.0) c.as_slice.ensures.value some.1 in
     let number = some.2 ∙ (c.object.ensures ∙ ap (λ (x : Spot). x.object) source_is) in
     let same = sym c.if-is_same.true ∙ (c.is_same.ensures ∙ (ap (λ (x : Spot). is_same_part x c.index-source.result.now) target_is ∙ ap (λ (x : Spot). is_same_part (target_of g.s) x) source_is)) in
-    same_makes code old _ c.args.place g.s t c.in-Some.source_at some.0 b found number same refl
+    same_makes code old _ c.args.place g.s t c.in-Some.source_at some.0 c.requires.0 b found number same refl
     (ap (λ (l : List Spot). with_spots (kept old) l) (c.truncate.ensures.items ∙ two_dropped old.spots.items below (target_of g.s) (source_of g.s) count.result i.spots count.ensures.count))
     refl refl
 
@@ -56,7 +56,7 @@ returns-in_default-find-clause-ok g c =
     let owned = old.owned.items in
     let t = c.args.record in
     let b = c.requires.1.0 in
-    let i = are_given code old c.args.place g.s t b in
+    let i = are_given code old c.args.place g.s t c.requires.0 b in
     let count = c.count_spots-count in
     let below = standing g.s.control (rest_of g.s) in
     let source_is = newest_read old.spots.items (below ++ target_of g.s ∷ []) (source_of g.s) c.index-source.result.now count.result i.spots count.ensures.count c.index-source.ensures in
@@ -66,7 +66,7 @@ returns-in_default-find-clause-ok g c =
     let number = some.2 ∙ (c.object.ensures ∙ ap (λ (x : Spot). x.object) source_is) in
     let same = sym c.if-is_same.false ∙ (c.is_same.ensures ∙ (ap (λ (x : Spot). is_same_part x c.index-source.result.now) target_is ∙ ap (λ (x : Spot). is_same_part (target_of g.s) x) source_is)) in
     let none : Lacks c.object-2.result owned = subst (λ (l : List Owned). Lacks c.object-2.result l) c.as_slice-2.ensures.value (c.in_default-find.ensures.none refl) in
-    target_gone code old _ c.args.place g.s t c.in-Some.source_at some.0 b found number same (subst (λ n. Lacks n owned) (c.object-2.ensures ∙ ap (λ (x : Spot). x.object) target_is) none)
+    target_gone code old _ c.args.place g.s t c.in-Some.source_at some.0 c.requires.0 b found number same (subst (λ n. Lacks n owned) (c.object-2.ensures ∙ ap (λ (x : Spot). x.object) target_is) none)
     (record { mode = refl; kept = refl; events = refl; picks = refl })
 
 pub replace_value-requires : goal.replace_value-requires
@@ -76,7 +76,7 @@ replace_value-requires g c =
     let owned = old.owned.items in
     let t = c.args.record in
     let b = c.requires.1.0 in
-    let i = are_given code old c.args.place g.s t b in
+    let i = are_given code old c.args.place g.s t c.requires.0 b in
     let count = c.count_spots-count in
     let below = standing g.s.control (rest_of g.s) in
     let source_is = newest_read old.spots.items (below ++ target_of g.s ∷ []) (source_of g.s) c.index-source.result.now count.result i.spots count.ensures.count c.index-source.ensures in
@@ -90,7 +90,7 @@ replace_value-requires g c =
     let next = c.args.place + 1 in
     let source_at = owned_at_is owned c.in-Some.source_at some.0 found in
     let target_at = owned_at_is owned c.in-Some-find.target_at target.0 target_found in
-    let now = replaces_now code old c.args.place g.s t c.in-Some.source_at c.in-Some-find.target_at some.0 target.0 b found target_found target_number in (
+    let now = replaces_now code old c.args.place g.s t c.in-Some.source_at c.in-Some-find.target_at some.0 target.0 c.requires.0 b found target_found target_number in (
       c.requires.0,
       (
         subst (λ (x : Owned). Replaces code old c.in-Some.source_at c.in-Some-find.target_at t next (assigned_at x t next g.s) (value_of code old t (owned_at owned c.in-Some.source_at) g.s)) (sym target_at)
@@ -106,7 +106,7 @@ returns-clause-ok g c =
     let owned = old.owned.items in
     let t = c.args.record in
     let b = c.requires.1.0 in
-    let i = are_given code old c.args.place g.s t b in
+    let i = are_given code old c.args.place g.s t c.requires.0 b in
     let count = c.count_spots-count in
     let below = standing g.s.control (rest_of g.s) in
     let source_is = newest_read old.spots.items (below ++ target_of g.s ∷ []) (source_of g.s) c.index-source.result.now count.result i.spots count.ensures.count c.index-source.ensures in
@@ -119,5 +119,5 @@ returns-clause-ok g c =
     let source_at = owned_at_is owned c.in-Some.source_at some.0 found in
     let makes : Owned → Type 0 = λ o. Makes code old c.replace_value.new.self (replace_value code (target_of g.s) t (value_of code old t o g.s) (point_of next g.s) g.s.control g.s.world) in
     on_ok c.replace_value.result
-    (λ (m : makes (owned_at owned c.in-Some.source_at)). replaced_makes code old c.replace_value.new.self c.args.place g.s t c.in-Some.source_at some.0 b found number same (subst makes source_at m))
+    (λ (m : makes (owned_at owned c.in-Some.source_at)). replaced_makes code old c.replace_value.new.self c.args.place g.s t c.in-Some.source_at some.0 c.requires.0 b found number same (subst makes source_at m))
     c.replace_value.ensures.ok

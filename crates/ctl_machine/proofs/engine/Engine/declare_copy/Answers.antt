@@ -3,10 +3,8 @@ use Rattle.std.specs.Prelude.{slice_get}
 use Rattle.std.proofs.lemmas.List.{reverse-append}
 use Rattle.std.proofs.lemmas.Option.{slice_get_within}
 use Rattle.ctl_meaning.specs.Objects.{cells_at}
-use Rattle.ctl_code.specs.declared.code.Beginning.TheVariants.{ByCopy}
 use Rattle.ctl_machine.specs.declared.frame.Frame.{Frame}
 use Rattle.ctl_machine.specs.declared.frame.Frame.TheVariants as FrameOf
-use Rattle.ctl_machine.specs.declared.frame.Left.{Left}
 use Rattle.ctl_machine.specs.declared.frame.Owned.{Owned}
 use Rattle.ctl_machine.specs.Declaring.{with_row}
 use Rattle.ctl_machine.specs.Holders.{Lacks}
@@ -100,16 +98,15 @@ returns-clause-ok g c =
     let number = ap (λ (x : Owned). x.number) (same_at o some.0 (slice_get owned c.in-Some.found) read found) ∙ (some.2 ∙ (c.object.ensures ∙ ap (λ (x : Spot). x.object) spot)) in
     let value : ℕ → ℕ → List ℕ = λ start n. cells_at start n (object_of old.parts.items o) in
     let start = c.offset-start.result in
-    let those : Left = record { first = 0; last = 0 } in
-    let frame = FrameOf.Filling ByCopy those (c.args.place + 1) in
+    let frame = FrameOf.Copying (c.args.place + 1) in
     let here : Kept → Kept = λ e. record e { spots = c.take_last.new.self.items } in
     let control : reverse c.push_reserved.new.self.items ≡ frame ∷ reverse made.control.items = ap (λ (l : List Frame). reverse l) c.push_reserved.ensures.items ∙ reverse-append made.control.items (frame ∷ []) in
     let row : c.add_copy.new.parts.items ≡ ready.parts.items ++ value start size =
     c.add_copy.ensures
     ∙ (ap (λ v. v.items ++ cells_at start size (object_of v.items o)) c.create.ensures.parts
     ∙ ap (λ (e : Kept). ready.parts.items ++ cells_at start size (object_of e.parts o)) same.kept) in
-    copied_makes code old mid _ c.args.place c.args.slot c.args.record c.in-Some.found g.s m those o c.requires.1.0 (ap (λ (l : List Spot). with_spots (kept old) l) popped) c.newest-newest.ensures.last
-    read number refl refl
+    copied_makes code old mid _ c.args.place c.args.slot c.args.record c.in-Some.found g.s m o c.requires.1.0 (ap (λ (l : List Spot). with_spots (kept old) l) popped) c.newest-newest.ensures.last
+    read number
     (ap (λ (l : List Frame). record (here (kept made)) { control = l; parts = c.add_copy.new.parts.items }) control
     ∙ (ap (λ (l : List ℕ). with_parts l (with_frame frame (here (kept made)))) row
     ∙ (ap (λ (e : Kept). with_parts (ready.parts.items ++ value start size) (with_frame frame (here e))) c.create.ensures.kept

@@ -1,45 +1,49 @@
-use Rattle.std.proofs.Common.{◌≡◌, List, refl, sym, ap, subst, reverse, arith}
+use Rattle.std.proofs.Common.{sym, subst}
+use Rattle.std.proofs.lemmas.Result.{on_ok_weaker}
 use Rattle.ctl_meaning.specs.Outcome.{Tried}
-use Rattle.ctl_code.specs.States.{Giving, Handed}
 use Rattle.ctl_code.specs.Table.{act}
+use Rattle.ctl_code.specs.States.{Giving, Handed}
 use Rattle.ctl_machine.specs.declared.frame.Ended.{Ended}
-use Rattle.ctl_machine.specs.declared.frame.Frame.{Frame}
-use Rattle.ctl_machine.specs.declared.frame.Frame.TheVariants.{Initializing}
 use Rattle.ctl_machine.specs.Moves.{Makes}
-use Rattle.ctl_machine.specs.Shows.{kept, tried_of}
-use Rattle.ctl_machine.proofs.AfterInitialize.{fine_of, newest_known, live_makes, given_up_resumes, rest_is}
+use Rattle.ctl_machine.specs.Shows.{tried_of}
+use Rattle.ctl_machine.proofs.AfterInitialize.{fine_of}
+use Rattle.ctl_machine.proofs.GivesUp.{completed_resumes, fails_initializing, gives_up_initializing, is_initializing}
 use Rattle.ctl_machine.proofs.engine.Engine.resume_initializing.Goals as goal
 
-pub give_up-requires : goal.give_up-requires
-give_up-requires g c =
-    let top = c.requires.1.1 in
-    (newest_known c.args.code.now c.args.self.now c.args.how c.args.place top.0 g.s c.requires.1.0 top.1).0
+pub fail-requires : goal.fail-requires
+fail-requires g c =
+    let code = c.args.code.now in
+    let old = c.args.self.now in
+    let top = c.requires.1 in
+    let f = is_initializing code old c.args.record c.args.master top.0 g.s c.requires.0 top.1 in
+    (c.requires.0, (gives_up_initializing code old c.args.record c.args.master g.s f, c.all_controlled.ensures))
 
 pub returns-in-Raised-clause-ok : goal.returns-in-Raised-clause-ok
 returns-in-Raised-clause-ok g c =
     let code = c.args.code.now in
     let old = c.args.self.now in
-    let top = c.requires.1.1 in
-    let rest : reverse c.take_last.new.self.items ≡ top.0 = rest_is old.control.items c.take_last.new.self.items c.take_last.result (Initializing c.args.how c.args.place) top.0 c.take_last.ensures.items top.1 in
-    subst (λ (x : Ended). Makes code old c.give_up.new.self (act code (Giving (tried_of x)) g.s.control g.s.operands g.s.world 0)) (sym c.in-Raised.is)
-    (given_up_resumes code old _ c.give_up.new.self c.args.how c.args.place top.0 g.s c.in-Raised.exception c.raised_in.result c.raised_in.ensures c.requires.1.0 top.1
-    (record { kept = ap (λ (l : List Frame). record (kept old) { control = l }) rest; events = refl; picks = refl })
-    c.give_up.ensures.turns)
+    let new = c.fail.new.self in
+    let top = c.requires.1 in
+    let f = is_initializing code old c.args.record c.args.master top.0 g.s c.requires.0 top.1 in
+    on_ok_weaker c.fail.result
+    (λ made. subst (λ (x : Ended). Makes code old new (act code (Giving (tried_of x)) g.s.control g.s.operands g.s.world 0)) (sym c.in-Raised.is)
+    (fails_initializing code old new c.args.record c.args.master g.s c.in-Raised.exception f made))
+    c.fail.ensures.ok
 
-pub bring_to_life-requires : goal.bring_to_life-requires
-bring_to_life-requires g c =
-    let top = c.requires.1.1 in
-    let n = newest_known c.args.code.now c.args.self.now c.args.how c.args.place top.0 g.s c.requires.1.0 top.1 in
-    (n.0, (n.1, omega (arith, c.in_ok-reserve.ensures.ok)))
+pub complete-requires : goal.complete-requires
+complete-requires g c =
+    let top = c.requires.1 in
+    (is_initializing c.args.code.now c.args.self.now c.args.record c.args.master top.0 g.s c.requires.0 top.1).grows
 
 pub returns-clause-ok : goal.returns-clause-ok
 returns-clause-ok g c =
     let code = c.args.code.now in
     let old = c.args.self.now in
-    let top = c.requires.1.1 in
-    let rest : reverse c.take_last-2.new.self.items ≡ top.0 = rest_is old.control.items c.take_last-2.new.self.items c.take_last-2.result (Initializing c.args.how c.args.place) top.0 c.take_last-2.ensures.items top.1 in
+    let new = c.complete.new.self in
+    let top = c.requires.1 in
+    let f = is_initializing code old c.args.record c.args.master top.0 g.s c.requires.0 top.1 in
     let fine = fine_of c.args.ended c.in_default.not-Raised in
-    subst (λ (t : Tried Handed). Makes code old c.bring_to_life.new.self (act code (Giving t) g.s.control g.s.operands g.s.world 0)) (sym fine.1)
-    (live_makes code old _ c.bring_to_life.new.self c.args.how c.args.place top.0 g.s fine.0 c.requires.1.0 top.1
-    (record { kept = ap (λ (l : List Frame). record (kept old) { control = l }) rest; events = c.in_ok-reserve.ensures.items; picks = refl })
-    c.bring_to_life.ensures.turns)
+    on_ok_weaker c.complete.result
+    (λ made. subst (λ (t : Tried Handed). Makes code old new (act code (Giving t) g.s.control g.s.operands g.s.world 0)) (sym fine.1)
+    (completed_resumes code old new c.args.record c.args.master g.s fine.0 f made))
+    c.complete.ensures.ok

@@ -1,8 +1,10 @@
-use Rattle.ctl_machine.proofs.Newest.{newest_object}
+use Rattle.ctl_code.specs.Table as Table
+use Rattle.ctl_machine.proofs.Filled.{grown_of}
+use Rattle.ctl_machine.proofs.GivesUp.{given_up}
 use Rattle.ctl_machine.proofs.engine.Engine.resume_initializing.Given as goal
 
-abbrev pub ghost-give_up : goal.ghost-give_up
-ghost-give_up g a = newest_object a.self.now.owned.items
+abbrev pub ghost-fail : goal.ghost-fail
+ghost-fail g a = (g.s, given_up (Table.controlled_of a.code.now a.record) g.s)
 
-abbrev pub ghost-bring_to_life : goal.ghost-bring_to_life
-ghost-bring_to_life g a = newest_object a.self.now.owned.items
+abbrev pub ghost-complete : goal.ghost-complete
+ghost-complete g a = grown_of g.s

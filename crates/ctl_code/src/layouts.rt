@@ -1,0 +1,180 @@
+//! Whether record types are laid out well: their operations and the types of their components are in scope where they are, and those
+//! components that are finalized are told apart.
+
+ghost use Rattle.std.specs.Prelude.{◌≡◌, ◌↔◌, ℕ, ◌<◌, ◌≤◌, [], ◌∷◌, length, slice_get, IfSome, IsNone, IsTrue, List, Some, if◌then◌else◌};
+ghost use Rattle.ctl_meaning.specs.Lists.{keep};
+ghost use Rattle.ctl_code.specs.declared.code.Begun.{Begun as BegunOf};
+ghost use Rattle.ctl_code.specs.declared.code.Layout.{Layout as LayoutOf};
+ghost use Rattle.ctl_code.specs.Table as Table;
+ghost use Rattle.ctl_code.specs.Valid as valid;
+ghost use Rattle.ctl_code.specs.Valid.{AreBegunBy, AreInScope, IsBegunBy, IsDeclarable, IsInScope, IsLaid, PositionsRise, told_before};
+
+use crate::code::{Begun, Code, Initial, Layout, Parts};
+
+/// Tells whether there is no operation, or one that is declared in one of so many masters around.
+pub(crate) fn is_in_scope(code: &Code, masters: usize, number: Option<usize>) -> bool
+    ensures { IsTrue result ↔ IsInScope code.now masters number }
+{
+    let Some(number) = number else {
+        return true;
+    };
+    match code.entries.get(number) {
+        Some(entry) => entry.level <= masters,
+        None => false,
+    }
+}
+
+/// Tells whether it is the number of a record type that is declared in one of so many masters around (RM 7.6).
+pub(crate) fn is_declarable(code: &Code, masters: usize, number: usize) -> bool
+    ensures { IsTrue result ↔ IsDeclarable code.now masters number }
+{
+    match code.layouts.get(number) {
+        Some(layout) => layout.level <= masters,
+        None => false,
+    }
+}
+
+/// Tells whether the type of a component, if it is a record type, is declared in one of so many masters around.
+fn is_begun_by(code: &Code, masters: usize, initial: Initial) -> bool
+    ensures { IsTrue result ↔ IsBegunBy code.now masters initial }
+{
+    match initial {
+        Initial::Constant(_) => true,
+        Initial::ByType(number) => is_declarable(code, masters, number),
+    }
+}
+
+/// Tells whether the types of the components that begin with something are declared where the record type is, or around.
+fn are_begun_by(code: &Code, layout: &Layout) -> bool
+    ensures { IsTrue result ↔ AreBegunBy code.now layout.now.level layout.now.begun.items }
+{
+    for component in &layout.begun {
+        if !is_begun_by(code, layout.level, component.initial) {
+            return false;
+        }
+    }
+    true
+}
+
+/// Tells whether the positions of these components rise, from 1 on.
+fn do_positions_rise(layout: &Layout) -> bool
+    ensures { IsTrue result ↔ PositionsRise 0 layout.now.begun.items }
+{
+    let mut last = 0;
+    for component in &layout.begun {
+        if component.position <= last {
+            return false;
+        }
+        last = component.position;
+    }
+    true
+}
+
+/// Answers whether the objects of a record type are finalized; they are not where the code knows no such type.
+fn parts_of(code: &Code, number: usize) -> Parts
+    ensures { result ≡ Table.parts_of code.now number }
+{
+    match code.layouts.get(number) {
+        Some(layout) => layout.parts,
+        None => Parts::Plain,
+    }
+}
+
+/// Tells whether a component has a controlled part (RM 7.6.1).
+fn is_finalized(code: &Code, initial: Initial) -> bool
+    ensures { result ≡ valid.is_finalized code.now initial }
+{
+    match initial {
+        Initial::Constant(_) => false,
+        Initial::ByType(number) => !matches!(parts_of(code, number), Parts::Plain),
+    }
+}
+
+/// Tells whether two components are the same.
+fn is_same(component: &Begun, other: &Begun) -> bool
+    ensures { IsTrue result ↔ (component.now ≡ other.now) }
+{
+    component.position == other.position
+        && component.offset == other.offset
+        && is_same_initial(component.initial, other.initial)
+}
+
+/// Tells whether two components begin alike.
+fn is_same_initial(initial: Initial, other: Initial) -> bool
+    ensures { IsTrue result ↔ (initial ≡ other) }
+{
+    match (initial, other) {
+        (Initial::Constant(value), Initial::Constant(of_other)) => value == of_other,
+        (Initial::ByType(number), Initial::ByType(of_other)) => number == of_other,
+        _ => false,
+    }
+}
+
+/// Answers what is left of those components behind the one at a place of a layout, which comes first among them if it has a controlled
+/// part; None where it does not.
+fn behind<'a>(code: &Code, layout: &Layout, at: usize, those: &'a [Begun]) -> Option<&'a [Begun]>
+    requires { at < length layout.now.begun.items }
+    ensures some { IfSome result (λ rest. (x : BegunOf) → slice_get layout.now.begun.items at ≡ Some x → (ys : List BegunOf) → (those.now ≡ told_before code.now x ys) ↔ (rest.now ≡ ys)) }
+    ensures none { IsNone result → (x : BegunOf) → slice_get layout.now.begun.items at ≡ Some x → (ys : List BegunOf) → those.now ≡ told_before code.now x ys → ⊥ }
+{
+    let component = layout.begun[at];
+    if !is_finalized(code, component.initial) {
+        return Some(those);
+    }
+    let (first, rest) = those.split_first()?;
+    if is_same(first, &component) {
+        Some(rest)
+    } else {
+        None
+    }
+}
+
+/// Tells whether those components that are told apart are those with a controlled part, in their order (RM 7.6.1).
+fn are_told_apart(code: &Code, layout: &Layout) -> bool
+    ensures { IsTrue result ↔ (layout.now.controlled.items ≡ keep (λ x. valid.is_finalized code.now x.initial) layout.now.begun.items) }
+{
+    let mut rest = layout.controlled.as_slice();
+    for at in 0..layout.begun.len() {
+        let Some(others) = behind(code, layout, at, rest) else {
+            return false;
+        };
+        rest = others;
+    }
+    rest.is_empty()
+}
+
+/// Tells whether the operations of a record type are declared in some of so many masters around.
+fn are_in_scope(code: &Code, masters: usize, number: usize) -> bool
+    ensures { IsTrue result ↔ AreInScope code.now masters number }
+{
+    match code.records.get(number) {
+        Some(operations) => {
+            is_in_scope(code, masters, operations.initialize)
+                && is_in_scope(code, masters, operations.finalize)
+                && is_in_scope(code, masters, operations.adjust)
+        }
+        None => false,
+    }
+}
+
+/// Tells whether the record type of this number is laid out well.
+fn is_laid(code: &Code, number: usize, layout: &Layout) -> bool
+    ensures { IsTrue result ↔ IsLaid code.now number layout.now }
+{
+    if !are_in_scope(code, layout.level, number) || !are_begun_by(code, layout) {
+        return false;
+    }
+    do_positions_rise(layout) && are_told_apart(code, layout)
+}
+
+/// Tells whether each record type is laid out well.
+pub(crate) fn are_layouts_fine(code: &Code) -> bool
+    ensures { IsTrue result ↔ ((t : ℕ) (x : LayoutOf) → slice_get code.now.layouts.items t ≡ Some x → IsLaid code.now t x) }
+{
+    for number in 0..code.layouts.as_slice().len() {
+        if !is_laid(code, number, &code.layouts[number]) {
+            return false;
+        }
+    }
+    true
+}

@@ -1,0 +1,322 @@
+-- The finalization of a part of an object: the part first, where it is controlled, and then its components with a controlled part, in an
+-- order that is chosen (7.6.1).
+use Rattle.std.proofs.Common.{◌≡◌, ℕ, zero, suc, ◌+◌, ◌<◌, ◌≤◌, List, [], ◌∷◌, length, Option, Some, None, Bool, true, false, refl, sym, ap, ◌∙◌, subst, arith, inr}
+use Rattle.std.specs.Prelude.{slice_get, ◌&&◌, ◌||◌, if◌then◌else◌}
+use Rattle.ctl_program.specs.declared.types.Ty.TheVariants.{Record}
+use Rattle.ctl_tree.specs.declared.ending.Stop.TheVariants.{UseAfterFree}
+use Rattle.ctl_tree.specs.declared.event.Event.{Event}
+use Rattle.ctl_tree.specs.declared.event.Event.TheVariants as EventOf
+use Rattle.ctl_tree.specs.declared.event.Cause.{Cause}
+use Rattle.ctl_tree.specs.declared.event.Cause.TheVariants.{Scope, Failed}
+use Rattle.ctl_meaning.specs.World.{Object, Binds, holding, Log, World}
+use Rattle.ctl_meaning.specs.Lists.{keep, pull_item, pull_rest}
+use Rattle.ctl_meaning.specs.Changes.{object_at, home_of}
+use Rattle.ctl_meaning.specs.Choice.{Ask, picked}
+use Rattle.ctl_meaning.specs.Outcome.{Result, Goes, Leaves, Out, Gives, Stops, Cut, Act, Fine, Raised, ByRaise, add, after_pick, attempt, bind, on_goes, ◌>>=◌, ◌>>◌, done, nothing, tell, show, look, told, either, on_some, opened_outcome}
+use Rattle.ctl_meaning.specs.Types.{Tables, Placed, has_controlled, is_controlled, operation, of_record, placed}
+use Rattle.ctl_meaning.specs.Names.{OfSubprogram, Returned, Call, Default, Tools, gone, opened_names}
+use Rattle.ctl_meaning.specs.Finalization.{Spot, Every, no_component, component_at, call_operation, after_finalize, in_any_order, parts_to_finalize, finalize_part, opened_finalization}
+use Rattle.ctl_code.specs.declared.code.Begun.{Begun}
+use Rattle.ctl_code.specs.declared.code.Parts.{Parts}
+use Rattle.ctl_code.specs.declared.code.Parts.TheVariants as PartsOf
+use Rattle.ctl_code.specs.declared.code.Code.{Code}
+use Rattle.ctl_code.specs.States.{Handed, Complete, Frame, FinalizingOwn, FinalizingParts, State}
+use Rattle.ctl_code.specs.Table as Table
+use Rattle.ctl_code.specs.Table.{component_of, controlled_of, finalize_component, finalize_left, finalize_own, handed, operation_of, own_failed, part_at, parts_of, says_failed}
+use Rattle.ctl_code.specs.Steps.{moved, step, stepped}
+use Rattle.ctl_code.specs.Valid.{AreBegunBy, IsBegunBy, IsDeclarable, has_part}
+use Rattle.ctl_gen.proofs.Known.{IsPlainType}
+use Rattle.ctl_gen.proofs.Parted.{AgreesOn, GivesDefaults, HasPart, HaveParts, is_itself, parts_length, parts_pulled, parts_rest}
+use Rattle.ctl_gen.proofs.Picks.{picked_less, rest_length}
+use Rattle.ctl_gen.proofs.Worlds.{Each, Fits, Since, still_home}
+use Rattle.ctl_gen.proofs.Scopes.{controlled_inside, finalize_in, pulled_inside, rest_inside}
+use Rattle.ctl_gen.proofs.Setting.{Setting, tools_with, returns, Told, Sure, Calls, enter_shows}
+use Rattle.ctl_gen.proofs.Follow.{by_raise, Comes, Runs, gives, way_of, added, after_comes, both, last_step, one_step, stop_step, more_quits, more_halts}
+
+-- whether a finalization failed is what it hands on
+abbrev pub tells : List Frame → Result Bool → Log → World → State
+tells ks (Goes b) l w = gives ks (Fine (handed b)) l w
+tells ks (Leaves y) l w = gives ks (Fine Complete) l w
+
+pub heard : (b : Bool) → says_failed (Fine (handed b)) ≡ b
+heard true = refl
+heard false = refl
+
+-- Lists ---------------------------------------------------------------------------------------------
+
+pub each_pulled : {A : Type 0} (P : A → Type 0) (d : A) (i : ℕ) (xs : List A) → Each P xs → i < length xs → P (pull_item d i xs)
+unfolding pull_item
+each_pulled P d i [] h less = absurd (omega (arith, less))
+each_pulled P d zero (x ∷ xs) h less = h.0
+each_pulled P d (suc i) (x ∷ xs) h less = each_pulled P d i xs h.1 (omega (arith, less))
+
+pub each_left : {A : Type 0} (P : A → Type 0) (i : ℕ) (xs : List A) → Each P xs → Each P (pull_rest i xs)
+unfolding pull_rest
+each_left P i [] h = tt
+each_left P zero (x ∷ xs) h = h.1
+each_left P (suc i) (x ∷ xs) h = (h.0, each_left P i xs h.1)
+
+-- what is kept passes the test
+pub keep_passes : {A : Type 0} (p : A → Bool) (xs : List A) → Each (λ x. p x ≡ true) (keep p xs)
+unfolding keep
+keep_passes p [] = tt
+keep_passes p (x ∷ xs) = one (p x) refl (keep_passes p xs)
+  where
+    one : (b : Bool) → p x ≡ b → Each (λ y. p y ≡ true) (keep p xs) → Each (λ y. p y ≡ true) (if b then x ∷ keep p xs else keep p xs)
+    one true is rest = (is, rest)
+    one false is rest = rest
+
+-- the same test
+pub keep_same : {A : Type 0} (p q : A → Bool) → ((x : A) → p x ≡ q x) → (xs : List A) → keep p xs ≡ keep q xs
+unfolding keep
+keep_same p q same [] = refl
+keep_same p q same (x ∷ xs) = ap (λ b. if b then x ∷ keep p xs else keep p xs) (same x) ∙ ap (λ ys. if q x then x ∷ ys else ys) (keep_same p q same xs)
+
+pub and_true : (b : Bool) → (b && true) ≡ b
+and_true true = refl
+and_true false = refl
+
+or_false : (b : Bool) → (b || false) ≡ b
+or_false true = refl
+or_false false = refl
+
+-- Causes --------------------------------------------------------------------------------------------
+
+-- an exception of a Finalize is remembered, and the others follow: but in an assignment it is Program_Error at once
+pub record IsRemembered (cause : Cause) : Type 0 where
+  pub meant : (e c : ℕ) (l : Log) (w : World) → after_finalize cause (Raised e) c l w ≡ Gives (Goes true) 0 c l w
+  pub done : (code : Code) (s : Spot) (t : ℕ) (ks : List Frame) (w : World) → own_failed code cause s t ks w ≡ finalize_left cause s (controlled_of code t) true ks w
+
+pub scope_remembered : IsRemembered Scope
+unfolding opened_finalization opened_outcome
+scope_remembered = record { meant = λ e c l w. refl; done = λ code s t ks w. refl }
+
+pub failed_remembered : IsRemembered Failed
+unfolding opened_finalization opened_outcome
+failed_remembered = record { meant = λ e c l w. refl; done = λ code s t ks w. refl }
+
+-- Calls ---------------------------------------------------------------------------------------------
+
+-- an operation that the user wrote is called for a part of an object that exists
+pub call_is : (ask : Ask) (k : Tables) (call : Call) (default : Default) (f : ℕ) (s : Spot) (c : ℕ) (e : Event) (l : Log) (w : World) (o : Object) → object_at s.object w ≡ Some o → call_operation (tools_with ask k call default) s (Some f) e c l w ≡ bind (add 0 (call (OfSubprogram f (holding (Binds s.object s.offset s.path) ∷ [])) (home_of o.origin w) c (tell e l) w)) (on_goes (λ _. nothing))
+unfolding opened_finalization opened_outcome opened_names
+call_is ask k call default f s c e l w o at = ap (λ x. on_some x gone (λ o1. look (λ w1. show e >> call (OfSubprogram f (holding (Binds s.object s.offset s.path) ∷ [])) (home_of o1.origin w1) >> nothing)) c l w) at
+
+-- Parts ---------------------------------------------------------------------------------------------
+
+-- for a cause, where an object was there in an earlier world
+module _ (ask : Ask) (k : Tables) (code : Code) (setting : Setting k code) (call : Call) (default : Default) (constants : GivesDefaults k default) (bound : ℕ) (calls : Calls ask k code setting bound call) (cause : Cause) (remembered : IsRemembered cause) (wr : World) (o : Object) (fits_then : Fits k code wr) where
+  abbrev K : Tools
+  K = tools_with ask k call default
+
+  -- so many masters were around the operations of its type
+  abbrev around : ℕ
+  around = length (home_of o.origin wr)
+
+  abbrev shown : Spot → Event
+  shown s = EventOf.Finalize (part_at s) cause
+
+  -- the components that are left, and whether one failed
+  abbrev in_turn : ℕ → Spot → ℕ → List Placed → Bool → Act Bool
+  in_turn n s count left failed = in_any_order K (λ p. of_record (done false) (finalize_part K cause Every n (component_at s p)) p.ty) count left failed
+
+  abbrev Finalizes : ℕ → ℕ → State → ℕ → List Frame → Out Bool → Type 0
+  Finalizes b h s0 c ks x = Runs ask code (Sure k code wr) b h s0 c (tells ks) x
+
+  -- the parts of types before this one are finalized as the meaning says, from the step that begins with them
+  abbrev pub PartsRun : ℕ → Type 0
+  PartsRun n = (s : Spot) (t : ℕ) (ks : List Frame) (c : ℕ) (l : Log) (w : World) (s0 : State) → object_at s.object wr ≡ Some o → t < n → IsPlainType k (Record t) → has_controlled k (Record t) ≡ true → IsDeclarable code around t → c ≤ bound → Since k code wr w → step ask code s0 ≡ moved l (Table.finalize_part code (parts_of code t) cause s t ks w) → Finalizes 0 0 s0 c ks (finalize_part K cause Every n s t c l w)
+
+  -- one of those that are left is chosen
+  next_is : (n count i c : ℕ) (s : Spot) (left : List Placed) (failed : Bool) (l l1 : Log) (w : World) → picked ask (suc count) l ≡ Some (i, l1) → in_turn n s (suc count) left failed c l w ≡ add (suc count + 0) (bind (of_record (done false) (finalize_part K cause Every n (component_at s (pull_item no_component i left))) (pull_item no_component i left).ty c l1 w) (on_goes (λ b. in_turn n s count (pull_rest i left) (failed || b))))
+  unfolding in_any_order opened_outcome
+  next_is n count i c s left failed l l1 w is = ap (λ x. bind (add (suc count) (after_pick x c l w)) (on_goes (λ j. of_record (done false) (finalize_part K cause Every n (component_at s (pull_item no_component j left))) (pull_item no_component j left).ty >>= (λ b. in_turn n s count (pull_rest j left) (failed || b))))) is
+
+  none_is : (n count c : ℕ) (s : Spot) (left : List Placed) (failed : Bool) (l : Log) (w : World) → picked ask (suc count) l ≡ None → in_turn n s (suc count) left failed c l w ≡ Cut (suc count + 0) c l
+  unfolding in_any_order opened_outcome
+  none_is n count c s left failed l w is = ap (λ x. bind (add (suc count) (after_pick x c l w)) (on_goes (λ j. of_record (done false) (finalize_part K cause Every n (component_at s (pull_item no_component j left))) (pull_item no_component j left).ty >>= (λ b. in_turn n s count (pull_rest j left) (failed || b))))) is
+
+  -- the step that chooses
+  choose_step : (s : Spot) (count : ℕ) (ks : List Frame) (h : Handed) (l : Log) (w : World) (x : Begun) (xs : List Begun) (failed : Bool) (a : Option (ℕ × Log)) → length (x ∷ xs) ≡ suc count → picked ask (suc count) l ≡ a → step ask code (gives (FinalizingParts cause s (x ∷ xs) failed ∷ ks) (Fine h) l w) ≡ stepped code (gives (FinalizingParts cause s (x ∷ xs) failed ∷ ks) (Fine h) l w) a
+  choose_step s count ks h l w x xs failed a long is = ap (λ j. stepped code (gives (FinalizingParts cause s (x ∷ xs) failed ∷ ks) (Fine h) l w) (picked ask j l)) long ∙ ap (stepped code (gives (FinalizingParts cause s (x ∷ xs) failed ∷ ks) (Fine h) l w)) is
+
+  -- a component with a controlled part, by its record type
+  component_is : (n t : ℕ) (s : Spot) (p : Placed) (x : Begun) (part : HasPart k t p x) (c : ℕ) (l : Log) (w : World) → of_record (done false) (finalize_part K cause Every n (component_at s p)) p.ty c l w ≡ finalize_part K cause Every n (component_of s x.offset x.position) part.number c l w
+  unfolding component_at of_record
+  component_is n t s p x part c l w =
+      ap (λ ty. of_record (done false) (finalize_part K cause Every n (component_at s p)) ty c l w) part.ty
+      ∙ ap (λ i. finalize_part K cause Every n (component_of s i p.position) part.number c l w) (sym part.offset)
+      ∙ ap (λ i. finalize_part K cause Every n (component_of s x.offset i) part.number c l w) (sym part.position)
+
+  -- the components that are left
+  pub left_run : (n : ℕ) → PartsRun n → (s : Spot) (t : ℕ) → object_at s.object wr ≡ Some o → t ≤ n → (count : ℕ) (ks : List Frame) (h : Handed) (failed : Bool) (c : ℕ) (l : Log) (w : World) (left : List Placed) (xs : List Begun) → length left ≡ count → HaveParts k t left xs → Each (λ p. has_controlled k p.ty ≡ true) left → AreBegunBy code around xs → c ≤ bound → Since k code wr w → Finalizes 1 1 (gives (FinalizingParts cause s xs failed ∷ ks) (Fine h) l w) c ks (in_turn n s count left (failed || says_failed (Fine h)) c l w)
+  unfolding in_any_order picked opened_outcome
+  left_run n parts s t was old zero ks h failed c l w [] [] long have held inside le fits = last_step ask code (Sure k code wr) 1 1 _ c 0 (tells ks) (Goes (failed || says_failed (Fine h))) l w (omega arith) (tt, fits) refl
+  left_run n parts s t was old zero ks h failed c l w [] (x ∷ xs) long have held inside le fits = absurd have
+  left_run n parts s t was old zero ks h failed c l w (q ∷ qs) xs long have held inside le fits = absurd (omega (arith, long))
+  left_run n parts s t was old (suc count) ks h failed c l w [] xs long have held inside le fits = absurd (omega (arith, long))
+  left_run n parts s t was old (suc count) ks h failed c l w (q ∷ qs) [] long have held inside le fits = absurd have
+  left_run n parts s t was old (suc count) ks h failed c l w (q ∷ qs) (x ∷ xs) long have held inside le fits = by (λ b c2 l2 w2 left2 xs2 long2 have2 held2 inside2 le2 fits2. left_run n parts s t was old count ks (handed b) (failed || says_failed (Fine h)) c2 l2 w2 left2 xs2 long2 have2 held2 inside2 le2 fits2) (picked ask (suc count) l) refl
+    where
+      -- whether one failed so far
+      fell : Bool
+      fell = failed || says_failed (Fine h)
+
+      Others : Type 0
+      Others = (b : Bool) (c2 : ℕ) (l2 : Log) (w2 : World) (left2 : List Placed) (xs2 : List Begun) → length left2 ≡ count → HaveParts k t left2 xs2 → Each (λ p. has_controlled k p.ty ≡ true) left2 → AreBegunBy code around xs2 → c2 ≤ bound → Since k code wr w2 → Finalizes 1 1 (gives (FinalizingParts cause s xs2 (failed || says_failed (Fine h)) ∷ ks) (Fine (handed b)) l2 w2) c2 ks (in_turn n s count left2 ((failed || says_failed (Fine h)) || says_failed (Fine (handed b))) c2 l2 w2)
+
+      s0 : State
+      s0 = gives (FinalizingParts cause s (x ∷ xs) failed ∷ ks) (Fine h) l w
+
+      many : length (x ∷ xs) ≡ suc count
+      many = let same = parts_length k t (q ∷ qs) (x ∷ xs) have in omega (arith, same, long)
+
+      goal : Out Bool → Type 0
+      goal y = Finalizes 1 1 (gives (FinalizingParts cause s (x ∷ xs) failed ∷ ks) (Fine h) l w) c ks y
+
+      by : Others → (a : Option (ℕ × Log)) → picked ask (suc count) l ≡ a → goal (in_turn n s (suc count) (q ∷ qs) (failed || says_failed (Fine h)) c l w)
+      by others None is = subst goal (sym (none_is n count c s (q ∷ qs) fell l w is)) (record { n = 0; in_time = omega arith; logged = refl; going = tt; why = inr (choose_step s count ks h l w x xs failed None many is) })
+      by others (Some a) is =
+          subst goal (sym (next_is n count a.0 c s (q ∷ qs) fell l a.1 w is ∙ ap (λ y. add (suc count + 0) (bind y (on_goes (λ b. in_turn n s count (pull_rest a.0 (q ∷ qs)) (fell || b))))) (component_is n t s (pull_item no_component a.0 (q ∷ qs)) (pull_item x a.0 (x ∷ xs)) part c a.1 w)))
+          (added ask code (Sure k code wr) (suc count + 0) 1 1 1 1 s0 c (tells ks) _ (omega arith) (omega arith)
+          (both ask code (Sure k code wr) (Sure k code wr) 0 0 1 1 1 1 s0 c (tells frames) (tells ks) _ _ (omega arith) (omega arith) (omega arith) one rest))
+        where
+          less : a.0 < length (q ∷ qs)
+          less = let small = picked_less ask count l a is in omega (arith, small, long)
+
+          y : Begun
+          y = pull_item x a.0 (x ∷ xs)
+
+          part : HasPart k t (pull_item no_component a.0 (q ∷ qs)) (pull_item x a.0 (x ∷ xs))
+          part = parts_pulled k t no_component x a.0 (q ∷ qs) (x ∷ xs) have less
+
+          frames : List Frame
+          frames = FinalizingParts cause s (pull_rest a.0 (x ∷ xs)) (failed || says_failed (Fine h)) ∷ ks
+
+          -- the frame begins with the component that is chosen
+          first : step ask code s0 ≡ moved a.1 (Table.finalize_part code (parts_of code part.number) cause (component_of s y.offset y.position) part.number frames w)
+          first = choose_step s count ks h l w x xs failed (Some a) many is ∙ ap (λ z. moved a.1 (finalize_component code cause s y z frames w)) part.initial
+
+          one : Finalizes 0 0 s0 c frames (finalize_part K cause Every n (component_of s y.offset y.position) part.number c a.1 w)
+          one =
+              let less1 = part.less in
+              let within : a.0 < length (x ∷ xs) = omega (arith, less, long, many) in
+              parts (component_of s y.offset y.position) part.number frames c a.1 w s0 was (omega (arith, less1, old)) part.plain
+              (ap (has_controlled k) (sym part.ty) ∙ each_pulled (λ p. has_controlled k p.ty ≡ true) no_component a.0 (q ∷ qs) held less)
+              (subst (IsBegunBy code around) part.initial (pulled_inside code around x a.0 (x ∷ xs) inside within))
+              le fits first
+
+          rest : (r : Result Bool) (c1 : ℕ) (l1 : Log) (w1 : World) → c1 ≤ c → Sure k code wr (way_of r) w1 → Finalizes 1 1 (tells frames r l1 w1) c1 ks (on_goes (λ b. in_turn n s count (pull_rest a.0 (q ∷ qs)) (fell || b)) r c1 l1 w1)
+          rest (Leaves z) c1 l1 w1 lo sure = absurd sure.0
+          rest (Goes b) c1 l1 w1 lo sure =
+              subst (λ d. Finalizes 1 1 (tells frames (Goes b) l1 w1) c1 ks (in_turn n s count (pull_rest a.0 (q ∷ qs)) (fell || d) c1 l1 w1)) (heard b)
+              (others b c1 l1 w1 (pull_rest a.0 (q ∷ qs)) (pull_rest a.0 (x ∷ xs)) (rest_length a.0 count (q ∷ qs) less long) (parts_rest k t a.0 (q ∷ qs) (x ∷ xs) have) (each_left (λ p. has_controlled k p.ty ≡ true) a.0 (q ∷ qs) held) (rest_inside code around a.0 (x ∷ xs) inside) (omega (arith, lo, le)) sure.1)
+
+  -- all the components of a part with a controlled part
+  parts_is : (s : Spot) (t : ℕ) → parts_to_finalize K Every s t ≡ keep (λ p. has_controlled k p.ty) (placed k t)
+  unfolding parts_to_finalize opened_finalization
+  parts_is s t = keep_same (λ p. has_controlled k p.ty && true) (λ p. has_controlled k p.ty) (λ p. and_true (has_controlled k p.ty)) (placed k t)
+
+  -- a part, behind its own Finalize
+  abbrev behind_own : ℕ → Spot → ℕ → Bool → Act Bool
+  behind_own n s t failed = in_turn n s (length (parts_to_finalize K Every s t)) (parts_to_finalize K Every s t) failed
+
+  -- its components, from the step that begins with them
+  all_run : (n : ℕ) → PartsRun n → (s : Spot) (t : ℕ) → object_at s.object wr ≡ Some o → t ≤ n → IsPlainType k (Record t) → IsDeclarable code around t → (ks : List Frame) (failed : Bool) (c : ℕ) (l : Log) (w : World) (s0 : State) → c ≤ bound → Since k code wr w → step ask code s0 ≡ moved l (finalize_left cause s (controlled_of code t) failed ks w) → Finalizes 2 2 s0 c ks (behind_own n s t failed c l w)
+  unfolding in_any_order opened_outcome
+  all_run n parts s t was old plain inside ks failed c l w s0 le fits first =
+      subst (λ ps. Finalizes 2 2 s0 c ks (in_turn n s (length ps) ps failed c l w)) (sym (parts_is s t))
+      (by (keep (λ p. has_controlled k p.ty) (placed k t)) (controlled_of code t) (setting.agrees default constants t plain).controlled (keep_passes (λ p. has_controlled k p.ty) (placed k t)) (controlled_inside code setting.valid around t inside) first)
+    where
+      by : (left : List Placed) (xs : List Begun) → HaveParts k t left xs → Each (λ p. has_controlled k p.ty ≡ true) left → AreBegunBy code around xs → step ask code s0 ≡ moved l (finalize_left cause s xs failed ks w) → Finalizes 2 2 s0 c ks (in_turn n s (length left) left failed c l w)
+      by [] [] have held within go = last_step ask code (Sure k code wr) 2 2 s0 c 0 (tells ks) (Goes failed) l w (omega arith) (tt, fits) go
+      by [] (x ∷ xs) have held within go = absurd have
+      by (q ∷ qs) [] have held within go = absurd have
+      by (q ∷ qs) (x ∷ xs) have held within go =
+          one_step ask code (Sure k code wr) 1 1 2 2 s0 (gives (FinalizingParts cause s (x ∷ xs) failed ∷ ks) (Fine Complete) l w) c c (tells ks) _ (omega arith) (omega arith) (omega arith) (omega arith) go
+          (subst (λ b. Finalizes 1 1 (gives (FinalizingParts cause s (x ∷ xs) failed ∷ ks) (Fine Complete) l w) c ks (in_turn n s (length (q ∷ qs)) (q ∷ qs) b c l w)) (or_false failed)
+          (left_run n parts s t was old (length (q ∷ qs)) ks Complete failed c l w (q ∷ qs) (x ∷ xs) refl have held within le fits))
+
+  -- what becomes of the call of its own Finalize
+  abbrev after_own : ℕ → Spot → ℕ → Out Unit → Out Bool
+  after_own n s t x = add 1 (bind (bind (bind x told) (on_goes (after_finalize cause))) (on_goes (behind_own n s t)))
+
+  -- a part that is controlled
+  controlled_is : (g : Option ℕ) → (n : ℕ) (s : Spot) (t c : ℕ) (l : Log) (w : World) → operation (λ x. x.finalize) k t ≡ g → is_controlled k t ≡ true → finalize_part K cause Every (suc n) s t c l w ≡ after_own n s t (call_operation K s g (shown s) c l w)
+  unfolding opened_finalization opened_outcome
+  controlled_is g n s t c l w op is =
+      ap (λ b. add 1 (bind (either (b && true) (attempt (call_operation K s (operation (λ x. x.finalize) k t) (shown s)) >>= after_finalize cause) (done false) c l w) (on_goes (behind_own n s t)))) is
+      ∙ ap (λ x. after_own n s t (call_operation K s x (shown s) c l w)) op
+
+  -- and one that is not
+  within_is : (n : ℕ) (s : Spot) (t c : ℕ) (l : Log) (w : World) → is_controlled k t ≡ false → finalize_part K cause Every (suc n) s t c l w ≡ add 1 (add 0 (behind_own n s t false c l w))
+  unfolding opened_finalization opened_outcome
+  within_is n s t c l w is = ap (λ b. add 1 (bind (either (b && true) (attempt (call_operation K s (operation (λ x. x.finalize) k t) (shown s)) >>= after_finalize cause) (done false) c l w) (on_goes (behind_own n s t)))) is
+
+  -- as many ticks
+  same_ticks : {X : Type 0} (s1 s0 : State) (c c1 u t : ℕ) → u ≤ t → Comes ask code 2 s0 c u c1 s1 X → Comes ask code 2 s0 c t c1 s1 X
+  same_ticks s1 s0 c c1 u t le z = record { n = z.n; falls = z.falls; enough = z.enough; in_time = omega (arith, z.in_time, le); comes = z.comes; fits = z.fits }
+
+  -- after the execution of its own Finalize, one that raised is remembered
+  over : (n : ℕ) → PartsRun n → (s : Spot) (t : ℕ) → object_at s.object wr ≡ Some o → t ≤ n → IsPlainType k (Record t) → IsDeclarable code around t → (ks : List Frame) (s0 : State) (c : ℕ) (x : Out Returned) → c ≤ bound → Runs ask code (Told k code wr) 2 3 s0 c (returns (FinalizingOwn cause s t ∷ ks)) x → Finalizes 0 0 s0 c ks (after_own n s t (bind (add 0 x) (on_goes (λ _. nothing))))
+  unfolding picked opened_outcome after_finalize
+  over n parts s t was old plain inside ks s0 c (Gives (Goes v) u c1 l w) le z =
+      let falls = z.falls in
+      added ask code (Sure k code wr) 1 4 4 0 0 s0 c (tells ks) _ (omega arith) (omega arith)
+      (after_comes ask code (Sure k code wr) 2 2 2 4 4 s0 (gives (FinalizingOwn cause s t ∷ ks) (Fine Complete) l w) c c1 (0 + u + 0 + 0 + 0) (tells ks) (behind_own n s t false c1 l w) (omega arith) (omega arith)
+      (same_ticks (gives (FinalizingOwn cause s t ∷ ks) (Fine Complete) l w) s0 c c1 u (0 + u + 0 + 0 + 0) (omega arith) z)
+      (all_run n parts s t was old plain inside ks false c1 l w (gives (FinalizingOwn cause s t ∷ ks) (Fine Complete) l w) (omega (arith, falls, le)) z.fits.1 refl))
+  over n parts s t was old plain inside ks s0 c (Gives (Leaves y) u c1 l w) le z =
+      by_raise (λ x. Runs ask code (Told k code wr) 2 3 s0 c (returns {A = Returned} (FinalizingOwn cause s t ∷ ks)) (Gives (Leaves x) u c1 l w) → Finalizes 0 0 s0 c ks (after_own n s t (Gives (Leaves x) (0 + u + 0) c1 l w))) failed y z.fits.0 z
+    where
+      failed : (e : ℕ) → Runs ask code (Told k code wr) 2 3 s0 c (returns {A = Returned} (FinalizingOwn cause s t ∷ ks)) (Gives (Leaves (ByRaise e)) u c1 l w) → Finalizes 0 0 s0 c ks (after_own n s t (Gives (Leaves (ByRaise e)) (0 + u + 0) c1 l w))
+      failed e z1 =
+          let falls = z1.falls in
+          subst (λ x. Finalizes 0 0 s0 c ks (add 1 (bind (add (0 + u + 0 + 0) x) (on_goes (behind_own n s t))))) (sym (remembered.meant e c1 l w))
+          (added ask code (Sure k code wr) 1 4 4 0 0 s0 c (tells ks) _ (omega arith) (omega arith)
+          (after_comes ask code (Sure k code wr) 2 2 2 4 4 s0 (gives (FinalizingOwn cause s t ∷ ks) (Raised e) l w) c c1 (0 + u + 0 + 0 + 0) (tells ks) (behind_own n s t true c1 l w) (omega arith) (omega arith)
+          (same_ticks (gives (FinalizingOwn cause s t ∷ ks) (Raised e) l w) s0 c c1 u (0 + u + 0 + 0 + 0) (omega arith) z1)
+          (all_run n parts s t was old plain inside ks true c1 l w (gives (FinalizingOwn cause s t ∷ ks) (Raised e) l w) (omega (arith, falls, le)) z1.fits.1 (ap (moved l) (remembered.done code s t ks w)))))
+  over n parts s t was old plain inside ks s0 c (Stops why u l) le z = more_quits ask code (Sure k code wr) 3 0 s0 u _ l why (omega arith) z
+  over n parts s t was old plain inside ks s0 c (Cut u c1 l) le z = more_halts ask code (Sure k code wr) 3 0 s0 c u _ l (omega arith) z
+
+  -- a part that is controlled, from the step that begins with it
+  own_runs : (n : ℕ) → PartsRun n → (s : Spot) (t : ℕ) (ks : List Frame) (c : ℕ) (l : Log) (w : World) (s0 : State) → object_at s.object wr ≡ Some o → t ≤ n → IsPlainType k (Record t) → IsDeclarable code around t → c ≤ bound → Since k code wr w → (g : Option ℕ) (y : Option Object) → operation (λ x. x.finalize) k t ≡ g → object_at s.object w ≡ y → step ask code s0 ≡ moved l (finalize_own code g cause s t y ks w) → Finalizes 0 0 s0 c ks (after_own n s t (call_operation K s g (shown s) c l w))
+  unfolding opened_finalization opened_outcome opened_names
+  own_runs n parts s t ks c l w s0 was old plain inside le fits None None op at go = subst (λ y. Finalizes 0 0 s0 c ks (after_own n s t (add 1 (on_some y gone (λ _. nothing) c l w)))) (sym at) (stop_step ask code (Sure k code wr) 0 0 s0 _ c 2 (tells ks) UseAfterFree l (omega arith) go refl refl)
+  own_runs n parts s t ks c l w s0 was old plain inside le fits None (Some p) op at go =
+      subst (λ y. Finalizes 0 0 s0 c ks (after_own n s t (add 1 (on_some y gone (λ _. nothing) c l w)))) (sym at)
+      (added ask code (Sure k code wr) 1 2 2 0 0 s0 c (tells ks) _ (omega arith) (omega arith)
+      (added ask code (Sure k code wr) (1 + 0 + 0 + 0) 2 2 2 2 s0 c (tells ks) _ (omega arith) (omega arith)
+      (all_run n parts s t was old plain inside ks false c l w s0 le fits go)))
+  own_runs n parts s t ks c l w s0 was old plain inside le fits (Some f) None op at go = subst (λ y. Finalizes 0 0 s0 c ks (after_own n s t (on_some y gone (λ o1. look (λ w1. show (shown s) >> call (OfSubprogram f (holding (Binds s.object s.offset s.path) ∷ [])) (home_of o1.origin w1) >> nothing)) c l w))) (sym at) (stop_step ask code (Sure k code wr) 0 0 s0 _ c 1 (tells ks) UseAfterFree l (omega arith) go refl refl)
+  own_runs n parts s t ks c l w s0 was old plain inside le fits (Some f) (Some p) op at go =
+      let body = setting.finalize_body t f op in
+      let home : home_of p.origin w ≡ home_of o.origin wr = still_home k code s.object wr w o p fits_then fits.1 was at in
+      let here : IsDeclarable code (length (home_of p.origin w)) t = subst (λ (d : List ℕ). IsDeclarable code (length d) t) (sym home) inside in
+      subst (λ x. Finalizes 0 0 s0 c ks (after_own n s t x)) (sym (call_is ask k call default f s c (shown s) l w p at))
+      (over n parts s t was old plain inside ks s0 c _ le
+      (calls.runs f body.0 body.1 wr (home_of p.origin w) (holding (Binds s.object s.offset s.path) ∷ []) (FinalizingOwn cause s t ∷ ks) c (tell (shown s) l) w s0 le fits (finalize_in code setting.valid _ t f here (setting.finalize t ∙ op)) (tt, tt)
+      (go ∙ enter_shows (slice_get code.entries.items f) (shown s) (home_of p.origin w) (holding (Binds s.object s.offset s.path) ∷ []) (FinalizingOwn cause s t ∷ ks) l w)))
+
+  -- each part
+  pub part_runs : (n : ℕ) → PartsRun n
+  part_runs zero s t ks c l w s0 was less plain held inside le fits first = absurd (omega (arith, less))
+  part_runs (suc n) s t ks c l w s0 was less plain held inside le fits first = by (parts_of code t) refl (part_runs n) first
+    where
+      agrees : AgreesOn k code default t
+      agrees = setting.agrees default constants t plain
+
+      old : t ≤ n
+      old = omega (arith, less)
+
+      by : (p : Parts) → parts_of code t ≡ p → PartsRun n → step ask code s0 ≡ moved l (Table.finalize_part code p cause s t ks w) → Finalizes 0 0 s0 c ks (finalize_part K cause Every (suc n) s t c l w)
+      by PartsOf.Plain is parts go = absurd (let none : true ≡ false = sym held ∙ agrees.has ∙ ap has_part is in cc)
+      by PartsOf.Within is parts go =
+          subst (Finalizes 0 0 s0 c ks) (sym (within_is n s t c l w (agrees.itself ∙ ap is_itself is)))
+          (added ask code (Sure k code wr) 1 2 2 0 0 s0 c (tells ks) _ (omega arith) (omega arith)
+          (added ask code (Sure k code wr) 0 2 2 2 2 s0 c (tells ks) _ (omega arith) (omega arith)
+          (all_run n parts s t was old plain inside ks false c l w s0 le fits go)))
+      by PartsOf.Controlled is parts go =
+          subst (Finalizes 0 0 s0 c ks) (sym (controlled_is (operation (λ x. x.finalize) k t) n s t c l w refl (agrees.itself ∙ ap is_itself is)))
+          (own_runs n parts s t ks c l w s0 was old plain inside le fits (operation (λ x. x.finalize) k t) (object_at s.object w) refl refl (go ∙ ap (λ g. moved l (finalize_own code g cause s t (object_at s.object w) ks w)) (setting.finalize t)))

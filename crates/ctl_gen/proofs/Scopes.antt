@@ -1,0 +1,142 @@
+-- Operations are called where their type is declared: of a type that is declared around a place, its own ones are in scope there, and so are
+-- those of its components.
+use Rattle.std.proofs.Common.{◌≡◌, ℕ, zero, suc, ◌<◌, ◌≤◌, List, [], ◌∷◌, length, Option, Some, None, Bool, true, false, sym, ap, ◌∙◌, subst, arith}
+use Rattle.std.specs.Prelude.{slice_get, if◌then◌else◌}
+use Rattle.ctl_program.specs.declared.types.Ty.TheVariants.{Record}
+use Rattle.ctl_meaning.specs.World.{Object, World}
+use Rattle.ctl_meaning.specs.Lists.{keep, pull_item, pull_rest}
+use Rattle.ctl_meaning.specs.Changes.{home_of, home_master, opened_changes}
+use Rattle.ctl_meaning.specs.Types.{Tables}
+use Rattle.ctl_code.specs.declared.code.Beginning.{Beginning}
+use Rattle.ctl_code.specs.declared.code.Beginning.TheVariants.{ByDefault, ByCopy}
+use Rattle.ctl_code.specs.declared.code.Begun.{Begun}
+use Rattle.ctl_code.specs.declared.code.Initial.{Initial}
+use Rattle.ctl_code.specs.declared.code.Initial.TheVariants.{Constant, ByType}
+use Rattle.ctl_code.specs.declared.code.Layout.{Layout}
+use Rattle.ctl_code.specs.declared.code.Operations.{Operations}
+use Rattle.ctl_code.specs.declared.code.Code.{Code}
+use Rattle.ctl_code.specs.Table.{begun_in, begun_of, controlled_in, controlled_of, operation_in, operation_of}
+use Rattle.ctl_code.specs.Valid.{AreBegunBy, AreInScope, IsBegunBy, IsDeclarable, IsDeclaredIn, IsInScope, IsValid, PositionsRise, outermost}
+use Rattle.ctl_code.proofs.Declarable.{layout_of}
+use Rattle.ctl_gen.proofs.Worlds.{IsInside, Settled, home}
+
+-- Inside more masters -------------------------------------------------------------------------------
+
+pub in_scope_later : (code : Code) (a b : ℕ) (x : Option ℕ) → a ≤ b → IsInScope code a x → IsInScope code b x
+in_scope_later code a b None le h = tt
+in_scope_later code a b (Some f) le h = let level = h.2 in (h.0, h.1, omega (arith, level, le))
+
+pub declarable_later : (code : Code) (a b t : ℕ) → a ≤ b → IsDeclarable code a t → IsDeclarable code b t
+declarable_later code a b t le h = by (slice_get code.layouts.items t) h
+  where
+    by : (o : Option Layout) → IsDeclaredIn a o → IsDeclaredIn b o
+    by None h1 = absurd h1
+    by (Some x) h1 = omega (arith, h1, le)
+
+begun_by_later : (code : Code) (a b : ℕ) (x : Initial) → a ≤ b → IsBegunBy code a x → IsBegunBy code b x
+begun_by_later code a b (Constant v) le h = tt
+begun_by_later code a b (ByType u) le h = declarable_later code a b u le h
+
+begun_later : (code : Code) (a b : ℕ) (xs : List Begun) → a ≤ b → AreBegunBy code a xs → AreBegunBy code b xs
+begun_later code a b [] le h = tt
+begun_later code a b (x ∷ xs) le h = (begun_by_later code a b x.initial le h.0, begun_later code a b xs le h.1)
+
+-- Operations ----------------------------------------------------------------------------------------
+
+-- those of a type that is declared in so many masters
+pub operations_in : (code : Code) → IsValid code → (n t : ℕ) → IsDeclarable code n t → AreInScope code n t
+operations_in code valid n t inside =
+    let has = layout_of code n t inside in
+    let at = (valid.layouts t has.layout has.found).operations in
+    (at.0, at.1, in_scope_later code has.layout.level n at.0.initialize has.level at.2, in_scope_later code has.layout.level n at.0.finalize has.level at.3, in_scope_later code has.layout.level n at.0.adjust has.level at.4)
+
+named : (code : Code) (t f : ℕ) (g : Operations → Option ℕ) (o : Operations) → slice_get code.records.items t ≡ Some o → operation_of g code t ≡ Some f → g o ≡ Some f
+named code t f g o at op = sym (ap (operation_in g) at) ∙ op
+
+pub initialize_in : (code : Code) → IsValid code → (n t f : ℕ) → IsDeclarable code n t → operation_of (λ x. x.initialize) code t ≡ Some f → IsInScope code n (Some f)
+initialize_in code valid n t f inside op = let at = operations_in code valid n t inside in subst (IsInScope code n) (named code t f (λ x. x.initialize) at.0 at.1 op) at.2
+
+pub finalize_in : (code : Code) → IsValid code → (n t f : ℕ) → IsDeclarable code n t → operation_of (λ x. x.finalize) code t ≡ Some f → IsInScope code n (Some f)
+finalize_in code valid n t f inside op = let at = operations_in code valid n t inside in subst (IsInScope code n) (named code t f (λ x. x.finalize) at.0 at.1 op) at.3
+
+pub adjust_in : (code : Code) → IsValid code → (n t f : ℕ) → IsDeclarable code n t → operation_of (λ x. x.adjust) code t ≡ Some f → IsInScope code n (Some f)
+adjust_in code valid n t f inside op = let at = operations_in code valid n t inside in subst (IsInScope code n) (named code t f (λ x. x.adjust) at.0 at.1 op) at.4
+
+-- the operation that is called once an object has begun (7.6)
+abbrev pub first_operation : Beginning → Operations → Option ℕ
+first_operation ByDefault x = x.initialize
+first_operation ByCopy x = x.adjust
+
+pub first_in : (how : Beginning) (code : Code) → IsValid code → (n t f : ℕ) → IsDeclarable code n t → operation_of (first_operation how) code t ≡ Some f → IsInScope code n (Some f)
+first_in ByDefault code valid n t f inside op = initialize_in code valid n t f inside op
+first_in ByCopy code valid n t f inside op = adjust_in code valid n t f inside op
+
+-- Components ----------------------------------------------------------------------------------------
+
+-- the type of each component that begins with something is declared where the whole is
+pub begun_inside : (code : Code) → IsValid code → (n t : ℕ) → IsDeclarable code n t → AreBegunBy code n (begun_of code t)
+begun_inside code valid n t inside =
+    let has = layout_of code n t inside in
+    subst (λ o. AreBegunBy code n (begun_in o)) (sym has.found) (begun_later code has.layout.level n has.layout.begun.items has.level (valid.layouts t has.layout has.found).types)
+
+-- their positions rise
+pub begun_rise : (code : Code) → IsValid code → (n t : ℕ) → IsDeclarable code n t → PositionsRise 0 (begun_of code t)
+begun_rise code valid n t inside =
+    let has = layout_of code n t inside in
+    subst (λ o. PositionsRise 0 (begun_in o)) (sym has.found) (valid.layouts t has.layout has.found).rise
+
+pub kept_inside : (code : Code) (n : ℕ) (p : Begun → Bool) (xs : List Begun) → AreBegunBy code n xs → AreBegunBy code n (keep p xs)
+unfolding keep
+kept_inside code n p [] h = tt
+kept_inside code n p (x ∷ xs) h = one (p x) (kept_inside code n p xs h.1)
+  where
+    one : (b : Bool) → AreBegunBy code n (keep p xs) → AreBegunBy code n (if b then x ∷ keep p xs else keep p xs)
+    one true rest = (h.0, rest)
+    one false rest = rest
+
+-- and that of each one with a controlled part
+pub controlled_inside : (code : Code) → IsValid code → (n t : ℕ) → IsDeclarable code n t → AreBegunBy code n (controlled_of code t)
+controlled_inside code valid n t inside =
+    let has = layout_of code n t inside in
+    let laid = valid.layouts t has.layout has.found in
+    subst (λ o. AreBegunBy code n (controlled_in o)) (sym has.found)
+    (subst (AreBegunBy code n) (sym laid.controlled) (kept_inside code n _ has.layout.begun.items (begun_later code has.layout.level n has.layout.begun.items has.level laid.types)))
+
+-- one that is chosen, and the others
+pub pulled_inside : (code : Code) (n : ℕ) (d : Begun) (i : ℕ) (xs : List Begun) → AreBegunBy code n xs → i < length xs → IsBegunBy code n (pull_item d i xs).initial
+unfolding pull_item
+pulled_inside code n d i [] h less = absurd (omega (arith, less))
+pulled_inside code n d zero (x ∷ xs) h less = h.0
+pulled_inside code n d (suc i) (x ∷ xs) h less = pulled_inside code n d i xs h.1 (omega (arith, less))
+
+pub rest_inside : (code : Code) (n i : ℕ) (xs : List Begun) → AreBegunBy code n xs → AreBegunBy code n (pull_rest i xs)
+unfolding pull_rest
+rest_inside code n i [] h = tt
+rest_inside code n zero (x ∷ xs) h = h.1
+rest_inside code n (suc i) (x ∷ xs) h = (h.0, rest_inside code n i xs h.1)
+
+-- Objects -------------------------------------------------------------------------------------------
+
+-- the display that the operations of a settled object are called with
+pub home_is : (k : Tables) (code : Code) (w : World) (o : Object) → (h : Settled k code w.ledger.next_master w.activations o) → home_of o.origin w ≡ home h.master w.activations
+unfolding opened_changes
+home_is k code w o h = ap (λ x. home (home_master w x) w.activations) h.origin
+
+-- its type is declared there
+pub type_inside : (k : Tables) (code : Code) (w : World) (o : Object) (t : ℕ) → o.ty ≡ Record t → Settled k code w.ledger.next_master w.activations o → IsDeclarable code (length (home_of o.origin w)) t
+type_inside k code w o t ty h =
+    subst (λ (d : List ℕ). IsDeclarable code (length d) t) (sym (home_is k code w o h)) (subst (λ y. IsInside code y (length (home h.master w.activations))) ty h.inside)
+
+-- an operation of its type is in scope there
+pub finalize_scope : (k : Tables) (code : Code) → IsValid code → (w : World) (o : Object) (t f : ℕ) → o.ty ≡ Record t → Settled k code w.ledger.next_master w.activations o → operation_of (λ x. x.finalize) code t ≡ Some f → IsInScope code (length (home_of o.origin w)) (Some f)
+finalize_scope k code valid w o t f ty h op = finalize_in code valid _ t f (type_inside k code w o t ty h) op
+
+pub first_scope : (how : Beginning) (k : Tables) (code : Code) → IsValid code → (w : World) (o : Object) (t f : ℕ) → o.ty ≡ Record t → Settled k code w.ledger.next_master w.activations o → operation_of (first_operation how) code t ≡ Some f → IsInScope code (length (home_of o.origin w)) (Some f)
+first_scope how k code valid w o t f ty h op = first_in how code valid _ t f (type_inside k code w o t ty h) op
+
+-- one that is declared in the main procedure's own master at the most is in scope wherever an object was declared
+pub outermost_scope : (k : Tables) (code : Code) (w : World) (o : Object) (f : ℕ) → Settled k code w.ledger.next_master w.activations o → IsInScope code outermost (Some f) → IsInScope code (length (home_of o.origin w)) (Some f)
+outermost_scope k code w o f h scope =
+    let deep : 1 ≤ length (home_of o.origin w) = subst (λ (d : List ℕ). 1 ≤ length d) (sym (home_is k code w o h)) h.deep in
+    let level = scope.2 in
+    (scope.0, scope.1, omega (arith, level, deep))
