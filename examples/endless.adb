@@ -1,6 +1,6 @@
 --  A Finalize that declares an object of its own type never comes to its end: finalizing that object calls Finalize again.
 --  No rule of the language forbids this. The limit on steps ends the run:
---     ./adactl run examples/endless.adb --steps 16
+--     ./adactl run examples/endless.adb --steps 20
 with Ada.Finalization; use Ada.Finalization;
 with Ada.Text_IO;      use Ada.Text_IO;
 

@@ -46,6 +46,9 @@ const FIRST_TYPE: usize = 0;
 
 const SECOND_TYPE: usize = 1;
 
+/// The number of no record type.
+const PAST_THE_TABLE: usize = 3;
+
 /// The bodies of the code.
 fn entries(alloc: Global) -> Result<Vec<Entry>, AllocError> {
     let mut entries = vec![in alloc;
@@ -74,11 +77,11 @@ fn operations(initialize: Option<usize>, finalize: Option<usize>) -> Operations 
     }
 }
 
-/// A component of a record type, which has one cell.
-fn component(position: usize, record: usize) -> Begun {
+/// A component of a record type, which has one cell, so it begins behind those before it.
+fn component(position: usize, before: usize, record: usize) -> Begun {
     Begun {
         position,
-        offset: position - 1,
+        offset: before,
         initial: Initial::ByType(record),
     }
 }
@@ -90,8 +93,8 @@ fn layout_of(alloc: Global, parts: Parts, types: &[usize]) -> Result<Layout, All
     let mut controlled = Vec::new(alloc);
     for (offset, record) in types.iter().enumerate() {
         offsets.push(offset)?;
-        begun.push(component(offset + 1, *record))?;
-        controlled.push(component(offset + 1, *record))?;
+        begun.push(component(offset + 1, offset, *record))?;
+        controlled.push(component(offset + 1, offset, *record))?;
     }
     Ok(Layout {
         parts,
@@ -287,28 +290,16 @@ fn layouts_are_looked_at(rt: HostRuntime) -> Result<(), Fail> {
         is_refused(alloc, deep)?,
         "a Finalize that is declared deeper than its type"
     );
-    let mut unknown = layout_with_two_parts(alloc)?;
-    unknown.begun[0].initial = Initial::ByType(3);
-    unknown.controlled.clear();
+    let unknown = layout_of(alloc, Parts::Controlled, &[FIRST_TYPE, PAST_THE_TABLE])?;
     assert!(rt;
         is_refused(alloc, unknown)?,
         "a component of a type past the table"
     );
-    let mut same = layout_with_two_parts(alloc)?;
-    same.begun[1].position = 1;
-    same.controlled[1].position = 1;
-    assert!(rt; is_refused(alloc, same)?, "two components at one position");
     let mut missing = layout_with_two_parts(alloc)?;
     missing.controlled.clear();
     assert!(rt;
         is_refused(alloc, missing)?,
         "controlled parts that are not told apart"
-    );
-    let mut other = layout_with_two_parts(alloc)?;
-    other.controlled[0].offset = 1;
-    assert!(rt;
-        is_refused(alloc, other)?,
-        "a controlled part in another cell"
     );
     Ok(())
 }
