@@ -1,0 +1,21 @@
+//! Tests the crates that hold the code and run it, each through its public calls.
+#![tactic(auto)]
+
+#[cfg(test)]
+mod assigned;
+#[cfg(test)]
+mod called;
+#[cfg(test)]
+mod code;
+#[cfg(test)]
+mod codes;
+#[cfg(test)]
+mod controlled;
+#[cfg(test)]
+mod filled;
+#[cfg(test)]
+mod lines;
+#[cfg(test)]
+mod machine;
+#[cfg(test)]
+mod selected;
