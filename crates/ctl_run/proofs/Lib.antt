@@ -1,3 +1,4 @@
 pub mod Composed
+pub mod Orderly
 pub mod Verdicts
 pub mod WellTyped

@@ -1,9 +1,10 @@
 -- What a run shows: the promise of the whole product.
-use Rattle.std.specs.Prelude.{◌≡◌, ◌≢◌, ℕ, ◌*◌, ◌≤◌, List, Some, None, Ok}
+use Rattle.std.specs.Prelude.{◌≡◌, ◌≢◌, ℕ, ◌*◌, ◌≤◌, List, Some, None, Ok, false}
 use Rattle.ctl_program.specs.declared.program.Checked.{Checked}
 use Rattle.ctl_tree.specs.declared.ending.End.{End}
 use Rattle.ctl_tree.specs.declared.ending.End.TheVariants.{Done, Raised, Stopped, StepLimit, HostMemory}
 use Rattle.ctl_tree.specs.declared.request.Order.{Order}
+use Rattle.ctl_meaning.specs.Audit.{IsOrderly}
 use Rattle.ctl_meaning.specs.World.{Pick}
 use Rattle.ctl_meaning.specs.Choice.{Ask, Obeys, answer, replayed}
 use Rattle.ctl_meaning.specs.Run as Meaning
@@ -56,8 +57,10 @@ pub record Headline (program : Checked) (order : Order) (limit : ℕ) (o : Outco
   -- each outcome of the meaning whose choices obey the order is reached in 64 steps a tick
   pub in_time : o.end ≢ HostMemory → (other : Ask) (clock : ℕ) → Obeys (answer order) (outcome program other clock).picks → 64 * (outcome program other clock).ticks ≤ limit → Reaches o taken (outcome program other clock)
 
--- the program of an accepted text, and what its run shows
+-- the program of an accepted text, and what its run shows: which is orderly as far as it goes, so no part was finalized that did not come to
+-- life before, or twice, and none behind a part of an older object of its master, but as the target of an assignment (7.6.1)
 pub record RunsSource (source : List ℕ) (order : Order) (limit : ℕ) (o : Outcome) : Type 0 where
   pub program : Checked
   pub accepted : IsVerdict source (Ok program)
   pub headline : Headline program order limit o
+  pub orderly : IsOrderly o.events.items false

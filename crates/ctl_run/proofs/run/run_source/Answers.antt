@@ -6,8 +6,10 @@ use Rattle.ctl_gen.specs.Correct.{Behaves}
 use Rattle.ctl_layout.specs.Layout.{IsLaidOut}
 use Rattle.ctl_gen.proofs.FormedWhole.{linked_of}
 use Rattle.ctl_machine.specs.Machine.{Running}
+use Rattle.ctl_meaning.specs.Choice.{replayed}
 use Rattle.ctl_run.specs.Headline.{Headline}
 use Rattle.ctl_run.proofs.Composed.{composed}
+use Rattle.ctl_run.proofs.Orderly.{shown_orderly}
 use Rattle.ctl_run.proofs.Verdicts.{answer_of, for_memory, not_accepted, refused_for, refused_with_it, runs_of, verdict_of}
 use Rattle.ctl_run.proofs.WellTyped.{well_typed}
 use Rattle.ctl_run.proofs.run.run_source.Goals as goal
@@ -27,10 +29,12 @@ returns-clause-headline c =
     let counted : m.has_ended ≡ false → m.steps ≡ c.args.steps = λ running. let h = c.run.ensures.counted running in omega (arith, h, start, c.ranges.steps.fits) in
     let laid_out : IsLaidOut program m.code = subst (λ (x : Code). IsLaidOut program x) (sym code) c.in_ok-code.ensures.layout in
     let behaves : Behaves program m.code = subst (λ (x : Code). Behaves program x) (sym code) (c.in_ok-code.ensures.behaves runs (linked_of program typed)) in
+    let h : Headline program c.args.order c.args.steps c.finish.result = subst (λ (x : Order). Headline program x c.args.steps c.finish.result) order (composed program m c.args.steps c.finish.result laid_out behaves c.finish.ensures within counted) in
     record {
       program = program;
       accepted = verdict;
-      headline = subst (λ (x : Order). Headline program x c.args.steps c.finish.result) order (composed program m c.args.steps c.finish.result laid_out behaves c.finish.ensures within counted);
+      headline = h;
+      orderly = shown_orderly program typed (replayed h.taken) c.finish.result.steps c.finish.result.events.items h.so_far;
     }
 
 -- the check refuses the text for its fault, or for want of memory

@@ -1,0 +1,25 @@
+pub mod Traces
+pub mod Parts
+pub mod State
+pub mod Rules
+pub mod Edits
+pub mod Closing
+pub mod Members
+pub mod Depths
+pub mod Adjusting
+pub mod Initializing
+pub mod Filling
+pub mod Creating
+pub mod Plain
+pub mod Expressions
+pub mod Storage
+pub mod Assigning
+pub mod Allocating
+pub mod Inside
+pub mod Ledgers
+pub mod Masters
+pub mod Statements
+pub mod Glue
+pub mod Runs
+pub mod WellTyped
+mod Counterexamples

@@ -1,0 +1,4 @@
+//! Every trace is orderly.
+#![tactic(auto)]
+
+pub mod laws;
