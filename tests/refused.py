@@ -96,22 +96,21 @@ TEXTS = [
     (CONTROLLED + "type R is new Controlled with null record; type Q is record X : R; end record; Y : Q; begin null; end Main;", ACCEPTED, 1, 1),
     (CONTROLLED + "type R is record N : Integer; end record; type T is new Controlled with record X : R; end record; Y : T; begin null; end Main;", ACCEPTED, 1, 1),
     (ITEM + "type R is record N : Integer; end record; type Q is record X : R; end record; A : Q; B : R := A.X; begin null; end Main;", ACCEPTED, 1, 1),
-    # no such object takes the value of another one where a component has a controlled part. Where it does, the first object is told that
-    # takes a value of a type of the text, also where it is run itself; what is left out for certain is told before it
+    # and copied and assigned, where a component has a controlled part, too
     (
         CONTROLLED
         + "type G is record N : Integer; end record; type C is new Controlled with null record; type Q is record X : C; end record;"
         + " A : G; B : G := A; Y : Q; Z : Q := Y; begin null; end Main;",
-        12,
+        ACCEPTED,
         1,
-        192,
+        1,
     ),
     (
         CONTROLLED
         + "type C is new Controlled with null record; type Q is record X : C; end record; Y, Z : Q; begin Y := Z; end Main;",
-        12,
+        ACCEPTED,
         1,
-        46,
+        1,
     ),
     (
         ITEM

@@ -254,6 +254,16 @@ unfolding keep
 keep_same_on p q [] h = refl
 keep_same_on p q (x ∷ xs) h = ap (λ b. if b then x ∷ keep p xs else keep p xs) h.0 ∙ ap (λ ys. if q x then x ∷ ys else ys) (keep_same_on p q xs h.1)
 
+-- one test and then another
+pub keep_keep : {A : Type 0} (p q : A → Bool) (xs : List A) → keep (λ x. p x && q x) xs ≡ keep q (keep p xs)
+unfolding keep
+keep_keep p q [] = refl
+keep_keep p q (x ∷ xs) = one (p x) (keep_keep p q xs)
+  where
+    one : (b : Bool) → keep (λ y. p y && q y) xs ≡ keep q (keep p xs) → (if b && q x then x ∷ keep (λ y. p y && q y) xs else keep (λ y. p y && q y) xs) ≡ keep q (if b then x ∷ keep p xs else keep p xs)
+    one true rest = ap (λ ys. if q x then x ∷ ys else ys) rest
+    one false rest = rest
+
 pub both_same : (b x y : Bool) → (b ≡ true → x ≡ y) → (b && x) ≡ (b && y)
 both_same true x y same = same refl
 both_same false x y same = refl

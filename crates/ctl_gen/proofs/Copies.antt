@@ -1,77 +1,65 @@
--- The declaration of an object that takes the value of a part (3.3.1): of a plain type none of whose components has a controlled part.
-use Rattle.std.proofs.Common.{◌≡◌, ℕ, ◌+◌, ◌≤◌, List, [], ◌∷◌, length, Option, Some, None, Bool, true, false, refl, sym, ap, ◌∙◌, subst, arith, length-append, ◌⊎◌, inl, inr}
-use Rattle.std.specs.Prelude.{replicate, slice_get, is_some, if◌then◌else◌, ◌&&◌}
+-- The declaration of an object of a plain type that takes the value of a part: it is adjusted, and where no Adjust failed it comes to life; else
+-- those of its parts that are adjusted are finalized, and Program_Error is raised (3.3.1, 7.6, 7.6.1).
+use Rattle.std.proofs.Common.{◌≡◌, ℕ, suc, ◌+◌, ◌≤◌, List, [], ◌∷◌, length, Option, Some, None, Bool, true, false, refl, sym, ap, ◌∙◌, subst, arith, length-append}
+use Rattle.std.specs.Prelude.{replicate, slice_get, is_some}
 use Rattle.ctl_program.specs.declared.types.Ty.TheVariants.{Record}
 use Rattle.ctl_program.specs.declared.types.RecordType.{RecordType}
-use Rattle.ctl_program.specs.declared.types.Root.TheVariants.{Controlled}
 use Rattle.ctl_program.specs.declared.expression.Expr.{Expr}
 use Rattle.ctl_tree.specs.declared.ending.Stop.TheVariants.{UseAfterFree}
-use Rattle.ctl_tree.specs.declared.event.Event.TheVariants as EventOf
-use Rattle.ctl_tree.specs.declared.event.Cause.TheVariants.{Failed}
-use Rattle.ctl_meaning.specs.World.{Object, Binds, Holds, Declared, holding, Log, World}
-use Rattle.ctl_meaning.specs.Lists.{keep, last_of, opened_lists}
+use Rattle.ctl_meaning.specs.World.{Object, Holds, Declared, holding, Log, World}
+use Rattle.ctl_meaning.specs.Lists.{last_of}
 use Rattle.ctl_meaning.specs.Activations.{master_of}
 use Rattle.ctl_meaning.specs.Objects.{cells_at}
-use Rattle.ctl_meaning.specs.Changes.{object_at, create, write_cells, set_slot, begin_finalization, end_finalization, home_of, owner_of}
+use Rattle.ctl_meaning.specs.Changes.{object_at, create, write_cells, set_slot, home_of}
 use Rattle.ctl_meaning.specs.Choice.{Ask, picked}
-use Rattle.ctl_meaning.specs.Outcome.{program_error, ByRaise, Result, Goes, Leaves, Out, Gives, Stops, Act, Done, Tried, Fine, Raised, add, attempt, bind, on_goes, ◌>>=◌, ◌>>◌, done, nothing, raise, tell, told, show, change, ticked, either, on_some, opened_outcome}
-use Rattle.ctl_meaning.specs.Types.{Tables, Composite, Placed, category_of, depth, has_controlled, is_controlled, of_record, operation, placed, cells_of}
-use Rattle.ctl_meaning.specs.Names.{Found, OfSubprogram, Returned, Call, Default, Tools, gone, existing, read_found, read_part, write_part}
+use Rattle.ctl_meaning.specs.Outcome.{program_error, Result, Goes, Leaves, Out, Gives, Stops, Act, Done, Fine, add, bind, on_goes, ◌>>=◌, ◌>>◌, done, nothing, raise, change, ticked, either, on_some, when, opened_outcome}
+use Rattle.ctl_meaning.specs.Types.{Tables, Composite, category_of, depth, has_controlled, of_record, cells_of}
+use Rattle.ctl_meaning.specs.Names.{Found, Call, Default, Tools, gone, existing, read_found, read_part, write_part}
 use Rattle.ctl_meaning.specs.Expressions.{eval, if_given}
-use Rattle.ctl_meaning.specs.Finalization.{Spot, These, whole, after_finalize, call_operation, component_at, finalize, finalize_part, in_any_order, own_finalize, opened_finalization}
-use Rattle.ctl_meaning.specs.Adjustment.{Birth, birth_of, adjust, adjusted, after_adjust, unadjusted, opened_adjustment}
+use Rattle.ctl_meaning.specs.Finalization.{Spot, whole}
+use Rattle.ctl_meaning.specs.Adjustment.{Adjusted, Birth, birth_of, adjust, adjust_part, adjust_record, adjusted, clean_up_copy, unadjusted}
 use Rattle.ctl_meaning.specs.Initialization.{fill}
 use Rattle.ctl_meaning.specs.Masters.{declare, object}
-use Rattle.ctl_code.specs.declared.code.Beginning.TheVariants.{ByCopy}
 use Rattle.ctl_code.specs.declared.code.Instr.TheVariants as InstrOf
+use Rattle.ctl_code.specs.declared.code.Parts.{Parts}
+use Rattle.ctl_code.specs.declared.code.Parts.TheVariants as PartsOf
 use Rattle.ctl_code.specs.declared.code.Code.{Code}
 use Rattle.ctl_code.specs.declared.kinds.Kind.{Kind}
 use Rattle.ctl_code.specs.declared.kinds.Kind.TheVariants.{Operand}
-use Rattle.ctl_code.specs.States.{Word, Located, Complete, Point, Frame, Copying, Creating, State, tell_all, whole_spot}
-use Rattle.ctl_code.specs.Valid.{IsDeclarable}
+use Rattle.ctl_code.specs.States.{Word, Located, Complete, Point, Frame, Adjusting, Copying, Creating, State, whole_spot}
+use Rattle.ctl_code.specs.Valid.{IsDeclarable, has_part}
 use Rattle.ctl_code.specs.Table as Table
-use Rattle.ctl_code.specs.Table.{birth, controlled_of, newborn, operation_of, size_of, spot_of, whole_part, with_object}
+use Rattle.ctl_code.specs.Table.{controlled_of, handed, parts_of, size_of, spot_of, with_object}
 use Rattle.ctl_code.specs.Steps.{moved, step}
 use Rattle.ctl_layout.specs.Around.{Line}
 use Rattle.ctl_layout.specs.Parts.{Reached, part_code, part_runs}
 use Rattle.ctl_layout.specs.Values.{copied, value_code}
 use Rattle.ctl_layout.specs.Layout.{copy_of}
-use Rattle.ctl_gen.proofs.Known.{IsPlain, IsUntagged}
+use Rattle.ctl_gen.proofs.Known.{IsPlain, IsPlainType}
 use Rattle.ctl_gen.proofs.Sources.{copied_means}
 use Rattle.ctl_gen.proofs.Parts.{agree_part, content_of, finds_part, found_at, part_found, part_then, selectors_of, variable_of}
-use Rattle.ctl_gen.proofs.Adjust as A
-use Rattle.ctl_gen.proofs.Worlds.{Since, Kept, keeps_itself, keeps_on, no_copy_at, since_begin, since_end, since_written, still_home}
-use Rattle.ctl_gen.proofs.Scopes.{adjust_in}
-use Rattle.ctl_gen.proofs.Parted.{GivesDefaults}
-use Rattle.ctl_gen.proofs.CreatedParts.{IsAround, call_gone, called_is, library_gone, library_is}
-use Rattle.ctl_gen.proofs.Setting.{Setting, Calls, Sees, Told, enter_shows, first_of, returns, tools_with}
+use Rattle.ctl_gen.proofs.Adjust.{untouched_is}
+use Rattle.ctl_gen.proofs.AdjustedParts.{Noted, hands, waiting_runs}
+use Rattle.ctl_gen.proofs.FailedParts.{Fallen, fallen_told}
+use Rattle.ctl_gen.proofs.UndoneParts.{failed_copy_runs}
+use Rattle.ctl_gen.proofs.Finalize.{within_table}
+use Rattle.ctl_gen.proofs.Worlds.{Since, Kept, keeps_itself, no_copy_at, since_on, since_written}
+use Rattle.ctl_gen.proofs.Scopes.{still_surrounded}
+use Rattle.ctl_gen.proofs.Parted.{GivesDefaults, is_itself}
+use Rattle.ctl_gen.proofs.CreatedParts.{IsAround}
+use Rattle.ctl_gen.proofs.Setting.{Setting, Calls, Sees, Sure, returns, tools_with}
 use Rattle.ctl_gen.proofs.Cells.{by_code, here}
 use Rattle.ctl_gen.proofs.Place.{laid_front, laid_back}
 use Rattle.ctl_gen.proofs.Does.{Does}
-use Rattle.ctl_gen.proofs.Follow.{by_raise, gives, way_of, Runs, Target, add_none, added, arrives, at, bind_add, bind_bind, both, lands, last_step, one_step, stop_step, within}
+use Rattle.ctl_gen.proofs.Follow.{gives, way_of, Runs, Target, add_none, added, arrives, at, bind_add, bind_bind, both, lands, one_step, stop_step}
 use Rattle.ctl_gen.proofs.Declare as D
 
-and_false : (b : Bool) → (b && false) ≡ false
-and_false true = refl
-and_false false = refl
-
-none_chosen : (f : Placed → Bool) (ps : List Placed) → keep (λ p. f p && false) ps ≡ []
-unfolding keep
-none_chosen f [] = refl
-none_chosen f (p ∷ ps) = ap (λ b. if b then p ∷ keep (λ q. f q && false) ps else keep (λ q. f q && false) ps) (and_false (f p)) ∙ none_chosen f ps
-
--- where the user wrote neither an Adjust nor a Finalize, nothing is shown
-unseen : (code : Code) (n t : ℕ) (y : Option Object) (p : Point) (ks : List Frame) (w : World) (l : Log) → operation_of (λ x. x.finalize) code t ≡ None → moved l (Table.adjust_copy code None n t y p ks w) ≡ moved l (Table.come_to_life [] n y p ks w)
-unseen code n t None p ks w l e = refl
-unseen code n t (Some o) p ks w l e = ap (λ g. moved l (Table.come_to_life (birth g (whole_part n) (last_of p.display)) n (Some o) p ks w)) e
-
-module _ (ask : Ask) (k : Tables) (code : Code) (setting : Setting k code) (call : Call) (default : Default) (constants : GivesDefaults k default) (t : ℕ) (r : RecordType) (record_is : slice_get k.records t ≡ Some r) (plain : IsPlain k t r) (named : controlled_of code t ≡ []) where
+module _ (ask : Ask) (k : Tables) (code : Code) (setting : Setting k code) (call : Call) (default : Default) (constants : GivesDefaults k default) (t : ℕ) (r : RecordType) (record_is : slice_get k.records t ≡ Some r) (plain : IsPlain k t r) where
   abbrev K : Tools
   K = tools_with ask k call default
 
-  -- no component has a controlled part
-  none : A.HasNone k t
-  none = A.has_none k code setting default constants t (r, record_is, plain) named
+  abbrev plain_type : IsPlainType k (Record t)
+  plain_type = (r, record_is, plain)
 
   abbrev standing : ℕ → ℕ → Out Done → Out Done
   standing = D.standing ask k code setting call default constants t r record_is plain
@@ -84,36 +72,20 @@ module _ (ask : Ask) (k : Tables) (code : Code) (setting : Setting k code) (call
   abbrev born : ℕ → World → Option Birth
   born m w = Some (birth_of (Declared m) w)
 
-  -- nothing in an object whose Adjust raised is adjusted, so nothing is finalized
-  finalize_none : (n c : ℕ) (l : Log) (w : World) → finalize K Failed (These []) (whole n) t c l w ≡ Gives (Goes false) 1 c l w
-  unfolding opened_finalization opened_outcome depth opened_lists
-  finalize_none n c l w =
-      ap (λ ps. add 1 (bind (own_finalize K Failed (These []) (whole n) t c l w) (on_goes (in_any_order K (λ p. of_record (done false) (finalize_part K Failed (These []) (length k.records) (component_at (whole n) p)) p.ty) (length ps) ps)))) (none_chosen (λ p. has_controlled k p.ty) (placed k t))
-      ∙ ap (λ b. add 1 (bind (either b (attempt (call_operation K (whole n) (operation (λ x. x.finalize) k t) (EventOf.Finalize (whole_part n) Failed)) >>= after_finalize Failed) (done false) c l w) (on_goes (λ b1. done b1)))) (and_false (is_controlled k t))
+  -- what follows the adjustment of its parts
+  abbrev settles : Option Birth → ℕ → ℕ → Result Adjusted → Act Done
+  settles b n m x c l w = bind (on_goes (adjusted K b (whole_spot n) t) x c l w) (stands n m)
 
-  cleaned_up : (b : Birth) (n c : ℕ) (l : Log) (w : World) → adjusted K (Some b) (whole n) t (record { failed = true; paths = [] }) c l w ≡ Gives (Leaves (ByRaise program_error)) 1 c l (end_finalization n (begin_finalization n w))
-  unfolding opened_adjustment opened_finalization opened_outcome opened_lists
-  cleaned_up b n c l w = ap (λ x. bind (bind (add 0 (bind x (on_goes (λ f. change (end_finalization n) >> done f)))) (on_goes (λ _. nothing))) (on_goes (λ _. raise program_error))) (finalize_none n c l (begin_finalization n w))
+  adjust_is : (b : Option Birth) (n m c : ℕ) (l : Log) (w : World) → standing n m (adjust K b (whole n) (Record t) c l w) ≡ bind (adjust_part K b (suc (length k.records)) (whole_spot n) t unadjusted c l w) (settles b n m)
+  unfolding adjust adjust_record of_record depth whole opened_outcome
+  adjust_is b n m c l w =
+      D.standing_is ask k code setting call default constants t r record_is plain n m (adjust K b (whole n) (Record t) c l w)
+      ∙ bind_bind (adjust_part K b (suc (length k.records)) (whole_spot n) t unadjusted c l w) (on_goes (adjusted K b (whole_spot n) t)) (stands n m)
 
-  -- what follows the Adjust of an object
-  abbrev settles : Option Birth → ℕ → Result Done → Act Done
-  settles b n r c l w = bind (bind (told r c l w) (on_goes (after_adjust K b (whole n) t unadjusted))) (on_goes (adjusted K b (whole n) t))
-
-  settled_is : (b : Option Birth) (n : ℕ) (x : Out Done) → A.settled ask k code setting call default t r record_is none b (whole n) x ≡ bind x (settles b n)
-  settled_is b n x = ap (λ o. bind o (on_goes (adjusted K b (whole n) t))) (bind_bind x told (on_goes (after_adjust K b (whole n) t unadjusted))) ∙ bind_bind x (λ r1 c l w. bind (told r1 c l w) (on_goes (after_adjust K b (whole n) t unadjusted))) (on_goes (adjusted K b (whole n) t))
-
-  -- it comes to life
-  goes_is : (n m c : ℕ) (l : Log) (w2 w : World) → settles (born m w2) n (Goes tt) c l w ≡ Gives (Goes tt) 0 c (tell_all (birth (operation (λ x. x.finalize) k t) (whole_part n) m) l) w
-  unfolding opened_outcome opened_adjustment opened_finalization
-  goes_is n m c l w2 w = by (operation (λ x. x.finalize) k t)
-    where
-      by : (g : Option ℕ) → bind (bind (Gives (Goes (Fine tt)) 0 c l w) (on_goes (λ (x : Tried Done). either (is_some g) (show (EventOf.Live (whole_part n) (owner_of (Declared m)))) nothing >> done (record { failed = false; paths = [] ∷ [] })))) (on_goes (adjusted K (born m w2) (whole n) t)) ≡ Gives (Goes tt) 0 c (tell_all (birth g (whole_part n) m) l) w
-      by None = refl
-      by (Some f) = refl
-
-  raises_is : (n m e c : ℕ) (l : Log) (w2 w : World) → settles (born m w2) n (Leaves (ByRaise e)) c l w ≡ Gives (Leaves (ByRaise program_error)) 1 c l (end_finalization n (begin_finalization n w))
-  unfolding opened_outcome after_adjust unadjusted
-  raises_is n m e c l w2 w = ap (add 0) (cleaned_up (birth_of (Declared m) w2) n c l w)
+  -- where no Adjust failed nothing more is done
+  lived_is : (b : Option Birth) (n : ℕ) (a : Adjusted) (c : ℕ) (l : Log) (w : World) → a.failed ≡ false → adjusted K b (whole_spot n) t a c l w ≡ Gives (Goes tt) 0 c l w
+  unfolding adjusted opened_outcome
+  lived_is b n a c l w is = ap (λ x. either x (when (is_some b) (clean_up_copy K (whole_spot n) t a.paths) >> raise program_error) nothing c l w) is
 
   -- What the declaration means -----------------------------------------------------------------------
 
@@ -163,111 +135,95 @@ module _ (ask : Ask) (k : Tables) (code : Code) (setting : Setting k code) (call
   -- What its code does -------------------------------------------------------------------------------
 
   module _ (bound : ℕ) (calls : Calls ask k code setting bound call) where
-    -- it comes to life, from the step that shows it
-    lives_on : (w0 : World) (n : ℕ) (e : Target) (p : Point) (ks : List Frame) (s0 : State) (c : ℕ) (l : Log) (w : World) → Since k code w0 w → step ask code s0 ≡ moved l (Table.come_to_life (Table.birth_of code (newborn n t p.display)) n (object_at n w) p ks w)
-        → Runs ask code (Kept k code w0) 1 3 s0 c (arrives e p.display p.place ks p.operands) (stands n (last_of p.display) (Goes tt) c (tell_all (birth (operation (λ x. x.finalize) k t) (whole_part n) (last_of p.display)) l) w)
-    lives_on w0 n e p ks s0 c l w fits first =
-        D.lives_on ask k code setting call default constants t r record_is plain (birth (operation (λ x. x.finalize) k t) (whole_part n) (last_of p.display)) w0 n e p ks s0 c l w fits
-        (first ∙ ap (λ g. moved l (Table.come_to_life (birth g (whole_part n) (last_of p.display)) n (object_at n w) p ks w)) (setting.finalize t))
+    -- the frames of an object that is adjusted
+    abbrev copying : ℕ → Point → List Frame → Noted
+    copying n p ks paths = Copying n t paths p ∷ ks
 
-    -- after its Adjust an object comes to life, or is given up
-    after_runs : (w0 w1 w2 : World) (n : ℕ) (e : Target) (p : Point) (ks : List Frame) → Since k code w0 w1 → (x : Result Returned) (c : ℕ) (l : Log) (w : World) → Told k code w1 (way_of x) w
-        → Runs ask code (Kept k code w0) 1 3 (returns (Creating ByCopy n t p ∷ ks) x l w) c (arrives e p.display p.place ks p.operands) (bind (bind (on_goes (λ _. nothing) x c l w) (settles (born (last_of p.display) w2) n)) (stands n (last_of p.display)))
+    -- once its parts are adjusted it comes to life, or where an Adjust failed it is given up
+    settles_runs : (w0 w1 w2 : World) (n : ℕ) (e : Target) (p : Point) (ks : List Frame) → Since k code w0 w1 → IsAround code n t w1 → has_controlled k (Record t) ≡ true → (a : Adjusted) (c : ℕ) (l : Log) (w : World) → c ≤ bound → Since k code w1 w
+        → Runs ask code (Kept k code w0) 2 4 (gives (Copying n t a.paths p ∷ ks) (Fine (handed a.failed)) l w) c (arrives e p.display p.place ks p.operands) (settles (born (last_of p.display) w2) n (last_of p.display) (Goes a) c l w)
     unfolding picked opened_outcome
-    after_runs w0 w1 w2 n e p ks fits1 (Goes u) c l w told1 =
-        subst (λ y. Runs ask code (Kept k code w0) 1 3 (gives (Creating ByCopy n t p ∷ ks) (Fine Complete) l w) c (arrives e p.display p.place ks p.operands) (bind (add 0 y) (stands n (last_of p.display)))) (sym (goes_is n (last_of p.display) c l w2 w))
-        (added ask code (Kept k code w0) 0 1 3 1 3 _ c (arrives e p.display p.place ks p.operands) (stands n (last_of p.display) (Goes tt) c (tell_all (birth (operation (λ z. z.finalize) k t) (whole_part n) (last_of p.display)) l) w) (omega arith) (omega arith)
-        (lives_on w0 n e p ks _ c l w (told1.1.0, keeps_on k code w0 w1 w fits1.1 told1.1.1) refl))
-    after_runs w0 w1 w2 n e p ks fits1 (Leaves y) c l w told1 =
-        by_raise (λ v. Runs ask code (Kept k code w0) 1 3 (returns {A = Returned} (Creating ByCopy n t p ∷ ks) (Leaves v) l w) c (arrives e p.display p.place ks p.operands) (bind (bind (on_goes {A = Returned} (λ _. nothing) (Leaves v) c l w) (settles (born (last_of p.display) w2) n)) (stands n (last_of p.display))))
-        (λ x.
-        subst (λ z. Runs ask code (Kept k code w0) 1 3 (gives (Creating ByCopy n t p ∷ ks) (Raised x) l w) c (arrives e p.display p.place ks p.operands) (bind (add 0 z) (stands n (last_of p.display)))) (sym (raises_is n (last_of p.display) x c l w2 w))
-        (last_step ask code (Kept k code w0) {A = Done} 1 3 _ c 1 (arrives e p.display p.place ks p.operands) (Leaves (ByRaise program_error)) l (end_finalization n (begin_finalization n w)) (omega arith) (since_end k code n w0 (begin_finalization n w) (since_begin k code n w0 w (told1.1.0, keeps_on k code w0 w1 w fits1.1 told1.1.1))) refl))
-        y told1.0
+    settles_runs w0 w1 w2 n e p ks fits1 around held a c l w le fits = by a.failed refl
+      where
+        m : ℕ
+        m = last_of p.display
 
-    -- the Adjust that the user wrote, or that of the library, from the step that looks for it
-    adjust_runs : (w0 w1 w2 : World) (n : ℕ) (e : Target) (p : Point) (ks : List Frame) → Since k code w0 w1 → IsAround code n t w1 → (s0 : State) (c : ℕ) (l : Log) (w : World) → c ≤ bound → Since k code w1 w
-        → (g : Option ℕ) (o : Option Object) → operation (first_of ByCopy) k t ≡ g → operation_of (λ x. x.adjust) code t ≡ g → object_at n w ≡ o → step ask code s0 ≡ moved l (Table.adjust_copy code g n t o p ks w)
-        → Runs ask code (Kept k code w0) 3 5 s0 c (arrives e p.display p.place ks p.operands) (bind (bind (call_operation K (whole_spot n) g (EventOf.Adjust (whole_part n)) c l w) (settles (born (last_of p.display) w2) n)) (stands n (last_of p.display)))
+        s0 : State
+        s0 = gives (Copying n t a.paths p ∷ ks) (Fine (handed a.failed)) l w
+
+        next : Result Done → Log → World → State
+        next = arrives e p.display p.place ks p.operands
+
+        by : (b : Bool) → a.failed ≡ b → Runs ask code (Kept k code w0) 2 4 s0 c next (settles (born m w2) n m (Goes a) c l w)
+        by false is =
+            subst (λ x. Runs ask code (Kept k code w0) 2 4 s0 c next (bind x (stands n m))) (sym (lived_is (born m w2) n a c l w is))
+            (added ask code (Kept k code w0) 0 1 3 2 4 s0 c next (stands n m (Goes tt) c l w) (omega arith) (omega arith)
+            (D.lives_on ask k code setting call default constants t r record_is plain [] w0 n e p ks s0 c l w (since_on k code w0 w1 w fits1 fits) (ap (λ b. moved l (Table.by_copying code (Fine (handed b)) n t a.paths p ks w)) is)))
+        by true is =
+            both ask code (Fallen k code w1) (Kept k code w0) 1 1 1 3 2 4 s0 c (returns (Creating n t p ∷ ks)) next (adjusted K (born m w2) (whole_spot n) t a c l w) (stands n m) (omega arith) (omega arith) (omega arith)
+            (failed_copy_runs ask k code setting call default constants bound calls w1 around.0 fits1.0 (birth_of (Declared m) w2) a n t (Creating n t p ∷ ks) c l w s0 is around.1 plain_type held around.2 le fits (ap (λ b. moved l (Table.by_copying code (Fine (handed b)) n t a.paths p ks w)) is))
+            (λ x c1 l1 v lo fallen. D.stands_runs ask k code setting call default constants t r record_is plain bound calls w0 w1 n e p ks fits1 x c1 l1 v (fallen_told k code w1 v (way_of x) fallen))
+
+    -- an object that has its value, and a controlled part, from the frame that has its parts adjusted
+    adjusts_runs : (w0 w1 w2 : World) (n : ℕ) (e : Target) (p : Point) (ks : List Frame) → Since k code w0 w1 → IsAround code n t w1 → has_controlled k (Record t) ≡ true → (c : ℕ) (l : Log) (w : World) → c ≤ bound → Since k code w1 w
+        → Runs ask code (Kept k code w0) 5 7 (gives (Adjusting (Some (last_of p.display)) (whole_spot n) t (controlled_of code t) ∷ Copying n t [] p ∷ ks) (Fine Complete) l w) c (arrives e p.display p.place ks p.operands) (standing n (last_of p.display) (adjust K (born (last_of p.display) w2) (whole n) (Record t) c l w))
+    unfolding birth_of unadjusted
+    adjusts_runs w0 w1 w2 n e p ks fits1 around held c l w le fits =
+        let m = last_of p.display in
+        let next = arrives e p.display p.place ks p.operands in
+        let s1 = gives (Adjusting (Some m) (whole_spot n) t (controlled_of code t) ∷ Copying n t [] p ∷ ks) (Fine Complete) l w in
+        subst (Runs ask code (Kept k code w0) 5 7 s1 c next) (sym (adjust_is (born m w2) n m c l w))
+        (both ask code (Sure k code w1) (Kept k code w0) 3 3 2 4 5 7 s1 c (hands (copying n p ks)) next (adjust_part K (born m w2) (suc (length k.records)) (whole_spot n) t unadjusted c l w) (settles (born m w2) n m) (omega arith) (omega arith) (omega arith)
+        (waiting_runs ask k code setting call default constants bound calls (born m w2) (Some m) refl w1 (length (home_of around.0.origin w1)) (length k.records) (whole_spot n) t unadjusted (copying n p ks) c l w (λ path paths. refl) (still_surrounded k code w1 n around.0 fits1.0 around.1) (within_table k t plain_type) plain_type around.2 le fits)
+        after)
+      where
+        after : (x : Result Adjusted) (c1 : ℕ) (l1 : Log) (v : World) → c1 ≤ c → Sure k code w1 (way_of x) v → Runs ask code (Kept k code w0) 2 4 (hands (copying n p ks) x l1 v) c1 (arrives e p.display p.place ks p.operands) (settles (born (last_of p.display) w2) n (last_of p.display) x c1 l1 v)
+        after (Goes a) c1 l1 v lo sure = settles_runs w0 w1 w2 n e p ks fits1 around held a c1 l1 v (omega (arith, lo, le)) sure.1
+        after (Leaves y) c1 l1 v lo sure = absurd sure.0
+
+    -- the same from the step before
+    waits : (w0 w1 w2 : World) (n : ℕ) (e : Target) (p : Point) (ks : List Frame) → Since k code w0 w1 → IsAround code n t w1 → (s0 : State) (c : ℕ) (l : Log) (w : World) → c ≤ bound → Since k code w1 w → has_controlled k (Record t) ≡ true → step ask code s0 ≡ gives (Adjusting (Some (last_of p.display)) (whole_spot n) t (controlled_of code t) ∷ Copying n t [] p ∷ ks) (Fine Complete) l w
+        → Runs ask code (Kept k code w0) 6 8 s0 c (arrives e p.display p.place ks p.operands) (standing n (last_of p.display) (adjust K (born (last_of p.display) w2) (whole n) (Record t) c l w))
+    waits w0 w1 w2 n e p ks fits1 around s0 c l w le fits held first =
+        one_step ask code (Kept k code w0) 5 7 6 8 s0 (gives (Adjusting (Some (last_of p.display)) (whole_spot n) t (controlled_of code t) ∷ Copying n t [] p ∷ ks) (Fine Complete) l w) c c (arrives e p.display p.place ks p.operands) _ (omega arith) (omega arith) (omega arith) (omega arith) first
+        (adjusts_runs w0 w1 w2 n e p ks fits1 around held c l w le fits)
+
+    -- an object that has its value, from the step that asks what of it is controlled
+    fills : (w0 w1 w2 : World) (n : ℕ) (e : Target) (p : Point) (ks : List Frame) → Since k code w0 w1 → IsAround code n t w1 → (s0 : State) (c : ℕ) (l : Log) (w : World) → c ≤ bound → Since k code w1 w → (q : Parts) → parts_of code t ≡ q → step ask code s0 ≡ moved l (Table.adjust_new code q n t p ks w)
+        → Runs ask code (Kept k code w0) 6 8 s0 c (arrives e p.display p.place ks p.operands) (standing n (last_of p.display) (adjust K (born (last_of p.display) w2) (whole n) (Record t) c l w))
     unfolding opened_outcome
-    adjust_runs w0 w1 w2 n e p ks fits1 around s0 c l w le fits None None op named at first =
-        subst (λ y. Runs ask code (Kept k code w0) 3 5 s0 c (arrives e p.display p.place ks p.operands) (bind (bind y (settles (born (last_of p.display) w2) n)) (stands n (last_of p.display)))) (sym (library_gone ask k call default (whole_spot n) c (EventOf.Adjust (whole_part n)) l w at))
-        (stop_step ask code (Kept k code w0) {A = Done} 3 5 s0 _ c 1 (arrives e p.display p.place ks p.operands) UseAfterFree l (omega arith) first refl refl)
-    adjust_runs w0 w1 w2 n e p ks fits1 around s0 c l w le fits None (Some o) op named at first =
+    fills w0 w1 w2 n e p ks fits1 around s0 c l w le fits PartsOf.Plain is first =
         let m = last_of p.display in
-        subst (λ y. Runs ask code (Kept k code w0) 3 5 s0 c (arrives e p.display p.place ks p.operands) (bind (bind y (settles (born m w2) n)) (stands n m))) (sym (library_is ask k call default (whole_spot n) c (EventOf.Adjust (whole_part n)) l w o at))
-        (subst (λ y. Runs ask code (Kept k code w0) 3 5 s0 c (arrives e p.display p.place ks p.operands) (bind (add 1 y) (stands n m))) (sym (goes_is n m c l w2 w))
-        (added ask code (Kept k code w0) 1 1 3 3 5 s0 c (arrives e p.display p.place ks p.operands) (stands n m (Goes tt) c (tell_all (birth (operation (λ z. z.finalize) k t) (whole_part n) m) l) w) (omega arith) (omega arith)
-        (lives_on w0 n e p ks s0 c l w (fits.0, keeps_on k code w0 w1 w fits1.1 fits.1) (first ∙ ap (λ y. moved l (Table.come_to_life (Table.birth_of code (newborn n t p.display)) n y p ks w)) (sym at)))))
-    adjust_runs w0 w1 w2 n e p ks fits1 around s0 c l w le fits (Some f) None op named at first =
-        subst (λ y. Runs ask code (Kept k code w0) 3 5 s0 c (arrives e p.display p.place ks p.operands) (bind (bind y (settles (born (last_of p.display) w2) n)) (stands n (last_of p.display)))) (sym (call_gone ask k call default f (whole_spot n) c (EventOf.Adjust (whole_part n)) l w at))
-        (stop_step ask code (Kept k code w0) {A = Done} 3 5 s0 _ c 0 (arrives e p.display p.place ks p.operands) UseAfterFree l (omega arith) first refl refl)
-    adjust_runs w0 w1 w2 n e p ks fits1 around s0 c l w le fits (Some f) (Some o) op named at first =
-        let m = last_of p.display in
-        let body = setting.adjust_body t f op in
-        let shown = EventOf.Adjust (whole_part n) in
-        let home = home_of o.origin w in
-        let actuals = holding (Binds n 0 []) ∷ [] in
-        let called = call (OfSubprogram f actuals) home c (tell shown l) w in
-        let declared = subst (λ (d : List ℕ). IsDeclarable code (length d) t) (sym (still_home k code n w1 w around.0 o fits1.0 fits.1 around.1 at)) around.2 in
-        subst (Runs ask code (Kept k code w0) 3 5 s0 c (arrives e p.display p.place ks p.operands))
-        (sym (ap (λ y. bind (bind y (settles (born m w2) n)) (stands n m)) (called_is ask k call default f (whole_spot n) c shown l w o at)
-        ∙ ap (λ y. bind y (stands n m)) (bind_bind called (on_goes (λ _. nothing)) (settles (born m w2) n))
-        ∙ bind_bind called (λ x c1 l1 v. bind (on_goes (λ _. nothing) x c1 l1 v) (settles (born m w2) n)) (stands n m)))
-        (both ask code (Told k code w1) (Kept k code w0) 2 3 1 3 3 5 s0 c (returns (Creating ByCopy n t p ∷ ks)) (arrives e p.display p.place ks p.operands) called (λ x c1 l1 v. bind (bind (on_goes (λ _. nothing) x c1 l1 v) (settles (born m w2) n)) (stands n m)) (omega arith) (omega arith) (omega arith)
-        (calls.runs f body.0 body.1 w1 home actuals (Creating ByCopy n t p ∷ ks) c (tell shown l) w s0 le fits (adjust_in code setting.valid (length home) t f declared named) (tt, tt) (first ∙ enter_shows (slice_get code.entries.items f) shown home actuals (Creating ByCopy n t p ∷ ks) l w))
-        (λ x c1 l1 v lo told1. after_runs w0 w1 w2 n e p ks fits1 x c1 l1 v told1))
-
-    -- an object that has its value, from the frame that has it adjusted
-    own_runs : (r.root ≡ Controlled) ⊎ IsUntagged r → (w0 w1 w2 : World) (n : ℕ) (e : Target) (p : Point) (ks : List Frame) → Since k code w0 w1 → IsAround code n t w1 → (c : ℕ) (l : Log) (w : World) → c ≤ bound → Since k code w1 w
-        → Runs ask code (Kept k code w0) 4 5 (gives (Copying n t p ∷ ks) (Fine Complete) l w) c (arrives e p.display p.place ks p.operands) (standing n (last_of p.display) (adjust K (born (last_of p.display) w2) (whole n) (Record t) c l w))
-    unfolding picked opened_outcome whole
-    own_runs (inl controlled) w0 w1 w2 n e p ks fits1 around c l w le fits =
-        let m = last_of p.display in
-        let s0 = gives (Copying n t p ∷ ks) (Fine Complete) l w in
-        let g = operation (first_of ByCopy) k t in
-        let called = call_operation K (whole_spot n) g (EventOf.Adjust (whole_part n)) c l w in
-        let named = A.adjust_named ask k code setting call default t r record_is none controlled in
-        subst (Runs ask code (Kept k code w0) 4 5 s0 c (arrives e p.display p.place ks p.operands))
-        (sym (D.standing_is ask k code setting call default constants t r record_is plain n m (adjust K (born m w2) (whole n) (Record t) c l w)
-        ∙ ap (λ o. bind o (stands n m)) (A.adjust_is ask k code setting call default t r record_is none (born m w2) (whole n) c l w ∙ A.own_is ask k code setting call default t r record_is none controlled (born m w2) g refl (whole n) c l w ∙ settled_is (born m w2) n called)))
-        (within ask code (Kept k code w0) 3 5 4 5 s0 c (arrives e p.display p.place ks p.operands) (bind (bind called (settles (born m w2) n)) (stands n m)) (omega arith) (omega arith)
-        (adjust_runs w0 w1 w2 n e p ks fits1 around s0 c l w le fits g (object_at n w) refl named refl (ap (λ f. moved l (Table.adjust_copy code f n t (object_at n w) p ks w)) named)))
-    own_runs (inr untagged) w0 w1 w2 n e p ks fits1 around c l w le fits =
-        let m = last_of p.display in
-        let s0 = gives (Copying n t p ∷ ks) (Fine Complete) l w in
-        let unwritten = A.operation_at k t r record_is (λ x. x.finalize) ∙ untagged.finalize in
-        subst (Runs ask code (Kept k code w0) 4 5 s0 c (arrives e p.display p.place ks p.operands))
-        (sym (D.standing_is ask k code setting call default constants t r record_is plain n m (adjust K (born m w2) (whole n) (Record t) c l w)
-        ∙ ap (λ o. bind o (stands n m)) (A.adjust_is ask k code setting call default t r record_is none (born m w2) (whole n) c l w ∙ A.none_is ask k code setting call default t r record_is none untagged (born m w2) (whole n) c l w)))
-        (added ask code (Kept k code w0) 0 1 3 4 5 s0 c (arrives e p.display p.place ks p.operands) (stands n m (Goes tt) c l w) (omega arith) (omega arith)
-        (D.lives_on ask k code setting call default constants t r record_is plain [] w0 n e p ks s0 c l w (fits.0, keeps_on k code w0 w1 w fits1.1 fits.1)
-        (ap (λ f. moved l (Table.adjust_copy code f n t (object_at n w) p ks w)) (A.not_adjusted ask k code setting call default t r record_is none untagged) ∙ unseen code n t (object_at n w) p ks w l (setting.finalize t ∙ unwritten))))
+        let agrees = setting.agrees default constants t plain_type in
+        subst (λ x. Runs ask code (Kept k code w0) 6 8 s0 c (arrives e p.display p.place ks p.operands) (standing n m x)) (sym (untouched_is ask k call default t plain_type (agrees.has ∙ ap has_part is) (agrees.itself ∙ ap is_itself is) (born m w2) (whole n) c l w))
+        (subst (Runs ask code (Kept k code w0) 6 8 s0 c (arrives e p.display p.place ks p.operands)) (sym (D.standing_is ask k code setting call default constants t r record_is plain n m (Gives (Goes tt) 0 c l w)))
+        (added ask code (Kept k code w0) 0 1 3 6 8 s0 c (arrives e p.display p.place ks p.operands) (stands n m (Goes tt) c l w) (omega arith) (omega arith)
+        (D.lives_on ask k code setting call default constants t r record_is plain [] w0 n e p ks s0 c l w (since_on k code w0 w1 w fits1 fits) first)))
+    fills w0 w1 w2 n e p ks fits1 around s0 c l w le fits PartsOf.Within is first = waits w0 w1 w2 n e p ks fits1 around s0 c l w le fits ((setting.agrees default constants t plain_type).has ∙ ap has_part is) first
+    fills w0 w1 w2 n e p ks fits1 around s0 c l w le fits PartsOf.Controlled is first = waits w0 w1 w2 n e p ks fits1 around s0 c l w le fits ((setting.agrees default constants t plain_type).has ∙ ap has_part is) first
 
     -- a new object takes a value, from the step that creates it
-    taken_runs : (w0 w2 : World) (n : ℕ) (v : List ℕ) (e : Target) (p : Point) (ks : List Frame) (s0 : State) (c : ℕ) (l : Log) (w : World) → c ≤ bound → Since k code w0 w → IsAround code n t w → step ask code s0 ≡ moved l (Table.take_value n t v (object_at n w) p ks w) → Runs ask code (Kept k code w0) 5 6 s0 c (arrives e p.display p.place ks p.operands) (taking n (last_of p.display) v w2 c l w)
+    taken_runs : (w0 w2 : World) (n : ℕ) (v : List ℕ) (e : Target) (p : Point) (ks : List Frame) (s0 : State) (c : ℕ) (l : Log) (w : World) → c ≤ bound → Since k code w0 w → IsAround code n t w → step ask code s0 ≡ moved l (Table.take_value code n t v (object_at n w) p ks w) → Runs ask code (Kept k code w0) 6 8 s0 c (arrives e p.display p.place ks p.operands) (taking n (last_of p.display) v w2 c l w)
     unfolding write_part existing gone opened_outcome
     taken_runs w0 w2 n v e p ks s0 c l w le fits around first = by (object_at n w) first
       where
-        by : (x : Option Object) → step ask code s0 ≡ moved l (Table.take_value n t v x p ks w) → Runs ask code (Kept k code w0) 5 6 s0 c (arrives e p.display p.place ks p.operands) (standing n (last_of p.display) (bind (on_some x gone (λ o. change (write_cells n 0 v)) c l w) (on_goes (λ _. adjust K (born (last_of p.display) w2) (whole n) (Record t)))))
-        by None go = stop_step ask code (Kept k code w0) {A = Done} 5 6 s0 _ c 0 (arrives e p.display p.place ks p.operands) UseAfterFree l (omega arith) go refl refl
+        by : (x : Option Object) → step ask code s0 ≡ moved l (Table.take_value code n t v x p ks w) → Runs ask code (Kept k code w0) 6 8 s0 c (arrives e p.display p.place ks p.operands) (standing n (last_of p.display) (bind (on_some x gone (λ o. change (write_cells n 0 v)) c l w) (on_goes (λ _. adjust K (born (last_of p.display) w2) (whole n) (Record t)))))
+        by None go = stop_step ask code (Kept k code w0) {A = Done} 6 8 s0 _ c 0 (arrives e p.display p.place ks p.operands) UseAfterFree l (omega arith) go refl refl
         by (Some o) go =
             let v1 = write_cells n 0 v w in
-            one_step ask code (Kept k code w0) 4 5 5 6 s0 (gives (Copying n t p ∷ ks) (Fine Complete) l v1) c c (arrives e p.display p.place ks p.operands) (standing n (last_of p.display) (add 0 (adjust K (born (last_of p.display) w2) (whole n) (Record t) c l v1))) (omega arith) (omega arith) (omega arith) (omega arith) go
-            (subst (λ x. Runs ask code (Kept k code w0) 4 5 (gives (Copying n t p ∷ ks) (Fine Complete) l v1) c (arrives e p.display p.place ks p.operands) (standing n (last_of p.display) x))
-            (sym (add_none (adjust K (born (last_of p.display) w2) (whole n) (Record t) c l v1)))
-            (own_runs plain.kind w0 w w2 n e p ks fits around c l v1 le (since_written k code n 0 v w w (fits.0, keeps_itself k code w))))
+            subst (λ x. Runs ask code (Kept k code w0) 6 8 s0 c (arrives e p.display p.place ks p.operands) (standing n (last_of p.display) x)) (sym (add_none (adjust K (born (last_of p.display) w2) (whole n) (Record t) c l v1)))
+            (fills w0 w w2 n e p ks fits around s0 c l v1 le (since_written k code n 0 v w w (fits.0, keeps_itself k code w)) (parts_of code t) refl go)
 
     -- over the part whose value it is
-    given_runs : (slot : ℕ) (q : Spot) (e : Target) (s : List Kind) (w0 : World) (d : List ℕ) (place : ℕ) (ks : List Frame) (ops : List Word) (c : ℕ) (l : Log) (w : World) → c ≤ bound → Since k code w0 w → Sees d s w0 → IsDeclarable code (length d) t → slice_get code.instructions.items place ≡ Some (InstrOf.DeclareCopy slot t) → Runs ask code (Kept k code w0) 5 6 (at d place ks (Located q ∷ ops) l w) c (arrives e d (place + 1) ks ops) (given_by slot d q.offset (object_at q.object w) c l w)
+    given_runs : (slot : ℕ) (q : Spot) (e : Target) (s : List Kind) (w0 : World) (d : List ℕ) (place : ℕ) (ks : List Frame) (ops : List Word) (c : ℕ) (l : Log) (w : World) → c ≤ bound → Since k code w0 w → Sees d s w0 → IsDeclarable code (length d) t → slice_get code.instructions.items place ≡ Some (InstrOf.DeclareCopy slot t) → Runs ask code (Kept k code w0) 6 8 (at d place ks (Located q ∷ ops) l w) c (arrives e d (place + 1) ks ops) (given_by slot d q.offset (object_at q.object w) c l w)
     given_runs slot q e s w0 d place ks ops c l w le fits sees declarable has = by (object_at q.object w) (by_code ask code d place ks (Located q ∷ ops) l w (InstrOf.DeclareCopy slot t) has)
       where
-        by : (x : Option Object) → step ask code (at d place ks (Located q ∷ ops) l w) ≡ moved l (Table.by_copy code slot t q.offset x ops (here d place ks w)) → Runs ask code (Kept k code w0) 5 6 (at d place ks (Located q ∷ ops) l w) c (arrives e d (place + 1) ks ops) (given_by slot d q.offset x c l w)
-        by None go = stop_step ask code (Kept k code w0) 5 6 _ _ c 0 (arrives e d (place + 1) ks ops) UseAfterFree l (omega arith) go refl refl
+        by : (x : Option Object) → step ask code (at d place ks (Located q ∷ ops) l w) ≡ moved l (Table.by_copy code slot t q.offset x ops (here d place ks w)) → Runs ask code (Kept k code w0) 6 8 (at d place ks (Located q ∷ ops) l w) c (arrives e d (place + 1) ks ops) (given_by slot d q.offset x c l w)
+        by None go = stop_step ask code (Kept k code w0) 6 8 _ _ c 0 (arrives e d (place + 1) ks ops) UseAfterFree l (omega arith) go refl refl
         by (Some o) go =
             let v = cells_at q.offset (size_of code t) o in
             let fits1 = D.created_fits ask k code setting call default constants t r record_is plain slot s w0 d w declarable fits sees in
-            subst (Runs ask code (Kept k code w0) 5 6 (at d place ks (Located q ∷ ops) l w) c (arrives e d (place + 1) ks ops)) (sym (declare_is slot d v c l w))
+            subst (Runs ask code (Kept k code w0) 6 8 (at d place ks (Located q ∷ ops) l w) c (arrives e d (place + 1) ks ops)) (sym (declare_is slot d v c l w))
             (taken_runs w0 w w.ledger.next_object v e (record { display = d; place = place + 1; operands = ops }) ks (at d place ks (Located q ∷ ops) l w) c l (with_object code d slot t w) le fits1 (D.created_around ask k code setting call default constants t r record_is plain slot w0 d w fits fits1) go)
 
     pub copy_does : (slot : ℕ) (x : Reached) (e : Expr) → copied t (value_code e) ≡ Some x → part_runs x k.records ≡ true → Does ask k code bound (λ a. copy_of slot t x a.stack) (λ d caught. object slot (Record t) (Some (eval e)) K d (last_of d))
@@ -288,10 +244,10 @@ module _ (ask : Ask) (k : Tables) (code : Code) (setting : Setting k code) (call
         ∙ ap (λ y. add 1 (bind (bind (add 1 (bind y reading)) given) (declaring slot d))) (finds_part K v (selectors_of x) known.selectors d c l w (no_copy_at k code (master_of d v) v.slot w fits.0))
         ∙ ap (add 1) (found_is slot d o)))
         (added ask code (Kept k code w0) 1 0 0 0 0 _ c next (add 1 (bind o (found_then slot d))) (omega arith) (omega arith)
-        (added ask code (Kept k code w0) 1 5 6 0 0 _ c next (bind o (found_then slot d)) (omega arith) (omega arith)
-        (part_then k code ask (Kept k code w0) 5 6 x t s d place ks ops c l w next (found_then slot d) known.selectors (agree_part k code setting.places x runs) sees.long (laid_front code place front last has)
+        (added ask code (Kept k code w0) 1 6 8 0 0 _ c next (bind o (found_then slot d)) (omega arith) (omega arith)
+        (part_then k code ask (Kept k code w0) 6 8 x t s d place ks ops c l w next (found_then slot d) known.selectors (agree_part k code setting.places x runs) sees.long (laid_front code place front last has)
         (λ p.
-        subst (Runs ask code (Kept k code w0) 5 6 (at d (place + length front) ks (Located p ∷ ops) l w) c next) (sym (object_is slot d p c l w))
-        (subst (λ q. Runs ask code (Kept k code w0) 5 6 (at d (place + length front) ks (Located p ∷ ops) l w) c (arrives (lands a place) d q ks ops) (add 0 (given_by slot d p.offset (object_at p.object w) c l w))) end
-        (added ask code (Kept k code w0) 0 5 6 5 6 _ c (arrives (lands a place) d (place + length front + 1) ks ops) (given_by slot d p.offset (object_at p.object w) c l w) (omega arith) (omega arith)
+        subst (Runs ask code (Kept k code w0) 6 8 (at d (place + length front) ks (Located p ∷ ops) l w) c next) (sym (object_is slot d p c l w))
+        (subst (λ q. Runs ask code (Kept k code w0) 6 8 (at d (place + length front) ks (Located p ∷ ops) l w) c (arrives (lands a place) d q ks ops) (add 0 (given_by slot d p.offset (object_at p.object w) c l w))) end
+        (added ask code (Kept k code w0) 0 6 8 6 8 _ c (arrives (lands a place) d (place + length front + 1) ks ops) (given_by slot d p.offset (object_at p.object w) c l w) (omega arith) (omega arith)
         (given_runs slot p (lands a place) s w0 d (place + length front) ks ops c l w le fits sees declarable there.0)))))))

@@ -21,7 +21,6 @@ use Rattle.ctl_meaning.specs.Initialization.{initialize, initialize_part, fill}
 use Rattle.ctl_meaning.specs.Masters.{declare}
 use Rattle.ctl_code.specs.declared.code.Instr.TheVariants as InstrOf
 use Rattle.ctl_code.specs.declared.code.Code.{Code}
-use Rattle.ctl_code.specs.declared.code.Beginning.TheVariants.{ByDefault}
 use Rattle.ctl_code.specs.States.{Word, Complete, Point, Frame, Creating, Filling, State, tell_all, whole_spot}
 use Rattle.ctl_code.specs.declared.kinds.Kind.{Kind}
 use Rattle.ctl_code.specs.Valid.{IsDeclarable}
@@ -113,11 +112,11 @@ module _ (ask : Ask) (k : Tables) (code : Code) (setting : Setting k code) (call
 
   module _ (bound : ℕ) (calls : Calls ask k code setting bound call) where
     -- after its creation
-    stands_runs : (w0 w1 : World) (n : ℕ) (e : Target) (p : Point) (ks : List Frame) → Since k code w0 w1 → (r : Result Done) (c : ℕ) (l : Log) (w : World) → Told k code w1 (way_of r) w → Runs ask code (Kept k code w0) 1 3 (returns (Creating ByDefault n t p ∷ ks) r l w) c (arrives e p.display p.place ks p.operands) (stands n (last_of p.display) r c l w)
+    pub stands_runs : (w0 w1 : World) (n : ℕ) (e : Target) (p : Point) (ks : List Frame) → Since k code w0 w1 → (r : Result Done) (c : ℕ) (l : Log) (w : World) → Told k code w1 (way_of r) w → Runs ask code (Kept k code w0) 1 3 (returns (Creating n t p ∷ ks) r l w) c (arrives e p.display p.place ks p.operands) (stands n (last_of p.display) r c l w)
     unfolding picked opened_outcome
     stands_runs w0 w1 n e p ks fits1 (Goes u) c l w told1 = lives_on [] w0 n e p ks _ c l w (told1.1.0, keeps_on k code w0 w1 w fits1.1 told1.1.1) refl
     stands_runs w0 w1 n e p ks fits1 (Leaves y) c l w told1 =
-        by_raise (λ v. Runs ask code (Kept k code w0) 1 3 (returns {A = Done} (Creating ByDefault n t p ∷ ks) (Leaves v) l w) c (arrives e p.display p.place ks p.operands) (stands n (last_of p.display) (Leaves v) c l w))
+        by_raise (λ v. Runs ask code (Kept k code w0) 1 3 (returns {A = Done} (Creating n t p ∷ ks) (Leaves v) l w) c (arrives e p.display p.place ks p.operands) (stands n (last_of p.display) (Leaves v) c l w))
         (λ x. end_step ask code (Kept k code w0) {A = Done} 3 _ c 0 (arrives e p.display p.place ks p.operands) (Leaves (ByRaise x)) l w (told1.1.0, keeps_on k code w0 w1 w fits1.1 told1.1.1) refl) y told1.0
 
     -- a declaration: its operations are in scope, as the code is well formed
@@ -130,7 +129,7 @@ module _ (ask : Ask) (k : Tables) (code : Code) (setting : Setting k code) (call
         let w1 = with_object code d slot t w in
         let fits1 = created_fits slot s w0 d w (subst (λ x. IsDeclarable code x t) (sym sees.long) (setting.valid.each place (InstrOf.Declare slot t) s has.0 has.1).0) fits sees in
         let born = birth_of (Declared (last_of d)) w in
-        let mid = Creating ByDefault n t p ∷ ks in
+        let mid = Creating n t p ∷ ks in
         let s1 = gives (Filling (new_part (whole_spot n) t (last_of d)) (begun_of code t) (begun_of code t) ∷ mid) (Fine Complete) l w1 in
         let created = initialize_part K born (suc (length k.records)) (whole_spot n) t c l w1 in
         subst (λ o. Runs ask code (Kept k code w0) 5 7 (at d place ks ops l w) c (arrives e d (place + 1) ks ops) o) (sym (declare_is (last_of d) slot c l w ∙ standing_is n (last_of d) created))

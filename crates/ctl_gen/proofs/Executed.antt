@@ -24,12 +24,10 @@ use Rattle.ctl_code.specs.Table.{caught_in}
 use Rattle.ctl_layout.specs.Parts.{Reached, Variable, Part}
 use Rattle.ctl_layout.specs.Values.{value_code, reached_by, sourced}
 use Rattle.ctl_layout.specs.Layout.{StatementCode, all, all_items, arm_code, assign, assign_record, call as call_code, record_code, exit, handled, handler_code, return, inside, item_code, master_code, missing_statement, statement_code, actual_code, leaves_code}
-use Rattle.ctl_gen.proofs.Known.{both_true}
-use Rattle.ctl_gen.proofs.Plain.{whole_if}
+use Rattle.ctl_gen.proofs.Known.{both_true, plain_if}
 use Rattle.ctl_layout.proofs.TreeLayers.{handler_roll, arm_roll, master_roll, statement_roll}
 use Rattle.ctl_gen.proofs.Setting.{Setting, Calls, tools_with}
 use Rattle.ctl_gen.proofs.Parted.{GivesDefaults}
-use Rattle.ctl_gen.proofs.Alone.{none_named}
 use Rattle.ctl_gen.proofs.Worlds.{Fits, Since, Kept, no_copy_at}
 use Rattle.ctl_gen.proofs.Cells.{by_code}
 use Rattle.ctl_gen.proofs.Expressions.{Value}
@@ -135,12 +133,12 @@ module _ (ask : Ask) (k : Tables) (code : Code) (setting : Setting k code) (call
   record_assign_does (Some x) t (Some y) find m target source runs n texts =
       let h = both_true _ _ runs in
       let g = both_true _ _ h.1 in
-      let known = whole_if k t (both_true _ _ g.1).0 in
+      let known = plain_if k t (both_true _ _ g.1).0 in
       let to = target x refl in
       let from = source y refl in
       subst (λ (find1 : List ℕ → Act Found). DoesIn 0 ask k code bound (λ a. record_code x t y a.stack) (λ d caught. ticked (find1 d >>= (λ f. m.source K d >>= assign_found K t f)))) (sym (composite_leads K x find to))
       (subst (λ (find2 : List ℕ → Act Found). DoesIn 0 ask k code bound (λ a. record_code x t y a.stack) (λ d caught. ticked (find_by K (selectors_of x) (variable_of x) d >>= (λ f. find2 d >>= assign_found K t f)))) (sym from.finds)
-      (record_does ask k code setting call default constants t known.0 known.1 known.2.0 (none_named k code setting default constants t known.0 known.1 known.2.0 known.2.1) bound calls x y to.selectors from.selectors h.0 g.0))
+      (record_does ask k code setting call default constants t known bound calls x y to.selectors from.selectors h.0 g.0))
 
   called_does : (f : ℕ) (actuals : List Actual) → Performs (call_code f (map actual_code actuals)) (call_doing f (map supply actuals))
   called_does f actuals runs n texts = call_does ask k code setting call default bound calls f (map actual_code actuals) (map supply actuals) (actuals_pass ask k code setting call default actuals runs)

@@ -21,13 +21,13 @@ use Rattle.ctl_code.specs.Table.{complete_of, controlled_of, handed, is_one_of}
 use Rattle.ctl_code.specs.Steps.{moved, step}
 use Rattle.ctl_code.specs.Valid.{IsDeclarable}
 use Rattle.ctl_gen.proofs.Known.{IsPlainType}
-use Rattle.ctl_gen.proofs.Parted.{GivesDefaults, HaveParts}
+use Rattle.ctl_gen.proofs.Parted.{GivesDefaults, have_kept}
 use Rattle.ctl_gen.proofs.Worlds.{Each, each_all, Fits, Since, since_begin, since_end, since_on}
-use Rattle.ctl_gen.proofs.Scopes.{controlled_inside, kept_inside}
+use Rattle.ctl_gen.proofs.Scopes.{controlled_inside, kept_inside, still_surrounded}
 use Rattle.ctl_gen.proofs.Setting.{Setting, tools_with, returns, Calls, Sure, Told}
-use Rattle.ctl_gen.proofs.FinalizedParts.{failed_remembered, heard, keep_passes, left_run, part_runs, tells}
+use Rattle.ctl_gen.proofs.FinalizedParts.{heard, keep_passes, left_run, part_runs, tells}
 use Rattle.ctl_gen.proofs.Finalize.{within_depth, within_table}
-use Rattle.ctl_gen.proofs.ChosenParts.{Alike, AreKept, IsHeld, both_same, each_both, each_kept, held_parts, keep_same_on, kept_some, longer_differs, orders_same, same_part, same_position, some_path}
+use Rattle.ctl_gen.proofs.ChosenParts.{Alike, AreKept, IsHeld, both_same, each_both, each_kept, held_parts, keep_keep, keep_same_on, kept_some, longer_differs, orders_same, same_part, same_position, some_path}
 use Rattle.ctl_gen.proofs.Follow.{IsRaise, Runs, add_none, added, bind_add, bind_bind, both, gives, last_step, one_step, way_of}
 
 -- a failed creation is left by an exception
@@ -63,31 +63,7 @@ unfolding any_of
 none_of f [] h = refl
 none_of f (x ∷ xs) h = ap (λ b. b || any_of f xs) h.0 ∙ none_of f xs h.1
 
--- one test and then another
-keep_keep : {A : Type 0} (p q : A → Bool) (xs : List A) → keep (λ x. p x && q x) xs ≡ keep q (keep p xs)
-unfolding keep
-keep_keep p q [] = refl
-keep_keep p q (x ∷ xs) = one (p x) (keep_keep p q xs)
-  where
-    one : (b : Bool) → keep (λ y. p y && q y) xs ≡ keep q (keep p xs) → (if b && q x then x ∷ keep (λ y. p y && q y) xs else keep (λ y. p y && q y) xs) ≡ keep q (if b then x ∷ keep p xs else keep p xs)
-    one true rest = ap (λ ys. if q x then x ∷ ys else ys) rest
-    one false rest = rest
-
--- those at some positions
-have_kept : (k : Tables) (t : ℕ) (g : ℕ → Bool) (ps : List Placed) (xs : List Begun) → HaveParts k t ps xs → HaveParts k t (keep (λ p. g p.position) ps) (keep (λ x. g x.position) xs)
-unfolding keep
-have_kept k t g [] [] h = tt
-have_kept k t g [] (x ∷ xs) h = absurd h
-have_kept k t g (p ∷ ps) [] h = absurd h
-have_kept k t g (p ∷ ps) (x ∷ xs) h =
-    subst (λ b. HaveParts k t (if g p.position then p ∷ keep (λ p1. g p1.position) ps else keep (λ p1. g p1.position) ps) (if b then x ∷ keep (λ x1. g x1.position) xs else keep (λ x1. g x1.position) xs)) (ap g (sym h.0.position))
-    (one (g p.position) (have_kept k t g ps xs h.1))
-  where
-    one : (b : Bool) → HaveParts k t (keep (λ p1. g p1.position) ps) (keep (λ x1. g x1.position) xs) → HaveParts k t (if b then p ∷ keep (λ p1. g p1.position) ps else keep (λ p1. g p1.position) ps) (if b then x ∷ keep (λ x1. g x1.position) xs else keep (λ x1. g x1.position) xs)
-    one true rest = (h.0, rest)
-    one false rest = rest
-
-and_false : (b : Bool) → (b && false) ≡ false
+pub and_false : (b : Bool) → (b && false) ≡ false
 and_false true = refl
 and_false false = refl
 
@@ -216,7 +192,7 @@ module _ (ask : Ask) (k : Tables) (code : Code) (setting : Setting k code) (call
         (added ask code (Fallen k code wr) 1 3 3 0 0 s0 c (returns ks) _ (omega arith) (omega arith)
         (one_step ask code (Fallen k code wr) 2 2 3 3 s0 s1 c c (returns ks) _ (omega arith) (omega arith) (omega arith) (omega arith) first
         (both ask code (Sure k code wr) (Fallen k code wr) 1 1 1 1 2 2 s1 c (tells frames) (returns ks) _ _ (omega arith) (omega arith) (omega arith)
-        (left_run ask k code setting call default constants bound calls Failed failed_remembered wr o fits_then (length k.records) (part_runs ask k code setting call default constants bound calls Failed failed_remembered wr o fits_then (length k.records)) s t was old (length (complete_parts t incomplete)) frames Complete false c l (begin_finalization s.object w) (complete_parts t incomplete) (complete_of code t incomplete) refl
+        (left_run ask k code setting call default constants bound calls Failed wr (length (home_of o.origin wr)) (length k.records) (part_runs ask k code setting call default constants bound calls Failed wr (length (home_of o.origin wr)) (length k.records)) s t (still_surrounded k code wr s.object o fits_then was) old (length (complete_parts t incomplete)) frames Complete false c l (begin_finalization s.object w) (complete_parts t incomplete) (complete_of code t incomplete) refl
         (have_kept k t (λ n. not (is_one_of n incomplete)) _ _ (setting.agrees default constants t plain).controlled)
         (each_kept (λ p. has_controlled k p.ty ≡ true) (λ p. not (is_one_of p.position incomplete)) _ (each_all (λ p. has_controlled k p.ty ≡ true) (λ p. not (is_one_of p.position incomplete) ≡ true → has_controlled k p.ty ≡ true) (λ p has test. has) _ (keep_passes (λ p. has_controlled k p.ty) (placed k t))))
         (kept_inside code (length (home_of o.origin wr)) (λ x. not (is_one_of x.position incomplete)) (controlled_of code t) (controlled_inside code setting.valid (length (home_of o.origin wr)) t inside))

@@ -26,9 +26,9 @@ use Rattle.ctl_code.specs.Valid.{IsDeclarable, has_part}
 use Rattle.ctl_gen.proofs.Known.{IsPlainType}
 use Rattle.ctl_gen.proofs.Parted.{GivesDefaults}
 use Rattle.ctl_gen.proofs.Worlds.{IfFound, Fits, Settled, Since, keeps_itself, object_fits, since_begin, since_end, since_on}
-use Rattle.ctl_gen.proofs.Scopes.{type_inside}
+use Rattle.ctl_gen.proofs.Scopes.{still_surrounded, type_inside}
 use Rattle.ctl_gen.proofs.Setting.{Setting, tools_with, Sure, Calls}
-use Rattle.ctl_gen.proofs.FinalizedParts.{part_runs, scope_remembered, tells}
+use Rattle.ctl_gen.proofs.FinalizedParts.{part_runs, tells}
 use Rattle.ctl_gen.proofs.Follow.{Runs, way_of, added, both, no_step, last_step}
 
 -- an object that exists is finalized by its own type, and closes then if it is a pool
@@ -76,7 +76,7 @@ module _ (ask : Ask) (k : Tables) (code : Code) (setting : Setting k code) (call
       subst (Runs ask code (Sure k code w0) 1 1 s0 c (tells ks)) (sym (object_is t n c l w o at))
       (added ask code (Sure k code w0) 0 1 1 1 1 s0 c (tells ks) _ (omega arith) (omega arith)
       (both ask code (Sure k code w) (Sure k code w0) 0 0 1 1 1 1 s0 c (tells (Finalizing n ∷ ks)) (tells ks) _ _ (omega arith) (omega arith) (omega arith)
-      (part_runs ask k code setting call default constants bound calls Scope scope_remembered w o fits.0 (depth k) (whole_spot n) t (Finalizing n ∷ ks) c l (begin_finalization n w) s0 at (within_depth k t plain) plain held inside le (since_begin k code n w w (fits.0, keeps_itself k code w)) first)
+      (part_runs ask k code setting call default constants bound calls Scope w (length (home_of o.origin w)) (depth k) (whole_spot n) t (Finalizing n ∷ ks) c l (begin_finalization n w) s0 (still_surrounded k code w n o fits.0 at) (within_depth k t plain) plain held inside le (since_begin k code n w w (fits.0, keeps_itself k code w)) first)
       after))
     where
       inside : IsDeclarable code (length (home_of o.origin w)) t

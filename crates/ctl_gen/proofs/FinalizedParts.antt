@@ -7,12 +7,12 @@ use Rattle.ctl_tree.specs.declared.ending.Stop.TheVariants.{UseAfterFree}
 use Rattle.ctl_tree.specs.declared.event.Event.{Event}
 use Rattle.ctl_tree.specs.declared.event.Event.TheVariants as EventOf
 use Rattle.ctl_tree.specs.declared.event.Cause.{Cause}
-use Rattle.ctl_tree.specs.declared.event.Cause.TheVariants.{Scope, Failed}
+use Rattle.ctl_tree.specs.declared.event.Cause.TheVariants.{Assign}
 use Rattle.ctl_meaning.specs.World.{Object, Binds, holding, Log, World}
 use Rattle.ctl_meaning.specs.Lists.{keep, pull_item, pull_rest}
 use Rattle.ctl_meaning.specs.Changes.{object_at, home_of}
 use Rattle.ctl_meaning.specs.Choice.{Ask, picked}
-use Rattle.ctl_meaning.specs.Outcome.{Result, Goes, Leaves, Out, Gives, Stops, Cut, Act, Fine, Raised, ByRaise, add, after_pick, attempt, bind, on_goes, ◌>>=◌, ◌>>◌, done, nothing, tell, show, look, told, either, on_some, opened_outcome}
+use Rattle.ctl_meaning.specs.Outcome.{program_error, raised_by, Way, Result, Goes, Leaves, Out, Gives, Stops, Cut, Act, Fine, Raised, ByRaise, add, attempt, bind, on_goes, ◌>>=◌, ◌>>◌, done, nothing, tell, show, look, told, either, on_some, opened_outcome}
 use Rattle.ctl_meaning.specs.Types.{Tables, Placed, has_controlled, is_controlled, operation, of_record, placed}
 use Rattle.ctl_meaning.specs.Names.{OfSubprogram, Returned, Call, Default, Tools, gone, opened_names}
 use Rattle.ctl_meaning.specs.Finalization.{Spot, Every, no_component, component_at, call_operation, after_finalize, in_any_order, parts_to_finalize, finalize_part, opened_finalization}
@@ -22,21 +22,21 @@ use Rattle.ctl_code.specs.declared.code.Parts.TheVariants as PartsOf
 use Rattle.ctl_code.specs.declared.code.Code.{Code}
 use Rattle.ctl_code.specs.States.{Handed, Complete, Frame, FinalizingOwn, FinalizingParts, State}
 use Rattle.ctl_code.specs.Table as Table
-use Rattle.ctl_code.specs.Table.{component_of, controlled_of, finalize_component, finalize_left, finalize_own, handed, operation_of, own_failed, part_at, parts_of, says_failed}
+use Rattle.ctl_code.specs.Table.{component_of, controlled_of, finalize_component, finalize_left, finalize_own, handed, operation_of, or_complete, own_failed, part_at, parts_of, says_failed}
 use Rattle.ctl_code.specs.Steps.{moved, step, stepped}
 use Rattle.ctl_code.specs.Valid.{AreBegunBy, IsBegunBy, IsDeclarable, has_part}
 use Rattle.ctl_gen.proofs.Known.{IsPlainType}
-use Rattle.ctl_gen.proofs.Parted.{AgreesOn, GivesDefaults, HasPart, HaveParts, is_itself, parts_length, parts_pulled, parts_rest}
-use Rattle.ctl_gen.proofs.Picks.{picked_less, rest_length}
-use Rattle.ctl_gen.proofs.Worlds.{Each, Fits, Since, still_home}
-use Rattle.ctl_gen.proofs.Scopes.{controlled_inside, finalize_in, pulled_inside, rest_inside}
-use Rattle.ctl_gen.proofs.Setting.{Setting, tools_with, returns, Told, Sure, Calls, enter_shows}
-use Rattle.ctl_gen.proofs.Follow.{by_raise, Comes, Runs, gives, way_of, added, after_comes, both, last_step, one_step, stop_step, more_quits, more_halts}
+use Rattle.ctl_gen.proofs.Parted.{AgreesOn, GivesDefaults, HasPart, HaveParts, component_is, is_itself, parts_length, parts_pulled, parts_rest}
+use Rattle.ctl_gen.proofs.Picks.{next_in_order, none_in_order, picked_less, rest_length}
+use Rattle.ctl_gen.proofs.Worlds.{Each, Since}
+use Rattle.ctl_gen.proofs.Scopes.{IsSurrounded, controlled_inside, declarable_later, finalize_in, pulled_inside, rest_inside}
+use Rattle.ctl_gen.proofs.Setting.{Setting, tools_with, returns, IsSure, Told, Calls, enter_shows}
+use Rattle.ctl_gen.proofs.Follow.{IsRaise, by_raise, Comes, Runs, gives, way_of, added, after_comes, both, last_step, one_step, stop_step, more_quits, more_halts}
 
--- whether a finalization failed is what it hands on
+-- whether a finalization failed is what it hands on, unless an exception leaves it
 abbrev pub tells : List Frame → Result Bool → Log → World → State
 tells ks (Goes b) l w = gives ks (Fine (handed b)) l w
-tells ks (Leaves y) l w = gives ks (Fine Complete) l w
+tells ks (Leaves y) l w = gives ks (or_complete (raised_by y)) l w
 
 pub heard : (b : Bool) → says_failed (Fine (handed b)) ≡ b
 heard true = refl
@@ -82,18 +82,32 @@ or_false false = refl
 
 -- Causes --------------------------------------------------------------------------------------------
 
--- an exception of a Finalize is remembered, and the others follow: but in an assignment it is Program_Error at once
-pub record IsRemembered (cause : Cause) : Type 0 where
-  pub meant : (e c : ℕ) (l : Log) (w : World) → after_finalize cause (Raised e) c l w ≡ Gives (Goes true) 0 c l w
-  pub done : (code : Code) (s : Spot) (t : ℕ) (ks : List Frame) (w : World) → own_failed code cause s t ks w ≡ finalize_left cause s (controlled_of code t) true ks w
+-- what leaves a finalization: in an assignment Program_Error may, and for another cause nothing does
+abbrev pub IsPassed : Cause → Option Way → Type 0
+IsPassed Assign None = Unit {0}
+IsPassed Assign (Some y) = y ≡ ByRaise program_error
+IsPassed cause y = IsSure y
 
-pub scope_remembered : IsRemembered Scope
-unfolding opened_finalization opened_outcome
-scope_remembered = record { meant = λ e c l w. refl; done = λ code s t ks w. refl }
+abbrev pub Passed : (k : Tables) (code : Code) → Cause → World → Option Way → World → Type 0
+Passed k code cause w0 y w = IsPassed cause y × Since k code w0 w
 
-pub failed_remembered : IsRemembered Failed
+none_passed : (cause : Cause) → IsPassed cause None
+none_passed Assign = tt
+none_passed cause = tt
+
+raise_passed : (cause : Cause) (y : Way) → IsPassed cause (Some y) → IsRaise y
+raise_passed Assign y h = subst IsRaise (sym h) tt
+raise_passed cause y h = absurd h
+
+-- an exception of a Finalize is remembered, and the others follow; or another one leaves the finalization at once
+data OnFailure (cause : Cause) : Type 0 where
+  Remembers : (meant : (e c : ℕ) (l : Log) (w : World) → after_finalize cause (Raised e) c l w ≡ Gives (Goes true) 0 c l w) (run : (code : Code) (s : Spot) (t : ℕ) (ks : List Frame) (w : World) → own_failed code cause s t ks w ≡ finalize_left cause s (controlled_of code t) true ks w) → OnFailure cause
+  Raises : (x : ℕ) (meant : (e c : ℕ) (l : Log) (w : World) → after_finalize cause (Raised e) c l w ≡ Gives (Leaves (ByRaise x)) 0 c l w) (run : (code : Code) (s : Spot) (t : ℕ) (ks : List Frame) (w : World) → own_failed code cause s t ks w ≡ Table.gives (Raised x) ks w) (passed : IsPassed cause (Some (ByRaise x))) → OnFailure cause
+
+on_failure : (cause : Cause) → OnFailure cause
 unfolding opened_finalization opened_outcome
-failed_remembered = record { meant = λ e c l w. refl; done = λ code s t ks w. refl }
+on_failure Assign = Raises program_error (λ e c l w. refl) (λ code s t ks w. refl) refl
+on_failure cause = Remembers (λ e c l w. refl) (λ code s t ks w. refl)
 
 -- Calls ---------------------------------------------------------------------------------------------
 
@@ -104,54 +118,37 @@ call_is ask k call default f s c e l w o at = ap (λ x. on_some x gone (λ o1. l
 
 -- Parts ---------------------------------------------------------------------------------------------
 
--- for a cause, where an object was there in an earlier world
-module _ (ask : Ask) (k : Tables) (code : Code) (setting : Setting k code) (call : Call) (default : Default) (constants : GivesDefaults k default) (bound : ℕ) (calls : Calls ask k code setting bound call) (cause : Cause) (remembered : IsRemembered cause) (wr : World) (o : Object) (fits_then : Fits k code wr) where
+-- for a cause, where so many masters have been around the operations of the object since an earlier world
+module _ (ask : Ask) (k : Tables) (code : Code) (setting : Setting k code) (call : Call) (default : Default) (constants : GivesDefaults k default) (bound : ℕ) (calls : Calls ask k code setting bound call) (cause : Cause) (wr : World) (around : ℕ) where
   abbrev K : Tools
   K = tools_with ask k call default
-
-  -- so many masters were around the operations of its type
-  abbrev around : ℕ
-  around = length (home_of o.origin wr)
 
   abbrev shown : Spot → Event
   shown s = EventOf.Finalize (part_at s) cause
 
+  -- a component
+  abbrev component_by : ℕ → Spot → Placed → Act Bool
+  component_by n s p = of_record (done false) (finalize_part K cause Every n (component_at s p)) p.ty
+
   -- the components that are left, and whether one failed
   abbrev in_turn : ℕ → Spot → ℕ → List Placed → Bool → Act Bool
-  in_turn n s count left failed = in_any_order K (λ p. of_record (done false) (finalize_part K cause Every n (component_at s p)) p.ty) count left failed
+  in_turn n s count left failed = in_any_order K (component_by n s) count left failed
 
   abbrev Finalizes : ℕ → ℕ → State → ℕ → List Frame → Out Bool → Type 0
-  Finalizes b h s0 c ks x = Runs ask code (Sure k code wr) b h s0 c (tells ks) x
+  Finalizes b h s0 c ks x = Runs ask code (Passed k code cause wr) b h s0 c (tells ks) x
 
   -- the parts of types before this one are finalized as the meaning says, from the step that begins with them
   abbrev pub PartsRun : ℕ → Type 0
-  PartsRun n = (s : Spot) (t : ℕ) (ks : List Frame) (c : ℕ) (l : Log) (w : World) (s0 : State) → object_at s.object wr ≡ Some o → t < n → IsPlainType k (Record t) → has_controlled k (Record t) ≡ true → IsDeclarable code around t → c ≤ bound → Since k code wr w → step ask code s0 ≡ moved l (Table.finalize_part code (parts_of code t) cause s t ks w) → Finalizes 0 0 s0 c ks (finalize_part K cause Every n s t c l w)
-
-  -- one of those that are left is chosen
-  next_is : (n count i c : ℕ) (s : Spot) (left : List Placed) (failed : Bool) (l l1 : Log) (w : World) → picked ask (suc count) l ≡ Some (i, l1) → in_turn n s (suc count) left failed c l w ≡ add (suc count + 0) (bind (of_record (done false) (finalize_part K cause Every n (component_at s (pull_item no_component i left))) (pull_item no_component i left).ty c l1 w) (on_goes (λ b. in_turn n s count (pull_rest i left) (failed || b))))
-  unfolding in_any_order opened_outcome
-  next_is n count i c s left failed l l1 w is = ap (λ x. bind (add (suc count) (after_pick x c l w)) (on_goes (λ j. of_record (done false) (finalize_part K cause Every n (component_at s (pull_item no_component j left))) (pull_item no_component j left).ty >>= (λ b. in_turn n s count (pull_rest j left) (failed || b))))) is
-
-  none_is : (n count c : ℕ) (s : Spot) (left : List Placed) (failed : Bool) (l : Log) (w : World) → picked ask (suc count) l ≡ None → in_turn n s (suc count) left failed c l w ≡ Cut (suc count + 0) c l
-  unfolding in_any_order opened_outcome
-  none_is n count c s left failed l w is = ap (λ x. bind (add (suc count) (after_pick x c l w)) (on_goes (λ j. of_record (done false) (finalize_part K cause Every n (component_at s (pull_item no_component j left))) (pull_item no_component j left).ty >>= (λ b. in_turn n s count (pull_rest j left) (failed || b))))) is
+  PartsRun n = (s : Spot) (t : ℕ) (ks : List Frame) (c : ℕ) (l : Log) (w : World) (s0 : State) → IsSurrounded k code wr around s.object → t < n → IsPlainType k (Record t) → has_controlled k (Record t) ≡ true → IsDeclarable code around t → c ≤ bound → Since k code wr w → step ask code s0 ≡ moved l (Table.finalize_part code (parts_of code t) cause s t ks w) → Finalizes 0 0 s0 c ks (finalize_part K cause Every n s t c l w)
 
   -- the step that chooses
   choose_step : (s : Spot) (count : ℕ) (ks : List Frame) (h : Handed) (l : Log) (w : World) (x : Begun) (xs : List Begun) (failed : Bool) (a : Option (ℕ × Log)) → length (x ∷ xs) ≡ suc count → picked ask (suc count) l ≡ a → step ask code (gives (FinalizingParts cause s (x ∷ xs) failed ∷ ks) (Fine h) l w) ≡ stepped code (gives (FinalizingParts cause s (x ∷ xs) failed ∷ ks) (Fine h) l w) a
   choose_step s count ks h l w x xs failed a long is = ap (λ j. stepped code (gives (FinalizingParts cause s (x ∷ xs) failed ∷ ks) (Fine h) l w) (picked ask j l)) long ∙ ap (stepped code (gives (FinalizingParts cause s (x ∷ xs) failed ∷ ks) (Fine h) l w)) is
 
-  -- a component with a controlled part, by its record type
-  component_is : (n t : ℕ) (s : Spot) (p : Placed) (x : Begun) (part : HasPart k t p x) (c : ℕ) (l : Log) (w : World) → of_record (done false) (finalize_part K cause Every n (component_at s p)) p.ty c l w ≡ finalize_part K cause Every n (component_of s x.offset x.position) part.number c l w
-  unfolding component_at of_record
-  component_is n t s p x part c l w =
-      ap (λ ty. of_record (done false) (finalize_part K cause Every n (component_at s p)) ty c l w) part.ty
-      ∙ ap (λ i. finalize_part K cause Every n (component_of s i p.position) part.number c l w) (sym part.offset)
-      ∙ ap (λ i. finalize_part K cause Every n (component_of s x.offset i) part.number c l w) (sym part.position)
-
   -- the components that are left
-  pub left_run : (n : ℕ) → PartsRun n → (s : Spot) (t : ℕ) → object_at s.object wr ≡ Some o → t ≤ n → (count : ℕ) (ks : List Frame) (h : Handed) (failed : Bool) (c : ℕ) (l : Log) (w : World) (left : List Placed) (xs : List Begun) → length left ≡ count → HaveParts k t left xs → Each (λ p. has_controlled k p.ty ≡ true) left → AreBegunBy code around xs → c ≤ bound → Since k code wr w → Finalizes 1 1 (gives (FinalizingParts cause s xs failed ∷ ks) (Fine h) l w) c ks (in_turn n s count left (failed || says_failed (Fine h)) c l w)
+  pub left_run : (n : ℕ) → PartsRun n → (s : Spot) (t : ℕ) → IsSurrounded k code wr around s.object → t ≤ n → (count : ℕ) (ks : List Frame) (h : Handed) (failed : Bool) (c : ℕ) (l : Log) (w : World) (left : List Placed) (xs : List Begun) → length left ≡ count → HaveParts k t left xs → Each (λ p. has_controlled k p.ty ≡ true) left → AreBegunBy code around xs → c ≤ bound → Since k code wr w → Finalizes 1 1 (gives (FinalizingParts cause s xs failed ∷ ks) (Fine h) l w) c ks (in_turn n s count left (failed || says_failed (Fine h)) c l w)
   unfolding in_any_order picked opened_outcome
-  left_run n parts s t was old zero ks h failed c l w [] [] long have held inside le fits = last_step ask code (Sure k code wr) 1 1 _ c 0 (tells ks) (Goes (failed || says_failed (Fine h))) l w (omega arith) (tt, fits) refl
+  left_run n parts s t was old zero ks h failed c l w [] [] long have held inside le fits = last_step ask code (Passed k code cause wr) 1 1 _ c 0 (tells ks) (Goes (failed || says_failed (Fine h))) l w (omega arith) (none_passed cause, fits) refl
   left_run n parts s t was old zero ks h failed c l w [] (x ∷ xs) long have held inside le fits = absurd have
   left_run n parts s t was old zero ks h failed c l w (q ∷ qs) xs long have held inside le fits = absurd (omega (arith, long))
   left_run n parts s t was old (suc count) ks h failed c l w [] xs long have held inside le fits = absurd (omega (arith, long))
@@ -175,11 +172,11 @@ module _ (ask : Ask) (k : Tables) (code : Code) (setting : Setting k code) (call
       goal y = Finalizes 1 1 (gives (FinalizingParts cause s (x ∷ xs) failed ∷ ks) (Fine h) l w) c ks y
 
       by : Others → (a : Option (ℕ × Log)) → picked ask (suc count) l ≡ a → goal (in_turn n s (suc count) (q ∷ qs) (failed || says_failed (Fine h)) c l w)
-      by others None is = subst goal (sym (none_is n count c s (q ∷ qs) fell l w is)) (record { n = 0; in_time = omega arith; logged = refl; going = tt; why = inr (choose_step s count ks h l w x xs failed None many is) })
+      by others None is = subst goal (sym (none_in_order K (component_by n s) count c (q ∷ qs) fell l w is)) (record { n = 0; in_time = omega arith; logged = refl; going = tt; why = inr (choose_step s count ks h l w x xs failed None many is) })
       by others (Some a) is =
-          subst goal (sym (next_is n count a.0 c s (q ∷ qs) fell l a.1 w is ∙ ap (λ y. add (suc count + 0) (bind y (on_goes (λ b. in_turn n s count (pull_rest a.0 (q ∷ qs)) (fell || b))))) (component_is n t s (pull_item no_component a.0 (q ∷ qs)) (pull_item x a.0 (x ∷ xs)) part c a.1 w)))
-          (added ask code (Sure k code wr) (suc count + 0) 1 1 1 1 s0 c (tells ks) _ (omega arith) (omega arith)
-          (both ask code (Sure k code wr) (Sure k code wr) 0 0 1 1 1 1 s0 c (tells frames) (tells ks) _ _ (omega arith) (omega arith) (omega arith) one rest))
+          subst goal (sym (next_in_order K (component_by n s) count a.0 c (q ∷ qs) fell l a.1 w is ∙ ap (λ y. add (suc count + 0) (bind (y c a.1 w) (on_goes (λ b. in_turn n s count (pull_rest a.0 (q ∷ qs)) (fell || b))))) (component_is k t (done false) (finalize_part K cause Every n) s (pull_item no_component a.0 (q ∷ qs)) (pull_item x a.0 (x ∷ xs)) part)))
+          (added ask code (Passed k code cause wr) (suc count + 0) 1 1 1 1 s0 c (tells ks) _ (omega arith) (omega arith)
+          (both ask code (Passed k code cause wr) (Passed k code cause wr) 0 0 1 1 1 1 s0 c (tells frames) (tells ks) _ _ (omega arith) (omega arith) (omega arith) one rest))
         where
           less : a.0 < length (q ∷ qs)
           less = let small = picked_less ask count l a is in omega (arith, small, long)
@@ -206,11 +203,14 @@ module _ (ask : Ask) (k : Tables) (code : Code) (setting : Setting k code) (call
               (subst (IsBegunBy code around) part.initial (pulled_inside code around x a.0 (x ∷ xs) inside within))
               le fits first
 
-          rest : (r : Result Bool) (c1 : ℕ) (l1 : Log) (w1 : World) → c1 ≤ c → Sure k code wr (way_of r) w1 → Finalizes 1 1 (tells frames r l1 w1) c1 ks (on_goes (λ b. in_turn n s count (pull_rest a.0 (q ∷ qs)) (fell || b)) r c1 l1 w1)
-          rest (Leaves z) c1 l1 w1 lo sure = absurd sure.0
-          rest (Goes b) c1 l1 w1 lo sure =
+          rest : (r : Result Bool) (c1 : ℕ) (l1 : Log) (w1 : World) → c1 ≤ c → Passed k code cause wr (way_of r) w1 → Finalizes 1 1 (tells frames r l1 w1) c1 ks (on_goes (λ b. in_turn n s count (pull_rest a.0 (q ∷ qs)) (fell || b)) r c1 l1 w1)
+          rest (Leaves z) c1 l1 w1 lo passed =
+              by_raise (λ v. IsPassed cause (Some v) → Finalizes 1 1 (tells frames (Leaves v) l1 w1) c1 ks (Gives (Leaves v) 0 c1 l1 w1))
+              (λ e p. last_step ask code (Passed k code cause wr) 1 1 _ c1 0 (tells ks) (Leaves (ByRaise e)) l1 w1 (omega arith) (p, passed.1) refl)
+              z (raise_passed cause z passed.0) passed.0
+          rest (Goes b) c1 l1 w1 lo passed =
               subst (λ d. Finalizes 1 1 (tells frames (Goes b) l1 w1) c1 ks (in_turn n s count (pull_rest a.0 (q ∷ qs)) (fell || d) c1 l1 w1)) (heard b)
-              (others b c1 l1 w1 (pull_rest a.0 (q ∷ qs)) (pull_rest a.0 (x ∷ xs)) (rest_length a.0 count (q ∷ qs) less long) (parts_rest k t a.0 (q ∷ qs) (x ∷ xs) have) (each_left (λ p. has_controlled k p.ty ≡ true) a.0 (q ∷ qs) held) (rest_inside code around a.0 (x ∷ xs) inside) (omega (arith, lo, le)) sure.1)
+              (others b c1 l1 w1 (pull_rest a.0 (q ∷ qs)) (pull_rest a.0 (x ∷ xs)) (rest_length a.0 count (q ∷ qs) less long) (parts_rest k t a.0 (q ∷ qs) (x ∷ xs) have) (each_left (λ p. has_controlled k p.ty ≡ true) a.0 (q ∷ qs) held) (rest_inside code around a.0 (x ∷ xs) inside) (omega (arith, lo, le)) passed.1)
 
   -- all the components of a part with a controlled part
   parts_is : (s : Spot) (t : ℕ) → parts_to_finalize K Every s t ≡ keep (λ p. has_controlled k p.ty) (placed k t)
@@ -222,18 +222,18 @@ module _ (ask : Ask) (k : Tables) (code : Code) (setting : Setting k code) (call
   behind_own n s t failed = in_turn n s (length (parts_to_finalize K Every s t)) (parts_to_finalize K Every s t) failed
 
   -- its components, from the step that begins with them
-  all_run : (n : ℕ) → PartsRun n → (s : Spot) (t : ℕ) → object_at s.object wr ≡ Some o → t ≤ n → IsPlainType k (Record t) → IsDeclarable code around t → (ks : List Frame) (failed : Bool) (c : ℕ) (l : Log) (w : World) (s0 : State) → c ≤ bound → Since k code wr w → step ask code s0 ≡ moved l (finalize_left cause s (controlled_of code t) failed ks w) → Finalizes 2 2 s0 c ks (behind_own n s t failed c l w)
+  all_run : (n : ℕ) → PartsRun n → (s : Spot) (t : ℕ) → IsSurrounded k code wr around s.object → t ≤ n → IsPlainType k (Record t) → IsDeclarable code around t → (ks : List Frame) (failed : Bool) (c : ℕ) (l : Log) (w : World) (s0 : State) → c ≤ bound → Since k code wr w → step ask code s0 ≡ moved l (finalize_left cause s (controlled_of code t) failed ks w) → Finalizes 2 2 s0 c ks (behind_own n s t failed c l w)
   unfolding in_any_order opened_outcome
   all_run n parts s t was old plain inside ks failed c l w s0 le fits first =
       subst (λ ps. Finalizes 2 2 s0 c ks (in_turn n s (length ps) ps failed c l w)) (sym (parts_is s t))
       (by (keep (λ p. has_controlled k p.ty) (placed k t)) (controlled_of code t) (setting.agrees default constants t plain).controlled (keep_passes (λ p. has_controlled k p.ty) (placed k t)) (controlled_inside code setting.valid around t inside) first)
     where
       by : (left : List Placed) (xs : List Begun) → HaveParts k t left xs → Each (λ p. has_controlled k p.ty ≡ true) left → AreBegunBy code around xs → step ask code s0 ≡ moved l (finalize_left cause s xs failed ks w) → Finalizes 2 2 s0 c ks (in_turn n s (length left) left failed c l w)
-      by [] [] have held within go = last_step ask code (Sure k code wr) 2 2 s0 c 0 (tells ks) (Goes failed) l w (omega arith) (tt, fits) go
+      by [] [] have held within go = last_step ask code (Passed k code cause wr) 2 2 s0 c 0 (tells ks) (Goes failed) l w (omega arith) (none_passed cause, fits) go
       by [] (x ∷ xs) have held within go = absurd have
       by (q ∷ qs) [] have held within go = absurd have
       by (q ∷ qs) (x ∷ xs) have held within go =
-          one_step ask code (Sure k code wr) 1 1 2 2 s0 (gives (FinalizingParts cause s (x ∷ xs) failed ∷ ks) (Fine Complete) l w) c c (tells ks) _ (omega arith) (omega arith) (omega arith) (omega arith) go
+          one_step ask code (Passed k code cause wr) 1 1 2 2 s0 (gives (FinalizingParts cause s (x ∷ xs) failed ∷ ks) (Fine Complete) l w) c c (tells ks) _ (omega arith) (omega arith) (omega arith) (omega arith) go
           (subst (λ b. Finalizes 1 1 (gives (FinalizingParts cause s (x ∷ xs) failed ∷ ks) (Fine Complete) l w) c ks (in_turn n s (length (q ∷ qs)) (q ∷ qs) b c l w)) (or_false failed)
           (left_run n parts s t was old (length (q ∷ qs)) ks Complete failed c l w (q ∷ qs) (x ∷ xs) refl have held within le fits))
 
@@ -253,47 +253,54 @@ module _ (ask : Ask) (k : Tables) (code : Code) (setting : Setting k code) (call
   unfolding opened_finalization opened_outcome
   within_is n s t c l w is = ap (λ b. add 1 (bind (either (b && true) (attempt (call_operation K s (operation (λ x. x.finalize) k t) (shown s)) >>= after_finalize cause) (done false) c l w) (on_goes (behind_own n s t)))) is
 
-  -- as many ticks
-  same_ticks : {X : Type 0} (s1 s0 : State) (c c1 u t : ℕ) → u ≤ t → Comes ask code 2 s0 c u c1 s1 X → Comes ask code 2 s0 c t c1 s1 X
-  same_ticks s1 s0 c c1 u t le z = record { n = z.n; falls = z.falls; enough = z.enough; in_time = omega (arith, z.in_time, le); comes = z.comes; fits = z.fits }
+  -- a stretch and what follows it, which the tick of the part pays
+  behind_it : {X : Type 0} (s0 s1 : State) (ks : List Frame) (c c1 u t : ℕ) (x : Out Bool) → u ≤ t → Comes ask code 2 s0 c u c1 s1 X → Finalizes 2 2 s1 c1 ks x → Finalizes 0 0 s0 c ks (add 1 (add t x))
+  behind_it s0 s1 ks c c1 u t x le z next =
+      added ask code (Passed k code cause wr) 1 4 4 0 0 s0 c (tells ks) (add t x) (omega arith) (omega arith)
+      (after_comes ask code (Passed k code cause wr) 2 2 2 4 4 s0 s1 c c1 t (tells ks) x (omega arith) (omega arith)
+      (record { n = z.n; falls = z.falls; enough = z.enough; in_time = omega (arith, z.in_time, le); comes = z.comes; fits = z.fits }) next)
 
-  -- after the execution of its own Finalize, one that raised is remembered
-  over : (n : ℕ) → PartsRun n → (s : Spot) (t : ℕ) → object_at s.object wr ≡ Some o → t ≤ n → IsPlainType k (Record t) → IsDeclarable code around t → (ks : List Frame) (s0 : State) (c : ℕ) (x : Out Returned) → c ≤ bound → Runs ask code (Told k code wr) 2 3 s0 c (returns (FinalizingOwn cause s t ∷ ks)) x → Finalizes 0 0 s0 c ks (after_own n s t (bind (add 0 x) (on_goes (λ _. nothing))))
+  -- after its own Finalize, which raised
+  own_raised : (n : ℕ) → PartsRun n → (s : Spot) (t : ℕ) → IsSurrounded k code wr around s.object → t ≤ n → IsPlainType k (Record t) → IsDeclarable code around t → (ks : List Frame) (s0 : State) (e c c1 u : ℕ) (l : Log) (w : World) → c ≤ bound → Comes ask code 2 s0 c u c1 (gives (FinalizingOwn cause s t ∷ ks) (Raised e) l w) (Told k code wr (Some (ByRaise e)) w) → OnFailure cause → Finalizes 0 0 s0 c ks (after_own n s t (Gives (Leaves (ByRaise e)) u c1 l w))
+  unfolding picked opened_outcome
+  own_raised n parts s t was old plain inside ks s0 e c c1 u l w le z (Remembers meant run) =
+      let s1 = gives (FinalizingOwn cause s t ∷ ks) (Raised e) l w in
+      let falls = z.falls in
+      subst (λ x. Finalizes 0 0 s0 c ks (add 1 (bind (add (u + 0) x) (on_goes (behind_own n s t))))) (sym (meant e c1 l w))
+      (behind_it s0 s1 ks c c1 u (u + 0 + 0) (behind_own n s t true c1 l w) (omega arith) z
+      (all_run n parts s t was old plain inside ks true c1 l w s1 (omega (arith, falls, le)) z.fits.1 (ap (moved l) (run code s t ks w))))
+  own_raised n parts s t was old plain inside ks s0 e c c1 u l w le z (Raises x meant run passed) =
+      let s1 = gives (FinalizingOwn cause s t ∷ ks) (Raised e) l w in
+      subst (λ y. Finalizes 0 0 s0 c ks (add 1 (bind (add (u + 0) y) (on_goes (behind_own n s t))))) (sym (meant e c1 l w))
+      (behind_it s0 s1 ks c c1 u (u + 0 + 0) (Gives (Leaves (ByRaise x)) 0 c1 l w) (omega arith) z
+      (last_step ask code (Passed k code cause wr) 2 2 s1 c1 0 (tells ks) (Leaves (ByRaise x)) l w (omega arith) (passed, z.fits.1) (ap (moved l) (run code s t ks w))))
+
+  -- after the execution of its own Finalize
+  over : (n : ℕ) → PartsRun n → (s : Spot) (t : ℕ) → IsSurrounded k code wr around s.object → t ≤ n → IsPlainType k (Record t) → IsDeclarable code around t → (ks : List Frame) (s0 : State) (c : ℕ) (x : Out Returned) → c ≤ bound → Runs ask code (Told k code wr) 2 3 s0 c (returns (FinalizingOwn cause s t ∷ ks)) x → Finalizes 0 0 s0 c ks (after_own n s t (bind (add 0 x) (on_goes (λ _. nothing))))
   unfolding picked opened_outcome after_finalize
   over n parts s t was old plain inside ks s0 c (Gives (Goes v) u c1 l w) le z =
+      let s1 = gives (FinalizingOwn cause s t ∷ ks) (Fine Complete) l w in
       let falls = z.falls in
-      added ask code (Sure k code wr) 1 4 4 0 0 s0 c (tells ks) _ (omega arith) (omega arith)
-      (after_comes ask code (Sure k code wr) 2 2 2 4 4 s0 (gives (FinalizingOwn cause s t ∷ ks) (Fine Complete) l w) c c1 (0 + u + 0 + 0 + 0) (tells ks) (behind_own n s t false c1 l w) (omega arith) (omega arith)
-      (same_ticks (gives (FinalizingOwn cause s t ∷ ks) (Fine Complete) l w) s0 c c1 u (0 + u + 0 + 0 + 0) (omega arith) z)
-      (all_run n parts s t was old plain inside ks false c1 l w (gives (FinalizingOwn cause s t ∷ ks) (Fine Complete) l w) (omega (arith, falls, le)) z.fits.1 refl))
+      behind_it s0 s1 ks c c1 u (0 + u + 0 + 0 + 0) (behind_own n s t false c1 l w) (omega arith) z (all_run n parts s t was old plain inside ks false c1 l w s1 (omega (arith, falls, le)) z.fits.1 refl)
   over n parts s t was old plain inside ks s0 c (Gives (Leaves y) u c1 l w) le z =
-      by_raise (λ x. Runs ask code (Told k code wr) 2 3 s0 c (returns {A = Returned} (FinalizingOwn cause s t ∷ ks)) (Gives (Leaves x) u c1 l w) → Finalizes 0 0 s0 c ks (after_own n s t (Gives (Leaves x) (0 + u + 0) c1 l w))) failed y z.fits.0 z
-    where
-      failed : (e : ℕ) → Runs ask code (Told k code wr) 2 3 s0 c (returns {A = Returned} (FinalizingOwn cause s t ∷ ks)) (Gives (Leaves (ByRaise e)) u c1 l w) → Finalizes 0 0 s0 c ks (after_own n s t (Gives (Leaves (ByRaise e)) (0 + u + 0) c1 l w))
-      failed e z1 =
-          let falls = z1.falls in
-          subst (λ x. Finalizes 0 0 s0 c ks (add 1 (bind (add (0 + u + 0 + 0) x) (on_goes (behind_own n s t))))) (sym (remembered.meant e c1 l w))
-          (added ask code (Sure k code wr) 1 4 4 0 0 s0 c (tells ks) _ (omega arith) (omega arith)
-          (after_comes ask code (Sure k code wr) 2 2 2 4 4 s0 (gives (FinalizingOwn cause s t ∷ ks) (Raised e) l w) c c1 (0 + u + 0 + 0 + 0) (tells ks) (behind_own n s t true c1 l w) (omega arith) (omega arith)
-          (same_ticks (gives (FinalizingOwn cause s t ∷ ks) (Raised e) l w) s0 c c1 u (0 + u + 0 + 0 + 0) (omega arith) z1)
-          (all_run n parts s t was old plain inside ks true c1 l w (gives (FinalizingOwn cause s t ∷ ks) (Raised e) l w) (omega (arith, falls, le)) z1.fits.1 (ap (moved l) (remembered.done code s t ks w)))))
-  over n parts s t was old plain inside ks s0 c (Stops why u l) le z = more_quits ask code (Sure k code wr) 3 0 s0 u _ l why (omega arith) z
-  over n parts s t was old plain inside ks s0 c (Cut u c1 l) le z = more_halts ask code (Sure k code wr) 3 0 s0 c u _ l (omega arith) z
+      by_raise (λ x. Runs ask code (Told k code wr) 2 3 s0 c (returns {A = Returned} (FinalizingOwn cause s t ∷ ks)) (Gives (Leaves x) u c1 l w) → Finalizes 0 0 s0 c ks (after_own n s t (Gives (Leaves x) (0 + u + 0) c1 l w)))
+      (λ e z1. own_raised n parts s t was old plain inside ks s0 e c c1 (0 + u + 0) l w le (record { n = z1.n; falls = z1.falls; enough = z1.enough; in_time = omega (arith, z1.in_time); comes = z1.comes; fits = z1.fits }) (on_failure cause)) y z.fits.0 z
+  over n parts s t was old plain inside ks s0 c (Stops why u l) le z = more_quits ask code (Passed k code cause wr) 3 0 s0 u _ l why (omega arith) z
+  over n parts s t was old plain inside ks s0 c (Cut u c1 l) le z = more_halts ask code (Passed k code cause wr) 3 0 s0 c u _ l (omega arith) z
 
   -- a part that is controlled, from the step that begins with it
-  own_runs : (n : ℕ) → PartsRun n → (s : Spot) (t : ℕ) (ks : List Frame) (c : ℕ) (l : Log) (w : World) (s0 : State) → object_at s.object wr ≡ Some o → t ≤ n → IsPlainType k (Record t) → IsDeclarable code around t → c ≤ bound → Since k code wr w → (g : Option ℕ) (y : Option Object) → operation (λ x. x.finalize) k t ≡ g → object_at s.object w ≡ y → step ask code s0 ≡ moved l (finalize_own code g cause s t y ks w) → Finalizes 0 0 s0 c ks (after_own n s t (call_operation K s g (shown s) c l w))
+  own_runs : (n : ℕ) → PartsRun n → (s : Spot) (t : ℕ) (ks : List Frame) (c : ℕ) (l : Log) (w : World) (s0 : State) → IsSurrounded k code wr around s.object → t ≤ n → IsPlainType k (Record t) → IsDeclarable code around t → c ≤ bound → Since k code wr w → (g : Option ℕ) (y : Option Object) → operation (λ x. x.finalize) k t ≡ g → object_at s.object w ≡ y → step ask code s0 ≡ moved l (finalize_own code g cause s t y ks w) → Finalizes 0 0 s0 c ks (after_own n s t (call_operation K s g (shown s) c l w))
   unfolding opened_finalization opened_outcome opened_names
-  own_runs n parts s t ks c l w s0 was old plain inside le fits None None op at go = subst (λ y. Finalizes 0 0 s0 c ks (after_own n s t (add 1 (on_some y gone (λ _. nothing) c l w)))) (sym at) (stop_step ask code (Sure k code wr) 0 0 s0 _ c 2 (tells ks) UseAfterFree l (omega arith) go refl refl)
+  own_runs n parts s t ks c l w s0 was old plain inside le fits None None op at go = subst (λ y. Finalizes 0 0 s0 c ks (after_own n s t (add 1 (on_some y gone (λ _. nothing) c l w)))) (sym at) (stop_step ask code (Passed k code cause wr) 0 0 s0 _ c 2 (tells ks) UseAfterFree l (omega arith) go refl refl)
   own_runs n parts s t ks c l w s0 was old plain inside le fits None (Some p) op at go =
       subst (λ y. Finalizes 0 0 s0 c ks (after_own n s t (add 1 (on_some y gone (λ _. nothing) c l w)))) (sym at)
-      (added ask code (Sure k code wr) 1 2 2 0 0 s0 c (tells ks) _ (omega arith) (omega arith)
-      (added ask code (Sure k code wr) (1 + 0 + 0 + 0) 2 2 2 2 s0 c (tells ks) _ (omega arith) (omega arith)
+      (added ask code (Passed k code cause wr) 1 2 2 0 0 s0 c (tells ks) _ (omega arith) (omega arith)
+      (added ask code (Passed k code cause wr) (1 + 0 + 0 + 0) 2 2 2 2 s0 c (tells ks) _ (omega arith) (omega arith)
       (all_run n parts s t was old plain inside ks false c l w s0 le fits go)))
-  own_runs n parts s t ks c l w s0 was old plain inside le fits (Some f) None op at go = subst (λ y. Finalizes 0 0 s0 c ks (after_own n s t (on_some y gone (λ o1. look (λ w1. show (shown s) >> call (OfSubprogram f (holding (Binds s.object s.offset s.path) ∷ [])) (home_of o1.origin w1) >> nothing)) c l w))) (sym at) (stop_step ask code (Sure k code wr) 0 0 s0 _ c 1 (tells ks) UseAfterFree l (omega arith) go refl refl)
+  own_runs n parts s t ks c l w s0 was old plain inside le fits (Some f) None op at go = subst (λ y. Finalizes 0 0 s0 c ks (after_own n s t (on_some y gone (λ o1. look (λ w1. show (shown s) >> call (OfSubprogram f (holding (Binds s.object s.offset s.path) ∷ [])) (home_of o1.origin w1) >> nothing)) c l w))) (sym at) (stop_step ask code (Passed k code cause wr) 0 0 s0 _ c 1 (tells ks) UseAfterFree l (omega arith) go refl refl)
   own_runs n parts s t ks c l w s0 was old plain inside le fits (Some f) (Some p) op at go =
       let body = setting.finalize_body t f op in
-      let home : home_of p.origin w ≡ home_of o.origin wr = still_home k code s.object wr w o p fits_then fits.1 was at in
-      let here : IsDeclarable code (length (home_of p.origin w)) t = subst (λ (d : List ℕ). IsDeclarable code (length d) t) (sym home) inside in
+      let here : IsDeclarable code (length (home_of p.origin w)) t = declarable_later code around (length (home_of p.origin w)) t (was w p fits at) inside in
       subst (λ x. Finalizes 0 0 s0 c ks (after_own n s t x)) (sym (call_is ask k call default f s c (shown s) l w p at))
       (over n parts s t was old plain inside ks s0 c _ le
       (calls.runs f body.0 body.1 wr (home_of p.origin w) (holding (Binds s.object s.offset s.path) ∷ []) (FinalizingOwn cause s t ∷ ks) c (tell (shown s) l) w s0 le fits (finalize_in code setting.valid _ t f here (setting.finalize t ∙ op)) (tt, tt)
@@ -314,8 +321,8 @@ module _ (ask : Ask) (k : Tables) (code : Code) (setting : Setting k code) (call
       by PartsOf.Plain is parts go = absurd (let none : true ≡ false = sym held ∙ agrees.has ∙ ap has_part is in cc)
       by PartsOf.Within is parts go =
           subst (Finalizes 0 0 s0 c ks) (sym (within_is n s t c l w (agrees.itself ∙ ap is_itself is)))
-          (added ask code (Sure k code wr) 1 2 2 0 0 s0 c (tells ks) _ (omega arith) (omega arith)
-          (added ask code (Sure k code wr) 0 2 2 2 2 s0 c (tells ks) _ (omega arith) (omega arith)
+          (added ask code (Passed k code cause wr) 1 2 2 0 0 s0 c (tells ks) _ (omega arith) (omega arith)
+          (added ask code (Passed k code cause wr) 0 2 2 2 2 s0 c (tells ks) _ (omega arith) (omega arith)
           (all_run n parts s t was old plain inside ks false c l w s0 le fits go)))
       by PartsOf.Controlled is parts go =
           subst (Finalizes 0 0 s0 c ks) (sym (controlled_is (operation (λ x. x.finalize) k t) n s t c l w refl (agrees.itself ∙ ap is_itself is)))

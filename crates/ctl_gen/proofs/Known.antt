@@ -12,7 +12,7 @@ use Rattle.ctl_program.specs.declared.types.RecordType.{RecordType}
 use Rattle.ctl_meaning.specs.Types.{Tables, Elementary, category_of}
 use Rattle.ctl_layout.specs.declared.forms.Form.{Form}
 use Rattle.ctl_layout.specs.declared.forms.Form.TheVariants as FormOf
-use Rattle.ctl_layout.specs.Records.{are_free, are_parts, extends_such, form_by, forms_of, have_constants, is_free, is_laid, is_laid_by, is_laid_form, is_part, is_plain, is_plain_by, is_plain_form, is_root_run, is_run_type, is_uncontrolled, is_uncontrolled_form, is_whole, is_whole_by, is_whole_form, may_default, whole_form}
+use Rattle.ctl_layout.specs.Records.{are_parts, extends_such, form_by, forms_of, have_constants, is_laid, is_laid_by, is_laid_form, is_part, is_plain, is_plain_by, is_plain_form, is_root_run, is_run_type, may_default}
 pub use Rattle.ctl_layout.proofs.Extensions.{both_true}
 use Rattle.ctl_layout.proofs.Extensions.{HasComponents, IsRow, extends_none, extends_one, row_at, rows_length, same_components}
 
@@ -64,19 +64,13 @@ pub record IsLaid (records : List RecordType) (t : ℕ) (cs : List Component) : 
   pub has : HasComponents records t cs
   pub parts : AreParts records t cs
 
--- a type that is not tagged, and has no operations that the user wrote
-pub record IsUntagged (r : RecordType) : Type 0 where
-  pub root : r.root ≡ Untagged
-  pub initialize : r.operations.initialize ≡ None
-  pub finalize : r.operations.finalize ≡ None
-
 -- a type that descends from Controlled, or Limited_Controlled (7.6), or is not tagged
 abbrev pub IsRootRun : RecordType → Type 0
-IsRootRun r = (r.root ≡ Controlled) ⊎ IsUntagged r
+IsRootRun r = (r.root ≡ Controlled) ⊎ (r.root ≡ Untagged)
 
 -- such a type that is laid out, with constants as defaults
 pub record IsPlain (k : Tables) (t : ℕ) (r : RecordType) : Type 0 where
-  pub kind : (r.root ≡ Controlled) ⊎ IsUntagged r
+  pub kind : IsRootRun r
   pub components : List Component
   pub laid : IsLaid k.records t components
   pub constants : have_constants components ≡ true
@@ -91,9 +85,7 @@ none_if (Some x) e = absurd (cc)
 
 root_if : (r : RecordType) (x : Root) → r.root ≡ x → is_root_run x r.operations ≡ true → IsRootRun r
 root_if r Controlled is e = inl is
-root_if r Untagged is e =
-    let h = both_true (is_none r.operations.initialize) (is_none r.operations.finalize) e in
-    inr (record { root = is; initialize = none_if r.operations.initialize h.0; finalize = none_if r.operations.finalize h.1 })
+root_if r Untagged is e = inr is
 root_if r BlockPool is e = absurd (cc)
 root_if r MarkPool is e = absurd (cc)
 
@@ -105,56 +97,23 @@ some_form (Some x) e = (x, refl)
 
 pub plain_laid : (o : Option Form) → is_plain_form o ≡ true → is_laid_form o ≡ true
 plain_laid None e = absurd (cc)
-plain_laid (Some FormOf.Uncontrolled) e = refl
-plain_laid (Some FormOf.Controlled) e = refl
-plain_laid (Some FormOf.Holding) e = refl
+plain_laid (Some FormOf.Declared) e = refl
 plain_laid (Some FormOf.Laid) e = absurd (cc)
 plain_laid (Some FormOf.Other) e = absurd (cc)
 
-pub whole_plain : (o : Option Form) → is_whole_form o ≡ true → is_plain_form o ≡ true
-whole_plain None e = absurd (cc)
-whole_plain (Some FormOf.Uncontrolled) e = refl
-whole_plain (Some FormOf.Controlled) e = refl
-whole_plain (Some FormOf.Holding) e = absurd (cc)
-whole_plain (Some FormOf.Laid) e = absurd (cc)
-whole_plain (Some FormOf.Other) e = absurd (cc)
+-- the form that is chosen by whether the objects of a type are declared, and whether it is laid out
+abbrev chosen : Bool → Bool → Form
+chosen p l = if p then FormOf.Declared else (if l then FormOf.Laid else FormOf.Other)
 
-pub uncontrolled_whole : (o : Option Form) → is_uncontrolled_form o ≡ true → is_whole_form o ≡ true
-uncontrolled_whole None e = absurd (cc)
-uncontrolled_whole (Some FormOf.Uncontrolled) e = refl
-uncontrolled_whole (Some FormOf.Controlled) e = absurd (cc)
-uncontrolled_whole (Some FormOf.Holding) e = absurd (cc)
-uncontrolled_whole (Some FormOf.Laid) e = absurd (cc)
-uncontrolled_whole (Some FormOf.Other) e = absurd (cc)
+laid_by : (p l : Bool) → is_laid_form (Some (chosen p l)) ≡ true → (p ≡ true) ⊎ (l ≡ true)
+laid_by true l e = inl refl
+laid_by false true e = inr refl
+laid_by false false e = absurd (cc)
 
--- the form that is chosen by whether a type is plain, whole and laid out
-abbrev chosen : Bool → Bool → Bool → Root → Form
-chosen p w l x = if p then (if w then whole_form x else FormOf.Holding) else (if l then FormOf.Laid else FormOf.Other)
-
-laid_by : (p w l : Bool) (x : Root) → is_laid_form (Some (chosen p w l x)) ≡ true → (p ≡ true) ⊎ (l ≡ true)
-laid_by true w l x e = inl refl
-laid_by false w true x e = inr refl
-laid_by false w false x e = absurd (cc)
-
-plain_by : (p w l : Bool) (x : Root) → is_plain_form (Some (chosen p w l x)) ≡ true → p ≡ true
-plain_by true w l x e = refl
-plain_by false w true x e = absurd (cc)
-plain_by false w false x e = absurd (cc)
-
-whole_by : (p w l : Bool) (x : Root) → is_whole_form (Some (chosen p w l x)) ≡ true → w ≡ true
-whole_by true true l x e = refl
-whole_by true false l x e = absurd (cc)
-whole_by false w true x e = absurd (cc)
-whole_by false w false x e = absurd (cc)
-
-untagged_by : (p w l : Bool) (x : Root) → is_uncontrolled_form (Some (chosen p w l x)) ≡ true → x ≡ Untagged
-untagged_by true true l Untagged e = refl
-untagged_by true true l Controlled e = absurd (cc)
-untagged_by true true l BlockPool e = absurd (cc)
-untagged_by true true l MarkPool e = absurd (cc)
-untagged_by true false l x e = absurd (cc)
-untagged_by false w true x e = absurd (cc)
-untagged_by false w false x e = absurd (cc)
+plain_by : (p l : Bool) → is_plain_form (Some (chosen p l)) ≡ true → p ≡ true
+plain_by true l e = refl
+plain_by false true e = absurd (cc)
+plain_by false false e = absurd (cc)
 
 -- a type with a form is in the table
 entry_of : (records : List RecordType) (t : ℕ) → is_laid records t ≡ true → (r : RecordType) × (slice_get records t ≡ Some r)
@@ -241,13 +200,13 @@ module _ (records : List RecordType) (t : ℕ) (r : RecordType) (here : slice_ge
       by (inl none) = inl none
       by (inr q) = inr (q.0, q.1, q.2, plain_laid (slice_get (forms_of records) q.0) q.3)
 
-  form_is : slice_get (forms_of records) t ≡ Some (chosen (is_plain_by made.before r) (is_whole_by made.before r) (is_laid_by made.before r) r.root)
+  form_is : slice_get (forms_of records) t ≡ Some (chosen (is_plain_by made.before r) (is_laid_by made.before r))
   form_is = made.is
 
 pub extends_if : (records : List RecordType) (t : ℕ) → is_laid records t ≡ true → (r : RecordType) × (slice_get records t ≡ Some r) × Extends records t r
 extends_if records t e =
     let x = entry_of records t e in
-    (x.0, x.1, both_made records t x.0 x.1 (laid_by _ _ _ x.0.root (ap is_laid_form (sym (form_is records t x.0 x.1)) ∙ e)))
+    (x.0, x.1, both_made records t x.0 x.1 (laid_by _ _ (ap is_laid_form (sym (form_is records t x.0 x.1)) ∙ e)))
 
 parts_later : (records : List RecordType) (p t : ℕ) (cs : List Component) → p < t → AreParts records p cs → AreParts records t cs
 parts_later records p t [] lt h = tt
@@ -297,7 +256,7 @@ constants_both (x ∷ xs) ys h g =
 plain_extends : (records : List RecordType) (t : ℕ) → is_plain records t ≡ true → (r : RecordType) × (slice_get records t ≡ Some r) × ExtendsPlain records t r
 plain_extends records t e =
     let x = entry_of records t (plain_laid (slice_get (forms_of records) t) e) in
-    (x.0, x.1, plain_made records t x.0 x.1 (plain_by _ _ _ x.0.root (ap is_plain_form (sym (form_is records t x.0 x.1)) ∙ e)))
+    (x.0, x.1, plain_made records t x.0 x.1 (plain_by _ _ (ap is_plain_form (sym (form_is records t x.0 x.1)) ∙ e)))
 
 -- the defaults of all of its components are constants
 constants_within : (n : ℕ) (records : List RecordType) (t : ℕ) → t < n → is_plain records t ≡ true → (cs : List Component) × HasComponents records t cs × (have_constants cs ≡ true)
@@ -319,48 +278,3 @@ plain_if k t e =
 -- so the type of a component is one of them
 pub part_plain : (k : Tables) (t : ℕ) (c : Component) (x : IsOfPlain k.records t c) → IsPlainType k (Record x.number)
 part_plain k t c x = plain_if k x.number x.plain
-
--- Types none of whose components has a controlled part --------------------------------------------
-
--- components of no type that is controlled or has a controlled part
-abbrev pub AreOfFree : List RecordType → List Component → Type 0
-AreOfFree records [] = Unit {0}
-AreOfFree records (c ∷ cs) = (IsScalar c.ty ⊎ ((u : ℕ) × (c.ty ≡ Record u) × (is_uncontrolled records u ≡ true))) × AreOfFree records cs
-
--- what such a type adds, and what it extends
-pub record ExtendsWhole (records : List RecordType) (t : ℕ) (r : RecordType) : Type 0 where
-  pub free : AreOfFree records r.own
-  pub parent : (r.parent ≡ None) ⊎ ((p : ℕ) × (r.parent ≡ Some p) × (p < t) × (is_whole records p ≡ true))
-
-module _ (records : List RecordType) (t : ℕ) (r : RecordType) (here : slice_get records t ≡ Some r) where
-  free_part : (c : Component) (ty : Ty) → c.ty ≡ ty → IsPart records t c → is_free (made records t r here).before ty ≡ true → IsScalar c.ty ⊎ ((u : ℕ) × (c.ty ≡ Record u) × (is_uncontrolled records u ≡ true))
-  free_part c ty is (inl scalar) e = inl scalar
-  free_part c (Record u) is (inr x) e =
-      let before = (made records t r here).before in
-      let z = before_if records t r here u (plain_laid (slice_get before u) (whole_plain (slice_get before u) (uncontrolled_whole (slice_get before u) e))) in
-      inr (u, is, ap is_uncontrolled_form z.1 ∙ e)
-  free_part c Integer is (inr x) e = inl (subst IsScalar (sym is) tt)
-  free_part c Boolean is (inr x) e = inl (subst IsScalar (sym is) tt)
-  free_part c Count is (inr x) e = absurd (let bad : Count ≡ Record x.number = sym is ∙ x.ty in cc)
-  free_part c Address is (inr x) e = absurd (let bad : Address ≡ Record x.number = sym is ∙ x.ty in cc)
-  free_part c Handle is (inr x) e = absurd (let bad : Handle ≡ Record x.number = sym is ∙ x.ty in cc)
-  free_part c (Access a) is (inr x) e = absurd (let bad : Access a ≡ Record x.number = sym is ∙ x.ty in cc)
-
-  free_parts : (cs : List Component) → AreParts records t cs → are_free (made records t r here).before cs ≡ true → AreOfFree records cs
-  free_parts [] h e = tt
-  free_parts (c ∷ cs) h e =
-      let g = both_true (is_free (made records t r here).before c.ty) (are_free (made records t r here).before cs) e in
-      (free_part c c.ty refl h.0 g.0, free_parts cs h.1 g.1)
-
-pub whole_extends : (records : List RecordType) (t : ℕ) → is_whole records t ≡ true → (r : RecordType) × (slice_get records t ≡ Some r) × ExtendsWhole records t r
-whole_extends records t e =
-    let x = extends_if records t (plain_laid (slice_get (forms_of records) t) (whole_plain (slice_get (forms_of records) t) e)) in
-    let r = x.0 in
-    let before = (made records t r x.1).before in
-    let w = whole_by _ _ _ r.root (ap is_whole_form (sym (form_is records t r x.1)) ∙ e) in
-    let h = both_true (extends_such is_whole_form before r.parent) (are_free before r.own) w in
-    (r, x.1, record { free = free_parts records t r x.1 r.own x.2.parts h.1; parent = parent_if records t r x.1 is_whole_form (λ o i. plain_laid o (whole_plain o i)) r.parent refl h.0 })
-
--- where no part at all is controlled the type is not tagged
-pub uncontrolled_root : (records : List RecordType) (t : ℕ) (r : RecordType) → slice_get records t ≡ Some r → is_uncontrolled records t ≡ true → r.root ≡ Untagged
-uncontrolled_root records t r here e = untagged_by _ _ _ r.root (ap is_uncontrolled_form (sym (form_is records t r here)) ∙ e)

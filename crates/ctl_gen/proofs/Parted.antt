@@ -1,22 +1,23 @@
 -- What the meaning and the code say alike of the parts of a record type that this version runs: which components begin with something, and
 -- how, and which have a controlled part (3.8, 7.6).
-use Rattle.std.proofs.Common.{◌≡◌, ℕ, zero, suc, ◌+◌, ◌<◌, List, [], ◌∷◌, length, Bool, true, false, refl, ap, arith}
-use Rattle.std.specs.Prelude.{slice_get, Some}
+use Rattle.std.proofs.Common.{◌≡◌, ℕ, zero, suc, ◌+◌, ◌<◌, List, [], ◌∷◌, length, Bool, true, false, refl, sym, ap, ◌∙◌, subst, arith}
+use Rattle.std.specs.Prelude.{slice_get, Some, if◌then◌else◌}
 use Rattle.ctl_program.specs.declared.types.Ty.TheVariants.{Record}
 use Rattle.ctl_program.specs.declared.types.Component.{Component}
 use Rattle.ctl_program.specs.declared.types.RecordType.{RecordType}
 use Rattle.ctl_meaning.specs.World.{Log, World}
 use Rattle.ctl_meaning.specs.Lists.{keep, pull_item, pull_rest}
-use Rattle.ctl_meaning.specs.Outcome.{Goes, Gives}
-use Rattle.ctl_meaning.specs.Types.{Tables, Placed, has_controlled, is_controlled, is_initialized, placed}
+use Rattle.ctl_meaning.specs.Outcome.{Goes, Gives, Act}
+use Rattle.ctl_meaning.specs.Types.{Tables, Placed, has_controlled, is_controlled, is_initialized, of_record, placed}
 use Rattle.ctl_meaning.specs.Names.{Default}
+use Rattle.ctl_meaning.specs.Finalization.{Spot, component_at}
 use Rattle.ctl_code.specs.declared.code.Begun.{Begun}
 use Rattle.ctl_code.specs.declared.code.Code.{Code}
 use Rattle.ctl_code.specs.declared.code.Initial.{Initial}
 use Rattle.ctl_code.specs.declared.code.Initial.TheVariants.{Constant, ByType}
 use Rattle.ctl_code.specs.declared.code.Parts.{Parts}
 use Rattle.ctl_code.specs.declared.code.Parts.TheVariants.{Controlled}
-use Rattle.ctl_code.specs.Table.{begun_of, controlled_of, parts_of}
+use Rattle.ctl_code.specs.Table.{begun_of, component_of, controlled_of, parts_of}
 use Rattle.ctl_code.specs.Valid.{has_part}
 use Rattle.ctl_layout.specs.Defaults.{constant_of}
 use Rattle.ctl_gen.proofs.Known.{IsPlain, IsPlainType, IsScalar}
@@ -124,3 +125,25 @@ parts_rest k t i [] (x ∷ xs) h = absurd h
 parts_rest k t i (p ∷ ps) [] h = absurd h
 parts_rest k t zero (p ∷ ps) (x ∷ xs) h = h.1
 parts_rest k t (suc i) (p ∷ ps) (x ∷ xs) h = (h.0, parts_rest k t i ps xs h.1)
+
+-- those at some positions
+pub have_kept : (k : Tables) (t : ℕ) (g : ℕ → Bool) (ps : List Placed) (xs : List Begun) → HaveParts k t ps xs → HaveParts k t (keep (λ p. g p.position) ps) (keep (λ x. g x.position) xs)
+unfolding keep
+have_kept k t g [] [] h = tt
+have_kept k t g [] (x ∷ xs) h = absurd h
+have_kept k t g (p ∷ ps) [] h = absurd h
+have_kept k t g (p ∷ ps) (x ∷ xs) h =
+    subst (λ b. HaveParts k t (if g p.position then p ∷ keep (λ p1. g p1.position) ps else keep (λ p1. g p1.position) ps) (if b then x ∷ keep (λ x1. g x1.position) xs else keep (λ x1. g x1.position) xs)) (ap g (sym h.0.position))
+    (one (g p.position) (have_kept k t g ps xs h.1))
+  where
+    one : (b : Bool) → HaveParts k t (keep (λ p1. g p1.position) ps) (keep (λ x1. g x1.position) xs) → HaveParts k t (if b then p ∷ keep (λ p1. g p1.position) ps else keep (λ p1. g p1.position) ps) (if b then x ∷ keep (λ x1. g x1.position) xs else keep (λ x1. g x1.position) xs)
+    one true rest = (h.0, rest)
+    one false rest = rest
+
+-- what is done of such a component goes by its record type
+pub component_is : {A : Type 0} (k : Tables) (t : ℕ) (otherwise : Act A) (f : Spot → ℕ → Act A) (s : Spot) (p : Placed) (x : Begun) (part : HasPart k t p x) → of_record otherwise (f (component_at s p)) p.ty ≡ f (component_of s x.offset x.position) part.number
+unfolding component_at of_record
+component_is k t otherwise f s p x part =
+    ap (of_record otherwise (f (component_at s p))) part.ty
+    ∙ ap (λ i. f (component_of s i p.position) part.number) (sym part.offset)
+    ∙ ap (λ i. f (component_of s x.offset i) part.number) (sym part.position)

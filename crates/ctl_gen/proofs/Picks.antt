@@ -1,10 +1,14 @@
 -- Choices among candidates: which one is taken, and how many are left.
-use Rattle.std.proofs.Common.{◌≡◌, ℕ, zero, suc, ◌<◌, List, [], ◌∷◌, length, Option, Some, None, Bool, true, false, refl, ap, arith}
-use Rattle.std.specs.Prelude.{nat_lt, if◌then◌else◌}
+use Rattle.std.proofs.Common.{◌≡◌, ℕ, zero, suc, ◌+◌, ◌<◌, List, [], ◌∷◌, length, Option, Some, None, Bool, true, false, refl, ap, arith}
+use Rattle.std.specs.Prelude.{nat_lt, ◌||◌, if◌then◌else◌}
 use Rattle.std.proofs.lemmas.Bool.{ltb-true}
-use Rattle.ctl_meaning.specs.World.{Log}
-use Rattle.ctl_meaning.specs.Lists.{pull_rest}
+use Rattle.ctl_meaning.specs.World.{Log, World}
+use Rattle.ctl_meaning.specs.Lists.{pull_item, pull_rest}
 use Rattle.ctl_meaning.specs.Choice.{Ask, accepted, noted, picked}
+use Rattle.ctl_meaning.specs.Outcome.{Act, Cut, add, after_pick, bind, on_goes, ◌>>=◌, opened_outcome}
+use Rattle.ctl_meaning.specs.Types.{Placed}
+use Rattle.ctl_meaning.specs.Names.{Tools}
+use Rattle.ctl_meaning.specs.Finalization.{in_any_order, no_component}
 
 pub rest_length : {A : Type 0} (i n : ℕ) (xs : List A) → i < length xs → length xs ≡ suc n → length (pull_rest i xs) ≡ n
 unfolding pull_rest
@@ -40,3 +44,13 @@ picked_less ask (suc m) l p e = by (ask (length l.taken) (suc (suc m))) e
     by : (o : Option ℕ) → noted (suc (suc m)) (accepted (suc (suc m)) o) l ≡ Some p → p.0 < suc (suc m)
     by None e1 = absurd (cc)
     by (Some q) e1 = tested q (nat_lt q (suc (suc m))) refl e1
+
+-- of parts in an order that is chosen, the next one is what is picked
+pub next_in_order : (K : Tools) (f : Placed → Act Bool) (count i c : ℕ) (left : List Placed) (failed : Bool) (l l1 : Log) (w : World) → picked K.ask (suc count) l ≡ Some (i, l1) → in_any_order K f (suc count) left failed c l w ≡ add (suc count + 0) (bind (f (pull_item no_component i left) c l1 w) (on_goes (λ b. in_any_order K f count (pull_rest i left) (failed || b))))
+unfolding in_any_order opened_outcome
+next_in_order K f count i c left failed l l1 w is = ap (λ x. bind (add (suc count) (after_pick x c l w)) (on_goes (λ j. f (pull_item no_component j left) >>= (λ b. in_any_order K f count (pull_rest j left) (failed || b))))) is
+
+-- and none where the choice is not answered
+pub none_in_order : (K : Tools) (f : Placed → Act Bool) (count c : ℕ) (left : List Placed) (failed : Bool) (l : Log) (w : World) → picked K.ask (suc count) l ≡ None → in_any_order K f (suc count) left failed c l w ≡ Cut (suc count + 0) c l
+unfolding in_any_order opened_outcome
+none_in_order K f count c left failed l w is = ap (λ x. bind (add (suc count) (after_pick x c l w)) (on_goes (λ j. f (pull_item no_component j left) >>= (λ b. in_any_order K f count (pull_rest j left) (failed || b))))) is

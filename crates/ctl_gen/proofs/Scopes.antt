@@ -5,10 +5,8 @@ use Rattle.std.specs.Prelude.{slice_get, if◌then◌else◌}
 use Rattle.ctl_program.specs.declared.types.Ty.TheVariants.{Record}
 use Rattle.ctl_meaning.specs.World.{Object, World}
 use Rattle.ctl_meaning.specs.Lists.{keep, pull_item, pull_rest}
-use Rattle.ctl_meaning.specs.Changes.{home_of, home_master, opened_changes}
+use Rattle.ctl_meaning.specs.Changes.{object_at, home_of, home_master, opened_changes}
 use Rattle.ctl_meaning.specs.Types.{Tables}
-use Rattle.ctl_code.specs.declared.code.Beginning.{Beginning}
-use Rattle.ctl_code.specs.declared.code.Beginning.TheVariants.{ByDefault, ByCopy}
 use Rattle.ctl_code.specs.declared.code.Begun.{Begun}
 use Rattle.ctl_code.specs.declared.code.Initial.{Initial}
 use Rattle.ctl_code.specs.declared.code.Initial.TheVariants.{Constant, ByType}
@@ -18,7 +16,7 @@ use Rattle.ctl_code.specs.declared.code.Code.{Code}
 use Rattle.ctl_code.specs.Table.{begun_in, begun_of, controlled_in, controlled_of, operation_in, operation_of}
 use Rattle.ctl_code.specs.Valid.{AreBegunBy, AreInScope, IsBegunBy, IsDeclarable, IsDeclaredIn, IsInScope, IsValid, PositionsRise, outermost}
 use Rattle.ctl_code.proofs.Declarable.{layout_of}
-use Rattle.ctl_gen.proofs.Worlds.{IsInside, Settled, home}
+use Rattle.ctl_gen.proofs.Worlds.{Fits, IfFound, IsInside, Settled, Since, home, object_fits, still_home}
 
 -- Inside more masters -------------------------------------------------------------------------------
 
@@ -61,15 +59,6 @@ finalize_in code valid n t f inside op = let at = operations_in code valid n t i
 
 pub adjust_in : (code : Code) → IsValid code → (n t f : ℕ) → IsDeclarable code n t → operation_of (λ x. x.adjust) code t ≡ Some f → IsInScope code n (Some f)
 adjust_in code valid n t f inside op = let at = operations_in code valid n t inside in subst (IsInScope code n) (named code t f (λ x. x.adjust) at.0 at.1 op) at.4
-
--- the operation that is called once an object has begun (7.6)
-abbrev pub first_operation : Beginning → Operations → Option ℕ
-first_operation ByDefault x = x.initialize
-first_operation ByCopy x = x.adjust
-
-pub first_in : (how : Beginning) (code : Code) → IsValid code → (n t f : ℕ) → IsDeclarable code n t → operation_of (first_operation how) code t ≡ Some f → IsInScope code n (Some f)
-first_in ByDefault code valid n t f inside op = initialize_in code valid n t f inside op
-first_in ByCopy code valid n t f inside op = adjust_in code valid n t f inside op
 
 -- Components ----------------------------------------------------------------------------------------
 
@@ -127,16 +116,16 @@ pub type_inside : (k : Tables) (code : Code) (w : World) (o : Object) (t : ℕ) 
 type_inside k code w o t ty h =
     subst (λ (d : List ℕ). IsDeclarable code (length d) t) (sym (home_is k code w o h)) (subst (λ y. IsInside code y (length (home h.master w.activations))) ty h.inside)
 
--- an operation of its type is in scope there
-pub finalize_scope : (k : Tables) (code : Code) → IsValid code → (w : World) (o : Object) (t f : ℕ) → o.ty ≡ Record t → Settled k code w.ledger.next_master w.activations o → operation_of (λ x. x.finalize) code t ≡ Some f → IsInScope code (length (home_of o.origin w)) (Some f)
-finalize_scope k code valid w o t f ty h op = finalize_in code valid _ t f (type_inside k code w o t ty h) op
+-- since an earlier world at least so many masters have been around the operations of the object of this number, whenever it existed
+abbrev pub IsSurrounded : Tables → Code → World → ℕ → ℕ → Type 0
+IsSurrounded k code w0 masters n = (w : World) (o : Object) → Since k code w0 w → object_at n w ≡ Some o → masters ≤ length (home_of o.origin w)
 
-pub first_scope : (how : Beginning) (k : Tables) (code : Code) → IsValid code → (w : World) (o : Object) (t f : ℕ) → o.ty ≡ Record t → Settled k code w.ledger.next_master w.activations o → operation_of (first_operation how) code t ≡ Some f → IsInScope code (length (home_of o.origin w)) (Some f)
-first_scope how k code valid w o t f ty h op = first_in how code valid _ t f (type_inside k code w o t ty h) op
+-- those that were around them where it existed then
+pub still_surrounded : (k : Tables) (code : Code) (w0 : World) (n : ℕ) (o : Object) → Fits k code w0 → object_at n w0 ≡ Some o → IsSurrounded k code w0 (length (home_of o.origin w0)) n
+still_surrounded k code w0 n o fits was w p since at = subst (λ (d : List ℕ). length (home_of o.origin w0) ≤ length d) (sym (still_home k code n w0 w o p fits since.1 was at)) (omega arith)
 
--- one that is declared in the main procedure's own master at the most is in scope wherever an object was declared
-pub outermost_scope : (k : Tables) (code : Code) (w : World) (o : Object) (f : ℕ) → Settled k code w.ledger.next_master w.activations o → IsInScope code outermost (Some f) → IsInScope code (length (home_of o.origin w)) (Some f)
-outermost_scope k code w o f h scope =
-    let deep : 1 ≤ length (home_of o.origin w) = subst (λ (d : List ℕ). 1 ≤ length d) (sym (home_is k code w o h)) h.deep in
-    let level = scope.2 in
-    (scope.0, scope.1, omega (arith, level, deep))
+-- and the main procedure's own master in any case
+pub outermost_surrounds : (k : Tables) (code : Code) (w0 : World) (n : ℕ) → IsSurrounded k code w0 outermost n
+outermost_surrounds k code w0 n w o since at =
+    let settled = subst (IfFound (Settled k code w.ledger.next_master w.activations)) at (object_fits k code n w since.0) in
+    subst (λ (d : List ℕ). outermost ≤ length d) (sym (home_is k code w o settled)) settled.deep

@@ -3,7 +3,6 @@ use Rattle.std.proofs.Common.{◌≡◌, ℕ, ◌<◌, ◌≤◌, List, [], ◌�
 use Rattle.std.specs.Prelude.{slice_get}
 use Rattle.ctl_program.specs.declared.program.Subprogram.{Subprogram}
 use Rattle.ctl_program.specs.declared.types.Ty.TheVariants.{Record}
-use Rattle.ctl_program.specs.declared.types.Operations.{Operations}
 use Rattle.ctl_program.specs.declared.types.RecordType.{RecordType}
 use Rattle.ctl_tree.specs.declared.event.Event.{Event}
 use Rattle.ctl_meaning.specs.World.{Log, World, Slot}
@@ -12,8 +11,6 @@ use Rattle.ctl_meaning.specs.Choice.{Ask}
 use Rattle.ctl_meaning.specs.Outcome.{Way, Result, tell}
 use Rattle.ctl_meaning.specs.Types.{Tables, cells_of, offset_in, operation, placed}
 use Rattle.ctl_meaning.specs.Names.{OfSubprogram, Call, Default, Tools}
-use Rattle.ctl_code.specs.declared.code.Beginning.{Beginning}
-use Rattle.ctl_code.specs.declared.code.Beginning.TheVariants.{ByDefault, ByCopy}
 use Rattle.ctl_code.specs.declared.code.Entry.{Entry}
 use Rattle.ctl_code.specs.declared.code.Instr.TheVariants as InstrOf
 use Rattle.ctl_code.specs.declared.code.Code.{Code}
@@ -48,15 +45,6 @@ pub record Setting (k : Tables) (code : Code) : Type 0 where
   pub initialize_body : (t f : ℕ) → operation (λ x. x.initialize) k t ≡ Some f → IsBody subprograms f
   pub adjust_body : (t f : ℕ) → operation (λ x. x.adjust) k t ≡ Some f → IsBody subprograms f
   pub finalize_body : (t f : ℕ) → operation (λ x. x.finalize) k t ≡ Some f → IsBody subprograms f
-
--- the operation that is called once an object has begun (7.6)
-abbrev pub first_of : Beginning → Operations → Option ℕ
-first_of ByDefault x = x.initialize
-first_of ByCopy x = x.adjust
-
-pub first_body : (k : Tables) (code : Code) (setting : Setting k code) (how : Beginning) (t f : ℕ) → operation (first_of how) k t ≡ Some f → IsBody setting.subprograms f
-first_body k code setting ByDefault t f e = setting.initialize_body t f e
-first_body k code setting ByCopy t f e = setting.adjust_body t f e
 
 -- what evaluates with these executions
 abbrev pub tools_with : Ask → Tables → Call → Default → Tools

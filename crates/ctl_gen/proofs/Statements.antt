@@ -36,8 +36,6 @@ use Rattle.ctl_gen.proofs.Place.{HasAt, has_front, has_back, Laid, laid_front, l
 use Rattle.ctl_gen.proofs.Worlds.{home, Each, HoldsNoCopy, no_copy_unset, Since, Kept, home_new, keeps_itself, keeps_on, keeps_open, fits_open}
 use Rattle.ctl_gen.proofs.Setting.{Setting, tools_with, Sees, Told, Calls}
 use Rattle.ctl_gen.proofs.Parted.{GivesDefaults}
-use Rattle.ctl_gen.proofs.Alone.{none_named}
-use Rattle.ctl_gen.proofs.Plain.{whole_if}
 use Rattle.ctl_gen.proofs.Cells.{by_code}
 use Rattle.ctl_gen.proofs.Does.{Does}
 use Rattle.ctl_gen.proofs.Declare.{declare_runs}
@@ -129,8 +127,8 @@ module _ (ask : Ask) (k : Tables) (code : Code) (setting : Setting k code) (call
   copied_object slot t e None is runs = absurd (cc)
   copied_object slot t e (Some x) is runs =
       let h = both_true _ _ runs in
-      let known = whole_if k t h.0 in
-      copy_does ask k code setting call default constants t known.0 known.1 known.2.0 (none_named k code setting default constants t known.0 known.1 known.2.0 known.2.1) bound calls slot x e is h.1
+      let known = plain_if k t h.0 in
+      copy_does ask k code setting call default constants t known.0 known.1 known.2 bound calls slot x e is h.1
 
   given_object : (slot : ℕ) (ty : Ty) (e : Expr) → (with_value slot ty (value_code e)).runs k.records ≡ true → Does ask k code bound (λ a. (with_value slot ty (value_code e)).code a.stack) (λ d caught. object slot ty (Some (eval e)) K d (last_of d))
   given_object slot (Record t) e runs = copied_object slot t e (copied t (value_code e)) refl runs

@@ -158,21 +158,6 @@ all_but_newest (x ∷ xs) h = h.1
 
 -- Objects ---------------------------------------------------------------------------------------------
 
-written_in : (n offset : ℕ) (v : List ℕ) (os : List Object) (o : Object) → object_in n os ≡ Some o → (p : Object) × (object_in n (change_in n (with_cells offset v) os) ≡ Some p)
-unfolding opened_objects opened_lists
-written_in n offset v [] o e = absurd (cc e)
-written_in n offset v (y ∷ os) o e = one (nat_eq y.number n) refl (λ e1. written_in n offset v os o e1) e
-  where
-    one : (b : Bool) → nat_eq y.number n ≡ b → (object_in n os ≡ Some o → (p : Object) × (object_in n (change_in n (with_cells offset v) os) ≡ Some p)) → (if b then Some y else object_in n os) ≡ Some o
-        → (p : Object) × (first_with (λ z. nat_eq z.number n) ((if b then with_cells offset v y else y) ∷ change_in n (with_cells offset v) os) ≡ Some p)
-    one true is more e1 = (with_cells offset v y, ap (λ b. if b then Some (with_cells offset v y) else object_in n (change_in n (with_cells offset v) os)) is)
-    one false is more e1 = let x = more e1 in (x.0, ap (λ b. if b then Some y else object_in n (change_in n (with_cells offset v) os)) is ∙ x.1)
-
--- an object whose cells are written is still there
-pub written_there : (n offset : ℕ) (v : List ℕ) (w : World) (o : Object) → object_at n w ≡ Some o → (p : Object) × (object_at n (write_cells n offset v w) ≡ Some p)
-unfolding opened_changes opened_objects
-written_there n offset v w o e = written_in n offset v w.objects o e
-
 -- the numbers of objects rise, so that each is the number of one object
 abbrev pub AreApart : List Object → Type 0
 AreApart [] = Unit {0}

@@ -17,7 +17,7 @@ use Rattle.ctl_code.specs.declared.code.Parts.TheVariants as PartsOf
 use Rattle.ctl_code.specs.Table.{parts_in}
 use Rattle.ctl_code.specs.Valid.{has_part, outermost}
 pub use Rattle.ctl_layout.specs.Records.{constant_of, have_constants, is_plain}
-use Rattle.ctl_layout.specs.Records.{is_run_type, is_whole}
+use Rattle.ctl_layout.specs.Records.{is_plain, is_run_type}
 
 -- a type of the table whose objects are declared, or a scalar one
 abbrev pub is_declared : List RecordType → Ty → Bool
@@ -29,9 +29,9 @@ abbrev pub is_outermost : Option RecordType → Bool
 is_outermost None = false
 is_outermost (Some r) = nat_le r.level outermost
 
--- one of them whose objects are copied: an object of it takes the value of another one as a whole (5.2)
+-- one of them whose objects are declared: a part of it takes the value of another one (5.2)
 abbrev pub is_assignable : List RecordType → ℕ → Bool
-is_assignable records t = is_whole records t && is_outermost (slice_get records t)
+is_assignable records t = is_plain records t && is_outermost (slice_get records t)
 
 -- Components that begin with something (3.8, 7.6) -------------------------------------------------
 

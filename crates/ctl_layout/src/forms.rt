@@ -1,5 +1,5 @@
-//! Which record types this version lays out (RM 3.8, 3.9.1), and the objects of which it declares and copies (RM 7.6): found once for the whole
-//! table, from the first type to the last.
+//! Which record types this version lays out (RM 3.8, 3.9.1), and the objects of which it declares, copies and assigns to (RM 7.6): found once
+//! for the whole table, from the first type to the last.
 
 ghost use Rattle.std.specs.Prelude.{◌≡◌, List, IfOk, slice_get};
 ghost use Rattle.ctl_layout.specs.Records as types;
@@ -12,12 +12,8 @@ use std::alloc::{AllocError, Global};
 /// What a record type consists of.
 #[derive(Clone, Copy)]
 pub enum Form {
-    /// Its objects are declared, and no part of them is controlled.
-    Uncontrolled,
-    /// Its objects are declared, and controlled; no component of them has a controlled part.
-    Controlled,
-    /// Its objects are declared, and some component of them has a controlled part.
-    Holding,
+    /// Its components are such, and its objects are declared.
+    Declared,
     /// Its components, inherited ones too, are scalar, or of types whose objects are declared.
     Laid,
     Other,
@@ -88,27 +84,7 @@ fn is_plain_form(forms: &[Form], number: usize) -> bool
     ensures { result ≡ types.is_plain_form (slice_get forms.now number) }
 {
     match forms.get(number) {
-        Some(form) => matches!(form, Form::Uncontrolled | Form::Controlled | Form::Holding),
-        None => false,
-    }
-}
-
-/// Tells whether the objects of the type of this number are run, and no component of them has a controlled part.
-fn is_whole_form(forms: &[Form], number: usize) -> bool
-    ensures { result ≡ types.is_whole_form (slice_get forms.now number) }
-{
-    match forms.get(number) {
-        Some(form) => matches!(form, Form::Uncontrolled | Form::Controlled),
-        None => false,
-    }
-}
-
-/// Tells whether the objects of the type of this number are run, and no part of them is controlled.
-fn is_uncontrolled_form(forms: &[Form], number: usize) -> bool
-    ensures { result ≡ types.is_uncontrolled_form (slice_get forms.now number) }
-{
-    match forms.get(number) {
-        Some(form) => matches!(form, Form::Uncontrolled),
+        Some(form) => matches!(form, Form::Declared),
         None => false,
     }
 }
@@ -130,28 +106,6 @@ fn are_parts(forms: &[Form], components: &[Component]) -> bool
 {
     for component in components {
         if !is_part(forms, component.ty, &component.default) {
-            return false;
-        }
-    }
-    true
-}
-
-/// Tells whether a component of this type, which is run, has no controlled part.
-fn is_free(forms: &[Form], ty: Ty) -> bool
-    ensures { result ≡ types.is_free forms.now ty }
-{
-    match ty {
-        Ty::Record(number) => is_uncontrolled_form(forms, number),
-        _ => true,
-    }
-}
-
-/// Tells whether none of these components has a controlled part.
-fn are_free(forms: &[Form], components: &[Component]) -> bool
-    ensures { result ≡ types.are_free forms.now components.now }
-{
-    for component in components {
-        if !is_free(forms, component.ty) {
             return false;
         }
     }
@@ -183,37 +137,12 @@ fn is_plain_by(forms: &[Form], entry: &RecordType) -> bool
         && have_constants(entry.own.as_slice())
 }
 
-/// Tells whether no component of a type, inherited or not, has a controlled part, where the types that stand before have these forms.
-fn is_whole_by(forms: &[Form], entry: &RecordType) -> bool
-    ensures { result ≡ types.is_whole_by forms.now entry.now }
-{
-    let is_parent_whole = match entry.parent {
-        Some(number) => is_whole_form(forms, number),
-        None => true,
-    };
-    is_parent_whole && are_free(forms, entry.own.as_slice())
-}
-
-/// Gives the form of a type without a component that has a controlled part.
-fn whole_form(root: Root) -> Form
-    ensures { result ≡ types.whole_form root }
-{
-    match root {
-        Root::Untagged => Form::Uncontrolled,
-        Root::Controlled | Root::BlockPool | Root::MarkPool => Form::Controlled,
-    }
-}
-
 /// Gives the form of a type, where the types that stand before have these.
 fn form_by(forms: &[Form], entry: &RecordType) -> Form
     ensures { result ≡ types.form_by forms.now entry.now }
 {
     if is_plain_by(forms, entry) {
-        if is_whole_by(forms, entry) {
-            whole_form(entry.root)
-        } else {
-            Form::Holding
-        }
+        Form::Declared
     } else if is_laid_by(forms, entry) {
         Form::Laid
     } else {
@@ -255,12 +184,5 @@ impl<'a> Table<'a> {
         ensures { result ≡ types.is_plain self.now.records.now number }
     {
         is_plain_form(self.forms.as_slice(), number)
-    }
-
-    /// Tells whether objects of the record type of this number are declared and copied: no component of them has a controlled part.
-    pub fn is_whole(&self, number: usize) -> bool
-        ensures { result ≡ types.is_whole self.now.records.now number }
-    {
-        is_whole_form(self.forms.as_slice(), number)
     }
 }

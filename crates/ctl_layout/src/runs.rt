@@ -180,12 +180,12 @@ fn is_outermost(entry: &RecordType) -> bool
     entry.level <= OUTERMOST
 }
 
-/// Tells whether an object of the record type of this number takes the value of another one as a whole (RM 5.2).
+/// Tells whether a part of the record type of this number takes the value of another one (RM 5.2).
 fn is_assignable(table: &Table, number: usize) -> bool
     ensures { result ≡ defaults.is_assignable table.now.records.now number }
 {
     match table.records.get(number) {
-        Some(entry) => table.is_whole(number) && is_outermost(entry),
+        Some(entry) => table.is_plain(number) && is_outermost(entry),
         None => false,
     }
 }
@@ -200,12 +200,11 @@ fn is_declared(table: &Table, ty: Ty) -> bool
     }
 }
 
-/// Tells whether an object of a record type may begin with this value: that of a part of the type (RM 3.3.1), no component of which has a
-/// controlled part.
+/// Tells whether an object of a record type may begin with this value: that of a part of the type (RM 3.3.1).
 fn is_copied(table: &Table, number: usize, expression: &Expr) -> bool
     ensures { result ≡ (spec.copy 0 number (values.copied number (values.value_code expression.now))).runs table.now.records.now }
 {
-    table.is_whole(number) && may_be_part(copied(number, expression), table)
+    table.is_plain(number) && may_be_part(copied(number, expression), table)
 }
 
 /// Tells whether a declaration with this value is run, in each slot.

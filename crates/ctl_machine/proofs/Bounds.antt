@@ -75,6 +75,7 @@ operand_set code e k above ops w x y at before after are become h is =
       next_object = h.next_object;
       left = h.left;
       saved = h.saved;
+      noted = h.noted;
     }
 
 -- What a turn finds -------------------------------------------------------------------------------------

@@ -47,7 +47,7 @@ pub counted_none : {X : Type 0} (p : X → Bool) (xs : List X) → 0 ≡ length 
 unfolding opened_lists
 counted_none p xs = refl
 
-counted : {X : Type 0} (p : X → Bool) (xs : List X) (at : ℕ) (x : X) → slice_get xs at ≡ Some x → keep p (take (at + 1) xs) ≡ keep p (take at xs) ++ (if p x then x ∷ [] else [])
+pub counted : {X : Type 0} (p : X → Bool) (xs : List X) (at : ℕ) (x : X) → slice_get xs at ≡ Some x → keep p (take (at + 1) xs) ≡ keep p (take at xs) ++ (if p x then x ∷ [] else [])
 unfolding opened_lists
 counted {X} p xs at x e =
     let next : at + 1 ≡ suc at = omega arith in

@@ -1,98 +1,149 @@
 -- An object is declared with the value of another one.
-use Rattle.std.proofs.Common.{◌≡◌, ℕ, ◌+◌, ◌-◌, List, [], ◌∷◌, Some, None, length, refl, sym, ap, ◌∙◌, subst, drop}
+use Rattle.std.proofs.Common.{◌≡◌, ℕ, ◌+◌, ◌-◌, ◌≤◌, List, [], ◌∷◌, Option, Some, None, length, refl, sym, ap, ◌∙◌, subst, drop, reverse}
 use Rattle.std.specs.Prelude.{slice_get}
-use Rattle.std.proofs.lemmas.List.{append-nil}
 use Rattle.ctl_tree.specs.declared.ending.Stop.TheVariants.{UseAfterFree}
 use Rattle.ctl_meaning.specs.World as W
 use Rattle.ctl_meaning.specs.Objects.{cells_at}
-use Rattle.ctl_meaning.specs.Outcome.{Fine}
+use Rattle.ctl_meaning.specs.World.{World}
 use Rattle.ctl_meaning.specs.Changes.{object_at, write_cells, opened_changes}
+use Rattle.ctl_code.specs.declared.kinds.Kind.{Kind}
 use Rattle.ctl_code.specs.declared.code.Code.{Code}
 use Rattle.ctl_code.specs.declared.code.Instr.TheVariants.{DeclareCopy}
 use Rattle.ctl_code.specs.States as T
 use Rattle.ctl_code.specs.States.{Word, Located, Move, State}
 use Rattle.ctl_code.specs.Table as Table
-use Rattle.ctl_code.specs.Table.{Here, by_instr, by_declare_copy, gives, gone, size_of}
+use Rattle.ctl_code.specs.Table.{Here, adjust_new, by_instr, by_declare_copy, gone, parts_of, size_of}
 use Rattle.ctl_machine.specs.declared.engine.Engine.{Engine}
-use Rattle.ctl_machine.specs.declared.frame.Ended.TheVariants as EndedOf
-use Rattle.ctl_machine.specs.declared.frame.Frame.TheVariants as FrameOf
 use Rattle.ctl_machine.specs.declared.frame.Master.{Master}
-use Rattle.ctl_machine.specs.declared.frame.Mode.{Mode}
 use Rattle.ctl_machine.specs.declared.frame.Mode.TheVariants as ModeOf
 use Rattle.ctl_machine.specs.declared.frame.Owned.{Owned}
 use Rattle.ctl_machine.specs.Masters.{Head, heads_of, first_display, object_of}
 use Rattle.ctl_machine.specs.Holders.{Lacks}
-use Rattle.ctl_machine.specs.Shows.{ShowsMode, Sized, Kept, Holds, kept, with_spots, IsCreated}
-use Rattle.ctl_machine.specs.Spots.{KeepsSpots, first_spot, standing}
+use Rattle.ctl_machine.specs.Shows.{Sized, Kept, Holds, kept, with_spots, IsCreated}
+use Rattle.ctl_machine.specs.Spots.{first_spot, standing}
 use Rattle.ctl_meaning.specs.Finalization.{Spot}
 use Rattle.ctl_machine.proofs.Located.{part_on_top}
 use Rattle.ctl_machine.specs.Moves.{Before, GoesOn, Inside, Makes, here_of}
-use Rattle.ctl_machine.specs.Declaring.{with_object, with_row}
+use Rattle.ctl_machine.specs.Declaring.{Copied, IsCopied, with_object, with_row}
 use Rattle.ctl_machine.proofs.Copied.{length_copied, value_taken}
 use Rattle.ctl_machine.proofs.Created.{newborn}
 use Rattle.ctl_machine.proofs.Finalized.{object_is}
+use Rattle.ctl_machine.proofs.Following.{makes_later}
 use Rattle.ctl_machine.proofs.Newborn.{has_object}
 use Rattle.ctl_machine.proofs.Newest.{get_newest}
 use Rattle.ctl_machine.proofs.Numbers.{no_object}
 use Rattle.ctl_machine.proofs.Operands.{HasPart}
-use Rattle.ctl_machine.proofs.Stages.{with_frame, Copies, stage_begins}
 use Rattle.ctl_machine.proofs.Touched.{gone_makes}
+
+-- the value of a part of an object, if there is the object
+abbrev value_of : ℕ → ℕ → Option W.Object → List ℕ
+value_of offset size None = []
+value_of offset size (Some o) = cells_at offset size o
+
+-- the object has taken the value, and its declaration goes on at a place
+abbrev pub copied_at : Code → ℕ → ℕ → ℕ → State → Copied
+copied_at code place slot t s =
+    let d = first_display (heads_of s.world.activations) in
+    let y = first_spot s.operands in
+    record {
+      number = s.world.ledger.next_object;
+      point = record { display = d; place = place; operands = drop 1 s.operands };
+      control = s.control;
+      world = write_cells s.world.ledger.next_object 0 (value_of y.offset (size_of code t) (object_at y.object s.world)) (Table.with_object code d slot t s.world);
+    }
 
 -- what the table makes of it, where there is the object
 table_copies : (code : Code) (slot t : ℕ) (y : Spot) (ops rest : List Word) (h : Here) (o x : W.Object) → ops ≡ Located y ∷ rest → object_at y.object h.world ≡ Some o → object_at h.world.ledger.next_object (Table.with_object code h.display slot t h.world) ≡ Some x
-    → by_declare_copy code slot t ops h ≡ gives (Fine T.Complete) (T.Copying h.world.ledger.next_object t (record { display = h.display; place = h.place + 1; operands = rest }) ∷ h.control) (write_cells h.world.ledger.next_object 0 (cells_at y.offset (size_of code t) o) (Table.with_object code h.display slot t h.world))
+    → by_declare_copy code slot t ops h ≡ adjust_new code (parts_of code t) h.world.ledger.next_object t (record { display = h.display; place = h.place + 1; operands = rest }) h.control (write_cells h.world.ledger.next_object 0 (value_of y.offset (size_of code t) (object_at y.object h.world)) (Table.with_object code h.display slot t h.world))
 table_copies code slot t y ops rest h o x are there new = rw (are, there, new) refl
 
 -- the part whose value is taken
 pub copied_part : (code : Code) (e : Engine) (place slot t : ℕ) (s : State) → (b : Before code e place (DeclareCopy slot t) s) → HasPart code (kept e) b.fine.1.0 s.control s.operands s.world
 copied_part code e place slot t s b = part_on_top code e t b.stack b.fine.1.0 s b.inside b.fine.1.1
 
+-- what the object and its slot are
+record IsMade (code : Code) (mid : Engine) (slot t : ℕ) (s : State) (m : Master) (value : List ℕ) : Type 0 where
+  pub world : World
+  pub is : world ≡ write_cells s.world.ledger.next_object 0 value (Table.with_object code (first_display (heads_of s.world.activations)) slot t s.world)
+  pub begun : W.Object
+  pub there : object_at s.world.ledger.next_object (Table.with_object code (first_display (heads_of s.world.activations)) slot t s.world) ≡ Some begun
+  pub holds : Holds code (with_row m slot t (size_of code t) value (kept mid)) s.control (drop 1 s.operands) world
+  pub heads : heads_of world.activations ≡ heads_of s.world.activations
+  pub owned : m.owned ≤ length mid.owned.items
+  pub others : List Master
+  pub masters : reverse mid.masters.items ≡ m ∷ others
+  pub number : mid.given_objects + 1 ≡ s.world.ledger.next_object
+
 -- the object is created, and takes the value
-pub copied_makes : (code : Code) (old mid new : Engine) (place slot t found : ℕ) (s : State) (m : Master) (source : Owned) → Before code old place (DeclareCopy slot t) s → kept mid ≡ with_spots (kept old) (standing s.control (drop 1 s.operands))
-    → slice_get mid.masters.items (length mid.masters.items - 1) ≡ Some m → slice_get mid.owned.items found ≡ Some source → source.number ≡ (first_spot s.operands).object
-    → kept new ≡ with_frame (FrameOf.Copying (place + 1)) (with_row m slot t (size_of code t) (cells_at (first_spot s.operands).offset (size_of code t) (object_of mid.parts.items source)) (kept mid)) → new.mode ≡ ModeOf.Giving EndedOf.Complete
-    → new.events.items ≡ old.events.items → new.picks.items ≡ old.picks.items
-    → Makes code old new (by_instr code (Some (DeclareCopy slot t)) s.operands (here_of place s))
+made_so : (code : Code) (mid : Engine) (below : List Kind) (slot t : ℕ) (s : State) (m : Master) (value : List ℕ) → Inside code (kept mid) below s.control (drop 1 s.operands) s.world → slice_get mid.masters.items (length mid.masters.items - 1) ≡ Some m → length value ≡ size_of code t
+    → IsMade code mid slot t s m value
 unfolding opened_changes
-copied_makes code old mid new place slot t found s m source b mid_is newest there number kept_is mode events picks =
+made_so code mid below slot t s m value inside newest long =
     let w = s.world in
-    let hs = heads_of w.activations in
-    let d = first_display hs in
+    let d = first_display (heads_of w.activations) in
     let j = w.ledger.next_object in
     let size = size_of code t in
-    let o = object_of mid.parts.items source in
-    let y = first_spot s.operands in
-    let v = cells_at y.offset size o in
     let rest = drop 1 s.operands in
-    let below = b.fine.1.0 in
-    let g = copied_part code old place slot t s b in
-    let inside : Inside code (kept mid) below s.control rest w = subst (λ (e : Kept). Inside code e below s.control rest w) (sym mid_is) g.left in
     let has = has_object code mid below slot t s rest m inside newest in
     let x = newborn (kept mid) slot t size m in
     let zeros : Kept = with_object m slot t size (kept mid) in
-    let e : Kept = with_row m slot t size v (kept mid) in
+    let e : Kept = with_row m slot t size value (kept mid) in
     let created = Table.with_object code d slot t w in
-    let w' = write_cells j 0 v created in
     let is : x.number ≡ j = sym inside.holds.next_object in
     let h : Holds code zeros s.control rest created = subst (λ (k : List T.Frame). Holds code zeros k rest created) (sym has.control) has.made.holds in
-    let taken = value_taken code zeros s.control rest created mid.owned.items mid.parts.items v x h refl refl inside.holds.lie refl (length_copied y.offset size o) in
-    let holds : Holds code e s.control rest w' = subst (λ c. Holds code e s.control rest (write_cells c 0 v created)) is taken in
-    let heads : heads_of w'.activations ≡ hs = has.made.heads in
-    let p : T.Point = record { display = d; place = place + 1; operands = rest } in
-    let i : IsCreated j t m e.owned = record { before = mid.owned.items; object = x; is_newest = refl; is_own = has.owned; number = is; record_type = refl; no_layer = refl } in
-    let h' = stage_begins Copies code e m has.first.0 j t (place + 1) p s.control w' holds has.first.1 i refl (ap first_display (sym heads)) in
-    let k' : List T.Frame = T.Copying j t p ∷ s.control in
-    let made : Makes code old new (gives (Fine T.Complete) k' w') = record {
-      mode = subst (λ (z : Mode). ShowsMode code z (T.Giving (Fine T.Complete)) k' (heads_of w'.activations)) (sym mode)
-          (refl, (below, b.fine.1.2, subst (λ (l : List Head). Sized code below s.control l) (sym heads) inside.sized));
-      holds = subst (λ (z : Kept). Holds code z k' [] w') (sym kept_is) h';
-      spots = subst (λ (z : Mode). KeepsSpots z new.spots.items k' []) (sym mode) (ap (λ (z : Kept). z.spots) kept_is ∙ ap (λ (z : Kept). z.spots) mid_is);
-      shows = events ∙ sym (append-nil old.events.items);
-      picks = picks;
-    } in
+    let taken = value_taken code zeros s.control rest created mid.owned.items mid.parts.items value x h refl refl inside.holds.lie refl long in
+    record {
+      world = write_cells j 0 value created;
+      is = refl;
+      begun = object_of zeros.parts x;
+      there = ap (λ c. object_at c created) (sym is) ∙ object_is code zeros s.control rest created (length zeros.owned - 1) x h (get_newest mid.owned.items x);
+      holds = subst (λ c. Holds code e s.control rest (write_cells c 0 value created)) is taken;
+      heads = has.made.heads;
+      owned = has.owned;
+      others = has.first.0;
+      masters = has.first.1;
+      number = is;
+    }
+
+-- the newest object has taken the value of a part of another one, and is to be adjusted
+pub copied_is : (code : Code) (old mid new : Engine) (place slot t found : ℕ) (s : State) (m : Master) (source : Owned) → Before code old place (DeclareCopy slot t) s → kept mid ≡ with_spots (kept old) (standing s.control (drop 1 s.operands))
+    → slice_get mid.masters.items (length mid.masters.items - 1) ≡ Some m → slice_get mid.owned.items found ≡ Some source → source.number ≡ (first_spot s.operands).object
+    → kept new ≡ with_row m slot t (size_of code t) (cells_at (first_spot s.operands).offset (size_of code t) (object_of mid.parts.items source)) (kept mid) → new.given_objects ≡ mid.given_objects + 1
+    → IsCopied code new t (place + 1) (copied_at code (place + 1) slot t s) × ((new' : Engine) → new.events.items ≡ old.events.items → new.picks.items ≡ old.picks.items
+    → (let x = copied_at code (place + 1) slot t s in Makes code new new' (adjust_new code (parts_of code t) x.number t x.point x.control x.world)) → Makes code old new' (by_instr code (Some (DeclareCopy slot t)) s.operands (here_of place s)))
+copied_is code old mid new place slot t found s m source b mid_is newest there number are given =
+    let w = s.world in
+    let y = first_spot s.operands in
+    let o = object_of mid.parts.items source in
+    let value = cells_at y.offset (size_of code t) o in
+    let below = b.fine.1.0 in
+    let rest = drop 1 s.operands in
+    let g = copied_part code old place slot t s b in
+    let inside : Inside code (kept mid) below s.control rest w = subst (λ (e : Kept). Inside code e below s.control rest w) (sym mid_is) g.left in
+    let made = made_so code mid below slot t s m value inside newest (length_copied y.offset (size_of code t) o) in
+    let e : Kept = with_row m slot t (size_of code t) value (kept mid) in
     let object : object_at y.object w ≡ Some o = ap (λ c. object_at c w) (sym number) ∙ object_is code (kept mid) s.control rest w found source inside.holds there in
-    let begun : object_at j created ≡ Some (object_of zeros.parts x) = ap (λ c. object_at c created) (sym is) ∙ object_is code zeros s.control rest created (length zeros.owned - 1) x h (get_newest mid.owned.items x) in
-    subst (λ (z : Move). Makes code old new z) (sym (table_copies code slot t y s.operands rest (here_of place s) o (object_of zeros.parts x) g.are object begun)) made
+    let x = copied_at code (place + 1) slot t s in
+    let world : made.world ≡ x.world = made.is ∙ ap (λ (z : Option W.Object). write_cells w.ledger.next_object 0 (value_of y.offset (size_of code t) z) (Table.with_object code (first_display (heads_of w.activations)) slot t w)) (sym object) in
+    let i : IsCreated w.ledger.next_object t m e.owned = record { before = mid.owned.items; object = newborn (kept mid) slot t (size_of code t) m; is_newest = refl; is_own = made.owned; number = made.number; record_type = refl; no_layer = refl } in
+    let heads : heads_of x.world.activations ≡ heads_of w.activations = ap (λ (v : World). heads_of v.activations) (sym world) ∙ made.heads in (
+      record {
+        stack = below;
+        leads = b.fine.1.2;
+        stands = inside.stands;
+        sized = subst (λ (l : List Head). Sized code below s.control l) (sym heads) inside.sized;
+        holds = subst (λ (z : Kept). Holds code z s.control rest x.world) (sym are) (subst (λ (v : World). Holds code e s.control rest v) world made.holds);
+        spots = ap (λ (z : Kept). z.spots) are ∙ ap (λ (z : Kept). z.spots) mid_is;
+        goes_on = refl;
+        seen = ap first_display (sym heads);
+        master = m;
+        others = made.others;
+        masters = ap (λ (z : Kept). z.masters) are ∙ made.masters;
+        object = subst (λ (l : List Owned). IsCreated w.ledger.next_object t m l) (sym (ap (λ (z : Kept). z.owned) are)) i;
+        number = given ∙ made.number;
+      },
+      λ new' events picks goes. subst (λ (z : Move). Makes code old new' z) (sym (table_copies code slot t y s.operands rest (here_of place s) o made.begun g.are object made.there)) (makes_later code old new new' _ events picks goes),
+    )
 
 -- where there is none
 table_gone : (code : Code) (slot t : ℕ) (y : Spot) (ops rest : List Word) (h : Here) → ops ≡ Located y ∷ rest → object_at y.object h.world ≡ None → by_declare_copy code slot t ops h ≡ gone h.control h.world

@@ -41,6 +41,7 @@ numbered code e k ops w h = record {
   next_object = ap (λ n. n + 1) h.next_object;
   left = h.left;
   saved = h.saved;
+  noted = h.noted;
 }
 
 numbered_heads : (w : World) → heads_of (take_object_number w).activations ≡ heads_of w.activations

@@ -42,7 +42,7 @@ pub record IsCreating (code : Code) (fs : List Frame) (k : List T.Frame) (s : Sp
   pub frame : T.Frame
   pub control : fs ≡ top ∷ below
   pub is : k ≡ frame ∷ behind
-  pub part : IsPartFrame code top frame s
+  pub part : IsPartFrame code behind top frame s
 
 filling_so : (code : Code) {fs : List Frame} {ms : List Master} {hs : List Head} {owned : List Owned} {x : T.Newborn} {left incomplete : List Begun} {k : List T.Frame} (s : Spot) → x.spot ≡ s → Wait fs ms hs owned (T.Filling x left incomplete ∷ k) → AllLeaveSame code fs (T.Filling x left incomplete ∷ k)
     → IsCreating code fs (T.Filling x left incomplete ∷ k) s k
@@ -63,7 +63,7 @@ creating_of code e s t b c = creating_so code (kept e) s.control s.operands s.wo
 pub newest_part : (code : Code) (e : Engine) (s : State) (t : GivenUp) → BeforeResuming code e s → Creates s.control t.spot t.control → e.spots.items ≡ spots_in t.control ++ t.spot ∷ []
 newest_part code e s t b c =
     let u = creating_of code e s t b c in
-    b.spots ∙ (ap (λ (k : List T.Frame). spots_in k) u.is ∙ spots_with code u.part t.control)
+    b.spots ∙ (ap (λ (k : List T.Frame). spots_in k) u.is ∙ spots_with code u.part)
 
 pub some_frame : (code : Code) (e : Engine) (s : State) (t : GivenUp) → BeforeResuming code e s → Creates s.control t.spot t.control → 0 < length e.control.items
 some_frame code e s t b c =
@@ -77,7 +77,7 @@ some_frame code e s t b c =
 abbrev pub given_up : GivenUp → ℕ → World → Finished
 given_up t e w = record { spot = t.spot; control = T.FinalizingParts Failed t.spot t.complete false ∷ T.Failing t.spot e ∷ t.control; world = begin_finalization t.spot.object w }
 
-gives_up_so : (code : Code) (e : Kept) (f : Frame) (fs : List Frame) (g : T.Frame) (type : ℕ) (those : Apart) (exception : ℕ) (t : GivenUp) (ops : List Word) (w : World) → IsPartFrame code f g t.spot → e.control ≡ f ∷ fs → AreApart (controlled_of code type) those t.complete → Holds code e (g ∷ t.control) ops w
+gives_up_so : (code : Code) (e : Kept) (f : Frame) (fs : List Frame) (g : T.Frame) (type : ℕ) (those : Apart) (exception : ℕ) (t : GivenUp) (ops : List Word) (w : World) → IsPartFrame code t.control f g t.spot → e.control ≡ f ∷ fs → AreApart (controlled_of code type) those t.complete → Holds code e (g ∷ t.control) ops w
     → Holds code (with_frames (FrameOf.FinalizingParts Failed type those false ∷ FrameOf.Failing exception ∷ fs) e.spots e) (T.FinalizingParts Failed t.spot t.complete false ∷ T.Failing t.spot exception ∷ t.control) [] w
 gives_up_so code e f fs g type those exception t ops w part top apart h =
     let gone = part_goes code e f fs g t.spot t.control ops w part top h in
@@ -101,7 +101,7 @@ gives_up code old mid new type those exception s t b c apart control begun are m
       holds = subst (λ (e : Kept). Holds code e x.control [] w) (ap (λ (l : List Frame). with_frames (FrameOf.FinalizingParts Failed type those false ∷ FrameOf.Failing exception ∷ l) (old.spots.items ++ t.spot ∷ []) (kept mid)) rest ∙ sym are)
           (other_spots code (with_frames (FrameOf.FinalizingParts Failed type those false ∷ FrameOf.Failing exception ∷ u.below) mid.spots.items (kept mid)) (old.spots.items ++ t.spot ∷ []) x.control [] w h);
       spots = ap (λ (e : Kept). e.spots) are ∙ ap (λ (l : List Spot). l ++ t.spot ∷ []) (newest_part code old s t b c);
-      sized = subst (λ (z : Type 0). z) (sized_with code u.part t.control (heads_of s.world.activations)) (subst (λ (l : List T.Frame). SizedBelow code l (heads_of s.world.activations)) u.is b.sized);
+      sized = subst (λ (z : Type 0). z) (sized_with code u.part (heads_of s.world.activations)) (subst (λ (l : List T.Frame). SizedBelow code l (heads_of s.world.activations)) u.is b.sized);
     } in
     finished_gives code old new x EndedOf.Complete (Fine T.Complete) finishes mode refl events picks
 

@@ -127,6 +127,7 @@ changed_part code e spots t part below k (y ∷ ops) w x are i same is =
         next_object = h.next_object;
         left = h.left;
         saved = h.saved;
+        noted = h.noted;
       };
       spots = is ∙ append_assoc (spots_in k) (located ops) (x ∷ []);
     }

@@ -1,5 +1,5 @@
 -- Frames that wait for the newest part: one comes over a state without operands, and goes.
-use Rattle.std.proofs.Common.{◌≡◌, ℕ, List, [], ◌∷◌, ◌++◌, Bool, refl, sym, ap, ◌∙◌, subst, reverse}
+use Rattle.std.proofs.Common.{◌≡◌, ℕ, List, [], ◌∷◌, ◌++◌, Option, Bool, refl, sym, ap, ◌∙◌, subst, reverse}
 use Rattle.std.proofs.lemmas.List.{append-nil, append_assoc}
 use Rattle.ctl_tree.specs.declared.event.Cause.{Cause}
 use Rattle.ctl_meaning.specs.Finalization.{Spot}
@@ -17,79 +17,141 @@ use Rattle.ctl_machine.specs.declared.frame.Left.{Left}
 use Rattle.ctl_machine.specs.declared.frame.Master.{Master}
 use Rattle.ctl_machine.specs.declared.frame.Owned.{Owned}
 use Rattle.ctl_machine.specs.Masters.{Head, heads_of}
-use Rattle.ctl_machine.specs.Filling.{AreApart, AreLeft, LeavesSame, AllLeaveSame}
+use Rattle.ctl_machine.specs.Filling.{AreAmong, AreApart, AreLeft, LeavesSame, AllLeaveSame, is_undone}
+use Rattle.ctl_machine.specs.Noted.{IsNoting, IsUndone, noted_in}
 use Rattle.ctl_machine.specs.Saved.{AreSaved}
 use Rattle.ctl_machine.specs.Spots.{spots_in}
-use Rattle.ctl_machine.specs.Under.{under}
-use Rattle.ctl_machine.specs.Shows.{Wait, master_waits, leaving_waits, creating_waits, copying_waits, assigning_waits, calling_waits, finalizing_waits, filling_waits, initializing_waits, failing_waits, finalizing_own_waits, finalizing_parts_waits, SizedBelow, Kept, Holds}
+use Rattle.ctl_machine.specs.Under.{tall, under}
+use Rattle.ctl_machine.specs.Shows.{Wait, master_waits, leaving_waits, creating_waits, copying_waits, assigning_waits, calling_waits, finalizing_waits, filling_waits, initializing_waits, failing_waits, adjusting_waits, adjusting_own_waits, undoing_waits, undoing_own_waits, undoing_parts_waits, finalizing_own_waits, finalizing_parts_waits, SizedBelow, Kept, Holds}
 use Rattle.ctl_machine.proofs.StillLeft.{left_below}
 
--- a frame of the machine, one of the table, and the part that both wait for
-pub data IsPartFrame (code : Code) : Frame → T.Frame → Spot → Type 0 where
+-- over the same frames, a frame of the machine, one of the table, and the part that both wait for
+pub data IsPartFrame (code : Code) (k : List T.Frame) : Frame → T.Frame → Spot → Type 0 where
   fills : {t n : ℕ} {those unfinished : Left} {x : T.Newborn} {left incomplete : List Begun} {s : Spot}
-      → x.spot ≡ s → x.type ≡ t → x.master ≡ n → AreLeft (begun_of code t) those left → AreLeft (begun_of code t) unfinished incomplete → IsPartFrame code (FrameOf.Filling t n those unfinished) (T.Filling x left incomplete) s
-  initializes : {t n : ℕ} {x : T.Newborn} {s : Spot} → x.spot ≡ s → x.type ≡ t → x.master ≡ n → IsPartFrame code (FrameOf.Initializing t n) (T.Initializing x) s
-  fails : {e : ℕ} {s : Spot} → IsPartFrame code (FrameOf.Failing e) (T.Failing s e) s
-  finalizes_own : {cause : Cause} {t : ℕ} {s : Spot} → IsPartFrame code (FrameOf.FinalizingOwn cause t) (T.FinalizingOwn cause s t) s
+      → x.spot ≡ s → x.type ≡ t → x.master ≡ n → AreLeft (begun_of code t) those left → AreLeft (begun_of code t) unfinished incomplete → IsPartFrame code k (FrameOf.Filling t n those unfinished) (T.Filling x left incomplete) s
+  initializes : {t n : ℕ} {x : T.Newborn} {s : Spot} → x.spot ≡ s → x.type ≡ t → x.master ≡ n → IsPartFrame code k (FrameOf.Initializing t n) (T.Initializing x) s
+  fails : {e : ℕ} {s : Spot} → IsPartFrame code k (FrameOf.Failing e) (T.Failing s e) s
+  adjusts : {creation : Option ℕ} {t : ℕ} {those : Left} {left : List Begun} {s : Spot}
+      → IsNoting creation k → AreLeft (controlled_of code t) those left → IsPartFrame code k (FrameOf.Adjusting creation t those) (T.Adjusting creation s t left) s
+  adjusts_own : {creation : Option ℕ} {t : ℕ} {failed : Bool} {s : Spot} → IsNoting creation k → IsPartFrame code k (FrameOf.AdjustingOwn creation t failed) (T.AdjustingOwn creation s t failed) s
+  undoes_own : {t first : ℕ} {s : Spot} → IsUndone first k → IsPartFrame code k (FrameOf.UndoingOwn t first) (T.UndoingOwn s t) s
+  undoes_parts : {t first : ℕ} {those : Left} {left : List Begun} {s : Spot}
+      → IsUndone first k → AreAmong (controlled_of code t) those (is_undone s k) left → IsPartFrame code k (FrameOf.UndoingParts t those first) (T.UndoingParts s left) s
+  finalizes_own : {cause : Cause} {t : ℕ} {s : Spot} → IsPartFrame code k (FrameOf.FinalizingOwn cause t) (T.FinalizingOwn cause s t) s
   finalizes_parts : {cause : Cause} {t : ℕ} {those : Apart} {failed : Bool} {left : List Begun} {s : Spot}
-      → AreApart (controlled_of code t) those left → IsPartFrame code (FrameOf.FinalizingParts cause t those failed) (T.FinalizingParts cause s left failed) s
+      → AreApart (controlled_of code t) those left → IsPartFrame code k (FrameOf.FinalizingParts cause t those failed) (T.FinalizingParts cause s left failed) s
 
 -- What such a frame adds ------------------------------------------------------------------------------
 
-pub spots_with : (code : Code) {f : Frame} {g : T.Frame} {s : Spot} → IsPartFrame code f g s → (k : List T.Frame) → spots_in (g ∷ k) ≡ spots_in k ++ s ∷ []
-spots_with code (fills is ty m those unfinished) k = ap (λ (x : Spot). spots_in k ++ x ∷ []) is
-spots_with code (initializes is ty m) k = ap (λ (x : Spot). spots_in k ++ x ∷ []) is
-spots_with code fails k = refl
-spots_with code finalizes_own k = refl
-spots_with code (finalizes_parts left) k = refl
+pub spots_with : (code : Code) {f : Frame} {g : T.Frame} {s : Spot} {k : List T.Frame} → IsPartFrame code k f g s → spots_in (g ∷ k) ≡ spots_in k ++ s ∷ []
+spots_with code {k = k} (fills is ty m those unfinished) = ap (λ (x : Spot). spots_in k ++ x ∷ []) is
+spots_with code {k = k} (initializes is ty m) = ap (λ (x : Spot). spots_in k ++ x ∷ []) is
+spots_with code fails = refl
+spots_with code (adjusts noting left) = refl
+spots_with code (adjusts_own noting) = refl
+spots_with code (undoes_own undone) = refl
+spots_with code (undoes_parts undone left) = refl
+spots_with code finalizes_own = refl
+spots_with code (finalizes_parts left) = refl
 
 -- no cell
-cells_with : (code : Code) {f : Frame} {g : T.Frame} {s : Spot} → IsPartFrame code f g s → (k : List T.Frame) (acts : List Activation) → under (g ∷ k) acts ≡ under k acts
-cells_with code (fills is ty m those unfinished) k acts = refl
-cells_with code (initializes is ty m) k acts = refl
-cells_with code fails k acts = refl
-cells_with code finalizes_own k acts = refl
-cells_with code (finalizes_parts left) k acts = refl
+cells_with : (code : Code) {f : Frame} {g : T.Frame} {s : Spot} {k : List T.Frame} → IsPartFrame code k f g s → (acts : List Activation) → under (g ∷ k) acts ≡ under k acts
+cells_with code (fills is ty m those unfinished) acts = refl
+cells_with code (initializes is ty m) acts = refl
+cells_with code fails acts = refl
+cells_with code (adjusts noting left) acts = refl
+cells_with code (adjusts_own noting) acts = refl
+cells_with code (undoes_own undone) acts = refl
+cells_with code (undoes_parts undone left) acts = refl
+cells_with code finalizes_own acts = refl
+cells_with code (finalizes_parts left) acts = refl
 
-saved_with : (code : Code) {f : Frame} {g : T.Frame} {s : Spot} → IsPartFrame code f g s → (saved : List ℕ) (k : List T.Frame) → AreSaved code saved (g ∷ k) ≡ AreSaved code saved k
-saved_with code (fills is ty m those unfinished) saved k = refl
-saved_with code (initializes is ty m) saved k = refl
-saved_with code fails saved k = refl
-saved_with code finalizes_own saved k = refl
-saved_with code (finalizes_parts left) saved k = refl
+pub tall_with : (code : Code) {f : Frame} {g : T.Frame} {s : Spot} {k : List T.Frame} → IsPartFrame code k f g s → (hs : List Head) → tall (g ∷ k) hs ≡ tall k hs
+tall_with code (fills is ty m those unfinished) hs = refl
+tall_with code (initializes is ty m) hs = refl
+tall_with code fails hs = refl
+tall_with code (adjusts noting left) hs = refl
+tall_with code (adjusts_own noting) hs = refl
+tall_with code (undoes_own undone) hs = refl
+tall_with code (undoes_parts undone left) hs = refl
+tall_with code finalizes_own hs = refl
+tall_with code (finalizes_parts left) hs = refl
 
-pub sized_with : (code : Code) {f : Frame} {g : T.Frame} {s : Spot} → IsPartFrame code f g s → (k : List T.Frame) (hs : List Head) → SizedBelow code (g ∷ k) hs ≡ SizedBelow code k hs
-sized_with code (fills is ty m those unfinished) k hs = refl
-sized_with code (initializes is ty m) k hs = refl
-sized_with code fails k hs = refl
-sized_with code finalizes_own k hs = refl
-sized_with code (finalizes_parts left) k hs = refl
+saved_with : (code : Code) {f : Frame} {g : T.Frame} {s : Spot} {k : List T.Frame} → IsPartFrame code k f g s → (saved : List ℕ) → AreSaved code saved (g ∷ k) ≡ AreSaved code saved k
+saved_with code (fills is ty m those unfinished) saved = refl
+saved_with code (initializes is ty m) saved = refl
+saved_with code fails saved = refl
+saved_with code (adjusts noting left) saved = refl
+saved_with code (adjusts_own noting) saved = refl
+saved_with code (undoes_own undone) saved = refl
+saved_with code (undoes_parts undone left) saved = refl
+saved_with code finalizes_own saved = refl
+saved_with code (finalizes_parts left) saved = refl
 
-pub waits_with : (code : Code) {f : Frame} {g : T.Frame} {s : Spot} → IsPartFrame code f g s → (k : List T.Frame) → Waits code (g ∷ k) ≡ Waits code k
-waits_with code (fills is ty m those unfinished) k = refl
-waits_with code (initializes is ty m) k = refl
-waits_with code fails k = refl
-waits_with code finalizes_own k = refl
-waits_with code (finalizes_parts left) k = refl
+pub sized_with : (code : Code) {f : Frame} {g : T.Frame} {s : Spot} {k : List T.Frame} → IsPartFrame code k f g s → (hs : List Head) → SizedBelow code (g ∷ k) hs ≡ SizedBelow code k hs
+sized_with code (fills is ty m those unfinished) hs = refl
+sized_with code (initializes is ty m) hs = refl
+sized_with code fails hs = refl
+sized_with code (adjusts noting left) hs = refl
+sized_with code (adjusts_own noting) hs = refl
+sized_with code (undoes_own undone) hs = refl
+sized_with code (undoes_parts undone left) hs = refl
+sized_with code finalizes_own hs = refl
+sized_with code (finalizes_parts left) hs = refl
 
-pub known_with : (code : Code) {f : Frame} {g : T.Frame} {s : Spot} → IsPartFrame code f g s → (k : List T.Frame) → SpeakOfKnown code (g ∷ k) ≡ SpeakOfKnown code k
-known_with code (fills is ty m those unfinished) k = refl
-known_with code (initializes is ty m) k = refl
-known_with code fails k = refl
-known_with code finalizes_own k = refl
-known_with code (finalizes_parts left) k = refl
+pub waits_with : (code : Code) {f : Frame} {g : T.Frame} {s : Spot} {k : List T.Frame} → IsPartFrame code k f g s → Waits code (g ∷ k) ≡ Waits code k
+waits_with code (fills is ty m those unfinished) = refl
+waits_with code (initializes is ty m) = refl
+waits_with code fails = refl
+waits_with code (adjusts noting left) = refl
+waits_with code (adjusts_own noting) = refl
+waits_with code (undoes_own undone) = refl
+waits_with code (undoes_parts undone left) = refl
+waits_with code finalizes_own = refl
+waits_with code (finalizes_parts left) = refl
 
-leaves_with : (code : Code) {f : Frame} {g : T.Frame} {s : Spot} → IsPartFrame code f g s → LeavesSame code f g
+pub known_with : (code : Code) {f : Frame} {g : T.Frame} {s : Spot} {k : List T.Frame} → IsPartFrame code k f g s → SpeakOfKnown code (g ∷ k) ≡ SpeakOfKnown code k
+known_with code (fills is ty m those unfinished) = refl
+known_with code (initializes is ty m) = refl
+known_with code fails = refl
+known_with code (adjusts noting left) = refl
+known_with code (adjusts_own noting) = refl
+known_with code (undoes_own undone) = refl
+known_with code (undoes_parts undone left) = refl
+known_with code finalizes_own = refl
+known_with code (finalizes_parts left) = refl
+
+-- nothing is noted by it
+noted_with : (code : Code) {f : Frame} {g : T.Frame} {s : Spot} {k : List T.Frame} → IsPartFrame code k f g s → noted_in (g ∷ k) ≡ noted_in k
+noted_with code (fills is ty m those unfinished) = refl
+noted_with code (initializes is ty m) = refl
+noted_with code fails = refl
+noted_with code (adjusts noting left) = refl
+noted_with code (adjusts_own noting) = refl
+noted_with code (undoes_own undone) = refl
+noted_with code (undoes_parts undone left) = refl
+noted_with code finalizes_own = refl
+noted_with code (finalizes_parts left) = refl
+
+leaves_with : (code : Code) {f : Frame} {g : T.Frame} {s : Spot} {k : List T.Frame} → IsPartFrame code k f g s → LeavesSame code f g k
 leaves_with code (fills is ty m those unfinished) = (those, unfinished)
 leaves_with code (initializes is ty m) = tt
 leaves_with code fails = tt
+leaves_with code (adjusts noting left) = (noting, left)
+leaves_with code (adjusts_own noting) = noting
+leaves_with code (undoes_own undone) = undone
+leaves_with code (undoes_parts undone left) = (undone, left)
 leaves_with code finalizes_own = tt
 leaves_with code (finalizes_parts left) = left
 
-on_top : (code : Code) {f : Frame} {g : T.Frame} {s : Spot} {fs : List Frame} {ms : List Master} {hs : List Head} {owned : List Owned} {k : List T.Frame} → IsPartFrame code f g s → Wait fs ms hs owned k → Wait (f ∷ fs) ms hs owned (g ∷ k)
+on_top : (code : Code) {f : Frame} {g : T.Frame} {s : Spot} {fs : List Frame} {ms : List Master} {hs : List Head} {owned : List Owned} {k : List T.Frame} → IsPartFrame code k f g s → Wait fs ms hs owned k → Wait (f ∷ fs) ms hs owned (g ∷ k)
 on_top code (fills is ty m those unfinished) w = filling_waits ty m w
 on_top code (initializes is ty m) w = initializing_waits ty m w
 on_top code fails w = failing_waits w
+on_top code (adjusts noting left) w = adjusting_waits w
+on_top code (adjusts_own noting) w = adjusting_own_waits w
+on_top code (undoes_own undone) w = undoing_own_waits w
+on_top code (undoes_parts undone left) w = undoing_parts_waits w
 on_top code finalizes_own w = finalizing_own_waits w
 on_top code (finalizes_parts left) w = finalizing_parts_waits w
 
@@ -99,10 +161,14 @@ IsNoMaster (FrameOf.InMaster g after) = ⊥
 IsNoMaster (FrameOf.Leaving failed pending after next) = ⊥
 IsNoMaster f = Unit {0}
 
-no_master : (code : Code) {f : Frame} {g : T.Frame} {s : Spot} → IsPartFrame code f g s → IsNoMaster f
+no_master : (code : Code) {f : Frame} {g : T.Frame} {s : Spot} {k : List T.Frame} → IsPartFrame code k f g s → IsNoMaster f
 no_master code (fills is ty m those unfinished) = tt
 no_master code (initializes is ty m) = tt
 no_master code fails = tt
+no_master code (adjusts noting left) = tt
+no_master code (adjusts_own noting) = tt
+no_master code (undoes_own undone) = tt
+no_master code (undoes_parts undone left) = tt
 no_master code finalizes_own = tt
 no_master code (finalizes_parts left) = tt
 
@@ -117,14 +183,19 @@ below_top (failing_waits w) master = w
 below_top (assigning_waits v p d w) master = w
 below_top (calling_waits p d w) master = w
 below_top (finalizing_waits i w) master = w
+below_top (adjusting_waits w) master = w
+below_top (adjusting_own_waits w) master = w
+below_top (undoing_waits w) master = w
+below_top (undoing_own_waits w) master = w
+below_top (undoing_parts_waits w) master = w
 below_top (finalizing_own_waits w) master = w
 below_top (finalizing_parts_waits w) master = w
 
 -- The frame comes -------------------------------------------------------------------------------------
 
-pub part_comes : (code : Code) (e : Kept) (f : Frame) (g : T.Frame) (s : Spot) (k : List T.Frame) (w : World) → IsPartFrame code f g s → Holds code e k [] w → Holds code (record e { control = f ∷ e.control }) (g ∷ k) [] w
+pub part_comes : (code : Code) (e : Kept) (f : Frame) (g : T.Frame) (s : Spot) (k : List T.Frame) (w : World) → IsPartFrame code k f g s → Holds code e k [] w → Holds code (record e { control = f ∷ e.control }) (g ∷ k) [] w
 part_comes code e f g s k w is h = record {
-  cells = (h.cells.0, h.cells.1 ∙ ap (λ (l : List ℕ). (l ++ []) ++ h.cells.0) (sym (cells_with code is k w.activations)));
+  cells = (h.cells.0, h.cells.1 ∙ ap (λ (l : List ℕ). (l ++ []) ++ h.cells.0) (sym (cells_with code is w.activations)));
   room = h.room;
   masters = h.masters;
   below = h.below;
@@ -136,15 +207,16 @@ part_comes code e f g s k w is h = record {
   next_master = h.next_master;
   next_object = h.next_object;
   left = (leaves_with code is, h.left);
-  saved = subst (λ (x : Type 0). x) (sym (saved_with code is e.saved k)) h.saved;
+  saved = subst (λ (x : Type 0). x) (sym (saved_with code is e.saved)) h.saved;
+  noted = h.noted ∙ sym (noted_with code is);
 }
 
 -- The frame goes --------------------------------------------------------------------------------------
 
-pub part_goes : (code : Code) (e : Kept) (f : Frame) (fs : List Frame) (g : T.Frame) (s : Spot) (k : List T.Frame) (ops : List Word) (w : World) → IsPartFrame code f g s → e.control ≡ f ∷ fs → Holds code e (g ∷ k) ops w → Holds code (record e { control = fs }) k [] w
+pub part_goes : (code : Code) (e : Kept) (f : Frame) (fs : List Frame) (g : T.Frame) (s : Spot) (k : List T.Frame) (ops : List Word) (w : World) → IsPartFrame code k f g s → e.control ≡ f ∷ fs → Holds code e (g ∷ k) ops w → Holds code (record e { control = fs }) k [] w
 part_goes code e f fs g s k ops w is top h =
     let hs = heads_of w.activations in
-    let all : e.cells ≡ (under k w.activations ++ reverse (cells_of ops)) ++ h.cells.0 = h.cells.1 ∙ ap (λ (l : List ℕ). (l ++ reverse (cells_of ops)) ++ h.cells.0) (cells_with code is k w.activations) in
+    let all : e.cells ≡ (under k w.activations ++ reverse (cells_of ops)) ++ h.cells.0 = h.cells.1 ∙ ap (λ (l : List ℕ). (l ++ reverse (cells_of ops)) ++ h.cells.0) (cells_with code is w.activations) in
     record {
       cells = (reverse (cells_of ops) ++ h.cells.0, all ∙ (append_assoc (under k w.activations) (reverse (cells_of ops)) h.cells.0 ∙ ap (λ (l : List ℕ). l ++ (reverse (cells_of ops) ++ h.cells.0)) (sym (append-nil (under k w.activations)))));
       room = h.room;
@@ -158,7 +230,8 @@ part_goes code e f fs g s k ops w is top h =
       next_master = h.next_master;
       next_object = h.next_object;
       left = left_below code f fs e.control g k h.left top;
-      saved = subst (λ (x : Type 0). x) (saved_with code is e.saved k) h.saved;
+      saved = subst (λ (x : Type 0). x) (saved_with code is e.saved) h.saved;
+      noted = h.noted ∙ noted_with code is;
     }
 
 -- Which frame it is ------------------------------------------------------------------------------------
@@ -169,7 +242,7 @@ pub record IsOver (code : Code) (f : Frame) (fs : List Frame) (ms : List Master)
   pub waiting : List T.Frame
   pub spot : Spot
   pub is : k ≡ frame ∷ waiting
-  pub part : IsPartFrame code f frame spot
+  pub part : IsPartFrame code waiting f frame spot
 
 pub over_filling : (code : Code) {t n : ℕ} {those unfinished : Left} {fs : List Frame} {ms : List Master} {hs : List Head} {owned : List Owned} {k : List T.Frame} → Wait (FrameOf.Filling t n those unfinished ∷ fs) ms hs owned k → AllLeaveSame code (FrameOf.Filling t n those unfinished ∷ fs) k → IsOver code (FrameOf.Filling t n those unfinished) fs ms hs owned k
 over_filling code (filling_waits {x = x} {left = left} {incomplete = incomplete} {k = k} i j w) h = record { frame = T.Filling x left incomplete; waiting = k; spot = x.spot; is = refl; part = fills refl i j h.0.0 h.0.1 }

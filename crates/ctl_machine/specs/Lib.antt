@@ -22,3 +22,6 @@ pub mod Saved
 pub mod Assigning
 pub mod Handlers
 pub mod Spots
+pub mod Noted
+pub mod Adjusting
+pub mod Undoing

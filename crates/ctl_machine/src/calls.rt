@@ -19,6 +19,7 @@ use ctl_tree::event::Event;
 use std::alloc::AllocError;
 
 /// Makes so many cells, if there are fewer; the new ones are 0.
+#[inline(always)]
 pub(crate) fn make_room(cells: &mut Vec<u64>, wanted: usize) -> Result<(), AllocError>
     ensures ok { OnOk result ((more : List ℕ) × (cells.new.items ≡ cells.old.items ++ more)) }
     ensures long { OnOk result (wanted ≤ length cells.new.items) }
@@ -53,6 +54,7 @@ impl Departure {
 }
 
 /// Puts another frame in place of the newest one.
+#[inline(always)]
 pub(crate) fn replace_top(control: &mut Vec<Frame>, frame: Frame)
     requires { 0 < vec_len control.old }
     ensures items { reverse control.new.items ≡ frame ∷ drop 1 (reverse control.old.items) }
@@ -65,6 +67,7 @@ pub(crate) fn replace_top(control: &mut Vec<Frame>, frame: Frame)
 
 impl Engine {
     /// Answers the cell behind those of the newest master.
+    #[inline(always)]
     pub(crate) fn end_of_newest(&self) -> usize
         requires { first_end (reverse self.now.masters.items) < 2 ^ 64 }
         ensures { result ≡ first_end (reverse self.now.masters.items) }
@@ -87,7 +90,7 @@ impl Engine {
             match self.control[count] {
                 Frame::InMaster(..) | Frame::Leaving { .. } => return self.end_of_newest(),
                 Frame::Creating { place, .. }
-                | Frame::Copying { place }
+                | Frame::Copying { place, .. }
                 | Frame::Assigning { place, .. }
                 | Frame::Calling { place } => {
                     return self.window() + code.kinds.height_at(place, 0);
@@ -110,6 +113,7 @@ impl Engine {
 
     /// Answers the master that a body of this level is declared in, where the newest of so many masters sees it: it is the newest of so
     /// many.
+    #[inline(always)]
     pub(crate) fn around_from(&self, newest: usize, level: usize) -> usize
         ghost hs: { List Head }
         requires linked { AreLinked self.now.masters.items hs }
@@ -129,6 +133,7 @@ impl Engine {
     }
 
     /// Answers how many masters a place in the newest of so many sees.
+    #[inline(always)]
     pub(crate) fn depth_at(&self, count: usize) -> usize
         ghost hs: { List Head }
         requires linked { AreLinked self.now.masters.items hs }
@@ -144,6 +149,7 @@ impl Engine {
 
     /// Makes room for a body whose window begins with this cell and has so many, for what is shown of its call, and for so many formals;
     /// nothing else changes.
+    #[inline(always)]
     pub(crate) fn prepare(
         &mut self,
         base: usize,
@@ -164,6 +170,7 @@ impl Engine {
         ensures parts { self.new.parts ≡ self.old.parts }
         ensures saved { self.new.saved ≡ self.old.saved }
         ensures spots { self.new.spots ≡ self.old.spots }
+        ensures noted { self.new.noted ≡ self.old.noted }
         ensures frames { vec_capacity self.old.control ≤ vec_capacity self.new.control }
         ensures choices { self.new.picks ≡ self.old.picks }
     {
@@ -177,6 +184,7 @@ impl Engine {
 
     /// Enters the master of an operation's body, whose first slot is the formal that stands for this part; there is room for it, and its
     /// cells are cleared. Goes on at this place.
+    #[inline(always)]
     pub(crate) fn open_for(&mut self, master: Master, spot: Spot, place: usize)
         requires masters { vec_len self.old.masters < vec_capacity self.old.masters }
         requires control { vec_len self.old.control < vec_capacity self.old.control }
@@ -192,6 +200,7 @@ impl Engine {
     /// Calls a body that the user wrote, with what is shown of the call, for a part of the owned object at this place, whichever active
     /// master owns it: the body is entered inside the masters around it that the object's master sees (RM 7.6). Its window begins with
     /// this cell, and there is room for it.
+    #[inline(always)]
     pub(crate) fn call_operation(
         &mut self,
         code: &Code,

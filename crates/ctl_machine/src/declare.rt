@@ -1,25 +1,28 @@
 //! Objects of record types are declared (RM 3.3.1).
 
 ghost use Rattle.std.specs.Prelude.{◌≡◌, ◌+◌, ◌-◌, ◌^◌, ◌<◌, ◌≤◌, [], ◌++◌, OnErr, OnOk, Some, length, vec_capacity, vec_len};
+ghost use Rattle.ctl_meaning.specs.Lists.{last_of};
 ghost use Rattle.ctl_code.specs.declared.code.Instr.TheVariants as InstrOf;
 ghost use Rattle.ctl_code.specs.Table as Table;
 ghost use Rattle.ctl_code.specs.States.{State};
 ghost use Rattle.ctl_code.specs.Valid.{IsValid};
 ghost use Rattle.ctl_machine.specs.Moves.{Before, GoesOn, Makes, here_of};
 ghost use Rattle.ctl_machine.specs.Shows.{kept};
-ghost use Rattle.ctl_machine.specs.Declaring.{with_row};
+ghost use Rattle.ctl_machine.specs.Declaring.{Copied, IsCopied, with_row};
 
+use crate::adjusting::controlled_left;
 use crate::engine::Engine;
 use crate::frame::{Ended, Frame, Life, Master, Mode, Owned};
 use crate::holders::find;
-use crate::parts::{add_copy, add_zeros, size_of};
+use crate::parts::{add_copy, add_zeros, parts_of, size_of};
 use crate::spots::Spot;
-use ctl_code::code::{Beginning, Code};
+use ctl_code::code::{Code, Parts};
 use ctl_tree::ending::Stop;
 use std::alloc::AllocError;
 
 impl Engine {
     /// Reserves room for an object of so many cells, for the frames that wait for it, and for the part that it is; nothing else changes.
+    #[inline(always)]
     fn reserve_object(&mut self, size: usize) -> Result<(), AllocError>
         ensures same { GoesOn self.old self.new self.old.mode self.old.cells.items }
         ensures owned { OnOk result (vec_len self.new.owned < vec_capacity self.new.owned) }
@@ -37,6 +40,7 @@ impl Engine {
 
     /// Creates an object of the newest master with so many cells, for which there is room and which are still to be added, and clears the
     /// cell of its slot (RM 3.3.1).
+    #[inline(always)]
     fn create(&mut self, newest: Master, slot: usize, record: usize, size: usize)
         requires room { vec_len self.old.owned < vec_capacity self.old.owned }
         requires number { self.old.given_objects + 1 < 2 ^ 64 }
@@ -89,18 +93,40 @@ impl Engine {
         self.reserve_object(size)?;
         self.create(newest, slot, record, size);
         add_zeros(&mut self.parts, size);
-        let how = Beginning::ByDefault;
-        self.control.push_reserved(Frame::Creating {
-            how,
-            place: place + 1,
-        });
+        self.control
+            .push_reserved(Frame::Creating { place: place + 1 });
         let spot = Spot::whole(self.alloc, self.given_objects);
         self.begin_part(code, spot, record, newest.number);
         Ok(())
     }
 
+    /// Lets the newest owned object, of a record type, which has taken a value, be adjusted, for which there is room (RM 7.6); its
+    /// declaration goes on at this place. Where no part of it is controlled, it is a layer of its master at once (RM 7.6.1).
+    fn adjust_new(&mut self, code: &Code, record: usize, master: u64, place: usize)
+        ghost t: { Copied }
+        requires copied { IsCopied code.now self.old «record» place t }
+        requires master { master ≡ last_of t.point.display }
+        requires control { vec_len self.old.control + 2 ≤ vec_capacity self.old.control }
+        requires spots { vec_len self.old.spots < vec_capacity self.old.spots }
+        ensures { Makes code.now self.old self.new (Table.adjust_new code.now (Table.parts_of code.now «record») t.number «record» t.point t.control t.world) }
+    {
+        if let Parts::Plain = parts_of(code, record) {
+            return self.become_layer(place);
+        }
+        let first = self.count_noted();
+        self.control.push_reserved(Frame::Copying { place, first });
+        self.control.push_reserved(Frame::Adjusting {
+            creation: Some(master),
+            record,
+            left: controlled_left(code, record),
+        });
+        let whole = Spot::whole(self.alloc, self.given_objects);
+        self.spots.push_reserved(whole);
+        self.mode = Mode::Giving(Ended::Complete);
+    }
+
     /// Declares an object of a record type with the value of the part that is the newest operand (RM 3.3.1): it is created and takes the
-    /// value, and its Adjust is to come (RM 7.6). Where there is no such object, the program is erroneous (RM 13.11.2). Unchanged where
+    /// value, and is to be adjusted (RM 7.6). Where there is no such object, the program is erroneous (RM 13.11.2). Unchanged where
     /// memory is refused.
     #[inline(never)]
     pub(crate) fn declare_copy(
@@ -132,9 +158,7 @@ impl Engine {
         self.create(newest, slot, record, size);
         add_copy(&mut self.parts, &source, start, size);
         let _ = self.spots.take_last();
-        self.control
-            .push_reserved(Frame::Copying { place: place + 1 });
-        self.mode = Mode::Giving(Ended::Complete);
+        self.adjust_new(code, record, newest.number, place + 1);
         Ok(())
     }
 }

@@ -30,7 +30,7 @@ use crate::filling::{all_controlled, note_pick};
 use crate::frame::{Apart, Ended, Frame, Life, Mode};
 use crate::holders::find;
 use crate::layers::{PROGRAM_ERROR, fails_with, finalize_of};
-use crate::parts::parts_of;
+use crate::parts::{controlled_at, parts_of};
 use crate::spots::Spot;
 use ctl_code::code::{Begun, Code, Entry, Initial, Parts};
 use ctl_tree::ending::Stop;
@@ -47,8 +47,8 @@ pub struct Finalization {
     pub base: usize,
 }
 
-/// A part that is to be finalized, three times: for the frame that waits for it, for the formal of its Finalize, and for what is shown of
-/// the call. All are made before anything changes.
+/// A part that is to be finalized or adjusted, three times: for the frame that waits for it, for the formal of its Finalize or Adjust, and
+/// for what is shown of the call. All are made before anything changes.
 #[derive(Drop)]
 pub struct Doubles {
     pub spot: Spot,
@@ -140,29 +140,19 @@ impl Apart {
     }
 }
 
-/// Answers the component at a place among those of a record type with a controlled part.
-fn controlled_at(code: &Code, record: usize, at: usize) -> Begun
-    requires { at < length (Table.controlled_of code.now «record») }
-    ensures { slice_get (Table.controlled_of code.now «record») at ≡ Some result }
-{
-    match code.layouts.as_slice().get(record) {
-        Some(layout) => layout.controlled[at],
-        None => unreachable!(),
-    }
-}
-
-/// Answers what a finalization hands on that failed, or did not (RM 7.6.1).
-fn handed(failed: bool) -> Ended
+/// Answers what the finalization or the adjustment of a part hands on in which an operation failed, or none did (RM 7.6.1).
+pub(crate) fn handed(failed: bool) -> Ended
     ensures { Shows.tried_of result ≡ Fine (Table.handed failed) }
 {
     if failed {
-        Ended::FinalizationFailed
+        Ended::OperationFailed
     } else {
         Ended::Complete
     }
 }
 
 /// Makes a part three times.
+#[inline(always)]
 pub(crate) fn doubled(alloc: Global, spot: Spot) -> Result<Doubles, AllocError>
     ensures { IfOk result (λ doubles. AreDoubles doubles spot) }
 {
@@ -179,6 +169,8 @@ impl Engine {
         ensures kept { kept self.new ≡ with_owned self.new.owned.items (kept self.old) }
         ensures control { self.new.control ≡ self.old.control }
         ensures spots { self.new.spots ≡ self.old.spots }
+        ensures others { (self.new.masters ≡ self.old.masters) × (self.new.formals ≡ self.old.formals) }
+        ensures given { self.new.given_masters ≡ self.old.given_masters }
         ensures events { self.new.events ≡ self.old.events }
         ensures picks { self.new.picks ≡ self.old.picks }
     {
@@ -194,6 +186,7 @@ impl Engine {
         requires rising { (bound : ℕ) × RiseBelow 1 self.old.owned.items bound }
         ensures holds { (code : Code) (k : List T.Frame) (ops : List Word) (w : World) → Holds code (kept self.old) k ops w → Holds code (kept self.new) k ops (if S.is_whole spot.now then Changes.end_finalization spot.now.object w else w) }
         ensures kept { kept self.new ≡ with_owned self.new.owned.items (kept self.old) }
+        ensures stacks { (self.new.control ≡ self.old.control) × (self.new.noted ≡ self.old.noted) }
         ensures events { self.new.events ≡ self.old.events }
         ensures picks { self.new.picks ≡ self.old.picks }
     {
@@ -207,8 +200,9 @@ impl Engine {
         self.owned[at].life = life.ended();
     }
 
-    /// Makes room for the finalization of a part: for its frames and the part that they wait for, and for the call of a body whose window
-    /// begins there; nothing else changes.
+    /// Makes room for the finalization or the adjustment of a part: for its frames and the part that they wait for, for the call of a body
+    /// whose window begins there, and to note the part; nothing else changes.
+    #[inline(always)]
     pub(crate) fn prepare_finalization(
         &mut self,
         code: &Code,
@@ -225,14 +219,17 @@ impl Engine {
         ensures owned { self.new.owned ≡ self.old.owned }
         ensures parts { self.new.parts ≡ self.old.parts }
         ensures saved { self.new.saved ≡ self.old.saved }
+        ensures notes { OnOk result (vec_len self.new.noted < vec_capacity self.new.noted) }
     {
         self.spots.reserve(1)?;
         self.control.reserve(3)?;
+        self.noted.reserve(1)?;
         self.prepare(base, code.room, 1)
     }
 
     /// Lets the components of a part wait that are to be finalized, where a finalization in the part failed or did not; where it has none,
     /// the part is finalized (RM 7.6.1). There is room for the frame.
+    #[inline(always)]
     fn finalize_components(
         &mut self,
         code: &Code,
@@ -264,6 +261,7 @@ impl Engine {
 
     /// Calls the Finalize of a part, which the user wrote for its type with this body, by the place of its object among the owned ones
     /// (RM 7.6.1); there is room.
+    #[inline(always)]
     fn call_finalize(
         &mut self,
         code: &Code,
@@ -293,6 +291,7 @@ impl Engine {
 
     /// Finalizes a controlled part: by its own Finalize, where the user wrote one for its type, and then its components (RM 7.6.1). Where its
     /// object is not there, the program is erroneous (RM 13.11.2). There is room.
+    #[inline(always)]
     fn finalize_own(&mut self, code: &Code, finalization: Finalization, doubles: Doubles)
         ghost t: { Finished }
         requires valid { IsValid code.now }
@@ -319,6 +318,7 @@ impl Engine {
     }
 
     /// Finalizes a part: first the part itself, if it is controlled, and then its components (RM 7.6.1); there is room.
+    #[inline(always)]
     pub(crate) fn finalize_part(
         &mut self,
         code: &Code,
@@ -381,7 +381,7 @@ impl Engine {
     }
 
     /// Copies a component of the newest part, three times.
-    fn double_component(&self, component: &Begun) -> Result<Doubles, AllocError>
+    pub(crate) fn double_component(&self, component: &Begun) -> Result<Doubles, AllocError>
         requires { 0 < length self.now.spots.items }
         ensures { IfOk result (λ doubles. (s : S.Spot) × (slice_get self.now.spots.items (length self.now.spots.items - 1) ≡ Some s) × AreDoubles doubles (Table.component_of s component.now.offset component.now.position)) }
     {

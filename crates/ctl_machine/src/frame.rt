@@ -1,7 +1,7 @@
 //! Where the machine is, what waits on the control stack, the active masters, and the objects that they own.
 
 use crate::spots::Spot;
-use ctl_code::code::{Beginning, Way};
+use ctl_code::code::Way;
 use ctl_tree::ending::Stop;
 use ctl_tree::event::Cause;
 
@@ -12,11 +12,12 @@ pub enum Completion {
     Transferred(Way),
 }
 
-/// How a body or a finalization has ended: complete, where perhaps a finalization in it failed, or by an exception.
+/// How a body has ended, or the finalization or the adjustment of a part: complete, where perhaps an operation in it failed, or by an
+/// exception.
 #[derive(Clone, Copy)]
 pub enum Ended {
     Complete,
-    FinalizationFailed,
+    OperationFailed,
     Raised(usize),
 }
 
@@ -69,14 +70,15 @@ pub enum Frame {
         after: After,
         next: usize,
     },
-    /// the newest owned object begins so, and the place where its declaration goes on (RM 3.3.1)
+    /// the creation of the newest owned object is under way, or failed, and the place where its declaration goes on (RM 3.3.1)
     Creating {
-        how: Beginning,
         place: usize,
     },
-    /// the newest owned object has taken a value and is to be adjusted, and the place where its declaration goes on (RM 3.3.1, 7.6)
+    /// the newest owned object has taken a value and is adjusted: those of its parts that are adjusted are noted from `first` on; and the
+    /// place where its declaration goes on (RM 3.3.1, 7.6)
     Copying {
         place: usize,
+        first: usize,
     },
     /// the newest part among those of the engine, of a record type, is created for an object of this master: of the components of its type
     /// that begin with something, those that are left, and those that are not complete (RM 3.8, 7.6)
@@ -95,12 +97,43 @@ pub enum Frame {
     Failing {
         exception: usize,
     },
-    /// the newest part among those of the engine, of a record type, is assigned to, under Finalize where its value is saved, else under
-    /// Adjust, and the place where the assignment goes on (RM 5.2, 7.6)
+    /// the newest part among those of the engine, of a record type, is assigned to: it is finalized where its value is saved, else it is
+    /// adjusted; and the place where the assignment goes on (RM 5.2, 7.6)
     Assigning {
         record: usize,
         value: Value,
         place: usize,
+    },
+    /// the components of the newest part that are still to be adjusted before it, of those of its record type with a controlled part, and
+    /// the master whose object is created by a copy, if one is (RM 7.6)
+    Adjusting {
+        creation: Option<u64>,
+        record: usize,
+        left: Left,
+    },
+    /// the Adjust of the newest part, of a record type, whether an Adjust before it failed, and the master whose object is created by a
+    /// copy, if one is (RM 7.6)
+    AdjustingOwn {
+        creation: Option<u64>,
+        record: usize,
+        failed: bool,
+    },
+    /// an Adjust of the newest owned object failed, and its parts that are noted from `first` on are finalized, which are adjusted
+    /// (RM 7.6.1)
+    Undoing {
+        first: usize,
+    },
+    /// the Finalize of the newest part, of a record type, which is one of those that are noted from `first` on (RM 7.6.1)
+    UndoingOwn {
+        record: usize,
+        first: usize,
+    },
+    /// the components of the newest part that are still to be finalized, of those of its record type with a controlled part: the ones that
+    /// are noted from `first` on, or have a part that is (RM 7.6.1)
+    UndoingParts {
+        record: usize,
+        left: Left,
+        first: usize,
     },
     /// a procedure that was called, and the place where its call goes on (RM 6.4)
     Calling {

@@ -51,11 +51,18 @@ pub(crate) fn holder(
 }
 
 /// Finds the owned object of this number; the numbers rise.
+#[inline(always)]
 pub(crate) fn find(owned: &[Owned], number: u64) -> Option<usize>
     requires { (bound : ℕ) × RiseBelow 1 owned.now bound }
     ensures some { IfSome result (λ at. (o : Owned) × (slice_get owned.now at ≡ Some o) × (o.number ≡ number)) }
     ensures none { IsNone result → Lacks number owned.now }
 {
+    // What is created or finalized is most often the newest object.
+    if let [.., newest] = owned {
+        if newest.number == number {
+            return Some(owned.len() - 1);
+        }
+    }
     let mut low = 0;
     let mut high = owned.len();
     while low < high {
@@ -75,9 +82,16 @@ pub(crate) fn find(owned: &[Owned], number: u64) -> Option<usize>
 
 /// Answers the master that owns the object at this place, as the newest of so many masters, the outermost first: what a master owns was
 /// declared after it was entered.
+#[inline(always)]
 pub(crate) fn owner_of(masters: &[Master], at: usize) -> usize
     ensures { IsOwnerOf masters.now at result }
 {
+    // Most often it is the newest master.
+    if let [.., newest] = masters {
+        if newest.owned <= at {
+            return masters.len();
+        }
+    }
     let mut low = 0;
     let mut high = masters.len();
     while low < high {

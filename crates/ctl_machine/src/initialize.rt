@@ -35,7 +35,7 @@ fn initialize_of(code: &Code, record: usize) -> Option<Entry>
 }
 
 /// Answers the number of the body that the user wrote for the Finalize of a record type, if there is one (RM 7.6).
-fn finalize_in(code: &Code, record: usize) -> Option<usize>
+pub(crate) fn finalize_in(code: &Code, record: usize) -> Option<usize>
     ensures { result ≡ Table.operation_of (λ x. x.finalize) code.now «record» }
 {
     code.records.as_slice().get(record)?.finalize
@@ -43,6 +43,7 @@ fn finalize_in(code: &Code, record: usize) -> Option<usize>
 
 impl Engine {
     /// Takes the frame of the newest part off, with the part, and goes on so.
+    #[inline(always)]
     fn end_part(&mut self, mode: Mode)
         requires control { 0 < vec_len self.old.control }
         requires spots { 0 < vec_len self.old.spots }
@@ -58,6 +59,7 @@ impl Engine {
 
     /// Notes that the creation of the newest part is complete, which is shown where the user wrote a Finalize for its type (RM 7.6);
     /// unchanged where memory is refused.
+    #[inline(always)]
     fn complete(&mut self, code: &Code, creation: Creation) -> Result<(), AllocError>
         ghost t: { Grown }
         requires grows { Grows code.now self.old creation.record_type creation.master t }

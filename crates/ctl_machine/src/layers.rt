@@ -39,7 +39,7 @@ fn remembered(ended: Ended) -> Ended
     ensures { Shows.tried_of result ≡ Fine (Table.finalized (Shows.tried_of ended)) }
 {
     match ended {
-        Ended::Raised(_) => Ended::FinalizationFailed,
+        Ended::Raised(_) => Ended::OperationFailed,
         other => other,
     }
 }
@@ -58,7 +58,7 @@ impl Departure {
     }
 }
 
-/// Tells whether a finalization has failed in what has ended so (RM 7.6.1).
+/// Tells whether an operation has failed in what has ended so (RM 7.6.1).
 pub(crate) fn says_failed(ended: Ended) -> bool
     ensures { result ≡ Table.says_failed (Shows.tried_of ended) }
 {
@@ -127,6 +127,7 @@ impl Engine {
         ensures cells { self.new.cells ≡ self.old.cells }
         ensures parts { self.new.parts ≡ self.old.parts }
         ensures saved { self.new.saved ≡ self.old.saved }
+        ensures noted { self.new.noted ≡ self.old.noted }
         ensures formals { self.new.formals ≡ self.old.formals }
         ensures spots { self.new.spots ≡ self.old.spots }
         ensures numbers { (self.new.given_masters ≡ self.old.given_masters) × (self.new.given_objects ≡ self.old.given_objects) }

@@ -1,6 +1,7 @@
 //! The machine that runs the code over windows of cells, a step at a time.
 #![tactic(auto)]
 
+mod adjusting;
 mod advance;
 mod assign;
 mod begin;
@@ -32,5 +33,6 @@ mod spots;
 mod start;
 mod step;
 mod stretch;
+mod undoing;
 mod variables;
 mod window;

@@ -12,6 +12,7 @@ use crate::frame::Owned;
 use ctl_code::code::{Begun, Code, Parts};
 
 /// Answers how many cells an object of a record type has; none where the code knows no such type.
+#[inline(always)]
 pub(crate) fn size_of(code: &Code, record: usize) -> usize
     ensures { result ≡ Table.size_of code.now «record» }
 {
@@ -22,6 +23,7 @@ pub(crate) fn size_of(code: &Code, record: usize) -> usize
 }
 
 /// Answers whether some part of the objects of a record type is controlled (RM 7.6.1); none where the code knows no such type.
+#[inline(always)]
 pub(crate) fn parts_of(code: &Code, record: usize) -> Parts
     ensures { result ≡ Table.parts_of code.now «record» }
 {
@@ -60,6 +62,17 @@ pub(crate) fn count_controlled(code: &Code, record: usize) -> usize
     match code.layouts.as_slice().get(record) {
         Some(layout) => layout.controlled.as_slice().len(),
         None => 0,
+    }
+}
+
+/// Answers the component at a place among those of a record type with a controlled part.
+pub(crate) fn controlled_at(code: &Code, record: usize, at: usize) -> Begun
+    requires { at < length (Table.controlled_of code.now «record») }
+    ensures { slice_get (Table.controlled_of code.now «record») at ≡ Some result }
+{
+    match code.layouts.as_slice().get(record) {
+        Some(layout) => layout.controlled[at],
+        None => unreachable!(),
     }
 }
 

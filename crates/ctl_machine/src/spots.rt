@@ -2,7 +2,7 @@
 
 ghost use Rattle.std.specs.Prelude.{◌≡◌, ◌+◌, ◌++◌, [], ◌∷◌, IfOk, OnErr, OnOk};
 ghost use Rattle.ctl_code.specs.Table as Table;
-ghost use Rattle.ctl_meaning.specs.Lists.{same_list};
+ghost use Rattle.ctl_meaning.specs.Lists.{begins, same_list};
 ghost use Rattle.ctl_meaning.specs.Finalization.{is_whole};
 ghost use Rattle.ctl_machine.specs.Spots.{whole_spot};
 
@@ -18,7 +18,7 @@ use std::marker::Model;
 pub struct Spot {
     object: u64,
     offset: usize,
-    path: Path,
+    path: Vec<u64>,
 }
 
 impl Model for Spot {
@@ -26,18 +26,19 @@ impl Model for Spot {
 
     ghost Value = { F.Spot };
 
-    ghost view = { λ s. record { object = s.object; offset = s.offset; path = s.path } };
+    ghost view = { λ s. record { object = s.object; offset = s.offset; path = s.path.items } };
 }
 
 impl Spot {
     /// Answers the whole of an object.
+    #[inline(always)]
     pub(crate) fn whole(alloc: Global, object: u64) -> Spot
         ensures { result ≡ whole_spot object }
     {
         Spot {
             object,
             offset: 0,
-            path: Path::new(alloc),
+            path: Vec::new(alloc),
         }
     }
 
@@ -56,13 +57,14 @@ impl Spot {
     }
 
     /// Answers a copy.
+    #[inline(always)]
     pub(crate) fn copied(&self, alloc: Global) -> Result<Spot, AllocError>
         ensures { IfOk result (λ s. s ≡ self.now) }
     {
         Ok(Spot {
             object: self.object,
             offset: self.offset,
-            path: Path::from_slice(alloc, self.path.as_slice())?,
+            path: copied_path(alloc, self.path.as_slice())?,
         })
     }
 
@@ -75,12 +77,13 @@ impl Spot {
     }
 
     /// Answers the part as what is shown names it.
+    #[inline(always)]
     pub(crate) fn part(&self, alloc: Global) -> Result<Part, AllocError>
         ensures { IfOk result (λ p. p ≡ Table.part_at self.now) }
     {
         Ok(Part {
             object: self.object,
-            path: Path::from_slice(alloc, self.path.as_slice())?,
+            path: shown_path(alloc, self.path.as_slice())?,
         })
     }
 
@@ -101,6 +104,42 @@ impl Spot {
     {
         self.object == other.object && is_same_path(self.path.as_slice(), other.path.as_slice())
     }
+
+    /// Tells whether it has the same way to it as another part, of the same object.
+    pub(crate) fn has_path_of(&self, other: &Spot) -> bool
+        ensures { result ≡ same_list other.now.path self.now.path }
+    {
+        is_same_path(other.path.as_slice(), self.path.as_slice())
+    }
+
+    /// Tells whether it is the component at this position of a part of the same object, or lies in that component.
+    pub(crate) fn lies_in(&self, whole: &Spot, position: usize) -> bool
+        ensures { result ≡ begins (whole.now.path ++ position ∷ []) self.now.path }
+    {
+        lies_below(self.path.as_slice(), whole.path.as_slice(), position as u64)
+    }
+}
+
+/// Copies the path of a part; that of a whole object asks for no memory.
+#[inline(always)]
+fn copied_path(alloc: Global, path: &[u64]) -> Result<Vec<u64>, AllocError>
+    ensures { IfOk result (λ copy. copy.items ≡ path.now) }
+{
+    if path.is_empty() {
+        return Ok(Vec::new(alloc));
+    }
+    Vec::from_slice(alloc, path)
+}
+
+/// Copies the path of a part for what is shown of it; that of a whole object is made at once, which most are.
+#[inline(always)]
+fn shown_path(alloc: Global, path: &[u64]) -> Result<Path, AllocError>
+    ensures { IfOk result (λ copy. copy ≡ path.now) }
+{
+    if path.is_empty() {
+        return Ok(Path::new(alloc));
+    }
+    Path::from_slice(alloc, path)
 }
 
 /// Tells whether two paths are the same.
@@ -116,4 +155,30 @@ fn is_same_path(path: &[u64], other: &[u64]) -> bool
         }
     }
     true
+}
+
+/// Tells whether a path begins with another one.
+fn begins_with(path: &[u64], beginning: &[u64]) -> bool
+    ensures { result ≡ begins beginning.now path.now }
+{
+    if path.len() < beginning.len() {
+        return false;
+    }
+    for at in 0..beginning.len() {
+        if path[at] != beginning[at] {
+            return false;
+        }
+    }
+    true
+}
+
+/// Tells whether a path begins with another one, and then this position.
+fn lies_below(path: &[u64], whole: &[u64], position: u64) -> bool
+    ensures { result ≡ begins (whole.now ++ position ∷ []) path.now }
+{
+    let depth = whole.len();
+    if path.len() <= depth {
+        return false;
+    }
+    position == path[depth] && begins_with(path, whole)
 }

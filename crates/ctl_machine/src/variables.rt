@@ -7,6 +7,7 @@ ghost use Rattle.ctl_code.specs.Table as Table;
 ghost use Rattle.ctl_code.specs.States.{State};
 ghost use Rattle.ctl_code.specs.Valid.{IsValid};
 ghost use Rattle.ctl_machine.specs.declared.frame.Master.{Master};
+ghost use Rattle.ctl_machine.specs.declared.frame.Mode.TheVariants as ModeOf;
 ghost use Rattle.ctl_machine.specs.Instructions.{Reaches};
 ghost use Rattle.ctl_machine.specs.Links.{AreLinked};
 ghost use Rattle.ctl_machine.specs.Masters.{Head, first_display, heads_of};
@@ -74,7 +75,9 @@ impl Engine {
         requires valid { IsValid code.now }
         requires before { (ty : Ty) × Before code.now self.old place (InstrOf.Fetch out slot ty to.now) s }
         requires place { place + 1 < 2 ^ 64 }
-        ensures { (ty : Ty) → Makes code.now self.old self.new (Table.by_instr code.now (Some (InstrOf.Fetch out slot ty to.now)) s.operands (here_of place s)) }
+        ensures mode { self.new.mode ≡ ModeOf.At (place + 1) }
+        ensures masters { reverse self.new.masters.items ≡ reverse self.old.masters.items }
+        ensures makes { (ty : Ty) → Makes code.now self.old self.new (Table.by_instr code.now (Some (InstrOf.Fetch out slot ty to.now)) s.operands (here_of place s)) }
     {
         let value = self.read_variable(code, out, slot);
         self.put(value, to, place);
@@ -102,7 +105,9 @@ impl Engine {
         requires valid { IsValid code.now }
         requires before { (ty : Ty) × Before code.now self.old place (InstrOf.Store from.now ty out slot) s }
         requires place { place + 1 < 2 ^ 64 }
-        ensures { (ty : Ty) → Makes code.now self.old self.new (Table.by_instr code.now (Some (InstrOf.Store from.now ty out slot)) s.operands (here_of place s)) }
+        ensures mode { self.new.mode ≡ ModeOf.At (place + 1) }
+        ensures masters { reverse self.new.masters.items ≡ reverse self.old.masters.items }
+        ensures makes { (ty : Ty) → Makes code.now self.old self.new (Table.by_instr code.now (Some (InstrOf.Store from.now ty out slot)) s.operands (here_of place s)) }
     {
         let value = self.take(from);
         match self.variable(code, out, slot) {
@@ -122,7 +127,9 @@ impl Engine {
         requires before { Before code.now self.old place instr.now s }
         requires reaches { Reaches instr.now }
         requires place { place + 1 < 2 ^ 64 }
-        ensures { Makes code.now self.old self.new (Table.by_instr code.now (Some instr.now) s.operands (here_of place s)) }
+        ensures mode { self.new.mode ≡ ModeOf.At (place + 1) }
+        ensures masters { reverse self.new.masters.items ≡ reverse self.old.masters.items }
+        ensures makes { Makes code.now self.old self.new (Table.by_instr code.now (Some instr.now) s.operands (here_of place s)) }
     {
         match instr {
             Instr::Fetch { out, slot, to, .. } => self.fetch(code, *out, *slot, to, place),

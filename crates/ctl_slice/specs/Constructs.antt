@@ -1,5 +1,5 @@
 -- Which items and statements by themselves this version runs.
-use Rattle.std.specs.Prelude.{Bool, true, false, ◌&&◌, ◌||◌, List, [], ◌∷◌, codes, is_none, is_some, Option, Some, None, if◌then◌else◌}
+use Rattle.std.specs.Prelude.{Bool, true, false, ◌&&◌, ◌||◌, List, [], ◌∷◌, codes, is_none, Option, Some, None, if◌then◌else◌}
 use Rattle.ctl_grammar.specs.Spelling.{same_name}
 use Rattle.ctl_syntax.specs.declared.denoted.Definition.{Definition}
 use Rattle.ctl_syntax.specs.declared.denoted.Denoted.{Denoted}
@@ -19,7 +19,7 @@ use Rattle.ctl_syntax.specs.declared.item.Objects.{Objects}
 use Rattle.ctl_syntax.specs.declared.item.Specification.{Specification}
 use Rattle.ctl_syntax.specs.declared.name.Name.{Name}
 use Rattle.ctl_slice.specs.declared.construct.Support.{Support}
-use Rattle.ctl_slice.specs.declared.construct.Support.TheVariants.{Run, ByTypes, LeftOut}
+use Rattle.ctl_slice.specs.declared.construct.Support.TheVariants.{Run, LeftOut}
 
 abbrev pub support_when : Bool → Support
 support_when is_run = if is_run then Run else LeftOut
@@ -103,17 +103,13 @@ of_type (Record limitation components) = support_when (may_all_be_components com
 of_type (Extension parent added) = support_when (may_be_extended parent.first.denoted && may_all_be_components added)
 of_type d = LeftOut
 
--- where there are discriminants, objects of a type of the text are not run; where they have a value, it is that type that tells
-abbrev pub of_text_objects : Bool → Bool → Support
-of_text_objects bare valued = if bare then (if valued then ByTypes else Run) else LeftOut
-
--- objects of this type, with these discriminants, and with a value or without: of a type of the text, and of a scalar one (3.3.1)
-abbrev pub of_objects_as : Denoted → List (Association Use) → Bool → Support
-of_objects_as (Declared number level) discriminants valued = of_text_objects (is_empty discriminants) valued
-of_objects_as d discriminants valued = support_when (is_scalar d)
+-- objects of this type, with these discriminants: of a type of the text without any, and of a scalar one (3.3.1)
+abbrev pub are_objects_run : Denoted → List (Association Use) → Bool
+are_objects_run (Declared number level) discriminants = is_empty discriminants
+are_objects_run d discriminants = is_scalar d
 
 abbrev pub of_objects : Objects Definition Use → Support
-of_objects o = of_objects_as o.mark.first.denoted o.discriminants (is_some o.value)
+of_objects o = support_when (are_objects_run o.mark.first.denoted o.discriminants)
 
 -- calls of Put, Put_Line and New_Line (A.10.7)
 abbrev pub is_output : Denoted → Bool

@@ -13,9 +13,7 @@ use Rattle.ctl_syntax.specs.declared.item.Statement.{Statement, fold-Statement}
 use Rattle.ctl_syntax.specs.declared.item.Statement.TheOpen.{Statement-F}
 use Rattle.ctl_syntax.specs.declared.item.Tree.{Tree}
 use Rattle.ctl_slice.specs.declared.construct.Support.{Support}
-use Rattle.ctl_slice.specs.declared.construct.Support.TheVariants.{Run, ByTypes, LeftOut}
-use Rattle.ctl_slice.specs.declared.walk.Sought.{Sought}
-use Rattle.ctl_slice.specs.declared.walk.Sought.TheVariants.{Certain, Possible}
+use Rattle.ctl_slice.specs.declared.construct.Support.TheVariants.{Run, LeftOut}
 use Rattle.ctl_slice.specs.Constructs.{of_heading, of_type, of_objects, of_call}
 
 -- a place that may be there
@@ -35,27 +33,25 @@ abbrev pub first_of : List Place → Place
 first_of [] = None
 first_of (p ∷ ps) = either p (first_of ps)
 
--- a construct that is left out for certain, or also one that may be by what its types are
-abbrev pub where_left_out : Sought → Support → Span → Place
-where_left_out sought Run place = None
-where_left_out sought LeftOut place = Some place
-where_left_out Certain ByTypes place = None
-where_left_out Possible ByTypes place = Some place
+-- a construct, where it is left out
+abbrev pub where_left_out : Support → Span → Place
+where_left_out Run place = None
+where_left_out LeftOut place = Some place
 
 -- a body is as far as its heading is
 abbrev pub body_of : Support → Span → Place → Place
+body_of Run place inside = inside
 body_of LeftOut place inside = Some place
-body_of support place inside = inside
 
-abbrev pub item_of : Sought → Span → ItemKind Definition Use Place → Place
-item_of sought place (kind.Declaration s) = where_left_out sought (of_heading s) place
-item_of sought place (kind.Body s inside) = body_of (of_heading s) place inside
-item_of sought place (kind.Instance n m actuals) = Some place
-item_of sought place (kind.Incomplete n t) = Some place
-item_of sought place (kind.«Type» n d) = where_left_out sought (of_type d) place
-item_of sought place (kind.StoragePool t m) = Some place
-item_of sought place (kind.Exceptions ns) = None
-item_of sought place (kind.Objects os) = where_left_out sought (of_objects os) place
+abbrev pub item_of : Span → ItemKind Definition Use Place → Place
+item_of place (kind.Declaration s) = where_left_out (of_heading s) place
+item_of place (kind.Body s inside) = body_of (of_heading s) place inside
+item_of place (kind.Instance n m actuals) = Some place
+item_of place (kind.Incomplete n t) = Some place
+item_of place (kind.«Type» n d) = where_left_out (of_type d) place
+item_of place (kind.StoragePool t m) = Some place
+item_of place (kind.Exceptions ns) = None
+item_of place (kind.Objects os) = where_left_out (of_objects os) place
 
 -- in the statements of a handler (11.2)
 abbrev pub handler : Handler Place Use → Place
@@ -64,8 +60,8 @@ handler h = first_of h.statements
 abbrev pub body_step : Body-F Definition Use Place Place Place → Place
 body_step b = earliest (first_of b.items) (first_of b.statements) (first_of (map handler b.handlers))
 
-abbrev pub item_step : Sought → Item-F Definition Use Place Place Place → Place
-item_step sought i = item_of sought i.span i.kind
+abbrev pub item_step : Item-F Definition Use Place Place Place → Place
+item_step i = item_of i.span i.kind
 
 abbrev pub branch : Branch Place Use → Place
 branch b = first_of b.statements
@@ -73,37 +69,37 @@ branch b = first_of b.statements
 abbrev pub conditional : Branch Place Use → List (Branch Place Use) → List Place → Place
 conditional first more otherwise = earliest (branch first) (first_of (map branch more)) (first_of otherwise)
 
-abbrev pub statement_step : Sought → Statement-F Definition Use Place Place Place → Place
-statement_step sought (Statement-F.Null place) = None
-statement_step sought (Statement-F.Assignment place to x) = None
-statement_step sought (Statement-F.Call place n) = where_left_out sought (of_call n) place
-statement_step sought (Statement-F.Exit place c) = None
-statement_step sought (Statement-F.Return place None) = None
-statement_step sought (Statement-F.Return place (Some x)) = Some place
-statement_step sought (Statement-F.Raise place m) = None
-statement_step sought (Statement-F.RaiseAgain place) = None
-statement_step sought (Statement-F.If place first more otherwise) = conditional first more otherwise
-statement_step sought (Statement-F.Loop place ss) = first_of ss
-statement_step sought (Statement-F.While place c ss) = first_of ss
-statement_step sought (Statement-F.For place name way low high ss) = first_of ss
-statement_step sought (Statement-F.Block place b) = b
+abbrev pub statement_step : Statement-F Definition Use Place Place Place → Place
+statement_step (Statement-F.Null place) = None
+statement_step (Statement-F.Assignment place to x) = None
+statement_step (Statement-F.Call place n) = where_left_out (of_call n) place
+statement_step (Statement-F.Exit place c) = None
+statement_step (Statement-F.Return place None) = None
+statement_step (Statement-F.Return place (Some x)) = Some place
+statement_step (Statement-F.Raise place m) = None
+statement_step (Statement-F.RaiseAgain place) = None
+statement_step (Statement-F.If place first more otherwise) = conditional first more otherwise
+statement_step (Statement-F.Loop place ss) = first_of ss
+statement_step (Statement-F.While place c ss) = first_of ss
+statement_step (Statement-F.For place name way low high ss) = first_of ss
+statement_step (Statement-F.Block place b) = b
 
-abbrev pub body : Sought → Body Definition Use → Place
-body sought = fold-Body Definition Use Place Place Place (statement_step sought) body_step (item_step sought)
+abbrev pub body : Body Definition Use → Place
+body = fold-Body Definition Use Place Place Place statement_step body_step item_step
 
-abbrev pub item : Sought → Item Definition Use → Place
-item sought = fold-Item Definition Use Place Place Place (statement_step sought) body_step (item_step sought)
+abbrev pub item : Item Definition Use → Place
+item = fold-Item Definition Use Place Place Place statement_step body_step item_step
 
-abbrev pub statement : Sought → Statement Definition Use → Place
-statement sought = fold-Statement Definition Use Place Place Place (statement_step sought) body_step (item_step sought)
+abbrev pub statement : Statement Definition Use → Place
+statement = fold-Statement Definition Use Place Place Place statement_step body_step item_step
 
 -- the parts of the tree, with the places in them
-abbrev pub branch_of : Sought → Branch (Statement Definition Use) Use → Branch Place Use
-branch_of sought b = record { condition = b.condition; statements = map (statement sought) b.statements }
+abbrev pub branch_of : Branch (Statement Definition Use) Use → Branch Place Use
+branch_of b = record { condition = b.condition; statements = map statement b.statements }
 
-abbrev pub handler_of : Sought → Handler (Statement Definition Use) Use → Handler Place Use
-handler_of sought h = record { span = h.span; choices = h.choices; statements = map (statement sought) h.statements }
+abbrev pub handler_of : Handler (Statement Definition Use) Use → Handler Place Use
+handler_of h = record { span = h.span; choices = h.choices; statements = map statement h.statements }
 
--- of a whole text: the first that is left out for certain, or else the first that may be by its types
+-- of a whole text
 abbrev pub first_left_out : Tree Definition Use → Place
-first_left_out t = either (body Certain t.body) (body Possible t.body)
+first_left_out t = body t.body

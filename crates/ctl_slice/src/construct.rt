@@ -11,11 +11,10 @@ use ctl_syntax::item::{
 };
 use ctl_syntax::name::Name;
 
-/// Whether this version runs a construct: it does, it does or does not by what its types are, or it does not.
+/// Whether this version runs a construct.
 #[derive(Clone, Copy, Debug, PartialEq, Eq)]
 pub enum Support {
     Run,
-    ByTypes,
     LeftOut,
 }
 
@@ -160,28 +159,15 @@ fn is_scalar(denoted: Denoted) -> bool
     )
 }
 
-/// Judges objects of a type of the text: those without discriminants are run; where they have a value, it is the type that tells.
-fn of_text_objects(is_bare: bool, is_valued: bool) -> Support
-    ensures { result ≡ spec.of_text_objects is_bare is_valued }
-{
-    match (is_bare, is_valued) {
-        (true, false) => Support::Run,
-        (true, true) => Support::ByTypes,
-        (false, _) => Support::LeftOut,
-    }
-}
-
 /// Judges objects: scalar ones are run, and others of a declared type without discriminants (RM 3.3.1).
 pub(crate) fn of_objects(objects: &Objects<Definition, Use>) -> Support
     ensures { result ≡ spec.of_objects objects.now }
 {
-    match objects.mark.first.denoted {
-        Denoted::Declared(_, _) => {
-            let is_bare = objects.discriminants.as_slice().is_empty();
-            of_text_objects(is_bare, objects.value.is_some())
-        }
-        denoted => support_when(is_scalar(denoted)),
-    }
+    let is_run = match objects.mark.first.denoted {
+        Denoted::Declared(_, _) => objects.discriminants.as_slice().is_empty(),
+        denoted => is_scalar(denoted),
+    };
+    support_when(is_run)
 }
 
 /// Tells whether this is declared in the text, where it is judged.

@@ -8,31 +8,20 @@ use ctl_syntax::denoted::{Definition, Named, Use};
 use ctl_syntax::item::{Body, Branch, Handler, Item, ItemKind, Statement};
 use ctl_tree::span::Span;
 
-/// What is sought: constructs that are left out for certain, or also those that may be by what their types are.
-#[derive(Clone, Copy, Debug, PartialEq, Eq)]
-pub enum Sought {
-    Certain,
-    Possible,
-}
-
-/// Answers the place of the first construct of a text that this version does not run, as far as what its names denote tells it: or else
-/// of the first that it may not run by what its types are.
+/// Answers the place of the first construct of a text that this version does not run, as far as what its names denote tells it.
 pub fn first_left_out(tree: &Named) -> Option<Span>
     ensures { result ≡ spec.first_left_out tree.now }
 {
-    match body(Sought::Certain, &tree.body) {
-        Some(place) => Some(place),
-        None => body(Sought::Possible, &tree.body),
-    }
+    body(&tree.body)
 }
 
 /// Answers the place of a construct, where it is left out.
-fn where_left_out(sought: Sought, support: Support, place: Span) -> Option<Span>
-    ensures { result ≡ spec.where_left_out sought support place }
+fn where_left_out(support: Support, place: Span) -> Option<Span>
+    ensures { result ≡ spec.where_left_out support place }
 {
-    match (sought, support) {
-        (_, Support::Run) | (Sought::Certain, Support::ByTypes) => None,
-        (_, Support::LeftOut) | (Sought::Possible, Support::ByTypes) => Some(place),
+    match support {
+        Support::Run => None,
+        Support::LeftOut => Some(place),
     }
 }
 
@@ -49,30 +38,30 @@ fn earliest(first: Option<Span>, second: Option<Span>, third: Option<Span>) -> O
 
 /// Finds the first place in a declarative part, its statements and its handlers.
 #[cycle(part)]
-fn body(sought: Sought, body: &Body<Definition, Use>) -> Option<Span>
-    ensures { result ≡ spec.body sought body.now }
+fn body(body: &Body<Definition, Use>) -> Option<Span>
+    ensures { result ≡ spec.body body.now }
 {
-    let declared = items(sought, body.items.as_slice());
-    let done = statements(sought, body.statements.as_slice());
-    let handled = handlers(sought, body.handlers.as_slice());
+    let declared = items(body.items.as_slice());
+    let done = statements(body.statements.as_slice());
+    let handled = handlers(body.handlers.as_slice());
     earliest(declared, done, handled)
 }
 
 /// Finds the first place in a handler (RM 11.2).
 #[cycle(part)]
-fn handler(sought: Sought, handler: &Handler<Statement<Definition, Use>, Use>) -> Option<Span>
-    ensures { result ≡ spec.handler (spec.handler_of sought handler.now) }
+fn handler(handler: &Handler<Statement<Definition, Use>, Use>) -> Option<Span>
+    ensures { result ≡ spec.handler (spec.handler_of handler.now) }
 {
-    statements(sought, handler.statements.as_slice())
+    statements(handler.statements.as_slice())
 }
 
 /// Finds the first place in handlers (RM 11.2).
 #[cycle(part)]
-fn handlers(sought: Sought, handlers: &[Handler<Statement<Definition, Use>, Use>]) -> Option<Span>
-    ensures { result ≡ spec.first_of (map spec.handler (map (spec.handler_of sought) handlers.now)) }
+fn handlers(handlers: &[Handler<Statement<Definition, Use>, Use>]) -> Option<Span>
+    ensures { result ≡ spec.first_of (map spec.handler (map spec.handler_of handlers.now)) }
 {
     for one in handlers {
-        if let Some(place) = handler(sought, one) {
+        if let Some(place) = handler(one) {
             return Some(place);
         }
     }
@@ -81,11 +70,11 @@ fn handlers(sought: Sought, handlers: &[Handler<Statement<Definition, Use>, Use>
 
 /// Finds the first place in the items of a part (RM 3.11).
 #[cycle(part)]
-fn items(sought: Sought, items: &[Item<Definition, Use>]) -> Option<Span>
-    ensures { result ≡ spec.first_of (map (spec.item sought) items.now) }
+fn items(items: &[Item<Definition, Use>]) -> Option<Span>
+    ensures { result ≡ spec.first_of (map spec.item items.now) }
 {
     for one in items {
-        if let Some(place) = item(sought, one) {
+        if let Some(place) = item(one) {
             return Some(place);
         }
     }
@@ -94,17 +83,17 @@ fn items(sought: Sought, items: &[Item<Definition, Use>]) -> Option<Span>
 
 /// Finds the first place in an item.
 #[cycle(part)]
-fn item(sought: Sought, item: &Item<Definition, Use>) -> Option<Span>
-    ensures { result ≡ spec.item sought item.now }
+fn item(item: &Item<Definition, Use>) -> Option<Span>
+    ensures { result ≡ spec.item item.now }
 {
     match &item.kind {
-        ItemKind::Declaration(heading) => where_left_out(sought, of_heading(heading), item.span),
+        ItemKind::Declaration(heading) => where_left_out(of_heading(heading), item.span),
         ItemKind::Body(heading, inside) => match of_heading(heading) {
-            Support::Run | Support::ByTypes => body(sought, inside.get()),
+            Support::Run => body(inside.get()),
             Support::LeftOut => Some(item.span),
         },
-        ItemKind::Type(_, definition) => where_left_out(sought, of_type(definition), item.span),
-        ItemKind::Objects(objects) => where_left_out(sought, of_objects(objects), item.span),
+        ItemKind::Type(_, definition) => where_left_out(of_type(definition), item.span),
+        ItemKind::Objects(objects) => where_left_out(of_objects(objects), item.span),
         ItemKind::Exceptions(_) => None,
         ItemKind::Instance(..) | ItemKind::Incomplete(..) | ItemKind::StoragePool(..) => {
             Some(item.span)
@@ -114,11 +103,11 @@ fn item(sought: Sought, item: &Item<Definition, Use>) -> Option<Span>
 
 /// Finds the first place in statements, one behind the other (RM 5.1).
 #[cycle(part)]
-fn statements(sought: Sought, statements: &[Statement<Definition, Use>]) -> Option<Span>
-    ensures { result ≡ spec.first_of (map (spec.statement sought) statements.now) }
+fn statements(statements: &[Statement<Definition, Use>]) -> Option<Span>
+    ensures { result ≡ spec.first_of (map spec.statement statements.now) }
 {
     for one in statements {
-        if let Some(place) = statement(sought, one) {
+        if let Some(place) = statement(one) {
             return Some(place);
         }
     }
@@ -127,8 +116,8 @@ fn statements(sought: Sought, statements: &[Statement<Definition, Use>]) -> Opti
 
 /// Finds the first place in a statement.
 #[cycle(part)]
-fn statement(sought: Sought, statement: &Statement<Definition, Use>) -> Option<Span>
-    ensures { result ≡ spec.statement sought statement.now }
+fn statement(statement: &Statement<Definition, Use>) -> Option<Span>
+    ensures { result ≡ spec.statement statement.now }
 {
     match statement {
         Statement::Null(_)
@@ -136,37 +125,37 @@ fn statement(sought: Sought, statement: &Statement<Definition, Use>) -> Option<S
         | Statement::Exit(..)
         | Statement::Raise(..)
         | Statement::RaiseAgain(_) => None,
-        Statement::Call(place, name) => where_left_out(sought, of_call(name), *place),
+        Statement::Call(place, name) => where_left_out(of_call(name), *place),
         Statement::Return(_, None) => None,
         Statement::Return(place, Some(_)) => Some(*place),
         Statement::If(_, first, more, otherwise) => {
-            let opening = branch(sought, first);
-            let between = branches(sought, more.as_slice());
-            let closing = statements(sought, otherwise.as_slice());
+            let opening = branch(first);
+            let between = branches(more.as_slice());
+            let closing = statements(otherwise.as_slice());
             earliest(opening, between, closing)
         }
-        Statement::Loop(_, inside) => statements(sought, inside.as_slice()),
-        Statement::While(_, _, inside) => statements(sought, inside.as_slice()),
-        Statement::For(_, _, _, _, _, inside) => statements(sought, inside.as_slice()),
-        Statement::Block(_, inside) => body(sought, inside.get()),
+        Statement::Loop(_, inside) => statements(inside.as_slice()),
+        Statement::While(_, _, inside) => statements(inside.as_slice()),
+        Statement::For(_, _, _, _, _, inside) => statements(inside.as_slice()),
+        Statement::Block(_, inside) => body(inside.get()),
     }
 }
 
 /// Finds the first place in an arm (RM 5.3).
 #[cycle(part)]
-fn branch(sought: Sought, branch: &Branch<Statement<Definition, Use>, Use>) -> Option<Span>
-    ensures { result ≡ spec.branch (spec.branch_of sought branch.now) }
+fn branch(branch: &Branch<Statement<Definition, Use>, Use>) -> Option<Span>
+    ensures { result ≡ spec.branch (spec.branch_of branch.now) }
 {
-    statements(sought, branch.statements.as_slice())
+    statements(branch.statements.as_slice())
 }
 
 /// Finds the first place in arms behind the first (RM 5.3).
 #[cycle(part)]
-fn branches(sought: Sought, branches: &[Branch<Statement<Definition, Use>, Use>]) -> Option<Span>
-    ensures { result ≡ spec.first_of (map spec.branch (map (spec.branch_of sought) branches.now)) }
+fn branches(branches: &[Branch<Statement<Definition, Use>, Use>]) -> Option<Span>
+    ensures { result ≡ spec.first_of (map spec.branch (map spec.branch_of branches.now)) }
 {
     for one in branches {
-        if let Some(place) = branch(sought, one) {
+        if let Some(place) = branch(one) {
             return Some(place);
         }
     }

@@ -29,14 +29,6 @@ const TWO_OBJECTS_OUTPUT: &str = "i\nin\nb\na\nout\n";
 const TWO_OBJECTS_TRACE: &str =
     "live 1 m2\ninitialize 2\nprint i\nnewline\nlive 2 m2\nprint in\nnewline\nfinalize 2 scope\nprint b\nnewline\nfinalize 1 scope\nprint a\nnewline\nprint out\nnewline\nend done\n";
 
-/// An object with two controlled parts.
-const PARTS: &str =
-    "with Ada.Finalization; use Ada.Finalization; procedure Main is type T is new Controlled with record N : Integer := 0; end record; overriding procedure Finalize (X : in out T); type R is new Limited_Controlled with record A, B : T; end record; overriding procedure Finalize (X : in out R); procedure Finalize (X : in out T) is begin null; end Finalize; procedure Finalize (X : in out R) is begin null; end Finalize; V : R; begin null; end Main;";
-
-/// An object with three controlled parts, of which the last one's Initialize raises an exception.
-const FAILING_PART: &str =
-    "with Ada.Finalization; use Ada.Finalization; procedure Main is type T is new Controlled with null record; overriding procedure Finalize (X : in out T); type Bad is new T with null record; overriding procedure Initialize (X : in out Bad); type R is new Limited_Controlled with record A, B : T; C : Bad; end record; overriding procedure Finalize (X : in out R); procedure Finalize (X : in out T) is begin null; end Finalize; procedure Initialize (X : in out Bad) is begin raise Constraint_Error; end Initialize; procedure Finalize (X : in out R) is begin null; end Finalize; begin declare V : R; begin null; end; exception when Constraint_Error => null; end Main;";
-
 /// An object whose type has three components with defaults and one without.
 const DEFAULTS: &str =
     "with Ada.Finalization; use Ada.Finalization; procedure Main is type A is new Controlled with record N : Integer := 4; B : Boolean; C : Boolean := True; M : Integer := 7; end record; overriding procedure Finalize (X : in out A); procedure Finalize (X : in out A) is begin null; end Finalize; begin declare V : A; begin null; end; end Main;";
@@ -119,7 +111,7 @@ fn run_job(alloc: Global, show: Show, steps: u64) -> Job {
 }
 
 /// A job to run a file in an order, and to show the trace.
-fn order_job(alloc: Global, order: Order) -> Job {
+pub(crate) fn order_job(alloc: Global, order: Order) -> Job {
     Job::Run {
         file: String::new(alloc),
         show: Show::Trace,
@@ -141,53 +133,13 @@ fn serve_on<R: Read + Drop, W: Write, E: Write>(
 }
 
 /// The status of a job on a text, what it printed and what it said, with bars between them.
-fn served(alloc: Global, job: Job, source: &str) -> Result<String, Fail> {
+pub(crate) fn served(alloc: Global, job: Job, source: &str) -> Result<String, Fail> {
     let mut out = Vec::new(alloc);
     let mut err = Vec::new(alloc);
     let status = serve_on(alloc, job, source.as_bytes(), &mut out, &mut err);
     let out = String::from_utf8(out).map_err(|_| "no text")?;
     let err = String::from_utf8(err).map_err(|_| "no text")?;
     Ok(format!(in alloc; "{status}|{out}|{err}")?)
-}
-
-/// The parts of an object are created one chosen after another, before the whole, and finalized so behind it (RM 7.6, 7.6.1).
-#[test]
-fn parts_are_chosen_by_order(rt: HostRuntime) -> Result<(), Fail> {
-    let alloc = rt.alloc();
-    for (order, wanted) in [
-        (
-            Order::Newest,
-            "0|live 1.2 m1\nlive 1.1 m1\nlive 1 m1\nfinalize 1 scope\nfinalize 1.2 scope\nfinalize 1.1 scope\nend done\n|adactl: picks 1,1\n",
-        ),
-        (
-            Order::Oldest,
-            "0|live 1.1 m1\nlive 1.2 m1\nlive 1 m1\nfinalize 1 scope\nfinalize 1.1 scope\nfinalize 1.2 scope\nend done\n|adactl: picks 0,0\n",
-        ),
-    ] {
-        let got = served(alloc, order_job(alloc, order), PARTS)?;
-        assert_eq!(rt; got.as_str(), wanted, "by order");
-    }
-    Ok(())
-}
-
-/// Where the Initialize of a part raises, the parts that are complete are finalized, in a chosen order, and the object never was (RM 7.6.1).
-#[test]
-fn complete_parts_are_finalized_where_one_fails(rt: HostRuntime) -> Result<(), Fail> {
-    let alloc = rt.alloc();
-    for (order, wanted) in [
-        (
-            Order::Newest,
-            "0|initialize 1.3\nend done\n|adactl: picks 2\n",
-        ),
-        (
-            Order::Oldest,
-            "0|live 1.1 m2\nlive 1.2 m2\ninitialize 1.3\nfinalize 1.1 failed\nfinalize 1.2 failed\nend done\n|adactl: picks 0,0,0\n",
-        ),
-    ] {
-        let got = served(alloc, order_job(alloc, order), FAILING_PART)?;
-        assert_eq!(rt; got.as_str(), wanted, "by order");
-    }
-    Ok(())
 }
 
 /// Each component that takes its default is chosen among those that are left: a choice among three, one among two, and none (RM 7.6).

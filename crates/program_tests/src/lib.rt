@@ -6,6 +6,8 @@ mod jobs;
 #[cfg(test)]
 mod names;
 #[cfg(test)]
+mod parts;
+#[cfg(test)]
 mod runs;
 #[cfg(test)]
 mod sinks;

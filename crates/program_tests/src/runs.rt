@@ -242,10 +242,10 @@ fn faults_of_texts(rt: HostRuntime) -> Result<(), Fail> {
             b"procedure Main is task T; begin null; end Main;",
             "1:19: 12 LEFT_OUT",
         ),
-        // an object that takes a value of a type with a controlled component
+        // a function
         (
-            b"with Ada.Finalization; procedure Main is type C is new Ada.Finalization.Controlled with null record; type Q is record X : C; end record; Y : Q; Z : Q := Y; begin null; end Main;",
-            "1:145: 12 LEFT_OUT",
+            b"procedure Main is function F return Integer is begin return 1; end F; begin null; end Main;",
+            "1:19: 12 LEFT_OUT",
         ),
         // a rule on names or types is judged before a construct is left out, wherever they stand
         (

@@ -3,16 +3,16 @@ use Rattle.ctl_slice.specs.Places as spec
 use Rattle.ctl_slice.proofs.walk.+part.Given as goal
 
 abbrev pub invariant-items-loop-one : goal.invariant-items-loop-one
-invariant-items-loop-one l = spec.first_of (map (spec.item l.sought) (drop l.one-index l.items)) ≡ spec.first_of (map (spec.item l.sought) l.items)
+invariant-items-loop-one l = spec.first_of (map spec.item (drop l.one-index l.items)) ≡ spec.first_of (map spec.item l.items)
 
 abbrev pub invariant-statements-loop-one : goal.invariant-statements-loop-one
-invariant-statements-loop-one l = spec.first_of (map (spec.statement l.sought) (drop l.one-index l.statements)) ≡ spec.first_of (map (spec.statement l.sought) l.statements)
+invariant-statements-loop-one l = spec.first_of (map spec.statement (drop l.one-index l.statements)) ≡ spec.first_of (map spec.statement l.statements)
 
 abbrev pub invariant-branches-loop-one : goal.invariant-branches-loop-one
-invariant-branches-loop-one l = spec.first_of (map spec.branch (map (spec.branch_of l.sought) (drop l.one-index l.branches))) ≡ spec.first_of (map spec.branch (map (spec.branch_of l.sought) l.branches))
+invariant-branches-loop-one l = spec.first_of (map spec.branch (map spec.branch_of (drop l.one-index l.branches))) ≡ spec.first_of (map spec.branch (map spec.branch_of l.branches))
 
 abbrev pub invariant-handlers-loop-one : goal.invariant-handlers-loop-one
-invariant-handlers-loop-one l = spec.first_of (map spec.handler (map (spec.handler_of l.sought) (drop l.one-index l.handlers))) ≡ spec.first_of (map spec.handler (map (spec.handler_of l.sought) l.handlers))
+invariant-handlers-loop-one l = spec.first_of (map spec.handler (map spec.handler_of (drop l.one-index l.handlers))) ≡ spec.first_of (map spec.handler (map spec.handler_of l.handlers))
 
 -- how deep is what is left, and then the order of the calls at one depth
 abbrev pub decreases-statement : goal.decreases-statement

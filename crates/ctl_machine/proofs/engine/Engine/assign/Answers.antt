@@ -8,7 +8,7 @@ use Rattle.ctl_machine.specs.Holders.{Lacks}
 use Rattle.ctl_machine.specs.Moves.{Makes}
 use Rattle.ctl_machine.specs.Shows.{kept, with_spots}
 use Rattle.ctl_machine.specs.Spots.{standing}
-use Rattle.ctl_machine.proofs.Assigned.{are_given, assigned_at, point_of, replaced_makes, replaces_now, rest_of, same_makes, source_gone, source_of, target_gone, target_of, value_of}
+use Rattle.ctl_machine.proofs.Assigned.{are_given, assigned_at, point_of, replaced_makes, replaces_now, rest_of, same_makes, source_gone, source_of, target_of, value_of}
 use Rattle.ctl_machine.proofs.NewestLayers.{owned_at, owned_at_is}
 use Rattle.ctl_machine.proofs.Steps.{on_ok}
 use Rattle.ctl_machine.proofs.Words.{newest_read, next_read, two_dropped}
@@ -49,52 +49,20 @@ returns-then-is_same-clause-ok g c =
     (ap (λ (l : List Spot). with_spots (kept old) l) (c.truncate.ensures.items ∙ two_dropped old.spots.items below (target_of g.s) (source_of g.s) count.result i.spots count.ensures.count))
     refl refl
 
-pub returns-in_default-find-clause-ok : goal.returns-in_default-find-clause-ok
-returns-in_default-find-clause-ok g c =
-    let code = c.args.code.now in
-    let old = c.args.self.now in
-    let owned = old.owned.items in
-    let t = c.args.record in
-    let b = c.requires.1.0 in
-    let i = are_given code old c.args.place g.s t c.requires.0 b in
-    let count = c.count_spots-count in
-    let below = standing g.s.control (rest_of g.s) in
-    let source_is = newest_read old.spots.items (below ++ target_of g.s ∷ []) (source_of g.s) c.index-source.result.now count.result i.spots count.ensures.count c.index-source.ensures in
-    let target_is = next_read old.spots.items below (target_of g.s) (source_of g.s) c.index-target.result.now count.result i.spots count.ensures.count c.index-target.ensures in
-    let some = c.in-Some.ensures.some in
-    let found = subst (λ (l : List Owned). slice_get l c.in-Some.source_at ≡ Some some.0) c.as_slice.ensures.value some.1 in
-    let number = some.2 ∙ (c.object.ensures ∙ ap (λ (x : Spot). x.object) source_is) in
-    let same = sym c.if-is_same.false ∙ (c.is_same.ensures ∙ (ap (λ (x : Spot). is_same_part x c.index-source.result.now) target_is ∙ ap (λ (x : Spot). is_same_part (target_of g.s) x) source_is)) in
-    let none : Lacks c.object-2.result owned = subst (λ (l : List Owned). Lacks c.object-2.result l) c.as_slice-2.ensures.value (c.in_default-find.ensures.none refl) in
-    target_gone code old _ c.args.place g.s t c.in-Some.source_at some.0 c.requires.0 b found number same (subst (λ n. Lacks n owned) (c.object-2.ensures ∙ ap (λ (x : Spot). x.object) target_is) none)
-    (record { mode = refl; kept = refl; events = refl; picks = refl })
-
 pub replace_value-requires : goal.replace_value-requires
 replace_value-requires g c =
     let code = c.args.code.now in
     let old = c.args.self.now in
     let owned = old.owned.items in
     let t = c.args.record in
-    let b = c.requires.1.0 in
-    let i = are_given code old c.args.place g.s t c.requires.0 b in
-    let count = c.count_spots-count in
-    let below = standing g.s.control (rest_of g.s) in
-    let source_is = newest_read old.spots.items (below ++ target_of g.s ∷ []) (source_of g.s) c.index-source.result.now count.result i.spots count.ensures.count c.index-source.ensures in
-    let target_is = next_read old.spots.items below (target_of g.s) (source_of g.s) c.index-target.result.now count.result i.spots count.ensures.count c.index-target.ensures in
-    let some = c.in-Some.ensures.some in
-    let found = subst (λ (l : List Owned). slice_get l c.in-Some.source_at ≡ Some some.0) c.as_slice.ensures.value some.1 in
-    let number = some.2 ∙ (c.object.ensures ∙ ap (λ (x : Spot). x.object) source_is) in
-    let target = c.in-Some-find.ensures.some in
-    let target_found = subst (λ (l : List Owned). slice_get l c.in-Some-find.target_at ≡ Some target.0) c.as_slice-2.ensures.value target.1 in
-    let target_number = target.2 ∙ (c.object-2.ensures ∙ ap (λ (x : Spot). x.object) target_is) in
     let next = c.args.place + 1 in
-    let source_at = owned_at_is owned c.in-Some.source_at some.0 found in
-    let target_at = owned_at_is owned c.in-Some-find.target_at target.0 target_found in
-    let now = replaces_now code old c.args.place g.s t c.in-Some.source_at c.in-Some-find.target_at some.0 target.0 c.requires.0 b found target_found target_number in (
+    let at = c.in-Some.source_at in
+    let some = c.in-Some.ensures.some in
+    let found = subst (λ (l : List Owned). slice_get l at ≡ Some some.0) c.as_slice.ensures.value some.1 in
+    let now = replaces_now code old c.args.place g.s t at some.0 c.requires.0 c.requires.1.0 found in (
       c.requires.0,
       (
-        subst (λ (x : Owned). Replaces code old c.in-Some.source_at c.in-Some-find.target_at t next (assigned_at x t next g.s) (value_of code old t (owned_at owned c.in-Some.source_at) g.s)) (sym target_at)
-            (subst (λ (o : Owned). Replaces code old c.in-Some.source_at c.in-Some-find.target_at t next (assigned_at target.0 t next g.s) (value_of code old t o g.s)) (sym source_at) now),
+        subst (λ (o : Owned). Replaces code old at t next (assigned_at next g.s) (value_of code old t o g.s)) (sym (owned_at_is owned at some.0 found)) now,
         c.requires.1.1.1,
       ),
     )

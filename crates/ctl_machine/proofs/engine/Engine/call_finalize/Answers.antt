@@ -1,14 +1,9 @@
-use Rattle.std.proofs.Common.{◌≡◌, ◌∷◌, ◌++◌, ◌∙◌, List, [], ap, arith, refl, reverse, sym}
-use Rattle.std.proofs.lemmas.List.{reverse-append}
+use Rattle.std.proofs.Common.{◌∙◌, ap, arith, refl, sym}
 use Rattle.ctl_tree.specs.declared.event.Event.TheVariants.{Finalize}
 use Rattle.ctl_tree.specs.declared.event.Part.{Part}
-use Rattle.ctl_meaning.specs.Finalization.{Spot}
-use Rattle.ctl_machine.specs.declared.frame.Frame.{Frame}
 use Rattle.ctl_machine.specs.declared.frame.Frame.TheVariants.{FinalizingOwn}
 use Rattle.ctl_machine.specs.Assigning.{Called}
-use Rattle.ctl_machine.specs.Finishing.{with_frames}
-use Rattle.ctl_machine.specs.Shows.{kept}
-use Rattle.ctl_machine.proofs.Finishing.{calls_own, own_makes}
+use Rattle.ctl_machine.proofs.Finishing.{calls_own, own_makes, pushed}
 use Rattle.ctl_machine.proofs.engine.Engine.call_finalize.Goals as goal
 
 pub call_operation-requires : goal.call_operation-requires
@@ -21,10 +16,7 @@ call_operation-requires g c =
     let doubles = c.requires.1.1.1.1.0 in
     let calls = c.requires.1.1.1.1.1 in
     let frame = FinalizingOwn x.cause x.record_type in
-    let fs = frame ∷ reverse old.control.items in
-    let control : reverse c.push_reserved.new.self.items ≡ fs = ap (λ (l : List Frame). reverse l) c.push_reserved.ensures.items ∙ reverse-append old.control.items (frame ∷ []) in
-    let spots : c.push_reserved-2.new.self.items ≡ old.spots.items ++ t.spot ∷ [] = c.push_reserved-2.ensures.items ∙ ap (λ (s : Spot). old.spots.items ++ s ∷ []) doubles.spot in
-    let are = ap (λ (l : List Frame). with_frames l c.push_reserved-2.new.self.items (kept old)) control ∙ ap (λ (l : List Spot). with_frames fs l (kept old)) spots in
+    let are = pushed old c.push_reserved.new.self.items c.push_reserved-2.new.self.items frame c.args.doubles.spot t.spot c.push_reserved.ensures.items c.push_reserved-2.ensures.items doubles.spot in
     let len = c.push_reserved.ensures.len in
     let capacity = c.push_reserved.ensures.capacity in
     let more = room.control in (

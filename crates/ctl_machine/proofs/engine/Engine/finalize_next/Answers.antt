@@ -1,4 +1,4 @@
-use Rattle.std.proofs.Common.{◌≡◌, ◌∷◌, ◌++◌, ◌∙◌, ◌-◌, ℕ, List, [], ap, arith, drop, length, refl, reverse, subst, sym}
+use Rattle.std.proofs.Common.{◌≡◌, ◌∷◌, ◌∙◌, ◌-◌, ℕ, List, [], ap, arith, drop, length, refl, reverse, subst, sym}
 use Rattle.std.specs.Prelude.{slice_get}
 use Rattle.std.proofs.lemmas.List.{append-nil}
 use Rattle.std.proofs.lemmas.Option.{slice_get_within}
@@ -8,7 +8,7 @@ use Rattle.ctl_meaning.specs.Outcome.{Fine}
 use Rattle.ctl_code.specs.declared.code.Begun.{Begun}
 use Rattle.ctl_code.specs.States as T
 use Rattle.ctl_code.specs.States.{Move}
-use Rattle.ctl_code.specs.Table.{component_of, controlled_of, finalize_part, part_at, parts_of}
+use Rattle.ctl_code.specs.Table.{component_of, controlled_of, finalize_part, parts_of}
 use Rattle.ctl_machine.specs.declared.engine.Engine.{Engine}
 use Rattle.ctl_machine.specs.declared.frame.Ended.TheVariants.{Complete}
 use Rattle.ctl_machine.specs.declared.frame.Mode.TheVariants as ModeOf
@@ -22,7 +22,7 @@ use Rattle.ctl_machine.specs.Spots.{spots_in}
 use Rattle.ctl_machine.proofs.Chosen.{count_apart}
 use Rattle.ctl_machine.proofs.Finishing.{finished_gives}
 use Rattle.ctl_machine.proofs.Lists.{same_at}
-use Rattle.ctl_machine.proofs.NextPart.{chooses, constant_so, next_by_type, next_constant, rest_finishes, some_begun}
+use Rattle.ctl_machine.proofs.NextPart.{chooses, constant_so, next_by_type, next_constant, noted_so, own_doubles, rest_finishes, some_begun}
 use Rattle.ctl_machine.proofs.NextWindow.{end_is, tall_within}
 use Rattle.ctl_machine.proofs.Words.{last_there}
 use Rattle.ctl_machine.proofs.engine.Engine.finalize_next.Goals as goal
@@ -54,11 +54,7 @@ returns-in_default-clause-ok g c =
     let are = ap (λ (l : List Frame). record (kept old) { control = l }) control ∙ ap (λ (l : List ℕ). record (kept old) { control = frame ∷ drop 1 (reverse old.control.items); cells = l }) (sym (append-nil old.cells.items)) in
     let new : Engine = record old { mode = ModeOf.Giving Complete; control = c.replace_top.new.control; picks = c.note_pick.new.picks } in
     let b : Finishes code new (record { spot = t.spot; control = T.FinalizingParts c.args.cause t.spot right c.args.failed ∷ t.control; world = t.world }) = rest_finishes code old new c.args.cause c.args.record c.args.left x.rest c.args.failed t.spot t left right [] f chosen.rest are in
-    let noted : c.note_pick.new.picks.items ≡ old.picks.items ++ noted_among (length left) (pick_among c.args.order (length left)) =
-    c.note_pick.ensures
-    ∙ (ap (λ (l : List ℕ). l ++ noted_among c.count-candidates.result x.pick) c.reserve.ensures.items
-    ∙ (ap (λ n. old.picks.items ++ noted_among n x.pick) (c.count-candidates.ensures ∙ sym many)
-    ∙ ap (λ n. old.picks.items ++ noted_among (length left) n) pick)) in
+    let noted = noted_so old.picks.items c.reserve.new.self.items c.note_pick.new.picks.items c.count-candidates.result (length left) x.pick c.args.order c.note_pick.ensures c.reserve.ensures.items (c.count-candidates.ensures ∙ sym many) pick in
     let move = next_constant code c.args.cause t.spot left c.args.failed (pick_among c.args.order (length left)) t.control t.world y constant.0 c.requires.1.1.0 is constant.1 in
     subst (λ (m : Move). Chooses code old new m (noted_among (length left) (pick_among c.args.order (length left)))) (sym move)
     (chooses code old new new _ _ refl noted (finished_gives code new new (record { spot = t.spot; control = T.FinalizingParts c.args.cause t.spot right c.args.failed ∷ t.control; world = t.world }) Complete (Fine T.Complete) b refl refl refl refl))
@@ -98,7 +94,6 @@ finalize_part-requires g c =
     let mid : Engine = record c.prepare_finalization.new.self { control = c.replace_top-2.new.control; picks = c.note_pick-2.new.picks } in
     let b : Finishes code mid (record { spot = c.in_ok-doubles.doubles.spot; control = T.FinalizingParts c.args.cause t.spot right c.args.failed ∷ t.control; world = t.world }) = rest_finishes code old mid c.args.cause c.args.record c.args.left x.rest c.args.failed c.in_ok-doubles.doubles.spot t left right goes.0 f chosen.rest are in
     let base = c.next_window-base.ensures ∙ end_is code (kept old) k [] t.world f.holds f.waits f.sized in
-    let doubles = c.in_ok-doubles.ensures.2 in
     let len = c.replace_top-2.ensures.len in
     let capacity = c.replace_top-2.ensures.capacity in
     let frames = c.in_ok-prepare_finalization.ensures.control in (
@@ -113,7 +108,7 @@ finalize_part-requires g c =
               control = omega (arith, len, capacity, frames);
               spots = c.in_ok-prepare_finalization.ensures.spots;
             },
-            record { spot = refl; formal = doubles.formal ∙ sym doubles.spot; part = doubles.part ∙ ap (λ (s : Spot). part_at s) (sym doubles.spot) },
+            own_doubles c.in_ok-doubles.doubles _ c.in_ok-doubles.ensures.2,
           ),
         ),
       ),
@@ -138,12 +133,7 @@ returns-clause-ok g c =
     let copied = c.in_ok-doubles.ensures in
     let part : copied.0 ≡ t.spot = same_at copied.0 t.spot (slice_get old.spots.items (length old.spots.items - 1)) copied.1 (last_there old.spots.items (spots_in t.control) t.spot f.spots) in
     let spot : c.in_ok-doubles.doubles.spot ≡ component_of t.spot y.offset y.position = copied.2.spot ∙ ap (λ (s : Spot). component_of s y.offset y.position) part in
-    let noted : c.note_pick-2.new.picks.items ≡ old.picks.items ++ noted_among (length left) (pick_among c.args.order (length left)) =
-    c.note_pick-2.ensures
-    ∙ (ap (λ v. v.items ++ noted_among c.count-candidates.result x.pick) c.prepare_finalization.ensures.choices
-    ∙ (ap (λ (l : List ℕ). l ++ noted_among c.count-candidates.result x.pick) c.reserve.ensures.items
-    ∙ (ap (λ n. old.picks.items ++ noted_among n x.pick) (c.count-candidates.ensures ∙ sym many)
-    ∙ ap (λ n. old.picks.items ++ noted_among (length left) n) pick))) in
+    let noted = noted_so old.picks.items c.prepare_finalization.new.self.picks.items c.note_pick-2.new.picks.items c.count-candidates.result (length left) x.pick c.args.order c.note_pick-2.ensures (ap (λ v. v.items) c.prepare_finalization.ensures.choices ∙ c.reserve.ensures.items) (c.count-candidates.ensures ∙ sym many) pick in
     let move = next_by_type code c.args.cause t.spot left c.args.failed (pick_among c.args.order (length left)) t.control t.world y c.in-ByType.record_type c.requires.1.1.0 is c.in-ByType.is in
     let type = c.in-ByType.record_type in
     let mid : Engine = record c.prepare_finalization.new.self { control = c.replace_top-2.new.control; picks = c.note_pick-2.new.picks } in

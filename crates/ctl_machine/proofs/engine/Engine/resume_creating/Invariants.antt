@@ -1,7 +1,5 @@
+use Rattle.ctl_machine.proofs.Newest.{newest_object}
 use Rattle.ctl_machine.proofs.engine.Engine.resume_creating.Given as goal
 
-abbrev pub ghost-resume_default : goal.ghost-resume_default
-ghost-resume_default g a = g.s
-
-abbrev pub ghost-resume_copy : goal.ghost-resume_copy
-ghost-resume_copy g a = g.s
+abbrev pub ghost-become_layer : goal.ghost-become_layer
+ghost-become_layer g a = newest_object a.self.now.owned.items

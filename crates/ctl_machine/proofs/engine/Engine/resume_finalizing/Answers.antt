@@ -50,6 +50,7 @@ returns g c =
             owned = ap (λ (l : Life). slice_set old.owned.items at (record c.index_mut.result.now { life = l })) (c.ended.ensures ∙ ap (λ (o : Owned). ended_life o.life) (same_object c.index.result.now c.index_mut.result.now (slice_get old.owned.items at) read found));
             parts = refl;
             saved = refl;
+            noted = refl;
             formals = refl;
             spots = refl;
             given_masters = refl;

@@ -19,8 +19,8 @@ index_mut-requires g c =
     let many = c.args.self.now.cells.ok.1 in
     omega (arith, less, many)
 
-pub returns-in-Some : goal.returns-in-Some
-returns-in-Some g c = λ ty. store_makes c.args.code.now c.args.self.now _ c.args.place g.s c.args.from.now c.requires.1.0.0 c.args.out c.args.slot c.in-Some.cell c.take-value.result c.requires.1.0.1 c.take-value.ensures c.in-Some.ensures.there (record { mode = refl; kept = refl; events = refl; picks = refl })
+pub returns-in-Some-clause-makes : goal.returns-in-Some-clause-makes
+returns-in-Some-clause-makes g c = λ ty. store_makes c.args.code.now c.args.self.now _ c.args.place g.s c.args.from.now c.requires.1.0.0 c.args.out c.args.slot c.in-Some.cell c.take-value.result c.requires.1.0.1 c.take-value.ensures c.in-Some.ensures.there (record { mode = refl; kept = refl; events = refl; picks = refl })
 
-pub returns-in-None : goal.returns-in-None
-returns-in-None g c = λ ty. store_none c.args.code.now c.args.self.now _ c.args.place g.s c.args.from.now c.requires.1.0.0 c.args.out c.args.slot c.take-value.result c.requires.1.0.1 c.take-value.ensures (c.in-None.ensures.none refl) (record { mode = refl; kept = refl; events = refl; picks = refl })
+pub returns-in-None-clause-makes : goal.returns-in-None-clause-makes
+returns-in-None-clause-makes g c = λ ty. store_none c.args.code.now c.args.self.now _ c.args.place g.s c.args.from.now c.requires.1.0.0 c.args.out c.args.slot c.take-value.result c.requires.1.0.1 c.take-value.ensures (c.in-None.ensures.none refl) (record { mode = refl; kept = refl; events = refl; picks = refl })

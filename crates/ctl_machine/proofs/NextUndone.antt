@@ -1,0 +1,47 @@
+-- One of the components that are left is finalized, of a part of a copy that failed.
+use Rattle.std.proofs.Common.{◌≡◌, ℕ, ◌<◌, List, [], ◌∷◌, ◌++◌, length, sym, ap, ◌∙◌, arith}
+use Rattle.ctl_meaning.specs.World.{World}
+use Rattle.ctl_meaning.specs.Finalization.{Spot}
+use Rattle.ctl_meaning.specs.Lists.{pull_item, pull_rest}
+use Rattle.ctl_meaning.specs.Outcome.{Fine}
+use Rattle.ctl_code.specs.declared.code.Begun.{Begun}
+use Rattle.ctl_code.specs.declared.code.Code.{Code}
+use Rattle.ctl_code.specs.declared.code.Initial.{Initial}
+use Rattle.ctl_code.specs.declared.code.Initial.TheVariants.{Constant, ByType}
+use Rattle.ctl_code.specs.States as T
+use Rattle.ctl_code.specs.Table.{component_of, controlled_of, gives, parts_of, undo_component, undo_next, undo_part}
+use Rattle.ctl_machine.specs.declared.engine.Engine.{Engine}
+use Rattle.ctl_machine.specs.declared.frame.Frame.TheVariants as FrameOf
+use Rattle.ctl_machine.specs.declared.frame.Left.{Left}
+use Rattle.ctl_machine.specs.Departing.{with_top}
+use Rattle.ctl_machine.specs.Filling.{AreAmong, is_undone}
+use Rattle.ctl_machine.specs.Finishing.{Finished, Finishes}
+use Rattle.ctl_machine.specs.Shows.{kept, with_cells}
+use Rattle.ctl_machine.specs.Undoing.{UndoesParts}
+use Rattle.ctl_machine.proofs.NextPart.{changed_finishes}
+use Rattle.ctl_machine.proofs.PartFrames.{undoes_parts}
+
+-- The table ----------------------------------------------------------------------------------------------
+
+pub next_constant : (code : Code) (s : Spot) (left : List Begun) (pick : ℕ) (k : List T.Frame) (w : World) (y : Begun) (v : ℕ) → 0 < length left → ((d : Begun) → y ≡ pull_item d pick left) → y.initial ≡ Constant v
+    → undo_next code s left pick k w ≡ gives (Fine T.Complete) (T.UndoingParts s (pull_rest pick left) ∷ k) w
+next_constant code s [] pick k w y v some is constant = absurd (omega (arith, some))
+next_constant code s (x ∷ xs) pick k w y v some is constant =
+    let rest : List T.Frame = T.UndoingParts s (pull_rest pick (x ∷ xs)) ∷ k in
+    ap (λ (i : Initial). undo_component code s (pull_item x pick (x ∷ xs)) i rest w) (ap (λ (z : Begun). z.initial) (sym (is x)) ∙ constant)
+
+pub next_by_type : (code : Code) (s : Spot) (left : List Begun) (pick : ℕ) (k : List T.Frame) (w : World) (y : Begun) (t : ℕ) → 0 < length left → ((d : Begun) → y ≡ pull_item d pick left) → y.initial ≡ ByType t
+    → undo_next code s left pick k w ≡ undo_part code (parts_of code t) (component_of s y.offset y.position) t (T.UndoingParts s (pull_rest pick left) ∷ k) w
+next_by_type code s [] pick k w y t some is type = absurd (omega (arith, some))
+next_by_type code s (x ∷ xs) pick k w y t some is type =
+    let rest : List T.Frame = T.UndoingParts s (pull_rest pick (x ∷ xs)) ∷ k in
+    ap (λ (i : Initial). undo_component code s (pull_item x pick (x ∷ xs)) i rest w) (ap (λ (z : Begun). z.initial) (sym (is x)) ∙ type)
+    ∙ ap (λ (z : Begun). undo_part code (parts_of code t) (component_of s z.offset z.position) t rest w) (sym (is x))
+
+-- The frame with the rest --------------------------------------------------------------------------------
+
+-- with further cells
+pub rest_undoes : (code : Code) (old new : Engine) (type first : ℕ) (those rest : Left) (p : Spot) (t : Finished) (left right : List Begun) (more : List ℕ) → UndoesParts code old type those first t left → AreAmong (controlled_of code type) rest (is_undone t.spot t.control) right
+    → kept new ≡ with_top (FrameOf.UndoingParts type rest first) (with_cells (kept old) (old.cells.items ++ more)) → Finishes code new (record { spot = p; control = T.UndoingParts t.spot right ∷ t.control; world = t.world })
+rest_undoes code old new type first those rest p t left right more f b are =
+    changed_finishes code old new (FrameOf.UndoingParts type those first) (FrameOf.UndoingParts type rest first) (T.UndoingParts t.spot left) (T.UndoingParts t.spot right) p f.frames t more (undoes_parts f.undone f.are) (undoes_parts f.undone b) f.top f.holds f.spots f.sized are
