@@ -1,5 +1,5 @@
--- Whole trees: each is good where its parts are.
-use Rattle.std.proofs.Common.{sym, subst, ℕ, zero, suc, ◌-◌, List, [], ◌∷◌, ◌++◌, map, Option, Some, None, option_map, slice_get}
+-- Whole trees: what each layer of a tree keeps holds of the tree.
+use Rattle.std.proofs.Common.{◌≡◌, sym, subst, ℕ, zero, suc, ◌-◌, List, [], ◌∷◌, ◌++◌, map, Option, Some, None, option_map, slice_get}
 use Rattle.ctl_program.specs.declared.expression.Expr.{Expr, roll-Expr, map-Expr, ind-Expr}
 use Rattle.ctl_program.specs.declared.expression.Name.{Name, roll-Name, map-Name, ind-Name}
 use Rattle.ctl_program.specs.declared.expression.Actual.{Actual, roll-Actual, map-Actual, ind-Actual}
@@ -7,7 +7,6 @@ use Rattle.ctl_program.specs.declared.expression.Operand.{Operand, Operand-F, ro
 use Rattle.ctl_program.specs.declared.expression.Actual.TheOpen.{Actual-F, Expr-F, Name-F}
 use Rattle.ctl_program.specs.declared.types.Component.{Component}
 use Rattle.ctl_program.specs.declared.types.RecordType.{RecordType}
-use Rattle.ctl_program.specs.declared.statement.Association.{Association}
 use Rattle.ctl_program.specs.declared.statement.Piece.{Piece}
 use Rattle.ctl_program.specs.declared.statement.Item.{Item}
 use Rattle.ctl_program.specs.declared.statement.Stmt.{Stmt, roll-Stmt, map-Stmt, ind-Stmt}
@@ -16,19 +15,15 @@ use Rattle.ctl_program.specs.declared.statement.Arm.{Arm, Arm-F, roll-Arm, map-A
 use Rattle.ctl_program.specs.declared.statement.Handler.{Handler, Handler-F, roll-Handler, map-Handler}
 use Rattle.ctl_program.specs.declared.statement.Master.{Master, Master-F, roll-Master, map-Master, ind-Master}
 use Rattle.ctl_program.specs.declared.program.Subprogram.{Subprogram}
-use Rattle.ctl_meaning.specs.World.{Slot}
 use Rattle.ctl_meaning.specs.Lists.{item_or}
-use Rattle.ctl_meaning.specs.Choice.{Ask}
-use Rattle.ctl_meaning.specs.Outcome.{Act, on_some}
-use Rattle.ctl_meaning.specs.Types.{Tables, of_parent}
-use Rattle.ctl_meaning.specs.Names.{Call as Caller, Default, Returned, gone}
-use Rattle.ctl_meaning.specs.Expressions.{Valued, Naming, Applied, Supplied, eval, eval_name, supply, apply}
+use Rattle.ctl_meaning.specs.Types.{of_parent}
+use Rattle.ctl_meaning.specs.Expressions.{Valued, Naming, Applied, Supplied, actual_step, eval_step, name_step, eval, eval_name, supply, apply}
 use Rattle.ctl_meaning.specs.Masters.{association, elaborate_item}
-use Rattle.ctl_meaning.specs.Statements.{Doing, Guarding, Body, eval_piece, exec, arm_of, handler_of, body_of}
-use Rattle.ctl_meaning.specs.Run.{routine_of, own_defaults, row_of, defaults_from, default_at, run_routine}
+use Rattle.ctl_meaning.specs.Statements.{Doing, Guarding, Body, exec_step, eval_piece, exec, arm_of, handler_of, body_of}
+use Rattle.ctl_meaning.specs.Run.{Routine, routine_of, own_defaults, row_of, defaults_from, default_at}
 use Rattle.ctl_meaning.proofs.Trees.{eval_roll, name_roll, actual_roll, operand_roll, exec_roll, arm_roll, handler_roll, master_roll}
-use Rattle.ctl_meaning.proofs.Relation.{Closed, Each, IfSome}
-use Rattle.ctl_meaning.proofs.Induction as I
+use Rattle.ctl_meaning.proofs.Relation.{Each, IfSome}
+use Rattle.ctl_meaning.proofs.Layers.{OfExpressions, Expressions, OfStatements, Statements}
 
 -- Lists of children, each with what is proved of it -------------------------------------
 
@@ -36,7 +31,7 @@ each_too : {T A : Type 0} (f : T → A) (P : A → Type 0) (xs : List ((x : T) �
 each_too f P [] = tt
 each_too f P (x ∷ xs) = (x.1, each_too f P xs)
 
-pub each_of_all : {T A : Type 0} (f : T → A) (P : A → Type 0) → ((x : T) → P (f x)) → (xs : List T) → Each P (map f xs)
+each_of_all : {T A : Type 0} (f : T → A) (P : A → Type 0) → ((x : T) → P (f x)) → (xs : List T) → Each P (map f xs)
 each_of_all f P h [] = tt
 each_of_all f P h (x ∷ xs) = (h x, each_of_all f P h xs)
 
@@ -52,225 +47,195 @@ each_joined : {A : Type 0} (P : A → Type 0) (xs ys : List A) → Each P xs →
 each_joined P [] ys h i = i
 each_joined P (x ∷ xs) ys h i = (h.0, each_joined P xs ys h.1 i)
 
-item_good : {A : Type 0} (P : A → Type 0) (d : A) (xs : List A) → P d → Each P xs → (i : ℕ) → P (item_or d (slice_get xs i))
+-- what holds of each item holds of one that is found
+found_good : {A : Type 0} (P : A → Type 0) (xs : List A) → Each P xs → (i : ℕ) → IfSome P (slice_get xs i)
+found_good P [] h i = tt
+found_good P (x ∷ xs) h zero = h.0
+found_good P (x ∷ xs) h (suc i) = found_good P xs h.1 i
+
+item_good : {A : Type 0} (P : A → Type 0) (d : A) → P d → (o : Option A) → IfSome P o → P (item_or d o)
 unfolding item_or
-item_good P d [] p h i = p
-item_good P d (x ∷ xs) p h zero = h.0
-item_good P d (x ∷ xs) p h (suc i) = item_good P d xs p h.1 i
+item_good P d p None h = p
+item_good P d p (Some x) h = h
 
-module _ (t : Tables) (ask other : Ask) (call spare : Caller) (default fallback : Default) (Rel : (A : Type 0) → Act A → Act A → Type 0) (closed : Closed t ask other Rel) where
-  abbrev pub GoodValue : Valued → Type 0
-  GoodValue = I.GoodValue t ask other call spare default fallback Rel closed
+module _ {P : OfExpressions} (e : Expressions P) where
+  abbrev ActualToo : Type 0
+  ActualToo = (a : Actual) × P.Actual (supply a)
 
-  abbrev GoodName : Naming → Type 0
-  GoodName = I.GoodName t ask other call spare default fallback Rel closed
+  abbrev ExprToo : Type 0
+  ExprToo = (e : Expr) × P.Value (eval e)
 
-  abbrev GoodOperand : Applied → Type 0
-  GoodOperand = I.GoodOperand t ask other call spare default fallback Rel closed
+  abbrev NameToo : Type 0
+  NameToo = (n : Name) × P.Name (eval_name n)
 
-  abbrev GoodActual : Supplied → Type 0
-  GoodActual = I.GoodActual t ask other call spare default fallback Rel closed
+  abbrev OperandToo : Type 0
+  OperandToo = (o : Operand) × P.Operand (apply o)
 
-  module _ (calls : I.Calls t ask other call spare default fallback Rel closed) (allocates : I.Allocates t ask other call spare default fallback Rel closed) where
-    abbrev ActualToo : Type 0
-    ActualToo = (a : Actual) × GoodActual (supply a)
+  abbrev bare_expr : Expr-F ActualToo ExprToo NameToo OperandToo → Expr-F Actual Expr Name Operand
+  bare_expr = map-Expr ActualToo ExprToo NameToo OperandToo Actual Expr Name Operand (λ e. e.0) (λ e. e.0) (λ e. e.0) (λ e. e.0)
 
-    abbrev ExprToo : Type 0
-    ExprToo = (e : Expr) × GoodValue (eval e)
+  abbrev bare_name : Name-F ActualToo ExprToo NameToo OperandToo → Name-F Actual Expr Name Operand
+  bare_name = map-Name ActualToo ExprToo NameToo OperandToo Actual Expr Name Operand (λ e. e.0) (λ e. e.0) (λ e. e.0) (λ e. e.0)
 
-    abbrev NameToo : Type 0
-    NameToo = (n : Name) × GoodName (eval_name n)
+  abbrev bare_actual : Actual-F ActualToo ExprToo NameToo OperandToo → Actual-F Actual Expr Name Operand
+  bare_actual = map-Actual ActualToo ExprToo NameToo OperandToo Actual Expr Name Operand (λ e. e.0) (λ e. e.0) (λ e. e.0) (λ e. e.0)
 
-    abbrev OperandToo : Type 0
-    OperandToo = (o : Operand) × GoodOperand (apply o)
+  abbrev bare_operand : Operand-F ActualToo ExprToo NameToo OperandToo → Operand-F Actual Expr Name Operand
+  bare_operand = map-Operand ActualToo ExprToo NameToo OperandToo Actual Expr Name Operand (λ e. e.0) (λ e. e.0) (λ e. e.0) (λ e. e.0)
 
-    abbrev bare_expr : Expr-F ActualToo ExprToo NameToo OperandToo → Expr-F Actual Expr Name Operand
-    bare_expr = map-Expr ActualToo ExprToo NameToo OperandToo Actual Expr Name Operand (λ e. e.0) (λ e. e.0) (λ e. e.0) (λ e. e.0)
+  expr_layer : (y : Expr-F ActualToo ExprToo NameToo OperandToo) → P.Value (eval_step (map-Expr Actual Expr Name Operand Supplied Valued Naming Applied supply eval eval_name apply (bare_expr y)))
+  expr_layer (Expr-F.Constant n) = e.constant n
+  expr_layer (Expr-F.Read n ty) = e.read _ ty n.1
+  expr_layer (Expr-F.Call f xs ty) = e.call f _ ty (each_too supply P.Actual xs)
+  expr_layer (Expr-F.Unary op ty x) = e.unary op ty _ x.1
+  expr_layer (Expr-F.Chain x o os) = e.chain _ _ _ x.1 o.1 (each_too apply P.Operand os)
+  expr_layer (Expr-F.Short op x y more) = e.short op _ _ _ x.1 y.1 (each_too eval P.Value more)
+  expr_layer (Expr-F.Convert ty x) = e.convert ty _ x.1
+  expr_layer (Expr-F.Access v) = e.access v
+  expr_layer (Expr-F.New access ty None None) = e.new access ty None None tt tt
+  expr_layer (Expr-F.New access ty None (Some y)) = e.new access ty None (Some (eval y.0)) tt y.1
+  expr_layer (Expr-F.New access ty (Some x) None) = e.new access ty (Some (eval x.0)) None x.1 tt
+  expr_layer (Expr-F.New access ty (Some x) (Some y)) = e.new access ty (Some (eval x.0)) (Some (eval y.0)) x.1 y.1
+  expr_layer (Expr-F.Subpool which n) = e.subpool which _ n.1
+  expr_layer (Expr-F.Discriminant n i) = e.discriminant _ i n.1
 
-    abbrev bare_name : Name-F ActualToo ExprToo NameToo OperandToo → Name-F Actual Expr Name Operand
-    bare_name = map-Name ActualToo ExprToo NameToo OperandToo Actual Expr Name Operand (λ e. e.0) (λ e. e.0) (λ e. e.0) (λ e. e.0)
+  name_layer : (y : Name-F ActualToo ExprToo NameToo OperandToo) → P.Name (name_step (map-Name Actual Expr Name Operand Supplied Valued Naming Applied supply eval eval_name apply (bare_name y)))
+  name_layer (Name-F.Variable v ss) = e.variable v ss
+  name_layer (Name-F.Given x ss) = e.given _ ss x.1
 
-    abbrev bare_actual : Actual-F ActualToo ExprToo NameToo OperandToo → Actual-F Actual Expr Name Operand
-    bare_actual = map-Actual ActualToo ExprToo NameToo OperandToo Actual Expr Name Operand (λ e. e.0) (λ e. e.0) (λ e. e.0) (λ e. e.0)
+  actual_layer : (y : Actual-F ActualToo ExprToo NameToo OperandToo) → P.Actual (actual_step (map-Actual Actual Expr Name Operand Supplied Valued Naming Applied supply eval eval_name apply (bare_actual y)))
+  actual_layer (Actual-F.ByValue x ty) = e.by_value _ ty x.1
+  actual_layer (Actual-F.Part n ty) = e.part _ ty n.1
+  actual_layer (Actual-F.Copied n ty b) = e.copied _ ty b n.1
 
-    abbrev bare_operand : Operand-F ActualToo ExprToo NameToo OperandToo → Operand-F Actual Expr Name Operand
-    bare_operand = map-Operand ActualToo ExprToo NameToo OperandToo Actual Expr Name Operand (λ e. e.0) (λ e. e.0) (λ e. e.0) (λ e. e.0)
+  of_actual : (x : Actual-F Actual Expr Name Operand) (y : Actual-F ActualToo ExprToo NameToo OperandToo) → bare_actual y ≡ x → P.Actual (supply (roll-Actual x))
+  of_actual x y is = subst (λ z. P.Actual (supply (roll-Actual z))) is (subst P.Actual (sym (actual_roll (bare_actual y))) (actual_layer y))
 
-    expr_rolled : (y : Expr-F ActualToo ExprToo NameToo OperandToo) → GoodValue (eval (roll-Expr (bare_expr y)))
-    expr_rolled (Expr-F.Constant n) = subst GoodValue (sym (eval_roll (Expr-F.Constant n))) (I.good_constant t ask other call spare default fallback Rel closed calls allocates n)
-    expr_rolled (Expr-F.Read n ty) = subst GoodValue (sym (eval_roll (Expr-F.Read n.0 ty))) (I.good_read t ask other call spare default fallback Rel closed calls allocates _ ty n.1)
-    expr_rolled (Expr-F.Call f xs ty) = subst GoodValue (sym (eval_roll (Expr-F.Call f (map (λ e. e.0) xs) ty))) (I.good_call t ask other call spare default fallback Rel closed calls allocates f _ ty (each_too supply GoodActual xs))
-    expr_rolled (Expr-F.Unary op ty e) = subst GoodValue (sym (eval_roll (Expr-F.Unary op ty e.0))) (I.good_unary t ask other call spare default fallback Rel closed calls allocates op ty _ e.1)
-    expr_rolled (Expr-F.Chain e o os) = subst GoodValue (sym (eval_roll (Expr-F.Chain e.0 o.0 (map (λ e. e.0) os)))) (I.good_chain t ask other call spare default fallback Rel closed calls allocates _ _ _ e.1 o.1 (each_too apply GoodOperand os))
-    expr_rolled (Expr-F.Short op e f es) = subst GoodValue (sym (eval_roll (Expr-F.Short op e.0 f.0 (map (λ e. e.0) es)))) (I.good_short t ask other call spare default fallback Rel closed calls allocates op _ _ _ e.1 f.1 (each_too eval GoodValue es))
-    expr_rolled (Expr-F.Convert ty e) = subst GoodValue (sym (eval_roll (Expr-F.Convert ty e.0))) (I.good_convert t ask other call spare default fallback Rel closed calls allocates ty _ e.1)
-    expr_rolled (Expr-F.Access v) = subst GoodValue (sym (eval_roll (Expr-F.Access v))) (I.good_access t ask other call spare default fallback Rel closed calls allocates v)
-    expr_rolled (Expr-F.New access ty None None) = subst GoodValue (sym (eval_roll (Expr-F.New access ty None None))) (I.good_new t ask other call spare default fallback Rel closed calls allocates access ty None None tt tt)
-    expr_rolled (Expr-F.New access ty None (Some v)) = subst GoodValue (sym (eval_roll (Expr-F.New access ty None (Some v.0)))) (I.good_new t ask other call spare default fallback Rel closed calls allocates access ty None (Some (eval v.0)) tt v.1)
-    expr_rolled (Expr-F.New access ty (Some h) None) = subst GoodValue (sym (eval_roll (Expr-F.New access ty (Some h.0) None))) (I.good_new t ask other call spare default fallback Rel closed calls allocates access ty (Some (eval h.0)) None h.1 tt)
-    expr_rolled (Expr-F.New access ty (Some h) (Some v)) = subst GoodValue (sym (eval_roll (Expr-F.New access ty (Some h.0) (Some v.0)))) (I.good_new t ask other call spare default fallback Rel closed calls allocates access ty (Some (eval h.0)) (Some (eval v.0)) h.1 v.1)
-    expr_rolled (Expr-F.Subpool which n) = subst GoodValue (sym (eval_roll (Expr-F.Subpool which n.0))) (I.good_subpool t ask other call spare default fallback Rel closed calls allocates which _ n.1)
-    expr_rolled (Expr-F.Discriminant n i) = subst GoodValue (sym (eval_roll (Expr-F.Discriminant n.0 i))) (I.good_discriminant t ask other call spare default fallback Rel closed calls allocates _ i n.1)
+  of_expr : (x : Expr-F Actual Expr Name Operand) (y : Expr-F ActualToo ExprToo NameToo OperandToo) → bare_expr y ≡ x → P.Value (eval (roll-Expr x))
+  of_expr x y is = subst (λ z. P.Value (eval (roll-Expr z))) is (subst P.Value (sym (eval_roll (bare_expr y))) (expr_layer y))
 
-    name_rolled : (y : Name-F ActualToo ExprToo NameToo OperandToo) → GoodName (eval_name (roll-Name (bare_name y)))
-    name_rolled (Name-F.Variable v ss) = subst GoodName (sym (name_roll (Name-F.Variable v ss))) (I.good_variable t ask other call spare default fallback Rel closed calls allocates v ss)
-    name_rolled (Name-F.Given e ss) = subst GoodName (sym (name_roll (Name-F.Given e.0 ss))) (I.good_given t ask other call spare default fallback Rel closed calls allocates _ ss e.1)
+  of_name : (x : Name-F Actual Expr Name Operand) (y : Name-F ActualToo ExprToo NameToo OperandToo) → bare_name y ≡ x → P.Name (eval_name (roll-Name x))
+  of_name x y is = subst (λ z. P.Name (eval_name (roll-Name z))) is (subst P.Name (sym (name_roll (bare_name y))) (name_layer y))
 
-    actual_rolled : (y : Actual-F ActualToo ExprToo NameToo OperandToo) → GoodActual (supply (roll-Actual (bare_actual y)))
-    actual_rolled (Actual-F.ByValue e ty) = subst GoodActual (sym (actual_roll (Actual-F.ByValue e.0 ty))) (I.good_by_value t ask other call spare default fallback Rel closed calls allocates _ ty e.1)
-    actual_rolled (Actual-F.Part n ty) = subst GoodActual (sym (actual_roll (Actual-F.Part n.0 ty))) (I.good_part t ask other call spare default fallback Rel closed calls allocates _ ty n.1)
-    actual_rolled (Actual-F.Copied n ty b) = subst GoodActual (sym (actual_roll (Actual-F.Copied n.0 ty b))) (I.good_copied t ask other call spare default fallback Rel closed calls allocates _ ty b n.1)
+  of_operand : (x : Operand-F Actual Expr Name Operand) (y : Operand-F ActualToo ExprToo NameToo OperandToo) → bare_operand y ≡ x → P.Operand (apply (roll-Operand x))
+  of_operand x y is = subst (λ z. P.Operand (apply (roll-Operand z))) is (subst P.Operand (sym (operand_roll (bare_operand y))) (e.operand y.op y.ty _ y.right.1))
 
-    operand_rolled : (y : Operand-F ActualToo ExprToo NameToo OperandToo) → GoodOperand (apply (roll-Operand (bare_operand y)))
-    operand_rolled y = subst GoodOperand (sym (operand_roll (bare_operand y))) (I.good_operand t ask other call spare default fallback Rel closed calls allocates y.op y.ty _ y.right.1)
+  good_value : (e : Expr) → P.Value (eval e)
+  good_value = ind-Expr (λ a. P.Actual (supply a)) (λ e. P.Value (eval e)) (λ n. P.Name (eval_name n)) (λ o. P.Operand (apply o)) of_actual of_expr of_name of_operand
 
-    pub good_value : (e : Expr) → GoodValue (eval e)
-    good_value = ind-Expr (λ a. GoodActual (supply a)) (λ e. GoodValue (eval e)) (λ n. GoodName (eval_name n)) (λ o. GoodOperand (apply o))
-        (λ x y is. subst (λ z. GoodActual (supply (roll-Actual z))) is (actual_rolled y))
-        (λ x y is. subst (λ z. GoodValue (eval (roll-Expr z))) is (expr_rolled y))
-        (λ x y is. subst (λ z. GoodName (eval_name (roll-Name z))) is (name_rolled y))
-        (λ x y is. subst (λ z. GoodOperand (apply (roll-Operand z))) is (operand_rolled y))
+  good_name : (n : Name) → P.Name (eval_name n)
+  good_name = ind-Name (λ a. P.Actual (supply a)) (λ e. P.Value (eval e)) (λ n. P.Name (eval_name n)) (λ o. P.Operand (apply o)) of_actual of_expr of_name of_operand
 
-    pub good_name : (n : Name) → GoodName (eval_name n)
-    good_name = ind-Name (λ a. GoodActual (supply a)) (λ e. GoodValue (eval e)) (λ n. GoodName (eval_name n)) (λ o. GoodOperand (apply o))
-        (λ x y is. subst (λ z. GoodActual (supply (roll-Actual z))) is (actual_rolled y))
-        (λ x y is. subst (λ z. GoodValue (eval (roll-Expr z))) is (expr_rolled y))
-        (λ x y is. subst (λ z. GoodName (eval_name (roll-Name z))) is (name_rolled y))
-        (λ x y is. subst (λ z. GoodOperand (apply (roll-Operand z))) is (operand_rolled y))
+  good_actual : (a : Actual) → P.Actual (supply a)
+  good_actual = ind-Actual (λ a. P.Actual (supply a)) (λ e. P.Value (eval e)) (λ n. P.Name (eval_name n)) (λ o. P.Operand (apply o)) of_actual of_expr of_name of_operand
 
-    pub good_actual : (a : Actual) → GoodActual (supply a)
-    good_actual = ind-Actual (λ a. GoodActual (supply a)) (λ e. GoodValue (eval e)) (λ n. GoodName (eval_name n)) (λ o. GoodOperand (apply o))
-        (λ x y is. subst (λ z. GoodActual (supply (roll-Actual z))) is (actual_rolled y))
-        (λ x y is. subst (λ z. GoodValue (eval (roll-Expr z))) is (expr_rolled y))
-        (λ x y is. subst (λ z. GoodName (eval_name (roll-Name z))) is (name_rolled y))
-        (λ x y is. subst (λ z. GoodOperand (apply (roll-Operand z))) is (operand_rolled y))
+  -- Default expressions ---------------------------------------------------------------
 
-    module _ (values : I.Starts t ask other call spare default fallback Rel closed) where
-      abbrev pub GoodDoing : Doing → Type 0
-      GoodDoing = I.GoodDoing t ask other call spare default fallback Rel closed calls allocates values
+  abbrev GoodDefault : Option Valued → Type 0
+  GoodDefault = IfSome P.Value
 
-      abbrev GoodGuard : Guarding → Type 0
-      GoodGuard = I.GoodGuard t ask other call spare default fallback Rel closed calls allocates values
+  own_good : (xs : List Component) → Each GoodDefault (map (λ c. option_map eval c.default) xs)
+  own_good [] = tt
+  own_good (c ∷ cs) = (if_some eval P.Value good_value c.default, own_good cs)
 
-      abbrev pub GoodBody : Body → Type 0
-      GoodBody = I.GoodBody t ask other call spare default fallback Rel closed calls allocates values
+  row_good : (rows : List (List (Option Valued))) → Each (Each GoodDefault) rows → (u : ℕ) → Each GoodDefault (row_of rows u)
+  unfolding row_of
+  row_good rows h u = item_good (Each GoodDefault) [] tt (slice_get rows u) (found_good (Each GoodDefault) rows h u)
 
-      association_good : (x : Association) → GoodValue (association x).1
-      association_good x = good_value x.value
+  parent_good : (rows : List (List (Option Valued))) → Each (Each GoodDefault) rows → (p : Option ℕ) → Each GoodDefault (of_parent [] (row_of rows) p)
+  unfolding of_parent
+  parent_good rows h None = tt
+  parent_good rows h (Some u) = row_good rows h u
 
-      item_is_good : (x : Item) → I.GoodItem t ask other call spare default fallback Rel closed calls allocates values (elaborate_item x)
-      item_is_good (Item.Collections accesses) = I.good_collections t ask other call spare default fallback Rel closed calls allocates values accesses
-      item_is_good (Item.Object slot ty o) = I.good_object t ask other call spare default fallback Rel closed calls allocates values slot ty _ (if_some eval GoodValue good_value o)
-      item_is_good (Item.Pool slot u ds) = I.good_pool t ask other call spare default fallback Rel closed calls allocates values slot u _ (each_of_all association (λ x. GoodValue x.1) association_good ds)
-      item_is_good Item.Silent = I.good_silent t ask other call spare default fallback Rel closed calls allocates values
+  rows_good : (rows : List (List (Option Valued))) → Each (Each GoodDefault) rows → (rs : List RecordType) → Each (Each GoodDefault) (defaults_from rows rs)
+  unfolding defaults_from
+  rows_good rows h [] = h
+  rows_good rows h (r ∷ rs) = rows_good (rows ++ (of_parent [] (row_of rows) r.parent ++ own_defaults r) ∷ []) (each_behind (Each GoodDefault) rows _ h (each_joined GoodDefault _ _ (parent_good rows h r.parent) (own_good r.own))) rs
 
-      piece_good : (p : Piece) → GoodValue (eval_piece p)
-      piece_good (Piece.Text v) = I.good_literal t ask other call spare default fallback Rel closed calls allocates values v
-      piece_good (Piece.IntegerImage e) = I.good_integer_text t ask other call spare default fallback Rel closed calls allocates values _ (good_value e)
-      piece_good (Piece.BooleanImage e) = I.good_boolean_text t ask other call spare default fallback Rel closed calls allocates values _ (good_value e)
+  pub good_default : (rs : List RecordType) (u position : ℕ) → IfSome P.Value (default_at (defaults_from [] rs) u position)
+  unfolding default_at
+  good_default rs u position = item_good GoodDefault None tt (slice_get (row_of (defaults_from [] rs) u) (position - 1)) (found_good GoodDefault _ (row_good _ (rows_good [] tt rs) u) (position - 1))
 
-      abbrev StmtToo : Type 0
-      StmtToo = (s : Stmt) × GoodDoing (exec s)
+  -- Statements ------------------------------------------------------------------------
 
-      abbrev ArmToo : Type 0
-      ArmToo = (a : Arm) × GoodGuard (arm_of a)
+  module _ {Q : OfStatements} (s : Statements P Q) where
+    item_is_good : (x : Item) → Q.Item (elaborate_item x)
+    item_is_good (Item.Collections accesses) = s.declarations.collections accesses
+    item_is_good (Item.Object slot ty o) = s.declarations.object slot ty _ (if_some eval P.Value good_value o)
+    item_is_good (Item.Pool slot u ds) = s.declarations.pool slot u _ (each_of_all association (λ x. P.Value x.1) (λ x. good_value x.value) ds)
+    item_is_good Item.Silent = s.declarations.silent
 
-      abbrev HandlerToo : Type 0
-      HandlerToo = (h : Handler) × GoodGuard (handler_of h)
+    piece_good : (x : Piece) → P.Value (eval_piece x)
+    piece_good (Piece.Text v) = s.literal v
+    piece_good (Piece.IntegerImage x) = s.integer_text _ (good_value x)
+    piece_good (Piece.BooleanImage x) = s.boolean_text _ (good_value x)
 
-      abbrev MasterToo : Type 0
-      MasterToo = (m : Master) × GoodBody (body_of m)
+    abbrev StmtToo : Type 0
+    StmtToo = (s : Stmt) × Q.Statement (exec s)
 
-      abbrev bare_stmt : Stmt-F StmtToo ArmToo HandlerToo MasterToo → Stmt-F Stmt Arm Handler Master
-      bare_stmt = map-Stmt StmtToo ArmToo HandlerToo MasterToo Stmt Arm Handler Master (λ e. e.0) (λ e. e.0) (λ e. e.0) (λ e. e.0)
+    abbrev ArmToo : Type 0
+    ArmToo = (a : Arm) × Q.Guard (arm_of a)
 
-      abbrev bare_arm : Arm-F StmtToo ArmToo HandlerToo MasterToo → Arm-F Stmt Arm Handler Master
-      bare_arm = map-Arm StmtToo ArmToo HandlerToo MasterToo Stmt Arm Handler Master (λ e. e.0) (λ e. e.0) (λ e. e.0) (λ e. e.0)
+    abbrev HandlerToo : Type 0
+    HandlerToo = (h : Handler) × Q.Guard (handler_of h)
 
-      abbrev bare_handler : Handler-F StmtToo ArmToo HandlerToo MasterToo → Handler-F Stmt Arm Handler Master
-      bare_handler = map-Handler StmtToo ArmToo HandlerToo MasterToo Stmt Arm Handler Master (λ e. e.0) (λ e. e.0) (λ e. e.0) (λ e. e.0)
+    abbrev MasterToo : Type 0
+    MasterToo = (m : Master) × Q.Master (body_of m)
 
-      abbrev bare_master : Master-F StmtToo ArmToo HandlerToo MasterToo → Master-F Stmt Arm Handler Master
-      bare_master = map-Master StmtToo ArmToo HandlerToo MasterToo Stmt Arm Handler Master (λ e. e.0) (λ e. e.0) (λ e. e.0) (λ e. e.0)
+    abbrev bare_stmt : Stmt-F StmtToo ArmToo HandlerToo MasterToo → Stmt-F Stmt Arm Handler Master
+    bare_stmt = map-Stmt StmtToo ArmToo HandlerToo MasterToo Stmt Arm Handler Master (λ e. e.0) (λ e. e.0) (λ e. e.0) (λ e. e.0)
 
-      stmt_rolled : (y : Stmt-F StmtToo ArmToo HandlerToo MasterToo) → GoodDoing (exec (roll-Stmt (bare_stmt y)))
-      stmt_rolled Stmt-F.Null = subst GoodDoing (sym (exec_roll Stmt-F.Null)) (I.good_null t ask other call spare default fallback Rel closed calls allocates values)
-      stmt_rolled (Stmt-F.Assign n e) = subst GoodDoing (sym (exec_roll (Stmt-F.Assign n e))) (I.good_assign t ask other call spare default fallback Rel closed calls allocates values _ _ (good_name n) (good_value e))
-      stmt_rolled (Stmt-F.AssignRecord n u a) = subst GoodDoing (sym (exec_roll (Stmt-F.AssignRecord n u a))) (I.good_assign_part t ask other call spare default fallback Rel closed calls allocates values _ u _ (good_name n) (good_actual a))
-      stmt_rolled (Stmt-F.Call f xs) = subst GoodDoing (sym (exec_roll (Stmt-F.Call f xs))) (I.good_call_statement t ask other call spare default fallback Rel closed calls allocates values f _ (each_of_all supply GoodActual (good_actual) xs))
-      stmt_rolled (Stmt-F.Nothing n) = subst GoodDoing (sym (exec_roll (Stmt-F.Nothing n))) (I.good_call_nothing t ask other call spare default fallback Rel closed calls allocates values _ (good_name n))
-      stmt_rolled (Stmt-F.Dispatch op n) = subst GoodDoing (sym (exec_roll (Stmt-F.Dispatch op n))) (I.good_dispatching t ask other call spare default fallback Rel closed calls allocates values op _ (good_name n))
-      stmt_rolled (Stmt-F.LibraryAllocate p a size al) = subst GoodDoing (sym (exec_roll (Stmt-F.LibraryAllocate p a size al))) (I.good_call_allocate t ask other call spare default fallback Rel closed calls allocates values _ _ _ _ (good_name p) (good_name a) (good_value size) (good_value al))
-      stmt_rolled (Stmt-F.LibraryDeallocate p a size al) = subst GoodDoing (sym (exec_roll (Stmt-F.LibraryDeallocate p a size al))) (I.good_call_deallocate t ask other call spare default fallback Rel closed calls allocates values _ _ _ _ (good_name p) (good_value a) (good_value size) (good_value al))
-      stmt_rolled (Stmt-F.Put ps) = subst GoodDoing (sym (exec_roll (Stmt-F.Put ps))) (I.good_put t ask other call spare default fallback Rel closed calls allocates values _ (each_of_all eval_piece GoodValue piece_good ps))
-      stmt_rolled (Stmt-F.PutLine ps) = subst GoodDoing (sym (exec_roll (Stmt-F.PutLine ps))) (I.good_put_line t ask other call spare default fallback Rel closed calls allocates values _ (each_of_all eval_piece GoodValue piece_good ps))
-      stmt_rolled Stmt-F.NewLine = subst GoodDoing (sym (exec_roll Stmt-F.NewLine)) (I.good_new_line t ask other call spare default fallback Rel closed calls allocates values)
-      stmt_rolled (Stmt-F.Exit o) = subst GoodDoing (sym (exec_roll (Stmt-F.Exit o))) (I.good_exit t ask other call spare default fallback Rel closed calls allocates values _ (if_some eval GoodValue (good_value) o))
-      stmt_rolled (Stmt-F.Return o) = subst GoodDoing (sym (exec_roll (Stmt-F.Return o))) (I.good_return t ask other call spare default fallback Rel closed calls allocates values _ (if_some eval GoodValue (good_value) o))
-      stmt_rolled (Stmt-F.Raise e) = subst GoodDoing (sym (exec_roll (Stmt-F.Raise e))) (I.good_raise t ask other call spare default fallback Rel closed calls allocates values e)
-      stmt_rolled Stmt-F.RaiseAgain = subst GoodDoing (sym (exec_roll Stmt-F.RaiseAgain)) (I.good_raise_again t ask other call spare default fallback Rel closed calls allocates values)
-      stmt_rolled (Stmt-F.If xs ss) = subst GoodDoing (sym (exec_roll (Stmt-F.If (map (λ e. e.0) xs) (map (λ e. e.0) ss)))) (I.good_choose_arm t ask other call spare default fallback Rel closed calls allocates values _ _ (each_too arm_of GoodGuard xs) (each_too exec GoodDoing ss))
-      stmt_rolled (Stmt-F.Loop ss) = subst GoodDoing (sym (exec_roll (Stmt-F.Loop (map (λ e. e.0) ss)))) (I.good_loop t ask other call spare default fallback Rel closed calls allocates values _ (each_too exec GoodDoing ss))
-      stmt_rolled (Stmt-F.While v ss) = subst GoodDoing (sym (exec_roll (Stmt-F.While v (map (λ e. e.0) ss)))) (I.good_while t ask other call spare default fallback Rel closed calls allocates values _ _ (good_value v) (each_too exec GoodDoing ss))
-      stmt_rolled (Stmt-F.For x way low high ss) = subst GoodDoing (sym (exec_roll (Stmt-F.For x way low high (map (λ e. e.0) ss)))) (I.good_for t ask other call spare default fallback Rel closed calls allocates values x way _ _ _ (good_value low) (good_value high) (each_too exec GoodDoing ss))
-      stmt_rolled (Stmt-F.Block b) = subst GoodDoing (sym (exec_roll (Stmt-F.Block b.0))) (I.good_block t ask other call spare default fallback Rel closed calls allocates values _ b.1)
-      stmt_rolled (Stmt-F.Free a n) = subst GoodDoing (sym (exec_roll (Stmt-F.Free a n))) (I.good_free t ask other call spare default fallback Rel closed calls allocates values a _ (good_name n))
-      stmt_rolled (Stmt-F.Release n) = subst GoodDoing (sym (exec_roll (Stmt-F.Release n))) (I.good_release t ask other call spare default fallback Rel closed calls allocates values _ (good_name n))
+    abbrev bare_arm : Arm-F StmtToo ArmToo HandlerToo MasterToo → Arm-F Stmt Arm Handler Master
+    bare_arm = map-Arm StmtToo ArmToo HandlerToo MasterToo Stmt Arm Handler Master (λ e. e.0) (λ e. e.0) (λ e. e.0) (λ e. e.0)
 
-      arm_rolled : (y : Arm-F StmtToo ArmToo HandlerToo MasterToo) → GoodGuard (arm_of (roll-Arm (bare_arm y)))
-      arm_rolled y = subst GoodGuard (sym (arm_roll (bare_arm y))) (I.good_guard t ask other call spare default fallback Rel closed calls allocates values _ _ (good_value y.test) (each_too exec GoodDoing y.body))
+    abbrev bare_handler : Handler-F StmtToo ArmToo HandlerToo MasterToo → Handler-F Stmt Arm Handler Master
+    bare_handler = map-Handler StmtToo ArmToo HandlerToo MasterToo Stmt Arm Handler Master (λ e. e.0) (λ e. e.0) (λ e. e.0) (λ e. e.0)
 
-      handler_rolled : (y : Handler-F StmtToo ArmToo HandlerToo MasterToo) → GoodGuard (handler_of (roll-Handler (bare_handler y)))
-      handler_rolled y = subst GoodGuard (sym (handler_roll (bare_handler y))) (I.good_handler t ask other call spare default fallback Rel closed calls allocates values y.choices _ (each_too exec GoodDoing y.body))
+    abbrev bare_master : Master-F StmtToo ArmToo HandlerToo MasterToo → Master-F Stmt Arm Handler Master
+    bare_master = map-Master StmtToo ArmToo HandlerToo MasterToo Stmt Arm Handler Master (λ e. e.0) (λ e. e.0) (λ e. e.0) (λ e. e.0)
 
-      master_rolled : (y : Master-F StmtToo ArmToo HandlerToo MasterToo) → GoodBody (body_of (roll-Master (bare_master y)))
-      master_rolled y = subst GoodBody (sym (master_roll (bare_master y))) (I.good_within t ask other call spare default fallback Rel closed calls allocates values _ _ _ (each_of_all elaborate_item (I.GoodItem t ask other call spare default fallback Rel closed calls allocates values) item_is_good y.items) (each_too exec GoodDoing y.body) (each_too handler_of GoodGuard y.handlers))
+    statement_layer : (y : Stmt-F StmtToo ArmToo HandlerToo MasterToo) → Q.Statement (exec_step (map-Stmt Stmt Arm Handler Master Doing Guarding Guarding Body exec arm_of handler_of body_of (bare_stmt y)))
+    statement_layer Stmt-F.Null = s.null
+    statement_layer (Stmt-F.Assign n x) = s.assign _ _ (good_name n) (good_value x)
+    statement_layer (Stmt-F.AssignRecord n u a) = s.assign_part _ u _ (good_name n) (good_actual a)
+    statement_layer (Stmt-F.Call f xs) = s.call_statement f _ (each_of_all supply P.Actual good_actual xs)
+    statement_layer (Stmt-F.Nothing n) = s.call_nothing _ (good_name n)
+    statement_layer (Stmt-F.Dispatch op n) = s.dispatching op _ (good_name n)
+    statement_layer (Stmt-F.LibraryAllocate p a size al) = s.call_allocate _ _ _ _ (good_name p) (good_name a) (good_value size) (good_value al)
+    statement_layer (Stmt-F.LibraryDeallocate p a size al) = s.call_deallocate _ _ _ _ (good_name p) (good_value a) (good_value size) (good_value al)
+    statement_layer (Stmt-F.Put xs) = s.put _ (each_of_all eval_piece P.Value piece_good xs)
+    statement_layer (Stmt-F.PutLine xs) = s.put_line _ (each_of_all eval_piece P.Value piece_good xs)
+    statement_layer Stmt-F.NewLine = s.new_line
+    statement_layer (Stmt-F.Exit o) = s.exit _ (if_some eval P.Value good_value o)
+    statement_layer (Stmt-F.Return o) = s.return _ (if_some eval P.Value good_value o)
+    statement_layer (Stmt-F.Raise x) = s.raise x
+    statement_layer Stmt-F.RaiseAgain = s.raise_again
+    statement_layer (Stmt-F.If xs ss) = s.choose_arm _ _ (each_too arm_of Q.Guard xs) (each_too exec Q.Statement ss)
+    statement_layer (Stmt-F.Loop ss) = s.loop _ (each_too exec Q.Statement ss)
+    statement_layer (Stmt-F.While x ss) = s.while _ _ (good_value x) (each_too exec Q.Statement ss)
+    statement_layer (Stmt-F.For v way low high ss) = s.for v way _ _ _ (good_value low) (good_value high) (each_too exec Q.Statement ss)
+    statement_layer (Stmt-F.Block b) = s.block _ b.1
+    statement_layer (Stmt-F.Free a n) = s.free a _ (good_name n)
+    statement_layer (Stmt-F.Release n) = s.release _ (good_name n)
 
-      pub good_doing : (s : Stmt) → GoodDoing (exec s)
-      good_doing = ind-Stmt (λ s. GoodDoing (exec s)) (λ a. GoodGuard (arm_of a)) (λ h. GoodGuard (handler_of h)) (λ m. GoodBody (body_of m))
-          (λ x y is. subst (λ z. GoodDoing (exec (roll-Stmt z))) is (stmt_rolled y))
-          (λ x y is. subst (λ z. GoodGuard (arm_of (roll-Arm z))) is (arm_rolled y))
-          (λ x y is. subst (λ z. GoodGuard (handler_of (roll-Handler z))) is (handler_rolled y))
-          (λ x y is. subst (λ z. GoodBody (body_of (roll-Master z))) is (master_rolled y))
+    of_statement : (x : Stmt-F Stmt Arm Handler Master) (y : Stmt-F StmtToo ArmToo HandlerToo MasterToo) → bare_stmt y ≡ x → Q.Statement (exec (roll-Stmt x))
+    of_statement x y is = subst (λ z. Q.Statement (exec (roll-Stmt z))) is (subst Q.Statement (sym (exec_roll (bare_stmt y))) (statement_layer y))
 
-      pub good_body : (m : Master) → GoodBody (body_of m)
-      good_body = ind-Master (λ s. GoodDoing (exec s)) (λ a. GoodGuard (arm_of a)) (λ h. GoodGuard (handler_of h)) (λ m. GoodBody (body_of m))
-          (λ x y is. subst (λ z. GoodDoing (exec (roll-Stmt z))) is (stmt_rolled y))
-          (λ x y is. subst (λ z. GoodGuard (arm_of (roll-Arm z))) is (arm_rolled y))
-          (λ x y is. subst (λ z. GoodGuard (handler_of (roll-Handler z))) is (handler_rolled y))
-          (λ x y is. subst (λ z. GoodBody (body_of (roll-Master z))) is (master_rolled y))
+    of_arm : (x : Arm-F Stmt Arm Handler Master) (y : Arm-F StmtToo ArmToo HandlerToo MasterToo) → bare_arm y ≡ x → Q.Guard (arm_of (roll-Arm x))
+    of_arm x y is = subst (λ z. Q.Guard (arm_of (roll-Arm z))) is (subst Q.Guard (sym (arm_roll (bare_arm y))) (s.guard _ _ (good_value y.test) (each_too exec Q.Statement y.body)))
 
-      -- Subprograms ------------------------------------------------------------------
+    of_handler : (x : Handler-F Stmt Arm Handler Master) (y : Handler-F StmtToo ArmToo HandlerToo MasterToo) → bare_handler y ≡ x → Q.Guard (handler_of (roll-Handler x))
+    of_handler x y is = subst (λ z. Q.Guard (handler_of (roll-Handler z))) is (subst Q.Guard (sym (handler_roll (bare_handler y))) (s.handler y.choices _ (each_too exec Q.Statement y.body)))
 
-      pub good_routine : (ss : List Subprogram) (f : ℕ) (env : List ℕ) (xs : List Slot) → Rel Returned (on_some (slice_get (map routine_of ss) f) gone (run_routine (record { ask = ask; tables = t; call = call; default = default }) env xs)) (on_some (slice_get (map routine_of ss) f) gone (run_routine (record { ask = other; tables = t; call = spare; default = fallback }) env xs))
-      unfolding on_some
-      good_routine [] f env xs = I.k_gone_too t ask other call spare default fallback Rel closed calls allocates values
-      good_routine (s ∷ ss) zero env xs = I.k_run_routine t ask other call spare default fallback Rel closed calls allocates values env xs (routine_of s) (good_body s.body)
-      good_routine (s ∷ ss) (suc f) env xs = good_routine ss f env xs
+    of_master : (x : Master-F Stmt Arm Handler Master) (y : Master-F StmtToo ArmToo HandlerToo MasterToo) → bare_master y ≡ x → Q.Master (body_of (roll-Master x))
+    of_master x y is = subst (λ z. Q.Master (body_of (roll-Master z))) is (subst Q.Master (sym (master_roll (bare_master y))) (s.within y.slots _ _ _ (each_of_all elaborate_item Q.Item item_is_good y.items) (each_too exec Q.Statement y.body) (each_too handler_of Q.Guard y.handlers)))
 
-    -- Default expressions ---------------------------------------------------------------
+    pub good_statement : (s : Stmt) → Q.Statement (exec s)
+    good_statement = ind-Stmt (λ s. Q.Statement (exec s)) (λ a. Q.Guard (arm_of a)) (λ h. Q.Guard (handler_of h)) (λ m. Q.Master (body_of m)) of_statement of_arm of_handler of_master
 
-    abbrev pub GoodDefault : Option Valued → Type 0
-    GoodDefault = IfSome GoodValue
+    good_master : (m : Master) → Q.Master (body_of m)
+    good_master = ind-Master (λ s. Q.Statement (exec s)) (λ a. Q.Guard (arm_of a)) (λ h. Q.Guard (handler_of h)) (λ m. Q.Master (body_of m)) of_statement of_arm of_handler of_master
 
-    own_good : (xs : List Component) → Each GoodDefault (map (λ c. option_map eval c.default) xs)
-    own_good [] = tt
-    own_good (c ∷ cs) = (if_some eval GoodValue good_value c.default, own_good cs)
-
-    row_good : (rows : List (List (Option Valued))) → Each (Each GoodDefault) rows → (u : ℕ) → Each GoodDefault (row_of rows u)
-    unfolding row_of
-    row_good rows h u = item_good (Each GoodDefault) [] rows tt h u
-
-    parent_good : (rows : List (List (Option Valued))) → Each (Each GoodDefault) rows → (p : Option ℕ) → Each GoodDefault (of_parent [] (row_of rows) p)
-    unfolding of_parent
-    parent_good rows h None = tt
-    parent_good rows h (Some u) = row_good rows h u
-
-    rows_good : (rows : List (List (Option Valued))) → Each (Each GoodDefault) rows → (rs : List RecordType) → Each (Each GoodDefault) (defaults_from rows rs)
-    unfolding defaults_from
-    rows_good rows h [] = h
-    rows_good rows h (r ∷ rs) = rows_good (rows ++ (of_parent [] (row_of rows) r.parent ++ own_defaults r) ∷ []) (each_behind (Each GoodDefault) rows _ h (each_joined GoodDefault _ _ (parent_good rows h r.parent) (own_good r.own))) rs
-
-    pub good_default : (rs : List RecordType) (u position : ℕ) → GoodDefault (default_at (defaults_from [] rs) u position)
-    unfolding default_at
-    good_default rs u position = item_good GoodDefault None (row_of (defaults_from [] rs) u) tt (row_good _ (rows_good [] tt rs) u) (position - 1)
+    -- the body of a subprogram that is found
+    pub good_routine : (ss : List Subprogram) (f : ℕ) → IfSome (λ (r : Routine). Q.Master r.body) (slice_get (map routine_of ss) f)
+    good_routine ss f = found_good (λ (r : Routine). Q.Master r.body) (map routine_of ss) (each_of_all routine_of (λ (r : Routine). Q.Master r.body) (λ s. good_master s.body) ss) f

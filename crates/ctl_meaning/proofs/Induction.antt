@@ -15,12 +15,8 @@ use Rattle.ctl_program.specs.declared.operators.Operation.{Operation}
 use Rattle.ctl_program.specs.declared.operators.Direction.{Direction}
 use Rattle.ctl_program.specs.declared.operators.Direction.TheVariants.{Upward, Downward}
 use Rattle.ctl_program.specs.declared.operators.SubprogramKind.{SubprogramKind}
-use Rattle.ctl_program.specs.declared.operators.UnaryOp.{UnaryOp}
-use Rattle.ctl_program.specs.declared.operators.BinaryOp.{BinaryOp}
-use Rattle.ctl_program.specs.declared.expression.Actual.TheOpen.{Actual-F, Expr-F, Name-F}
 use Rattle.ctl_program.specs.declared.expression.Step.{Step}
 use Rattle.ctl_program.specs.declared.expression.Step.TheVariants.{Component, Dereference, Narrow}
-use Rattle.ctl_program.specs.declared.statement.Choices.{Choices}
 use Rattle.ctl_tree.specs.declared.event.Event.{Event}
 use Rattle.ctl_tree.specs.declared.event.Cause.{Cause}
 use Rattle.ctl_tree.specs.declared.event.Cause as CauseOf
@@ -44,6 +40,7 @@ use Rattle.ctl_meaning.specs.Statements as S
 use Rattle.ctl_meaning.specs.Statements.{dispatch, join_pieces, eval_text, spot_of, overwrite, assign_record, leaving, turned, loop, one_turn, while, for_turns, for, set_loop, handled, Doing, Guarding, Body, do_each, do_first, handle, scalar}
 use Rattle.ctl_meaning.specs.Run.{Routine, returned, run_routine}
 use Rattle.ctl_meaning.proofs.Relation.{numbers, creates, creates_at, writes, forgets, opens, closes, layers, takes, sets, assigns, gathers, starts, begins, ends, stores, shuts, empties, Closed, Each, IfSome}
+use Rattle.ctl_meaning.proofs.Layers.{OfExpressions, OfStatements, Expressions, Declarations, Statements}
 
 module _ (t : Tables) (ask other : Ask) (call spare : Caller) (default fallback : Default) (Rel : (A : Type 0) → Act A → Act A → Type 0) (closed : Closed t ask other Rel) where
   abbrev Same : {A : Type 0} → Act A → Act A → Type 0
@@ -256,6 +253,10 @@ module _ (t : Tables) (ask other : Ask) (call spare : Caller) (default fallback 
   abbrev pub GoodActual : Supplied → Type 0
   GoodActual a = ((env : List ℕ) → Same (a.source k env) (a.source j env)) × ((f : Found) → Same (a.taken k f) (a.taken j f))
 
+  -- what is said of expressions
+  abbrev pub of_expressions : OfExpressions
+  of_expressions = record { Value = GoodValue; Name = GoodName; Operand = GoodOperand; Actual = GoodActual }
+
   -- a subprogram's body, and an allocator with what it takes from the clock
   abbrev pub Calls : Type 0
   Calls = (f : ℕ) (ss : List Slot) (env : List ℕ) → Same (call (OfSubprogram f ss) env) (spare (OfSubprogram f ss) env)
@@ -301,78 +302,33 @@ module _ (t : Tables) (ask other : Ask) (call spare : Caller) (default fallback 
     unfolding operands
     k_operands env x y h i = k_seq (k_if_given env x h) (λ a. k_seq (k_if_given env y i) (λ b. k_done _))
 
-    pub good_constant : (n : ℕ) → GoodValue (eval_step (Expr-F.Constant n))
-    unfolding eval_step
-    good_constant n env = k_ticked (k_done _)
-
-    pub good_read : (n : Naming) (ty : Ty) → GoodName n → GoodValue (eval_step (Expr-F.Read n ty))
-    unfolding eval_step
-    good_read n ty h env = k_ticked (k_seq (h (category_of ty) env) (λ f. k_read_found _ f))
-
-    pub good_call : (f : ℕ) (xs : List Supplied) (ty : Ty) → Each GoodActual xs → GoodValue (eval_step (Expr-F.Call f xs ty))
-    unfolding eval_step
-    good_call f xs ty h env = k_ticked (k_seq (k_seq (k_pass_each env xs h no_actuals) (λ p. k_call_with env f p)) (λ r. k_done _))
-
-    pub good_unary : (op : UnaryOp) (ty : Ty) (e : Valued) → GoodValue e → GoodValue (eval_step (Expr-F.Unary op ty e))
-    unfolding eval_step
-    good_unary op ty e h env = k_ticked (k_seq (h env) (λ v. k_or_constraint_error _))
-
-    pub good_chain : (e : Valued) (o : Applied) (os : List Applied) → GoodValue e → GoodOperand o → Each GoodOperand os → GoodValue (eval_step (Expr-F.Chain e o os))
-    unfolding eval_step
-    good_chain e o os h i l env = k_seq (h env) (λ v. k_apply_each env (o ∷ os) (i, l) v)
-
-    pub good_short : (op : Shortcut) (e f : Valued) (es : List Valued) → GoodValue e → GoodValue f → Each GoodValue es → GoodValue (eval_step (Expr-F.Short op e f es))
-    unfolding eval_step
-    good_short op e f es h i l env = k_seq (h env) (λ v. k_join_each env op (f ∷ es) (i, l) v)
-
-    pub good_convert : (ty : Ty) (e : Valued) → GoodValue e → GoodValue (eval_step (Expr-F.Convert ty e))
-    unfolding eval_step
-    good_convert ty e h env = k_ticked (k_seq (h env) (λ v. k_or_constraint_error _))
-
-    pub good_access : (v : Var) → GoodValue (eval_step (Expr-F.Access v))
-    unfolding eval_step
-    good_access v env = k_ticked (k_seq (k_var_part Composite env v) (λ f. k_done _))
-
-    pub good_new : (access : ℕ) (ty : Ty) (x y : Option Valued) → IfSome GoodValue x → IfSome GoodValue y → GoodValue (eval_step (Expr-F.New access ty x y))
-    unfolding eval_step allocator
-    good_new access ty x y h i env = k_ticked (k_seq (allocates env access ty _ _ (k_operands env x y h i)) (λ r. k_done _))
-
-    pub good_subpool : (which : SubpoolFunction) (n : Naming) → GoodName n → GoodValue (eval_step (Expr-F.Subpool which n))
-    unfolding eval_step
-    good_subpool which n h env = k_ticked (k_seq (h Composite env) (λ f. k_subpool_function which _))
-
-    pub good_discriminant : (n : Naming) (i : ℕ) → GoodName n → GoodValue (eval_step (Expr-F.Discriminant n i))
-    unfolding eval_step
-    good_discriminant n i h env = k_ticked (k_seq (h Composite env) (λ f. k_discriminant _ i))
-
-    pub good_operand : (op : BinaryOp) (ty : Ty) (e : Valued) → GoodValue e → GoodOperand (operand_step (record { op = op; ty = ty; right = e }))
-    unfolding operand_step
-    good_operand op ty e h env v = k_ticked (k_seq (h env) (λ u. k_or_constraint_error _))
-
-    pub good_variable : (v : Var) (ss : List Step) → GoodName (name_step (Name-F.Variable v ss))
-    unfolding name_step
-    good_variable v ss c env = k_seq (k_var_part (begins_as ss c) env v) (k_walk ss)
-
-    pub good_given : (e : Valued) (ss : List Step) → GoodValue e → GoodName (name_step (Name-F.Given e ss))
-    unfolding name_step
-    good_given e ss h c env = k_seq (k_seq (h env) (λ v. k_done _)) (k_walk ss)
-
     k_by_value : (c : Category) (f : Found) → Same (by_value c f) (by_value c f)
     unfolding by_value
     k_by_value Elementary f = k_seq (k_read_found 1 f) (λ v. k_done _)
     k_by_value Composite f = k_by_reference f
 
-    pub good_by_value : (e : Valued) (ty : Ty) → GoodValue e → GoodActual (actual_step (Actual-F.ByValue e ty))
-    unfolding actual_step
-    good_by_value e ty h = (λ env. k_seq (h env) (λ v. k_done _), k_by_value (category_of ty))
-
-    pub good_part : (n : Naming) (ty : Ty) → GoodName n → GoodActual (actual_step (Actual-F.Part n ty))
-    unfolding actual_step
-    good_part n ty h = (λ env. k_ticked (h Composite env), k_by_reference)
-
-    pub good_copied : (n : Naming) (ty : Ty) (b : CopyStart) → GoodName n → GoodActual (actual_step (Actual-F.Copied n ty b))
-    unfolding actual_step
-    good_copied n ty b h = (λ env. k_ticked (h (category_of ty) env), λ f. k_by_copy _ b f)
+    -- each layer of an expression is related where its parts are
+    pub expressions : Expressions of_expressions
+    unfolding eval_step allocator operand_step name_step actual_step
+    expressions = record {
+      constant = λ n env. k_ticked (k_done _);
+      read = λ n ty h env. k_ticked (k_seq (h (category_of ty) env) (λ f. k_read_found _ f));
+      call = λ f xs ty h env. k_ticked (k_seq (k_seq (k_pass_each env xs h no_actuals) (λ p. k_call_with env f p)) (λ r. k_read_found _ (Alone r.cells)));
+      unary = λ op ty e h env. k_ticked (k_seq (h env) (λ v. k_or_constraint_error _));
+      chain = λ e o os h i l env. k_seq (h env) (λ v. k_apply_each env (o ∷ os) (i, l) v);
+      short = λ op e f es h i l env. k_seq (h env) (λ v. k_join_each env op (f ∷ es) (i, l) v);
+      convert = λ ty e h env. k_ticked (k_seq (h env) (λ v. k_or_constraint_error _));
+      access = λ v env. k_ticked (k_seq (k_var_part Composite env v) (λ f. k_done _));
+      new = λ access ty x y h i env. k_ticked (k_seq (allocates env access ty _ _ (k_operands env x y h i)) (λ r. k_done _));
+      subpool = λ which n h env. k_ticked (k_seq (h Composite env) (λ f. k_subpool_function which _));
+      discriminant = λ n i h env. k_ticked (k_seq (h Composite env) (λ f. k_discriminant _ i));
+      operand = λ op ty e h env v. k_ticked (k_seq (h env) (λ u. k_or_constraint_error _));
+      variable = λ v ss c env. k_seq (k_var_part (begins_as ss c) env v) (k_walk ss);
+      given = λ e ss h c env. k_seq (k_seq (h env) (λ v. k_done _)) (k_walk ss);
+      by_value = λ e ty h. (λ env. k_seq (h env) (λ v. k_done _), k_by_value (category_of ty));
+      part = λ n ty h. (λ env. k_ticked (h Composite env), k_by_reference);
+      copied = λ n ty b h. (λ env. k_ticked (h (category_of ty) env), λ f. k_by_copy _ b f);
+    }
 
     module _ (values : Starts) where
       -- Finalize, Adjust, Initialize ------------------------------------------------
@@ -682,7 +638,7 @@ module _ (t : Tables) (ask other : Ask) (call spare : Caller) (default fallback 
       abbrev pub GoodItem : Elaborating → Type 0
       GoodItem x = (env : List ℕ) (m : ℕ) → Same (x k env m) (x j env m)
 
-      abbrev pub GoodAssociation : ℕ × Valued → Type 0
+      abbrev GoodAssociation : ℕ × Valued → Type 0
       GoodAssociation x = GoodValue x.1
 
       k_discriminants : (env : List ℕ) (xs : List (ℕ × Valued)) → Each GoodAssociation xs → (d : ℕ × ℕ) → Same (discriminants k env xs d) (discriminants j env xs d)
@@ -707,21 +663,15 @@ module _ (t : Tables) (ask other : Ask) (call spare : Caller) (default fallback 
       k_declare_pool m slot u d =
           k_either _ (closed.looks (λ w. k_seq (k_then (k_then (k_then (closed.changes (creates _ _ _)) (closed.changes (sets m slot _))) (k_open_pool _ _ d)) (k_attempt (k_fill _ _ (Record u) None))) (λ r. k_pool_or_closed m _ r))) (k_raise _)
 
-      pub good_collections : (accesses : List ℕ) → GoodItem (collections accesses)
-      unfolding collections
-      good_collections accesses env m = k_gather_each m accesses []
-
-      pub good_object : (slot : ℕ) (ty : Ty) (v : Option Valued) → IfSome GoodValue v → GoodItem (object slot ty v)
-      unfolding object
-      good_object slot ty v h env m = k_ticked (k_seq (k_if_given env v h) (λ x. k_declare (category_of ty) m slot ty x))
-
-      pub good_pool : (slot u : ℕ) (ds : List (ℕ × Valued)) → Each GoodAssociation ds → GoodItem (pool slot u ds)
-      unfolding pool
-      good_pool slot u ds h env m = k_ticked (k_seq (k_discriminants env ds h (0, 0)) (λ d. k_declare_pool m slot u d))
-
-      pub good_silent : GoodItem silent
-      unfolding silent
-      good_silent env m = k_ticked k_nothing
+      -- each item of a declarative part
+      pub declarations : Declarations of_expressions GoodItem
+      unfolding collections object pool silent
+      declarations = record {
+        collections = λ accesses env m. k_gather_each m accesses [];
+        object = λ slot ty v h env m. k_ticked (k_seq (k_if_given env v h) (λ x. k_declare (category_of ty) m slot ty x));
+        pool = λ slot u ds h env m. k_ticked (k_seq (k_discriminants env ds h (0, 0)) (λ d. k_declare_pool m slot u d));
+        silent = λ env m. k_ticked k_nothing;
+      }
 
       k_elaborate : (env : List ℕ) (m : ℕ) (xs : List Elaborating) → Each GoodItem xs → Same (elaborate k env m xs) (elaborate j env m xs)
       unfolding elaborate
@@ -733,18 +683,6 @@ module _ (t : Tables) (ask other : Ask) (call spare : Caller) (default fallback 
       k_dispatch : (env : List ℕ) (op : Operation) (f : Found) → Same (dispatch k env op f) (dispatch j env op f)
       unfolding dispatch
       k_dispatch env op f = k_existing _ (λ o. k_on_some _ k_nothing (λ s. k_then (k_seq (k_by_reference f) (λ x. k_call_with env s _)) k_nothing))
-
-      pub good_literal : (v : List ℕ) → GoodValue (S.literal v)
-      unfolding S.literal
-      good_literal v env = k_ticked (k_done _)
-
-      pub good_integer_text : (e : Valued) → GoodValue e → GoodValue (S.integer_text e)
-      unfolding S.integer_text
-      good_integer_text e h env = k_ticked (k_seq (h env) (λ v. k_done _))
-
-      pub good_boolean_text : (e : Valued) → GoodValue e → GoodValue (S.boolean_text e)
-      unfolding S.boolean_text
-      good_boolean_text e h env = k_ticked (k_seq (h env) (λ v. k_done _))
 
       k_join_pieces : (env : List ℕ) (ps : List Valued) → Each GoodValue ps → (v : List ℕ) → Same (join_pieces k env ps v) (join_pieces j env ps v)
       unfolding join_pieces
@@ -809,6 +747,10 @@ module _ (t : Tables) (ask other : Ask) (call spare : Caller) (default fallback 
       abbrev pub GoodBody : Body → Type 0
       GoodBody b = GoodDoing b.inside
 
+      -- what is said of statements
+      abbrev pub of_statements : OfStatements
+      of_statements = record { Item = GoodItem; Statement = GoodDoing; Guard = GoodGuard; Master = GoodBody }
+
       k_each : (env : List ℕ) (e : ℕ) (ss : List Doing) → Each GoodDoing ss → Same (do_each k env e ss) (do_each j env e ss)
       unfolding do_each
       k_each env e [] h = k_nothing
@@ -823,107 +765,40 @@ module _ (t : Tables) (ask other : Ask) (call spare : Caller) (default fallback 
       unfolding handle
       k_handle env xs h e = k_first env e xs h (k_raise e)
 
-      pub good_null : GoodDoing S.null
-      unfolding S.null
-      good_null env e = k_ticked k_nothing
-
-      pub good_assign : (n : Naming) (v : Valued) → GoodName n → GoodValue v → GoodDoing (S.assign n v)
-      unfolding S.assign
-      good_assign n v h i env e = k_ticked (k_seq (h Elementary env) (λ f. k_seq (i env) (λ x. k_write_found f x)))
-
-      pub good_assign_part : (n : Naming) (u : ℕ) (a : Supplied) → GoodName n → GoodActual a → GoodDoing (S.assign_part n u a)
-      unfolding S.assign_part
-      good_assign_part n u a h i env e = k_ticked (k_seq (h Composite env) (λ f. k_seq (i.0 env) (λ g. k_assign_record u f g)))
-
-      pub good_call_statement : (f : ℕ) (xs : List Supplied) → Each GoodActual xs → GoodDoing (S.call f xs)
-      unfolding S.call
-      good_call_statement f xs h env e = k_ticked (k_then (k_seq (k_pass_each env xs h no_actuals) (λ p. k_call_with env f p)) k_nothing)
-
-      pub good_call_nothing : (n : Naming) → GoodName n → GoodDoing (S.call_nothing n)
-      unfolding S.call_nothing
-      good_call_nothing n h env e = k_ticked (k_then (h Composite env) k_nothing)
-
-      pub good_dispatching : (op : Operation) (n : Naming) → GoodName n → GoodDoing (S.call_dispatching op n)
-      unfolding S.call_dispatching
-      good_dispatching op n h env e = k_ticked (k_seq (h Composite env) (λ f. k_dispatch env op f))
-
-      pub good_call_allocate : (p a : Naming) (size al : Valued) → GoodName p → GoodName a → GoodValue size → GoodValue al → GoodDoing (S.call_allocate p a size al)
-      unfolding S.call_allocate
-      good_call_allocate p a size al h i l m env e = k_ticked (k_seq (h Composite env) (λ f. k_seq (i Elementary env) (λ g. k_scalar (l env) (λ s. k_seq (k_then (m env) (k_library_allocate _ s)) (λ y. k_write_found g _)))))
-
-      pub good_call_deallocate : (p : Naming) (a size al : Valued) → GoodName p → GoodValue a → GoodValue size → GoodValue al → GoodDoing (S.call_deallocate p a size al)
-      unfolding S.call_deallocate
-      good_call_deallocate p a size al h i l m env e = k_ticked (k_seq (h Composite env) (λ f. k_scalar (i env) (λ y. k_then (k_then (l env) (m env)) (k_library_deallocate _ y))))
-
-      pub good_put : (ps : List Valued) → Each GoodValue ps → GoodDoing (S.put ps)
-      unfolding S.put
-      good_put ps h env e = k_ticked (k_seq (k_text env ps h) (λ v. closed.shows _))
-
-      pub good_put_line : (ps : List Valued) → Each GoodValue ps → GoodDoing (S.put_line ps)
-      unfolding S.put_line
-      good_put_line ps h env e = k_ticked (k_seq (k_text env ps h) (λ v. k_then (closed.shows _) (closed.shows _)))
-
-      pub good_new_line : GoodDoing S.new_line
-      unfolding S.new_line
-      good_new_line env e = k_ticked (closed.shows _)
-
-      pub good_exit : (o : Option Valued) → IfSome GoodValue o → GoodDoing (S.exit o)
-      unfolding S.exit
-      good_exit None h env e = k_ticked (k_leave _)
-      good_exit (Some x) h env e = k_ticked (k_scalar (h env) (λ b. k_either _ (k_leave _) k_nothing))
-
-      pub good_return : (o : Option Valued) → IfSome GoodValue o → GoodDoing (S.return o)
-      unfolding S.return
-      good_return None h env e = k_ticked (k_leave _)
-      good_return (Some x) h env e = k_ticked (k_seq (h env) (λ v. k_leave _))
-
-      pub good_raise : (x : ℕ) → GoodDoing (S.raise_new x)
-      unfolding S.raise_new
-      good_raise x env e = k_ticked (k_raise _)
-
-      pub good_raise_again : GoodDoing S.raise_again
-      unfolding S.raise_again
-      good_raise_again env e = k_ticked (k_raise _)
-
-      pub good_choose_arm : (xs : List Guarding) (ss : List Doing) → Each GoodGuard xs → Each GoodDoing ss → GoodDoing (S.choose_arm xs ss)
-      unfolding S.choose_arm
-      good_choose_arm xs ss h i env e = k_ticked (k_leaving (k_first env e xs h (k_each env e ss i)))
-
-      pub good_loop : (ss : List Doing) → Each GoodDoing ss → GoodDoing (S.loop_plainly ss)
-      unfolding S.loop_plainly
-      good_loop ss h env e = k_ticked (k_leaving (closed.repeats (k_each env e ss h)))
-
-      pub good_while : (v : Valued) (ss : List Doing) → GoodValue v → Each GoodDoing ss → GoodDoing (S.loop_while v ss)
-      unfolding S.loop_while
-      good_while v ss h i env e = k_ticked (k_leaving (closed.repeats_while (h env) (k_each env e ss i)))
-
-      pub good_for : (x : Var) (way : Direction) (low high : Valued) (ss : List Doing) → GoodValue low → GoodValue high → Each GoodDoing ss → GoodDoing (S.loop_for x way low high ss)
-      unfolding S.loop_for
-      good_for x way low high ss h i l env e = k_ticked (k_leaving (k_scalar (h env) (λ a. k_scalar (i env) (λ b. k_for way _ _ (λ z. k_then (k_set_loop env x z) (k_each env e ss l)) _ _))))
-
-      pub good_block : (b : Body) → GoodBody b → GoodDoing (S.do_block b)
-      unfolding S.do_block
-      good_block b h env e = k_ticked (k_seq (k_in_master env _ _ _ (λ inner. h inner e)) (λ y. closed.gives y.result))
-
-      pub good_free : (a : ℕ) (n : Naming) → GoodName n → GoodDoing (S.free_object_of a n)
-      unfolding S.free_object_of
-      good_free a n h env e = k_ticked (k_seq (h Elementary env) (λ f. k_free env a f))
-
-      pub good_release : (n : Naming) → GoodName n → GoodDoing (S.release_subpool n)
-      unfolding S.release_subpool
-      good_release n h env e = k_ticked (k_seq (h Elementary env) (λ f. k_unchecked f))
-
-      pub good_guard : (v : Valued) (ss : List Doing) → GoodValue v → Each GoodDoing ss → GoodGuard (S.guard v ss)
-      unfolding S.guard
-      good_guard v ss h i env e m n x = k_scalar (h env) (λ b. k_either _ (k_each env e ss i) x)
-
-      pub good_handler : (choices : Choices) (ss : List Doing) → Each GoodDoing ss → GoodGuard (S.handler choices ss)
-      unfolding S.handler
-      good_handler choices ss h env e m n x = closed.counts _ (k_either _ (k_each env e ss h) x)
-
-      pub good_within : (xs : List Elaborating) (ss : List Doing) (hs : List Guarding) → Each GoodItem xs → Each GoodDoing ss → Each GoodGuard hs → GoodDoing (S.within xs ss hs)
-      unfolding S.within
-      good_within xs ss hs h i l env e = k_then (k_elaborate env _ xs h) (closed.joins (k_each env e ss i) (λ r. k_handled _ _ (λ x. k_handle env hs l x) r))
+      -- each layer of a statement
+      pub statements : Statements of_expressions of_statements
+      unfolding S.literal S.integer_text S.boolean_text S.null S.assign S.assign_part S.call S.call_nothing S.call_dispatching S.call_allocate S.call_deallocate S.put S.put_line S.new_line S.exit S.return S.raise_new S.raise_again S.choose_arm S.loop_plainly S.loop_while S.loop_for S.do_block S.free_object_of S.release_subpool S.guard S.handler S.within
+      statements = record {
+        literal = λ v env. k_ticked (k_done _);
+        integer_text = λ e h env. k_ticked (k_seq (h env) (λ v. k_done _));
+        boolean_text = λ e h env. k_ticked (k_seq (h env) (λ v. k_done _));
+        null = λ env e. k_ticked k_nothing;
+        assign = λ n v h i env e. k_ticked (k_seq (h Elementary env) (λ f. k_seq (i env) (λ x. k_write_found f x)));
+        assign_part = λ n u a h i env e. k_ticked (k_seq (h Composite env) (λ f. k_seq (i.0 env) (λ g. k_assign_record u f g)));
+        call_statement = λ f xs h env e. k_ticked (k_then (k_seq (k_pass_each env xs h no_actuals) (λ p. k_call_with env f p)) k_nothing);
+        call_nothing = λ n h env e. k_ticked (k_then (h Composite env) k_nothing);
+        dispatching = λ op n h env e. k_ticked (k_seq (h Composite env) (λ f. k_dispatch env op f));
+        call_allocate = λ p a size al h i l m env e. k_ticked (k_seq (h Composite env) (λ f. k_seq (i Elementary env) (λ g. k_scalar (l env) (λ s. k_seq (k_then (m env) (k_library_allocate _ s)) (λ y. k_write_found g _)))));
+        call_deallocate = λ p a size al h i l m env e. k_ticked (k_seq (h Composite env) (λ f. k_scalar (i env) (λ y. k_then (k_then (l env) (m env)) (k_library_deallocate _ y))));
+        put = λ ps h env e. k_ticked (k_seq (k_text env ps h) (λ v. closed.shows _));
+        put_line = λ ps h env e. k_ticked (k_seq (k_text env ps h) (λ v. k_then (closed.shows _) (closed.shows _)));
+        new_line = λ env e. k_ticked (closed.shows _);
+        exit = elim [ None ↦ λ h env e. k_ticked (k_leave _) | Some x ↦ λ h env e. k_ticked (k_scalar (h env) (λ b. k_either _ (k_leave _) k_nothing)) ];
+        return = elim [ None ↦ λ h env e. k_ticked (k_leave _) | Some x ↦ λ h env e. k_ticked (k_seq (h env) (λ v. k_leave _)) ];
+        raise = λ x env e. k_ticked (k_raise _);
+        raise_again = λ env e. k_ticked (k_raise _);
+        choose_arm = λ xs ss h i env e. k_ticked (k_leaving (k_first env e xs h (k_each env e ss i)));
+        loop = λ ss h env e. k_ticked (k_leaving (closed.repeats (k_each env e ss h)));
+        while = λ v ss h i env e. k_ticked (k_leaving (closed.repeats_while (h env) (k_each env e ss i)));
+        for = λ x way low high ss h i l env e. k_ticked (k_leaving (k_scalar (h env) (λ a. k_scalar (i env) (λ b. k_for way _ _ (λ z. k_then (k_set_loop env x z) (k_each env e ss l)) _ _))));
+        block = λ b h env e. k_ticked (k_seq (k_in_master env _ _ _ (λ inner. h inner e)) (λ y. closed.gives y.result));
+        free = λ a n h env e. k_ticked (k_seq (h Elementary env) (λ f. k_free env a f));
+        release = λ n h env e. k_ticked (k_seq (h Elementary env) (λ f. k_unchecked f));
+        guard = λ v ss h i env e m n x. k_scalar (h env) (λ b. k_either _ (k_each env e ss i) x);
+        handler = λ choices ss h env e m n x. closed.counts _ (k_either _ (k_each env e ss h) x);
+        within = λ slots xs ss hs h i l env e. k_then (k_elaborate env _ xs h) (closed.joins (k_each env e ss i) (λ r. k_handled _ _ (λ x. k_handle env hs l x) r));
+        declarations = declarations;
+      }
 
       -- Bodies -----------------------------------------------------------------------------
 
@@ -931,9 +806,8 @@ module _ (t : Tables) (ask other : Ask) (call spare : Caller) (default fallback 
       unfolding returned
       k_returned b ss r = closed.gives _
 
-      pub k_run_routine : (env : List ℕ) (ss : List Slot) (s : Routine) → GoodBody s.body → Same (run_routine k env ss s) (run_routine j env ss s)
-      unfolding run_routine
-      k_run_routine env ss s h = k_seq (k_in_master _ _ _ _ (λ inner. h inner 0)) (λ x. k_returned s.kind x.slots x.result)
-
-      pub k_gone_too : {A : Type 0} → Same {A = A} gone gone
-      k_gone_too = k_gone
+      -- the body of a subprogram, if there is one of that number
+      pub k_routine : (o : Option Routine) → IfSome (λ (s : Routine). GoodBody s.body) o → (env : List ℕ) (ss : List Slot) → Same (on_some o gone (run_routine k env ss)) (on_some o gone (run_routine j env ss))
+      unfolding on_some run_routine
+      k_routine None h env ss = k_gone
+      k_routine (Some s) h env ss = k_seq (k_in_master _ _ _ _ (λ inner. h inner 0)) (λ x. k_returned s.kind x.slots x.result)

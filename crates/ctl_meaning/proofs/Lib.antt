@@ -1,5 +1,6 @@
 pub mod Trees
 pub mod Relation
+pub mod Layers
 pub mod Induction
 pub mod Glue
 pub mod Bodies

@@ -2,20 +2,15 @@
 use Rattle.std.proofs.Common.{ℕ, List, [], ◌∷◌, Option, Some, None}
 use Rattle.ctl_program.specs.declared.types.Ty.{Ty}
 use Rattle.ctl_program.specs.declared.types.Var.{Var}
-use Rattle.ctl_program.specs.declared.operators.CopyStart.{CopyStart}
 use Rattle.ctl_program.specs.declared.operators.Shortcut.{Shortcut}
-use Rattle.ctl_program.specs.declared.operators.SubpoolFunction.{SubpoolFunction}
-use Rattle.ctl_program.specs.declared.operators.UnaryOp.{UnaryOp}
-use Rattle.ctl_program.specs.declared.operators.BinaryOp.{BinaryOp}
-use Rattle.ctl_program.specs.declared.expression.Actual.TheOpen.{Actual-F, Expr-F, Name-F}
-use Rattle.ctl_program.specs.declared.expression.Step.{Step}
 use Rattle.ctl_meaning.specs.World.{Slot}
 use Rattle.ctl_meaning.specs.Choice.{Ask}
 use Rattle.ctl_meaning.specs.Outcome.{Act, ◌>>=◌, spend}
 use Rattle.ctl_meaning.specs.Types.{Tables, Category, Elementary, Composite, category_of}
-use Rattle.ctl_meaning.specs.Names.{OfSubprogram, OfAllocator, Call as Caller, Default, Tools, Found, begins_as}
+use Rattle.ctl_meaning.specs.Names.{Alone, OfSubprogram, OfAllocator, Call as Caller, Default, Tools, Found, begins_as}
 use Rattle.ctl_meaning.specs.Expressions.{Passed, no_actuals, with_formal, call_with, Valued, Naming, Applied, Supplied, pass_each, apply_each, join_each, var_part, if_given, operands, allocator, eval_step, operand_step, name_step, actual_step, by_value}
 use Rattle.ctl_meaning.proofs.Relation.{Each, IfSome}
+use Rattle.ctl_meaning.proofs.Layers.{OfExpressions, Expressions}
 use Rattle.ctl_orderly.proofs.Rules.{Good}
 use Rattle.ctl_orderly.proofs.Plain.{keeps_by_copy, keeps_by_reference, keeps_copy_back, keeps_discriminant, keeps_done, keeps_either, keeps_find_var, keeps_or_constraint_error, keeps_read_found, keeps_seq, keeps_subpool_function, keeps_then, keeps_ticked, keeps_walk}
 
@@ -37,6 +32,10 @@ module _ (t : Tables) (ask : Ask) (call : Caller) (default : Default) where
   abbrev pub GoodActual : Supplied → Type 0
   GoodActual a = ((env : List ℕ) → Good t (a.source k env)) × ((f : Found) → Good t (a.taken k f))
 
+  -- what is said of expressions
+  abbrev pub of_expressions : OfExpressions
+  of_expressions = record { Value = GoodValue; Name = GoodName; Operand = GoodOperand; Actual = GoodActual }
+
   -- a subprogram's body, and an allocator with what it takes from the clock
   abbrev pub Calls : Type 0
   Calls = (f : ℕ) (ss : List Slot) (env : List ℕ) → Good t (call (OfSubprogram f ss) env)
@@ -46,6 +45,11 @@ module _ (t : Tables) (ask : Ask) (call : Caller) (default : Default) where
 
   abbrev pub Starts : Type 0
   Starts = (u position : ℕ) (env : List ℕ) → Good t (default u position env)
+
+  pub keeps_if_given : (env : List ℕ) (o : Option Valued) → IfSome GoodValue o → Good t (if_given (λ e. e k env) o)
+  unfolding if_given
+  keeps_if_given env None h = keeps_done _
+  keeps_if_given env (Some e) h = keeps_seq (h env) (λ v. keeps_done _)
 
   module _ (calls : Calls) (allocates : Allocates) where
     -- Expressions ---------------------------------------------------------------
@@ -73,84 +77,34 @@ module _ (t : Tables) (ask : Ask) (call : Caller) (default : Default) where
     keeps_join_each env op [] h v = keeps_done v
     keeps_join_each env op (e ∷ rest) h v = keeps_seq (keeps_ticked (keeps_either _ (keeps_done v) (h.0 env))) (λ u. keeps_join_each env op rest h.1 u)
 
-    pub keeps_if_given : (env : List ℕ) (o : Option Valued) → IfSome GoodValue o → Good t (if_given (λ e. e k env) o)
-    unfolding if_given
-    keeps_if_given env None h = keeps_done _
-    keeps_if_given env (Some e) h = keeps_seq (h env) (λ v. keeps_done _)
-
     pub keeps_operands : (env : List ℕ) (x y : Option Valued) → IfSome GoodValue x → IfSome GoodValue y → Good t (operands k env x y)
     unfolding operands
     keeps_operands env x y h i = keeps_seq (keeps_if_given env x h) (λ a. keeps_seq (keeps_if_given env y i) (λ b. keeps_done _))
-
-    pub good_constant : (n : ℕ) → GoodValue (eval_step (Expr-F.Constant n))
-    unfolding eval_step
-    good_constant n env = keeps_ticked (keeps_done _)
-
-    pub good_read : (n : Naming) (ty : Ty) → GoodName n → GoodValue (eval_step (Expr-F.Read n ty))
-    unfolding eval_step
-    good_read n ty h env = keeps_ticked (keeps_seq (h (category_of ty) env) (λ f. keeps_read_found _ f))
-
-    pub good_call : (f : ℕ) (xs : List Supplied) (ty : Ty) → Each GoodActual xs → GoodValue (eval_step (Expr-F.Call f xs ty))
-    unfolding eval_step
-    good_call f xs ty h env = keeps_ticked (keeps_seq (keeps_seq (keeps_pass_each env xs h no_actuals) (λ p. keeps_call_with env f p)) (λ r. keeps_done _))
-
-    pub good_unary : (op : UnaryOp) (ty : Ty) (e : Valued) → GoodValue e → GoodValue (eval_step (Expr-F.Unary op ty e))
-    unfolding eval_step
-    good_unary op ty e h env = keeps_ticked (keeps_seq (h env) (λ v. keeps_or_constraint_error _))
-
-    pub good_chain : (e : Valued) (o : Applied) (os : List Applied) → GoodValue e → GoodOperand o → Each GoodOperand os → GoodValue (eval_step (Expr-F.Chain e o os))
-    unfolding eval_step
-    good_chain e o os h i l env = keeps_seq (h env) (λ v. keeps_apply_each env (o ∷ os) (i, l) v)
-
-    pub good_short : (op : Shortcut) (e f : Valued) (es : List Valued) → GoodValue e → GoodValue f → Each GoodValue es → GoodValue (eval_step (Expr-F.Short op e f es))
-    unfolding eval_step
-    good_short op e f es h i l env = keeps_seq (h env) (λ v. keeps_join_each env op (f ∷ es) (i, l) v)
-
-    pub good_convert : (ty : Ty) (e : Valued) → GoodValue e → GoodValue (eval_step (Expr-F.Convert ty e))
-    unfolding eval_step
-    good_convert ty e h env = keeps_ticked (keeps_seq (h env) (λ v. keeps_or_constraint_error _))
-
-    pub good_access : (v : Var) → GoodValue (eval_step (Expr-F.Access v))
-    unfolding eval_step
-    good_access v env = keeps_ticked (keeps_seq (keeps_var_part Composite env v) (λ f. keeps_done _))
-
-    pub good_new : (access : ℕ) (ty : Ty) (x y : Option Valued) → IfSome GoodValue x → IfSome GoodValue y → GoodValue (eval_step (Expr-F.New access ty x y))
-    unfolding eval_step allocator
-    good_new access ty x y h i env = keeps_ticked (keeps_seq (allocates env access ty _ (keeps_operands env x y h i)) (λ r. keeps_done _))
-
-    pub good_subpool : (which : SubpoolFunction) (n : Naming) → GoodName n → GoodValue (eval_step (Expr-F.Subpool which n))
-    unfolding eval_step
-    good_subpool which n h env = keeps_ticked (keeps_seq (h Composite env) (λ f. keeps_subpool_function which _))
-
-    pub good_discriminant : (n : Naming) (i : ℕ) → GoodName n → GoodValue (eval_step (Expr-F.Discriminant n i))
-    unfolding eval_step
-    good_discriminant n i h env = keeps_ticked (keeps_seq (h Composite env) (λ f. keeps_discriminant _ i))
-
-    pub good_operand : (op : BinaryOp) (ty : Ty) (e : Valued) → GoodValue e → GoodOperand (operand_step (record { op = op; ty = ty; right = e }))
-    unfolding operand_step
-    good_operand op ty e h env v = keeps_ticked (keeps_seq (h env) (λ u. keeps_or_constraint_error _))
-
-    pub good_variable : (v : Var) (ss : List Step) → GoodName (name_step (Name-F.Variable v ss))
-    unfolding name_step
-    good_variable v ss c env = keeps_seq (keeps_var_part (begins_as ss c) env v) (keeps_walk k ss)
-
-    pub good_given : (e : Valued) (ss : List Step) → GoodValue e → GoodName (name_step (Name-F.Given e ss))
-    unfolding name_step
-    good_given e ss h c env = keeps_seq (keeps_seq (h env) (λ v. keeps_done _)) (keeps_walk k ss)
 
     pub keeps_by_value : (c : Category) (f : Found) → Good t (by_value c f)
     unfolding by_value
     keeps_by_value Elementary f = keeps_seq (keeps_read_found 1 f) (λ v. keeps_done _)
     keeps_by_value Composite f = keeps_by_reference f
 
-    pub good_by_value : (e : Valued) (ty : Ty) → GoodValue e → GoodActual (actual_step (Actual-F.ByValue e ty))
-    unfolding actual_step
-    good_by_value e ty h = (λ env. keeps_seq (h env) (λ v. keeps_done _), keeps_by_value (category_of ty))
-
-    pub good_part : (n : Naming) (ty : Ty) → GoodName n → GoodActual (actual_step (Actual-F.Part n ty))
-    unfolding actual_step
-    good_part n ty h = (λ env. keeps_ticked (h Composite env), keeps_by_reference)
-
-    pub good_copied : (n : Naming) (ty : Ty) (b : CopyStart) → GoodName n → GoodActual (actual_step (Actual-F.Copied n ty b))
-    unfolding actual_step
-    good_copied n ty b h = (λ env. keeps_ticked (h (category_of ty) env), λ f. keeps_by_copy _ b f)
+    -- each layer of an expression keeps the invariant where its parts do
+    pub expressions : Expressions of_expressions
+    unfolding eval_step allocator operand_step name_step actual_step
+    expressions = record {
+      constant = λ n env. keeps_ticked (keeps_done _);
+      read = λ n ty h env. keeps_ticked (keeps_seq (h (category_of ty) env) (λ f. keeps_read_found _ f));
+      call = λ f xs ty h env. keeps_ticked (keeps_seq (keeps_seq (keeps_pass_each env xs h no_actuals) (λ p. keeps_call_with env f p)) (λ r. keeps_read_found _ (Alone r.cells)));
+      unary = λ op ty e h env. keeps_ticked (keeps_seq (h env) (λ v. keeps_or_constraint_error _));
+      chain = λ e o os h i l env. keeps_seq (h env) (λ v. keeps_apply_each env (o ∷ os) (i, l) v);
+      short = λ op e f es h i l env. keeps_seq (h env) (λ v. keeps_join_each env op (f ∷ es) (i, l) v);
+      convert = λ ty e h env. keeps_ticked (keeps_seq (h env) (λ v. keeps_or_constraint_error _));
+      access = λ v env. keeps_ticked (keeps_seq (keeps_var_part Composite env v) (λ f. keeps_done _));
+      new = λ access ty x y h i env. keeps_ticked (keeps_seq (allocates env access ty _ (keeps_operands env x y h i)) (λ r. keeps_done _));
+      subpool = λ which n h env. keeps_ticked (keeps_seq (h Composite env) (λ f. keeps_subpool_function which _));
+      discriminant = λ n i h env. keeps_ticked (keeps_seq (h Composite env) (λ f. keeps_discriminant _ i));
+      operand = λ op ty e h env v. keeps_ticked (keeps_seq (h env) (λ u. keeps_or_constraint_error _));
+      variable = λ v ss c env. keeps_seq (keeps_var_part (begins_as ss c) env v) (keeps_walk k ss);
+      given = λ e ss h c env. keeps_seq (keeps_seq (h env) (λ v. keeps_done _)) (keeps_walk k ss);
+      by_value = λ e ty h. (λ env. keeps_seq (h env) (λ v. keeps_done _), keeps_by_value (category_of ty));
+      part = λ n ty h. (λ env. keeps_ticked (h Composite env), keeps_by_reference);
+      copied = λ n ty b h. (λ env. keeps_ticked (h (category_of ty) env), λ f. keeps_by_copy _ b f);
+    }

@@ -19,7 +19,6 @@ pub mod Inside
 pub mod Ledgers
 pub mod Masters
 pub mod Statements
-pub mod Glue
 pub mod Runs
 pub mod WellTyped
 mod Counterexamples

@@ -10,12 +10,13 @@ use Rattle.ctl_meaning.specs.Choice.{Ask}
 use Rattle.ctl_meaning.specs.Outcome.{ByRaise, Result, Goes, Leaves, Act, Done, given, then_always, look, change, ◌>>=◌, ◌>>◌, raise, tried, told, attempt, Tried, Fine, Raised, either}
 use Rattle.ctl_meaning.specs.Types.{Tables, Category, Elementary, Composite, category_of}
 use Rattle.ctl_meaning.specs.Names.{OfSubprogram, Call as Caller, Default, Tools}
-use Rattle.ctl_meaning.specs.Expressions.{Valued, if_given}
+use Rattle.ctl_meaning.specs.Expressions.{Valued}
 use Rattle.ctl_meaning.specs.Finalization.{finalize_if_controlled}
 use Rattle.ctl_meaning.specs.Adjustment.{Birth}
 use Rattle.ctl_meaning.specs.Initialization.{fill}
 use Rattle.ctl_meaning.specs.Masters.{finalize_declared, finalize_sets, finalize_layer, leave_layers, left, leave, in_master, declare, gather, gather_each, discriminants, open_pool, pool_or_closed, declare_pool, Elaborating, collections, object, pool, silent, elaborate}
-use Rattle.ctl_meaning.proofs.Relation.{Each, IfSome}
+use Rattle.ctl_meaning.proofs.Relation.{Each}
+use Rattle.ctl_meaning.proofs.Layers.{Declarations}
 use Rattle.ctl_orderly.proofs.Rules.{Good, as_well, seq, then_do, choice}
 use Rattle.ctl_orderly.proofs.Edits.{changes, edit_value, edit_slot, edit_pools}
 use Rattle.ctl_orderly.proofs.Plain.{keeps_changes, keeps_counts, keeps_done, keeps_gone, keeps_looks, keeps_nothing, keeps_on_some, keeps_raise, keeps_seq, keeps_then}
@@ -42,6 +43,8 @@ use Rattle.ctl_orderly.proofs.Edits.{edited_on, edit_creates, edit_gathers, edit
 use Rattle.ctl_orderly.proofs.Members.{Of, Entire, declared_closes}
 use Rattle.ctl_orderly.proofs.Filling.{New, Full, new_still, fill_does}
 use Rattle.ctl_orderly.proofs.Creating.{create_begins, new_growing}
+use Rattle.ctl_orderly.proofs.Expressions.{of_expressions, keeps_if_given}
+use Rattle.ctl_orderly.proofs.Expressions as E
 use Rattle.ctl_orderly.proofs.Storage.{keeps_close_pool, keeps_program_error_if, keeps_finalize_group}
 use Rattle.ctl_orderly.proofs.Inside.{AllBelow, Stack, stack_below, stack_past, Standing, Quiet, quiet_still, standing_still, Later, Since, Inside, owned_any, as_inside, inside_sequence, inside_given, inside_seq, inside_then, inside_done, inside_counts, inside_ticks, inside_looks, inside_changes, inside_of, inside_good}
 use Rattle.ctl_orderly.proofs.Ledgers.{layer_added, master_entered, edit_layer, edit_takes, edit_closes, edit_opens}
@@ -306,10 +309,10 @@ module _ (t : Tables) (order : InOrder t.records) (ask : Ask) (call : Caller) (d
   abbrev pub GoodItem : Elaborating → Type 0
   GoodItem x = (tr0 : List Event) (w0 : World) (env : List ℕ) → Inside t tr0 w0 (Quiet t w0.ledger.next_object w0.ledger.next_master) (Elaborated tr0 w0) (x k env w0.ledger.next_master)
 
-  abbrev pub GoodValue : Valued → Type 0
-  GoodValue e = (env : List ℕ) → Good t (e k env)
+  abbrev GoodValue : Valued → Type 0
+  GoodValue = E.GoodValue t ask call default
 
-  abbrev pub GoodAssociation : ℕ × Valued → Type 0
+  abbrev GoodAssociation : ℕ × Valued → Type 0
   GoodAssociation x = GoodValue x.1
 
   keeps_discriminants : (env : List ℕ) (xs : List (ℕ × Valued)) → Each GoodAssociation xs → (d : ℕ × ℕ) → Good t (discriminants k env xs d)
@@ -317,26 +320,15 @@ module _ (t : Tables) (order : InOrder t.records) (ask : Ask) (call : Caller) (d
   keeps_discriminants env [] h d = keeps_done d
   keeps_discriminants env (x ∷ xs) h d = keeps_seq (h.0 env) (λ v. keeps_discriminants env xs h.1 _)
 
-  keeps_if_given : (env : List ℕ) (o : Option Valued) → IfSome GoodValue o → Good t (if_given (λ e. e k env) o)
-  unfolding if_given
-  keeps_if_given env None h = keeps_done _
-  keeps_if_given env (Some e) h = keeps_seq (h env) (λ v. keeps_done _)
-
-  pub good_collections : (accesses : List ℕ) → GoodItem (collections accesses)
-  unfolding collections
-  good_collections accesses tr0 w0 env = gathers tr0 w0 accesses []
-
-  pub good_object : (slot : ℕ) (ty : Ty) (v : Option Valued) → IfSome GoodValue v → GoodItem (object slot ty v)
-  unfolding object
-  good_object slot ty v h tr0 w0 env = inside_ticks (inside_seq {P = Elaborated tr0 w0} (calmly tr0 w0 (keeps_if_given env v h)) (λ x. declares tr0 w0 (category_of ty) slot ty x) (λ y tr w i q. q))
-
-  pub good_pool : (slot u : ℕ) (ds : List (ℕ × Valued)) → Each GoodAssociation ds → GoodItem (pool slot u ds)
-  unfolding pool
-  good_pool slot u ds h tr0 w0 env = inside_ticks (inside_seq {P = Elaborated tr0 w0} (calmly tr0 w0 (keeps_discriminants env ds h (0, 0))) (λ d. declares_pool tr0 w0 slot u d) (λ y tr w i q. q))
-
-  pub good_silent : GoodItem silent
-  unfolding silent
-  good_silent tr0 w0 env = inside_ticks (calmly tr0 w0 keeps_nothing)
+  -- each item of a declarative part
+  pub declarations : Declarations (of_expressions t ask call default) GoodItem
+  unfolding collections object pool silent
+  declarations = record {
+    collections = λ accesses tr0 w0 env. gathers tr0 w0 accesses [];
+    object = λ slot ty v h tr0 w0 env. inside_ticks (inside_seq {P = Elaborated tr0 w0} (calmly tr0 w0 (keeps_if_given t ask call default env v h)) (λ x. declares tr0 w0 (category_of ty) slot ty x) (λ y tr w i q. q));
+    pool = λ slot u ds h tr0 w0 env. inside_ticks (inside_seq {P = Elaborated tr0 w0} (calmly tr0 w0 (keeps_discriminants env ds h (0, 0))) (λ d. declares_pool tr0 w0 slot u d) (λ y tr w i q. q));
+    silent = λ tr0 w0 env. inside_ticks (calmly tr0 w0 keeps_nothing);
+  }
 
   pub elaborates : (tr0 : List Event) (w0 : World) (env : List ℕ) (xs : List Elaborating) → Each GoodItem xs → Inside t tr0 w0 (Quiet t w0.ledger.next_object w0.ledger.next_master) (Elaborated tr0 w0) (elaborate k env w0.ledger.next_master xs)
   unfolding elaborate

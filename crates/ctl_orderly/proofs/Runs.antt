@@ -15,6 +15,7 @@ use Rattle.ctl_meaning.specs.Run.{meaning_of, defaults_from, default_at, express
 use Rattle.ctl_meaning.specs.Advance.{log_of}
 use Rattle.ctl_meaning.specs.Audit.{first_owner, closed, first_closing, IsOrderly}
 use Rattle.ctl_meaning.proofs.Relation.{IfSome}
+use Rattle.ctl_meaning.proofs.Glue.{good_default, good_routine}
 use Rattle.ctl_orderly.specs.Law.{InOrder, TracesAreOrderly}
 use Rattle.ctl_orderly.proofs.Traces.{orderly_by}
 use Rattle.ctl_orderly.proofs.State.{Inv, Moves, none, calm}
@@ -22,7 +23,7 @@ use Rattle.ctl_orderly.proofs.Rules.{Good, Ends, Ever}
 use Rattle.ctl_orderly.proofs.Plain.{keeps_seq, keeps_spends, keeps_ticked, keeps_gone}
 use Rattle.ctl_orderly.proofs.Expressions as E
 use Rattle.ctl_orderly.proofs.Allocating.{keeps_allocate}
-use Rattle.ctl_orderly.proofs.Glue as G
+use Rattle.ctl_orderly.proofs.Statements as S
 
 -- no component begins by default
 abbrev no_default : Default
@@ -47,11 +48,11 @@ module _ (program : Checked) (order : InOrder program.records) (ask : Ask) where
 
     values : (u position : ℕ) (env : List ℕ) → Good t (defaults u position env)
     unfolding default_in
-    values u position env = value_in (default_at (defaults_from [] program.records) u position) (G.good_default t ask call no_default calls allocates program.records u position) env
+    values u position env = value_in (default_at (defaults_from [] program.records) u position) (good_default (E.expressions t ask call no_default calls allocates) program.records u position) env
 
     keeps_number : (env : List ℕ) (ss : List Slot) (f : ℕ) → Good t (run_number (meaning_of program) (tools_with ask (meaning_of program) call) env ss f)
     unfolding run_number meaning_of tools_with expression_tools
-    keeps_number env ss f = G.good_routine t ask call defaults calls allocates in_order values program.subprograms f env ss
+    keeps_number env ss f = S.keeps_routine t in_order ask call defaults calls allocates values _ (good_routine (E.expressions t ask call defaults calls allocates) (S.statements t in_order ask call defaults calls allocates values) program.subprograms f) env ss
 
     keeps_new : (env : List ℕ) (a : ℕ) (ty : Ty) (h v : Option (List ℕ)) → Good t (allocate (tools_with ask (meaning_of program) call) env a ty h v >>= completed)
     unfolding meaning_of tools_with expression_tools

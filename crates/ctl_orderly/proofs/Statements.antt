@@ -5,12 +5,11 @@ use Rattle.ctl_program.specs.declared.types.Var.{Var}
 use Rattle.ctl_program.specs.declared.operators.Operation.{Operation}
 use Rattle.ctl_program.specs.declared.operators.Direction.{Direction}
 use Rattle.ctl_program.specs.declared.operators.Direction.TheVariants.{Upward, Downward}
-use Rattle.ctl_program.specs.declared.statement.Choices.{Choices}
 use Rattle.ctl_meaning.specs.World.{Slot}
 use Rattle.ctl_meaning.specs.Choice.{Ask}
-use Rattle.ctl_meaning.specs.Outcome.{Result, Goes, Leaves, Act, Done, raised_by}
+use Rattle.ctl_meaning.specs.Outcome.{Result, Goes, Leaves, Act, Done, raised_by, on_some}
 use Rattle.ctl_meaning.specs.Types.{Tables, Elementary, Composite}
-use Rattle.ctl_meaning.specs.Names.{OfSubprogram, Call as Caller, Default, Tools, Found}
+use Rattle.ctl_meaning.specs.Names.{OfSubprogram, Call as Caller, Default, Tools, Found, gone}
 use Rattle.ctl_meaning.specs.Expressions.{no_actuals, Valued, Naming, Supplied}
 use Rattle.ctl_meaning.specs.Finalization.{Every}
 use Rattle.ctl_meaning.specs.Masters.{Elaborating, elaborate}
@@ -18,9 +17,10 @@ use Rattle.ctl_meaning.specs.Statements as S
 use Rattle.ctl_meaning.specs.Statements.{dispatch, join_pieces, eval_text, spot_of, overwrite, assign_record, leaving, turned, loop, one_turn, while, for_turns, for, set_loop, handled, Doing, Guarding, Body, do_each, do_first, handle, scalar}
 use Rattle.ctl_meaning.specs.Run.{Routine, returned, run_routine}
 use Rattle.ctl_meaning.proofs.Relation.{Each, IfSome}
+use Rattle.ctl_meaning.proofs.Layers.{OfStatements, Statements}
 use Rattle.ctl_orderly.proofs.Rules.{Good}
 use Rattle.ctl_orderly.proofs.Edits.{edit_value}
-use Rattle.ctl_orderly.proofs.Plain.{keeps_by_reference, keeps_changes, keeps_counts, keeps_done, keeps_either, keeps_existing, keeps_gives, keeps_joins, keeps_leave, keeps_nothing, keeps_on_some, keeps_raise, keeps_read_found, keeps_seq, keeps_shows, keeps_spends, keeps_then, keeps_ticked, keeps_when, keeps_write_found}
+use Rattle.ctl_orderly.proofs.Plain.{keeps_by_reference, keeps_changes, keeps_counts, keeps_done, keeps_either, keeps_existing, keeps_gives, keeps_gone, keeps_joins, keeps_leave, keeps_nothing, keeps_on_some, keeps_raise, keeps_read_found, keeps_seq, keeps_shows, keeps_spends, keeps_then, keeps_ticked, keeps_when, keeps_write_found}
 use Rattle.std.proofs.Common.{◌≡◌, refl, sym, subst}
 use Rattle.ctl_meaning.specs.Lists.{last_of}
 use Rattle.ctl_meaning.specs.Statements.{turns}
@@ -91,18 +91,6 @@ module _ (t : Tables) (order : InOrder t.records) (ask : Ask) (call : Caller) (d
   unfolding dispatch
   keeps_dispatch env op f = keeps_existing _ (λ o. keeps_on_some _ keeps_nothing (λ s. keeps_then (keeps_seq (keeps_by_reference f) (λ x. keeps_call_with t ask call default calls allocates env s _)) keeps_nothing))
 
-  pub good_literal : (v : List ℕ) → GoodValue (S.literal v)
-  unfolding S.literal
-  good_literal v env = keeps_ticked (keeps_done _)
-
-  pub good_integer_text : (e : Valued) → GoodValue e → GoodValue (S.integer_text e)
-  unfolding S.integer_text
-  good_integer_text e h env = keeps_ticked (keeps_seq (h env) (λ v. keeps_done _))
-
-  pub good_boolean_text : (e : Valued) → GoodValue e → GoodValue (S.boolean_text e)
-  unfolding S.boolean_text
-  good_boolean_text e h env = keeps_ticked (keeps_seq (h env) (λ v. keeps_done _))
-
   keeps_join_pieces : (env : List ℕ) (ps : List Valued) → Each GoodValue ps → (v : List ℕ) → Good t (join_pieces k env ps v)
   unfolding join_pieces
   keeps_join_pieces env [] h v = keeps_done v
@@ -156,6 +144,10 @@ module _ (t : Tables) (order : InOrder t.records) (ask : Ask) (call : Caller) (d
   abbrev pub GoodBody : Body → Type 0
   GoodBody b = (e : ℕ) → Lasting t order ask call default calls values (λ inner. b.inside k inner e)
 
+  -- what is said of statements
+  abbrev pub of_statements : OfStatements
+  of_statements = record { Item = GoodItem; Statement = GoodDoing; Guard = GoodGuard; Master = GoodBody }
+
   keeps_each : (env : List ℕ) (e : ℕ) (ss : List Doing) → Each GoodDoing ss → Good t (do_each k env e ss)
   unfolding do_each
   keeps_each env e [] h = keeps_nothing
@@ -170,112 +162,51 @@ module _ (t : Tables) (order : InOrder t.records) (ask : Ask) (call : Caller) (d
   unfolding handle
   keeps_handle env xs h e = keeps_first env e xs h (keeps_raise e)
 
-  pub good_null : GoodDoing S.null
-  unfolding S.null
-  good_null env e = keeps_ticked keeps_nothing
-
-  pub good_assign : (n : Naming) (v : Valued) → GoodName n → GoodValue v → GoodDoing (S.assign n v)
-  unfolding S.assign
-  good_assign n v h i env e = keeps_ticked (keeps_seq (h Elementary env) (λ f. keeps_seq (i env) (λ x. keeps_write_found f x)))
-
-  pub good_assign_part : (n : Naming) (u : ℕ) (a : Supplied) → GoodName n → GoodActual a → GoodDoing (S.assign_part n u a)
-  unfolding S.assign_part
-  good_assign_part n u a h i env e = keeps_ticked (keeps_seq (h Composite env) (λ f. keeps_seq (i.0 env) (λ g. keeps_assign_record u f g)))
-
-  pub good_call_statement : (f : ℕ) (xs : List Supplied) → Each GoodActual xs → GoodDoing (S.call f xs)
-  unfolding S.call
-  good_call_statement f xs h env e = keeps_ticked (keeps_then (keeps_seq (keeps_pass_each t ask call default calls allocates env xs h no_actuals) (λ p. keeps_call_with t ask call default calls allocates env f p)) keeps_nothing)
-
-  pub good_call_nothing : (n : Naming) → GoodName n → GoodDoing (S.call_nothing n)
-  unfolding S.call_nothing
-  good_call_nothing n h env e = keeps_ticked (keeps_then (h Composite env) keeps_nothing)
-
-  pub good_dispatching : (op : Operation) (n : Naming) → GoodName n → GoodDoing (S.call_dispatching op n)
-  unfolding S.call_dispatching
-  good_dispatching op n h env e = keeps_ticked (keeps_seq (h Composite env) (λ f. keeps_dispatch env op f))
-
-  pub good_call_allocate : (p a : Naming) (size al : Valued) → GoodName p → GoodName a → GoodValue size → GoodValue al → GoodDoing (S.call_allocate p a size al)
-  unfolding S.call_allocate
-  good_call_allocate p a size al h i l m env e = keeps_ticked (keeps_seq (h Composite env) (λ f. keeps_seq (i Elementary env) (λ g. keeps_scalar (l env) (λ s. keeps_seq (keeps_then (m env) (keeps_library_allocate t ask call default calls _ s)) (λ y. keeps_write_found g _)))))
-
-  pub good_call_deallocate : (p : Naming) (a size al : Valued) → GoodName p → GoodValue a → GoodValue size → GoodValue al → GoodDoing (S.call_deallocate p a size al)
-  unfolding S.call_deallocate
-  good_call_deallocate p a size al h i l m env e = keeps_ticked (keeps_seq (h Composite env) (λ f. keeps_scalar (i env) (λ y. keeps_then (keeps_then (l env) (m env)) (keeps_library_deallocate t ask call default calls _ y))))
-
-  pub good_put : (ps : List Valued) → Each GoodValue ps → GoodDoing (S.put ps)
-  unfolding S.put
-  good_put ps h env e = keeps_ticked (keeps_seq (keeps_text env ps h) (λ v. keeps_shows _ tt))
-
-  pub good_put_line : (ps : List Valued) → Each GoodValue ps → GoodDoing (S.put_line ps)
-  unfolding S.put_line
-  good_put_line ps h env e = keeps_ticked (keeps_seq (keeps_text env ps h) (λ v. keeps_then (keeps_shows _ tt) (keeps_shows _ tt)))
-
-  pub good_new_line : GoodDoing S.new_line
-  unfolding S.new_line
-  good_new_line env e = keeps_ticked (keeps_shows _ tt)
-
-  pub good_exit : (o : Option Valued) → IfSome GoodValue o → GoodDoing (S.exit o)
-  unfolding S.exit
-  good_exit None h env e = keeps_ticked (keeps_leave _)
-  good_exit (Some x) h env e = keeps_ticked (keeps_scalar (h env) (λ b. keeps_either _ (keeps_leave _) keeps_nothing))
-
-  pub good_return : (o : Option Valued) → IfSome GoodValue o → GoodDoing (S.return o)
-  unfolding S.return
-  good_return None h env e = keeps_ticked (keeps_leave _)
-  good_return (Some x) h env e = keeps_ticked (keeps_seq (h env) (λ v. keeps_leave _))
-
-  pub good_raise : (x : ℕ) → GoodDoing (S.raise_new x)
-  unfolding S.raise_new
-  good_raise x env e = keeps_ticked (keeps_raise _)
-
-  pub good_raise_again : GoodDoing S.raise_again
-  unfolding S.raise_again
-  good_raise_again env e = keeps_ticked (keeps_raise _)
-
-  pub good_choose_arm : (xs : List Guarding) (ss : List Doing) → Each GoodGuard xs → Each GoodDoing ss → GoodDoing (S.choose_arm xs ss)
-  unfolding S.choose_arm
-  good_choose_arm xs ss h i env e = keeps_ticked (keeps_leaving (keeps_first env e xs h (keeps_each env e ss i)))
-
-  pub good_loop : (ss : List Doing) → Each GoodDoing ss → GoodDoing (S.loop_plainly ss)
-  unfolding S.loop_plainly
-  good_loop ss h env e = keeps_ticked (keeps_leaving (keeps_repeats (keeps_each env e ss h)))
-
-  pub good_while : (v : Valued) (ss : List Doing) → GoodValue v → Each GoodDoing ss → GoodDoing (S.loop_while v ss)
-  unfolding S.loop_while
-  good_while v ss h i env e = keeps_ticked (keeps_leaving (keeps_repeats_while (h env) (keeps_each env e ss i)))
-
-  pub good_for : (x : Var) (way : Direction) (low high : Valued) (ss : List Doing) → GoodValue low → GoodValue high → Each GoodDoing ss → GoodDoing (S.loop_for x way low high ss)
-  unfolding S.loop_for
-  good_for x way low high ss h i l env e = keeps_ticked (keeps_leaving (keeps_scalar (h env) (λ a. keeps_scalar (i env) (λ b. keeps_for way _ (λ z. keeps_then (keeps_set_loop env x z) (keeps_each env e ss l)) _ _))))
-
-  pub good_block : (b : Body) → GoodBody b → GoodDoing (S.do_block b)
-  unfolding S.do_block
-  good_block b h env e = keeps_ticked (keeps_seq (keeps_master t order ask call default calls values env _ _ (h e)) (λ y. keeps_gives y.result))
-
-  pub good_free : (a : ℕ) (n : Naming) → GoodName n → GoodDoing (S.free_object_of a n)
-  unfolding S.free_object_of
-  good_free a n h env e = keeps_ticked (keeps_seq (h Elementary env) (λ f. keeps_free t order ask call default calls values env a f))
-
-  pub good_release : (n : Naming) → GoodName n → GoodDoing (S.release_subpool n)
-  unfolding S.release_subpool
-  good_release n h env e = keeps_ticked (keeps_seq (h Elementary env) (λ f. keeps_unchecked t ask call default calls f))
-
-  pub good_guard : (v : Valued) (ss : List Doing) → GoodValue v → Each GoodDoing ss → GoodGuard (S.guard v ss)
-  unfolding S.guard
-  good_guard v ss h i env e m x = keeps_scalar (h env) (λ b. keeps_either _ (keeps_each env e ss i) x)
-
-  pub good_handler : (choices : Choices) (ss : List Doing) → Each GoodDoing ss → GoodGuard (S.handler choices ss)
-  unfolding S.handler
-  good_handler choices ss h env e m x = keeps_counts _ (keeps_either _ (keeps_each env e ss h) x)
-
   -- a part and its statements leave the objects of the part standing
-  pub good_within : (slots : ℕ) (xs : List Elaborating) (ss : List Doing) (hs : List Guarding) → Each GoodItem xs → Each GoodDoing ss → Each GoodGuard hs → GoodBody (record { slots = slots; inside = S.within xs ss hs })
+  good_within : (slots : ℕ) (xs : List Elaborating) (ss : List Doing) (hs : List Guarding) → Each GoodItem xs → Each GoodDoing ss → Each GoodGuard hs → GoodBody (record { slots = slots; inside = S.within xs ss hs })
   unfolding S.within
   good_within slots xs ss hs h i l e tr0 w0 env = inside_then {P = Elaborated t order ask call default calls values tr0 w0} (subst (λ m. Inside t tr0 w0 (Quiet t w0.ledger.next_object w0.ledger.next_master) (Elaborated t order ask call default calls values tr0 w0) (elaborate k (env ++ w0.ledger.next_master ∷ []) m xs)) (sym (last_behind env w0.ledger.next_master)) (elaborates t order ask call default calls values tr0 w0 (env ++ w0.ledger.next_master ∷ []) xs h))
       (λ a. as_inside (inside_good (Standing t w0.ledger.next_object w0.ledger.next_master) (standing_still w0.ledger.next_object w0.ledger.next_master) (keeps_joins (keeps_each (env ++ w0.ledger.next_master ∷ []) e ss i) (λ r. keeps_handled _ (λ x. keeps_handle (env ++ w0.ledger.next_master ∷ []) hs l x) r))) (λ tr w i s q. q.standing) (λ r tr w i q. q)) (λ y tr w i q. q)
 
+  -- each layer of a statement keeps the invariant where its parts do
+  pub statements : Statements (E.of_expressions t ask call default) of_statements
+  unfolding S.literal S.integer_text S.boolean_text S.null S.assign S.assign_part S.call S.call_nothing S.call_dispatching S.call_allocate S.call_deallocate S.put S.put_line S.new_line S.exit S.return S.raise_new S.raise_again S.choose_arm S.loop_plainly S.loop_while S.loop_for S.do_block S.free_object_of S.release_subpool S.guard S.handler
+  statements = record {
+    literal = λ v env. keeps_ticked (keeps_done _);
+    integer_text = λ e h env. keeps_ticked (keeps_seq (h env) (λ v. keeps_done _));
+    boolean_text = λ e h env. keeps_ticked (keeps_seq (h env) (λ v. keeps_done _));
+    null = λ env e. keeps_ticked keeps_nothing;
+    assign = λ n v h i env e. keeps_ticked (keeps_seq (h Elementary env) (λ f. keeps_seq (i env) (λ x. keeps_write_found f x)));
+    assign_part = λ n u a h i env e. keeps_ticked (keeps_seq (h Composite env) (λ f. keeps_seq (i.0 env) (λ g. keeps_assign_record u f g)));
+    call_statement = λ f xs h env e. keeps_ticked (keeps_then (keeps_seq (keeps_pass_each t ask call default calls allocates env xs h no_actuals) (λ p. keeps_call_with t ask call default calls allocates env f p)) keeps_nothing);
+    call_nothing = λ n h env e. keeps_ticked (keeps_then (h Composite env) keeps_nothing);
+    dispatching = λ op n h env e. keeps_ticked (keeps_seq (h Composite env) (λ f. keeps_dispatch env op f));
+    call_allocate = λ p a size al h i l m env e. keeps_ticked (keeps_seq (h Composite env) (λ f. keeps_seq (i Elementary env) (λ g. keeps_scalar (l env) (λ s. keeps_seq (keeps_then (m env) (keeps_library_allocate t ask call default calls _ s)) (λ y. keeps_write_found g _)))));
+    call_deallocate = λ p a size al h i l m env e. keeps_ticked (keeps_seq (h Composite env) (λ f. keeps_scalar (i env) (λ y. keeps_then (keeps_then (l env) (m env)) (keeps_library_deallocate t ask call default calls _ y))));
+    put = λ ps h env e. keeps_ticked (keeps_seq (keeps_text env ps h) (λ v. keeps_shows _ tt));
+    put_line = λ ps h env e. keeps_ticked (keeps_seq (keeps_text env ps h) (λ v. keeps_then (keeps_shows _ tt) (keeps_shows _ tt)));
+    new_line = λ env e. keeps_ticked (keeps_shows _ tt);
+    exit = elim [ None ↦ λ h env e. keeps_ticked (keeps_leave _) | Some x ↦ λ h env e. keeps_ticked (keeps_scalar (h env) (λ b. keeps_either _ (keeps_leave _) keeps_nothing)) ];
+    return = elim [ None ↦ λ h env e. keeps_ticked (keeps_leave _) | Some x ↦ λ h env e. keeps_ticked (keeps_seq (h env) (λ v. keeps_leave _)) ];
+    raise = λ x env e. keeps_ticked (keeps_raise _);
+    raise_again = λ env e. keeps_ticked (keeps_raise _);
+    choose_arm = λ xs ss h i env e. keeps_ticked (keeps_leaving (keeps_first env e xs h (keeps_each env e ss i)));
+    loop = λ ss h env e. keeps_ticked (keeps_leaving (keeps_repeats (keeps_each env e ss h)));
+    while = λ v ss h i env e. keeps_ticked (keeps_leaving (keeps_repeats_while (h env) (keeps_each env e ss i)));
+    for = λ x way low high ss h i l env e. keeps_ticked (keeps_leaving (keeps_scalar (h env) (λ a. keeps_scalar (i env) (λ b. keeps_for way _ (λ z. keeps_then (keeps_set_loop env x z) (keeps_each env e ss l)) _ _))));
+    block = λ b h env e. keeps_ticked (keeps_seq (keeps_master t order ask call default calls values env _ _ (h e)) (λ y. keeps_gives y.result));
+    free = λ a n h env e. keeps_ticked (keeps_seq (h Elementary env) (λ f. keeps_free t order ask call default calls values env a f));
+    release = λ n h env e. keeps_ticked (keeps_seq (h Elementary env) (λ f. keeps_unchecked t ask call default calls f));
+    guard = λ v ss h i env e m x. keeps_scalar (h env) (λ b. keeps_either _ (keeps_each env e ss i) x);
+    handler = λ choices ss h env e m x. keeps_counts _ (keeps_either _ (keeps_each env e ss h) x);
+    within = good_within;
+    declarations = M.declarations t order ask call default calls values;
+  }
+
   -- Bodies -----------------------------------------------------------------------------------
 
-  pub good_routine : (env : List ℕ) (ss : List Slot) (s : Routine) → GoodBody s.body → Good t (run_routine k env ss s)
-  unfolding run_routine returned
-  good_routine env ss s h = keeps_seq (keeps_master t order ask call default calls values _ _ _ (h 0)) (λ x. keeps_gives _)
+  -- the body of a subprogram, if there is one of that number
+  pub keeps_routine : (o : Option Routine) → IfSome (λ (s : Routine). GoodBody s.body) o → (env : List ℕ) (ss : List Slot) → Good t (on_some o gone (run_routine k env ss))
+  unfolding on_some run_routine returned
+  keeps_routine None h env ss = keeps_gone
+  keeps_routine (Some s) h env ss = keeps_seq (keeps_master t order ask call default calls values _ _ _ (h 0)) (λ x. keeps_gives _)
