@@ -112,14 +112,15 @@ TEXTS = [
         1,
         1,
     ),
-    (
-        ITEM
-        + "type R is record N : Integer := 1; end record; type Q is record X : R; end record; Y : Q;"
-        + " function F return Integer is begin return 1; end F; N : Integer; begin N := F; end Main;",
-        12,
-        1,
-        109,
-    ),
+    # functions are run that give values of Integer or Boolean; others are left out where they stand
+    (ITEM + "function F return Integer is begin return 1; end F; N : Integer; begin N := F; end Main;", ACCEPTED, 1, 1),
+    (ITEM + "function F (N : Integer) return Boolean is begin return N > 1; end F; begin while F (1) loop null; end loop; end Main;", ACCEPTED, 1, 1),
+    (ITEM + "type R is record N : Integer; end record; function F (X : R) return Integer is begin return X.N; end F; begin null; end Main;", ACCEPTED, 1, 1),
+    (ITEM + "type R is record N : Integer; end record; function F return R is V : R; begin return V; end F; begin null; end Main;", 12, 1, 61),
+    (ITEM + "function F (N : out Integer) return Integer is begin return 1; end F; begin null; end Main;", 31, 1, 31),
+    (ITEM + "function F return Integer is begin null; end F; begin null; end Main;", 35, 1, 28),
+    (ITEM + "function F return Integer is begin return True; end F; begin null; end Main;", 30, 1, 61),
+    (ITEM + "procedure P is begin return 1; end P; begin null; end Main;", 35, 1, 40),
     (ITEM + "type R is record N : Integer; B : Boolean := True; end record; X : R; begin X.N := 1; end Main;", ACCEPTED, 1, 1),
     (ITEM + "type R is limited record N : Integer; end record; X : R; begin X.N := 1; end Main;", ACCEPTED, 1, 1),
     (ITEM + "type R is record N : Integer; end record; X, Y : R; begin X := Y; end Main;", ACCEPTED, 1, 1),

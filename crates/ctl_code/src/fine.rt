@@ -10,7 +10,7 @@ ghost use Rattle.ctl_code.specs.declared.code.Cell.{Cell};
 ghost use Rattle.ctl_code.specs.declared.code.Operator.{Operator};
 ghost use Rattle.ctl_code.specs.declared.code.Instr.TheVariants as I;
 ghost use Rattle.ctl_code.specs.Kinds.{changed, stack_at};
-ghost use Rattle.ctl_code.specs.Valid.{HasFormals, HaveOperands, IsOperandAt, Bounded, DropsPart, IsAtEnd, IsDeclarable, IsEntry, IsFine, IsInScope, IsText, Leads, Puts, Taken, Takes, Under, outermost};
+ghost use Rattle.ctl_code.specs.Valid.{HasFormals, HaveOperands, IsCalled, IsOperandAt, Bounded, DropsPart, IsAtEnd, IsDeclarable, IsEntry, IsFine, IsInScope, IsText, Leads, Puts, Taken, Takes, Under, outermost};
 ghost use Rattle.ctl_code.specs.Windows.{depth, height, variable_at};
 
 use crate::code::{Cell, Code, Instr, Named, Operator, Way};
@@ -18,6 +18,7 @@ use crate::images::count_images;
 use crate::kinds::{Kind, is_same_kind};
 use crate::layouts::{is_declarable, is_in_scope};
 use crate::types::{is_binary_of, is_cell_of, is_scalar, is_unary_of};
+use ctl_program::operators::SubprogramKind;
 use ctl_program::types::Ty;
 
 // Where an instruction leads -------------------------------------------------------------------
@@ -279,7 +280,7 @@ fn is_transfer_fine(code: &Code, place: usize, way: Way) -> bool
 {
     match way {
         Way::Exit => is_at_end(code, place),
-        Way::Return => true,
+        Way::Return | Way::ReturnValue(_) => true,
         Way::Raise(exception) => exception < code.exceptions.len(),
     }
 }
@@ -451,25 +452,86 @@ fn is_bare(code: &Code, place: usize) -> bool
     matches!(code.kinds.kind_at(place, 0), None)
 }
 
-/// Checks the call of a procedure (RM 6.4): it is declared in a master that is seen, has slots for its actuals, and these stand on top.
+/// Checks a return statement with the value of a cell (RM 6.5).
+fn is_return_fine(code: &Code, place: usize, from: Cell, ty: Ty) -> bool
+    ensures { IsTrue result ↔ IsFine code.now place (I.Return from ty) (stack_at code.now.kinds place) }
+{
+    is_scalar(ty) && gives_value(code, place, from, ty)
+}
+
+/// Tells whether a cell has a value of this type.
+fn gives_value(code: &Code, place: usize, from: Cell, ty: Ty) -> bool
+    ensures { IsTrue result ↔ Takes from ty (stack_at code.now.kinds place) (λ below. Unit {0}) }
+{
+    match taken(code, place, 0, from, ty) {
+        Some(_) => true,
+        None => false,
+    }
+}
+
+/// Checks the call of a procedure or of a function (RM 6.4): it is declared in a master that is seen, has slots for its actuals, and these
+/// stand on top.
+fn is_called(code: &Code, place: usize, kind: SubprogramKind, number: usize, actuals: usize) -> bool
+    ensures { IsTrue result ↔ IsCalled code.now kind number actuals (stack_at code.now.kinds place) }
+{
+    is_in_scope(code, code.kinds.depth_at(place), Some(number))
+        && has_formals(code, kind, number, actuals)
+        && has_operands(code, place, actuals)
+}
+
+/// Checks the call of a procedure, which leaves nothing in the place of its actuals (RM 6.4).
 fn is_call_fine(code: &Code, place: usize, number: usize, actuals: usize) -> bool
     requires { place + 1 < 2 ^ 64 }
     ensures { IsTrue result ↔ IsFine code.now place (I.Call number actuals) (stack_at code.now.kinds place) }
 {
-    is_in_scope(code, code.kinds.depth_at(place), Some(number))
-        && has_formals(code, number, actuals)
-        && has_operands(code, place, actuals)
+    is_called(code, place, SubprogramKind::Procedure, number, actuals)
         && leads_on(code, place, actuals, None)
 }
 
-/// Tells whether a body has slots for so many formals (RM 6.1).
-pub(crate) fn has_formals(code: &Code, number: usize, count: usize) -> bool
-    ensures { IsTrue result ↔ HasFormals code.now number count }
+/// Checks the call of a function, which leaves its value in the place of its actuals (RM 6.4).
+fn is_evaluate_fine(
+    code: &Code,
+    place: usize,
+    number: usize,
+    actuals: usize,
+    ty: Ty,
+    at: usize,
+) -> bool
+    requires { place + 1 < 2 ^ 64 }
+    ensures { IsTrue result ↔ IsFine code.now place (I.Evaluate number actuals ty at) (stack_at code.now.kinds place) }
+{
+    is_scalar(ty)
+        && is_called(code, place, SubprogramKind::Function, number, actuals)
+        && puts_operand(code, place, actuals, at, ty)
+}
+
+/// Tells whether both are procedures, or both are functions.
+fn is_same_subprogram(kind: SubprogramKind, other: SubprogramKind) -> bool
+    ensures { IsTrue result ↔ (kind ≡ other) }
+{
+    match kind {
+        SubprogramKind::Procedure => matches!(other, SubprogramKind::Procedure),
+        SubprogramKind::Function => matches!(other, SubprogramKind::Function),
+    }
+}
+
+/// Tells whether it is a procedure, or a function, whose body has slots for so many formals (RM 6.1).
+pub(crate) fn has_formals(code: &Code, kind: SubprogramKind, number: usize, count: usize) -> bool
+    ensures { IsTrue result ↔ HasFormals code.now kind number count }
 {
     match code.entries.get(number) {
-        Some(entry) => count <= entry.slots,
+        Some(entry) => is_same_subprogram(entry.kind, kind) && count <= entry.slots,
         None => false,
     }
+}
+
+/// Checks the start of the main procedure, which is declared in no master (RM 10.2).
+fn is_start_fine(code: &Code, place: usize, number: usize) -> bool
+    ensures { IsTrue result ↔ IsFine code.now place (I.Start number) (stack_at code.now.kinds place) }
+{
+    is_bare(code, place)
+        && is_in_scope(code, 0, Some(number))
+        && has_formals(code, SubprogramKind::Procedure, number, 0)
 }
 
 /// Tells whether an operand stands before an instruction, at this place from the newest on.
@@ -578,11 +640,18 @@ pub fn is_fine(code: &Code, place: usize, instr: &Instr) -> bool
     ensures { IsTrue result ↔ IsFine code.now place instr.now (stack_at code.now.kinds place) }
 {
     match *instr {
-        Instr::Start(entry) => is_bare(code, place) && is_in_scope(code, 0, Some(entry)),
+        Instr::Start(entry) => is_start_fine(code, place, entry),
         Instr::Enter { slots, length } => is_enter_fine(code, place, slots, length),
         Instr::Leave => is_at_end(code, place),
         Instr::Call { procedure, actuals } => is_call_fine(code, place, procedure, actuals),
+        Instr::Evaluate {
+            function,
+            actuals,
+            ty,
+            at,
+        } => is_evaluate_fine(code, place, function, actuals, ty, at),
         Instr::Transfer(way) => is_transfer_fine(code, place, way),
+        Instr::Return { from, ty } => is_return_fine(code, place, from, ty),
         Instr::Handle(length) => is_handle_fine(code, place, length),
         Instr::Catch { exception, length } => is_catch_fine(code, place, exception, length),
         Instr::RaiseAgain => true,

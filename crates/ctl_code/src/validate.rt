@@ -13,6 +13,7 @@ use crate::code::{Code, Instr};
 use crate::fine::{has_formals, is_entry, is_fine};
 use crate::kinds::Kind;
 use crate::layouts::are_layouts_fine;
+use ctl_program::operators::SubprogramKind;
 
 /// Tells whether each instruction is well formed where it stands.
 fn are_instructions_fine(code: &Code) -> bool
@@ -67,12 +68,12 @@ fn are_records_fine(code: &Code) -> bool
     true
 }
 
-/// Tells whether there is no operation, or one whose body has a slot for the object that it is called for.
+/// Tells whether there is no operation, or a procedure whose body has a slot for the object that it is called for.
 fn takes_object(code: &Code, number: Option<usize>) -> bool
     ensures { IsTrue result ↔ TakesObject code.now number }
 {
     match number {
-        Some(number) => has_formals(code, number, 1),
+        Some(number) => has_formals(code, SubprogramKind::Procedure, number, 1),
         None => true,
     }
 }

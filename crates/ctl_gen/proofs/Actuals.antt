@@ -1,24 +1,18 @@
 -- Actual parameters: the code of each puts a new operand, from left to right, and its formal takes what stands there (6.2, 6.4.1).
-use Rattle.std.proofs.Common.{◌≡◌, ℕ, suc, ◌+◌, ◌≤◌, List, [], ◌∷◌, ◌++◌, length, map, Option, Some, None, true, refl, sym, ap, ◌∙◌, subst, arith, append_assoc, length-append}
+use Rattle.std.proofs.Common.{◌≡◌, ℕ, suc, ◌+◌, ◌≤◌, List, [], ◌∷◌, ◌++◌, length, Option, Some, None, true, refl, sym, ap, ◌∙◌, subst, arith, length-append}
 use Rattle.std.specs.Prelude.{drop}
 use Rattle.ctl_program.specs.declared.types.Ty.{Ty}
 use Rattle.ctl_program.specs.declared.types.Ty.TheVariants.{Integer, Count, Boolean, Address, Handle, Access, Record}
-use Rattle.ctl_program.specs.declared.expression.Actual.{Actual, out-Actual, roll-Actual, roll-out-Actual}
-use Rattle.ctl_program.specs.declared.expression.Actual.TheOpen.{Actual-F}
-use Rattle.ctl_program.specs.declared.expression.Expr.{Expr}
-use Rattle.ctl_program.specs.declared.expression.Name.{Name}
-use Rattle.ctl_program.specs.declared.expression.Operand.{Operand as Operand_of}
-use Rattle.ctl_meaning.specs.World.{Log, World}
+use Rattle.ctl_meaning.specs.World.{Content, Binds, Slot, Log, World}
 use Rattle.ctl_meaning.specs.Lists.{opened_lists}
 use Rattle.ctl_meaning.specs.Objects.{opened_objects}
 use Rattle.ctl_meaning.specs.Activations.{master_of}
 use Rattle.ctl_meaning.specs.Choice.{Ask}
-use Rattle.ctl_meaning.specs.Outcome.{ByRaise, Result, Goes, Leaves, Gives, Act, Done, add, bind, on_goes, ◌>>=◌, done, ticked, opened_outcome}
+use Rattle.ctl_meaning.specs.Outcome.{ByRaise, Result, Goes, Leaves, Out, Act, add, bind, on_goes, ◌>>=◌, done, ticked, opened_outcome}
 use Rattle.ctl_meaning.specs.Types.{Tables, Category, Elementary, Composite, category_of}
 use Rattle.ctl_meaning.specs.Names.{Alone, Found, Call, Default, Tools, opened_names}
-use Rattle.ctl_meaning.specs.Expressions.{Formal, Naming, Passed, Supplied, actual_step as actual_meaning, eval, eval_name, no_actuals, going_back, pass_each, supply, with_formal}
+use Rattle.ctl_meaning.specs.Expressions.{Formal, Naming, Passed, Supplied, no_actuals, going_back, pass_each, with_formal}
 use Rattle.ctl_meaning.specs.Expressions.{bound as bound_slot, by_value as takes_value, by_reference as takes_reference}
-use Rattle.ctl_meaning.proofs.Trees.{actual_roll}
 use Rattle.ctl_code.specs.declared.code.Named.TheVariants as NamedOf
 use Rattle.ctl_code.specs.declared.code.Code.{Code}
 use Rattle.ctl_code.specs.declared.kinds.Kind.{Kind}
@@ -28,18 +22,16 @@ use Rattle.ctl_code.specs.Table.{formal_of, formals_of, spot_of}
 use Rattle.ctl_code.specs.Windows.{depth}
 use Rattle.ctl_layout.specs.Around.{Line, new_operand}
 use Rattle.ctl_layout.specs.Parts.{Reached, are_selectors, part_code, part_runs}
-use Rattle.ctl_layout.specs.Values.{value_code, reached_by}
-use Rattle.ctl_layout.specs.Layout.{ActualCode, actual_code, actual_layer, actuals_code, actuals_run, by_reference, with_actuals}
-use Rattle.ctl_gen.proofs.Known.{IsScalar, both_true, scalar_elementary, scalar_if}
-use Rattle.ctl_gen.proofs.Evaluated.{value_since}
+use Rattle.ctl_layout.specs.Values.{ActualCode, ValueCode, actuals_code, by_reference, with_actuals}
+use Rattle.ctl_gen.proofs.Known.{IsScalar, scalar_elementary}
 use Rattle.ctl_gen.proofs.Place.{Laid, laid_front, laid_back}
-use Rattle.ctl_gen.proofs.Worlds.{Each, HoldsNoCopy, Since, Kept, each_and, no_copy_at}
+use Rattle.ctl_gen.proofs.Worlds.{Each, HoldsNoCopy, Since, each_and, no_copy_at}
 use Rattle.ctl_gen.proofs.Setting.{Setting, tools_with}
 use Rattle.ctl_gen.proofs.Cells.{Any, landed}
-use Rattle.ctl_gen.proofs.Parts.{Leads, agree_part, composite_leads, content_of, find_by, finds_part, name_leads, part_found, part_then, selectors_of, variable_of}
+use Rattle.ctl_gen.proofs.Parts.{Leads, agree_part, composite_leads, content_of, find_by, finds_part, part_found, part_then, selectors_of, variable_of}
 use Rattle.ctl_gen.proofs.Worth.{both_cell}
-use Rattle.ctl_gen.proofs.Expressions.{value_runs}
-use Rattle.ctl_gen.proofs.Follow.{Runs, Target, at, transferred, arrives, added, arriving, no_step, add_none, bind_add, bind_bind}
+use Rattle.ctl_gen.proofs.Expressions.{Value, value_runs}
+use Rattle.ctl_gen.proofs.Follow.{IsRaise, RunsTo, by_raise, at, transferred, added_to, both_to, no_step_to, bind_add, bind_bind}
 
 -- Formals -----------------------------------------------------------------------------------------
 
@@ -73,68 +65,104 @@ one_taken n ops below p x h = record {
   uncopied = each_and HoldsNoCopy p.slots (formal_of x) (formal_no_copy x) h.uncopied;
 }
 
--- what goes on with the formals leaves where an actual left
-abbrev pub IsLeft : (Result Passed → Act Done) → Type 0
-IsLeft g = (y c : ℕ) (l : Log) (w : World) → g (Leaves (ByRaise y)) c l w ≡ Gives (Leaves (ByRaise y)) 0 c l w
+-- the operand that a formal took, whose slot holds this
+abbrev word_in : Content → ℕ → Word
+word_in (Binds n offset path) v = Located (record { object = n; offset = offset; path = path })
+word_in _ v = Scalar v
 
-module _ (ask : Ask) (k : Tables) (code : Code) (setting : Setting k code) (call : Call) (default : Default) where
+abbrev pub word_of : Slot → Word
+word_of x = word_in x.content x.value
+
+word_is : (x : Word) → word_of (formal_of x) ≡ x
+word_is (Scalar n) = refl
+word_is (Located p) = refl
+
+-- the operands that these formals took, over those that stand there
+abbrev pub operands_of : List Slot → List Word → List Word
+operands_of [] below = below
+operands_of (x ∷ xs) below = operands_of xs (word_of x ∷ below)
+
+-- the last one is on top
+operands_and : (xs : List Slot) (x : Slot) (below : List Word) → operands_of (xs ++ x ∷ []) below ≡ word_of x ∷ operands_of xs below
+operands_and [] x below = refl
+operands_and (y ∷ xs) x below = operands_and xs x (word_of y ∷ below)
+
+-- where an actual leads: to its new operand, or out of the statement
+abbrev pub put_there : List ℕ → ℕ → List Frame → List Word → Result Formal → Log → World → State
+put_there d place ks ops (Goes x) l w = at d place ks (word_of x.slot ∷ ops) l w
+put_there d place ks ops (Leaves y) l w = transferred y ks l w
+
+abbrev pub all_there : List ℕ → ℕ → List Frame → List Word → Result Passed → Log → World → State
+all_there d place ks ops (Goes p) l w = at d place ks (operands_of p.slots ops) l w
+all_there d place ks ops (Leaves y) l w = transferred y ks l w
+
+-- operands are no masters
+pub depth_with : (xs : List ActualCode) (s : List Kind) → depth (with_actuals xs s) ≡ depth s
+depth_with [] s = refl
+depth_with (x ∷ xs) s = depth_with xs (KindOf.Operand x.ty ∷ s)
+
+-- in the worlds since an earlier one
+module _ (k : Tables) (code : Code) (w0 : World) where
+  -- a formal takes an operand, or an exception leaves
+  abbrev pub OneFormal : Result Formal → World → Type 0
+  OneFormal (Goes f) w = Since k code w0 w × ((x : Word) × (f ≡ formal x))
+  OneFormal (Leaves y) w = Since k code w0 w × IsRaise y
+
+  -- so many formals have taken theirs, over these
+  abbrev pub AllTaken : ℕ → List Word → Result Passed → World → Type 0
+  AllTaken count below (Goes p) w = Since k code w0 w × Taken count (operands_of p.slots below) below p
+  AllTaken count below (Leaves y) w = Since k code w0 w × IsRaise y
+
+-- in those, while no more than the bound is on the clock
+module _ (ask : Ask) (k : Tables) (code : Code) (setting : Setting k code) (call : Call) (default : Default) (bound : ℕ) (w0 : World) where
   abbrev K : Tools
   K = tools_with ask k call default
 
   -- One actual ---------------------------------------------------------------------------------------
 
-  -- lines that put one new operand, which is what the formal takes; an exception leaves before that
+  -- lines that put one new operand, which is what the formal takes
   abbrev pub Puts : (List Kind → List Line) → (List ℕ → Act Formal) → Type 0
   Puts lines give =
-      (f : Result Formal → Act Done) (s : List Kind) (w0 : World) (d : List ℕ) (place : ℕ) (ks : List Frame) (ops : List Word) (c : ℕ) (l : Log) (w : World) (next : Result Done → Log → World → State) → Since k code w0 w → length d ≡ depth s → Laid code place (lines s) →
-      ((y c1 : ℕ) (l1 : Log) (w1 : World) → c1 ≤ c → Since k code w0 w1 → Runs ask code (Kept k code w0) 3 3 (transferred (ByRaise y) ks l1 w1) c1 next (f (Leaves (ByRaise y)) c1 l1 w1)) →
-      ((x : Word) (c1 : ℕ) (l1 : Log) (w1 : World) → c1 ≤ c → Since k code w0 w1 → Runs ask code (Kept k code w0) 3 3 (at d (place + length (lines s)) ks (x ∷ ops) l1 w1) c1 next (f (Goes (formal x)) c1 l1 w1)) →
-      Runs ask code (Kept k code w0) 3 3 (at d place ks ops l w) c next (bind (give d c l w) f)
+      (s : List Kind) (d : List ℕ) (place : ℕ) (ks : List Frame) (ops : List Word) (c : ℕ) (l : Log) (w : World) → c ≤ bound → Since k code w0 w → length d ≡ depth s → Laid code place (lines s) →
+      RunsTo ask code (OneFormal k code w0) 0 0 (at d place ks ops l w) c (put_there d (place + length (lines s)) ks ops) (give d c l w)
 
   abbrev pub Passes : ActualCode → Supplied → Type 0
   Passes x m = Puts x.code (λ d. ticked (m.source K d >>= m.taken K))
 
   -- a value
-  value_puts : (e : Expr) (ty : Ty) → IsScalar ty → (value_code e).runs k.records ≡ true → Puts (λ s. (value_code e).code (new_operand s) ty s) (λ d. ticked ((eval e K d >>= (λ v. done (Alone v))) >>= takes_value Elementary))
+  value_puts : (x : ValueCode) (act : List ℕ → Act (List ℕ)) (ty : Ty) → Value ask k code bound (Since k code w0) x act → Puts (λ s. x.code (new_operand s) ty s) (λ d. ticked ((act d >>= (λ v. done (Alone v))) >>= takes_value Elementary))
   unfolding opened_outcome opened_names opened_lists opened_objects takes_value
-  value_puts e ty scalar runs f s w0 d place ks ops c l w next fits long has leaves more =
-      let value = value_since ask k code setting.places call default e runs w0 in
-      let there = place + length ((value_code e).code (new_operand s) ty s) in
-      subst (λ o. Runs ask code (Kept k code w0) 3 3 (at d place ks ops l w) c next o)
-      (sym (bind_add 1 (bind (bind (eval e K d c l w) (on_goes (λ v. done (Alone v)))) (on_goes (takes_value Elementary))) f
-      ∙ ap (add 1) (bind_bind (bind (eval e K d c l w) (on_goes (λ v. done (Alone v)))) (on_goes (takes_value Elementary)) f
-      ∙ bind_bind (eval e K d c l w) (on_goes (λ v. done (Alone v))) (λ r c1 l1 w1. bind (on_goes (takes_value Elementary) r c1 l1 w1) f))))
-      (added ask code (Kept k code w0) 1 3 3 3 3 _ c next _ (omega arith) (omega arith)
-      (both_cell ask code (Kept k code w0) Any 0 0 3 3 3 3 _ c (landed NamedOf.Operand d there ks ops) next (eval e K d c l w) _ (omega arith) (omega arith) (omega arith) (value.cell d c l w)
-      (value_runs ask k code (Since k code w0) (value_code e) (eval e K) value (new_operand s) ty s d place ks ops c l w fits long has)
-      (λ n c1 l1 w1 lo fits1 p.
-      added ask code (Kept k code w0) 0 3 3 3 3 (at d there ks (Scalar n ∷ ops) l1 w1) c1 next _ (omega arith) (omega arith)
-      (added ask code (Kept k code w0) 0 3 3 3 3 (at d there ks (Scalar n ∷ ops) l1 w1) c1 next (f (Goes (formal (Scalar n))) c1 l1 w1) (omega arith) (omega arith) (more (Scalar n) c1 l1 w1 lo fits1)))
-      (λ y c1 l1 w1 lo fits1.
-      added ask code (Kept k code w0) 0 3 3 3 3 (transferred (ByRaise y) ks l1 w1) c1 next _ (omega arith) (omega arith)
-      (added ask code (Kept k code w0) 0 3 3 3 3 (transferred (ByRaise y) ks l1 w1) c1 next (f (Leaves (ByRaise y)) c1 l1 w1) (omega arith) (omega arith) (leaves y c1 l1 w1 lo fits1)))))
+  value_puts x act ty value s d place ks ops c l w le fits long has =
+      let there = place + length (x.code (new_operand s) ty s) in
+      let next = put_there d there ks ops in
+      subst (RunsTo ask code (OneFormal k code w0) 0 0 (at d place ks ops l w) c next)
+      (sym (ap (add 1) (bind_bind (act d c l w) (on_goes (λ v. done (Alone v))) (on_goes (takes_value Elementary)))))
+      (added_to ask code (OneFormal k code w0) 1 0 0 0 0 _ c next _ (omega arith) (omega arith)
+      (both_cell ask code (Since k code w0) (OneFormal k code w0) Any 0 0 0 0 0 0 _ c (landed NamedOf.Operand d there ks ops) next (act d c l w) _ (omega arith) (omega arith) (omega arith)
+      (value_runs ask k code bound (Since k code w0) x act value (new_operand s) ty s d place ks ops c l w le fits long has)
+      (λ n c1 l1 w1 lo fits1 p. no_step_to ask code (OneFormal k code w0) 0 0 (at d there ks (Scalar n ∷ ops) l1 w1) c1 0 next (Goes (formal (Scalar n))) l1 w1 (fits1, (Scalar n, refl)) refl)
+      (λ y c1 l1 w1 lo fits1. no_step_to ask code (OneFormal k code w0) 0 0 (transferred (ByRaise y) ks l1 w1) c1 0 next (Leaves (ByRaise y)) l1 w1 (fits1, tt) refl)))
 
-  value_passes : (e : Expr) (ty : Ty) → IsScalar ty → (value_code e).runs k.records ≡ true → Puts (λ s. (value_code e).code (new_operand s) ty s) (λ d. ticked ((eval e K d >>= (λ v. done (Alone v))) >>= takes_value (category_of ty)))
-  value_passes e ty scalar runs = subst (λ (x : Category). Puts (λ s. (value_code e).code (new_operand s) ty s) (λ d. ticked ((eval e K d >>= (λ v. done (Alone v))) >>= takes_value x))) (sym (scalar_elementary ty scalar)) (value_puts e ty scalar runs)
+  pub value_passes : (x : ValueCode) (act : List ℕ → Act (List ℕ)) (ty : Ty) → IsScalar ty → Value ask k code bound (Since k code w0) x act → Puts (λ s. x.code (new_operand s) ty s) (λ d. ticked ((act d >>= (λ v. done (Alone v))) >>= takes_value (category_of ty)))
+  value_passes x act ty scalar value = subst (λ (c : Category). Puts (λ s. x.code (new_operand s) ty s) (λ d. ticked ((act d >>= (λ v. done (Alone v))) >>= takes_value c))) (sym (scalar_elementary ty scalar)) (value_puts x act ty value)
 
   -- a part, by reference
   reference_puts : (x : Reached) (t : ℕ) → are_selectors (selectors_of x) ≡ true → part_runs x k.records ≡ true → Puts (part_code x t) (λ d. ticked (ticked (find_by K (selectors_of x) (variable_of x) d) >>= takes_reference))
   unfolding opened_outcome takes_reference bound_slot
-  reference_puts x t selectors runs f s w0 d place ks ops c l w next fits long has leaves more =
+  reference_puts x t selectors runs s d place ks ops c l w le fits long has =
       let v = variable_of x in
       let steps = selectors_of x in
       let o = part_found k steps (spot_of (content_of d v w)) c l w in
-      let after : Result Found → Act Done = λ r c1 l1 w1. bind (on_goes takes_reference r c1 l1 w1) f in
-      subst (Runs ask code (Kept k code w0) 3 3 (at d place ks ops l w) c next)
-      (sym (ap (λ z. bind (add 1 (bind (add 1 z) (on_goes takes_reference))) f) (finds_part K v steps selectors d c l w (no_copy_at k code (master_of d v) v.slot w fits.0))
-      ∙ bind_add 1 (bind (add 1 o) (on_goes takes_reference)) f
-      ∙ ap (add 1) (bind_bind (add 1 o) (on_goes takes_reference) f ∙ bind_add 1 o after)))
-      (added ask code (Kept k code w0) 1 3 3 3 3 _ c next (add 1 (bind o after)) (omega arith) (omega arith)
-      (added ask code (Kept k code w0) 1 3 3 3 3 _ c next (bind o after) (omega arith) (omega arith)
-      (part_then k code ask (Kept k code w0) 3 3 x t s d place ks ops c l w next after selectors (agree_part k code setting.places x runs) long has
-      (λ p. added ask code (Kept k code w0) 0 3 3 3 3 _ c next (f (Goes (formal (Located p))) c l w) (omega arith) (omega arith) (more (Located p) c l w (omega arith) fits)))))
+      let next = put_there d (place + length (part_code x t s)) ks ops in
+      subst (RunsTo ask code (OneFormal k code w0) 0 0 (at d place ks ops l w) c next)
+      (sym (ap (λ z. add 1 (bind (add 1 z) (on_goes takes_reference))) (finds_part K v steps selectors d c l w (no_copy_at k code (master_of d v) v.slot w fits.0))
+      ∙ ap (add 1) (bind_add 1 o (on_goes takes_reference))))
+      (added_to ask code (OneFormal k code w0) 1 0 0 0 0 _ c next _ (omega arith) (omega arith)
+      (added_to ask code (OneFormal k code w0) 1 0 0 0 0 _ c next _ (omega arith) (omega arith)
+      (part_then k code ask (OneFormal k code w0) 0 0 x t s d place ks ops c l w next (on_goes takes_reference) selectors (agree_part k code setting.places x runs) long has
+      (λ p. no_step_to ask code (OneFormal k code w0) 0 0 _ c 0 next (Goes (formal (Located p))) l w (fits, (Located p, refl)) refl))))
 
-  reference_passes : (o : Option Reached) (ty : Ty) (find : Naming) → ((x : Reached) → o ≡ Some x → Leads K x find) → (by_reference o ty).runs k.records ≡ true → Puts (by_reference o ty).code (λ d. ticked (ticked (find Composite K d) >>= takes_reference))
+  pub reference_passes : (o : Option Reached) (ty : Ty) (find : Naming) → ((x : Reached) → o ≡ Some x → Leads K x find) → (by_reference o ty).runs k.records ≡ true → Puts (by_reference o ty).code (λ d. ticked (ticked (find Composite K d) >>= takes_reference))
   reference_passes None ty find leads runs = absurd (cc)
   reference_passes (Some x) (Record t) find leads runs =
       let h = leads x refl in
@@ -146,18 +174,6 @@ module _ (ask : Ask) (k : Tables) (code : Code) (setting : Setting k code) (call
   reference_passes (Some x) Handle find leads runs = absurd (cc)
   reference_passes (Some x) (Access a) find leads runs = absurd (cc)
 
-  -- one layer of the tree
-  layer_passes : (y : Actual-F Actual Expr Name Operand_of) → (actual_layer y).runs k.records ≡ true → Passes (actual_layer y) (supply (roll-Actual y))
-  unfolding actual_meaning
-  layer_passes (Actual-F.ByValue e ty) runs =
-      let h = both_true _ _ runs in
-      subst (Passes (actual_layer (Actual-F.ByValue e ty))) (sym (actual_roll (Actual-F.ByValue e ty))) (value_passes e ty (scalar_if ty h.0) h.1)
-  layer_passes (Actual-F.Part name ty) runs = subst (Passes (actual_layer (Actual-F.Part name ty))) (sym (actual_roll (Actual-F.Part name ty))) (reference_passes (reached_by name) ty (eval_name name) (name_leads K name) runs)
-  layer_passes (Actual-F.Copied name ty begins) runs = absurd (cc)
-
-  pub actual_passes : (a : Actual) → (actual_code a).runs k.records ≡ true → Passes (actual_code a) (supply a)
-  actual_passes a runs = subst (λ z. Passes (actual_code a) (supply z)) (roll-out-Actual a) (layer_passes (out-Actual a) runs)
-
   -- All of them --------------------------------------------------------------------------------------
 
   abbrev pub EachPasses : List ActualCode → List Supplied → Type 0
@@ -165,44 +181,48 @@ module _ (ask : Ask) (k : Tables) (code : Code) (setting : Setting k code) (call
   EachPasses (x ∷ xs) (m ∷ ms) = Passes x m × EachPasses xs ms
   EachPasses _ _ = ⊥
 
-  pub actuals_pass : (xs : List Actual) → actuals_run (map actual_code xs) k.records ≡ true → EachPasses (map actual_code xs) (map supply xs)
-  actuals_pass [] runs = tt
-  actuals_pass (x ∷ xs) runs = let h = both_true _ _ runs in (actual_passes x h.0, actuals_pass xs h.1)
+  -- what follows an actual, with its operand or where it leaves
+  then_formal : {B : Type 0} (Ends : Result B → World → Type 0) (s : State) (c : ℕ) (mid : Result Formal → Log → World → State) (next : Result B → Log → World → State) (o : Out Formal) (f : Result Formal → Act B) → RunsTo ask code (OneFormal k code w0) 0 0 s c mid o →
+      ((x : Word) (c1 : ℕ) (l : Log) (w : World) → c1 ≤ c → Since k code w0 w → RunsTo ask code Ends 0 0 (mid (Goes (formal x)) l w) c1 next (f (Goes (formal x)) c1 l w)) →
+      ((y c1 : ℕ) (l : Log) (w : World) → c1 ≤ c → Since k code w0 w → RunsTo ask code Ends 0 0 (mid (Leaves (ByRaise y)) l w) c1 next (f (Leaves (ByRaise y)) c1 l w)) → RunsTo ask code Ends 0 0 s c next (bind o f)
+  then_formal Ends s c mid next o f a z y = both_to ask code (OneFormal k code w0) Ends 0 0 0 0 0 0 s c mid next o f (omega arith) (omega arith) (omega arith) a by
+    where
+      by : (r : Result Formal) (c1 : ℕ) (l : Log) (w : World) → c1 ≤ c → OneFormal k code w0 r w → RunsTo ask code Ends 0 0 (mid r l w) c1 next (f r c1 l w)
+      by (Goes u) c1 l w lo is = subst (λ v. RunsTo ask code Ends 0 0 (mid (Goes v) l w) c1 next (f (Goes v) c1 l w)) (sym is.1.1) (z is.1.0 c1 l w lo is.0)
+      by (Leaves x) c1 l w lo is = by_raise (λ v. RunsTo ask code Ends 0 0 (mid (Leaves v) l w) c1 next (f (Leaves v) c1 l w)) (λ v. y v c1 l w lo is.0) x is.1
 
-  -- the actuals that are left, and the lines behind them, where all operands stand
-  each_runs : (behind : List Kind → List Line) (g : Result Passed → Act Done) (count : ℕ) (xs : List ActualCode) (ms : List Supplied) → EachPasses xs ms → (n : ℕ) (p : Passed) → n + length xs ≡ count → (s : List Kind) (e : Target) (w0 : World) (d : List ℕ) (place : ℕ) (ks : List Frame) (ops below : List Word) (c : ℕ) (l : Log) (w : World) → Taken n ops below p → Since k code w0 w → length d ≡ depth s → Laid code place (actuals_code xs s ++ behind (with_actuals xs s)) → IsLeft g →
-      ((q : Passed) (t : List Kind) (place1 : ℕ) (ops1 : List Word) (c1 : ℕ) (l1 : Log) (w1 : World) → Taken count ops1 below q → c1 ≤ c → Since k code w0 w1 → length d ≡ depth t → Laid code place1 (behind t) → Runs ask code (Kept k code w0) 3 3 (at d place1 ks ops1 l1 w1) c1 (arrives e d (place1 + length (behind t)) ks below) (g (Goes q) c1 l1 w1)) →
-      Runs ask code (Kept k code w0) 3 3 (at d place ks ops l w) c (arrives e d (place + length (actuals_code xs s ++ behind (with_actuals xs s))) ks below) (bind (pass_each K d ms p c l w) g)
-  unfolding pass_each opened_outcome
-  each_runs behind g count [] [] each n p long_is s e w0 d place ks ops below c l w taken fits long has left more =
+  -- the actuals that are left
+  each_run : (count : ℕ) (below : List Word) (xs : List ActualCode) (ms : List Supplied) → EachPasses xs ms → (n : ℕ) (p : Passed) → n + length xs ≡ count → Taken n (operands_of p.slots below) below p → (s : List Kind) (d : List ℕ) (place : ℕ) (ks : List Frame) (c : ℕ) (l : Log) (w : World) → c ≤ bound → Since k code w0 w → length d ≡ depth s → Laid code place (actuals_code xs s) →
+      RunsTo ask code (AllTaken k code w0 count below) 0 0 (at d place ks (operands_of p.slots below) l w) c (all_there d (place + length (actuals_code xs s)) ks below) (pass_each K d ms p c l w)
+  unfolding pass_each with_formal opened_outcome
+  each_run count below [] [] each n p long_is taken s d place ks c l w le fits long has =
       let same : n ≡ count = omega (arith, long_is) in
-      added ask code (Kept k code w0) 0 3 3 3 3 _ c _ (g (Goes p) c l w) (omega arith) (omega arith)
-      (more p s place ops c l w (subst (λ i. Taken i ops below p) same taken) (omega arith) fits long has)
-  each_runs behind g count [] (m ∷ ms) each n p long_is s e w0 d place ks ops below c l w taken fits long has left more = absurd each
-  each_runs behind g count (x ∷ xs) [] each n p long_is s e w0 d place ks ops below c l w taken fits long has left more = absurd each
-  each_runs behind g count (x ∷ xs) (m ∷ ms) each n p long_is s e w0 d place ks ops below c l w taken fits long has left more =
+      let e : place ≡ place + 0 = omega arith in
+      no_step_to ask code (AllTaken k code w0 count below) 0 0 _ c 0 (all_there d (place + 0) ks below) (Goes p) l w (fits, subst (λ i. Taken i (operands_of p.slots below) below p) same taken) (ap (λ q. at d q ks (operands_of p.slots below) l w) e)
+  each_run count below [] (m ∷ ms) each n p long_is taken s d place ks c l w le fits long has = absurd each
+  each_run count below (x ∷ xs) [] each n p long_is taken s d place ks c l w le fits long has = absurd each
+  each_run count below (x ∷ xs) (m ∷ ms) each n p long_is taken s d place ks c l w le fits long has =
       let over = KindOf.Operand x.ty ∷ s in
-      let rest = actuals_code xs over ++ behind (with_actuals xs over) in
-      let both : (x.code s ++ actuals_code xs over) ++ behind (with_actuals xs over) ≡ x.code s ++ rest = append_assoc (x.code s) (actuals_code xs over) (behind (with_actuals xs over)) in
-      let has1 = subst (Laid code place) both has in
-      let end : place + length (x.code s) + length rest ≡ place + length (actuals_code (x ∷ xs) s ++ behind (with_actuals (x ∷ xs) s)) = let e1 = length-append (x.code s) rest in let e2 = ap (λ (z : List Line). length z) both in omega (arith, e1, e2) in
-      let f : Result Formal → Act Done = λ r c1 l1 w1. bind (on_goes (λ y. pass_each K d ms (with_formal y p)) r c1 l1 w1) g in
-      arriving ask code (Kept k code w0) 3 3 _ c _ _ _ (λ r l1 w1. ap (λ q. arrives e d q ks below r l1 w1) end)
-      (subst (λ o. Runs ask code (Kept k code w0) 3 3 (at d place ks ops l w) c (arrives e d (place + length (x.code s) + length rest) ks below) o)
-      (sym (bind_bind (ticked (m.source K d >>= m.taken K) c l w) (on_goes (λ y. pass_each K d ms (with_formal y p))) g))
-      (each.0 f s w0 d place ks ops c l w (arrives e d (place + length (x.code s) + length rest) ks below) fits long (laid_front code place (x.code s) rest has1)
-      (λ y c1 l1 w1 lo fits1.
-      subst (Runs ask code (Kept k code w0) 3 3 (transferred (ByRaise y) ks l1 w1) c1 (arrives e d (place + length (x.code s) + length rest) ks below)) (sym (add_none (g (Leaves (ByRaise y)) c1 l1 w1) ∙ left y c1 l1 w1))
-      (no_step ask code (Kept k code w0) 3 3 (transferred (ByRaise y) ks l1 w1) c1 0 (arrives e d (place + length (x.code s) + length rest) ks below) (Leaves (ByRaise y)) l1 w1 fits1 refl))
+      let rest = actuals_code xs over in
+      let ops = operands_of p.slots below in
+      let there = place + length (x.code s) in
+      let end : there + length rest ≡ place + length (x.code s ++ rest) = omega (arith, length-append (x.code s) rest) in
+      let next = all_there d (there + length rest) ks below in
+      subst (λ q. RunsTo ask code (AllTaken k code w0 count below) 0 0 (at d place ks ops l w) c (all_there d q ks below) (pass_each K d (m ∷ ms) p c l w)) end
+      (then_formal (AllTaken k code w0 count below) _ c (put_there d there ks ops) next (ticked (m.source K d >>= m.taken K) c l w) (on_goes (λ y. pass_each K d ms (with_formal y p)))
+      (each.0 s d place ks ops c l w le fits long (laid_front code place (x.code s) rest has))
       (λ a c1 l1 w1 lo fits1.
       let count_is : suc n + length xs ≡ count = omega (arith, long_is) in
-      each_runs behind g count xs ms each.1 (suc n) (with_formal (formal a) p) count_is over e w0 d (place + length (x.code s)) ks (a ∷ ops) below c1 l1 w1 (one_taken n ops below p a taken) fits1 long (laid_back code place (x.code s) rest has1) left
-      (λ q t place1 ops1 c2 l2 w2 taken2 lo2. more q t place1 ops1 c2 l2 w2 taken2 (omega (arith, lo, lo2))))))
+      let put = operands_and p.slots (formal_of a) below in
+      let taken1 = subst (λ os. Taken (suc n) os below (with_formal (formal a) p)) (sym (put ∙ ap (λ u. u ∷ ops) (word_is a))) (one_taken n ops below p a taken) in
+      subst (λ os. RunsTo ask code (AllTaken k code w0 count below) 0 0 (at d there ks os l1 w1) c1 next (pass_each K d ms (with_formal (formal a) p) c1 l1 w1)) put
+      (each_run count below xs ms each.1 (suc n) (with_formal (formal a) p) count_is taken1 over d there ks c1 l1 w1 (omega (arith, lo, le)) fits1 long (laid_back code place (x.code s) rest has)))
+      (λ y c1 l1 w1 lo fits1. no_step_to ask code (AllTaken k code w0 count below) 0 0 (transferred (ByRaise y) ks l1 w1) c1 0 next (Leaves (ByRaise y)) l1 w1 (fits1, tt) refl))
 
   -- no operand stands there yet
-  pub all_run : (behind : List Kind → List Line) (g : Result Passed → Act Done) (xs : List ActualCode) (ms : List Supplied) → EachPasses xs ms → (s : List Kind) (e : Target) (w0 : World) (d : List ℕ) (place : ℕ) (ks : List Frame) (ops : List Word) (c : ℕ) (l : Log) (w : World) → Since k code w0 w → length d ≡ depth s → Laid code place (actuals_code xs s ++ behind (with_actuals xs s)) → IsLeft g →
-      ((q : Passed) (t : List Kind) (place1 : ℕ) (ops1 : List Word) (c1 : ℕ) (l1 : Log) (w1 : World) → Taken (length xs) ops1 ops q → c1 ≤ c → Since k code w0 w1 → length d ≡ depth t → Laid code place1 (behind t) → Runs ask code (Kept k code w0) 3 3 (at d place1 ks ops1 l1 w1) c1 (arrives e d (place1 + length (behind t)) ks ops) (g (Goes q) c1 l1 w1)) →
-      Runs ask code (Kept k code w0) 3 3 (at d place ks ops l w) c (arrives e d (place + length (actuals_code xs s ++ behind (with_actuals xs s))) ks ops) (bind (pass_each K d ms no_actuals c l w) g)
-  all_run behind g xs ms each s e w0 d place ks ops c l w fits long has left more =
+  pub all_run : (xs : List ActualCode) (ms : List Supplied) → EachPasses xs ms → (s : List Kind) (d : List ℕ) (place : ℕ) (ks : List Frame) (ops : List Word) (c : ℕ) (l : Log) (w : World) → c ≤ bound → Since k code w0 w → length d ≡ depth s → Laid code place (actuals_code xs s) →
+      RunsTo ask code (AllTaken k code w0 (length xs) ops) 0 0 (at d place ks ops l w) c (all_there d (place + length (actuals_code xs s)) ks ops) (pass_each K d ms no_actuals c l w)
+  unfolding no_actuals
+  all_run xs ms each s d place ks ops c l w le fits long has =
       let same : 0 + length xs ≡ length xs = omega arith in
-      each_runs behind g (length xs) xs ms each 0 no_actuals same s e w0 d place ks ops ops c l w (none_taken ops) fits long has left more
+      each_run (length xs) ops xs ms each 0 no_actuals same (none_taken ops) s d place ks c l w le fits long has

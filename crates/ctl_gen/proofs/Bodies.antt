@@ -1,14 +1,14 @@
 -- The execution of a body, and of the main procedure.
-use Rattle.std.proofs.Common.{◌≡◌, ℕ, zero, suc, ◌+◌, ◌≤◌, List, [], ◌∷◌, ◌++◌, length, Some, true, refl, sym, ap, ◌∙◌, subst, arith, inl}
+use Rattle.std.proofs.Common.{◌≡◌, ℕ, zero, suc, ◌+◌, ◌≤◌, List, [], ◌∷◌, ◌++◌, length, Some, None, true, refl, sym, ap, ◌∙◌, subst, arith, inl}
 use Rattle.std.specs.Prelude.{slice_get, take, drop, replicate}
 use Rattle.ctl_program.specs.declared.operators.SubprogramKind.{SubprogramKind}
-use Rattle.ctl_program.specs.declared.operators.SubprogramKind.TheVariants.{Procedure}
+use Rattle.ctl_program.specs.declared.operators.SubprogramKind.TheVariants.{Procedure, Function}
 use Rattle.ctl_program.specs.declared.statement.Master.{Master, fold_out-Master}
 use Rattle.ctl_program.specs.declared.program.Subprogram.{Subprogram}
 use Rattle.ctl_meaning.specs.World.{Slot, unset, Log, World, empty_log, empty_world}
 use Rattle.ctl_meaning.specs.Changes.{open_master}
 use Rattle.ctl_meaning.specs.Choice.{Ask}
-use Rattle.ctl_meaning.specs.Outcome.{ByExit, ByReturn, ByRaise, Result, Goes, Leaves, Gives, Done, bind, on_goes, on_some, opened_outcome}
+use Rattle.ctl_meaning.specs.Outcome.{program_error, ByExit, ByReturn, ByRaise, Result, Goes, Leaves, Gives, Done, bind, on_goes, on_some, opened_outcome}
 use Rattle.ctl_meaning.specs.Types.{Tables}
 use Rattle.ctl_meaning.specs.Names.{OfSubprogram, Returned, Tools, gone}
 use Rattle.ctl_meaning.specs.Names as Names
@@ -20,19 +20,19 @@ use Rattle.ctl_code.specs.declared.code.Instr.TheVariants as InstrOf
 use Rattle.ctl_code.specs.declared.code.Code.{Code}
 use Rattle.ctl_code.specs.declared.kinds.Kind.TheVariants as KindOf
 use Rattle.ctl_code.specs.States.{AfterBody, Frame, State}
-use Rattle.ctl_code.specs.Table.{behind, enter_body}
-use Rattle.ctl_code.specs.Valid.{IsInScope}
+use Rattle.ctl_code.specs.Table.{awaited, ended, enter_body}
 use Rattle.ctl_code.specs.Steps.{moved, step, start}
 use Rattle.ctl_layout.specs.Layout.{MasterCode, body_code, entry_at, master_code, nowhere}
 use Rattle.ctl_layout.proofs.StatementLayers.{master_is}
 use Rattle.ctl_gen.proofs.Place.{HasAt, Laid}
 use Rattle.ctl_gen.proofs.Worlds.{Each, HoldsNoCopy, no_copy_unset, Since, fits_empty, keeps_itself}
-use Rattle.ctl_gen.proofs.Setting.{Setting, returns, Told, Calls}
+use Rattle.ctl_gen.proofs.Scopes.{IsCallable}
+use Rattle.ctl_gen.proofs.Setting.{Setting, returns, returns_by, Told, Calls}
 use Rattle.ctl_gen.proofs.Parted.{GivesDefaults}
 use Rattle.ctl_gen.proofs.Cells.{by_code}
 use Rattle.ctl_gen.proofs.Leave.{in_frame, leaves}
 use Rattle.ctl_gen.proofs.Executed.{master_does}
-use Rattle.ctl_gen.proofs.Follow.{by_raise, IsGoing, Runs, way_of, at, added, no_step, both}
+use Rattle.ctl_gen.proofs.Follow.{by_raise, IsGoing, Runs, way_of, at, gives, added, no_step, both}
 
 -- a body has as many slots as it means
 slots_alike : (m : Master) → (master_code m).slots ≡ (body_of m).slots
@@ -47,7 +47,6 @@ pub record Stands (k : Tables) (code : Code) (f : ℕ) (s : Subprogram) : Type 0
   pub instructions : Laid code place ((body_code s).code nowhere before)
   pub texts : HasAt code.texts.items before (body_code s).texts
   pub runs : (body_code s).runs k.records ≡ true
-  pub procedure : s.kind ≡ Procedure
 
 -- what is taken of a list is as long as was asked, where it has as many
 taken_length : (n : ℕ) (xs : List ℕ) → n ≤ length xs → length (take n xs) ≡ n
@@ -79,50 +78,66 @@ module _ (ask : Ask) (p : Meaning) (code : Code) (setting : Setting p.tables cod
   unfolding slots_for unset_slots
   no_copy_slots s actuals h = no_copy_both actuals _ h (no_copy_rest (length actuals) (replicate (body_of s.body).slots unset) (no_copy_unset (body_of s.body).slots))
 
-  -- how a procedure ends for its call
-  behind_call : (w0 : World) (ks : List Frame) (r : Result Left) (c : ℕ) (l : Log) (w : World) → Told k code w0 (way_of r) w → Runs ask code (Told k code w0) 0 0 (leaves AfterBody ks r l w) c (returns ks) (on_goes (λ (x : Left). returned Procedure x.slots x.result) r c l w)
+  -- how a body of this kind ends for its call
+  ends_so : (w0 : World) (ks : List Frame) (x : Left) (c : ℕ) (l : Log) (w : World) → Told k code w0 None w → (kind : SubprogramKind) (r : Result Done) → Runs ask code (Told k code w0) 0 0 (gives ks (ended kind r) l w) c (returns_by kind ks) (returned kind x.slots r c l w)
   unfolding opened_outcome returned
-  behind_call w0 ks (Leaves y) c l w fits =
-      by_raise (λ v. Told k code w0 (Some v) w → Runs ask code (Told k code w0) 0 0 (leaves AfterBody ks (Leaves v) l w) c (returns {A = Returned} ks) (Gives (Leaves v) 0 c l w))
-      (λ e told. no_step ask code (Told k code w0) 0 0 _ c 0 (returns {A = Returned} ks) (Leaves (ByRaise e)) l w told refl) y fits.0 fits
-  behind_call w0 ks (Goes x) c l w fits = on x.result
-    where
-      on : (r : Result Done) → Runs ask code (Told k code w0) 0 0 (moved l (behind AfterBody r ks w)) c (returns ks) (returned Procedure x.slots r c l w)
-      on (Goes a) = no_step ask code (Told k code w0) 0 0 _ c 0 (returns {A = Returned} ks) (Goes (record { cells = []; slots = x.slots })) l w fits refl
-      on (Leaves ByExit) = no_step ask code (Told k code w0) 0 0 _ c 0 (returns {A = Returned} ks) (Goes (record { cells = []; slots = x.slots })) l w fits refl
-      on (Leaves (ByReturn v)) = no_step ask code (Told k code w0) 0 0 _ c 0 (returns {A = Returned} ks) (Goes (record { cells = v; slots = x.slots })) l w fits refl
-      on (Leaves (ByRaise e)) = no_step ask code (Told k code w0) 0 0 _ c 0 (returns {A = Returned} ks) (Leaves (ByRaise e)) l w fits refl
+  ends_so w0 ks x c l w fits Procedure (Goes a) = no_step ask code (Told k code w0) 0 0 _ c 0 (returns_by Procedure ks) (Goes (record { cells = []; slots = x.slots })) l w fits refl
+  ends_so w0 ks x c l w fits Procedure (Leaves ByExit) = no_step ask code (Told k code w0) 0 0 _ c 0 (returns_by Procedure ks) (Goes (record { cells = []; slots = x.slots })) l w fits refl
+  ends_so w0 ks x c l w fits Procedure (Leaves (ByReturn v)) = no_step ask code (Told k code w0) 0 0 _ c 0 (returns_by Procedure ks) (Goes (record { cells = v; slots = x.slots })) l w fits refl
+  ends_so w0 ks x c l w fits Procedure (Leaves (ByRaise e)) = no_step ask code (Told k code w0) 0 0 _ c 0 (returns_by Procedure ks) (Leaves (ByRaise e)) l w fits refl
+  ends_so w0 ks x c l w fits Function (Goes a) = no_step ask code (Told k code w0) 0 0 _ c 0 (returns_by Function ks) (Leaves (ByRaise program_error)) l w fits refl
+  ends_so w0 ks x c l w fits Function (Leaves ByExit) = no_step ask code (Told k code w0) 0 0 _ c 0 (returns_by Function ks) (Leaves (ByRaise program_error)) l w fits refl
+  ends_so w0 ks x c l w fits Function (Leaves (ByReturn v)) = no_step ask code (Told k code w0) 0 0 _ c 0 (returns_by Function ks) (Goes (record { cells = v; slots = x.slots })) l w fits refl
+  ends_so w0 ks x c l w fits Function (Leaves (ByRaise e)) = no_step ask code (Told k code w0) 0 0 _ c 0 (returns_by Function ks) (Leaves (ByRaise e)) l w fits refl
+
+  raises_so : (w0 : World) (ks : List Frame) (e c : ℕ) (l : Log) (w : World) → Told k code w0 (Some (ByRaise e)) w → (kind : SubprogramKind) → Runs ask code (Told k code w0) 0 0 (gives ks (ended kind (Leaves (ByRaise e))) l w) c (returns_by kind ks) (Gives (Leaves (ByRaise e)) 0 c l w)
+  raises_so w0 ks e c l w fits Procedure = no_step ask code (Told k code w0) 0 0 _ c 0 (returns_by Procedure ks) (Leaves (ByRaise e)) l w fits refl
+  raises_so w0 ks e c l w fits Function = no_step ask code (Told k code w0) 0 0 _ c 0 (returns_by Function ks) (Leaves (ByRaise e)) l w fits refl
+
+  behind_call : (w0 : World) (ks : List Frame) (kind : SubprogramKind) → awaited ks ≡ kind → (r : Result Left) (c : ℕ) (l : Log) (w : World) → Told k code w0 (way_of r) w → Runs ask code (Told k code w0) 0 0 (leaves AfterBody ks r l w) c (returns_by kind ks) (on_goes (λ (x : Left). returned kind x.slots x.result) r c l w)
+  unfolding opened_outcome
+  behind_call w0 ks kind waits (Leaves y) c l w fits =
+      subst (λ z. Runs ask code (Told k code w0) 0 0 (gives ks (ended z (Leaves y)) l w) c (returns_by kind ks) (Gives (Leaves y) 0 c l w)) (sym waits)
+      (by_raise (λ v. Told k code w0 (Some v) w → Runs ask code (Told k code w0) 0 0 (gives ks (ended kind (Leaves v)) l w) c (returns_by kind ks) (Gives (Leaves v) 0 c l w))
+      (λ e raised. raises_so w0 ks e c l w raised kind) y fits.0 fits)
+  behind_call w0 ks kind waits (Goes x) c l w fits =
+      subst (λ z. Runs ask code (Told k code w0) 0 0 (gives ks (ended z x.result) l w) c (returns_by kind ks) (returned kind x.slots x.result c l w)) (sym waits)
+      (ends_so w0 ks x c l w fits kind x.result)
 
   -- a body, from the step that enters it
-  number_runs : (call : Names.Call) (bound : ℕ) → Calls ask k code setting bound call → (f : ℕ) (s : Subprogram) → slice_get setting.subprograms f ≡ Some s → (w0 : World) (env : List ℕ) (actuals : List Slot) (ks : List Frame) (c0 c : ℕ) (l : Log) (w : World) (s0 : State) → c ≤ bound → c ≤ c0 → c0 ≤ c + 1 → Since k code w0 w → IsInScope code (length env) (Some f) → Each HoldsNoCopy actuals → step ask code s0 ≡ moved l (enter_body (slice_get code.entries.items f) [] env actuals ks w) → Runs ask code (Told k code w0) 0 2 s0 c0 (returns ks) (run_number p (tools_with ask p call) env actuals f c l w)
+  number_runs : (call : Names.Call) (bound : ℕ) → Calls ask k code setting bound call → (f : ℕ) (s : Subprogram) → slice_get setting.subprograms f ≡ Some s → (w0 : World) (env : List ℕ) (actuals : List Slot) (ks : List Frame) (c0 c : ℕ) (l : Log) (w : World) (s0 : State) (kind : SubprogramKind) (count : ℕ) → awaited ks ≡ kind → c ≤ bound → c ≤ c0 → c0 ≤ c + 1 → Since k code w0 w → IsCallable code kind (length env) f count → Each HoldsNoCopy actuals → step ask code s0 ≡ moved l (enter_body (slice_get code.entries.items f) [] env actuals ks w) → Runs ask code (Told k code w0) 0 2 s0 c0 (returns_by kind ks) (run_number p (tools_with ask p call) env actuals f c l w)
   unfolding run_number run_routine tools_with opened_outcome
-  number_runs call bound calls f s here w0 env actuals ks c0 c l w s0 le lo hi fits scope uncopied first =
+  number_runs call bound calls f s here w0 env actuals ks c0 c l w s0 kind count waits le lo hi fits callable uncopied first =
       let x : Stands k code f s = bodies f s here in
       let inner = λ (display : List ℕ). (body_of s.body).inside (tools_with ask p call) display 0 in
+      let scope = callable.0 in
       let known : scope.0 ≡ entry_at x.place s = cc (sym scope.1 ∙ x.entry) in
       let level : s.level ≤ length env = subst (λ (e : Entry). e.level ≤ length env) known scope.2 in
       let long : length (take s.level env) + 1 ≡ s.level + 1 = ap (λ n. n + 1) (taken_length s.level env level) in
-      subst (λ o. Runs ask code (Told k code w0) 0 2 s0 c0 (returns ks) o) (sym (ap (λ y. on_some y gone (run_routine (tools_with ask p call) env actuals) c l w) (meant f s here)))
-      (subst (λ (b : SubprogramKind). Runs ask code (Told k code w0) 0 2 s0 c0 (returns ks) (bind (in_master (tools_with ask p call) (take s.level env) (slots_for (body_of s.body) actuals) inner c l w) (on_goes (λ (y : Left). returned b y.slots y.result)))) (sym x.procedure)
-      (both ask code (Told k code w0) (Told k code w0) 0 2 0 0 0 2 s0 c0 (leaves AfterBody ks) (returns ks) _ (on_goes (λ (y : Left). returned Procedure y.slots y.result)) (omega arith) (omega arith) (omega arith)
+      let formals = callable.1 in
+      let same : formals.0 ≡ entry_at x.place s = cc (sym formals.1 ∙ x.entry) in
+      let of_kind : s.kind ≡ kind = ap (λ (e : Entry). e.kind) (sym same) ∙ formals.2 in
+      subst (λ o. Runs ask code (Told k code w0) 0 2 s0 c0 (returns_by kind ks) o) (sym (ap (λ y. on_some y gone (run_routine (tools_with ask p call) env actuals) c l w) (meant f s here)))
+      (subst (λ (b : SubprogramKind). Runs ask code (Told k code w0) 0 2 s0 c0 (returns_by kind ks) (bind (in_master (tools_with ask p call) (take s.level env) (slots_for (body_of s.body) actuals) inner c l w) (on_goes (λ (y : Left). returned b y.slots y.result)))) (sym of_kind)
+      (both ask code (Told k code w0) (Told k code w0) 0 2 0 0 0 2 s0 c0 (leaves AfterBody ks) (returns_by kind ks) _ (on_goes (λ (y : Left). returned kind y.slots y.result)) (omega arith) (omega arith) (omega arith)
       ((master_does ask k code setting call (default_in p.defaults (expression_tools ask p call)) (constants call) bound calls s.body).inside x.runs x.before x.texts 0 (KindOf.Body s.level (master_code s.body).slots) [] w0 (take s.level env) (slots_for (body_of s.body) actuals) AfterBody ks c0 c l w s0 x.place le lo hi fits long (no_copy_slots s actuals uncopied) x.instructions (first ∙ entered f s x env actuals ks l w))
-      (λ r c1 l1 w1 lo1 fits1. behind_call w0 ks r c1 l1 w1 fits1)))
+      (λ r c1 l1 w1 lo1 fits1. behind_call w0 ks kind waits r c1 l1 w1 fits1)))
 
   -- an execution takes one from the clock, and is a tick
-  call_runs : (n c : ℕ) → c ≤ n → (f : ℕ) (s : Subprogram) → slice_get setting.subprograms f ≡ Some s → (w0 : World) (v : List ℕ) (actuals : List Slot) (ks : List Frame) (l : Log) (w : World) (s0 : State) → Since k code w0 w → IsInScope code (length v) (Some f) → Each HoldsNoCopy actuals → step ask code s0 ≡ moved l (enter_body (slice_get code.entries.items f) [] v actuals ks w) → Runs ask code (Told k code w0) 2 3 s0 c (returns ks) (execution ask p (suc n) (OfSubprogram f actuals) v c l w)
+  call_runs : (n c : ℕ) → c ≤ n → (f : ℕ) (s : Subprogram) → slice_get setting.subprograms f ≡ Some s → (w0 : World) (v : List ℕ) (actuals : List Slot) (ks : List Frame) (l : Log) (w : World) (s0 : State) (kind : SubprogramKind) (count : ℕ) → awaited ks ≡ kind → Since k code w0 w → IsCallable code kind (length v) f count → Each HoldsNoCopy actuals → step ask code s0 ≡ moved l (enter_body (slice_get code.entries.items f) [] v actuals ks w) → Runs ask code (Told k code w0) 2 3 s0 c (returns_by kind ks) (execution ask p (suc n) (OfSubprogram f actuals) v c l w)
   unfolding execution execute opened_outcome
-  call_runs n zero le f s here w0 v actuals ks l w s0 fits scope uncopied first =
+  call_runs n zero le f s here w0 v actuals ks l w s0 kind count waits fits callable uncopied first =
       let e = first ∙ entered f s (bodies f s here) v actuals ks l w in
       record { n = 1; in_time = omega arith; logged = ap (λ (x : State). x.log) e; going = subst IsGoing (sym e) tt; why = inl (omega arith) }
-  call_runs zero (suc c) le f s here w0 v actuals ks l w s0 fits scope uncopied first = absurd (omega (arith, le))
-  call_runs (suc n) (suc c) le f s here w0 v actuals ks l w s0 fits scope uncopied first =
-      added ask code (Told k code w0) 1 0 2 2 3 s0 (suc c) (returns ks) _ (omega arith) (omega arith)
-      (number_runs (execution ask p (suc n)) n (record { runs = λ f1 s1 here1 w1 v1 actuals1 ks1 c1 l1 w2 s2 le1 fits1 scope1 uncopied1 first1. call_runs n c1 le1 f1 s1 here1 w1 v1 actuals1 ks1 l1 w2 s2 fits1 scope1 uncopied1 first1 }) f s here w0 v actuals ks (suc c) c l w s0 (omega (arith, le)) (omega arith) (omega arith) fits scope uncopied first)
+  call_runs zero (suc c) le f s here w0 v actuals ks l w s0 kind count waits fits callable uncopied first = absurd (omega (arith, le))
+  call_runs (suc n) (suc c) le f s here w0 v actuals ks l w s0 kind count waits fits callable uncopied first =
+      added ask code (Told k code w0) 1 0 2 2 3 s0 (suc c) (returns_by kind ks) _ (omega arith) (omega arith)
+      (number_runs (execution ask p (suc n)) n (record { runs = λ f1 s1 here1 w1 v1 actuals1 ks1 c1 l1 w2 s2 kind1 count1 waits1 le1 fits1 callable1 uncopied1 first1. call_runs n c1 le1 f1 s1 here1 w1 v1 actuals1 ks1 l1 w2 s2 kind1 count1 waits1 fits1 callable1 uncopied1 first1 }) f s here w0 v actuals ks (suc c) c l w s0 kind count waits (omega (arith, le)) (omega arith) (omega arith) fits callable uncopied first)
 
   calls_run : (n : ℕ) → Calls ask k code setting n (execution ask p (suc n))
-  calls_run n = record { runs = λ f s here w0 v actuals ks c l w s0 le fits scope uncopied first. call_runs n c le f s here w0 v actuals ks l w s0 fits scope uncopied first }
+  calls_run n = record { runs = λ f s here w0 v actuals ks c l w s0 kind count waits le fits callable uncopied first. call_runs n c le f s here w0 v actuals ks l w s0 kind count waits fits callable uncopied first }
 
-  -- the main procedure, which is declared in no master
-  pub main_runs : (main : ℕ) (s : Subprogram) → slice_get setting.subprograms main ≡ Some s → IsInScope code 0 (Some main) → slice_get code.instructions.items 0 ≡ Some (InstrOf.Start main) → (clock : ℕ) → Runs ask code (Told k code empty_world) 0 2 start clock (returns []) (run_meaning p main ask clock)
+  -- the main procedure, which is declared in no master and has no formals
+  pub main_runs : (main : ℕ) (s : Subprogram) → slice_get setting.subprograms main ≡ Some s → IsCallable code Procedure 0 main 0 → slice_get code.instructions.items 0 ≡ Some (InstrOf.Start main) → (clock : ℕ) → Runs ask code (Told k code empty_world) 0 2 start clock (returns []) (run_meaning p main ask clock)
   unfolding run_meaning tools
-  main_runs main s here scope has clock = number_runs (execution ask p (suc clock)) clock (calls_run clock) main s here empty_world [] [] [] clock clock empty_log empty_world start (omega arith) (omega arith) (omega arith) (fits_empty k code, keeps_itself k code empty_world) scope tt (by_code ask code [] 0 [] [] empty_log empty_world (InstrOf.Start main) has)
+  main_runs main s here callable has clock = number_runs (execution ask p (suc clock)) clock (calls_run clock) main s here empty_world [] [] [] clock clock empty_log empty_world start Procedure 0 refl (omega arith) (omega arith) (omega arith) (fits_empty k code, keeps_itself k code empty_world) callable tt (by_code ask code [] 0 [] [] empty_log empty_world (InstrOf.Start main) has)

@@ -8,7 +8,7 @@ use Rattle.ctl_program.specs.declared.types.Var.{Var}
 use Rattle.ctl_meaning.specs.World.{Log, World}
 use Rattle.ctl_meaning.specs.Lists.{item_or, opened_lists}
 use Rattle.ctl_meaning.specs.Activations.{master_of}
-use Rattle.ctl_meaning.specs.Outcome.{Way, Result, Goes, Leaves, Out, Gives, Stops, Cut}
+use Rattle.ctl_meaning.specs.Outcome.{Way, Result, Goes, Leaves}
 use Rattle.ctl_meaning.specs.Choice.{Ask, picked}
 use Rattle.ctl_meaning.specs.Changes.{slot_at}
 use Rattle.ctl_meaning.specs.Names.{scalar_of}
@@ -112,12 +112,10 @@ cell_is d s v w long = ap (λ m. (slot_at m v.slot w).value) (out_is d s v long)
 
 -- What an act gives ---------------------------------------------------------------------------------
 
--- one cell, of which something is true in the world that is left; nothing but an exception leaves an expression
-abbrev pub IsCell : (ℕ → World → Type 0) → Out (List ℕ) → Type 0
-IsCell P (Gives (Goes u) t c l w) = (n : ℕ) × (u ≡ n ∷ []) × P n w
-IsCell P (Gives (Leaves y) t c l w) = IsRaise y
-IsCell P (Stops s t l) = Unit {0}
-IsCell P (Cut t c l) = Unit {0}
+-- one cell, of which something is true in the world that is left, which fits; nothing but an exception leaves an expression
+abbrev pub OneCell : (World → Type 0) → (ℕ → World → Type 0) → Result (List ℕ) → World → Type 0
+OneCell Fits P (Goes u) w = Fits w × ((n : ℕ) × (u ≡ n ∷ []) × P n w)
+OneCell Fits P (Leaves y) w = Fits w × IsRaise y
 
 abbrev pub Any : ℕ → World → Type 0
 Any n w = Unit {0}

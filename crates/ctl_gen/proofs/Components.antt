@@ -1,22 +1,21 @@
 -- Components of objects: the code that reads one and the code that assigns to one does what the program means (4.1.3, 5.2).
-use Rattle.std.proofs.Common.{◌≡◌, ℕ, ◌+◌, List, [], ◌∷◌, ◌++◌, length, drop, Option, Some, None, true, refl, sym, ap, ◌∙◌, subst, arith, length-append}
+use Rattle.std.proofs.Common.{◌≡◌, ℕ, ◌+◌, ◌≤◌, List, [], ◌∷◌, ◌++◌, length, drop, Option, Some, None, true, refl, sym, ap, ◌∙◌, subst, arith, length-append}
 use Rattle.std.specs.Prelude.{slice_get}
 use Rattle.ctl_program.specs.declared.types.Ty.{Ty}
 use Rattle.ctl_program.specs.declared.types.Ty.TheVariants.{Record}
 use Rattle.ctl_program.specs.declared.types.Var.{Var}
 use Rattle.ctl_program.specs.declared.expression.Step.{Step}
-use Rattle.ctl_program.specs.declared.expression.Step.TheVariants.{Component, Dereference, Narrow}
+use Rattle.ctl_program.specs.declared.expression.Step.TheVariants.{Component}
 use Rattle.ctl_tree.specs.declared.ending.Stop.TheVariants.{UseAfterFree}
-use Rattle.ctl_meaning.specs.World.{Object, Content, Nothing, Holds, Binds, Copies, Gathers, Log, World}
+use Rattle.ctl_meaning.specs.World.{Object, Log, World}
 use Rattle.ctl_meaning.specs.Activations.{master_of}
 use Rattle.ctl_meaning.specs.Objects.{cells_at}
 use Rattle.ctl_meaning.specs.Changes.{object_at, slot_at, write_cells}
 use Rattle.ctl_meaning.specs.Choice.{Ask}
-use Rattle.ctl_meaning.specs.Outcome.{Way, ByRaise, Result, Goes, Leaves, Act, Done, add, bind, on_goes, ◌>>=◌, done, change, ticked, on_some, opened_outcome}
+use Rattle.ctl_meaning.specs.Outcome.{ByRaise, Result, Goes, Leaves, Out, Act, Done, add, bind, on_goes, ◌>>=◌, done, change, ticked, on_some, opened_outcome}
 use Rattle.ctl_meaning.specs.Types.{Tables, cells_of, offset_in, placed}
-use Rattle.ctl_meaning.specs.Names.{Found, InObject, InVariable, InCopy, Alone, Call, Default, Tools, copy_at, found_in, find_var, gone, existing, moved as found_behind, one_step as one_selector, walk, read_found, read_part, scalar_of, write_found, write_part}
+use Rattle.ctl_meaning.specs.Names.{Found, Call, Default, Tools, gone, existing, moved as found_behind, read_found, read_part, scalar_of, write_found, write_part}
 use Rattle.ctl_meaning.specs.Finalization.{Spot}
-use Rattle.ctl_meaning.specs.Expressions.{var_part}
 use Rattle.ctl_code.specs.declared.code.Cell.{Cell}
 use Rattle.ctl_code.specs.declared.code.Named.{Named}
 use Rattle.ctl_code.specs.declared.code.Instr.TheVariants as InstrOf
@@ -35,59 +34,17 @@ use Rattle.ctl_gen.proofs.Known.{IsScalar}
 use Rattle.ctl_gen.proofs.Place.{Laid, laid_front, laid_back}
 use Rattle.ctl_gen.proofs.Worlds.{HoldsNoCopy, Since, Kept, since_written, no_copy_at}
 use Rattle.ctl_gen.proofs.Setting.{ArePlaced, tools_with}
-use Rattle.ctl_gen.proofs.Cells.{Any, IsCell, Stays, by_code, here, landed, out_is, put_there, taking_is, waiting}
+use Rattle.ctl_gen.proofs.Cells.{Any, OneCell, Stays, by_code, here, landed, out_is, put_there, taking_is, waiting}
 use Rattle.ctl_gen.proofs.Values.{one_cell, scalar_cells}
-use Rattle.ctl_gen.proofs.Worth.{cell_later}
+use Rattle.ctl_gen.proofs.Expressions as X
 use Rattle.ctl_gen.proofs.Expressions.{Value, held_holds, held_then}
 use Rattle.ctl_gen.proofs.Parts.{Agree, agree_run, component_found, content_of, find_by, finds_part, found_at, located_then, part_found, stepping}
 use Rattle.ctl_gen.proofs.Does.{Does}
-use Rattle.ctl_gen.proofs.Follow.{Runs, Target, added, arrives, at, bind_add, bind_bind, lands, last_step, no_step, stop_step}
-
--- one cell of what was found
-cell_found : (f : Found) (c : ℕ) (l : Log) (w : World) → IsCell Any (read_found 1 f c l w)
-unfolding read_found read_part existing gone cells_at opened_outcome
-cell_found (InObject o offset path) c l w = by (object_at o w)
-  where
-    by : (x : Option Object) → IsCell Any (on_some x gone (λ y. done (cells_at offset 1 y)) c l w)
-    by None = tt
-    by (Some y) = (scalar_of (cells_at offset 1 y), one_cell (drop offset y.cells), tt)
-cell_found (InVariable m i) c l w = (scalar_of _, one_cell ((slot_at m i w).value ∷ []), tt)
-cell_found (InCopy m i offset) c l w = (scalar_of _, one_cell (copy_at m i offset w), tt)
-cell_found (Alone v) c l w = (scalar_of _, one_cell v, tt)
+use Rattle.ctl_gen.proofs.Follow.{Runs, Target, added, added_to, arrives, at, bind_bind, lands, last_step, last_step_to, no_step, stop_step, stop_step_to}
 
 module _ (ask : Ask) (k : Tables) (code : Code) (placed_so : ArePlaced k code) (call : Call) (default : Default) where
   abbrev K : Tools
   K = tools_with ask k call default
-
-  -- Reading -----------------------------------------------------------------------------------------
-
-  -- one cell of what these selectors lead to
-  cell_behind : (steps : List Step) → are_selectors steps ≡ true → (f : Found) (c : ℕ) (l : Log) (w : World) → IsCell Any (bind (walk K steps f c l w) (on_goes (read_found 1)))
-  unfolding walk one_selector opened_outcome
-  cell_behind [] h f c l w = cell_later Any 0 _ (cell_found f c l w)
-  cell_behind (Component t position ∷ steps) h f c l w =
-      let f1 = found_behind (offset_in position (placed k t)) position f in
-      subst (IsCell Any) (sym (bind_add 1 (walk K steps f1 c l w) (on_goes (read_found 1)))) (cell_later Any 1 _ (cell_behind steps h f1 c l w))
-  cell_behind (Dereference ∷ steps) h f c l w = absurd (cc h)
-  cell_behind (Narrow t ∷ steps) h f c l w = absurd (cc h)
-
-  cell_within : (steps : List Step) → are_selectors steps ≡ true → (m i : ℕ) (x : Content) (c : ℕ) (l : Log) (w : World) → IsCell Any (bind (bind (add 1 (found_in m i x c l w)) (on_goes (walk K steps))) (on_goes (read_found 1)))
-  unfolding found_in gone opened_outcome
-  cell_within steps h m i x c l w = by x
-    where
-      there : (f : Found) → IsCell Any (bind (add 1 (walk K steps f c l w)) (on_goes (read_found 1)))
-      there f = subst (IsCell Any) (sym (bind_add 1 (walk K steps f c l w) (on_goes (read_found 1)))) (cell_later Any 1 _ (cell_behind steps h f c l w))
-
-      by : (y : Content) → IsCell Any (bind (bind (add 1 (found_in m i y c l w)) (on_goes (walk K steps))) (on_goes (read_found 1)))
-      by Nothing = tt
-      by (Holds n) = there (InObject n 0 [])
-      by (Binds n offset path) = there (InObject n offset path)
-      by (Copies v) = there (InCopy m i 0)
-      by (Gathers n) = tt
-
-  cell_read : (v : Var) (steps : List Step) → are_selectors steps ≡ true → (d : List ℕ) (c : ℕ) (l : Log) (w : World) → IsCell Any (bind (find_by K steps v d c l w) (on_goes (read_found 1)))
-  unfolding var_part find_var opened_outcome
-  cell_read v steps h d c l w = cell_within steps h (master_of d v) v.slot (content_of d v w) c l w
 
   module _ (v : Var) (steps : List Step) (t position : ℕ) (runs : parts_run k.records steps t ≡ true) (selectors : are_selectors (steps ++ Component t position ∷ []) ≡ true) where
     abbrev all : List Step
@@ -100,25 +57,27 @@ module _ (ask : Ask) (k : Tables) (code : Code) (placed_so : ArePlaced k code) (
     there : offset_of code t position ≡ offset_in position (placed k t)
     there = (agree_run k code placed_so steps t runs).1 position
 
-    module _ (Fits : World → Type 0) where
-      abbrev Worlds : Option Way → World → Type 0
-      Worlds y w = Fits w
+    -- Reading ---------------------------------------------------------------------------------------
+
+    module _ (bound : ℕ) (Fits : World → Type 0) where
+      abbrev Gets : ℕ → ℕ → State → ℕ → (Result (List ℕ) → Log → World → State) → Out (List ℕ) → Type 0
+      Gets = X.Gets ask k code bound Fits Any
 
       -- the value of the component, behind what finds the part
       abbrev fetching : Result Found → Act (List ℕ)
       fetching r c l w = bind (on_goes (stepping k t position) r c l w) (on_goes (read_found 1))
 
       -- one step, to the value where it is wanted, or to a stop
-      fetches : (p : Spot) (to : Named) (d : List ℕ) (place : ℕ) (ks : List Frame) (ops : List Word) (c : ℕ) (l : Log) (w : World) (s0 : State) → Fits w → step ask code s0 ≡ moved l (fetch_from offset p to ops (here d place ks w)) → Runs ask code Worlds 8 8 s0 c (landed to d (place + 1) ks ops) (fetching (Goes (found_at p)) c l w)
-      unfolding found_behind read_found read_part existing gone opened_outcome
+      fetches : (p : Spot) (to : Named) (d : List ℕ) (place : ℕ) (ks : List Frame) (ops : List Word) (c : ℕ) (l : Log) (w : World) (s0 : State) → Fits w → step ask code s0 ≡ moved l (fetch_from offset p to ops (here d place ks w)) → Gets 8 8 s0 c (landed to d (place + 1) ks ops) (fetching (Goes (found_at p)) c l w)
+      unfolding found_behind read_found read_part existing gone cells_at opened_outcome
       fetches p to d place ks ops c l w s0 fits first = by (object_at p.object w) first
         where
-          by : (x : Option Object) → step ask code s0 ≡ moved l (fetched (p.offset + offset) x to ops (here d place ks w)) → Runs ask code Worlds 8 8 s0 c (landed to d (place + 1) ks ops) (add 1 (on_some x gone (λ y. done (cells_at (p.offset + offset) 1 y)) c l w))
-          by None go = stop_step ask code Worlds 8 8 s0 _ c 1 (landed to d (place + 1) ks ops) UseAfterFree l (omega arith) go refl refl
-          by (Some y) go = last_step ask code Worlds 8 8 s0 c 1 (landed to d (place + 1) ks ops) (Goes (cells_at (p.offset + offset) 1 y)) l w (omega arith) fits (go ∙ put_there to (cells_at (p.offset + offset) 1 y) d place ks ops l w)
+          by : (x : Option Object) → step ask code s0 ≡ moved l (fetched (p.offset + offset) x to ops (here d place ks w)) → Gets 8 8 s0 c (landed to d (place + 1) ks ops) (add 1 (on_some x gone (λ y. done (cells_at (p.offset + offset) 1 y)) c l w))
+          by None go = stop_step_to ask code (OneCell Fits Any) 8 8 s0 _ c 1 (landed to d (place + 1) ks ops) UseAfterFree l (omega arith) go refl refl
+          by (Some y) go = last_step_to ask code (OneCell Fits Any) 8 8 s0 c 1 (landed to d (place + 1) ks ops) (Goes (cells_at (p.offset + offset) 1 y)) l w (omega arith) (fits, (scalar_of (cells_at (p.offset + offset) 1 y), one_cell (drop (p.offset + offset) y.cells), tt)) (go ∙ put_there to (cells_at (p.offset + offset) 1 y) d place ks ops l w)
 
       -- a component of the object in the variable itself
-      fetches_it : (to : Cell) (ty : Ty) (s : List Kind) (d : List ℕ) (place : ℕ) (ks : List Frame) (ops : List Word) (c : ℕ) (l : Log) (w : World) → Fits w → length d ≡ depth s → slice_get code.instructions.items place ≡ Some (InstrOf.FetchPart (out_to s v) v.slot t position ty to) → Runs ask code Worlds 8 8 (at d place ks ops l w) c (landed to.named d (place + 1) ks ops) (bind (part_found k [] (spot_of (content_of d v w)) c l w) fetching)
+      fetches_it : (to : Cell) (ty : Ty) (s : List Kind) (d : List ℕ) (place : ℕ) (ks : List Frame) (ops : List Word) (c : ℕ) (l : Log) (w : World) → Fits w → length d ≡ depth s → slice_get code.instructions.items place ≡ Some (InstrOf.FetchPart (out_to s v) v.slot t position ty to) → Gets 8 8 (at d place ks ops l w) c (landed to.named d (place + 1) ks ops) (bind (part_found k [] (spot_of (content_of d v w)) c l w) fetching)
       unfolding opened_outcome
       fetches_it to ty s d place ks ops c l w fits long has =
           by (spot_of (content_of d v w))
@@ -126,35 +85,33 @@ module _ (ask : Ask) (k : Tables) (code : Code) (placed_so : ArePlaced k code) (
           ∙ ap (λ j. moved l (by_fetch_part j (holder_at d (out_to s v) v.slot w) to.named ops (here d place ks w))) there
           ∙ ap (λ m. moved l (by_fetch_part offset (spot_of (slot_at m v.slot w).content) to.named ops (here d place ks w))) (out_is d s v long))
         where
-          by : (o : Option Spot) → step ask code (at d place ks ops l w) ≡ moved l (by_fetch_part offset o to.named ops (here d place ks w)) → Runs ask code Worlds 8 8 (at d place ks ops l w) c (landed to.named d (place + 1) ks ops) (bind (part_found k [] o c l w) fetching)
-          by None first = stop_step ask code Worlds 8 8 _ _ c 1 (landed to.named d (place + 1) ks ops) UseAfterFree l (omega arith) first refl refl
-          by (Some p) first = added ask code Worlds 1 8 8 8 8 _ c (landed to.named d (place + 1) ks ops) (fetching (Goes (found_at p)) c l w) (omega arith) (omega arith) (fetches p to.named d place ks ops c l w _ fits first)
+          by : (o : Option Spot) → step ask code (at d place ks ops l w) ≡ moved l (by_fetch_part offset o to.named ops (here d place ks w)) → Gets 8 8 (at d place ks ops l w) c (landed to.named d (place + 1) ks ops) (bind (part_found k [] o c l w) fetching)
+          by None first = stop_step_to ask code (OneCell Fits Any) 8 8 _ _ c 1 (landed to.named d (place + 1) ks ops) UseAfterFree l (omega arith) first refl refl
+          by (Some p) first = added_to ask code (OneCell Fits Any) 1 8 8 8 8 _ c (landed to.named d (place + 1) ks ops) (fetching (Goes (found_at p)) c l w) (omega arith) (omega arith) (fetches p to.named d place ks ops c l w _ fits first)
 
       -- and one of the part on top
-      takes_it : (p : Spot) (to : Cell) (ty : Ty) (d : List ℕ) (place : ℕ) (ks : List Frame) (ops : List Word) (c : ℕ) (l : Log) (w : World) → Fits w → slice_get code.instructions.items place ≡ Some (InstrOf.TakePart t position ty to) → Runs ask code Worlds 8 8 (at d place ks (Located p ∷ ops) l w) c (landed to.named d (place + 1) ks ops) (fetching (Goes (found_at p)) c l w)
+      takes_it : (p : Spot) (to : Cell) (ty : Ty) (d : List ℕ) (place : ℕ) (ks : List Frame) (ops : List Word) (c : ℕ) (l : Log) (w : World) → Fits w → slice_get code.instructions.items place ≡ Some (InstrOf.TakePart t position ty to) → Gets 8 8 (at d place ks (Located p ∷ ops) l w) c (landed to.named d (place + 1) ks ops) (fetching (Goes (found_at p)) c l w)
       takes_it p to ty d place ks ops c l w fits has =
           fetches p to.named d place ks ops c l w _ fits
           (by_code ask code d place ks (Located p ∷ ops) l w (InstrOf.TakePart t position ty to) has
           ∙ ap (λ j. moved l (fetch_from j p to.named ops (here d place ks w))) there)
 
-      reads : (before : List Step) → before ≡ steps → (to : Cell) (ty : Ty) (s : List Kind) (d : List ℕ) (place : ℕ) (ks : List Frame) (ops : List Word) (c : ℕ) (l : Log) (w : World) → Fits w → length d ≡ depth s → Laid code place (component_code v before t position ty to s) → Runs ask code Worlds 8 8 (at d place ks ops l w) c (landed to.named d (place + length (component_code v before t position ty to s)) ks ops) (bind (part_found k before (spot_of (content_of d v w)) c l w) fetching)
+      reads : (before : List Step) → before ≡ steps → (to : Cell) (ty : Ty) (s : List Kind) (d : List ℕ) (place : ℕ) (ks : List Frame) (ops : List Word) (c : ℕ) (l : Log) (w : World) → Fits w → length d ≡ depth s → Laid code place (component_code v before t position ty to s) → Gets 8 8 (at d place ks ops l w) c (landed to.named d (place + length (component_code v before t position ty to s)) ks ops) (bind (part_found k before (spot_of (content_of d v w)) c l w) fetching)
       reads [] same to ty s d place ks ops c l w fits long has = fetches_it to ty s d place ks ops c l w fits long has.0
       reads (x ∷ more) same to ty s d place ks ops c l w fits long has =
           let front = located_code v (x ∷ more) t s in
           let last = (InstrOf.TakePart t position ty to, Operand (Record t) ∷ s) ∷ [] in
           let end : place + length front + 1 ≡ place + length (front ++ last) = omega (arith, length-append front last) in
-          subst (λ q. Runs ask code Worlds 8 8 (at d place ks ops l w) c (landed to.named d q ks ops) (bind (part_found k (x ∷ more) (spot_of (content_of d v w)) c l w) fetching)) end
-          (located_then k code ask Worlds 8 8 v (x ∷ more) t s d place ks ops c l w (landed to.named d (place + length front + 1) ks ops) fetching (subst (Agree k code) (sym same) (agree_run k code placed_so steps t runs).0) long (laid_front code place front last has)
+          subst (λ q. Gets 8 8 (at d place ks ops l w) c (landed to.named d q ks ops) (bind (part_found k (x ∷ more) (spot_of (content_of d v w)) c l w) fetching)) end
+          (located_then k code ask (OneCell Fits Any) 8 8 v (x ∷ more) t s d place ks ops c l w (landed to.named d (place + length front + 1) ks ops) fetching (subst (Agree k code) (sym same) (agree_run k code placed_so steps t runs).0) long (laid_front code place front last has)
           (λ p. takes_it p to ty d (place + length front) ks ops c l w fits (laid_back code place front last has).0))
 
-      pub component_value : ((n i : ℕ) (w : World) → Fits w → HoldsNoCopy (slot_at n i w)) → (find : List ℕ → Act Found) → find ≡ find_by K all v → (ty : Ty) → IsScalar ty → Value ask k code Fits (read (Some (Part v steps t position)) ty) (λ d. ticked (find d >>= read_found (cells_of k ty)))
+      pub component_value : ((n i : ℕ) (w : World) → Fits w → HoldsNoCopy (slot_at n i w)) → (find : List ℕ → Act Found) → find ≡ find_by K all v → (ty : Ty) → IsScalar ty → Value ask k code bound Fits (read (Some (Part v steps t position)) ty) (λ d. ticked (find d >>= read_found (cells_of k ty)))
       unfolding opened_outcome
       component_value uncopied find is ty scalar = record {
-        cell = λ d c l w. subst (IsCell Any) (sym (reads_it d c l w)) (cell_later Any 1 _ (cell_read v all selectors d c l w));
-        begins = λ to u s d place ks ops c l w fits long has. record {
+        begins = λ to u s d place ks ops c l w le fits long has. record {
           out = bind (part_found k steps (spot_of (content_of d v w)) c l w) fetching;
           is = reads_it d c l w ∙ ap (add 1) (reads_part d c l w fits);
-          cells = subst (IsCell Any) (reads_part d c l w fits) (cell_read v all selectors d c l w);
           runs = reads steps refl to u s d place ks ops c l w fits long has;
         };
         constant = λ n is1 d c l w. absurd (cc);
@@ -171,7 +128,7 @@ module _ (ask : Ask) (k : Tables) (code : Code) (placed_so : ArePlaced k code) (
 
     -- Assigning ---------------------------------------------------------------------------------------
 
-    module _ (bound : ℕ) (y : ValueCode) (act : List ℕ → Act (List ℕ)) (value : (w0 : World) → Value ask k code (Since k code w0) y act) where
+    module _ (bound : ℕ) (y : ValueCode) (act : List ℕ → Act (List ℕ)) (value : (w0 : World) → Value ask k code bound (Since k code w0) y act) where
       -- a value is evaluated behind what finds the part, and goes into its component
       abbrev storing : List ℕ → Result Found → Act Done
       storing d r c l w = bind (on_goes (stepping k t position) r c l w) (on_goes (λ f. act d >>= write_found f))
@@ -192,9 +149,9 @@ module _ (ask : Ask) (k : Tables) (code : Code) (placed_so : ArePlaced k code) (
           by (Some o) go = last_step ask code (Kept k code w0) 8 8 _ c 0 (arrives e d (q + 1) ks ops) (Goes tt) l (write_cells p.object (p.offset + offset) (m ∷ []) w) (omega arith) (since_written k code p.object (p.offset + offset) (m ∷ []) w0 w fits) go
 
       -- over the part that has the component
-      part_stores : (p : Spot) (e : Target) (s : List Kind) (w0 : World) (d : List ℕ) (place : ℕ) (ks : List Frame) (ops : List Word) (c : ℕ) (l : Log) (w : World) → Since k code w0 w → length d ≡ depth s → Laid code place (store_part_code t position y s) → Runs ask code (Kept k code w0) 0 0 (at d place ks (Located p ∷ ops) l w) c (arrives e d (place + length (store_part_code t position y s)) ks ops) (storing d (Goes (found_at p)) c l w)
+      part_stores : (p : Spot) (e : Target) (s : List Kind) (w0 : World) (d : List ℕ) (place : ℕ) (ks : List Frame) (ops : List Word) (c : ℕ) (l : Log) (w : World) → c ≤ bound → Since k code w0 w → length d ≡ depth s → Laid code place (store_part_code t position y s) → Runs ask code (Kept k code w0) 0 0 (at d place ks (Located p ∷ ops) l w) c (arrives e d (place + length (store_part_code t position y s)) ks ops) (storing d (Goes (found_at p)) c l w)
       unfolding opened_outcome
-      part_stores p e s w0 d place ks ops c l w fits long has =
+      part_stores p e s w0 d place ks ops c l w le fits long has =
           let over = Operand (Record t) ∷ s in
           let ty = value_type y in
           let h = held y ty over in
@@ -204,8 +161,8 @@ module _ (ask : Ask) (k : Tables) (code : Code) (placed_so : ArePlaced k code) (
           let end : q + 1 ≡ place + length (store_part_code t position y s) = omega (arith, length-append h.code ((i, h.after) ∷ [])) in
           added ask code (Kept k code w0) 1 0 0 0 0 _ c (arrives e d (place + length (store_part_code t position y s)) ks ops) (bind (act d c l w) (on_goes (write_found f))) (omega arith) (omega arith)
           (subst (λ z. Runs ask code (Kept k code w0) 0 0 (at d place ks (Located p ∷ ops) l w) c (arrives e d z ks ops) (bind (act d c l w) (on_goes (write_found f)))) end
-          (held_then ask k code (Since k code w0) h (λ m w1. Stays h.cell.named m d w1) act d place ks (Located p ∷ ops) c l w (arrives e d (q + 1) ks ops) (on_goes (write_found f))
-          (held_holds ask k code (Since k code w0) y.right y act refl (value w0) ty over d place ks (Located p ∷ ops) c l w fits long (laid_front code place h.code ((i, h.after) ∷ []) has))
+          (held_then ask k code bound (Since k code w0) (λ r. Since k code w0) h (λ m w1. Stays h.cell.named m d w1) act d place ks (Located p ∷ ops) c l w (arrives e d (q + 1) ks ops) (on_goes (write_found f))
+          (held_holds ask k code bound (Since k code w0) y.right y act refl (value w0) ty over d place ks (Located p ∷ ops) c l w le fits long (laid_front code place h.code ((i, h.after) ∷ []) has))
           (λ m c1 l1 w1 lo fits1 stays. stores w0 h.cell p m e d q ks ops c1 l1 w1 fits1 stays (laid_back code place h.code ((i, h.after) ∷ []) has).0)
           (λ z c1 l1 w1 lo fits1. no_step ask code (Kept k code w0) 8 8 _ c1 0 (arrives e d (q + 1) ks ops) (Leaves (ByRaise z)) l1 w1 fits1 refl)))
 
@@ -224,6 +181,6 @@ module _ (ask : Ask) (k : Tables) (code : Code) (placed_so : ArePlaced k code) (
           ∙ ap (λ z. add 1 (bind z f)) (finds_part K v all selectors d c l w (no_copy_at k code (master_of d v) v.slot w fits.0) ∙ component_found k steps t position o selectors c l w)
           ∙ ap (add 1) (bind_bind (part_found k steps o c l w) (on_goes (stepping k t position)) f)))
           (added ask code (Kept k code w0) 1 0 0 0 0 _ c next _ (omega arith) (omega arith)
-          (located_then k code ask (Kept k code w0) 0 0 v steps t s d place ks ops c l w next (storing d) (agree_run k code placed_so steps t runs).0 sees.long (laid_front code place front back has)
+          (located_then k code ask (λ r. Since k code w0) 0 0 v steps t s d place ks ops c l w next (storing d) (agree_run k code placed_so steps t runs).0 sees.long (laid_front code place front back has)
           (λ p. subst (λ q. Runs ask code (Kept k code w0) 0 0 (at d (place + length front) ks (Located p ∷ ops) l w) c (arrives (lands a place) d q ks ops) (storing d (Goes (found_at p)) c l w)) end
-          (part_stores p (lands a place) s w0 d (place + length front) ks ops c l w fits sees.long (laid_back code place front back has)))))
+          (part_stores p (lands a place) s w0 d (place + length front) ks ops c l w le fits sees.long (laid_back code place front back has)))))

@@ -245,7 +245,7 @@ module _ (ask : Ask) (k : Tables) (code : Code) (setting : Setting k code) (call
         ∙ ap (add 1) (found_is slot d o)))
         (added ask code (Kept k code w0) 1 0 0 0 0 _ c next (add 1 (bind o (found_then slot d))) (omega arith) (omega arith)
         (added ask code (Kept k code w0) 1 6 8 0 0 _ c next (bind o (found_then slot d)) (omega arith) (omega arith)
-        (part_then k code ask (Kept k code w0) 6 8 x t s d place ks ops c l w next (found_then slot d) known.selectors (agree_part k code setting.places x runs) sees.long (laid_front code place front last has)
+        (part_then k code ask (λ r. Since k code w0) 6 8 x t s d place ks ops c l w next (found_then slot d) known.selectors (agree_part k code setting.places x runs) sees.long (laid_front code place front last has)
         (λ p.
         subst (Runs ask code (Kept k code w0) 6 8 (at d (place + length front) ks (Located p ∷ ops) l w) c next) (sym (object_is slot d p c l w))
         (subst (λ q. Runs ask code (Kept k code w0) 6 8 (at d (place + length front) ks (Located p ∷ ops) l w) c (arrives (lands a place) d q ks ops) (add 0 (given_by slot d p.offset (object_at p.object w) c l w))) end

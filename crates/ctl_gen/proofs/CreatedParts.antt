@@ -3,6 +3,7 @@
 use Rattle.std.proofs.Common.{◌≡◌, ℕ, zero, suc, ◌+◌, ◌<◌, ◌≤◌, List, [], ◌∷◌, ◌++◌, length, Option, Some, None, true, false, refl, sym, ap, ◌∙◌, subst, arith, inr}
 use Rattle.std.specs.Prelude.{slice_get, is_some}
 use Rattle.ctl_program.specs.declared.types.Ty.TheVariants.{Record}
+use Rattle.ctl_program.specs.declared.operators.SubprogramKind.TheVariants.{Procedure}
 use Rattle.ctl_tree.specs.declared.ending.Stop.TheVariants.{UseAfterFree}
 use Rattle.ctl_tree.specs.declared.event.Event.{Event}
 use Rattle.ctl_tree.specs.declared.event.Event.TheVariants as EventOf
@@ -285,7 +286,7 @@ module _ (ask : Ask) (k : Tables) (code : Code) (setting : Setting k code) (call
             let here = subst (λ (d : List ℕ). IsDeclarable code (length d) t) (sym (still_home k code s.object w0 w inside.0 o fits0 fits.1 inside.1 at)) inside.2 in
             subst goal (sym (ap (λ y. bind y (own_then born s t paths)) (called_is ask k call default f s c (starts s) l w o at)))
             (called_runs paths clean _ c _ le
-            (calls.runs f body.0 body.1 w0 (home_of o.origin w) (holding (Binds s.object s.offset s.path) ∷ []) (Initializing (new_part s t master) ∷ ks) c (tell (starts s) l) w _ le fits (initialize_in code setting.valid (length (home_of o.origin w)) t f here (setting.initialize t ∙ op)) (tt, tt)
+            (calls.runs f body.0 body.1 w0 (home_of o.origin w) (holding (Binds s.object s.offset s.path) ∷ []) (Initializing (new_part s t master) ∷ ks) c (tell (starts s) l) w _ Procedure 1 refl le fits (initialize_in code setting.valid (length (home_of o.origin w)) t f here (setting.initialize t ∙ op)) (tt, tt)
             (go ∙ enter_shows (slice_get code.entries.items f) (starts s) (home_of o.origin w) (holding (Binds s.object s.offset s.path) ∷ []) (Initializing (new_part s t master) ∷ ks) l w)))
 
         free : is_controlled k t ≡ false → step ask code (gives (Filling (new_part s t master) [] incomplete ∷ ks) (Fine Complete) l w) ≡ gives ks (Fine Complete) l w → goal (bind (own_initialize K s t paths c l w) (on_goes (begun K born s t)))

@@ -1,62 +1,72 @@
--- The code of each expression that this version runs does what the expression means.
+-- The code of each expression and of each actual that this version runs does what it means.
 use Rattle.std.proofs.Common.{◌≡◌, ℕ, List, [], ◌∷◌, ◌++◌, map, Option, Some, None, true, refl, sym, ap, ◌∙◌, subst}
 use Rattle.ctl_program.specs.declared.types.Ty.{Ty}
 use Rattle.ctl_program.specs.declared.types.Var.{Var}
 use Rattle.ctl_program.specs.declared.expression.Expr.{Expr, roll-Expr, map-Expr, ind-Expr}
 use Rattle.ctl_program.specs.declared.expression.Name.{Name}
-use Rattle.ctl_program.specs.declared.expression.Actual.{Actual}
+use Rattle.ctl_program.specs.declared.expression.Actual.{Actual, map-Actual, out-Actual, roll-Actual, roll-out-Actual}
 use Rattle.ctl_program.specs.declared.expression.Operand.{Operand, Operand-F, roll-Operand, map-Operand}
-use Rattle.ctl_program.specs.declared.expression.Actual.TheOpen.{Expr-F}
+use Rattle.ctl_program.specs.declared.expression.Actual.TheOpen.{Actual-F, Expr-F}
 use Rattle.ctl_meaning.specs.World.{World}
-use Rattle.ctl_meaning.specs.Changes.{slot_at}
 use Rattle.ctl_meaning.specs.Choice.{Ask}
 use Rattle.ctl_meaning.specs.Outcome.{Act, ◌>>=◌, ticked, opened_outcome}
 use Rattle.ctl_meaning.specs.Types.{Tables, Category, Elementary, cells_of}
 use Rattle.ctl_meaning.specs.Names.{Call, Default, Tools, Found, read_found, begins_as, opened_names}
-use Rattle.ctl_meaning.specs.Expressions.{Applied, Naming, Valued, apply, eval, eval_name, eval_step, operand_step, var_part}
-use Rattle.ctl_meaning.proofs.Trees.{eval_roll, operand_roll}
+use Rattle.ctl_meaning.specs.Expressions.{Applied, Naming, Supplied, Valued, actual_step, apply, eval, eval_name, eval_step, operand_step, supply, var_part}
+use Rattle.ctl_meaning.proofs.Trees.{actual_roll as supply_roll, eval_roll, operand_roll}
 use Rattle.ctl_code.specs.declared.code.Code.{Code}
 use Rattle.ctl_program.specs.declared.expression.Step.TheVariants.{Component}
 use Rattle.ctl_layout.specs.Parts.{Reached, Variable, Part, are_selectors}
-use Rattle.ctl_layout.specs.Values.{ValueCode, OperatorCode, missing_value, operator_of, operators_run, read, value_code, values_run, reached_by}
+use Rattle.ctl_layout.specs.Values.{ActualCode, ValueCode, OperatorCode, actual_code, actuals_run, missing_value, operator_of, operators_run, read, value_code, values_run, reached_by}
 use Rattle.ctl_gen.proofs.Known.{IsScalar, both_true, scalar_elementary, scalar_if}
-use Rattle.ctl_gen.proofs.Worlds.{HoldsNoCopy, Since, no_copy_at}
+use Rattle.ctl_gen.proofs.Worlds.{Since, no_copy_at}
 use Rattle.ctl_gen.proofs.Parts.{Leads, find_as, find_by, name_leads, part_leads}
 use Rattle.ctl_gen.proofs.Components.{component_value}
-use Rattle.ctl_layout.proofs.TreeLayers.{value_roll, operator_roll}
-use Rattle.ctl_gen.proofs.Setting.{ArePlaced, tools_with}
+use Rattle.ctl_layout.proofs.TreeLayers.{value_roll, operator_roll, actual_roll}
+use Rattle.ctl_gen.proofs.Setting.{Setting, Calls, tools_with}
+use Rattle.ctl_gen.proofs.Actuals as A
+use Rattle.ctl_gen.proofs.FunctionCalls.{function_value}
 use Rattle.ctl_gen.proofs.Expressions as X
 
-module _ (ask : Ask) (k : Tables) (code : Code) (placed : ArePlaced k code) (call : Call) (default : Default) (Fits : World → Type 0) (uncopied : (n i : ℕ) (w : World) → Fits w → HoldsNoCopy (slot_at n i w)) where
-  abbrev K : Tools
-  K = tools_with ask k call default
+-- Names -------------------------------------------------------------------------------------------
 
-  abbrev pub IsValue : Expr → Type 0
-  IsValue e = (value_code e).runs k.records ≡ true → X.Value ask k code Fits (value_code e) (eval e K)
-
+module _ (K : Tools) where
   -- what a name means that reaches something
   abbrev pub Reaches : Reached → (List ℕ → Act Found) → Type 0
-  Reaches (Variable v) find = X.Uses ask k code Fits v find
+  Reaches (Variable v) find = X.Uses v find
   Reaches (Part v steps t position) find = (are_selectors (steps ++ Component t position ∷ []) ≡ true) × (find ≡ find_by K (steps ++ Component t position ∷ []) v)
 
   -- in one tick
-  uses_it : (x : Var) → X.Uses ask k code Fits x (find_as K Elementary [] x)
+  uses_it : (x : Var) → X.Uses x (find_as K Elementary [] x)
   unfolding var_part opened_names opened_outcome
   uses_it x v c l w = refl
 
   reaches : (x : Reached) (find : Naming) → Leads K x find → Reaches x (find Elementary K)
   unfolding begins_as
-  reaches (Variable v) find h = subst (X.Uses ask k code Fits v) (sym (h.finds Elementary)) (uses_it v)
+  reaches (Variable v) find h = subst (X.Uses v) (sym (h.finds Elementary)) (uses_it v)
   reaches (Part v steps t position) find h = (h.selectors, part_leads K v steps t position find Elementary h)
 
   pub name_finds : (n : Name) (x : Reached) → reached_by n ≡ Some x → Reaches x (eval_name n Elementary K)
   name_finds n x is = reaches x (eval_name n) (name_leads K n x is)
 
+-- Expressions and actuals -------------------------------------------------------------------------
+
+-- in the worlds since an earlier one, while no more than the bound is on the clock
+module _ (ask : Ask) (k : Tables) (code : Code) (setting : Setting k code) (call : Call) (default : Default) (bound : ℕ) (calls : Calls ask k code setting bound call) (w0 : World) where
+  abbrev K : Tools
+  K = tools_with ask k call default
+
+  abbrev Fits : World → Type 0
+  Fits w = Since k code w0 w
+
+  abbrev pub IsValue : Expr → Type 0
+  IsValue e = (value_code e).runs k.records ≡ true → X.Value ask k code bound Fits (value_code e) (eval e K)
+
   abbrev IsOperator : Operand → Type 0
-  IsOperator o = (operator_of o).right.runs k.records ≡ true → X.Further ask k code Fits (operator_of o) (apply o K)
+  IsOperator o = (operator_of o).right.runs k.records ≡ true → X.Further ask k code bound Fits (operator_of o) (apply o K)
 
   abbrev IsActual : Actual → Type 0
-  IsActual a = Unit {0}
+  IsActual a = (actual_code a).runs k.records ≡ true → A.Passes ask k code setting call default bound w0 (actual_code a) (supply a)
 
   abbrev IsName : Name → Type 0
   IsName n = Unit {0}
@@ -76,24 +86,31 @@ module _ (ask : Ask) (k : Tables) (code : Code) (placed : ArePlaced k code) (cal
   abbrev bare_expr : Expr-F ActualToo ExprToo NameToo OperandToo → Expr-F Actual Expr Name Operand
   bare_expr = map-Expr ActualToo ExprToo NameToo OperandToo Actual Expr Name Operand (λ e. e.0) (λ e. e.0) (λ e. e.0) (λ e. e.0)
 
+  abbrev bare_actual : Actual-F ActualToo ExprToo NameToo OperandToo → Actual-F Actual Expr Name Operand
+  bare_actual = map-Actual ActualToo ExprToo NameToo OperandToo Actual Expr Name Operand (λ e. e.0) (λ e. e.0) (λ e. e.0) (λ e. e.0)
+
   abbrev bare_operand : Operand-F ActualToo ExprToo NameToo OperandToo → Operand-F Actual Expr Name Operand
   bare_operand = map-Operand ActualToo ExprToo NameToo OperandToo Actual Expr Name Operand (λ e. e.0) (λ e. e.0) (λ e. e.0) (λ e. e.0)
 
   -- Lists of children -------------------------------------------------------------------------------
 
-  operators_too : (os : List OperandToo) → operators_run k.records (map operator_of (map (λ o. o.0) os)) ≡ true → X.Operators ask k code Fits K (map operator_of (map (λ o. o.0) os)) (map apply (map (λ o. o.0) os))
+  operators_too : (os : List OperandToo) → operators_run k.records (map operator_of (map (λ o. o.0) os)) ≡ true → X.Operators ask k code bound Fits K (map operator_of (map (λ o. o.0) os)) (map apply (map (λ o. o.0) os))
   operators_too [] h = tt
   operators_too (o ∷ os) h = let g = both_true _ _ h in (o.1 g.0, operators_too os g.1)
 
-  values_too : (xs : List ExprToo) → values_run k.records (map value_code (map (λ x. x.0) xs)) ≡ true → X.EachValue ask k code Fits K (map value_code (map (λ x. x.0) xs)) (map eval (map (λ x. x.0) xs))
+  values_too : (xs : List ExprToo) → values_run k.records (map value_code (map (λ x. x.0) xs)) ≡ true → X.EachValue ask k code bound Fits K (map value_code (map (λ x. x.0) xs)) (map eval (map (λ x. x.0) xs))
   values_too [] h = tt
   values_too (x ∷ xs) h = let g = both_true _ _ h in (x.1 g.0, values_too xs g.1)
+
+  actuals_too : (xs : List ActualToo) → actuals_run (map actual_code (map (λ x. x.0) xs)) k.records ≡ true → A.EachPasses ask k code setting call default bound w0 (map actual_code (map (λ x. x.0) xs)) (map supply (map (λ x. x.0) xs))
+  actuals_too [] h = tt
+  actuals_too (x ∷ xs) h = let g = both_true _ _ h in (x.1 g.0, actuals_too xs g.1)
 
   -- One layer ---------------------------------------------------------------------------------------
 
   -- what a construct has, and what it means
   abbrev Meets : ValueCode → Valued → Type 0
-  Meets x m = x.runs k.records ≡ true → X.Value ask k code Fits x (m K)
+  Meets x m = x.runs k.records ≡ true → X.Value ask k code bound Fits x (m K)
 
   meets : (y : Expr-F Actual Expr Name Operand) (x : ValueCode) (m : Valued) → value_code (roll-Expr y) ≡ x → eval (roll-Expr y) ≡ m → Meets x m → IsValue (roll-Expr y)
   meets y x m same means h = subst (λ z. Meets z (eval (roll-Expr y))) (sym same) (subst (Meets x) (sym means) h)
@@ -103,38 +120,43 @@ module _ (ask : Ask) (k : Tables) (code : Code) (placed : ArePlaced k code) (cal
   missing_rolled y same h = absurd (let e = sym (ap (λ (x : ValueCode). x.runs k.records) same) ∙ h in cc)
 
   -- a value of an elementary type
-  elementary : (o : Option Reached) (ty : Ty) (find : Naming) → IsScalar ty → X.Value ask k code Fits (read o ty) (λ v. ticked (find Elementary K v >>= read_found (cells_of k ty))) → X.Value ask k code Fits (read o ty) (eval_step (Expr-F.Read find ty) K)
+  elementary : (o : Option Reached) (ty : Ty) (find : Naming) → IsScalar ty → X.Value ask k code bound Fits (read o ty) (λ v. ticked (find Elementary K v >>= read_found (cells_of k ty))) → X.Value ask k code bound Fits (read o ty) (eval_step (Expr-F.Read find ty) K)
   unfolding eval_step
-  elementary o ty find scalar h = subst (λ (c : Category). X.Value ask k code Fits (read o ty) (λ v. ticked (find c K v >>= read_found (cells_of k ty)))) (sym (scalar_elementary ty scalar)) h
+  elementary o ty find scalar h = subst (λ (c : Category). X.Value ask k code bound Fits (read o ty) (λ v. ticked (find c K v >>= read_found (cells_of k ty)))) (sym (scalar_elementary ty scalar)) h
 
-  reads : (o : Option Reached) (ty : Ty) (find : Naming) → ((x : Reached) → o ≡ Some x → Reaches x (find Elementary K)) → Meets (read o ty) (eval_step (Expr-F.Read find ty))
+  reads : (o : Option Reached) (ty : Ty) (find : Naming) → ((x : Reached) → o ≡ Some x → Reaches K x (find Elementary K)) → Meets (read o ty) (eval_step (Expr-F.Read find ty))
   reads None ty find h runs = absurd (cc)
-  reads (Some (Variable v)) ty find h runs = elementary (Some (Variable v)) ty find (scalar_if ty runs) (X.read_value ask k code Fits v (find Elementary K) (h (Variable v) refl) ty (scalar_if ty runs))
+  reads (Some (Variable v)) ty find h runs = elementary (Some (Variable v)) ty find (scalar_if ty runs) (X.read_value ask k code bound Fits v (find Elementary K) (h (Variable v) refl) ty (scalar_if ty runs))
   reads (Some (Part v steps t position)) ty find h runs =
       let e = both_true _ _ runs in
       let g = h (Part v steps t position) refl in
-      elementary (Some (Part v steps t position)) ty find (scalar_if ty e.0) (component_value ask k code placed call default v steps t position e.1 g.0 Fits uncopied (find Elementary K) g.1 ty (scalar_if ty e.0))
+      elementary (Some (Part v steps t position)) ty find (scalar_if ty e.0) (component_value ask k code setting.places call default v steps t position e.1 g.0 bound Fits (λ n i w fits. no_copy_at k code n i w fits.0) (find Elementary K) g.1 ty (scalar_if ty e.0))
 
   expr_rolled : (y : Expr-F ActualToo ExprToo NameToo OperandToo) → IsValue (roll-Expr (bare_expr y))
   unfolding eval_step
-  expr_rolled (Expr-F.Constant n) = meets (Expr-F.Constant n) _ _ (value_roll (Expr-F.Constant n)) (eval_roll (Expr-F.Constant n)) (λ h. X.constant_value ask k code Fits n)
-  expr_rolled (Expr-F.Read n ty) = meets (Expr-F.Read n.0 ty) _ _ (value_roll (Expr-F.Read n.0 ty)) (eval_roll (Expr-F.Read n.0 ty)) (reads (reached_by n.0) ty (eval_name n.0) (name_finds n.0))
-  expr_rolled (Expr-F.Unary op ty e) = meets (Expr-F.Unary op ty e.0) _ _ (value_roll (Expr-F.Unary op ty e.0)) (eval_roll (Expr-F.Unary op ty e.0)) (λ h. X.unary_value ask k code Fits op ty (value_code e.0) (eval e.0 K) (e.1 h))
+  expr_rolled (Expr-F.Constant n) = meets (Expr-F.Constant n) _ _ (value_roll (Expr-F.Constant n)) (eval_roll (Expr-F.Constant n)) (λ h. X.constant_value ask k code bound Fits n)
+  expr_rolled (Expr-F.Read n ty) = meets (Expr-F.Read n.0 ty) _ _ (value_roll (Expr-F.Read n.0 ty)) (eval_roll (Expr-F.Read n.0 ty)) (reads (reached_by n.0) ty (eval_name n.0) (name_finds K n.0))
+  expr_rolled (Expr-F.Unary op ty e) = meets (Expr-F.Unary op ty e.0) _ _ (value_roll (Expr-F.Unary op ty e.0)) (eval_roll (Expr-F.Unary op ty e.0)) (λ h. X.unary_value ask k code bound Fits op ty (value_code e.0) (eval e.0 K) (e.1 h))
   expr_rolled (Expr-F.Chain e o os) =
       let y = Expr-F.Chain e.0 o.0 (map (λ z. z.0) os) in
       meets y _ _ (value_roll y) (eval_roll y)
       (λ h.
       let g = both_true _ _ h in
       let i = operators_too (o ∷ os) g.1 in
-      X.chain_value ask k code Fits K (value_code e.0) (eval e.0 K) (e.1 g.0) (operator_of o.0) (map operator_of (map (λ z. z.0) os)) (apply o.0) (map apply (map (λ z. z.0) os)) i)
+      X.chain_value ask k code bound Fits K (value_code e.0) (eval e.0 K) (e.1 g.0) (operator_of o.0) (map operator_of (map (λ z. z.0) os)) (apply o.0) (map apply (map (λ z. z.0) os)) i)
   expr_rolled (Expr-F.Short form e f es) =
       let y = Expr-F.Short form e.0 f.0 (map (λ z. z.0) es) in
       meets y _ _ (value_roll y) (eval_roll y)
       (λ h.
       let g = both_true _ _ h in
       let i = values_too (f ∷ es) g.1 in
-      X.short_value ask k code Fits K form (value_code e.0) (eval e.0 K) (e.1 g.0) (value_code f.0) (map value_code (map (λ z. z.0) es)) (eval f.0) (map eval (map (λ z. z.0) es)) i)
-  expr_rolled (Expr-F.Call f xs ty) = let y = Expr-F.Call f (map (λ z. z.0) xs) ty in missing_rolled y (value_roll y)
+      X.short_value ask k code bound Fits K form (value_code e.0) (eval e.0 K) (e.1 g.0) (value_code f.0) (map value_code (map (λ z. z.0) es)) (eval f.0) (map eval (map (λ z. z.0) es)) i)
+  expr_rolled (Expr-F.Call f xs ty) =
+      let y = Expr-F.Call f (map (λ z. z.0) xs) ty in
+      meets y _ _ (value_roll y) (eval_roll y)
+      (λ h.
+      let g = both_true _ _ h in
+      function_value ask k code setting call default bound calls w0 f (map actual_code (map (λ z. z.0) xs)) (map supply (map (λ z. z.0) xs)) ty (scalar_if ty g.0) (actuals_too xs g.1))
   expr_rolled (Expr-F.Convert ty e) = missing_rolled (Expr-F.Convert ty e.0) (value_roll (Expr-F.Convert ty e.0))
   expr_rolled (Expr-F.Access v) = missing_rolled (Expr-F.Access v) (value_roll (Expr-F.Access v))
   expr_rolled (Expr-F.New access ty None None) = missing_rolled (Expr-F.New access ty None None) (value_roll (Expr-F.New access ty None None))
@@ -149,19 +171,42 @@ module _ (ask : Ask) (k : Tables) (code : Code) (placed : ArePlaced k code) (cal
   operand_rolled y h =
       let is = operator_roll (bare_operand y) in
       let means = operand_roll (bare_operand y) in
-      subst (λ (o : OperatorCode). X.Further ask k code Fits o (apply (roll-Operand (bare_operand y)) K)) (sym is)
-      (subst (λ (m : Applied). X.Further ask k code Fits (record { op = y.op; ty = y.ty; right = value_code y.right.0 }) (m K)) (sym means)
-      (X.operator_further ask k code Fits (record { op = y.op; ty = y.ty; right = value_code y.right.0 }) (eval y.right.0 K) (y.right.1 (sym (ap (λ (o : OperatorCode). o.right.runs k.records) is) ∙ h))))
+      subst (λ (o : OperatorCode). X.Further ask k code bound Fits o (apply (roll-Operand (bare_operand y)) K)) (sym is)
+      (subst (λ (m : Applied). X.Further ask k code bound Fits (record { op = y.op; ty = y.ty; right = value_code y.right.0 }) (m K)) (sym means)
+      (X.operator_further ask k code bound Fits (record { op = y.op; ty = y.ty; right = value_code y.right.0 }) (eval y.right.0 K) (y.right.1 (sym (ap (λ (o : OperatorCode). o.right.runs k.records) is) ∙ h))))
+
+  -- what an actual has, and what it means
+  abbrev Passing : ActualCode → Supplied → Type 0
+  Passing x m = x.runs k.records ≡ true → A.Passes ask k code setting call default bound w0 x m
+
+  passing : (y : Actual-F Actual Expr Name Operand) (x : ActualCode) (m : Supplied) → actual_code (roll-Actual y) ≡ x → supply (roll-Actual y) ≡ m → Passing x m → IsActual (roll-Actual y)
+  passing y x m same means h = subst (λ z. Passing z (supply (roll-Actual y))) (sym same) (subst (Passing x) (sym means) h)
+
+  actual_rolled : (y : Actual-F ActualToo ExprToo NameToo OperandToo) → IsActual (roll-Actual (bare_actual y))
+  unfolding actual_step
+  actual_rolled (Actual-F.ByValue e ty) =
+      passing (Actual-F.ByValue e.0 ty) _ _ (actual_roll (Actual-F.ByValue e.0 ty)) (supply_roll (Actual-F.ByValue e.0 ty))
+      (λ h.
+      let g = both_true _ _ h in
+      A.value_passes ask k code setting call default bound w0 (value_code e.0) (eval e.0 K) ty (scalar_if ty g.0) (e.1 g.1))
+  actual_rolled (Actual-F.Part n ty) = passing (Actual-F.Part n.0 ty) _ _ (actual_roll (Actual-F.Part n.0 ty)) (supply_roll (Actual-F.Part n.0 ty)) (A.reference_passes ask k code setting call default bound w0 (reached_by n.0) ty (eval_name n.0) (name_leads K n.0))
+  actual_rolled (Actual-F.Copied n ty begins) = passing (Actual-F.Copied n.0 ty begins) _ _ (actual_roll (Actual-F.Copied n.0 ty begins)) (supply_roll (Actual-F.Copied n.0 ty begins)) (λ h. absurd (cc h))
 
   -- Whole trees ---------------------------------------------------------------------------------------
 
   pub value_means : (e : Expr) → IsValue e
   value_means = ind-Expr IsActual IsValue IsName IsOperator
-      (λ x y is. tt)
+      (λ x y is. subst (λ z. IsActual (roll-Actual z)) is (actual_rolled y))
       (λ x y is. subst (λ z. IsValue (roll-Expr z)) is (expr_rolled y))
       (λ x y is. tt)
       (λ x y is. subst (λ z. IsOperator (roll-Operand z)) is (operand_rolled y))
 
--- a value, in the worlds since any
-pub value_since : (ask : Ask) (k : Tables) (code : Code) (placed : ArePlaced k code) (call : Call) (default : Default) (e : Expr) → (value_code e).runs k.records ≡ true → (w0 : World) → X.Value ask k code (Since k code w0) (value_code e) (eval e (tools_with ask k call default))
-value_since ask k code placed call default e runs w0 = value_means ask k code placed call default (Since k code w0) (λ n i w h. no_copy_at k code n i w h.0) e runs
+  -- an actual, whose parts are whole trees
+  actual_means : (y : Actual-F Actual Expr Name Operand) → IsActual (roll-Actual y)
+  actual_means (Actual-F.ByValue e ty) = actual_rolled (Actual-F.ByValue (e, value_means e) ty)
+  actual_means (Actual-F.Part n ty) = actual_rolled (Actual-F.Part (n, tt) ty)
+  actual_means (Actual-F.Copied n ty begins) = actual_rolled (Actual-F.Copied (n, tt) ty begins)
+
+  pub actuals_mean : (xs : List Actual) → actuals_run (map actual_code xs) k.records ≡ true → A.EachPasses ask k code setting call default bound w0 (map actual_code xs) (map supply xs)
+  actuals_mean [] h = tt
+  actuals_mean (x ∷ xs) h = let g = both_true _ _ h in (subst IsActual (roll-out-Actual x) (actual_means (out-Actual x)) g.0, actuals_mean xs g.1)

@@ -22,22 +22,23 @@ use Rattle.ctl_code.specs.declared.code.Instr.TheVariants as InstrOf
 use Rattle.ctl_code.specs.declared.code.Way.TheVariants as WayOf
 use Rattle.ctl_code.specs.Table.{caught_in}
 use Rattle.ctl_layout.specs.Parts.{Reached, Variable, Part}
-use Rattle.ctl_layout.specs.Values.{value_code, reached_by, sourced}
-use Rattle.ctl_layout.specs.Layout.{StatementCode, all, all_items, arm_code, assign, assign_record, call as call_code, record_code, exit, handled, handler_code, return, inside, item_code, master_code, missing_statement, statement_code, actual_code, leaves_code}
+use Rattle.ctl_layout.specs.Values.{value_code, value_type, reached_by, sourced}
+use Rattle.ctl_layout.specs.Layout.{StatementCode, all, all_items, arm_code, assign, assign_record, call as call_code, record_code, exit, handled, handler_code, return, inside, item_code, master_code, missing_statement, statement_code, leaves_code}
+use Rattle.ctl_layout.specs.Values.{actual_code}
 use Rattle.ctl_gen.proofs.Known.{both_true, plain_if}
 use Rattle.ctl_layout.proofs.TreeLayers.{handler_roll, arm_roll, master_roll, statement_roll}
 use Rattle.ctl_gen.proofs.Setting.{Setting, Calls, tools_with}
 use Rattle.ctl_gen.proofs.Parted.{GivesDefaults}
-use Rattle.ctl_gen.proofs.Worlds.{Fits, Since, Kept, no_copy_at}
+use Rattle.ctl_gen.proofs.Worlds.{Since, Kept}
 use Rattle.ctl_gen.proofs.Cells.{by_code}
 use Rattle.ctl_gen.proofs.Expressions.{Value}
-use Rattle.ctl_gen.proofs.Evaluated.{Reaches, name_finds, value_since}
+use Rattle.ctl_gen.proofs.Evaluated.{Reaches, actuals_mean, name_finds, value_means}
 use Rattle.ctl_gen.proofs.Components.{part_does}
 use Rattle.ctl_gen.proofs.Parts.{Leads, composite_leads, find_by, name_leads, selectors_of, variable_of}
 use Rattle.ctl_gen.proofs.Sources.{IsSource, source_means}
 use Rattle.ctl_gen.proofs.RecordAssign.{record_does}
-use Rattle.ctl_gen.proofs.Actuals.{actuals_pass}
 use Rattle.ctl_gen.proofs.Calls.{call_does}
+use Rattle.ctl_gen.proofs.Returns.{return_runs}
 use Rattle.ctl_gen.proofs.Assign.{assign_runs}
 use Rattle.ctl_gen.proofs.Texts.{print_runs}
 use Rattle.ctl_gen.proofs.Branches.{only_if_runs, paid}
@@ -105,8 +106,8 @@ module _ (ask : Ask) (k : Tables) (code : Code) (setting : Setting k code) (call
   each_does xs = S.all_run ask k code setting call default constants bound calls (map statement_code (map (λ x. x.0) xs)) (map exec (map (λ x. x.0) xs)) (statements_too xs)
 
   -- a value, in the worlds since any
-  means : (e : Expr) → (value_code e).runs k.records ≡ true → (w0 : World) → Value ask k code (Since k code w0) (value_code e) (eval e K)
-  means e runs w0 = value_since ask k code setting.places call default e runs w0
+  means : (e : Expr) → (value_code e).runs k.records ≡ true → (w0 : World) → Value ask k code bound (Since k code w0) (value_code e) (eval e K)
+  means e runs w0 = value_means ask k code setting call default bound calls w0 e runs
 
   -- One layer ---------------------------------------------------------------------------------------
 
@@ -117,7 +118,7 @@ module _ (ask : Ask) (k : Tables) (code : Code) (setting : Setting k code) (call
   missing_does : (y : Stmt-F Stmt Arm Handler Master) → statement_code (roll-Stmt y) ≡ missing_statement → Does (roll-Stmt y)
   missing_does y same runs = absurd (let e = sym (ap (λ (x : StatementCode). x.runs k.records) same) ∙ runs in cc)
 
-  assign_does : (o : Option Reached) (find : Naming) (e : Expr) → ((x : Reached) → o ≡ Some x → Reaches ask k code setting.places call default (λ w. Fits k code w) (no_copy_at k code) x (find Elementary K)) → Performs (assign o (value_code e)) (assign_doing find (eval e))
+  assign_does : (o : Option Reached) (find : Naming) (e : Expr) → ((x : Reached) → o ≡ Some x → Reaches K x (find Elementary K)) → Performs (assign o (value_code e)) (assign_doing find (eval e))
   unfolding assign_doing
   assign_does None find e reaches runs n texts = absurd (cc)
   assign_does (Some (Variable v)) find e reaches runs n texts = assign_runs ask k code setting.valid bound v (find Elementary K) (reaches (Variable v) refl) (value_code e) (eval e K) (means e runs)
@@ -141,7 +142,7 @@ module _ (ask : Ask) (k : Tables) (code : Code) (setting : Setting k code) (call
       (record_does ask k code setting call default constants t known bound calls x y to.selectors from.selectors h.0 g.0))
 
   called_does : (f : ℕ) (actuals : List Actual) → Performs (call_code f (map actual_code actuals)) (call_doing f (map supply actuals))
-  called_does f actuals runs n texts = call_does ask k code setting call default bound calls f (map actual_code actuals) (map supply actuals) (actuals_pass ask k code setting call default actuals runs)
+  called_does f actuals runs n texts = call_does ask k code setting call default bound calls f (map actual_code actuals) (map supply actuals) (λ w0. actuals_mean ask k code setting call default bound calls w0 actuals runs)
 
   -- one step to where control lands
   exits : DoesIn 1 ask k code bound leaves_code (λ d caught. leave_by ByExit)
@@ -156,14 +157,14 @@ module _ (ask : Ask) (k : Tables) (code : Code) (setting : Setting k code) (call
   return_does : (o : Option Expr) → Performs (return (option_map value_code o)) (return_doing (option_map eval o))
   unfolding return_doing opened_outcome
   return_does None runs n texts = λ a w0 d place ks ops c l w le fits sees has. last_step ask code (Kept k code w0) 0 0 _ c 1 (arrives (lands a place) d (place + 1) ks ops) (Leaves (ByReturn [])) l w (omega arith) fits (by_code ask code d place ks ops l w (InstrOf.Transfer WayOf.Return) has.0)
-  return_does (Some e) runs n texts = absurd (cc)
+  return_does (Some e) runs n texts = return_runs ask k code bound (value_type (value_code e)) (value_code e) (eval e K) (means e (both_true _ _ runs).1)
 
   stmt_rolled : (y : Stmt-F StmtToo ArmToo HandlerToo MasterToo) → Does (roll-Stmt (bare_stmt y))
   unfolding null_doing put put_line new_line raise_new raise_again loop_plainly loop_while loop_for opened_outcome
   stmt_rolled Stmt-F.Null = does Stmt-F.Null _ _ (statement_roll Stmt-F.Null) (exec_roll Stmt-F.Null) (λ runs n texts a w0 d place ks ops c l w le fits sees has. S.still_there ask k code setting call default constants bound calls 1 (lands a place) w0 d place ks ops c l w fits)
-  stmt_rolled (Stmt-F.Assign x e) = does (Stmt-F.Assign x e) _ _ (statement_roll (Stmt-F.Assign x e)) (exec_roll (Stmt-F.Assign x e)) (assign_does (reached_by x) (eval_name x) e (name_finds ask k code setting.places call default (λ w. Fits k code w) (no_copy_at k code) x))
-  stmt_rolled (Stmt-F.Put ps) = does (Stmt-F.Put ps) _ _ (statement_roll (Stmt-F.Put ps)) (exec_roll (Stmt-F.Put ps)) (λ runs n texts. print_runs ask k code setting.places call default bound false ps runs n texts)
-  stmt_rolled (Stmt-F.PutLine ps) = does (Stmt-F.PutLine ps) _ _ (statement_roll (Stmt-F.PutLine ps)) (exec_roll (Stmt-F.PutLine ps)) (λ runs n texts. print_runs ask k code setting.places call default bound true ps runs n texts)
+  stmt_rolled (Stmt-F.Assign x e) = does (Stmt-F.Assign x e) _ _ (statement_roll (Stmt-F.Assign x e)) (exec_roll (Stmt-F.Assign x e)) (assign_does (reached_by x) (eval_name x) e (name_finds K x))
+  stmt_rolled (Stmt-F.Put ps) = does (Stmt-F.Put ps) _ _ (statement_roll (Stmt-F.Put ps)) (exec_roll (Stmt-F.Put ps)) (λ runs n texts. print_runs ask k code setting call default bound calls false ps runs n texts)
+  stmt_rolled (Stmt-F.PutLine ps) = does (Stmt-F.PutLine ps) _ _ (statement_roll (Stmt-F.PutLine ps)) (exec_roll (Stmt-F.PutLine ps)) (λ runs n texts. print_runs ask k code setting call default bound calls true ps runs n texts)
   stmt_rolled Stmt-F.NewLine = does Stmt-F.NewLine _ _ (statement_roll Stmt-F.NewLine) (exec_roll Stmt-F.NewLine) (λ runs n texts a w0 d place ks ops c l w le fits sees has. last_step ask code (Kept k code w0) 0 0 _ c 1 (arrives (lands a place) d (place + 1) ks ops) (Goes tt) (tell Newline l) w (omega arith) fits (by_code ask code d place ks ops l w InstrOf.NewLine has.0))
   stmt_rolled (Stmt-F.Exit o) = does (Stmt-F.Exit o) _ _ (statement_roll (Stmt-F.Exit o)) (exec_roll (Stmt-F.Exit o)) (exit_does o)
   stmt_rolled (Stmt-F.Raise e) = does (Stmt-F.Raise e) _ _ (statement_roll (Stmt-F.Raise e)) (exec_roll (Stmt-F.Raise e)) (λ runs n texts a w0 d place ks ops c l w le fits sees has. last_step ask code (Kept k code w0) 0 0 _ c 1 (arrives (lands a place) d (place + 1) ks ops) (Leaves (ByRaise e)) l w (omega arith) fits (by_code ask code d place ks ops l w (InstrOf.Transfer (WayOf.Raise e)) has.0))

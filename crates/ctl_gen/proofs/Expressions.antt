@@ -1,5 +1,5 @@
 -- The code of an expression puts the expression's value where it is wanted, or leaves the statement. An expression is an act that gives one
--- cell: nothing else is said of what it does.
+-- cell, in the worlds that fit and with no more than the bound on the clock: nothing else is said of what it does.
 use Rattle.std.proofs.Common.{◌≡◌, ℕ, ◌+◌, ◌≤◌, List, [], ◌∷◌, ◌++◌, length, Option, Some, None, Bool, true, false, refl, sym, ap, ◌∙◌, subst, arith, length-append}
 use Rattle.std.specs.Prelude.{slice_get}
 use Rattle.ctl_program.specs.declared.types.Ty.{Ty}
@@ -12,7 +12,7 @@ use Rattle.ctl_meaning.specs.Lists.{opened_lists}
 use Rattle.ctl_meaning.specs.Objects.{first_cells}
 use Rattle.ctl_meaning.specs.Activations.{master_of}
 use Rattle.ctl_meaning.specs.Choice.{Ask}
-use Rattle.ctl_meaning.specs.Outcome.{constraint_error, Way, ByRaise, Result, Goes, Leaves, Out, Gives, Stops, Cut, Act, add, bind, on_goes, ◌>>=◌, done, ticked, either, opened_outcome}
+use Rattle.ctl_meaning.specs.Outcome.{constraint_error, ByRaise, Result, Goes, Leaves, Out, Gives, Stops, Cut, Act, add, bind, on_goes, ◌>>=◌, done, ticked, either, opened_outcome}
 use Rattle.ctl_meaning.specs.Numbers.{unary, binary}
 use Rattle.ctl_meaning.specs.Types.{Tables, cells_of}
 use Rattle.ctl_meaning.specs.Names.{Found, InVariable, scalar_of, read_found, or_constraint_error, opened_names}
@@ -38,64 +38,56 @@ use Rattle.ctl_layout.specs.Values.{unary as unary_value_code}
 use Rattle.ctl_gen.proofs.Known.{IsScalar}
 use Rattle.ctl_gen.proofs.Values.{scalar_cells}
 use Rattle.ctl_gen.proofs.Place.{Laid, laid_front, laid_back}
-use Rattle.ctl_gen.proofs.Cells.{here, by_code, landed, landed_leaves, put_is, waiting, Stays, held_in, taking_is, value_of, cell_is, IsCell, Any}
-use Rattle.ctl_gen.proofs.Worth.{cell_less, cell_later, cell_then, cell_always, both_cell, then_paid}
-use Rattle.ctl_gen.proofs.Follow.{Runs, at, transferred, added, within, one_step, last_step, no_step, arriving, bind_add}
+use Rattle.ctl_gen.proofs.Cells.{here, by_code, landed, landed_leaves, put_is, waiting, Stays, held_in, taking_is, value_of, cell_is, OneCell, Any}
+use Rattle.ctl_gen.proofs.Worth.{both_cell, then_paid}
+use Rattle.ctl_gen.proofs.Follow.{RunsTo, at, transferred, added_to, within_to, one_step_to, last_step_to, no_step_to, arriving_to, weaker_to, bind_add}
 
-module _ (ask : Ask) (k : Tables) (code : Code) (Fits : World → Type 0) where
-  abbrev Kept : Option Way → World → Type 0
-  Kept y w = Fits w
+-- what finds an elementary variable, in one tick
+abbrev pub Uses : Var → (List ℕ → Act Found) → Type 0
+Uses x find = (d : List ℕ) (c : ℕ) (l : Log) (w : World) → find d c l w ≡ Gives (Goes (InVariable (master_of d x) x.slot)) 1 c l w
 
-  -- an evaluation whose first tick pays all but eight of its steps
+module _ (ask : Ask) (k : Tables) (code : Code) (bound : ℕ) (Fits : World → Type 0) where
+  -- an evaluation gives one cell in a world that fits, of which this is true, or raises
+  abbrev pub Gets : (ℕ → World → Type 0) → ℕ → ℕ → State → ℕ → (Result (List ℕ) → Log → World → State) → Out (List ℕ) → Type 0
+  Gets P b h s c next o = RunsTo ask code (OneCell Fits P) b h s c next o
+
+  -- one whose first tick pays all but eight of its steps
   pub record Begins (P : ℕ → World → Type 0) (s : State) (c : ℕ) (next : Result (List ℕ) → Log → World → State) (o : Out (List ℕ)) : Type 0 where
     pub out : Out (List ℕ)
     pub is : o ≡ add 1 out
-    pub cells : IsCell P out
-    pub runs : Runs ask code Kept 8 8 s c next out
+    pub runs : Gets P 8 8 s c next out
 
   -- the code of an expression does what it means, wherever it stands and its value is wanted; and so does an operator that takes it
   pub record Value (x : ValueCode) (act : List ℕ → Act (List ℕ)) : Type 0 where
-    pub cell : (d : List ℕ) (c : ℕ) (l : Log) (w : World) → IsCell Any (act d c l w)
-    pub begins : (to : Cell) (ty : Ty) (s : List Kind) (d : List ℕ) (place : ℕ) (ks : List Frame) (ops : List Word) (c : ℕ) (l : Log) (w : World) → Fits w → length d ≡ depth s → Laid code place (x.code to ty s) → Begins Any (at d place ks ops l w) c (landed to.named d (place + length (x.code to ty s)) ks ops) (act d c l w)
+    pub begins : (to : Cell) (ty : Ty) (s : List Kind) (d : List ℕ) (place : ℕ) (ks : List Frame) (ops : List Word) (c : ℕ) (l : Log) (w : World) → c ≤ bound → Fits w → length d ≡ depth s → Laid code place (x.code to ty s) → Begins Any (at d place ks ops l w) c (landed to.named d (place + length (x.code to ty s)) ks ops) (act d c l w)
     pub constant : (n : ℕ) → x.right ≡ RightOf.Constant n → (d : List ℕ) (c : ℕ) (l : Log) (w : World) → act d c l w ≡ Gives (Goes (n ∷ [])) 1 c l w
     pub variable : (y : Var) → x.right ≡ RightOf.Variable y → (d : List ℕ) (c : ℕ) (l : Log) (w : World) → act d c l w ≡ Gives (Goes (value_of d y w ∷ [])) 2 c l w
 
   -- Results -----------------------------------------------------------------------------------------
 
-  result_cell : (x : Option ℕ) (c : ℕ) (l : Log) (w : World) → IsCell Any (or_constraint_error x c l w)
-  unfolding opened_names opened_outcome
-  result_cell None c l w = tt
-  result_cell (Some n) c l w = (n, refl, tt)
-
   -- a result, or Constraint_Error
-  result_runs : (x : Option ℕ) (to : Named) (d : List ℕ) (place : ℕ) (ks : List Frame) (ops : List Word) (c : ℕ) (l : Log) (w : World) (s0 : State) → Fits w → step ask code s0 ≡ moved l (by_result x to ops (here d place ks w)) → Runs ask code Kept 1 1 s0 c (landed to d (place + 1) ks ops) (or_constraint_error x c l w)
+  result_runs : (x : Option ℕ) (to : Named) (d : List ℕ) (place : ℕ) (ks : List Frame) (ops : List Word) (c : ℕ) (l : Log) (w : World) (s0 : State) → Fits w → step ask code s0 ≡ moved l (by_result x to ops (here d place ks w)) → Gets Any 1 1 s0 c (landed to d (place + 1) ks ops) (or_constraint_error x c l w)
   unfolding opened_names opened_outcome
-  result_runs None to d place ks ops c l w s0 fits first = last_step ask code Kept 1 1 s0 c 0 (landed to d (place + 1) ks ops) (Leaves (ByRaise constraint_error)) l w (omega arith) fits (first ∙ landed_leaves to d (place + 1) ks ops (ByRaise constraint_error) l w)
-  result_runs (Some n) to d place ks ops c l w s0 fits first = last_step ask code Kept 1 1 s0 c 0 (landed to d (place + 1) ks ops) (Goes (n ∷ [])) l w (omega arith) fits (first ∙ put_is to n d place ks ops l w)
+  result_runs None to d place ks ops c l w s0 fits first = last_step_to ask code (OneCell Fits Any) 1 1 s0 c 0 (landed to d (place + 1) ks ops) (Leaves (ByRaise constraint_error)) l w (omega arith) (fits, tt) (first ∙ landed_leaves to d (place + 1) ks ops (ByRaise constraint_error) l w)
+  result_runs (Some n) to d place ks ops c l w s0 fits first = last_step_to ask code (OneCell Fits Any) 1 1 s0 c 0 (landed to d (place + 1) ks ops) (Goes (n ∷ [])) l w (omega arith) (fits, (n, refl, tt)) (first ∙ put_is to n d place ks ops l w)
 
   -- what leaves an operand leaves the expression
-  leaves_it : (b h : ℕ) (to : Named) (d : List ℕ) (place : ℕ) (ks : List Frame) (ops : List Word) (y : Way) (c : ℕ) (l : Log) (w : World) → Fits w → Runs ask code Kept b h (transferred y ks l w) c (landed to d place ks ops) (Gives (Leaves y) 0 c l w)
-  leaves_it b h to d place ks ops y c l w fits = no_step ask code Kept b h _ c 0 (landed to d place ks ops) (Leaves y) l w fits (landed_leaves to d place ks ops y l w)
+  leaves_it : (b h : ℕ) (to : Named) (d : List ℕ) (place : ℕ) (ks : List Frame) (ops : List Word) (y c : ℕ) (l : Log) (w : World) → Fits w → Gets Any b h (transferred (ByRaise y) ks l w) c (landed to d place ks ops) (Gives (Leaves (ByRaise y)) 0 c l w)
+  leaves_it b h to d place ks ops y c l w fits = no_step_to ask code (OneCell Fits Any) b h _ c 0 (landed to d place ks ops) (Leaves (ByRaise y)) l w (fits, tt) (landed_leaves to d place ks ops (ByRaise y) l w)
 
   -- Constants and variables -------------------------------------------------------------------------
 
   pub constant_value : (n : ℕ) → Value (constant n) (λ d. ticked (done (n ∷ [])))
   unfolding opened_outcome
   constant_value n = record {
-    cell = λ d c l w. (n, refl, tt);
-    begins = λ to ty s d place ks ops c l w fits long has. record {
+    begins = λ to ty s d place ks ops c l w le fits long has. record {
       out = Gives (Goes (n ∷ [])) 0 c l w;
       is = refl;
-      cells = (n, refl, tt);
-      runs = last_step ask code Kept 8 8 _ c 0 (landed to.named d (place + 1) ks ops) (Goes (n ∷ [])) l w (omega arith) fits (by_code ask code d place ks ops l w (InstrOf.Set n ty to) has.0 ∙ put_is to.named n d place ks ops l w);
+      runs = last_step_to ask code (OneCell Fits Any) 8 8 _ c 0 (landed to.named d (place + 1) ks ops) (Goes (n ∷ [])) l w (omega arith) (fits, (n, refl, tt)) (by_code ask code d place ks ops l w (InstrOf.Set n ty to) has.0 ∙ put_is to.named n d place ks ops l w);
     };
     constant = λ m is d c l w. let same : n ≡ m = cc in ap (λ a. Gives (Goes (a ∷ [])) 1 c l w) same;
     variable = λ y is d c l w. absurd (cc);
   }
-
-  -- what finds an elementary variable, in one tick
-  abbrev pub Uses : Var → (List ℕ → Act Found) → Type 0
-  Uses x find = (d : List ℕ) (c : ℕ) (l : Log) (w : World) → find d c l w ≡ Gives (Goes (InVariable (master_of d x) x.slot)) 1 c l w
 
   reads_it : (x : Var) (find : List ℕ → Act Found) → Uses x find → (ty : Ty) → IsScalar ty → (d : List ℕ) (c : ℕ) (l : Log) (w : World) → ticked (find d >>= read_found (cells_of k ty)) c l w ≡ Gives (Goes (value_of d x w ∷ [])) 2 c l w
   unfolding opened_outcome read_found first_cells
@@ -111,12 +103,10 @@ module _ (ask : Ask) (k : Tables) (code : Code) (Fits : World → Type 0) where
   pub read_value : (x : Var) (find : List ℕ → Act Found) → Uses x find → (ty : Ty) → IsScalar ty → Value (read (Some (Parts.Variable x)) ty) (λ d. ticked (find d >>= read_found (cells_of k ty)))
   unfolding opened_outcome
   read_value x find uses ty scalar = record {
-    cell = λ d c l w. subst (IsCell Any) (sym (reads_it x find uses ty scalar d c l w)) (value_of d x w, refl, tt);
-    begins = λ to t s d place ks ops c l w fits long has. record {
+    begins = λ to t s d place ks ops c l w le fits long has. record {
       out = Gives (Goes (value_of d x w ∷ [])) 1 c l w;
       is = reads_it x find uses ty scalar d c l w;
-      cells = (value_of d x w, refl, tt);
-      runs = last_step ask code Kept 8 8 _ c 1 (landed to.named d (place + 1) ks ops) (Goes (value_of d x w ∷ [])) l w (omega arith) fits (read_step (local_at s x) x t to s d place ks ops l w long has.0);
+      runs = last_step_to ask code (OneCell Fits Any) 8 8 _ c 1 (landed to.named d (place + 1) ks ops) (Goes (value_of d x w ∷ [])) l w (omega arith) (fits, (value_of d x w, refl, tt)) (read_step (local_at s x) x t to s d place ks ops l w long has.0);
     };
     constant = λ n is d c l w. absurd (cc);
     variable = λ y is d c l w. let same : x ≡ y = cc in reads_it x find uses ty scalar d c l w ∙ ap (λ (z : Var). Gives (Goes (value_of d z w ∷ [])) 2 c l w) same;
@@ -141,10 +131,18 @@ module _ (ask : Ask) (k : Tables) (code : Code) (Fits : World → Type 0) where
   abbrev pub Holds : Held → (ℕ → World → Type 0) → (List ℕ → Act (List ℕ)) → List ℕ → ℕ → List Frame → List Word → ℕ → Log → World → Type 0
   Holds h P act d place ks ops c l w = Begins P (at d place ks ops l w) c (held_in h.cell.named d (place + length h.code) ks ops) (act d c l w)
 
-  evaluated_holds : (x : ValueCode) (act : List ℕ → Act (List ℕ)) → Value x act → (ty : Ty) (s : List Kind) (d : List ℕ) (place : ℕ) (ks : List Frame) (ops : List Word) (c : ℕ) (l : Log) (w : World) → Fits w → length d ≡ depth s → Laid code place (evaluated x ty s).code → Holds (evaluated x ty s) Any act d place ks ops c l w
-  evaluated_holds x act value ty s d place ks ops c l w fits long has =
-      let y = value.begins (new_operand s) ty s d place ks ops c l w fits long has in
-      record { out = y.out; is = y.is; cells = y.cells; runs = arriving ask code Kept 8 8 _ c _ _ y.out same y.runs }
+  -- less is true of it
+  holds_less : (P Q : ℕ → World → Type 0) → ((n : ℕ) (w : World) → P n w → Q n w) → (s : State) (c : ℕ) (next : Result (List ℕ) → Log → World → State) (o : Out (List ℕ)) → Begins P s c next o → Begins Q s c next o
+  holds_less P Q f s c next o y = record { out = y.out; is = y.is; runs = weaker_to ask code (OneCell Fits P) (OneCell Fits Q) 8 8 s c next y.out by y.runs }
+    where
+      by : (r : Result (List ℕ)) (w : World) → OneCell Fits P r w → OneCell Fits Q r w
+      by (Goes u) w h = (h.0, (h.1.0, h.1.1, f h.1.0 w h.1.2))
+      by (Leaves y) w h = h
+
+  evaluated_holds : (x : ValueCode) (act : List ℕ → Act (List ℕ)) → Value x act → (ty : Ty) (s : List Kind) (d : List ℕ) (place : ℕ) (ks : List Frame) (ops : List Word) (c : ℕ) (l : Log) (w : World) → c ≤ bound → Fits w → length d ≡ depth s → Laid code place (evaluated x ty s).code → Holds (evaluated x ty s) Any act d place ks ops c l w
+  evaluated_holds x act value ty s d place ks ops c l w le fits long has =
+      let y = value.begins (new_operand s) ty s d place ks ops c l w le fits long has in
+      record { out = y.out; is = y.is; runs = arriving_to ask code (OneCell Fits Any) 8 8 _ c _ _ y.out same y.runs }
     where
       q : ℕ
       q = place + length (x.code (new_operand s) ty s)
@@ -154,58 +152,61 @@ module _ (ask : Ask) (k : Tables) (code : Code) (Fits : World → Type 0) where
       same (Leaves y) l1 w1 = refl
 
   -- a variable: what is true of the world stays so
-  variable_holds : (x : ValueCode) (act : List ℕ → Act (List ℕ)) → Value x act → (v : Var) → x.right ≡ RightOf.Variable v → (P : World → Type 0) (at' : Option ℕ) (ty : Ty) (s : List Kind) (d : List ℕ) (place : ℕ) (ks : List Frame) (ops : List Word) (c : ℕ) (l : Log) (w : World) → Fits w → P w → length d ≡ depth s → Laid code place (in_cell at' v x ty s).code → Holds (in_cell at' v x ty s) (λ n w1. Stays (in_cell at' v x ty s).cell.named n d w1 × P w1) act d place ks ops c l w
+  variable_holds : (x : ValueCode) (act : List ℕ → Act (List ℕ)) → Value x act → (v : Var) → x.right ≡ RightOf.Variable v → (P : World → Type 0) (at' : Option ℕ) (ty : Ty) (s : List Kind) (d : List ℕ) (place : ℕ) (ks : List Frame) (ops : List Word) (c : ℕ) (l : Log) (w : World) → c ≤ bound → Fits w → P w → length d ≡ depth s → Laid code place (in_cell at' v x ty s).code → Holds (in_cell at' v x ty s) (λ n w1. Stays (in_cell at' v x ty s).cell.named n d w1 × P w1) act d place ks ops c l w
   unfolding add
-  variable_holds x act value v is P (Some n) ty s d place ks ops c l w fits true_of long has =
+  variable_holds x act value v is P (Some n) ty s d place ks ops c l w le fits true_of long has =
       let e : place ≡ place + 0 = omega arith in
       record {
         out = Gives (Goes (value_of d v w ∷ [])) 1 c l w;
         is = value.variable v is d c l w;
-        cells = (value_of d v w, refl, (cell_is d s v w long, true_of));
-        runs = no_step ask code Kept 8 8 _ c 1 (held_in (Variable (out_to s v) v.slot) d (place + 0) ks ops) (Goes (value_of d v w ∷ [])) l w fits (ap (λ p. at d p ks ops l w) e);
+        runs = no_step_to ask code (OneCell Fits (λ m w1. Stays (Variable (out_to s v) v.slot) m d w1 × P w1)) 8 8 _ c 1 (held_in (Variable (out_to s v) v.slot) d (place + 0) ks ops) (Goes (value_of d v w ∷ [])) l w (fits, (value_of d v w, refl, (cell_is d s v w long, true_of))) (ap (λ p. at d p ks ops l w) e);
       }
-  variable_holds x act value v is P None ty s d place ks ops c l w fits true_of long has =
-      let y = evaluated_holds x act value ty s d place ks ops c l w fits long has in
-      record { out = y.out; is = y.is; cells = subst (IsCell (λ n w1. Unit {0} × P w1)) (sym (one_less y.out (value_of d v w) c l w (sym y.is ∙ value.variable v is d c l w))) (value_of d v w, refl, (tt, true_of)); runs = y.runs }
+  variable_holds x act value v is P None ty s d place ks ops c l w le fits true_of long has =
+      let y = evaluated_holds x act value ty s d place ks ops c l w le fits long has in
+      let e = one_less y.out (value_of d v w) c l w (sym y.is ∙ value.variable v is d c l w) in
+      let next = held_in Operand d (place + length (evaluated x ty s).code) ks ops in
+      let z = subst (λ o. Gets Any 8 8 (at d place ks ops l w) c next o) e y.runs in
+      record {
+        out = Gives (Goes (value_of d v w ∷ [])) 1 c l w;
+        is = value.variable v is d c l w;
+        runs = record { n = z.n; falls = z.falls; enough = z.enough; in_time = z.in_time; comes = z.comes; fits = (z.fits.0, (value_of d v w, refl, (tt, true_of))) };
+      }
 
   -- an operand stays where it is, or is evaluated
-  pub held_holds : (r : Right) (x : ValueCode) (act : List ℕ → Act (List ℕ)) → x.right ≡ r → Value x act → (ty : Ty) (s : List Kind) (d : List ℕ) (place : ℕ) (ks : List Frame) (ops : List Word) (c : ℕ) (l : Log) (w : World) → Fits w → length d ≡ depth s → Laid code place (held_by r x ty s).code → Holds (held_by r x ty s) (λ n w1. Stays (held_by r x ty s).cell.named n d w1) act d place ks ops c l w
-  held_holds (RightOf.Constant m) x act is value ty s d place ks ops c l w fits long has = evaluated_holds x act value ty s d place ks ops c l w fits long has
-  held_holds RightOf.Evaluated x act is value ty s d place ks ops c l w fits long has = evaluated_holds x act value ty s d place ks ops c l w fits long has
-  held_holds (RightOf.Variable v) x act is value ty s d place ks ops c l w fits long has =
-      let y = variable_holds x act value v is (λ w1. Unit {0}) (local_at s v) ty s d place ks ops c l w fits tt long has in
-      record { out = y.out; is = y.is; cells = cell_less (λ n w1. Stays (in_cell (local_at s v) v x ty s).cell.named n d w1 × Unit {0}) (λ n w1. Stays (in_cell (local_at s v) v x ty s).cell.named n d w1) (λ n w1 h. h.0) y.out y.cells; runs = y.runs }
+  pub held_holds : (r : Right) (x : ValueCode) (act : List ℕ → Act (List ℕ)) → x.right ≡ r → Value x act → (ty : Ty) (s : List Kind) (d : List ℕ) (place : ℕ) (ks : List Frame) (ops : List Word) (c : ℕ) (l : Log) (w : World) → c ≤ bound → Fits w → length d ≡ depth s → Laid code place (held_by r x ty s).code → Holds (held_by r x ty s) (λ n w1. Stays (held_by r x ty s).cell.named n d w1) act d place ks ops c l w
+  held_holds (RightOf.Constant m) x act is value ty s d place ks ops c l w le fits long has = evaluated_holds x act value ty s d place ks ops c l w le fits long has
+  held_holds RightOf.Evaluated x act is value ty s d place ks ops c l w le fits long has = evaluated_holds x act value ty s d place ks ops c l w le fits long has
+  held_holds (RightOf.Variable v) x act is value ty s d place ks ops c l w le fits long has =
+      holds_less (λ n w1. Stays (in_cell (local_at s v) v x ty s).cell.named n d w1 × Unit {0}) (λ n w1. Stays (in_cell (local_at s v) v x ty s).cell.named n d w1) (λ n w1 h. h.0) _ c _ _ (variable_holds x act value v is (λ w1. Unit {0}) (local_at s v) ty s d place ks ops c l w le fits tt long has)
 
   -- what follows an operand that is held
-  pub held_then : {B : Type 0} (h : Held) (P : ℕ → World → Type 0) (act : List ℕ → Act (List ℕ)) (d : List ℕ) (place : ℕ) (ks : List Frame) (ops : List Word) (c : ℕ) (l : Log) (w : World) (next : Result B → Log → World → State) (f : Result (List ℕ) → Act B) → Holds h P act d place ks ops c l w → ((n c1 : ℕ) (l1 : Log) (w1 : World) → c1 ≤ c → Fits w1 → P n w1 → Runs ask code Kept 8 8 (at d (place + length h.code) ks (waiting h.cell.named n ops) l1 w1) c1 next (f (Goes (n ∷ [])) c1 l1 w1)) → ((y c1 : ℕ) (l1 : Log) (w1 : World) → c1 ≤ c → Fits w1 → Runs ask code Kept 8 8 (transferred (ByRaise y) ks l1 w1) c1 next (f (Leaves (ByRaise y)) c1 l1 w1)) → Runs ask code Kept 0 0 (at d place ks ops l w) c next (bind (act d c l w) f)
+  pub held_then : {B : Type 0} (Ends : Result B → World → Type 0) (h : Held) (P : ℕ → World → Type 0) (act : List ℕ → Act (List ℕ)) (d : List ℕ) (place : ℕ) (ks : List Frame) (ops : List Word) (c : ℕ) (l : Log) (w : World) (next : Result B → Log → World → State) (f : Result (List ℕ) → Act B) → Holds h P act d place ks ops c l w → ((n c1 : ℕ) (l1 : Log) (w1 : World) → c1 ≤ c → Fits w1 → P n w1 → RunsTo ask code Ends 8 8 (at d (place + length h.code) ks (waiting h.cell.named n ops) l1 w1) c1 next (f (Goes (n ∷ [])) c1 l1 w1)) → ((y c1 : ℕ) (l1 : Log) (w1 : World) → c1 ≤ c → Fits w1 → RunsTo ask code Ends 8 8 (transferred (ByRaise y) ks l1 w1) c1 next (f (Leaves (ByRaise y)) c1 l1 w1)) → RunsTo ask code Ends 0 0 (at d place ks ops l w) c next (bind (act d c l w) f)
   unfolding scalar_of opened_lists
-  held_then h P act d place ks ops c l w next f x goes leaves = then_paid ask code Kept P _ c (held_in h.cell.named d (place + length h.code) ks ops) next (act d c l w) x.out f x.is x.cells x.runs goes leaves
+  held_then Ends h P act d place ks ops c l w next f x goes leaves = then_paid ask code Fits Ends P _ c (held_in h.cell.named d (place + length h.code) ks ops) next (act d c l w) x.out f x.is x.runs goes leaves
 
   -- Operators with one operand ----------------------------------------------------------------------
 
   pub unary_value : (op : UnaryOp) (ty : Ty) (x : ValueCode) (act : List ℕ → Act (List ℕ)) → Value x act → Value (unary_value_code op ty x) (λ d. ticked (act d >>= (λ u. or_constraint_error (unary op ty (scalar_of u)))))
   unfolding opened_outcome scalar_of opened_lists
   unary_value op ty x act value = record {
-    cell = λ d c l w. cell_later Any 1 _ (cell_always Any Any (act d c l w) (λ u. or_constraint_error (unary op ty (scalar_of u))) (value.cell d c l w) (λ u c1 l1 w1. result_cell (unary op ty (scalar_of u)) c1 l1 w1));
-    begins = λ to t s d place ks ops c l w fits long has.
+    begins = λ to t s d place ks ops c l w le fits long has.
         let h = held x ty s in
         let e : place + length h.code + 1 ≡ place + length (unary_code op ty to h) = omega (arith, length-append h.code ((InstrOf.Unary op ty h.cell to, h.after) ∷ [])) in
-        let first = held_holds x.right x act refl value ty s d place ks ops c l w fits long (laid_front code place h.code ((InstrOf.Unary op ty h.cell to, h.after) ∷ []) has) in
+        let first = held_holds x.right x act refl value ty s d place ks ops c l w le fits long (laid_front code place h.code ((InstrOf.Unary op ty h.cell to, h.after) ∷ []) has) in
         let there = (laid_back code place h.code ((InstrOf.Unary op ty h.cell to, h.after) ∷ []) has).0 in
         record {
           out = (act d >>= (λ u. or_constraint_error (unary op ty (scalar_of u)))) c l w;
           is = refl;
-          cells = cell_always Any Any (act d c l w) (λ u. or_constraint_error (unary op ty (scalar_of u))) (value.cell d c l w) (λ u c1 l1 w1. result_cell (unary op ty (scalar_of u)) c1 l1 w1);
           runs =
-              within ask code Kept 0 0 8 8 _ c _ _ (omega arith) (omega arith)
-              (held_then h (λ n w1. Stays h.cell.named n d w1) act d place ks ops c l w (landed to.named d (place + length (unary_code op ty to h)) ks ops) (on_goes (λ u. or_constraint_error (unary op ty (scalar_of u)))) first
+              within_to ask code (OneCell Fits Any) 0 0 8 8 _ c _ _ (omega arith) (omega arith)
+              (held_then (OneCell Fits Any) h (λ n w1. Stays h.cell.named n d w1) act d place ks ops c l w (landed to.named d (place + length (unary_code op ty to h)) ks ops) (on_goes (λ u. or_constraint_error (unary op ty (scalar_of u)))) first
               (λ n c1 l1 w1 lo fits1 p.
-              within ask code Kept 1 1 8 8 _ c1 _ _ (omega arith) (omega arith)
-              (subst (λ q. Runs ask code Kept 1 1 (at d (place + length h.code) ks (waiting h.cell.named n ops) l1 w1) c1 (landed to.named d q ks ops) (or_constraint_error (unary op ty n) c1 l1 w1)) e
+              within_to ask code (OneCell Fits Any) 1 1 8 8 _ c1 _ _ (omega arith) (omega arith)
+              (subst (λ q. Gets Any 1 1 (at d (place + length h.code) ks (waiting h.cell.named n ops) l1 w1) c1 (landed to.named d q ks ops) (or_constraint_error (unary op ty n) c1 l1 w1)) e
               (result_runs (unary op ty n) to.named d (place + length h.code) ks ops c1 l1 w1 _ fits1
               (by_code ask code d (place + length h.code) ks (waiting h.cell.named n ops) l1 w1 (InstrOf.Unary op ty h.cell to) there
               ∙ ap (moved l1) (taking_is h.cell.named n (λ y rest. by_result (unary op ty y) to.named rest (here d (place + length h.code) ks w1)) ops d (place + length h.code) ks w1 p)))))
-              (λ y c1 l1 w1 lo fits1. leaves_it 8 8 to.named d (place + length (unary_code op ty to h)) ks ops (ByRaise y) c1 l1 w1 fits1));
+              (λ y c1 l1 w1 lo fits1. leaves_it 8 8 to.named d (place + length (unary_code op ty to h)) ks ops y c1 l1 w1 fits1));
         };
     constant = λ n is d c l w. absurd (cc);
     variable = λ y is d c l w. absurd (cc);
@@ -221,63 +222,57 @@ module _ (ask : Ask) (k : Tables) (code : Code) (Fits : World → Type 0) where
   MayStay (Variable out slot) RightOf.Evaluated = ⊥
 
   -- an operator goes on from a left operand, wherever that is held
-  pub record Further (o : OperatorCode) (more : List ℕ → List ℕ → Act (List ℕ)) : Type 0 where
-    pub cells : (n : ℕ) (d : List ℕ) (c : ℕ) (l : Log) (w : World) → IsCell Any (more d (n ∷ []) c l w)
-    pub runs : (left : Cell) (ty : Ty) (to : Cell) (s : List Kind) → MayStay left.named o.right.right → (n : ℕ) (d : List ℕ) (place : ℕ) (ks : List Frame) (ops : List Word) (c : ℕ) (l : Log) (w : World) → Fits w → length d ≡ depth s → Stays left.named n d w → Laid code place (operator_code o left ty to s) → Runs ask code Kept 0 0 (at d place ks (waiting left.named n ops) l w) c (landed to.named d (place + length (operator_code o left ty to s)) ks ops) (more d (n ∷ []) c l w)
+  abbrev pub Further : OperatorCode → (List ℕ → List ℕ → Act (List ℕ)) → Type 0
+  Further o more = (left : Cell) (ty : Ty) (to : Cell) (s : List Kind) → MayStay left.named o.right.right → (n : ℕ) (d : List ℕ) (place : ℕ) (ks : List Frame) (ops : List Word) (c : ℕ) (l : Log) (w : World) → c ≤ bound → Fits w → length d ≡ depth s → Stays left.named n d w → Laid code place (operator_code o left ty to s) → Gets Any 0 0 (at d place ks (waiting left.named n ops) l w) c (landed to.named d (place + length (operator_code o left ty to s)) ks ops) (more d (n ∷ []) c l w)
 
   abbrev combined : OperatorCode → (List ℕ → Act (List ℕ)) → List ℕ → List ℕ → Act (List ℕ)
   combined o act d u = ticked (act d >>= (λ z. or_constraint_error (binary o.op o.ty (scalar_of u) (scalar_of z))))
 
   -- the operator, behind its right operand
-  binary_runs : (o : OperatorCode) (act : List ℕ → Act (List ℕ)) (left : Cell) (ty : Ty) (to : Cell) (h : Held) (n : ℕ) (d : List ℕ) (place : ℕ) (ks : List Frame) (ops : List Word) (c : ℕ) (l : Log) (w : World) → Fits w → Laid code place (binary_code o left ty to h) → Holds h (λ m w1. Stays h.cell.named m d w1 × Stays left.named n d w1) act d place ks (waiting left.named n ops) c l w → Runs ask code Kept 0 0 (at d place ks (waiting left.named n ops) l w) c (landed to.named d (place + length (binary_code o left ty to h)) ks ops) (combined o act d (n ∷ []) c l w)
+  binary_runs : (o : OperatorCode) (act : List ℕ → Act (List ℕ)) (left : Cell) (ty : Ty) (to : Cell) (h : Held) (n : ℕ) (d : List ℕ) (place : ℕ) (ks : List Frame) (ops : List Word) (c : ℕ) (l : Log) (w : World) → Laid code place (binary_code o left ty to h) → Holds h (λ m w1. Stays h.cell.named m d w1 × Stays left.named n d w1) act d place ks (waiting left.named n ops) c l w → Gets Any 0 0 (at d place ks (waiting left.named n ops) l w) c (landed to.named d (place + length (binary_code o left ty to h)) ks ops) (combined o act d (n ∷ []) c l w)
   unfolding opened_outcome scalar_of opened_lists
-  binary_runs o act left ty to h n d place ks ops c l w fits has first =
+  binary_runs o act left ty to h n d place ks ops c l w has first =
       let e : place + length h.code + 1 ≡ place + length (binary_code o left ty to h) = omega (arith, length-append h.code ((InstrOf.Binary (operator_for o ty) left h.cell to, h.after) ∷ [])) in
       let there = (laid_back code place h.code ((InstrOf.Binary (operator_for o ty) left h.cell to, h.after) ∷ []) has).0 in
-      added ask code Kept 1 0 0 0 0 _ c _ _ (omega arith) (omega arith)
-      (held_then h (λ m w1. Stays h.cell.named m d w1 × Stays left.named n d w1) act d place ks (waiting left.named n ops) c l w (landed to.named d (place + length (binary_code o left ty to h)) ks ops) (on_goes (λ z. or_constraint_error (binary o.op o.ty n (scalar_of z)))) first
+      added_to ask code (OneCell Fits Any) 1 0 0 0 0 _ c _ _ (omega arith) (omega arith)
+      (held_then (OneCell Fits Any) h (λ m w1. Stays h.cell.named m d w1 × Stays left.named n d w1) act d place ks (waiting left.named n ops) c l w (landed to.named d (place + length (binary_code o left ty to h)) ks ops) (on_goes (λ z. or_constraint_error (binary o.op o.ty n (scalar_of z)))) first
       (λ m c1 l1 w1 lo fits1 p.
-      within ask code Kept 1 1 8 8 _ c1 _ _ (omega arith) (omega arith)
-      (subst (λ q. Runs ask code Kept 1 1 (at d (place + length h.code) ks (waiting h.cell.named m (waiting left.named n ops)) l1 w1) c1 (landed to.named d q ks ops) (or_constraint_error (binary o.op o.ty n m) c1 l1 w1)) e
+      within_to ask code (OneCell Fits Any) 1 1 8 8 _ c1 _ _ (omega arith) (omega arith)
+      (subst (λ q. Gets Any 1 1 (at d (place + length h.code) ks (waiting h.cell.named m (waiting left.named n ops)) l1 w1) c1 (landed to.named d q ks ops) (or_constraint_error (binary o.op o.ty n m) c1 l1 w1)) e
       (result_runs (binary o.op o.ty n m) to.named d (place + length h.code) ks ops c1 l1 w1 _ fits1
       (by_code ask code d (place + length h.code) ks (waiting h.cell.named m (waiting left.named n ops)) l1 w1 (InstrOf.Binary (operator_for o ty) left h.cell to) there
       ∙ ap (moved l1) (taking_is h.cell.named m (λ b rest. by_binary (operator_for o ty) b left.named to.named rest (here d (place + length h.code) ks w1)) (waiting left.named n ops) d (place + length h.code) ks w1 p.0)
       ∙ ap (moved l1) (taking_is left.named n (λ a rest. by_result (binary o.op o.ty a m) to.named rest (here d (place + length h.code) ks w1)) ops d (place + length h.code) ks w1 p.1)))))
-      (λ y c1 l1 w1 lo fits1. leaves_it 8 8 to.named d (place + length (binary_code o left ty to h)) ks ops (ByRaise y) c1 l1 w1 fits1))
+      (λ y c1 l1 w1 lo fits1. leaves_it 8 8 to.named d (place + length (binary_code o left ty to h)) ks ops y c1 l1 w1 fits1))
 
   -- an evaluated right operand, over a left one that is an operand
-  both_hold : (x : ValueCode) (act : List ℕ → Act (List ℕ)) → Value x act → (left : Named) → MayStay left RightOf.Evaluated → (n : ℕ) (ty : Ty) (s : List Kind) (d : List ℕ) (place : ℕ) (ks : List Frame) (ops : List Word) (c : ℕ) (l : Log) (w : World) → Fits w → length d ≡ depth s → Laid code place (evaluated x ty s).code → Holds (evaluated x ty s) (λ m w1. Stays Operand m d w1 × Stays left n d w1) act d place ks ops c l w
-  both_hold x act value Operand stay n ty s d place ks ops c l w fits long has =
-      let y = evaluated_holds x act value ty s d place ks ops c l w fits long has in
-      record { out = y.out; is = y.is; cells = cell_less Any (λ m w1. Unit {0} × Unit {0}) (λ m w1 h. (tt, tt)) y.out y.cells; runs = y.runs }
-  both_hold x act value (Variable out slot) stay n ty s d place ks ops c l w fits long has = absurd stay
+  both_hold : (x : ValueCode) (act : List ℕ → Act (List ℕ)) → Value x act → (left : Named) → MayStay left RightOf.Evaluated → (n : ℕ) (ty : Ty) (s : List Kind) (d : List ℕ) (place : ℕ) (ks : List Frame) (ops : List Word) (c : ℕ) (l : Log) (w : World) → c ≤ bound → Fits w → length d ≡ depth s → Laid code place (evaluated x ty s).code → Holds (evaluated x ty s) (λ m w1. Stays Operand m d w1 × Stays left n d w1) act d place ks ops c l w
+  both_hold x act value Operand stay n ty s d place ks ops c l w le fits long has =
+      holds_less Any (λ m w1. Unit {0} × Unit {0}) (λ m w1 h. (tt, tt)) _ c _ _ (evaluated_holds x act value ty s d place ks ops c l w le fits long has)
+  both_hold x act value (Variable out slot) stay n ty s d place ks ops c l w le fits long has = absurd stay
 
-  operator_runs : (r : Right) (o : OperatorCode) (act : List ℕ → Act (List ℕ)) → o.right.right ≡ r → Value o.right act → (left : Cell) (ty : Ty) (to : Cell) (s : List Kind) → MayStay left.named r → (n : ℕ) (d : List ℕ) (place : ℕ) (ks : List Frame) (ops : List Word) (c : ℕ) (l : Log) (w : World) → Fits w → length d ≡ depth s → Stays left.named n d w → Laid code place (operator_by r o left ty to s) → Runs ask code Kept 0 0 (at d place ks (waiting left.named n ops) l w) c (landed to.named d (place + length (operator_by r o left ty to s)) ks ops) (combined o act d (n ∷ []) c l w)
+  operator_runs : (r : Right) (o : OperatorCode) (act : List ℕ → Act (List ℕ)) → o.right.right ≡ r → Value o.right act → (left : Cell) (ty : Ty) (to : Cell) (s : List Kind) → MayStay left.named r → (n : ℕ) (d : List ℕ) (place : ℕ) (ks : List Frame) (ops : List Word) (c : ℕ) (l : Log) (w : World) → c ≤ bound → Fits w → length d ≡ depth s → Stays left.named n d w → Laid code place (operator_by r o left ty to s) → Gets Any 0 0 (at d place ks (waiting left.named n ops) l w) c (landed to.named d (place + length (operator_by r o left ty to s)) ks ops) (combined o act d (n ∷ []) c l w)
   unfolding opened_outcome scalar_of opened_lists
-  operator_runs (RightOf.Constant m) o act is value left ty to s stay n d place ks ops c l w fits long stays has =
-      subst (λ q. Runs ask code Kept 0 0 (at d place ks (waiting left.named n ops) l w) c (landed to.named d (place + 1) ks ops) (add 1 (bind q (on_goes (λ z. or_constraint_error (binary o.op o.ty n (scalar_of z))))))) (sym (value.constant m is d c l w))
-      (added ask code Kept 1 0 0 0 0 _ c _ _ (omega arith) (omega arith)
-      (added ask code Kept 1 1 1 0 0 _ c _ _ (omega arith) (omega arith)
+  operator_runs (RightOf.Constant m) o act is value left ty to s stay n d place ks ops c l w le fits long stays has =
+      subst (λ q. Gets Any 0 0 (at d place ks (waiting left.named n ops) l w) c (landed to.named d (place + 1) ks ops) (add 1 (bind q (on_goes (λ z. or_constraint_error (binary o.op o.ty n (scalar_of z))))))) (sym (value.constant m is d c l w))
+      (added_to ask code (OneCell Fits Any) 1 0 0 0 0 _ c _ _ (omega arith) (omega arith)
+      (added_to ask code (OneCell Fits Any) 1 1 1 0 0 _ c _ _ (omega arith) (omega arith)
       (result_runs (binary o.op o.ty n m) to.named d place ks ops c l w _ fits
       (by_code ask code d place ks (waiting left.named n ops) l w (InstrOf.BinaryConstant (operator_for o ty) left m to) has.0
       ∙ ap (moved l) (taking_is left.named n (λ a rest. by_result (binary o.op o.ty a m) to.named rest (here d place ks w)) ops d place ks w stays)))))
-  operator_runs (RightOf.Variable v) o act is value left ty to s stay n d place ks ops c l w fits long stays has =
+  operator_runs (RightOf.Variable v) o act is value left ty to s stay n d place ks ops c l w le fits long stays has =
       let h = in_cell (local_at s v) v o.right ty s in
-      subst (λ (r : Right). Laid code place (binary_code o left ty to (held_by r o.right ty s)) → Runs ask code Kept 0 0 (at d place ks (waiting left.named n ops) l w) c (landed to.named d (place + length (binary_code o left ty to (held_by r o.right ty s))) ks ops) (combined o act d (n ∷ []) c l w)) (sym is)
-      (λ has1. binary_runs o act left ty to h n d place ks ops c l w fits has1
-      (variable_holds o.right act value v is (λ w1. Stays left.named n d w1) (local_at s v) ty s d place ks (waiting left.named n ops) c l w fits stays long (laid_front code place h.code ((InstrOf.Binary (operator_for o ty) left h.cell to, h.after) ∷ []) has1))) has
-  operator_runs RightOf.Evaluated o act is value left ty to s stay n d place ks ops c l w fits long stays has =
+      subst (λ (r : Right). Laid code place (binary_code o left ty to (held_by r o.right ty s)) → Gets Any 0 0 (at d place ks (waiting left.named n ops) l w) c (landed to.named d (place + length (binary_code o left ty to (held_by r o.right ty s))) ks ops) (combined o act d (n ∷ []) c l w)) (sym is)
+      (λ has1. binary_runs o act left ty to h n d place ks ops c l w has1
+      (variable_holds o.right act value v is (λ w1. Stays left.named n d w1) (local_at s v) ty s d place ks (waiting left.named n ops) c l w le fits stays long (laid_front code place h.code ((InstrOf.Binary (operator_for o ty) left h.cell to, h.after) ∷ []) has1))) has
+  operator_runs RightOf.Evaluated o act is value left ty to s stay n d place ks ops c l w le fits long stays has =
       let h = evaluated o.right ty s in
-      subst (λ (r : Right). Laid code place (binary_code o left ty to (held_by r o.right ty s)) → Runs ask code Kept 0 0 (at d place ks (waiting left.named n ops) l w) c (landed to.named d (place + length (binary_code o left ty to (held_by r o.right ty s))) ks ops) (combined o act d (n ∷ []) c l w)) (sym is)
-      (λ has1. binary_runs o act left ty to h n d place ks ops c l w fits has1
-      (both_hold o.right act value left.named stay n ty s d place ks (waiting left.named n ops) c l w fits long (laid_front code place h.code ((InstrOf.Binary (operator_for o ty) left h.cell to, h.after) ∷ []) has1))) has
+      subst (λ (r : Right). Laid code place (binary_code o left ty to (held_by r o.right ty s)) → Gets Any 0 0 (at d place ks (waiting left.named n ops) l w) c (landed to.named d (place + length (binary_code o left ty to (held_by r o.right ty s))) ks ops) (combined o act d (n ∷ []) c l w)) (sym is)
+      (λ has1. binary_runs o act left ty to h n d place ks ops c l w has1
+      (both_hold o.right act value left.named stay n ty s d place ks (waiting left.named n ops) c l w le fits long (laid_front code place h.code ((InstrOf.Binary (operator_for o ty) left h.cell to, h.after) ∷ []) has1))) has
 
   pub operator_further : (o : OperatorCode) (act : List ℕ → Act (List ℕ)) → Value o.right act → Further o (combined o act)
-  unfolding opened_outcome scalar_of opened_lists
-  operator_further o act value = record {
-    cells = λ n d c l w. cell_later Any 1 _ (cell_always Any Any (act d c l w) (λ z. or_constraint_error (binary o.op o.ty n (scalar_of z))) (value.cell d c l w) (λ u c1 l1 w1. result_cell (binary o.op o.ty n (scalar_of u)) c1 l1 w1));
-    runs = λ left ty to s stay n d place ks ops c l w fits long stays has. operator_runs o.right.right o act refl value left ty to s stay n d place ks ops c l w fits long stays has;
-  }
+  operator_further o act value = operator_runs o.right.right o act refl value
 
   -- operators, each with what it does
   abbrev pub Operators : Tools → List OperatorCode → List Applied → Type 0
@@ -285,35 +280,28 @@ module _ (ask : Ask) (k : Tables) (code : Code) (Fits : World → Type 0) where
   Operators K (o ∷ os) (m ∷ ms) = Further o (m K) × Operators K os ms
   Operators K _ _ = ⊥
 
-  operators_cells : (K : Tools) (os : List OperatorCode) (ms : List Applied) → Operators K os ms → (n : ℕ) (d : List ℕ) (c : ℕ) (l : Log) (w : World) → IsCell Any (apply_each K d ms (n ∷ []) c l w)
-  unfolding apply_each opened_outcome
-  operators_cells K [] [] h n d c l w = (n, refl, tt)
-  operators_cells K [] (m ∷ ms) h n d c l w = absurd h
-  operators_cells K (o ∷ os) [] h n d c l w = absurd h
-  operators_cells K (o ∷ os) (m ∷ ms) h n d c l w = cell_then Any Any (m K d (n ∷ []) c l w) (apply_each K d ms) (h.0.cells n d c l w) (λ n1 c1 l1 w1 p. operators_cells K os ms h.1 n1 d c1 l1 w1)
-
   -- the last of them puts its value where it is wanted
-  operators_run : (K : Tools) (o : OperatorCode) (os : List OperatorCode) (m : Applied) (ms : List Applied) → Operators K (o ∷ os) (m ∷ ms) → (base : List Kind) (left : Cell) (s : List Kind) (ty : Ty) (to : Cell) → MayStay left.named o.right.right → (n : ℕ) (d : List ℕ) (place : ℕ) (ks : List Frame) (ops : List Word) (c : ℕ) (l : Log) (w : World) → Fits w → length d ≡ depth base → length d ≡ depth s → Stays left.named n d w → Laid code place (operators_code base left s ty (o ∷ os) to) → Runs ask code Kept 0 0 (at d place ks (waiting left.named n ops) l w) c (landed to.named d (place + length (operators_code base left s ty (o ∷ os) to)) ks ops) (apply_each K d (m ∷ ms) (n ∷ []) c l w)
+  operators_run : (K : Tools) (o : OperatorCode) (os : List OperatorCode) (m : Applied) (ms : List Applied) → Operators K (o ∷ os) (m ∷ ms) → (base : List Kind) (left : Cell) (s : List Kind) (ty : Ty) (to : Cell) → MayStay left.named o.right.right → (n : ℕ) (d : List ℕ) (place : ℕ) (ks : List Frame) (ops : List Word) (c : ℕ) (l : Log) (w : World) → c ≤ bound → Fits w → length d ≡ depth base → length d ≡ depth s → Stays left.named n d w → Laid code place (operators_code base left s ty (o ∷ os) to) → Gets Any 0 0 (at d place ks (waiting left.named n ops) l w) c (landed to.named d (place + length (operators_code base left s ty (o ∷ os) to)) ks ops) (apply_each K d (m ∷ ms) (n ∷ []) c l w)
   unfolding apply_each opened_outcome scalar_of opened_lists
-  operators_run K o [] m (m2 ∷ ms) h base left s ty to stay n d place ks ops c l w fits long0 long stays has = absurd h.1
-  operators_run K o (p ∷ ps) m [] h base left s ty to stay n d place ks ops c l w fits long0 long stays has = absurd h.1
-  operators_run K o [] m [] h base left s ty to stay n d place ks ops c l w fits long0 long stays has =
+  operators_run K o [] m (m2 ∷ ms) h base left s ty to stay n d place ks ops c l w le fits long0 long stays has = absurd h.1
+  operators_run K o (p ∷ ps) m [] h base left s ty to stay n d place ks ops c l w le fits long0 long stays has = absurd h.1
+  operators_run K o [] m [] h base left s ty to stay n d place ks ops c l w le fits long0 long stays has =
       let is = operator_code o left ty to s in
       let e : place + length is ≡ place + length (is ++ []) = omega (arith, length-append is []) in
-      subst (λ q. Runs ask code Kept 0 0 (at d place ks (waiting left.named n ops) l w) c (landed to.named d q ks ops) (bind (m K d (n ∷ []) c l w) (on_goes (λ v. done v)))) e
-      (both_cell ask code Kept Any 0 0 0 0 0 0 _ c (landed to.named d (place + length is) ks ops) (landed to.named d (place + length is) ks ops) (m K d (n ∷ []) c l w) (on_goes (λ v. done v)) (omega arith) (omega arith) (omega arith) (h.0.cells n d c l w)
-      (h.0.runs left ty to s stay n d place ks ops c l w fits long stays (laid_front code place is [] has))
-      (λ n1 c1 l1 w1 lo fits1 p. no_step ask code Kept 0 0 _ c1 0 (landed to.named d (place + length is) ks ops) (Goes (n1 ∷ [])) l1 w1 fits1 refl)
-      (λ y c1 l1 w1 lo fits1. no_step ask code Kept 0 0 _ c1 0 (landed to.named d (place + length is) ks ops) (Leaves (ByRaise y)) l1 w1 fits1 refl))
-  operators_run K o (p ∷ ps) m (m2 ∷ ms) h base left s ty to stay n d place ks ops c l w fits long0 long stays has =
+      subst (λ q. Gets Any 0 0 (at d place ks (waiting left.named n ops) l w) c (landed to.named d q ks ops) (bind (m K d (n ∷ []) c l w) (on_goes (λ v. done v)))) e
+      (both_cell ask code Fits (OneCell Fits Any) Any 0 0 0 0 0 0 _ c (landed to.named d (place + length is) ks ops) (landed to.named d (place + length is) ks ops) (m K d (n ∷ []) c l w) (on_goes (λ v. done v)) (omega arith) (omega arith) (omega arith)
+      (h.0 left ty to s stay n d place ks ops c l w le fits long stays (laid_front code place is [] has))
+      (λ n1 c1 l1 w1 lo fits1 p. no_step_to ask code (OneCell Fits Any) 0 0 _ c1 0 (landed to.named d (place + length is) ks ops) (Goes (n1 ∷ [])) l1 w1 (fits1, (n1, refl, tt)) refl)
+      (λ y c1 l1 w1 lo fits1. no_step_to ask code (OneCell Fits Any) 0 0 _ c1 0 (landed to.named d (place + length is) ks ops) (Leaves (ByRaise y)) l1 w1 (fits1, tt) refl))
+  operators_run K o (p ∷ ps) m (m2 ∷ ms) h base left s ty to stay n d place ks ops c l w le fits long0 long stays has =
       let is = operator_code o left ty (new_operand base) s in
       let js = operators_code base (new_operand base) (KindOf.Operand o.ty ∷ base) o.ty (p ∷ ps) to in
       let e : place + length is + length js ≡ place + length (is ++ js) = omega (arith, length-append is js) in
-      subst (λ q. Runs ask code Kept 0 0 (at d place ks (waiting left.named n ops) l w) c (landed to.named d q ks ops) (bind (m K d (n ∷ []) c l w) (on_goes (apply_each K d (m2 ∷ ms))))) e
-      (both_cell ask code Kept Any 0 0 0 0 0 0 _ c (landed Operand d (place + length is) ks ops) (landed to.named d (place + length is + length js) ks ops) (m K d (n ∷ []) c l w) (on_goes (apply_each K d (m2 ∷ ms))) (omega arith) (omega arith) (omega arith) (h.0.cells n d c l w)
-      (h.0.runs left ty (new_operand base) s stay n d place ks ops c l w fits long stays (laid_front code place is js has))
-      (λ n1 c1 l1 w1 lo fits1 x. operators_run K p ps m2 ms h.1 base (new_operand base) (KindOf.Operand o.ty ∷ base) o.ty to tt n1 d (place + length is) ks ops c1 l1 w1 fits1 long0 long0 tt (laid_back code place is js has))
-      (λ y c1 l1 w1 lo fits1. leaves_it 0 0 to.named d (place + length is + length js) ks ops (ByRaise y) c1 l1 w1 fits1))
+      subst (λ q. Gets Any 0 0 (at d place ks (waiting left.named n ops) l w) c (landed to.named d q ks ops) (bind (m K d (n ∷ []) c l w) (on_goes (apply_each K d (m2 ∷ ms))))) e
+      (both_cell ask code Fits (OneCell Fits Any) Any 0 0 0 0 0 0 _ c (landed Operand d (place + length is) ks ops) (landed to.named d (place + length is + length js) ks ops) (m K d (n ∷ []) c l w) (on_goes (apply_each K d (m2 ∷ ms))) (omega arith) (omega arith) (omega arith)
+      (h.0 left ty (new_operand base) s stay n d place ks ops c l w le fits long stays (laid_front code place is js has))
+      (λ n1 c1 l1 w1 lo fits1 x. operators_run K p ps m2 ms h.1 base (new_operand base) (KindOf.Operand o.ty ∷ base) o.ty to tt n1 d (place + length is) ks ops c1 l1 w1 (omega (arith, lo, le)) fits1 long0 long0 tt (laid_back code place is js has))
+      (λ y c1 l1 w1 lo fits1. leaves_it 0 0 to.named d (place + length is + length js) ks ops y c1 l1 w1 fits1))
 
   -- the left operand of a chain
   held_depth : (r : Right) (x : ValueCode) (ty : Ty) (s : List Kind) → depth (held_by r x ty s).after ≡ depth s
@@ -343,36 +331,32 @@ module _ (ask : Ask) (k : Tables) (code : Code) (Fits : World → Type 0) where
   left_stays (RightOf.Variable v) x ty s = variable_stays (held x ty s).cell.named v
   left_stays RightOf.Evaluated x ty s = tt
 
-  left_holds : (r : Right) (x : ValueCode) (act : List ℕ → Act (List ℕ)) → Value x act → (ty : Ty) (s : List Kind) (d : List ℕ) (place : ℕ) (ks : List Frame) (ops : List Word) (c : ℕ) (l : Log) (w : World) → Fits w → length d ≡ depth s → Laid code place (left_held r x ty s).code → Holds (left_held r x ty s) (λ n w1. Stays (left_held r x ty s).cell.named n d w1) act d place ks ops c l w
-  left_holds (RightOf.Constant m) x act value ty s d place ks ops c l w fits long has = held_holds x.right x act refl value ty s d place ks ops c l w fits long has
-  left_holds (RightOf.Variable v) x act value ty s d place ks ops c l w fits long has = held_holds x.right x act refl value ty s d place ks ops c l w fits long has
-  left_holds RightOf.Evaluated x act value ty s d place ks ops c l w fits long has = evaluated_holds x act value ty s d place ks ops c l w fits long has
+  left_holds : (r : Right) (x : ValueCode) (act : List ℕ → Act (List ℕ)) → Value x act → (ty : Ty) (s : List Kind) (d : List ℕ) (place : ℕ) (ks : List Frame) (ops : List Word) (c : ℕ) (l : Log) (w : World) → c ≤ bound → Fits w → length d ≡ depth s → Laid code place (left_held r x ty s).code → Holds (left_held r x ty s) (λ n w1. Stays (left_held r x ty s).cell.named n d w1) act d place ks ops c l w
+  left_holds (RightOf.Constant m) x act value ty s d place ks ops c l w le fits long has = held_holds x.right x act refl value ty s d place ks ops c l w le fits long has
+  left_holds (RightOf.Variable v) x act value ty s d place ks ops c l w le fits long has = held_holds x.right x act refl value ty s d place ks ops c l w le fits long has
+  left_holds RightOf.Evaluated x act value ty s d place ks ops c l w le fits long has = evaluated_holds x act value ty s d place ks ops c l w le fits long has
 
   -- what follows an expression begins with its first tick
-  begins_with : (h : Held) (P Q : ℕ → World → Type 0) (act : List ℕ → Act (List ℕ)) (more : List ℕ → Act (List ℕ)) (d : List ℕ) (place : ℕ) (ks : List Frame) (ops : List Word) (c : ℕ) (l : Log) (w : World) (next : Result (List ℕ) → Log → World → State) → Holds h P act d place ks ops c l w → ((n c1 : ℕ) (l1 : Log) (w1 : World) → P n w1 → IsCell Q (more (n ∷ []) c1 l1 w1)) → ((n c1 : ℕ) (l1 : Log) (w1 : World) → Fits w1 → P n w1 → Runs ask code Kept 0 0 (at d (place + length h.code) ks (waiting h.cell.named n ops) l1 w1) c1 next (more (n ∷ []) c1 l1 w1)) → ((y c1 : ℕ) (l1 : Log) (w1 : World) → Fits w1 → Runs ask code Kept 0 0 (transferred (ByRaise y) ks l1 w1) c1 next (Gives (Leaves (ByRaise y)) 0 c1 l1 w1)) → Begins Q (at d place ks ops l w) c next (bind (act d c l w) (on_goes more))
+  begins_with : (h : Held) (P : ℕ → World → Type 0) (act : List ℕ → Act (List ℕ)) (more : List ℕ → Act (List ℕ)) (d : List ℕ) (place : ℕ) (ks : List Frame) (ops : List Word) (c : ℕ) (l : Log) (w : World) (to : Named) (end : ℕ) → Holds h P act d place ks ops c l w → ((n c1 : ℕ) (l1 : Log) (w1 : World) → c1 ≤ c → Fits w1 → P n w1 → Gets Any 0 0 (at d (place + length h.code) ks (waiting h.cell.named n ops) l1 w1) c1 (landed to d end ks ops) (more (n ∷ []) c1 l1 w1)) → Begins Any (at d place ks ops l w) c (landed to d end ks ops) (bind (act d c l w) (on_goes more))
   unfolding opened_outcome scalar_of opened_lists
-  begins_with h P Q act more d place ks ops c l w next x cells goes leaves = record {
+  begins_with h P act more d place ks ops c l w to end x goes = record {
     out = bind x.out (on_goes more);
     is = ap (λ o. bind o (on_goes more)) x.is ∙ bind_add 1 x.out (on_goes more);
-    cells = cell_then P Q x.out more x.cells (λ n c1 l1 w1 p. cells n c1 l1 w1 p);
-    runs = both_cell ask code Kept P 8 8 0 0 8 8 _ c (held_in h.cell.named d (place + length h.code) ks ops) next x.out (on_goes more) (omega arith) (omega arith) (omega arith) x.cells x.runs (λ n c1 l1 w1 lo fits1 p. goes n c1 l1 w1 fits1 p) (λ y c1 l1 w1 lo fits1. leaves y c1 l1 w1 fits1);
+    runs = both_cell ask code Fits (OneCell Fits Any) P 8 8 0 0 8 8 _ c (held_in h.cell.named d (place + length h.code) ks ops) (landed to d end ks ops) x.out (on_goes more) (omega arith) (omega arith) (omega arith) x.runs goes (λ y c1 l1 w1 lo fits1. leaves_it 0 0 to d end ks ops y c1 l1 w1 fits1);
   }
 
   pub chain_value : (K : Tools) (x : ValueCode) (act : List ℕ → Act (List ℕ)) → Value x act → (o : OperatorCode) (os : List OperatorCode) (m : Applied) (ms : List Applied) → Operators K (o ∷ os) (m ∷ ms) → Value (chain x o os) (λ d. act d >>= apply_each K d (m ∷ ms))
   unfolding opened_outcome scalar_of opened_lists
   chain_value K x act value o os m ms each = record {
-    cell = λ d c l w. cell_then Any Any (act d c l w) (apply_each K d (m ∷ ms)) (value.cell d c l w) (λ n c1 l1 w1 p. operators_cells K (o ∷ os) (m ∷ ms) each n d c1 l1 w1);
-    begins = λ to t s d place ks ops c l w fits long has.
+    begins = λ to t s d place ks ops c l w le fits long has.
         let ty = first_type x o in
         let h = left_held o.right.right x ty s in
         let js = operators_code s h.cell h.after ty (o ∷ os) to in
         let e : place + length h.code + length js ≡ place + length (h.code ++ js) = omega (arith, length-append h.code js) in
         subst (λ q. Begins Any (at d place ks ops l w) c (landed to.named d q ks ops) (bind (act d c l w) (on_goes (apply_each K d (m ∷ ms))))) e
-        (begins_with h (λ n w1. Stays h.cell.named n d w1) Any act (apply_each K d (m ∷ ms)) d place ks ops c l w (landed to.named d (place + length h.code + length js) ks ops)
-        (left_holds o.right.right x act value ty s d place ks ops c l w fits long (laid_front code place h.code js has))
-        (λ n c1 l1 w1 p. operators_cells K (o ∷ os) (m ∷ ms) each n d c1 l1 w1)
-        (λ n c1 l1 w1 fits1 p. operators_run K o os m ms each s h.cell h.after ty to (left_stays o.right.right x ty s) n d (place + length h.code) ks ops c1 l1 w1 fits1 long (long ∙ sym (left_depth o.right.right x ty s)) p (laid_back code place h.code js has))
-        (λ y c1 l1 w1 fits1. leaves_it 0 0 to.named d (place + length h.code + length js) ks ops (ByRaise y) c1 l1 w1 fits1));
+        (begins_with h (λ n w1. Stays h.cell.named n d w1) act (apply_each K d (m ∷ ms)) d place ks ops c l w to.named (place + length h.code + length js)
+        (left_holds o.right.right x act value ty s d place ks ops c l w le fits long (laid_front code place h.code js has))
+        (λ n c1 l1 w1 lo fits1 p. operators_run K o os m ms each s h.cell h.after ty to (left_stays o.right.right x ty s) n d (place + length h.code) ks ops c1 l1 w1 (omega (arith, lo, le)) fits1 long (long ∙ sym (left_depth o.right.right x ty s)) p (laid_back code place h.code js has)));
     constant = λ n is d c l w. absurd (cc);
     variable = λ y is d c l w. absurd (cc);
   }
@@ -385,31 +369,19 @@ module _ (ask : Ask) (k : Tables) (code : Code) (Fits : World → Type 0) where
   EachValue K (x ∷ xs) (m ∷ ms) = Value x (m K) × EachValue K xs ms
   EachValue K _ _ = ⊥
 
-  either_cell : (b : Bool) (n : ℕ) (m : Act (List ℕ)) (c : ℕ) (l : Log) (w : World) → IsCell Any (m c l w) → IsCell Any (either b (done (n ∷ [])) m c l w)
-  unfolding opened_outcome
-  either_cell true n m c l w h = (n, refl, tt)
-  either_cell false n m c l w h = h
-
-  others_cells : (K : Tools) (form : Shortcut) (xs : List ValueCode) (ms : List Valued) → EachValue K xs ms → (n : ℕ) (d : List ℕ) (c : ℕ) (l : Log) (w : World) → IsCell Any (join_each K d form ms (n ∷ []) c l w)
-  unfolding join_each opened_outcome
-  others_cells K form [] [] h n d c l w = (n, refl, tt)
-  others_cells K form [] (m ∷ ms) h n d c l w = absurd h
-  others_cells K form (x ∷ xs) [] h n d c l w = absurd h
-  others_cells K form (x ∷ xs) (m ∷ ms) h n d c l w =
-      cell_then Any Any (ticked (either (decides form (n ∷ [])) (done (n ∷ [])) (m K d)) c l w) (join_each K d form ms) (cell_later Any 1 _ (either_cell (decides form (n ∷ [])) n (m K d) c l w (h.0.cell d c l w))) (λ n1 c1 l1 w1 p. others_cells K form xs ms h.1 n1 d c1 l1 w1)
-
   -- a value as an operand
-  pub value_runs : (x : ValueCode) (act : List ℕ → Act (List ℕ)) → Value x act → (to : Cell) (ty : Ty) (s : List Kind) (d : List ℕ) (place : ℕ) (ks : List Frame) (ops : List Word) (c : ℕ) (l : Log) (w : World) → Fits w → length d ≡ depth s → Laid code place (x.code to ty s) → Runs ask code Kept 0 0 (at d place ks ops l w) c (landed to.named d (place + length (x.code to ty s)) ks ops) (act d c l w)
-  value_runs x act value to ty s d place ks ops c l w fits long has =
-      let y = value.begins to ty s d place ks ops c l w fits long has in
-      subst (λ o. Runs ask code Kept 0 0 (at d place ks ops l w) c (landed to.named d (place + length (x.code to ty s)) ks ops) o) (sym y.is) (added ask code Kept 1 8 8 0 0 _ c _ _ (omega arith) (omega arith) y.runs)
+  pub value_runs : (x : ValueCode) (act : List ℕ → Act (List ℕ)) → Value x act → (to : Cell) (ty : Ty) (s : List Kind) (d : List ℕ) (place : ℕ) (ks : List Frame) (ops : List Word) (c : ℕ) (l : Log) (w : World) → c ≤ bound → Fits w → length d ≡ depth s → Laid code place (x.code to ty s) → Gets Any 0 0 (at d place ks ops l w) c (landed to.named d (place + length (x.code to ty s)) ks ops) (act d c l w)
+  value_runs x act value to ty s d place ks ops c l w le fits long has =
+      let y = value.begins to ty s d place ks ops c l w le fits long has in
+      let next = landed to.named d (place + length (x.code to ty s)) ks ops in
+      subst (λ o. Gets Any 0 0 (at d place ks ops l w) c next o) (sym y.is) (added_to ask code (OneCell Fits Any) 1 8 8 0 0 _ c next y.out (omega arith) (omega arith) y.runs)
 
   -- a further operand, whose tick pays
-  other_runs : (form : Shortcut) (x : ValueCode) (act : List ℕ → Act (List ℕ)) → Value x act → (s : List Kind) (n : ℕ) (d : List ℕ) (place : ℕ) (ks : List Frame) (ops : List Word) (c : ℕ) (l : Log) (w : World) → Fits w → length d ≡ depth s → Laid code place (other_code form x s) → Runs ask code Kept 1 1 (at d place ks (Scalar n ∷ ops) l w) c (landed Operand d (place + length (other_code form x s)) ks ops) (either (decides form (n ∷ [])) (done (n ∷ [])) (act d) c l w)
+  other_runs : (form : Shortcut) (x : ValueCode) (act : List ℕ → Act (List ℕ)) → Value x act → (s : List Kind) (n : ℕ) (d : List ℕ) (place : ℕ) (ks : List Frame) (ops : List Word) (c : ℕ) (l : Log) (w : World) → c ≤ bound → Fits w → length d ≡ depth s → Laid code place (other_code form x s) → Gets Any 1 1 (at d place ks (Scalar n ∷ ops) l w) c (landed Operand d (place + length (other_code form x s)) ks ops) (either (decides form (n ∷ [])) (done (n ∷ [])) (act d) c l w)
   unfolding opened_outcome scalar_of opened_lists
-  other_runs form x act value s n d place ks ops c l w fits long has =
+  other_runs form x act value s n d place ks ops c l w le fits long has =
       let e : place + 1 + length is ≡ place + length (other_code form x s) = omega arith in
-      subst (λ q. Runs ask code Kept 1 1 (at d place ks (Scalar n ∷ ops) l w) c (landed Operand d q ks ops) (either (decides form (n ∷ [])) (done (n ∷ [])) (act d) c l w)) e
+      subst (λ q. Gets Any 1 1 (at d place ks (Scalar n ∷ ops) l w) c (landed Operand d q ks ops) (either (decides form (n ∷ [])) (done (n ∷ [])) (act d) c l w)) e
       (by (decides form (n ∷ [])) refl)
     where
       is : List Line
@@ -418,18 +390,18 @@ module _ (ask : Ask) (k : Tables) (code : Code) (Fits : World → Type 0) where
       first : step ask code (at d place ks (Scalar n ∷ ops) l w) ≡ moved l (by_decision (decides form (n ∷ [])) (length (x.code (new_operand s) Boolean s)) n ops (here d place ks w))
       first = by_code ask code d place ks (Scalar n ∷ ops) l w (InstrOf.Decide form (height s) (length (x.code (new_operand s) Boolean s))) has.0
 
-      by : (b : Bool) → decides form (n ∷ []) ≡ b → Runs ask code Kept 1 1 (at d place ks (Scalar n ∷ ops) l w) c (landed Operand d (place + 1 + length (x.code (new_operand s) Boolean s)) ks ops) (either (decides form (n ∷ [])) (done (n ∷ [])) (act d) c l w)
-      by true b = subst (λ y. Runs ask code Kept 1 1 (at d place ks (Scalar n ∷ ops) l w) c (landed Operand d (place + 1 + length is) ks ops) (either y (done (n ∷ [])) (act d) c l w)) (sym b)
-          (last_step ask code Kept 1 1 _ c 0 (landed Operand d (place + 1 + length is) ks ops) (Goes (n ∷ [])) l w (omega arith) fits (first ∙ ap (λ y. moved l (by_decision y (length is) n ops (here d place ks w))) b))
-      by false b = subst (λ y. Runs ask code Kept 1 1 (at d place ks (Scalar n ∷ ops) l w) c (landed Operand d (place + 1 + length is) ks ops) (either y (done (n ∷ [])) (act d) c l w)) (sym b)
-          (one_step ask code Kept 0 0 1 1 _ _ c c _ _ (omega arith) (omega arith) (omega arith) (omega arith) (first ∙ ap (λ y. moved l (by_decision y (length is) n ops (here d place ks w))) b)
-          (value_runs x act value (new_operand s) Boolean s d (place + 1) ks ops c l w fits long has.2))
+      by : (b : Bool) → decides form (n ∷ []) ≡ b → Gets Any 1 1 (at d place ks (Scalar n ∷ ops) l w) c (landed Operand d (place + 1 + length (x.code (new_operand s) Boolean s)) ks ops) (either (decides form (n ∷ [])) (done (n ∷ [])) (act d) c l w)
+      by true b = subst (λ y. Gets Any 1 1 (at d place ks (Scalar n ∷ ops) l w) c (landed Operand d (place + 1 + length is) ks ops) (either y (done (n ∷ [])) (act d) c l w)) (sym b)
+          (last_step_to ask code (OneCell Fits Any) 1 1 _ c 0 (landed Operand d (place + 1 + length is) ks ops) (Goes (n ∷ [])) l w (omega arith) (fits, (n, refl, tt)) (first ∙ ap (λ y. moved l (by_decision y (length is) n ops (here d place ks w))) b))
+      by false b = subst (λ y. Gets Any 1 1 (at d place ks (Scalar n ∷ ops) l w) c (landed Operand d (place + 1 + length is) ks ops) (either y (done (n ∷ [])) (act d) c l w)) (sym b)
+          (one_step_to ask code (OneCell Fits Any) 0 0 1 1 _ _ c c _ _ (omega arith) (omega arith) (omega arith) (omega arith) (first ∙ ap (λ y. moved l (by_decision y (length is) n ops (here d place ks w))) b)
+          (value_runs x act value (new_operand s) Boolean s d (place + 1) ks ops c l w le fits long has.2))
 
-  -- an operand goes where it is wanted
-  moved_by : (a : ℕ) (to : Named) (s : List Kind) (n : ℕ) (d : List ℕ) (place : ℕ) (ks : List Frame) (ops : List Word) (c : ℕ) (l : Log) (w : World) → Fits w → Laid code place (moved_to (record { at = a; named = to }) s) → Runs ask code Kept 1 1 (at d place ks (Scalar n ∷ ops) l w) c (landed to d (place + length (moved_to (record { at = a; named = to }) s)) ks ops) (Gives (Goes (n ∷ [])) 0 c l w)
+  -- an operand of this type goes where it is wanted
+  pub moved_by : (a : ℕ) (to : Named) (ty : Ty) (s : List Kind) (n : ℕ) (d : List ℕ) (place : ℕ) (ks : List Frame) (ops : List Word) (c : ℕ) (l : Log) (w : World) → Fits w → Laid code place (moved_to (record { at = a; named = to }) ty s) → Gets Any 1 1 (at d place ks (Scalar n ∷ ops) l w) c (landed to d (place + length (moved_to (record { at = a; named = to }) ty s)) ks ops) (Gives (Goes (n ∷ [])) 0 c l w)
   unfolding scalar_of opened_lists
-  moved_by a Operand s n d place ks ops c l w fits has = let e : place ≡ place + 0 = omega arith in no_step ask code Kept 1 1 _ c 0 (landed Operand d (place + 0) ks ops) (Goes (n ∷ [])) l w fits (ap (λ p. at d p ks (Scalar n ∷ ops) l w) e)
-  moved_by a (Variable out slot) s n d place ks ops c l w fits has = last_step ask code Kept 1 1 _ c 0 (landed (Variable out slot) d (place + 1) ks ops) (Goes (n ∷ [])) l w (omega arith) fits (by_code ask code d place ks (Scalar n ∷ ops) l w (InstrOf.Move (new_operand s) Boolean (record { at = a; named = Variable out slot })) has.0)
+  moved_by a Operand ty s n d place ks ops c l w fits has = let e : place ≡ place + 0 = omega arith in no_step_to ask code (OneCell Fits Any) 1 1 _ c 0 (landed Operand d (place + 0) ks ops) (Goes (n ∷ [])) l w (fits, (n, refl, tt)) (ap (λ p. at d p ks (Scalar n ∷ ops) l w) e)
+  moved_by a (Variable out slot) ty s n d place ks ops c l w fits has = last_step_to ask code (OneCell Fits Any) 1 1 _ c 0 (landed (Variable out slot) d (place + 1) ks ops) (Goes (n ∷ [])) l w (omega arith) (fits, (n, refl, tt)) (by_code ask code d place ks (Scalar n ∷ ops) l w (InstrOf.Move (new_operand s) ty (record { at = a; named = Variable out slot })) has.0)
 
   -- the steps that no tick pays where no operand follows
   abbrev spare : List ValueCode → ℕ
@@ -440,47 +412,43 @@ module _ (ask : Ask) (k : Tables) (code : Code) (Fits : World → Type 0) where
   spare_least [] = omega arith
   spare_least (x ∷ xs) = omega arith
 
-  others_run : (K : Tools) (form : Shortcut) (xs : List ValueCode) (ms : List Valued) → EachValue K xs ms → (to : Cell) (s : List Kind) (n : ℕ) (d : List ℕ) (place : ℕ) (ks : List Frame) (ops : List Word) (c : ℕ) (l : Log) (w : World) → Fits w → length d ≡ depth s → Laid code place (others_code form xs s) → Laid code (place + length (others_code form xs s)) (moved_to to s) → Runs ask code Kept (spare xs) (spare xs) (at d place ks (Scalar n ∷ ops) l w) c (landed to.named d (place + length (others_code form xs s) + length (moved_to to s)) ks ops) (join_each K d form ms (n ∷ []) c l w)
+  others_run : (K : Tools) (form : Shortcut) (xs : List ValueCode) (ms : List Valued) → EachValue K xs ms → (to : Cell) (s : List Kind) (n : ℕ) (d : List ℕ) (place : ℕ) (ks : List Frame) (ops : List Word) (c : ℕ) (l : Log) (w : World) → c ≤ bound → Fits w → length d ≡ depth s → Laid code place (others_code form xs s) → Laid code (place + length (others_code form xs s)) (moved_to to Boolean s) → Gets Any (spare xs) (spare xs) (at d place ks (Scalar n ∷ ops) l w) c (landed to.named d (place + length (others_code form xs s) + length (moved_to to Boolean s)) ks ops) (join_each K d form ms (n ∷ []) c l w)
   unfolding join_each opened_outcome scalar_of opened_lists
-  others_run K form [] [] h to s n d place ks ops c l w fits long has last =
+  others_run K form [] [] h to s n d place ks ops c l w le fits long has last =
       let e : place + 0 ≡ place = omega arith in
-      subst (λ q. Runs ask code Kept 1 1 (at d q ks (Scalar n ∷ ops) l w) c (landed to.named d (place + 0 + length (moved_to to s)) ks ops) (Gives (Goes (n ∷ [])) 0 c l w)) e
-      (moved_by to.at to.named s n d (place + 0) ks ops c l w fits last)
-  others_run K form [] (m ∷ ms) h to s n d place ks ops c l w fits long has last = absurd h
-  others_run K form (x ∷ xs) [] h to s n d place ks ops c l w fits long has last = absurd h
-  others_run K form (x ∷ xs) (m ∷ ms) h to s n d place ks ops c l w fits long has last =
+      subst (λ q. Gets Any 1 1 (at d q ks (Scalar n ∷ ops) l w) c (landed to.named d (place + 0 + length (moved_to to Boolean s)) ks ops) (Gives (Goes (n ∷ [])) 0 c l w)) e
+      (moved_by to.at to.named Boolean s n d (place + 0) ks ops c l w fits last)
+  others_run K form [] (m ∷ ms) h to s n d place ks ops c l w le fits long has last = absurd h
+  others_run K form (x ∷ xs) [] h to s n d place ks ops c l w le fits long has last = absurd h
+  others_run K form (x ∷ xs) (m ∷ ms) h to s n d place ks ops c l w le fits long has last =
       let is = other_code form x s in
       let js = others_code form xs s in
       let e0 : place + length (is ++ js) ≡ place + length is + length js = omega (arith, length-append is js) in
-      let e : place + length is + length js + length (moved_to to s) ≡ place + length (is ++ js) + length (moved_to to s) = omega (arith, e0) in
-      subst (λ q. Runs ask code Kept 0 0 (at d place ks (Scalar n ∷ ops) l w) c (landed to.named d q ks ops) (bind (ticked (either (decides form (n ∷ [])) (done (n ∷ [])) (m K d)) c l w) (on_goes (join_each K d form ms)))) e
-      (subst (λ o. Runs ask code Kept 0 0 (at d place ks (Scalar n ∷ ops) l w) c (landed to.named d (place + length is + length js + length (moved_to to s)) ks ops) o) (sym (bind_add 1 (either (decides form (n ∷ [])) (done (n ∷ [])) (m K d) c l w) (on_goes (join_each K d form ms))))
-      (added ask code Kept 1 2 2 0 0 _ c _ _ (omega arith) (omega arith)
-      (both_cell ask code Kept Any 1 1 1 1 2 2 _ c (landed Operand d (place + length is) ks ops) (landed to.named d (place + length is + length js + length (moved_to to s)) ks ops) _ (on_goes (join_each K d form ms)) (omega arith) (omega arith) (omega arith)
-      (either_cell (decides form (n ∷ [])) n (m K d) c l w (h.0.cell d c l w))
-      (other_runs form x (m K) h.0 s n d place ks ops c l w fits long (laid_front code place is js has))
+      let e : place + length is + length js + length (moved_to to Boolean s) ≡ place + length (is ++ js) + length (moved_to to Boolean s) = omega (arith, e0) in
+      subst (λ q. Gets Any 0 0 (at d place ks (Scalar n ∷ ops) l w) c (landed to.named d q ks ops) (bind (ticked (either (decides form (n ∷ [])) (done (n ∷ [])) (m K d)) c l w) (on_goes (join_each K d form ms)))) e
+      (subst (λ o. Gets Any 0 0 (at d place ks (Scalar n ∷ ops) l w) c (landed to.named d (place + length is + length js + length (moved_to to Boolean s)) ks ops) o) (sym (bind_add 1 (either (decides form (n ∷ [])) (done (n ∷ [])) (m K d) c l w) (on_goes (join_each K d form ms))))
+      (added_to ask code (OneCell Fits Any) 1 2 2 0 0 _ c _ _ (omega arith) (omega arith)
+      (both_cell ask code Fits (OneCell Fits Any) Any 1 1 1 1 2 2 _ c (landed Operand d (place + length is) ks ops) (landed to.named d (place + length is + length js + length (moved_to to Boolean s)) ks ops) _ (on_goes (join_each K d form ms)) (omega arith) (omega arith) (omega arith)
+      (other_runs form x (m K) h.0 s n d place ks ops c l w le fits long (laid_front code place is js has))
       (λ n1 c1 l1 w1 lo fits1 p.
-      within ask code Kept (spare xs) (spare xs) 1 1 _ c1 _ _ (spare_least xs) (spare_least xs)
-      (others_run K form xs ms h.1 to s n1 d (place + length is) ks ops c1 l1 w1 fits1 long (laid_back code place is js has) (subst (λ q. Laid code q (moved_to to s)) e0 last)))
-      (λ y c1 l1 w1 lo fits1. leaves_it 1 1 to.named d (place + length is + length js + length (moved_to to s)) ks ops (ByRaise y) c1 l1 w1 fits1))))
+      within_to ask code (OneCell Fits Any) (spare xs) (spare xs) 1 1 _ c1 _ _ (spare_least xs) (spare_least xs)
+      (others_run K form xs ms h.1 to s n1 d (place + length is) ks ops c1 l1 w1 (omega (arith, lo, le)) fits1 long (laid_back code place is js has) (subst (λ q. Laid code q (moved_to to Boolean s)) e0 last)))
+      (λ y c1 l1 w1 lo fits1. leaves_it 1 1 to.named d (place + length is + length js + length (moved_to to Boolean s)) ks ops y c1 l1 w1 fits1))))
 
   pub short_value : (K : Tools) (form : Shortcut) (x : ValueCode) (act : List ℕ → Act (List ℕ)) → Value x act → (y : ValueCode) (ys : List ValueCode) (m : Valued) (ms : List Valued) → EachValue K (y ∷ ys) (m ∷ ms) → Value (short form x y ys) (λ d. act d >>= join_each K d form (m ∷ ms))
   unfolding opened_outcome scalar_of opened_lists
   short_value K form x act value y ys m ms each = record {
-    cell = λ d c l w. cell_then Any Any (act d c l w) (join_each K d form (m ∷ ms)) (value.cell d c l w) (λ n c1 l1 w1 p. others_cells K form (y ∷ ys) (m ∷ ms) each n d c1 l1 w1);
-    begins = λ to t s d place ks ops c l w fits long has.
+    begins = λ to t s d place ks ops c l w le fits long has.
         let h = evaluated x Boolean s in
         let js = others_code form (y ∷ ys) s in
-        let front = laid_front code place (h.code ++ js) (moved_to to s) has in
+        let front = laid_front code place (h.code ++ js) (moved_to to Boolean s) has in
         let e0 : place + length (h.code ++ js) ≡ place + length h.code + length js = omega (arith, length-append h.code js) in
-        let e : place + length h.code + length js + length (moved_to to s) ≡ place + length ((h.code ++ js) ++ moved_to to s) = omega (arith, length-append (h.code ++ js) (moved_to to s), length-append h.code js) in
-        let last = subst (λ q. Laid code q (moved_to to s)) e0 (laid_back code place (h.code ++ js) (moved_to to s) has) in
+        let e : place + length h.code + length js + length (moved_to to Boolean s) ≡ place + length ((h.code ++ js) ++ moved_to to Boolean s) = omega (arith, length-append (h.code ++ js) (moved_to to Boolean s), length-append h.code js) in
+        let last = subst (λ q. Laid code q (moved_to to Boolean s)) e0 (laid_back code place (h.code ++ js) (moved_to to Boolean s) has) in
         subst (λ q. Begins Any (at d place ks ops l w) c (landed to.named d q ks ops) (bind (act d c l w) (on_goes (join_each K d form (m ∷ ms))))) e
-        (begins_with h Any Any act (join_each K d form (m ∷ ms)) d place ks ops c l w (landed to.named d (place + length h.code + length js + length (moved_to to s)) ks ops)
-        (evaluated_holds x act value Boolean s d place ks ops c l w fits long (laid_front code place h.code js front))
-        (λ n c1 l1 w1 p. others_cells K form (y ∷ ys) (m ∷ ms) each n d c1 l1 w1)
-        (λ n c1 l1 w1 fits1 p. others_run K form (y ∷ ys) (m ∷ ms) each to s n d (place + length h.code) ks ops c1 l1 w1 fits1 long (laid_back code place h.code js front) last)
-        (λ z c1 l1 w1 fits1. leaves_it 0 0 to.named d (place + length h.code + length js + length (moved_to to s)) ks ops (ByRaise z) c1 l1 w1 fits1));
+        (begins_with h Any act (join_each K d form (m ∷ ms)) d place ks ops c l w to.named (place + length h.code + length js + length (moved_to to Boolean s))
+        (evaluated_holds x act value Boolean s d place ks ops c l w le fits long (laid_front code place h.code js front))
+        (λ n c1 l1 w1 lo fits1 p. others_run K form (y ∷ ys) (m ∷ ms) each to s n d (place + length h.code) ks ops c1 l1 w1 (omega (arith, lo, le)) fits1 long (laid_back code place h.code js front) last));
     constant = λ n is d c l w. absurd (cc);
     variable = λ z is d c l w. absurd (cc);
   }

@@ -3,6 +3,7 @@
 use Rattle.std.proofs.Common.{◌≡◌, ℕ, zero, suc, ◌+◌, ◌<◌, ◌≤◌, List, [], ◌∷◌, length, Option, Some, None, Bool, true, false, refl, sym, ap, ◌∙◌, subst, arith, inr}
 use Rattle.std.specs.Prelude.{slice_get, ◌&&◌, ◌||◌, if◌then◌else◌}
 use Rattle.ctl_program.specs.declared.types.Ty.TheVariants.{Record}
+use Rattle.ctl_program.specs.declared.operators.SubprogramKind.TheVariants.{Procedure}
 use Rattle.ctl_tree.specs.declared.ending.Stop.TheVariants.{UseAfterFree}
 use Rattle.ctl_tree.specs.declared.event.Event.{Event}
 use Rattle.ctl_tree.specs.declared.event.Event.TheVariants as EventOf
@@ -303,7 +304,7 @@ module _ (ask : Ask) (k : Tables) (code : Code) (setting : Setting k code) (call
       let here : IsDeclarable code (length (home_of p.origin w)) t = declarable_later code around (length (home_of p.origin w)) t (was w p fits at) inside in
       subst (λ x. Finalizes 0 0 s0 c ks (after_own n s t x)) (sym (call_is ask k call default f s c (shown s) l w p at))
       (over n parts s t was old plain inside ks s0 c _ le
-      (calls.runs f body.0 body.1 wr (home_of p.origin w) (holding (Binds s.object s.offset s.path) ∷ []) (FinalizingOwn cause s t ∷ ks) c (tell (shown s) l) w s0 le fits (finalize_in code setting.valid _ t f here (setting.finalize t ∙ op)) (tt, tt)
+      (calls.runs f body.0 body.1 wr (home_of p.origin w) (holding (Binds s.object s.offset s.path) ∷ []) (FinalizingOwn cause s t ∷ ks) c (tell (shown s) l) w s0 Procedure 1 refl le fits (finalize_in code setting.valid _ t f here (setting.finalize t ∙ op)) (tt, tt)
       (go ∙ enter_shows (slice_get code.entries.items f) (shown s) (home_of p.origin w) (holding (Binds s.object s.offset s.path) ∷ []) (FinalizingOwn cause s t ∷ ks) l w)))
 
   -- each part

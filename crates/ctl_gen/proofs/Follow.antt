@@ -160,20 +160,99 @@ module _ (ask : Ask) (code : Code) where
         fits = z.fits;
       }
 
+-- what is true of a result in the world that it leaves
+module _ (ask : Ask) (code : Code) where
+  -- the machine does what the meaning gives, where this is true of the result
+  abbrev pub RunsTo : {A : Type 0} → (Result A → World → Type 0) → ℕ → ℕ → State → ℕ → (Result A → Log → World → State) → Out A → Type 0
+  RunsTo Ends b h s c next (Gives r t c1 l w) = Comes ask code b s c t c1 (next r l w) (Ends r w)
+  RunsTo Ends b h s c next (Stops why t l) = Quits ask code h s t l why
+  RunsTo Ends b h s c next (Cut t c1 l) = Halts ask code h s c t l
+
+  -- after a stretch that has come to its end
+  pub after_comes_to : {A X : Type 0} (Ends : Result A → World → Type 0) (b b1 h1 d e : ℕ) (s s1 : State) (c c1 t : ℕ) (next : Result A → Log → World → State) (o : Out A) → b + b1 ≤ d → b + h1 ≤ e → Comes ask code b s c t c1 s1 X → RunsTo Ends b1 h1 s1 c1 next o → RunsTo Ends d e s c next (add t o)
+  unfolding add
+  after_comes_to Ends b b1 h1 d e s s1 c c1 t next (Gives r u c2 l w) le he a z = later_comes ask code a.n b1 d s s1 (next r l w) c c1 c2 u (t + u) a.comes a.falls a.enough (omega (arith, a.in_time, le)) z
+  after_comes_to Ends b b1 h1 d e s s1 c c1 t next (Stops why u l) le he a z = later_quits ask code a.n h1 e s s1 u (t + u) l why a.comes (omega (arith, a.in_time, he)) z
+  after_comes_to Ends b b1 h1 d e s s1 c c1 t next (Cut u c2 l) le he a z = later_halts ask code a.n h1 e s s1 c c1 u (t + u) l a.comes a.enough (omega (arith, a.in_time, he)) z
+
+  -- greater counts of steps that no tick pays, and more ticks
+  pub added_to : {A : Type 0} (Ends : Result A → World → Type 0) (n b h d e : ℕ) (s : State) (c : ℕ) (next : Result A → Log → World → State) (o : Out A) → b ≤ 64 * n + d → h ≤ 64 * n + e → RunsTo Ends b h s c next o → RunsTo Ends d e s c next (add n o)
+  unfolding add
+  added_to Ends n b h d e s c next (Gives r u c2 l w) le he z = record { n = z.n; falls = z.falls; enough = z.enough; in_time = omega (arith, z.in_time, le); comes = z.comes; fits = z.fits }
+  added_to Ends n b h d e s c next (Stops why u l) le he z = record { n = z.n; in_time = omega (arith, z.in_time, he); logged = z.logged; over = z.over }
+  added_to Ends n b h d e s c next (Cut u c2 l) le he z = record { n = z.n; in_time = omega (arith, z.in_time, he); logged = z.logged; going = z.going; why = z.why }
+
+  pub within_to : {A : Type 0} (Ends : Result A → World → Type 0) (b h d e : ℕ) (s : State) (c : ℕ) (next : Result A → Log → World → State) (o : Out A) → b ≤ d → h ≤ e → RunsTo Ends b h s c next o → RunsTo Ends d e s c next o
+  within_to Ends b h d e s c next (Gives r u c2 l w) le he z = record { n = z.n; falls = z.falls; enough = z.enough; in_time = omega (arith, z.in_time, le); comes = z.comes; fits = z.fits }
+  within_to Ends b h d e s c next (Stops why u l) le he z = record { n = z.n; in_time = omega (arith, z.in_time, he); logged = z.logged; over = z.over }
+  within_to Ends b h d e s c next (Cut u c2 l) le he z = record { n = z.n; in_time = omega (arith, z.in_time, he); logged = z.logged; going = z.going; why = z.why }
+
+  -- one step, and at most one from the clock
+  pub one_step_to : {A : Type 0} (Ends : Result A → World → Type 0) (b h d e : ℕ) (s s1 : State) (c c1 : ℕ) (next : Result A → Log → World → State) (o : Out A) → b + 1 ≤ d → h + 1 ≤ e → c1 ≤ c → c ≤ c1 + 1 → step ask code s ≡ s1 → RunsTo Ends b h s1 c1 next o → RunsTo Ends d e s c next o
+  one_step_to Ends b h d e s s1 c c1 next (Gives r u c2 l w) le he lo hi there z = later_comes ask code 1 b d s s1 (next r l w) c c1 c2 u u there lo hi (omega (arith, le)) z
+  one_step_to Ends b h d e s s1 c c1 next (Stops why u l) le he lo hi there z = later_quits ask code 1 h e s s1 u u l why there (omega (arith, he)) z
+  one_step_to Ends b h d e s s1 c c1 next (Cut u c2 l) le he lo hi there z = later_halts ask code 1 h e s s1 c c1 u u l there hi (omega (arith, he)) z
+
+  -- one step, and that is all
+  pub last_step_to : {A : Type 0} (Ends : Result A → World → Type 0) (b h : ℕ) (s : State) (c t : ℕ) (next : Result A → Log → World → State) (r : Result A) (l : Log) (w : World) → 1 ≤ 64 * t + b → Ends r w → step ask code s ≡ next r l w → RunsTo Ends b h s c next (Gives r t c l w)
+  last_step_to Ends b h s c t next r l w le fits there = record { n = 1; falls = omega arith; enough = omega arith; in_time = le; comes = there; fits = fits }
+
+  -- no step
+  pub no_step_to : {A : Type 0} (Ends : Result A → World → Type 0) (b h : ℕ) (s : State) (c t : ℕ) (next : Result A → Log → World → State) (r : Result A) (l : Log) (w : World) → Ends r w → s ≡ next r l w → RunsTo Ends b h s c next (Gives r t c l w)
+  no_step_to Ends b h s c t next r l w fits there = record { n = 0; falls = omega arith; enough = omega arith; in_time = omega arith; comes = there; fits = fits }
+
+  -- one step to the end of an erroneous program
+  pub stop_step_to : {A : Type 0} (Ends : Result A → World → Type 0) (b h : ℕ) (s s1 : State) (c t : ℕ) (next : Result A → Log → World → State) (why : Stop) (l : Log) → 3 ≤ 64 * t + h → step ask code s ≡ s1 → s1.log ≡ l → s1.mode ≡ Stopped why → RunsTo Ends b h s c next (Stops why t l)
+  stop_step_to Ends b h s s1 c t next why l le there logged over = record { n = 1; in_time = omega (arith, le); logged = ap (λ (x : State). x.log) there ∙ logged; over = ap (λ (x : State). x.mode) there ∙ over }
+
+  -- the same end under another name
+  pub arriving_to : {A : Type 0} (Ends : Result A → World → Type 0) (b h : ℕ) (s : State) (c : ℕ) (mid next : Result A → Log → World → State) (o : Out A) → ((r : Result A) (l : Log) (w : World) → mid r l w ≡ next r l w) → RunsTo Ends b h s c mid o → RunsTo Ends b h s c next o
+  arriving_to Ends b h s c mid next (Gives r t c1 l w) same a = record { n = a.n; falls = a.falls; enough = a.enough; in_time = a.in_time; comes = a.comes ∙ same r l w; fits = a.fits }
+  arriving_to Ends b h s c mid next (Stops why t l) same a = a
+  arriving_to Ends b h s c mid next (Cut t c1 l) same a = a
+
+  -- one construct and then another
+  pub both_to : {A B : Type 0} (Before : Result A → World → Type 0) (Ends : Result B → World → Type 0) (b h b1 h1 d e : ℕ) (s : State) (c : ℕ) (mid : Result A → Log → World → State) (next : Result B → Log → World → State) (o : Out A) (f : Result A → Act B) → b + b1 ≤ d → h ≤ e → b + h1 ≤ e → RunsTo Before b h s c mid o → ((r : Result A) (c1 : ℕ) (l : Log) (w : World) → c1 ≤ c → Before r w → RunsTo Ends b1 h1 (mid r l w) c1 next (f r c1 l w)) → RunsTo Ends d e s c next (bind o f)
+  unfolding bind
+  both_to Before Ends b h b1 h1 d e s c mid next (Gives r t c1 l w) f le he fe a z = after_comes_to Ends b b1 h1 d e s (mid r l w) c c1 t next (f r c1 l w) le fe a (z r c1 l w a.falls a.fits)
+  both_to Before Ends b h b1 h1 d e s c mid next (Stops why t l) f le he fe a z = record { n = a.n; in_time = omega (arith, a.in_time, he); logged = a.logged; over = a.over }
+  both_to Before Ends b h b1 h1 d e s c mid next (Cut t c1 l) f le he fe a z = record { n = a.n; in_time = omega (arith, a.in_time, he); logged = a.logged; going = a.going; why = a.why }
+
+  -- results of which less is true
+  pub weaker_to : {A : Type 0} (Ends Less : Result A → World → Type 0) (b h : ℕ) (s : State) (c : ℕ) (next : Result A → Log → World → State) (o : Out A) → ((r : Result A) (w : World) → Ends r w → Less r w) → RunsTo Ends b h s c next o → RunsTo Less b h s c next o
+  weaker_to Ends Less b h s c next (Gives r t c1 l w) f z = record { n = z.n; falls = z.falls; enough = z.enough; in_time = z.in_time; comes = z.comes; fits = f r w z.fits }
+  weaker_to Ends Less b h s c next (Stops why t l) f z = z
+  weaker_to Ends Less b h s c next (Cut t c1 l) f z = z
+
 -- what is true of the worlds that are come to, where a result goes on and where it leaves
 module _ (ask : Ask) (code : Code) (Fits : Option Way → World → Type 0) where
   -- the machine does what the meaning gives
   abbrev pub Runs : {A : Type 0} → ℕ → ℕ → State → ℕ → (Result A → Log → World → State) → Out A → Type 0
-  Runs b h s c next (Gives r t c1 l w) = Comes ask code b s c t c1 (next r l w) (Fits (way_of r) w)
-  Runs b h s c next (Stops why t l) = Quits ask code h s t l why
-  Runs b h s c next (Cut t c1 l) = Halts ask code h s c t l
+  Runs b h s c next o = RunsTo ask code (λ r w. Fits (way_of r) w) b h s c next o
 
-  -- after a stretch that has come to its end
   pub after_comes : {A X : Type 0} (b b1 h1 d e : ℕ) (s s1 : State) (c c1 t : ℕ) (next : Result A → Log → World → State) (o : Out A) → b + b1 ≤ d → b + h1 ≤ e → Comes ask code b s c t c1 s1 X → Runs b1 h1 s1 c1 next o → Runs d e s c next (add t o)
-  unfolding add
-  after_comes b b1 h1 d e s s1 c c1 t next (Gives r u c2 l w) le he a z = later_comes ask code a.n b1 d s s1 (next r l w) c c1 c2 u (t + u) a.comes a.falls a.enough (omega (arith, a.in_time, le)) z
-  after_comes b b1 h1 d e s s1 c c1 t next (Stops why u l) le he a z = later_quits ask code a.n h1 e s s1 u (t + u) l why a.comes (omega (arith, a.in_time, he)) z
-  after_comes b b1 h1 d e s s1 c c1 t next (Cut u c2 l) le he a z = later_halts ask code a.n h1 e s s1 c c1 u (t + u) l a.comes a.enough (omega (arith, a.in_time, he)) z
+  after_comes = after_comes_to ask code (λ r w. Fits (way_of r) w)
+
+  pub added : {A : Type 0} (n b h d e : ℕ) (s : State) (c : ℕ) (next : Result A → Log → World → State) (o : Out A) → b ≤ 64 * n + d → h ≤ 64 * n + e → Runs b h s c next o → Runs d e s c next (add n o)
+  added = added_to ask code (λ r w. Fits (way_of r) w)
+
+  pub within : {A : Type 0} (b h d e : ℕ) (s : State) (c : ℕ) (next : Result A → Log → World → State) (o : Out A) → b ≤ d → h ≤ e → Runs b h s c next o → Runs d e s c next o
+  within = within_to ask code (λ r w. Fits (way_of r) w)
+
+  pub one_step : {A : Type 0} (b h d e : ℕ) (s s1 : State) (c c1 : ℕ) (next : Result A → Log → World → State) (o : Out A) → b + 1 ≤ d → h + 1 ≤ e → c1 ≤ c → c ≤ c1 + 1 → step ask code s ≡ s1 → Runs b h s1 c1 next o → Runs d e s c next o
+  one_step = one_step_to ask code (λ r w. Fits (way_of r) w)
+
+  pub last_step : {A : Type 0} (b h : ℕ) (s : State) (c t : ℕ) (next : Result A → Log → World → State) (r : Result A) (l : Log) (w : World) → 1 ≤ 64 * t + b → Fits (way_of r) w → step ask code s ≡ next r l w → Runs b h s c next (Gives r t c l w)
+  last_step = last_step_to ask code (λ r w. Fits (way_of r) w)
+
+  pub no_step : {A : Type 0} (b h : ℕ) (s : State) (c t : ℕ) (next : Result A → Log → World → State) (r : Result A) (l : Log) (w : World) → Fits (way_of r) w → s ≡ next r l w → Runs b h s c next (Gives r t c l w)
+  no_step = no_step_to ask code (λ r w. Fits (way_of r) w)
+
+  pub stop_step : {A : Type 0} (b h : ℕ) (s s1 : State) (c t : ℕ) (next : Result A → Log → World → State) (why : Stop) (l : Log) → 3 ≤ 64 * t + h → step ask code s ≡ s1 → s1.log ≡ l → s1.mode ≡ Stopped why → Runs b h s c next (Stops why t l)
+  stop_step = stop_step_to ask code (λ r w. Fits (way_of r) w)
+
+  pub arriving : {A : Type 0} (b h : ℕ) (s : State) (c : ℕ) (mid next : Result A → Log → World → State) (o : Out A) → ((r : Result A) (l : Log) (w : World) → mid r l w ≡ next r l w) → Runs b h s c mid o → Runs b h s c next o
+  arriving = arriving_to ask code (λ r w. Fits (way_of r) w)
 
   -- the same with what is a tick, which pays 64 steps
   pub after_paid : {A X : Type 0} (b b1 h1 d e : ℕ) (s s1 : State) (c c1 t : ℕ) (next : Result A → Log → World → State) (o : Out A) → b + b1 ≤ 64 + d → b + h1 ≤ 64 + e → Comes ask code b s c t c1 s1 X → Runs b1 h1 s1 c1 next o → Runs d e s c next (add t (add 1 o))
@@ -181,42 +260,6 @@ module _ (ask : Ask) (code : Code) (Fits : Option Way → World → Type 0) wher
   after_paid b b1 h1 d e s s1 c c1 t next (Gives r u c2 l w) le he a z = later_comes ask code a.n b1 d s s1 (next r l w) c c1 c2 u (t + (1 + u)) a.comes a.falls a.enough (omega (arith, a.in_time, le)) z
   after_paid b b1 h1 d e s s1 c c1 t next (Stops why u l) le he a z = later_quits ask code a.n h1 e s s1 u (t + (1 + u)) l why a.comes (omega (arith, a.in_time, he)) z
   after_paid b b1 h1 d e s s1 c c1 t next (Cut u c2 l) le he a z = later_halts ask code a.n h1 e s s1 c c1 u (t + (1 + u)) l a.comes a.enough (omega (arith, a.in_time, he)) z
-
-  -- greater counts of steps that no tick pays, and more ticks
-  pub added : {A : Type 0} (n b h d e : ℕ) (s : State) (c : ℕ) (next : Result A → Log → World → State) (o : Out A) → b ≤ 64 * n + d → h ≤ 64 * n + e → Runs b h s c next o → Runs d e s c next (add n o)
-  unfolding add
-  added n b h d e s c next (Gives r u c2 l w) le he z = record { n = z.n; falls = z.falls; enough = z.enough; in_time = omega (arith, z.in_time, le); comes = z.comes; fits = z.fits }
-  added n b h d e s c next (Stops why u l) le he z = record { n = z.n; in_time = omega (arith, z.in_time, he); logged = z.logged; over = z.over }
-  added n b h d e s c next (Cut u c2 l) le he z = record { n = z.n; in_time = omega (arith, z.in_time, he); logged = z.logged; going = z.going; why = z.why }
-
-  pub within : {A : Type 0} (b h d e : ℕ) (s : State) (c : ℕ) (next : Result A → Log → World → State) (o : Out A) → b ≤ d → h ≤ e → Runs b h s c next o → Runs d e s c next o
-  within b h d e s c next (Gives r u c2 l w) le he z = record { n = z.n; falls = z.falls; enough = z.enough; in_time = omega (arith, z.in_time, le); comes = z.comes; fits = z.fits }
-  within b h d e s c next (Stops why u l) le he z = record { n = z.n; in_time = omega (arith, z.in_time, he); logged = z.logged; over = z.over }
-  within b h d e s c next (Cut u c2 l) le he z = record { n = z.n; in_time = omega (arith, z.in_time, he); logged = z.logged; going = z.going; why = z.why }
-
-  -- one step, and at most one from the clock
-  pub one_step : {A : Type 0} (b h d e : ℕ) (s s1 : State) (c c1 : ℕ) (next : Result A → Log → World → State) (o : Out A) → b + 1 ≤ d → h + 1 ≤ e → c1 ≤ c → c ≤ c1 + 1 → step ask code s ≡ s1 → Runs b h s1 c1 next o → Runs d e s c next o
-  one_step b h d e s s1 c c1 next (Gives r u c2 l w) le he lo hi there z = later_comes ask code 1 b d s s1 (next r l w) c c1 c2 u u there lo hi (omega (arith, le)) z
-  one_step b h d e s s1 c c1 next (Stops why u l) le he lo hi there z = later_quits ask code 1 h e s s1 u u l why there (omega (arith, he)) z
-  one_step b h d e s s1 c c1 next (Cut u c2 l) le he lo hi there z = later_halts ask code 1 h e s s1 c c1 u u l there hi (omega (arith, he)) z
-
-  -- one step, and that is all
-  pub last_step : {A : Type 0} (b h : ℕ) (s : State) (c t : ℕ) (next : Result A → Log → World → State) (r : Result A) (l : Log) (w : World) → 1 ≤ 64 * t + b → Fits (way_of r) w → step ask code s ≡ next r l w → Runs b h s c next (Gives r t c l w)
-  last_step b h s c t next r l w le fits there = record { n = 1; falls = omega arith; enough = omega arith; in_time = le; comes = there; fits = fits }
-
-  -- no step
-  pub no_step : {A : Type 0} (b h : ℕ) (s : State) (c t : ℕ) (next : Result A → Log → World → State) (r : Result A) (l : Log) (w : World) → Fits (way_of r) w → s ≡ next r l w → Runs b h s c next (Gives r t c l w)
-  no_step b h s c t next r l w fits there = record { n = 0; falls = omega arith; enough = omega arith; in_time = omega arith; comes = there; fits = fits }
-
-  -- one step to the end of an erroneous program
-  pub stop_step : {A : Type 0} (b h : ℕ) (s s1 : State) (c t : ℕ) (next : Result A → Log → World → State) (why : Stop) (l : Log) → 3 ≤ 64 * t + h → step ask code s ≡ s1 → s1.log ≡ l → s1.mode ≡ Stopped why → Runs b h s c next (Stops why t l)
-  stop_step b h s s1 c t next why l le there logged over = record { n = 1; in_time = omega (arith, le); logged = ap (λ (x : State). x.log) there ∙ logged; over = ap (λ (x : State). x.mode) there ∙ over }
-
-  -- the same end under another name
-  pub arriving : {A : Type 0} (b h : ℕ) (s : State) (c : ℕ) (mid next : Result A → Log → World → State) (o : Out A) → ((r : Result A) (l : Log) (w : World) → mid r l w ≡ next r l w) → Runs b h s c mid o → Runs b h s c next o
-  arriving b h s c mid next (Gives r t c1 l w) same a = record { n = a.n; falls = a.falls; enough = a.enough; in_time = a.in_time; comes = a.comes ∙ same r l w; fits = a.fits }
-  arriving b h s c mid next (Stops why t l) same a = a
-  arriving b h s c mid next (Cut t c1 l) same a = a
 
   -- a few steps more that the meaning does not speak of
   pub further : {A : Type 0} (b h d e j : ℕ) (s : State) (c : ℕ) (mid next : Result A → Log → World → State) (o : Out A) → b + j ≤ d → h ≤ e → Runs b h s c mid o → ((r : Result A) (l : Log) (w : World) → (i : ℕ) × (i ≤ j) × (steps ask code i (mid r l w) ≡ next r l w)) → Runs d e s c next o
@@ -259,10 +302,7 @@ module _ (ask : Ask) (code : Code) (Fits : Option Way → World → Type 0) wher
 module _ (ask : Ask) (code : Code) (Before Fits : Option Way → World → Type 0) where
   -- one construct and then another
   pub both : {A B : Type 0} (b h b1 h1 d e : ℕ) (s : State) (c : ℕ) (mid : Result A → Log → World → State) (next : Result B → Log → World → State) (o : Out A) (f : Result A → Act B) → b + b1 ≤ d → h ≤ e → b + h1 ≤ e → Runs ask code Before b h s c mid o → ((r : Result A) (c1 : ℕ) (l : Log) (w : World) → c1 ≤ c → Before (way_of r) w → Runs ask code Fits b1 h1 (mid r l w) c1 next (f r c1 l w)) → Runs ask code Fits d e s c next (bind o f)
-  unfolding bind
-  both b h b1 h1 d e s c mid next (Gives r t c1 l w) f le he fe a z = after_comes ask code Fits b b1 h1 d e s (mid r l w) c c1 t next (f r c1 l w) le fe a (z r c1 l w a.falls a.fits)
-  both b h b1 h1 d e s c mid next (Stops why t l) f le he fe a z = record { n = a.n; in_time = omega (arith, a.in_time, he); logged = a.logged; over = a.over }
-  both b h b1 h1 d e s c mid next (Cut t c1 l) f le he fe a z = record { n = a.n; in_time = omega (arith, a.in_time, he); logged = a.logged; going = a.going; why = a.why }
+  both = both_to ask code (λ r w. Before (way_of r) w) (λ r w. Fits (way_of r) w)
 
   -- a stretch, a construct, and then what follows it
   pub both_from : {A B X : Type 0} (b0 b h h1 e d : ℕ) (s0 s : State) (c0 c t0 : ℕ) (mid : Result A → Log → World → State) (next : Result B → Log → World → State) (o : Out A) (f : Result A → Act B) → b0 + b ≤ h1 → b0 + h ≤ e → Comes ask code b0 s0 c0 t0 c s X → Runs ask code Before b h s c mid o
@@ -286,9 +326,7 @@ module _ (ask : Ask) (code : Code) (Fits : Option Way → World → Type 0) wher
 
   -- worlds of which less is true
   pub weaker : {A : Type 0} (Less : Option Way → World → Type 0) (b h : ℕ) (s : State) (c : ℕ) (next : Result A → Log → World → State) (o : Out A) → ((y : Option Way) (w : World) → Fits y w → Less y w) → Runs ask code Fits b h s c next o → Runs ask code Less b h s c next o
-  weaker Less b h s c next (Gives r t c1 l w) f z = record { n = z.n; falls = z.falls; enough = z.enough; in_time = z.in_time; comes = z.comes; fits = f (way_of r) w z.fits }
-  weaker Less b h s c next (Stops why t l) f z = z
-  weaker Less b h s c next (Cut t c1 l) f z = z
+  weaker Less b h s c next o f = weaker_to ask code (λ r w. Fits (way_of r) w) (λ r w. Less (way_of r) w) b h s c next o (λ r. f (way_of r))
 
 -- Joined constructs joined again ------------------------------------------------------------------
 

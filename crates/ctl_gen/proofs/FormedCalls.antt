@@ -1,32 +1,32 @@
--- The code of a call is well formed: each actual is a new operand, and the call takes them all (6.4).
-use Rattle.std.proofs.Common.{◌≡◌, ℕ, suc, ◌+◌, List, [], ◌∷◌, ◌++◌, length, map, Option, Some, None, true, refl, sym, ap, subst, arith}
+-- The code of a call is well formed where its actuals are: each of them is a new operand, and the call takes them all (6.4).
+use Rattle.std.proofs.Common.{◌≡◌, ℕ, suc, ◌+◌, List, [], ◌∷◌, ◌++◌, length, Option, Some, None, true, refl, sym, ap, ◌∙◌, subst, arith}
 use Rattle.ctl_program.specs.declared.types.Ty.{Ty}
 use Rattle.ctl_program.specs.declared.types.Ty.TheVariants.{Integer, Count, Boolean, Address, Handle, Access, Record}
 use Rattle.ctl_program.specs.declared.types.RecordType.{RecordType}
-use Rattle.ctl_program.specs.declared.expression.Actual.{Actual}
-use Rattle.ctl_program.specs.declared.expression.Actual.TheVariants.{rolls-ByValue, rolls-Copied, rolls-Part}
+use Rattle.ctl_program.specs.declared.operators.SubprogramKind.{SubprogramKind}
+use Rattle.ctl_program.specs.declared.operators.SubprogramKind.TheVariants.{Procedure, Function}
 use Rattle.ctl_well_typed.specs.Setting as W
 use Rattle.ctl_well_typed.specs.Types.{Covers}
 use Rattle.ctl_well_typed.specs.Types as J
-use Rattle.ctl_well_typed.specs.Expressions.{FitEach, Fits}
-use Rattle.ctl_well_typed.specs.Expressions as T
 use Rattle.ctl_code.specs.declared.kinds.Kind.{Kind}
 use Rattle.ctl_code.specs.declared.kinds.Kind.TheVariants.{Operand}
+use Rattle.ctl_code.specs.declared.code.Instr.{Instr}
 use Rattle.ctl_code.specs.declared.code.Instr.TheVariants as InstrOf
 use Rattle.ctl_code.specs.declared.code.Code.{Code}
-use Rattle.ctl_code.specs.Windows.{depth}
-use Rattle.ctl_code.specs.Valid.{HasFormals, HaveOperands, IsInScope, Leads}
+use Rattle.ctl_code.specs.Windows.{depth, height}
+use Rattle.ctl_code.specs.Valid as Valid
+use Rattle.ctl_code.specs.Valid.{HasFormals, HaveOperands, IsCalled, IsFine, IsInScope, Leads}
 use Rattle.ctl_layout.specs.Around.{new_operand}
 use Rattle.ctl_layout.specs.Parts.{Reached}
-use Rattle.ctl_layout.specs.Values.{ValueCode, reached_by, value_code}
 use Rattle.ctl_layout.specs.Records.{is_run_type}
-use Rattle.ctl_layout.specs.Layout.{ActualCode, actual_code, actuals_code, actuals_run, by_reference, by_value, missing_actual, with_actuals}
+use Rattle.ctl_layout.specs.Values.{ActualCode, ValueCode, actuals_code, by_reference, by_value, evaluates_code, function_call, moved_to, with_actuals}
 use Rattle.ctl_layout.proofs.Extensions.{both_true}
-use Rattle.ctl_gen.proofs.EmittedCalls.{actual_of, actuals_left}
-use Rattle.ctl_gen.proofs.Formed.{Formed, both, none, one}
+use Rattle.ctl_gen.specs.Emitted.{taking_actuals}
+use Rattle.ctl_gen.proofs.EmittedCalls.{actuals_left}
+use Rattle.ctl_gen.proofs.Formed.{Behind, Formed, both, none, one}
 use Rattle.ctl_gen.proofs.FormedParts.{part_formed}
 use Rattle.ctl_gen.proofs.FormedTypes.{run_scalar}
-use Rattle.ctl_gen.proofs.FormedValues.{Fine, Usable, typed_fine, usable_as}
+use Rattle.ctl_gen.proofs.FormedValues.{Fine, Own, Usable, moved_formed, usable_as, with_put}
 
 -- What stands there with the actuals --------------------------------------------------------------
 
@@ -47,15 +47,22 @@ as_deep : (actuals : List ActualCode) (s : List Kind) → depth (with_actuals ac
 as_deep [] s = refl
 as_deep (a ∷ more) s = as_deep more (Operand a.ty ∷ s)
 
--- as many actuals as formals
-pub as_many : {k : W.Setting} {env : W.Frames} {fs : List W.Formal} {actuals : List Actual} → FitEach k env fs actuals → length fs ≡ length (map actual_code actuals)
-as_many T.no_more_formals = refl
-as_many (T.one_more_formal fits more) = ap suc (as_many more)
+-- Subprograms that are called ---------------------------------------------------------------------
 
-module _ (code : Code) where
+-- one with a result is a function, and one without a procedure (6.1)
+abbrev pub kind_by : Option Ty → SubprogramKind
+kind_by None = Procedure
+kind_by (Some t) = Function
+
+-- each subprogram that can be called in these masters is declared in them, with slots for its formals
+abbrev pub MayCall : Code → W.Setting → Type 0
+MayCall code k = (env : W.Frames) (f : ℕ) (is : W.Signature) → W.Callable k env f is → IsInScope code (length env) (Some f) × HasFormals code (kind_by is.result) f (length is.formals)
+
+-- inside so many masters
+module _ (code : Code) (masters : ℕ) where
   -- an actual is a new operand of its type
   abbrev pub GoodActual : ActualCode → Type 0
-  GoodActual a = (s : List Kind) → Formed code (a.code s) s (Some (Operand a.ty ∷ s))
+  GoodActual a = (s : List Kind) → depth s ≡ masters → Formed code (a.code s) s (Some (Operand a.ty ∷ s))
 
   abbrev pub GoodActuals : List ActualCode → Type 0
   GoodActuals [] = Unit {0}
@@ -63,55 +70,64 @@ module _ (code : Code) where
 
   -- Calls ------------------------------------------------------------------------------------------
 
-  actuals_formed : (actuals : List ActualCode) (s : List Kind) → GoodActuals actuals → Formed code (actuals_code actuals s) s (Some (with_actuals actuals s))
-  actuals_formed [] s good = none code s
-  actuals_formed (a ∷ more) s good =
+  actuals_formed : (actuals : List ActualCode) (s : List Kind) → depth s ≡ masters → GoodActuals actuals → Formed code (actuals_code actuals s) s (Some (with_actuals actuals s))
+  actuals_formed [] s deep good = none code s
+  actuals_formed (a ∷ more) s deep good =
       let top = Operand a.ty ∷ s in
-      both code (a.code s) (actuals_code more top) s top (Some (with_actuals more top)) (good.0 s) (actuals_formed more top good.1)
+      both code (a.code s) (actuals_code more top) s top (Some (with_actuals more top)) (good.0 s deep) (actuals_formed more top deep good.1)
 
-  pub call_formed : (f : ℕ) (actuals : List ActualCode) (s : List Kind) → IsInScope code (depth s) (Some f) → HasFormals code f (length actuals) → GoodActuals actuals → Formed code (actuals_code actuals s ++ (InstrOf.Call f (length actuals), with_actuals actuals s) ∷ []) s (Some s)
-  call_formed f actuals s scope formals good =
+  -- actuals, and an instruction that takes them all
+  taking_formed : (i : Instr) (actuals : List ActualCode) (s : List Kind) (after : Option (List Kind)) → depth s ≡ masters → GoodActuals actuals → ((p : ℕ) → Behind code (p + 1) after → IsFine code p i (with_actuals actuals s)) → Formed code (taking_actuals i actuals s) s after
+  taking_formed i actuals s after deep good fine =
       let top = with_actuals actuals s in
-      let call = InstrOf.Call f (length actuals) in
-      both code (actuals_code actuals s) ((call, top) ∷ []) s top (Some s) (actuals_formed actuals s good)
-      (one code call top (Some s) (λ p next. (
-        subst (λ n. IsInScope code n (Some f)) (sym (as_deep actuals s)) scope,
-        formals,
-        actuals_stand actuals s,
-        subst (Leads code (p + 1)) (sym (actuals_left actuals s)) next,
-      )))
+      both code (actuals_code actuals s) ((i, top) ∷ []) s top after (actuals_formed actuals s deep good) (one code i top after fine)
 
-  -- Well-typed actuals -----------------------------------------------------------------------------
+  -- they are those of a call
+  called : (kind : SubprogramKind) (f : ℕ) (actuals : List ActualCode) (s : List Kind) → depth s ≡ masters → IsInScope code masters (Some f) → HasFormals code kind f (length actuals) → IsCalled code kind f (length actuals) (with_actuals actuals s)
+  called kind f actuals s deep scope formals = (subst (λ n. IsInScope code n (Some f)) (sym (as_deep actuals s ∙ deep)) scope, formals, actuals_stand actuals s)
+
+  pub call_formed : (f : ℕ) (actuals : List ActualCode) (s : List Kind) → depth s ≡ masters → IsInScope code masters (Some f) → HasFormals code Procedure f (length actuals) → GoodActuals actuals → Formed code (taking_actuals (InstrOf.Call f (length actuals)) actuals s) s (Some s)
+  call_formed f actuals s deep scope formals good =
+      taking_formed (InstrOf.Call f (length actuals)) actuals s (Some s) deep good
+      (λ p next. (called Procedure f actuals s deep scope formals, subst (Leads code (p + 1)) (sym (actuals_left actuals s)) next))
+
+  -- the value of a function
+  pub function_own : (f : ℕ) (actuals : List ActualCode) (ty : Ty) → Valid.IsScalar ty → IsInScope code masters (Some f) → HasFormals code Function f (length actuals) → GoodActuals actuals → Own code masters (function_call f actuals ty) ty
+  function_own f actuals ty scalar scope formals good = record {
+    own = refl;
+    usable = record {
+      scalar = scalar;
+      formed = λ to s deep at.
+          let top = Operand ty ∷ s in
+          let left = sym (actuals_left actuals s) in
+          both code (evaluates_code f actuals ty s) (moved_to to ty s) s top (Some (with_put to.named ty s))
+          (taking_formed (InstrOf.Evaluate f (length actuals) ty (height s)) actuals s (Some top) deep good
+          (λ p next. (scalar, called Function f actuals s deep scope formals, ap height left, subst (λ r. Leads code (p + 1) (Operand ty ∷ r)) left next)))
+          (moved_formed code to ty s scalar at);
+      constant = λ n is. absurd (cc);
+    };
+  }
+
+  -- Actuals ----------------------------------------------------------------------------------------
 
   module _ (records : List RecordType) where
-    value_good : (x : ValueCode) (k : W.Setting) (t s : Ty) → Covers k t s → (x.runs records ≡ true → Fine code x s) → (by_value x t).runs records ≡ true → GoodActual (by_value x t)
-    value_good x k t s J.same_type fine runs stack =
+    pub value_good : (x : ValueCode) (k : W.Setting) (t s : Ty) → Covers k t s → (x.runs records ≡ true → Fine code masters x s) → (by_value x t).runs records ≡ true → GoodActual (by_value x t)
+    value_good x k t s J.same_type fine runs stack deep =
         let e = both_true (is_run_type t) (x.runs records) runs in
-        let u : Usable code x t = usable_as code x t (run_scalar t e.0) (fine e.1) in
-        u.formed (new_operand stack) stack refl
-    value_good x k t s (J.ancestor descends) fine runs stack = absurd (cc)
+        let u : Usable code masters x t = usable_as code masters x t (run_scalar t e.0) (fine e.1) in
+        u.formed (new_operand stack) stack deep refl
+    value_good x k t s (J.ancestor descends) fine runs stack deep = absurd (cc)
 
-    reference_good : (o : Option Reached) (t : Ty) → (by_reference o t).runs records ≡ true → GoodActual (by_reference o t)
-    reference_good None t runs s = absurd (cc)
-    reference_good (Some o) (Record t) runs s = part_formed code records o t s runs
-    reference_good (Some o) Integer runs s = absurd (cc)
-    reference_good (Some o) Count runs s = absurd (cc)
-    reference_good (Some o) Boolean runs s = absurd (cc)
-    reference_good (Some o) Address runs s = absurd (cc)
-    reference_good (Some o) Handle runs s = absurd (cc)
-    reference_good (Some o) (Access a) runs s = absurd (cc)
+    pub reference_good : (o : Option Reached) (t : Ty) → (by_reference o t).runs records ≡ true → GoodActual (by_reference o t)
+    reference_good None t runs s deep = absurd (cc)
+    reference_good (Some o) (Record t) runs s deep = part_formed code records o t s runs
+    reference_good (Some o) Integer runs s deep = absurd (cc)
+    reference_good (Some o) Count runs s deep = absurd (cc)
+    reference_good (Some o) Boolean runs s deep = absurd (cc)
+    reference_good (Some o) Address runs s deep = absurd (cc)
+    reference_good (Some o) Handle runs s deep = absurd (cc)
+    reference_good (Some o) (Access a) runs s deep = absurd (cc)
 
     -- another name of the same actual
-    good_as : (a b : ActualCode) → a ≡ b → (b.runs records ≡ true → GoodActual b) → a.runs records ≡ true → GoodActual a
+    pub good_as : (a b : ActualCode) → a ≡ b → (b.runs records ≡ true → GoodActual b) → a.runs records ≡ true → GoodActual a
     good_as a b same h = subst (λ (x : ActualCode). x.runs records ≡ true → GoodActual x) (sym same) h
-
-    actual_good : {k : W.Setting} {env : W.Frames} {f : W.Formal} {a : Actual} → Fits k env f a → (actual_code a).runs records ≡ true → GoodActual (actual_code a)
-    actual_good {k} (T.by_value {x = x} {s = s} {t = t} covers typed) = good_as _ _ (actual_of _ (sym (rolls-ByValue x t))) (value_good (value_code x) k t s covers (typed_fine code records typed))
-    actual_good (T.by_reference {x = x} {t = t} from to denotes) = good_as _ _ (actual_of _ (sym (rolls-Part x t))) (reference_good (reached_by x) t)
-    actual_good (T.by_copy {x = x} {p = p} {t = t} written scalar denotes) = good_as _ (missing_actual t) (actual_of _ (sym (rolls-Copied x t (J.copy_of p t)))) (λ runs s. absurd (cc))
-
-    pub actuals_good : {k : W.Setting} {env : W.Frames} {fs : List W.Formal} {actuals : List Actual} → FitEach k env fs actuals → actuals_run (map actual_code actuals) records ≡ true → GoodActuals (map actual_code actuals)
-    actuals_good T.no_more_formals runs = tt
-    actuals_good (T.one_more_formal {a = a} {more = more} fits rest) runs =
-        let e = both_true ((actual_code a).runs records) (actuals_run (map actual_code more) records) runs in
-        (actual_good fits e.0, actuals_good rest e.1)

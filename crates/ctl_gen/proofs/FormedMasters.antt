@@ -18,21 +18,21 @@ use Rattle.ctl_program.specs.declared.statement.Master.{Master}
 use Rattle.ctl_well_typed.specs.Setting as W
 use Rattle.ctl_well_typed.specs.Expressions.{Perhaps}
 use Rattle.ctl_well_typed.specs.Expressions as T
-use Rattle.ctl_well_typed.specs.Statements.{Chosen, Done, DoneEach, Elaborated, ElaboratedEach, Fills, GuardedEach, HandledEach, Mastered, Raised}
+use Rattle.ctl_well_typed.specs.Statements.{Chosen, Done, DoneEach, Elaborated, ElaboratedEach, Fills, GuardedEach, HandledEach, Mastered, Raised, Returns}
 use Rattle.ctl_well_typed.specs.Statements as D
 use Rattle.ctl_code.specs.declared.kinds.Kind.{Kind}
 use Rattle.ctl_code.specs.declared.kinds.Kind.TheVariants.{Block}
 use Rattle.ctl_code.specs.declared.code.Instr.TheVariants as InstrOf
 use Rattle.ctl_code.specs.declared.code.Way.TheVariants as WayOf
 use Rattle.ctl_code.specs.declared.code.Code.{Code}
-use Rattle.ctl_code.specs.Windows.{variable_at}
-use Rattle.ctl_code.specs.Valid.{HasFormals, IsAtEnd, IsDeclarable, IsInScope, outermost}
+use Rattle.ctl_code.specs.Windows.{depth, variable_at}
+use Rattle.ctl_code.specs.Valid.{IsAtEnd, IsDeclarable, outermost}
 use Rattle.ctl_layout.specs.Around.{behind, local_at}
 use Rattle.ctl_layout.specs.Parts.{Reached, Variable, Part, part_runs, parts_run}
-use Rattle.ctl_layout.specs.Values.{ValueCode, copied, sourced, value_code, reached_by}
+use Rattle.ctl_layout.specs.Values.{ValueCode, actual_code, copied, sourced, value_code, value_type, reached_by}
 use Rattle.ctl_layout.specs.Records.{is_run_type}
 use Rattle.ctl_layout.specs.Defaults.{is_assignable, is_outermost}
-use Rattle.ctl_layout.specs.Layout.{ArmCode, HandlerCode, ItemCode, MasterCode, StatementCode, actual_code, all, all_items, arm_code, arms_run, assign, assign_record, block, call, exit, return, handled, handler_code, handlers_run, has_choice, in_master, inside, item_code, master_code, missing_statement, statement_code, tested, valued, with_value}
+use Rattle.ctl_layout.specs.Layout.{ArmCode, HandlerCode, ItemCode, MasterCode, StatementCode, all, all_items, arm_code, arms_run, assign, assign_record, block, call, exit, return, handled, handler_code, handlers_run, has_choice, in_master, inside, item_code, master_code, missing_statement, statement_code, tested, valued, with_value}
 use Rattle.ctl_layout.proofs.Extensions.{both_true}
 use Rattle.ctl_layout.proofs.TreeLayers.{arm_roll, layer_of, master_roll, handler_roll}
 use Rattle.ctl_gen.proofs.Place.{HasAt}
@@ -40,13 +40,14 @@ use Rattle.ctl_gen.proofs.Formed.{both, both_at, Formed, FormedAt, none, one}
 use Rattle.ctl_gen.proofs.FormedAround.{Agrees, agrees_inside, leave_behind, leaves_formed, newest_there}
 use Rattle.ctl_gen.proofs.FormedArms.{GoodArms, branches_stay}
 use Rattle.ctl_gen.proofs.FormedHandlers.{AreChoices, AreExceptions, GoodHandlers, StaysAtEnd, handled_stays}
-use Rattle.ctl_gen.proofs.FormedCalls.{actuals_good, as_many, call_formed}
+use Rattle.ctl_gen.proofs.FormedCalls.{MayCall, call_formed}
+use Rattle.ctl_gen.proofs.FormedExpressions.{actuals_good, has_formals, typed_fine}
 use Rattle.ctl_gen.proofs.FormedLines.{block_formed}
 use Rattle.ctl_gen.proofs.FormedParts.{record_formed}
-use Rattle.ctl_gen.proofs.FormedStatements.{MayDeclare, Stays, all_stay, assign_formed, assign_part_formed, copy_formed, declaration_formed, for_stays, leaves_stay, leaves_when_stay, loop_stays, tested_turns, valued_formed}
+use Rattle.ctl_gen.proofs.FormedStatements.{MayDeclare, Stays, all_stay, assign_formed, assign_part_formed, copy_formed, declaration_formed, for_stays, leaves_stay, leaves_when_stay, loop_stays, returned_formed, tested_turns, valued_formed}
 use Rattle.ctl_gen.proofs.FormedTexts.{print_formed}
 use Rattle.ctl_gen.proofs.FormedTypes.{run_scalar}
-use Rattle.ctl_gen.proofs.FormedValues.{Fine, typed_fine, usable_as, value_usable}
+use Rattle.ctl_gen.proofs.FormedValues.{Fine, usable_as, value_usable}
 
 -- a master has as many slots as it is told to
 pub slots_told : {k : W.Setting} {env : W.Frames} {f : W.Frame} {a : D.Around} {m : Master} → Mastered k env f a m → (master_code m).slots ≡ length f
@@ -55,7 +56,7 @@ slots_told (D.master {f = f} {is = items} {body = body} {hs = hs} elaborated don
 
 -- the operations of each record type that is declared around a place are declared there too, and so is each subprogram that can be called
 -- there, with slots for its formals; and those of one of the main procedure's own declarative part inside its master
-module _ (code : Code) (records : List RecordType) (k : W.Setting) (declarable : (env : W.Frames) (t : ℕ) → W.HasRecord k env t → IsDeclarable code (length env) t) (callable : (env : W.Frames) (f : ℕ) (is : W.Signature) → W.Callable k env f is → IsInScope code (length env) (Some f)) (formals : (env : W.Frames) (f : ℕ) (is : W.Signature) → W.Callable k env f is → HasFormals code f (length is.formals)) (assignable : (t : ℕ) → is_outermost (slice_get records t) ≡ true → IsDeclarable code outermost t) (raisable : (x : ℕ) → x < k.exceptions → x < length code.exceptions.items) where
+module _ (code : Code) (records : List RecordType) (k : W.Setting) (declarable : (env : W.Frames) (t : ℕ) → W.HasRecord k env t → IsDeclarable code (length env) t) (may_call : MayCall code k) (assignable : (t : ℕ) → is_outermost (slice_get records t) ≡ true → IsDeclarable code outermost t) (raisable : (x : ℕ) → x < k.exceptions → x < length code.exceptions.items) where
   -- Items ------------------------------------------------------------------------------------------
 
   may_declare : (env : W.Frames) (ty : Ty) → W.InView k env ty → MayDeclare code (length env) ty
@@ -74,26 +75,26 @@ module _ (code : Code) (records : List RecordType) (k : W.Setting) (declarable :
   filled : (env : W.Frames) (slot : ℕ) (h : W.Holding) (s : List Kind) → Fills env slot h → Agrees env s → (at : ℕ) × (variable_at s 0 slot ≡ Some at)
   filled env slot h s (D.fills names) agrees = agrees.slots (record { level = length env; slot = slot }) h names refl
 
-  valued_good : (slot : ℕ) (ty : Ty) (x : ValueCode) (s : List Kind) → (at : ℕ) × (variable_at s 0 slot ≡ Some at) → (x.runs records ≡ true → Fine code x ty) → (valued slot ty x).runs records ≡ true → Formed code ((valued slot ty x).code s) s (Some s)
-  valued_good slot ty x s cell fine runs =
+  valued_good : (masters slot : ℕ) (ty : Ty) (x : ValueCode) (s : List Kind) → depth s ≡ masters → (at : ℕ) × (variable_at s 0 slot ≡ Some at) → (x.runs records ≡ true → Fine code masters x ty) → (valued slot ty x).runs records ≡ true → Formed code ((valued slot ty x).code s) s (Some s)
+  valued_good masters slot ty x s deep cell fine runs =
       let g = both_true (is_run_type ty) (x.runs records) runs in
-      valued_formed code slot cell.0 ty x s cell.1 (usable_as code x ty (run_scalar ty g.0) (fine g.1))
+      valued_formed code masters slot cell.0 ty x s deep cell.1 (usable_as code masters x ty (run_scalar ty g.0) (fine g.1))
 
   -- a declaration with a value
-  given_good : (env : W.Frames) (slot : ℕ) (ty : Ty) (e : Expr) {s : List Kind} → W.InView k env ty → (at : ℕ) × (variable_at s 0 slot ≡ Some at) → ((value_code e).runs records ≡ true → Fine code (value_code e) ty) → (with_value slot ty (value_code e)).runs records ≡ true → Agrees env s → Formed code ((with_value slot ty (value_code e)).code s) s (Some s)
+  given_good : (env : W.Frames) (slot : ℕ) (ty : Ty) (e : Expr) {s : List Kind} → W.InView k env ty → (at : ℕ) × (variable_at s 0 slot ≡ Some at) → ((value_code e).runs records ≡ true → Fine code (length env) (value_code e) ty) → (with_value slot ty (value_code e)).runs records ≡ true → Agrees env s → Formed code ((with_value slot ty (value_code e)).code s) s (Some s)
   given_good env slot (Record t) e {s} view cell fine runs agrees = copy_formed code records slot t (copied t (value_code e)) s runs (subst (λ n. IsDeclarable code n t) (sym agrees.deep) (declarable env t view))
-  given_good env slot Integer e {s} view cell fine runs agrees = valued_good slot Integer (value_code e) s cell fine runs
-  given_good env slot Count e {s} view cell fine runs agrees = valued_good slot Count (value_code e) s cell fine runs
-  given_good env slot Boolean e {s} view cell fine runs agrees = valued_good slot Boolean (value_code e) s cell fine runs
-  given_good env slot Address e {s} view cell fine runs agrees = valued_good slot Address (value_code e) s cell fine runs
-  given_good env slot Handle e {s} view cell fine runs agrees = valued_good slot Handle (value_code e) s cell fine runs
-  given_good env slot (Access a) e {s} view cell fine runs agrees = valued_good slot (Access a) (value_code e) s cell fine runs
+  given_good env slot Integer e {s} view cell fine runs agrees = valued_good (length env) slot Integer (value_code e) s agrees.deep cell fine runs
+  given_good env slot Count e {s} view cell fine runs agrees = valued_good (length env) slot Count (value_code e) s agrees.deep cell fine runs
+  given_good env slot Boolean e {s} view cell fine runs agrees = valued_good (length env) slot Boolean (value_code e) s agrees.deep cell fine runs
+  given_good env slot Address e {s} view cell fine runs agrees = valued_good (length env) slot Address (value_code e) s agrees.deep cell fine runs
+  given_good env slot Handle e {s} view cell fine runs agrees = valued_good (length env) slot Handle (value_code e) s agrees.deep cell fine runs
+  given_good env slot (Access a) e {s} view cell fine runs agrees = valued_good (length env) slot (Access a) (value_code e) s agrees.deep cell fine runs
 
   object_good : (env : W.Frames) (slot : ℕ) (ty : Ty) (o : Option Expr) → Fills env slot (W.Declared ty) → W.InView k env ty → Perhaps k env o ty → GoodItem env (item_code (Object slot ty o))
   object_good env slot ty None fresh view T.left_out runs s agrees =
       let cell = filled env slot (W.Declared ty) s fresh agrees in
       declaration_formed code records slot cell.0 ty s runs cell.1 (subst (λ n. MayDeclare code n ty) (sym agrees.deep) (may_declare env ty view))
-  object_good env slot ty (Some e) fresh view (T.given h) runs s agrees = given_good env slot ty e view (filled env slot (W.Declared ty) s fresh agrees) (typed_fine code records h) runs agrees
+  object_good env slot ty (Some e) fresh view (T.given h) runs s agrees = given_good env slot ty e view (filled env slot (W.Declared ty) s fresh agrees) (typed_fine code records k may_call h) runs agrees
 
   item_good : {env : W.Frames} {x : Item} → Elaborated k env x → GoodItem env (item_code x)
   item_good {env} (D.object {number = slot} {t = ty} {value = o} fresh view perhaps) = object_good env slot ty o fresh view perhaps
@@ -118,12 +119,12 @@ module _ (code : Code) (records : List RecordType) (k : W.Setting) (declarable :
   not_missing : (env : W.Frames) (x : StatementCode) → x ≡ missing_statement → GoodStatement env x
   not_missing env x same runs = absurd (let e = sym (ap (λ (z : StatementCode). z.runs records) same) ∙ runs in cc)
 
-  assign_good : (env : W.Frames) (o : Option Reached) (x : ValueCode) (t : Ty) → (x.runs records ≡ true → Fine code x t) → GoodStatement env (assign o x)
+  assign_good : (env : W.Frames) (o : Option Reached) (x : ValueCode) (t : Ty) → (x.runs records ≡ true → Fine code (length env) x t) → GoodStatement env (assign o x)
   assign_good env None x t fine runs a n p agrees texts can = absurd (cc)
   assign_good env (Some (Part v steps u position)) x t fine runs a n p agrees texts can =
       let e = both_true (parts_run records steps u) (x.runs records) runs in
-      assign_part_formed code records v steps u position x a.stack e.0 (value_usable code x t (fine e.1)) p
-  assign_good env (Some (Variable v)) x t fine runs a n p agrees texts can = assign_formed code (local_at a.stack v) v x a.stack refl (value_usable code x t (fine runs)) p
+      assign_part_formed code records (length env) v steps u position x a.stack agrees.deep e.0 (value_usable code (length env) x t (fine e.1)) p
+  assign_good env (Some (Variable v)) x t fine runs a n p agrees texts can = assign_formed code (length env) (local_at a.stack v) v x a.stack agrees.deep refl (value_usable code (length env) x t (fine runs)) p
 
   record_good : (env : W.Frames) (o : Option Reached) (t : ℕ) (q : Option Reached) → GoodStatement env (assign_record o t q)
   record_good env None t q runs a n p agrees texts can = absurd (cc)
@@ -133,19 +134,20 @@ module _ (code : Code) (records : List RecordType) (k : W.Setting) (declarable :
       let f = both_true (part_runs source records) (is_assignable records t) e.1 in
       record_formed code records target source t a.stack e.0 f.0 (assignable t (both_true _ _ f.1).1) p
 
-  call_good : {env : W.Frames} {f : ℕ} {is : W.Signature} {actuals : List Actual} → W.Callable k env f is → T.FitEach k env is.formals actuals → GoodStatement env (call f (map actual_code actuals))
-  call_good {env} {f} {is} {actuals} can_call fits = λ runs a n p agrees texts can.
-      let scope = subst (λ m. IsInScope code m (Some f)) (sym agrees.deep) (callable env f is can_call) in
-      let slots = subst (HasFormals code f) (as_many fits) (formals env f is can_call) in
-      call_formed code f (map actual_code actuals) a.stack scope slots (actuals_good code records fits runs) p
+  call_good : {env : W.Frames} {f : ℕ} {is : W.Signature} {actuals : List Actual} → W.Callable k env f is → is.result ≡ None → T.FitEach k env is.formals actuals → GoodStatement env (call f (map actual_code actuals))
+  call_good {env} {f} {is} {actuals} can_call gives fits = λ runs a n p agrees texts can.
+      call_formed code (length env) f (map actual_code actuals) a.stack agrees.deep (may_call env f is can_call).0 (has_formals code k may_call can_call gives fits) (actuals_good code records k may_call fits runs) p
 
   leaving_good : {env : W.Frames} (o : Option Expr) → Perhaps k env o Boolean → GoodStatement env (exit (option_map value_code o))
   leaving_good {env} None T.left_out runs = leaves_stay code env
-  leaving_good {env} (Some e) (T.given h) runs = leaves_when_stay code env (value_code e) (usable_as code (value_code e) Boolean tt (typed_fine code records h runs))
+  leaving_good {env} (Some e) (T.given h) runs = leaves_when_stay code env (value_code e) (usable_as code (length env) (value_code e) Boolean tt (typed_fine code records k may_call h runs))
 
-  returning_good : {env : W.Frames} (o : Option Expr) → GoodStatement env (return (option_map value_code o))
-  returning_good None runs = λ a n p agrees texts can. one code (InstrOf.Transfer WayOf.Return) a.stack (Some a.stack) (λ q next. tt) p
-  returning_good (Some e) runs = absurd (cc)
+  returning_good : {env : W.Frames} {gives : Option Ty} (o : Option Expr) → Returns k env gives o → GoodStatement env (return (option_map value_code o))
+  returning_good None D.nothing runs = λ a n p agrees texts can. one code (InstrOf.Transfer WayOf.Return) a.stack (Some a.stack) (λ q next. tt) p
+  returning_good {env} (Some e) (D.result {t = t} h) runs = λ a n p agrees texts can.
+      let x = value_code e in
+      let g = both_true (is_run_type (value_type x)) (x.runs records) runs in
+      returned_formed code (length env) x a.stack agrees.deep (value_usable code (length env) x t (typed_fine code records k may_call h g.1)) p
 
   -- Masters ------------------------------------------------------------------------------------------
 
@@ -199,12 +201,12 @@ module _ (code : Code) (records : List RecordType) (k : W.Setting) (declarable :
   mutual
     pub statement_good : {env : W.Frames} {a : D.Around} {y : Stmt} → Done k env a y → GoodStatement env (statement_code y)
     statement_good {env} D.null = good_as env _ _ (layer_of _ (sym rolls-Null)) (λ runs a n p agrees texts can. none code a.stack p)
-    statement_good {env} (D.assign {x = x} {v = v} {t = t} scalar denotes h) = good_as env _ _ (layer_of _ (sym (rolls-Assign x v))) (assign_good env (reached_by x) (value_code v) t (λ runs. typed_fine code records h runs))
-    statement_good {env} (D.put {ps = ps} puts) = good_as env _ _ (layer_of _ (sym (rolls-Put ps))) (λ runs a n p agrees texts can. print_formed code records false n ps puts runs texts.0 a.stack p)
-    statement_good {env} (D.put_line {ps = ps} puts) = good_as env _ _ (layer_of _ (sym (rolls-PutLine ps))) (λ runs a n p agrees texts can. print_formed code records true n ps puts runs texts.0 a.stack p)
+    statement_good {env} (D.assign {x = x} {v = v} {t = t} scalar denotes h) = good_as env _ _ (layer_of _ (sym (rolls-Assign x v))) (assign_good env (reached_by x) (value_code v) t (λ runs. typed_fine code records k may_call h runs))
+    statement_good {env} (D.put {ps = ps} puts) = good_as env _ _ (layer_of _ (sym (rolls-Put ps))) (λ runs a n p agrees texts can. print_formed code records k may_call false n ps puts runs texts.0 a.stack agrees.deep p)
+    statement_good {env} (D.put_line {ps = ps} puts) = good_as env _ _ (layer_of _ (sym (rolls-PutLine ps))) (λ runs a n p agrees texts can. print_formed code records k may_call true n ps puts runs texts.0 a.stack agrees.deep p)
     statement_good {env} D.new_line = good_as env _ _ (layer_of _ (sym rolls-NewLine)) (λ runs a n p agrees texts can. one code InstrOf.NewLine a.stack (Some a.stack) (λ q next. next) p)
     statement_good {env} (D.raise {x = x} known) = good_as env _ _ (layer_of _ (sym (rolls-Raise x))) (λ runs a n p agrees texts can. one code (InstrOf.Transfer (WayOf.Raise x)) a.stack (Some a.stack) (λ q next. raisable x known) p)
-    statement_good {env} (D.return {x = o} returns) = good_as env _ _ (layer_of _ (sym (rolls-Return o))) (returning_good o)
+    statement_good {env} (D.return {x = o} returns) = good_as env _ _ (layer_of _ (sym (rolls-Return o))) (returning_good o returns)
     statement_good {env} (D.exit {x = o} inside_a_loop perhaps) = good_as env _ _ (layer_of _ (sym (rolls-Exit o))) (leaving_good o perhaps)
     statement_good {env} (D.choose {arms = arms} {others = others} each rest) =
         good_as env _ _ (layer_of _ (sym (rolls-If arms others))) (λ runs.
@@ -216,7 +218,7 @@ module _ (code : Code) (records : List RecordType) (k : W.Setting) (declarable :
         good_as env _ _ (layer_of _ (sym (rolls-While e body))) (λ runs.
         let b = all (map statement_code body) in
         let g = both_true ((value_code e).runs records) (b.runs records) runs in
-        loop_stays code env (tested (value_code e) b) (tested_turns code env (value_code e) b (usable_as code (value_code e) Boolean tt (typed_fine code records t g.0)) (each_good h g.1)))
+        loop_stays code env (tested (value_code e) b) (tested_turns code env (value_code e) b (usable_as code (length env) (value_code e) Boolean tt (typed_fine code records k may_call t g.0)) (each_good h g.1)))
     statement_good {env} (D.for {number = number} {way = way} {low = low} {high = high} {body = body} (D.fills names) from to h) =
         let v : Var = record { level = length env; slot = number } in
         good_as env _ _ (layer_of _ (sym (rolls-For v way low high body))) (λ runs.
@@ -224,12 +226,12 @@ module _ (code : Code) (records : List RecordType) (k : W.Setting) (declarable :
         let e = both_true ((value_code low).runs records) ((value_code high).runs records && b.runs records) runs in
         let g = both_true ((value_code high).runs records) (b.runs records) e.1 in
         for_stays code env v way (value_code low) (value_code high) b (λ s agrees. newest_there env s v W.LoopParameter agrees names refl)
-        (usable_as code (value_code low) Integer tt (typed_fine code records from e.0))
-        (usable_as code (value_code high) Integer tt (typed_fine code records to g.0))
+        (usable_as code (length env) (value_code low) Integer tt (typed_fine code records k may_call from e.0))
+        (usable_as code (length env) (value_code high) Integer tt (typed_fine code records k may_call to g.0))
         (each_good h g.1))
     statement_good {env} (D.block {m = m} {f = f} h) = good_as env _ _ (layer_of _ (sym (rolls-Block m))) (block_good env f (master_code m) (slots_told h) (master_good h))
     statement_good {env} (D.assign_record {x = x} {t = t} {v = v} denotes fits) = good_as env _ _ (layer_of _ (sym (rolls-AssignRecord x t v))) (record_good env (reached_by x) t (sourced v))
-    statement_good {env} (D.call {s = f} {actuals = actuals} can_call gives fits) = good_as env _ _ (layer_of _ (sym (rolls-Call f actuals))) (call_good can_call fits)
+    statement_good {env} (D.call {s = f} {actuals = actuals} can_call gives fits) = good_as env _ _ (layer_of _ (sym (rolls-Call f actuals))) (call_good can_call gives fits)
     statement_good {env} (D.nothing_done {x = x} views) = not_missing env _ (layer_of _ (sym (rolls-Nothing x)))
     statement_good {env} (D.dispatch {o = o} {x = x} views) = not_missing env _ (layer_of _ (sym (rolls-Dispatch o x)))
     statement_good {env} (D.library_allocate {p = p} {x = x} {size = size} {alignment = alignment} views rooted denotes h g) = not_missing env _ (layer_of _ (sym (rolls-LibraryAllocate p x size alignment)))
@@ -252,7 +254,7 @@ module _ (code : Code) (records : List RecordType) (k : W.Setting) (declarable :
         let b = all (map statement_code body) in
         let f = both_true ((value_code e).runs records) (b.runs records && arms_run (map arm_code more) records) runs in
         let g = both_true (b.runs records) (arms_run (map arm_code more) records) f.1 in
-        (tested_turns code env (value_code e) b (usable_as code (value_code e) Boolean tt (typed_fine code records t f.0)) (each_good h g.0), arms_good rest g.1))
+        (tested_turns code env (value_code e) b (usable_as code (length env) (value_code e) Boolean tt (typed_fine code records k may_call t f.0)) (each_good h g.0), arms_good rest g.1))
 
     handlers_good : {env : W.Frames} {a : D.Around} {ys : List Handler} → HandledEach k env a ys → handlers_run (map handler_code ys) records ≡ true → GoodHandlers code env (map handler_code ys)
     handlers_good D.no_more_handlers = λ runs. tt

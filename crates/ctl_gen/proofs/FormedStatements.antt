@@ -17,7 +17,7 @@ use Rattle.ctl_code.specs.Valid.{IsCellOf, IsDeclarable, Leads}
 use Rattle.ctl_layout.specs.Parts.{Reached, located_code, part_code, parts_run}
 use Rattle.ctl_layout.specs.Around.{Line, Around, behind, local_at, local_cell, new_operand, newest_at, newest_cell, out_to}
 use Rattle.ctl_layout.specs.Values.{ValueCode, held, value_type}
-use Rattle.ctl_layout.specs.Layout.{StatementCode, all, assign_code, assign_part_code, bounds_code, copy, declaration, for, in_loop, leaves_code, loop, scalar_code, store_part_code, test_code, test_held, test_length, tested_code, turns_code, valued_code, with_bounds}
+use Rattle.ctl_layout.specs.Layout.{StatementCode, all, assign_code, assign_part_code, bounds_code, copy, declaration, for, in_loop, leaves_code, loop, return_held, scalar_code, store_part_code, test_code, test_held, test_length, tested_code, turns_code, valued_code, with_bounds}
 use Rattle.ctl_layout.specs.Defaults.{is_declared}
 use Rattle.ctl_layout.proofs.Extensions.{both_true}
 use Rattle.ctl_gen.proofs.Place.{HasAt}
@@ -40,11 +40,11 @@ module _ (code : Code) where
       (one code InstrOf.Number s (Some s) (λ p next. next)))
 
   -- and one with a value
-  pub valued_formed : (slot at : ℕ) (ty : Ty) (x : ValueCode) (s : List Kind) → variable_at s 0 slot ≡ Some at → Usable code x ty → Formed code (valued_code (variable_at s 0 slot) slot ty x s) s (Some s)
-  valued_formed slot at ty x s there usable =
+  pub valued_formed : (masters slot at : ℕ) (ty : Ty) (x : ValueCode) (s : List Kind) → depth s ≡ masters → variable_at s 0 slot ≡ Some at → Usable code masters x ty → Formed code (valued_code (variable_at s 0 slot) slot ty x s) s (Some s)
+  valued_formed masters slot at ty x s deep there usable =
       subst (λ o. Formed code (valued_code o slot ty x s) s (Some s)) (sym there)
       (both code (x.code (newest_cell slot at) ty s) ((InstrOf.Number, s) ∷ []) s s (Some s)
-      (usable.formed (newest_cell slot at) s there)
+      (usable.formed (newest_cell slot at) s deep there)
       (one code InstrOf.Number s (Some s) (λ p next. next)))
 
   -- a declaration without a value, of a type whose operations are in scope if it is a record type
@@ -88,32 +88,41 @@ module _ (code : Code) where
       (h a n p agrees (Place.has_front code.texts.items n x.texts (all xs).texts texts) can)
       (rest (behind size a) n1 (p + size) agrees (Place.has_back code.texts.items n x.texts (all xs).texts texts) (leave_behind code p size (p + size) a refl can))
 
-  pub assign_formed : (o : Option ℕ) (v : Var) (x : ValueCode) (s : List Kind) → local_at s v ≡ o → Usable code x (value_type x) → Formed code (assign_code o v x s) s (Some s)
-  assign_formed (Some at) v x s here usable = usable.formed (local_cell s v at) s here
-  assign_formed None v x s here usable =
+  pub assign_formed : (masters : ℕ) (o : Option ℕ) (v : Var) (x : ValueCode) (s : List Kind) → depth s ≡ masters → local_at s v ≡ o → Usable code masters x (value_type x) → Formed code (assign_code o v x s) s (Some s)
+  assign_formed masters (Some at) v x s deep here usable = usable.formed (local_cell s v at) s deep here
+  assign_formed masters None v x s deep here usable =
       let h = held x (value_type x) s in
-      let f = found code x (value_type x) s usable in
+      let f = found code masters x (value_type x) s deep usable in
       let store = InstrOf.Store h.cell (value_type x) (out_to s v) v.slot in
       both code h.code ((store, h.after) ∷ []) s h.after (Some s) f.formed
       (one code store h.after (Some s) (λ p next. (usable.scalar, (s, f.taken, next))))
 
   -- a value goes into a component of a part
-  pub assign_part_formed : (records : List RecordType) (v : Var) (steps : List Step) (t position : ℕ) (x : ValueCode) (s : List Kind) → parts_run records steps t ≡ true → Usable code x (value_type x) → Formed code (assign_part_code v steps t position x s) s (Some s)
-  assign_part_formed records v steps t position x s runs usable =
+  pub assign_part_formed : (records : List RecordType) (masters : ℕ) (v : Var) (steps : List Step) (t position : ℕ) (x : ValueCode) (s : List Kind) → depth s ≡ masters → parts_run records steps t ≡ true → Usable code masters x (value_type x) → Formed code (assign_part_code v steps t position x s) s (Some s)
+  assign_part_formed records masters v steps t position x s deep runs usable =
       let over = Operand (Record t) ∷ s in
       let h = held x (value_type x) over in
-      let f = found code x (value_type x) over usable in
+      let f = found code masters x (value_type x) over deep usable in
       let store = InstrOf.StorePart h.cell (value_type x) t position in
       both code (located_code v steps t s) (store_part_code t position x s) s over (Some s) (located_formed code records v steps t s runs)
       (both code h.code ((store, h.after) ∷ []) over h.after (Some s) f.formed
       (one code store h.after (Some s) (λ p next. (usable.scalar, (over, f.taken, (s, refl, next))))))
+
+  -- a return statement with a value (6.5)
+  pub returned_formed : (masters : ℕ) (x : ValueCode) (s : List Kind) → depth s ≡ masters → Usable code masters x (value_type x) → Formed code (return_held (value_type x) (held x (value_type x) s)) s (Some s)
+  returned_formed masters x s deep usable =
+      let h = held x (value_type x) s in
+      let f = found code masters x (value_type x) s deep usable in
+      let return = InstrOf.Return h.cell (value_type x) in
+      both code h.code ((return, h.after) ∷ []) s h.after (Some s) f.formed
+      (one code return h.after (Some s) (λ p next. (usable.scalar, (s, f.taken, tt))))
 
   -- Conditions -------------------------------------------------------------------------------------
 
   pub leaves_stay : (env : W.Frames) → Stays env [] (λ a n. leaves_code a)
   leaves_stay env a n p agrees texts can = leaves_formed code p a can
 
-  pub leaves_when_stay : (env : W.Frames) (x : ValueCode) → Usable code x Boolean → Stays env [] (λ a n. test_code x a.stack 1 ++ leaves_code (behind (test_length x a.stack) a))
+  pub leaves_when_stay : (env : W.Frames) (x : ValueCode) → Usable code (length env) x Boolean → Stays env [] (λ a n. test_code x a.stack 1 ++ leaves_code (behind (test_length x a.stack) a))
   leaves_when_stay env x usable a n p agrees texts can has =
       let s = a.stack in
       let h = held x Boolean s in
@@ -124,12 +133,12 @@ module _ (code : Code) where
       let skip = leads_at code (p + length (test ++ end)) (p + length h.code + 1 + 1) s last (has_end code p (test ++ end) (Some s) has) in
       let there : p + test_length x s ≡ p + length test = omega (arith, size) in
       both_at code p test end s s (Some s)
-      (test_formed code p h 1 s (found code x Boolean s usable) skip)
+      (test_formed code p h 1 s (found code (length env) x Boolean s agrees.deep usable) skip)
       (leaves_formed code (p + length test) (behind (test_length x s) a) (leave_behind code p (test_length x s) (p + length test) a there can))
       has
 
   -- statements that are passed over where a condition does not hold
-  pub tested_turns : (env : W.Frames) (x : ValueCode) (body : StatementCode) → Usable code x Boolean → Stays env body.texts body.code → Turns env body.texts (tested_code x 1 body)
+  pub tested_turns : (env : W.Frames) (x : ValueCode) (body : StatementCode) → Usable code (length env) x Boolean → Stays env body.texts body.code → Turns env body.texts (tested_code x 1 body)
   tested_turns env x body usable g a n p agrees texts can skip =
       let s = a.stack in
       let h = held x Boolean s in
@@ -140,7 +149,7 @@ module _ (code : Code) where
       let there : p + size ≡ p + length test = omega (arith, counted) in
       let last : p + length (test ++ b) + 1 ≡ p + length h.code + 1 + (length b + 1) = omega (arith, counted, length-append test b) in
       both_at code p test b s s (Some s)
-      (test_formed code p h (length b + 1) s (found code x Boolean s usable) (leads_at code (p + length (test ++ b) + 1) (p + length h.code + 1 + (length b + 1)) s last skip))
+      (test_formed code p h (length b + 1) s (found code (length env) x Boolean s agrees.deep usable) (leads_at code (p + length (test ++ b) + 1) (p + length h.code + 1 + (length b + 1)) s last skip))
       (g (behind size a) n (p + length test) agrees texts (leave_behind code p size (p + length test) a there can))
 
   -- Loops ------------------------------------------------------------------------------------------
@@ -149,7 +158,7 @@ module _ (code : Code) where
   loop_stays env x h a n p agrees texts can =
       loop_formed code p a.stack (x.code (in_loop a.stack) n) (λ lead behind_it. h (in_loop a.stack) n (p + 1 + 1) agrees texts (p + 1, refl, lead) behind_it)
 
-  pub for_stays : (env : W.Frames) (v : Var) (way : Direction) (low high : ValueCode) (body : StatementCode) → ((s : List Kind) → Agrees env s → (at : ℕ) × (newest_at s v ≡ Some at) × (variable_at s 0 v.slot ≡ Some at)) → Usable code low Integer → Usable code high Integer → Stays env body.texts body.code → Stays env (for v way low high body).texts (for v way low high body).code
+  pub for_stays : (env : W.Frames) (v : Var) (way : Direction) (low high : ValueCode) (body : StatementCode) → ((s : List Kind) → Agrees env s → (at : ℕ) × (newest_at s v ≡ Some at) × (variable_at s 0 v.slot ≡ Some at)) → Usable code (length env) low Integer → Usable code (length env) high Integer → Stays env body.texts body.code → Stays env (for v way low high body).texts (for v way low high body).code
   for_stays env v way low high body parameter from to h a n p agrees texts can =
       let s = a.stack in
       let one_up = Operand Integer ∷ s in
@@ -160,6 +169,6 @@ module _ (code : Code) where
       let q = p + length (bounds_code low high s) in
       let cell = parameter s agrees in
       both_at code p (bounds_code low high s) (turns_code (newest_at s v) v way turn s) s top (Some s)
-      (both code first second s one_up (Some top) (from.formed (new_operand s) s refl) (to.formed (new_operand one_up) one_up refl) p)
+      (both code first second s one_up (Some top) (from.formed (new_operand s) s agrees.deep refl) (to.formed (new_operand one_up) one_up agrees.deep refl) p)
       (subst (λ o. FormedAt code q (turns_code o v way turn s) top (Some s)) (sym cell.1)
       (turns_formed code q s v way cell.0 turn cell.2 (λ lead. h (in_loop top) n (q + 1 + 1) (agrees_under env one_up Integer (agrees_under env s Integer agrees)) texts (q + 1, refl, lead))))

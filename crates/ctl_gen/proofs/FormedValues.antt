@@ -1,5 +1,5 @@
--- The code of a well-typed expression is well formed, and puts a value of its type where it is wanted.
-use Rattle.std.proofs.Common.{◌≡◌, ℕ, ◌+◌, List, [], ◌∷◌, ◌++◌, length, map, Option, Some, None, true, ◌⊎◌, inl, inr, refl, sym, ap, ◌∙◌, subst}
+-- The code of an expression is well formed where its parts are, and puts a value of its type where it is wanted.
+use Rattle.std.proofs.Common.{◌≡◌, ℕ, ◌+◌, List, [], ◌∷◌, ◌++◌, length, Option, Some, None, true, ◌⊎◌, inl, inr, refl, sym, ap, ◌∙◌, subst}
 use Rattle.std.specs.Prelude.{◌&&◌, unwrap_or}
 use Rattle.ctl_program.specs.declared.types.Ty.{Ty}
 use Rattle.ctl_program.specs.declared.types.Ty.TheVariants.{Integer, Boolean}
@@ -9,14 +9,9 @@ use Rattle.ctl_program.specs.declared.types.Var.{Var}
 use Rattle.ctl_program.specs.declared.operators.Shortcut.{Shortcut}
 use Rattle.ctl_program.specs.declared.operators.UnaryOp.{UnaryOp}
 use Rattle.ctl_program.specs.declared.operators.BinaryOp.{BinaryOp}
-use Rattle.ctl_program.specs.declared.expression.Expr.{Expr}
 use Rattle.ctl_program.specs.declared.expression.Step.{Step}
-use Rattle.ctl_program.specs.declared.expression.Operand.{Operand, roll-Operand}
-use Rattle.ctl_well_typed.specs.Setting as W
 use Rattle.ctl_well_typed.specs.Types.{Joins, IsCell}
 use Rattle.ctl_well_typed.specs.Types as J
-use Rattle.ctl_well_typed.specs.Expressions.{Chains, Truths, Typed}
-use Rattle.ctl_well_typed.specs.Expressions as T
 use Rattle.ctl_code.specs.declared.kinds.Kind.{Kind}
 use Rattle.ctl_code.specs.declared.kinds.Kind.TheVariants as KindOf
 use Rattle.ctl_code.specs.declared.code.Named.{Named}
@@ -24,7 +19,7 @@ use Rattle.ctl_code.specs.declared.code.Named.TheVariants as NamedOf
 use Rattle.ctl_code.specs.declared.code.Cell.{Cell}
 use Rattle.ctl_code.specs.declared.code.Instr.TheVariants as InstrOf
 use Rattle.ctl_code.specs.declared.code.Code.{Code}
-use Rattle.ctl_code.specs.Windows.{height, variable_at}
+use Rattle.ctl_code.specs.Windows.{depth, height, variable_at}
 use Rattle.ctl_code.specs.Valid as Valid
 use Rattle.ctl_code.specs.Valid.{BinaryOf, IsCellOf, IsFine, Leads, Puts, Taken, UnaryOf}
 use Rattle.ctl_layout.specs.declared.right.Right.{Right}
@@ -32,13 +27,11 @@ use Rattle.ctl_layout.specs.declared.right.Right.TheVariants as RightOf
 use Rattle.ctl_layout.specs.Around.{Line, local_at, new_operand, out_to}
 use Rattle.ctl_layout.specs.Records.{is_run_type}
 use Rattle.ctl_layout.specs.Parts.{Reached, Variable, Part, component_code, located_code, parts_run}
-use Rattle.ctl_layout.specs.Values.{Held, OperatorCode, ValueCode, binary_code, chain, common_type, constant, evaluated, first_type, held, held_by, in_cell, last_type, left_held, missing_value, moved_to, next_target, operand_type, operator_by, operator_code, operator_for, operator_of, operators_code, operators_run, other_code, others_code, read, read_from, short, unary, value_code, value_type, values_run, reached_by}
+use Rattle.ctl_layout.specs.Values.{Held, OperatorCode, ValueCode, binary_code, chain, common_type, constant, evaluated, first_type, held, held_by, in_cell, last_type, left_held, moved_to, next_target, operand_type, operator_by, operator_code, operator_for, operators_code, other_code, others_code, read, read_from, short, unary, value_type}
 use Rattle.ctl_layout.proofs.Extensions.{both_true}
-use Rattle.ctl_layout.proofs.Layers.{value_access, value_call, value_chain, value_constant, value_convert, value_discriminant, value_new, value_read, value_short, value_subpool, value_unary}
-use Rattle.ctl_layout.proofs.TreeLayers.{operator_roll}
 use Rattle.ctl_gen.proofs.Formed.{Formed, both, has_end, none, one}
 use Rattle.ctl_gen.proofs.FormedParts.{located_formed}
-use Rattle.ctl_gen.proofs.FormedTypes.{arithmetic_of, cell_of, equality_relates, is_relation, joins_scalar, logical_of, number_of, number_scalar, of_arithmetic, of_logical, of_relation, ordering_relates, relation_of, run_scalar, takes_unary}
+use Rattle.ctl_gen.proofs.FormedTypes.{arithmetic_of, cell_of, equality_relates, is_relation, logical_of, number_of, number_scalar, of_arithmetic, of_logical, of_relation, ordering_relates, relation_of, run_scalar}
 
 -- Cells -------------------------------------------------------------------------------------------
 
@@ -60,6 +53,14 @@ target_placed : (os : List OperatorCode) (to : Cell) (s : List Kind) → Placed 
 target_placed [] to s at = at
 target_placed (o ∷ os) to s at = refl
 
+-- what is taken from a cell is no master
+taken_deep : (cell : Cell) (ty : Ty) (s below : List Kind) → Taken cell ty s below → depth s ≡ depth below
+taken_deep cell ty s below = by cell.named cell.at
+  where
+    by : (named : Named) (at : ℕ) → Taken (record { at = at; named = named }) ty s below → depth s ≡ depth below
+    by NamedOf.Operand at h = ap depth h.0
+    by (NamedOf.Variable out slot) at h = ap depth h.0
+
 module _ (code : Code) where
   pub puts : (place : ℕ) (to : Cell) (ty : Ty) (s : List Kind) → Placed to s → Leads code (place + 1) (with_put to.named ty s) → Puts code place to ty s
   puts place to ty s = by to.named to.at
@@ -68,10 +69,27 @@ module _ (code : Code) where
       by NamedOf.Operand at h next = (h, next)
       by (NamedOf.Variable out slot) at h next = (h, next)
 
+  -- Where an operand is found -----------------------------------------------------------------------
+
+  -- behind its lines a value of this type is taken from its cell
+  pub record Found (h : Held) (ty : Ty) (s : List Kind) : Type 0 where
+    pub formed : Formed code h.code s (Some h.after)
+    pub taken : Taken h.cell ty h.after s
+
+  -- the newest operand goes where it is wanted
+  pub moved_formed : (to : Cell) (ty : Ty) (s : List Kind) → Valid.IsScalar ty → Placed to s → Formed code (moved_to to ty s) (KindOf.Operand ty ∷ s) (Some (with_put to.named ty s))
+  moved_formed to ty s scalar = by to.named to.at
+    where
+      by : (named : Named) (at : ℕ) → PlacedAt named at s → Formed code (moved_to (record { at = at; named = named }) ty s) (KindOf.Operand ty ∷ s) (Some (with_put named ty s))
+      by NamedOf.Operand at h = none code (KindOf.Operand ty ∷ s)
+      by (NamedOf.Variable out slot) at h = one code (InstrOf.Move (new_operand s) ty (record { at = at; named = NamedOf.Variable out slot })) (KindOf.Operand ty ∷ s) (Some s) (λ p next. (scalar, (s, (refl, refl), (h, next))))
+
+-- inside so many masters
+module _ (code : Code) (masters : ℕ) where
   -- a value whose code is well formed where one of this type is expected
   pub record Usable (x : ValueCode) (ty : Ty) : Type 0 where
     pub scalar : Valid.IsScalar ty
-    pub formed : (to : Cell) (s : List Kind) → Placed to s → Formed code (x.code to ty s) s (Some (with_put to.named ty s))
+    pub formed : (to : Cell) (s : List Kind) → depth s ≡ masters → Placed to s → Formed code (x.code to ty s) s (Some (with_put to.named ty s))
     pub constant : (n : ℕ) → x.right ≡ RightOf.Constant n → IsCellOf ty n
 
   -- a value of this type of its own, or a constant
@@ -82,10 +100,10 @@ module _ (code : Code) where
   abbrev pub Fine : ValueCode → Ty → Type 0
   Fine x ty = Own x ty ⊎ ((n : ℕ) × (x ≡ constant n) × IsCell ty n)
 
-  usable_constant : (n : ℕ) (ty : Ty) → Valid.IsScalar ty → IsCellOf ty n → Usable (constant n) ty
+  pub usable_constant : (n : ℕ) (ty : Ty) → Valid.IsScalar ty → IsCellOf ty n → Usable (constant n) ty
   usable_constant n ty scalar cell = record {
     scalar = scalar;
-    formed = λ to s at. one code (InstrOf.Set n ty to) s (Some (with_put to.named ty s)) (λ p next. (cell, puts p to ty s at next));
+    formed = λ to s deep at. one code (InstrOf.Set n ty to) s (Some (with_put to.named ty s)) (λ p next. (cell, puts code p to ty s at next));
     constant = λ m is. let same : n ≡ m = cc in subst (IsCellOf ty) same cell;
   }
 
@@ -99,83 +117,78 @@ module _ (code : Code) where
   value_usable x ty (inl h) = subst (Usable x) (sym (ap (λ o. unwrap_or o Integer) h.own)) h.usable
   value_usable x ty (inr (n, is, cell)) = subst (λ (y : ValueCode). Usable y (value_type y)) (sym is) (usable_constant n Integer tt tt)
 
-  -- Where an operand is found -----------------------------------------------------------------------
+  -- Operands ----------------------------------------------------------------------------------------
 
-  -- behind its lines a value of this type is taken from its cell
-  pub record Found (h : Held) (ty : Ty) (s : List Kind) : Type 0 where
-    pub formed : Formed code h.code s (Some h.after)
-    pub taken : Taken h.cell ty h.after s
+  found_evaluated : (x : ValueCode) (ty : Ty) (s : List Kind) → depth s ≡ masters → Usable x ty → Found code (evaluated x ty s) ty s
+  found_evaluated x ty s deep usable = record { formed = usable.formed (new_operand s) s deep refl; taken = (refl, refl) }
 
-  found_evaluated : (x : ValueCode) (ty : Ty) (s : List Kind) → Usable x ty → Found (evaluated x ty s) ty s
-  found_evaluated x ty s usable = record { formed = usable.formed (new_operand s) s refl; taken = (refl, refl) }
+  found_in_cell : (o : Option ℕ) (v : Var) (x : ValueCode) (ty : Ty) (s : List Kind) → depth s ≡ masters → local_at s v ≡ o → Usable x ty → Found code (in_cell o v x ty s) ty s
+  found_in_cell (Some at) v x ty s deep here usable = record { formed = none code s; taken = (refl, here) }
+  found_in_cell None v x ty s deep here usable = found_evaluated x ty s deep usable
 
-  found_in_cell : (o : Option ℕ) (v : Var) (x : ValueCode) (ty : Ty) (s : List Kind) → local_at s v ≡ o → Usable x ty → Found (in_cell o v x ty s) ty s
-  found_in_cell (Some at) v x ty s here usable = record { formed = none code s; taken = (refl, here) }
-  found_in_cell None v x ty s here usable = found_evaluated x ty s usable
-
-  pub found : (x : ValueCode) (ty : Ty) (s : List Kind) → Usable x ty → Found (held x ty s) ty s
-  found x ty s usable = by x.right
+  pub found : (x : ValueCode) (ty : Ty) (s : List Kind) → depth s ≡ masters → Usable x ty → Found code (held x ty s) ty s
+  found x ty s deep usable = by x.right
     where
-      by : (r : Right) → Found (held_by r x ty s) ty s
-      by (RightOf.Constant n) = found_evaluated x ty s usable
-      by (RightOf.Variable v) = found_in_cell (local_at s v) v x ty s refl usable
-      by RightOf.Evaluated = found_evaluated x ty s usable
+      by : (r : Right) → Found code (held_by r x ty s) ty s
+      by (RightOf.Constant n) = found_evaluated x ty s deep usable
+      by (RightOf.Variable v) = found_in_cell (local_at s v) v x ty s deep refl usable
+      by RightOf.Evaluated = found_evaluated x ty s deep usable
 
-  found_left : (r : Right) (x : ValueCode) (ty : Ty) (s : List Kind) → Usable x ty → Found (left_held r x ty s) ty s
-  found_left (RightOf.Constant n) x ty s usable = found x ty s usable
-  found_left (RightOf.Variable v) x ty s usable = found x ty s usable
-  found_left RightOf.Evaluated x ty s usable = found_evaluated x ty s usable
+  found_left : (r : Right) (x : ValueCode) (ty : Ty) (s : List Kind) → depth s ≡ masters → Usable x ty → Found code (left_held r x ty s) ty s
+  found_left (RightOf.Constant n) x ty s deep usable = found x ty s deep usable
+  found_left (RightOf.Variable v) x ty s deep usable = found x ty s deep usable
+  found_left RightOf.Evaluated x ty s deep usable = found_evaluated x ty s deep usable
 
   -- Operators ---------------------------------------------------------------------------------------
 
   -- an operator behind its right operand, whose left one is taken from over the base
-  binary_formed : (o : OperatorCode) (left : Cell) (ty : Ty) (to : Cell) (h : Held) (s base : List Kind) → BinaryOf o.op ty o.ty → Found h ty s → Taken left ty s base → Placed to base → Formed code (binary_code o left ty to h) s (Some (with_put to.named o.ty base))
+  binary_formed : (o : OperatorCode) (left : Cell) (ty : Ty) (to : Cell) (h : Held) (s base : List Kind) → BinaryOf o.op ty o.ty → Found code h ty s → Taken left ty s base → Placed to base → Formed code (binary_code o left ty to h) s (Some (with_put to.named o.ty base))
   binary_formed o left ty to h s base has right taken at =
       both code h.code ((InstrOf.Binary (operator_for o ty) left h.cell to, h.after) ∷ []) s h.after (Some (with_put to.named o.ty base)) right.formed
-      (one code (InstrOf.Binary (operator_for o ty) left h.cell to) h.after (Some (with_put to.named o.ty base)) (λ p next. (has, (s, right.taken, (base, taken, puts p to o.ty base at next)))))
+      (one code (InstrOf.Binary (operator_for o ty) left h.cell to) h.after (Some (with_put to.named o.ty base)) (λ p next. (has, (s, right.taken, (base, taken, puts code p to o.ty base at next)))))
 
-  operator_formed : (r : Right) (o : OperatorCode) (left : Cell) (ty : Ty) (to : Cell) (s base : List Kind) → o.right.right ≡ r → BinaryOf o.op ty o.ty → Usable o.right ty → Taken left ty s base → Placed to base → Formed code (operator_by r o left ty to s) s (Some (with_put to.named o.ty base))
-  operator_formed (RightOf.Constant n) o left ty to s base is has usable taken at = one code (InstrOf.BinaryConstant (operator_for o ty) left n to) s (Some (with_put to.named o.ty base)) (λ p next. (has, usable.constant n is, (base, taken, puts p to o.ty base at next)))
-  operator_formed (RightOf.Variable v) o left ty to s base is has usable taken at = binary_formed o left ty to (held o.right ty s) s base has (found o.right ty s usable) taken at
-  operator_formed RightOf.Evaluated o left ty to s base is has usable taken at = binary_formed o left ty to (held o.right ty s) s base has (found o.right ty s usable) taken at
+  operator_formed : (r : Right) (o : OperatorCode) (left : Cell) (ty : Ty) (to : Cell) (s base : List Kind) → depth s ≡ masters → o.right.right ≡ r → BinaryOf o.op ty o.ty → Usable o.right ty → Taken left ty s base → Placed to base → Formed code (operator_by r o left ty to s) s (Some (with_put to.named o.ty base))
+  operator_formed (RightOf.Constant n) o left ty to s base deep is has usable taken at = one code (InstrOf.BinaryConstant (operator_for o ty) left n to) s (Some (with_put to.named o.ty base)) (λ p next. (has, usable.constant n is, (base, taken, puts code p to o.ty base at next)))
+  operator_formed (RightOf.Variable v) o left ty to s base deep is has usable taken at = binary_formed o left ty to (held o.right ty s) s base has (found o.right ty s deep usable) taken at
+  operator_formed RightOf.Evaluated o left ty to s base deep is has usable taken at = binary_formed o left ty to (held o.right ty s) s base has (found o.right ty s deep usable) taken at
 
   -- operators over a left operand of this type, whose value has that type
   pub record Operating (os : List OperatorCode) (left ty : Ty) : Type 0 where
     pub gives : last_type left os ≡ ty
     pub scalar : Valid.IsScalar ty
-    pub formed : (to : Cell) (base : List Kind) → Placed to base → Formed code (operators_code base (new_operand base) (KindOf.Operand left ∷ base) left os to) (with_put (next_target os to base).named left base) (Some (with_put to.named ty base))
+    pub formed : (to : Cell) (base : List Kind) → depth base ≡ masters → Placed to base → Formed code (operators_code base (new_operand base) (KindOf.Operand left ∷ base) left os to) (with_put (next_target os to base).named left base) (Some (with_put to.named ty base))
 
-  none_operating : (left : Ty) → Valid.IsScalar left → Operating [] left left
-  none_operating left scalar = record { gives = refl; scalar = scalar; formed = λ to base at. none code (with_put to.named left base) }
+  pub none_operating : (left : Ty) → Valid.IsScalar left → Operating [] left left
+  none_operating left scalar = record { gives = refl; scalar = scalar; formed = λ to base deep at. none code (with_put to.named left base) }
 
   -- an operator whose left operand is in this cell, and further ones
-  first_operating : (o : OperatorCode) (os : List OperatorCode) (cell : Cell) (left ty : Ty) (s base : List Kind) (to : Cell) → BinaryOf o.op left o.ty → Usable o.right left → Operating os o.ty ty → Taken cell left s base → Placed to base → Formed code (operators_code base cell s left (o ∷ os) to) s (Some (with_put to.named ty base))
-  first_operating o os cell left ty s base to has usable rest taken at =
+  first_operating : (o : OperatorCode) (os : List OperatorCode) (cell : Cell) (left ty : Ty) (s base : List Kind) (to : Cell) → depth base ≡ masters → BinaryOf o.op left o.ty → Usable o.right left → Operating os o.ty ty → Taken cell left s base → Placed to base → Formed code (operators_code base cell s left (o ∷ os) to) s (Some (with_put to.named ty base))
+  first_operating o os cell left ty s base to deep has usable rest taken at =
       let target = next_target os to base in
       both code (operator_code o cell left target s) (operators_code base (new_operand base) (KindOf.Operand o.ty ∷ base) o.ty os to) s (with_put target.named o.ty base) (Some (with_put to.named ty base))
-      (operator_formed o.right.right o cell left target s base refl has usable taken (target_placed os to base at))
-      (rest.formed to base at)
+      (operator_formed o.right.right o cell left target s base (taken_deep cell left s base taken ∙ deep) refl has usable taken (target_placed os to base at))
+      (rest.formed to base deep at)
 
-  next_operating : (o : OperatorCode) (os : List OperatorCode) (left ty : Ty) → BinaryOf o.op left o.ty → Usable o.right left → Operating os o.ty ty → Operating (o ∷ os) left ty
+  pub next_operating : (o : OperatorCode) (os : List OperatorCode) (left ty : Ty) → BinaryOf o.op left o.ty → Usable o.right left → Operating os o.ty ty → Operating (o ∷ os) left ty
   next_operating o os left ty has usable rest = record {
     gives = rest.gives;
     scalar = rest.scalar;
-    formed = λ to base at. first_operating o os (new_operand base) left ty (KindOf.Operand left ∷ base) base to has usable rest (refl, refl) at;
+    formed = λ to base deep at. first_operating o os (new_operand base) left ty (KindOf.Operand left ∷ base) base to deep has usable rest (refl, refl) at;
   }
 
   -- a chain, whose first operand and first operator have this type
-  chain_own : (x : ValueCode) (o : OperatorCode) (more : List OperatorCode) (ty : Ty) → Usable x (first_type x o) → BinaryOf o.op (first_type x o) o.ty → Usable o.right (first_type x o) → Operating more o.ty ty → Own (chain x o more) ty
+  pub chain_own : (x : ValueCode) (o : OperatorCode) (more : List OperatorCode) (ty : Ty) → Usable x (first_type x o) → BinaryOf o.op (first_type x o) o.ty → Usable o.right (first_type x o) → Operating more o.ty ty → Own (chain x o more) ty
   chain_own x o more ty usable has right rest =
       let left = first_type x o in
       record {
         own = ap Some rest.gives;
         usable = record {
           scalar = rest.scalar;
-          formed = λ to s at.
+          formed = λ to s deep at.
               let h = left_held o.right.right x left s in
-              let f = found_left o.right.right x left s usable in
+              let f = found_left o.right.right x left s deep usable in
               both code h.code (operators_code s h.cell h.after left (o ∷ more) to) s h.after (Some (with_put to.named ty s)) f.formed
-              (first_operating o more h.cell left ty h.after s to has right rest f.taken at);
+              (first_operating o more h.cell left ty h.after s to deep has right rest f.taken at);
           constant = λ n is. absurd (cc);
         };
       }
@@ -205,7 +218,7 @@ module _ (code : Code) where
       let same = sym (of_relation op Boolean x.own y.own e) in
       subst (λ u. BinaryOf op u Boolean × Usable x u × Usable y u) same (relation_of op (common_type x.own y.own) e both_usable.0.scalar, both_usable.0, both_usable.1)
 
-  first_joins : (op : BinaryOp) (x y : ValueCode) (s ty : Ty) → Joins op s ty → Fine x s → Fine y s → Joined op ty x y
+  pub first_joins : (op : BinaryOp) (x y : ValueCode) (s ty : Ty) → Joins op s ty → Fine x s → Fine y s → Joined op ty x y
   first_joins op x y s ty (J.arithmetic a n) h g =
       let scalar = number_scalar ty n in
       subst (λ u. BinaryOf op u ty × Usable x u × Usable y u) (sym (of_arithmetic op ty x.own y.own a)) (arithmetic_of op ty a (number_of ty n), usable_as x ty scalar h, usable_as y ty scalar g)
@@ -215,7 +228,7 @@ module _ (code : Code) where
   first_joins op x y s ty (J.ordering e order) h g = related op x y s (ordering_relates op e) h g
 
   -- a further operator
-  next_joins : (op : BinaryOp) (s ty : Ty) → Joins op s ty → Valid.IsScalar s → BinaryOf op s ty
+  pub next_joins : (op : BinaryOp) (s ty : Ty) → Joins op s ty → Valid.IsScalar s → BinaryOf op s ty
   next_joins op s ty (J.arithmetic a n) scalar = arithmetic_of op ty a (number_of ty n)
   next_joins op s ty (J.logical l) scalar = logical_of op l
   next_joins op s ty (J.equality e h) scalar = relation_of op s (equality_relates op e) scalar
@@ -223,8 +236,8 @@ module _ (code : Code) where
 
   -- Short-circuit forms -----------------------------------------------------------------------------
 
-  abbrev Conditions : Shortcut → List ValueCode → Type 0
-  Conditions form xs = (s : List Kind) → Formed code (others_code form xs s) (KindOf.Operand Boolean ∷ s) (Some (KindOf.Operand Boolean ∷ s))
+  abbrev pub Conditions : Shortcut → List ValueCode → Type 0
+  Conditions form xs = (s : List Kind) → depth s ≡ masters → Formed code (others_code form xs s) (KindOf.Operand Boolean ∷ s) (Some (KindOf.Operand Boolean ∷ s))
 
   -- an operand that may be skipped, behind what decides
   decided : (form : Shortcut) (s : List Kind) (ls : List Line) → Formed code ls s (Some (KindOf.Operand Boolean ∷ s)) → Formed code ((InstrOf.Decide form (height s) (length ls), KindOf.Operand Boolean ∷ s) ∷ ls) (KindOf.Operand Boolean ∷ s) (Some (KindOf.Operand Boolean ∷ s))
@@ -232,49 +245,41 @@ module _ (code : Code) where
       let x = inner (p + 1) h.1 in
       (h.0, ((has_end code (p + 1) ls (Some (KindOf.Operand Boolean ∷ s)) h.1, (s, refl, (refl, x.0))), x.1))
 
-  next_condition : (form : Shortcut) (x : ValueCode) (xs : List ValueCode) → Usable x Boolean → Conditions form xs → Conditions form (x ∷ xs)
-  next_condition form x xs usable rest s =
+  pub next_condition : (form : Shortcut) (x : ValueCode) (xs : List ValueCode) → Usable x Boolean → Conditions form xs → Conditions form (x ∷ xs)
+  next_condition form x xs usable rest s deep =
       let top = KindOf.Operand Boolean ∷ s in
       both code (other_code form x s) (others_code form xs s) top top (Some top)
-      (decided form s (x.code (new_operand s) Boolean s) (usable.formed (new_operand s) s refl))
-      (rest s)
+      (decided form s (x.code (new_operand s) Boolean s) (usable.formed (new_operand s) s deep refl))
+      (rest s deep)
 
-  -- the newest operand goes where it is wanted
-  moved_formed : (to : Cell) (s : List Kind) → Placed to s → Formed code (moved_to to s) (KindOf.Operand Boolean ∷ s) (Some (with_put to.named Boolean s))
-  moved_formed to s = by to.named to.at
-    where
-      by : (named : Named) (at : ℕ) → PlacedAt named at s → Formed code (moved_to (record { at = at; named = named }) s) (KindOf.Operand Boolean ∷ s) (Some (with_put named Boolean s))
-      by NamedOf.Operand at h = none code (KindOf.Operand Boolean ∷ s)
-      by (NamedOf.Variable out slot) at h = one code (InstrOf.Move (new_operand s) Boolean (record { at = at; named = NamedOf.Variable out slot })) (KindOf.Operand Boolean ∷ s) (Some s) (λ p next. (tt, (s, (refl, refl), (h, next))))
-
-  short_own : (form : Shortcut) (x y : ValueCode) (more : List ValueCode) → Usable x Boolean → Conditions form (y ∷ more) → Own (short form x y more) Boolean
+  pub short_own : (form : Shortcut) (x y : ValueCode) (more : List ValueCode) → Usable x Boolean → Conditions form (y ∷ more) → Own (short form x y more) Boolean
   short_own form x y more usable rest = record {
     own = refl;
     usable = record {
       scalar = tt;
-      formed = λ to s at.
+      formed = λ to s deep at.
           let top = KindOf.Operand Boolean ∷ s in
           let first = x.code (new_operand s) Boolean s in
-          both code (first ++ others_code form (y ∷ more) s) (moved_to to s) s top (Some (with_put to.named Boolean s))
-          (both code first (others_code form (y ∷ more) s) s top (Some top) (usable.formed (new_operand s) s refl) (rest s))
-          (moved_formed to s at);
+          both code (first ++ others_code form (y ∷ more) s) (moved_to to Boolean s) s top (Some (with_put to.named Boolean s))
+          (both code first (others_code form (y ∷ more) s) s top (Some top) (usable.formed (new_operand s) s deep refl) (rest s deep))
+          (moved_formed code to Boolean s tt at);
       constant = λ n is. absurd (cc);
     };
   }
 
   -- The other constructs ----------------------------------------------------------------------------
 
-  unary_own : (op : UnaryOp) (ty : Ty) (x : ValueCode) → UnaryOf op ty → Usable x ty → Own (unary op ty x) ty
+  pub unary_own : (op : UnaryOp) (ty : Ty) (x : ValueCode) → UnaryOf op ty → Usable x ty → Own (unary op ty x) ty
   unary_own op ty x has usable = record {
     own = refl;
     usable = record {
       scalar = usable.scalar;
-      formed = λ to s at.
+      formed = λ to s deep at.
           let h = held x ty s in
-          let f = found x ty s usable in
+          let f = found x ty s deep usable in
           let after = Some (with_put to.named ty s) in
           both code h.code ((InstrOf.Unary op ty h.cell to, h.after) ∷ []) s h.after after f.formed
-          (one code (InstrOf.Unary op ty h.cell to) h.after after (λ p next. (has, (s, f.taken, puts p to ty s at next))));
+          (one code (InstrOf.Unary op ty h.cell to) h.after after (λ p next. (has, (s, f.taken, puts code p to ty s at next))));
       constant = λ n is. absurd (cc);
     };
   }
@@ -286,15 +291,15 @@ module _ (code : Code) where
   module _ (records : List RecordType) where
     -- the value of a component goes where it is wanted
     component_formed : (v : Var) (steps : List Step) (t position : ℕ) (ty : Ty) (to : Cell) (s : List Kind) → Valid.IsScalar ty → parts_run records steps t ≡ true → Placed to s → Formed code (component_code v steps t position ty to s) s (Some (with_put to.named ty s))
-    component_formed v [] t position ty to s scalar runs at = one code (InstrOf.FetchPart (out_to s v) v.slot t position ty to) s (Some (with_put to.named ty s)) (λ p next. (scalar, puts p to ty s at next))
+    component_formed v [] t position ty to s scalar runs at = one code (InstrOf.FetchPart (out_to s v) v.slot t position ty to) s (Some (with_put to.named ty s)) (λ p next. (scalar, puts code p to ty s at next))
     component_formed v (step ∷ steps) t position ty to s scalar runs at =
         let part = KindOf.Operand (TyOf.Record t) ∷ s in
         let after = Some (with_put to.named ty s) in
         both code (located_code v (step ∷ steps) t s) ((InstrOf.TakePart t position ty to, part) ∷ []) s part after
         (located_formed code records v (step ∷ steps) t s runs)
-        (one code (InstrOf.TakePart t position ty to) part after (λ p next. (scalar, (s, refl, puts p to ty s at next))))
+        (one code (InstrOf.TakePart t position ty to) part after (λ p next. (scalar, (s, refl, puts code p to ty s at next))))
 
-    read_own : (o : Option Reached) (ty : Ty) → (read o ty).runs records ≡ true → Own (read o ty) ty
+    pub read_own : (o : Option Reached) (ty : Ty) → (read o ty).runs records ≡ true → Own (read o ty) ty
     read_own None ty runs = absurd (cc)
     read_own (Some (Part v steps t position)) ty runs =
         let e = both_true (is_run_type ty) (parts_run records steps t) runs in
@@ -302,7 +307,7 @@ module _ (code : Code) where
           own = refl;
           usable = record {
             scalar = run_scalar ty e.0;
-            formed = λ to s at. component_formed v steps t position ty to s (run_scalar ty e.0) e.1 at;
+            formed = λ to s deep at. component_formed v steps t position ty to s (run_scalar ty e.0) e.1 at;
             constant = λ n is. absurd (cc);
           };
         }
@@ -310,73 +315,7 @@ module _ (code : Code) where
       own = refl;
       usable = record {
         scalar = run_scalar ty runs;
-        formed = λ to s at. one code (read_from (local_at s v) v ty to s) s (Some (with_put to.named ty s)) (λ p next. read_fine (local_at s v) v ty to s p refl (run_scalar ty runs) (puts p to ty s at next));
+        formed = λ to s deep at. one code (read_from (local_at s v) v ty to s) s (Some (with_put to.named ty s)) (λ p next. read_fine (local_at s v) v ty to s p refl (run_scalar ty runs) (puts code p to ty s at next));
         constant = λ n is. absurd (cc);
       };
     }
-
-    -- Well-typed expressions --------------------------------------------------------------------------
-
-    -- another name of the same value
-    fine_as : (x y : ValueCode) (t : Ty) → x ≡ y → Fine y t → Fine x t
-    fine_as x y t same h = subst (λ z. Fine z t) (sym same) h
-
-    runs_as : (x y : ValueCode) → x ≡ y → x.runs records ≡ true → y.runs records ≡ true
-    runs_as x y same h = subst (λ (z : ValueCode). z.runs records ≡ true) same h
-
-    not_missing : (x : ValueCode) → x ≡ missing_value None → x.runs records ≡ true → ⊥
-    not_missing x same h = absurd (let e = sym (ap (λ (z : ValueCode). z.runs records) same) ∙ h in cc)
-
-    -- an access value is a literal here
-    as_access : (x : ValueCode) (a b : ℕ) → Fine x (TyOf.Access a) → Fine x (TyOf.Access b)
-    as_access x a b (inl h) = absurd h.usable.scalar
-    as_access x a b (inr (n, is, cell)) = inr (n, is, cell)
-
-    mutual
-      pub typed_fine : {k : W.Setting} {env : W.Frames} {x : Expr} {t : Ty} → Typed k env x t → (value_code x).runs records ≡ true → Fine (value_code x) t
-      typed_fine (T.constant {cell = n} {t = t} scalar cell view) runs = inr (n, value_constant n, cell)
-      typed_fine (T.read {x = x} {t = t} denotes) runs =
-          let same = value_read x t in
-          fine_as _ _ t same (inl (read_own (reached_by x) t (runs_as _ _ same runs)))
-      typed_fine (T.call {s = f} {actuals = actuals} callable gives fits) runs = absurd (not_missing _ (value_call f actuals _) runs)
-      typed_fine (T.unary {o = o} {x = x} {t = t} takes h) runs =
-          let same = value_unary o t x in
-          let u = takes_unary o t takes in
-          fine_as _ _ t same (inl (unary_own o t (value_code x) u.0 (usable_as (value_code x) t u.1 (typed_fine h (runs_as _ _ same runs)))))
-      typed_fine (T.chain {x = x} {more = more} {s = s} {t = t} h (T.behind {o = op} {x = y} {t = u} joins right rest)) runs =
-          let o = roll-Operand (record { op = op; ty = u; right = y }) in
-          let is : operator_of o ≡ record { op = op; ty = u; right = value_code y } = operator_roll (record { op = op; ty = u; right = y }) in
-          let same = value_chain x o more ∙ ap (λ z. chain (value_code x) z (map operator_of more)) is in
-          let e = both_true ((value_code x).runs records) ((value_code y).runs records && operators_run records (map operator_of more)) (runs_as _ _ same runs) in
-          let f = both_true ((value_code y).runs records) (operators_run records (map operator_of more)) e.1 in
-          let joined = first_joins op (value_code x) (value_code y) s u joins (typed_fine h e.0) (typed_fine right f.0) in
-          let behind_it = operating rest f.1 (joins_scalar op s u joins) in
-          fine_as _ _ t same (inl (chain_own (value_code x) (record { op = op; ty = u; right = value_code y }) (map operator_of more) t joined.1 joined.0 joined.2 behind_it))
-      typed_fine (T.short {form = form} {x = x} {y = y} {more = more} h g rest) runs =
-          let same = value_short form x y more in
-          let e = both_true ((value_code x).runs records) ((value_code y).runs records && values_run records (map value_code more)) (runs_as _ _ same runs) in
-          let f = both_true ((value_code y).runs records) (values_run records (map value_code more)) e.1 in
-          fine_as _ _ Boolean same (inl (short_own form (value_code x) (value_code y) (map value_code more) (usable_as (value_code x) Boolean tt (typed_fine h e.0))
-          (next_condition form (value_code y) (map value_code more) (usable_as (value_code y) Boolean tt (typed_fine g f.0)) (conditions form rest f.1))))
-      typed_fine (T.convert {x = x} {t = t} number from h) runs = absurd (not_missing _ (value_convert t x) runs)
-      typed_fine (T.as_access {x = x} {a = a} {b = b} from to same h) runs = as_access (value_code x) a b (typed_fine h runs)
-      typed_fine (T.access {v = v} names found designates) runs = absurd (not_missing _ (value_access v) runs)
-      typed_fine (T.allocate {a = a} {t = t} {handle = handle} {value = x} to covers view h g) runs = absurd (not_missing _ (value_new a t handle x) runs)
-      typed_fine (T.subpool {which = which} {x = x} denotes rooted) runs = absurd (not_missing _ (value_subpool which x) runs)
-      typed_fine (T.discriminant {x = x} {i = i} denotes rooted has) runs = absurd (not_missing _ (value_discriminant x i) runs)
-
-      operating : {k : W.Setting} {env : W.Frames} {s t : Ty} {os : List Operand} → Chains k env s os t → operators_run records (map operator_of os) ≡ true → Valid.IsScalar s → Operating (map operator_of os) s t
-      operating (T.ended {t = t}) runs scalar = none_operating t scalar
-      operating (T.behind {o = op} {x = y} {more = more} {s = s} {t = u} {u = t} joins right rest) runs scalar =
-          let o = roll-Operand (record { op = op; ty = u; right = y }) in
-          let is : operator_of o ≡ record { op = op; ty = u; right = value_code y } = operator_roll (record { op = op; ty = u; right = y }) in
-          let e = both_true ((operator_of o).right.runs records) (operators_run records (map operator_of more)) runs in
-          let y_runs = sym (ap (λ (z : OperatorCode). z.right.runs records) is) ∙ e.0 in
-          subst (λ z. Operating (z ∷ map operator_of more) s t) (sym is)
-          (next_operating (record { op = op; ty = u; right = value_code y }) (map operator_of more) s t (next_joins op s u joins scalar) (usable_as (value_code y) s scalar (typed_fine right y_runs)) (operating rest e.1 (joins_scalar op s u joins)))
-
-      conditions : {k : W.Setting} {env : W.Frames} {xs : List Expr} (form : Shortcut) → Truths k env xs → values_run records (map value_code xs) ≡ true → Conditions form (map value_code xs)
-      conditions form T.no_more_truths runs = λ s. none code (KindOf.Operand Boolean ∷ s)
-      conditions form (T.one_more_truth {x = x} {more = more} h rest) runs =
-          let e = both_true ((value_code x).runs records) (values_run records (map value_code more)) runs in
-          next_condition form (value_code x) (map value_code more) (usable_as (value_code x) Boolean tt (typed_fine h e.0)) (conditions form rest e.1)

@@ -6,28 +6,33 @@ use Rattle.std.proofs.lemmas.Bool.{leb-true}
 use Rattle.ctl_program.specs.declared.types.RecordType.{RecordType}
 use Rattle.ctl_program.specs.declared.types.Root.{Root}
 use Rattle.ctl_program.specs.declared.types.Root.TheVariants.{BlockPool, Controlled, MarkPool, Untagged}
+use Rattle.ctl_program.specs.declared.types.Ty.{Ty}
+use Rattle.ctl_program.specs.declared.operators.SubprogramKind.{SubprogramKind}
+use Rattle.ctl_program.specs.declared.operators.SubprogramKind.TheVariants.{Procedure}
 use Rattle.ctl_program.specs.declared.program.Subprogram.{Subprogram}
 use Rattle.ctl_program.specs.declared.program.Checked.{Checked}
 use Rattle.ctl_well_typed.specs.Setting as W
-use Rattle.ctl_well_typed.specs.Programs.{Overrides, SubprogramFine, WellTyped, operation}
+use Rattle.ctl_well_typed.specs.Programs.{Overrides, Results, SubprogramFine, WellTyped, operation}
+use Rattle.ctl_well_typed.specs.Programs as P
 use Rattle.ctl_code.specs.declared.kinds.Kind.{Kind}
 use Rattle.ctl_code.specs.declared.kinds.Kind.TheVariants.{Body}
 use Rattle.ctl_code.specs.declared.code.Instr.{Instr}
 use Rattle.ctl_code.specs.declared.code.Entry.{Entry}
 use Rattle.ctl_code.specs.declared.code.Operations.{Operations}
 use Rattle.ctl_code.specs.declared.code.Code.{Code}
-use Rattle.ctl_code.specs.Valid.{AreInScope, HasFormals, IsBegun, IsDeclarable, IsEntry, IsFine, IsInScope, IsValid, Leads, MayBeEntry, TakesObject, outermost}
+use Rattle.ctl_code.specs.Valid.{AreInScope, IsBegun, IsDeclarable, IsEntry, IsFine, IsInScope, IsValid, Leads, MayBeEntry, TakesObject, outermost}
 use Rattle.ctl_layout.specs.Around.{Line, Around, behind}
 use Rattle.ctl_layout.specs.Layout.{bodies, body_code, entries_from, entry_at, HasKinds, in_body, instructions_of, IsLaidOut, kinds_of, master_code, nowhere, operations_in, operations_of, program_code}
 use Rattle.ctl_layout.specs.Defaults.{is_outermost}
 use Rattle.ctl_layout.specs.Records.{adjust_by}
-use Rattle.ctl_layout.specs.Run.{AreLinked, IsBody, IsRun, IsWritten, are_procedures}
+use Rattle.ctl_layout.specs.Run.{AreLinked, IsBody, IsRun, IsWritten}
 use Rattle.ctl_gen.proofs.Known.{both_true}
 use Rattle.ctl_gen.proofs.Place.{HasAt, has_all}
 use Rattle.ctl_gen.proofs.Place as Place
 use Rattle.ctl_gen.proofs.Formed.{AreFine, fine_both, FormedAt, Has, has_back, has_front}
 use Rattle.ctl_gen.proofs.FormedAround.{Agrees, agrees_body}
 use Rattle.ctl_gen.proofs.FormedLayouts.{alike, declarable, declarable_in, home_of, layouts_laid, not_more}
+use Rattle.ctl_gen.proofs.FormedCalls.{MayCall, kind_by}
 use Rattle.ctl_gen.proofs.FormedMasters.{master_good, slots_told}
 
 -- Tables ---------------------------------------------------------------------------------------------
@@ -65,6 +70,11 @@ formal_slot formals first rest others e = subst (λ fs. 1 ≤ length (map W.OfFo
 formals_first : (formals : List W.Formal) (others : W.Frame) → length formals ≤ length (map W.OfFormal formals ++ others)
 formals_first formals others = let long = length-append (map W.OfFormal formals) others in let each = length-map formals W.OfFormal in omega (arith, long, each)
 
+-- a subprogram is of the kind that its result tells
+kind_told : {k : W.Setting} {home : W.Frames} {r : Option Ty} {kind : SubprogramKind} → Results k home r kind → kind ≡ kind_by r
+kind_told P.procedure = refl
+kind_told (P.function view) = refl
+
 -- Subprograms that are named ------------------------------------------------------------------------
 
 module _ (program : Checked) (typed : WellTyped program) where
@@ -79,10 +89,11 @@ module _ (program : Checked) (typed : WellTyped program) where
       let s = alike W.Signature Subprogram typed.k.subprograms program.subprograms typed.fits.subprograms f is c.found in
       record { body = s.0; found = s.1; fine = typed.each_subprogram f s.0 is s.1 c.found }
 
-  -- an operation of a type: it is declared among the masters around the type, and has a slot for its object
+  -- an operation of a type: a procedure that is declared among the masters around the type, with a slot for its object
   record Operation (f : ℕ) (home : W.Frames) : Type 0 where
     body : Subprogram
     found : slice_get program.subprograms f ≡ Some body
+    kind : body.kind ≡ Procedure
     level : body.level ≤ length home
     slots : 1 ≤ (master_code body.body).slots
 
@@ -101,6 +112,7 @@ module _ (program : Checked) (typed : WellTyped program) where
       record {
         body = s.body;
         found = s.found;
+        kind = kind_told s.fine.result ∙ ap kind_by gives;
         level = omega (arith, level, least);
         slots = subst (λ m. 1 ≤ m) (sym slots) (formal_slot is.formals _ rest s.fine.others formals);
       }
@@ -183,9 +195,6 @@ as_long [] = refl
 as_long (l ∷ ls) = let e = as_long ls in omega (arith, e)
 
 module _ (program : Checked) (code : Code) (laid : IsLaidOut program code) (kinds : HasKinds program code) (run_it : IsRun program) (typed : WellTyped program) where
-  parts : (are_procedures program.subprograms ≡ true) × ((bodies program.subprograms).runs program.records ≡ true)
-  parts = both_true _ _ run_it
-
   linked : AreLinked program
   linked = linked_of program typed
 
@@ -212,7 +221,7 @@ module _ (program : Checked) (code : Code) (laid : IsLaidOut program code) (kind
 
   takes_object : (home : W.Frames) (o : Option ℕ) → MayBeOperation program typed home o → TakesObject code o
   takes_object home None h = tt
-  takes_object home (Some f) h = let x = entry_of f h.body h.found in (entry_at x.0 h.body, x.1, h.slots)
+  takes_object home (Some f) h = let x = entry_of f h.body h.found in (entry_at x.0 h.body, x.1, h.kind, h.slots)
 
   formals_of : (t : ℕ) (o : Operations) → slice_get code.records.items t ≡ Some o → TakesObject code o.initialize × TakesObject code o.finalize × TakesObject code o.adjust
   formals_of t o h =
@@ -243,21 +252,15 @@ module _ (program : Checked) (code : Code) (laid : IsLaidOut program code) (kind
         adjust_has (IsInScope code masters) r.root r.operations.adjust tt (in_scope home masters r.operations.adjust least (adjust_written program typed t r home e at)),
       )
 
-  -- a subprogram that can be called there is in scope there
-  callable : (env : W.Frames) (f : ℕ) (is : W.Signature) → W.Callable typed.k env f is → IsInScope code (length env) (Some f)
-  callable env f is c =
+  -- a subprogram that can be called there is in scope there, and has a slot for each formal
+  may_call : MayCall code typed.k
+  may_call env f is c =
       let s = called program typed env f is c in
       let x = entry_of f s.body s.found in
+      let e = entry_at x.0 s.body in
       let level = s.fine.level in
       let least = not_more is.home env c.encloses in
-      (entry_at x.0 s.body, x.1, omega (arith, level, least))
-
-  -- and has a slot for each formal
-  formals : (env : W.Frames) (f : ℕ) (is : W.Signature) → W.Callable typed.k env f is → HasFormals code f (length is.formals)
-  formals env f is c =
-      let s = called program typed env f is c in
-      let x = entry_of f s.body s.found in
-      (entry_at x.0 s.body, x.1, subst (λ m. length is.formals ≤ m) (sym (slots_told s.fine.body)) (formals_first is.formals s.fine.others))
+      ((e, x.1, omega (arith, level, least)), (e, x.1, kind_told s.fine.result, subst (λ m. length is.formals ≤ m) (sym (slots_told s.fine.body)) (formals_first is.formals s.fine.others)))
 
   -- the level of a type says how many masters are around it
   assignable : (t : ℕ) → is_outermost (slice_get program.records t) ≡ true → IsDeclarable code outermost t
@@ -287,7 +290,7 @@ module _ (program : Checked) (code : Code) (laid : IsLaidOut program code) (kind
       let frame = map W.OfFormal is.formals ++ h.others in
       let slots = (master_code s.body).slots in
       let over = subst (λ m. Agrees (is.home ++ frame ∷ []) (Body s.level m ∷ [])) (sym (slots_told h.body)) (agrees_body is.home frame s.level h.level) in
-      master_good code program.records typed.k (declarable program typed code laid) callable formals assignable raisable h.body runs (Body s.level slots) [] n p over texts tt
+      master_good code program.records typed.k (declarable program typed code laid) may_call assignable raisable h.body runs (Body s.level slots) [] n p over texts tt
 
   good : (f : ℕ) (s : Subprogram) → slice_get program.subprograms f ≡ Some s → GoodBody code program.records s
   good f s e =
@@ -295,18 +298,11 @@ module _ (program : Checked) (code : Code) (laid : IsLaidOut program code) (kind
       good_body s is.0 (typed.each_subprogram f s is.0 e is.1)
 
   formed : BodiesFormed code program.records nowhere 1 0 program.subprograms
-  formed = bodies_formed code program.records program.subprograms parts.1 good nowhere 1 0 printed stands.1
+  formed = bodies_formed code program.records program.subprograms run_it good nowhere 1 0 printed stands.1
 
-  -- the main procedure is declared in no master
-  main_in_scope : IsInScope code 0 (Some program.main)
-  main_in_scope =
-      let s = called program typed [] program.main _ typed.main in
-      let x = entry_of program.main s.body s.found in
-      let level = s.fine.level in
-      (entry_at x.0 s.body, x.1, omega (arith, level))
-
+  -- the main procedure is declared in no master, and has no formals
   all_fine : AreFine code 0 (program_code program)
-  all_fine = ((refl, main_in_scope), formed.fine)
+  all_fine = let main = may_call [] program.main _ typed.main in ((refl, main.0, main.1), formed.fine)
 
   pub is_valid : IsValid code
   is_valid = record {

@@ -40,10 +40,12 @@ pub mod Copies
 pub mod RecordAssign
 pub mod Actuals
 pub mod Calls
+pub mod FunctionCalls
 pub mod Texts
 pub mod Statements
 pub mod Handlers
 pub mod Ranges
+pub mod Returns
 pub mod Executed
 pub mod Bodies
 pub mod Whole
@@ -55,6 +57,7 @@ pub mod FormedValues
 pub mod FormedParts
 pub mod FormedTexts
 pub mod FormedCalls
+pub mod FormedExpressions
 pub mod FormedLines
 pub mod FormedStatements
 pub mod FormedArms

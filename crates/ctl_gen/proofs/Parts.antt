@@ -14,7 +14,7 @@ use Rattle.ctl_meaning.specs.World.{Content, Nothing, Holds, Binds, Copies, Gath
 use Rattle.ctl_meaning.specs.Activations.{master_of}
 use Rattle.ctl_meaning.specs.Changes.{slot_at}
 use Rattle.ctl_meaning.specs.Choice.{Ask}
-use Rattle.ctl_meaning.specs.Outcome.{Way, Result, Goes, Gives, Stops, Act, add, bind, on_goes, ◌>>=◌, opened_outcome}
+use Rattle.ctl_meaning.specs.Outcome.{Result, Goes, Gives, Stops, Act, add, bind, on_goes, ◌>>=◌, opened_outcome}
 use Rattle.ctl_meaning.specs.Types.{Tables, Category, Composite, offset_in, placed}
 use Rattle.ctl_meaning.specs.Names.{Found, InObject, found_in, find_var, Tools, gone, moved as found_behind, one_step as one_selector, walk, begins_as}
 use Rattle.ctl_meaning.specs.Finalization.{Spot}
@@ -37,7 +37,7 @@ use Rattle.ctl_gen.proofs.Place.{Laid}
 use Rattle.ctl_gen.proofs.Worlds.{IsNoCopy}
 use Rattle.ctl_gen.proofs.Setting.{ArePlaced}
 use Rattle.ctl_gen.proofs.Cells.{by_code, here, out_is}
-use Rattle.ctl_gen.proofs.Follow.{Runs, after_comes, at, steps_add, stop_step}
+use Rattle.ctl_gen.proofs.Follow.{RunsTo, after_comes_to, at, steps_add, stop_step_to}
 
 -- Names -------------------------------------------------------------------------------------------
 
@@ -267,17 +267,17 @@ module _ (k : Tables) (code : Code) where
     selects (Narrow u ∷ steps) t s p d place ks ops l w agree has = absurd agree
 
     -- what finds a part, and what follows it: each instruction is paid by the tick of its part of the name
-    pub located_then : {A : Type 0} (Fits : Option Way → World → Type 0) (b h : ℕ) (v : Var) (steps : List Step) (t : ℕ) (s : List Kind) (d : List ℕ) (place : ℕ) (ks : List Frame) (ops : List Word) (c : ℕ) (l : Log) (w : World) (next : Result A → Log → World → State) (g : Result Found → Act A) → Agree steps → length d ≡ depth s → Laid code place (located_code v steps t s) →
-        ((p : Spot) → Runs ask code Fits b h (at d (place + length (located_code v steps t s)) ks (Located p ∷ ops) l w) c next (g (Goes (found_at p)) c l w)) →
-        Runs ask code Fits b h (at d place ks ops l w) c next (bind (part_found k steps (spot_of (content_of d v w)) c l w) g)
+    pub located_then : {A : Type 0} (Ends : Result A → World → Type 0) (b h : ℕ) (v : Var) (steps : List Step) (t : ℕ) (s : List Kind) (d : List ℕ) (place : ℕ) (ks : List Frame) (ops : List Word) (c : ℕ) (l : Log) (w : World) (next : Result A → Log → World → State) (g : Result Found → Act A) → Agree steps → length d ≡ depth s → Laid code place (located_code v steps t s) →
+        ((p : Spot) → RunsTo ask code Ends b h (at d (place + length (located_code v steps t s)) ks (Located p ∷ ops) l w) c next (g (Goes (found_at p)) c l w)) →
+        RunsTo ask code Ends b h (at d place ks ops l w) c next (bind (part_found k steps (spot_of (content_of d v w)) c l w) g)
     unfolding opened_outcome
-    located_then Fits b h v steps t s d place ks ops c l w next g agree long has more = by (spot_of (content_of d v w)) (located ∙ ap (λ m. moved l (by_locate (spot_of (slot_at m v.slot w).content) ops (here d place ks w))) (out_is d s v long))
+    located_then Ends b h v steps t s d place ks ops c l w next g agree long has more = by (spot_of (content_of d v w)) (located ∙ ap (λ m. moved l (by_locate (spot_of (slot_at m v.slot w).content) ops (here d place ks w))) (out_is d s v long))
       where
         located : steps_of_machine ask code 1 (at d place ks ops l w) ≡ moved l (by_locate (holder_at d (out_to s v) v.slot w) ops (here d place ks w))
         located = by_code ask code d place ks ops l w (InstrOf.Locate (out_to s v) v.slot (first_type steps t) (height s)) has.0
 
-        by : (o : Option Spot) → step ask code (at d place ks ops l w) ≡ moved l (by_locate o ops (here d place ks w)) → Runs ask code Fits b h (at d place ks ops l w) c next (bind (part_found k steps o c l w) g)
-        by None first = stop_step ask code Fits b h _ _ c 1 next UseAfterFree l (omega arith) first refl refl
+        by : (o : Option Spot) → step ask code (at d place ks ops l w) ≡ moved l (by_locate o ops (here d place ks w)) → RunsTo ask code Ends b h (at d place ks ops l w) c next (bind (part_found k steps o c l w) g)
+        by None first = stop_step_to ask code Ends b h _ _ c 1 next UseAfterFree l (omega arith) first refl refl
         by (Some p) first =
             let q : place + 1 + length (selects_code steps t s) ≡ place + length (located_code v steps t s) = omega arith in
             let there : steps_of_machine ask code (length steps + 1) (at d place ks ops l w) ≡ at d (place + length (located_code v steps t s)) ks (Located (spot_behind k steps p) ∷ ops) l w =
@@ -285,15 +285,15 @@ module _ (k : Tables) (code : Code) where
             ∙ ap (steps_of_machine ask code (length steps)) first
             ∙ selects steps t s p d (place + 1) ks ops l w agree has.2
             ∙ ap (λ j. at d j ks (Located (spot_behind k steps p) ∷ ops) l w) q in
-            after_comes ask code Fits {X = Unit {0}} 0 b h b h _ (at d (place + length (located_code v steps t s)) ks (Located (spot_behind k steps p) ∷ ops) l w) c c (1 + length steps) next _ (omega arith) (omega arith)
+            after_comes_to ask code {X = Unit {0}} Ends 0 b h b h _ (at d (place + length (located_code v steps t s)) ks (Located (spot_behind k steps p) ∷ ops) l w) c c (1 + length steps) next _ (omega arith) (omega arith)
             (record { n = length steps + 1; falls = omega arith; enough = omega arith; in_time = omega arith; comes = there; fits = tt })
             (more (spot_behind k steps p))
 
     -- the same of the part that a name denotes
-    pub part_then : {A : Type 0} (Fits : Option Way → World → Type 0) (b h : ℕ) (x : Reached) (t : ℕ) (s : List Kind) (d : List ℕ) (place : ℕ) (ks : List Frame) (ops : List Word) (c : ℕ) (l : Log) (w : World) (next : Result A → Log → World → State) (g : Result Found → Act A) → are_selectors (selectors_of x) ≡ true → Agree (selectors_of x) → length d ≡ depth s → Laid code place (part_code x t s) →
-        ((p : Spot) → Runs ask code Fits b h (at d (place + length (part_code x t s)) ks (Located p ∷ ops) l w) c next (g (Goes (found_at p)) c l w)) →
-        Runs ask code Fits b h (at d place ks ops l w) c next (bind (part_found k (selectors_of x) (spot_of (content_of d (variable_of x) w)) c l w) g)
-    part_then Fits b h x t s d place ks ops c l w next g selectors agree long has more =
+    pub part_then : {A : Type 0} (Ends : Result A → World → Type 0) (b h : ℕ) (x : Reached) (t : ℕ) (s : List Kind) (d : List ℕ) (place : ℕ) (ks : List Frame) (ops : List Word) (c : ℕ) (l : Log) (w : World) (next : Result A → Log → World → State) (g : Result Found → Act A) → are_selectors (selectors_of x) ≡ true → Agree (selectors_of x) → length d ≡ depth s → Laid code place (part_code x t s) →
+        ((p : Spot) → RunsTo ask code Ends b h (at d (place + length (part_code x t s)) ks (Located p ∷ ops) l w) c next (g (Goes (found_at p)) c l w)) →
+        RunsTo ask code Ends b h (at d place ks ops l w) c next (bind (part_found k (selectors_of x) (spot_of (content_of d (variable_of x) w)) c l w) g)
+    part_then Ends b h x t s d place ks ops c l w next g selectors agree long has more =
         let same = part_code_is x t s selectors in
-        located_then Fits b h (variable_of x) (selectors_of x) t s d place ks ops c l w next g agree long (subst (Laid code place) same has)
-        (λ p. subst (λ is. Runs ask code Fits b h (at d (place + length is) ks (Located p ∷ ops) l w) c next (g (Goes (found_at p)) c l w)) same (more p))
+        located_then Ends b h (variable_of x) (selectors_of x) t s d place ks ops c l w next g agree long (subst (Laid code place) same has)
+        (λ p. subst (λ is. RunsTo ask code Ends b h (at d (place + length is) ks (Located p ∷ ops) l w) c next (g (Goes (found_at p)) c l w)) same (more p))

@@ -199,7 +199,7 @@ module _ (ask : Ask) (k : Tables) (code : Code) (setting : Setting k code) (call
         subst (Runs ask code (Kept k code w0) 6 6 (at d place ks (Located part ∷ ops) l w) c next)
         (sym (bind_add 1 (find_by K (selectors_of y) v d c l w) after ∙ ap (λ x. add 1 (bind x after)) (finds_part K v (selectors_of y) selectors d c l w (no_copy_at k code (master_of d v) v.slot w fits.0))))
         (added ask code (Kept k code w0) 1 6 6 6 6 _ c next (bind o after) (omega arith) (omega arith)
-        (part_then k code ask (Kept k code w0) 6 6 y t s d place ks (Located part ∷ ops) c l w next after selectors (agree_part k code setting.places y runs) long (laid_front code place front last has)
+        (part_then k code ask (λ r. Since k code w0) 6 6 y t s d place ks (Located part ∷ ops) c l w next after selectors (agree_part k code setting.places y runs) long (laid_front code place front last has)
         (λ source. subst (λ q. Runs ask code (Kept k code w0) 6 6 (at d (place + length front) ks (Located source ∷ Located part ∷ ops) l w) c (arrives e d q ks ops) (assign_found K t (found_at part) (found_at source) c l w)) end
         (assigns part source e w0 d (place + length front) ks ops c l w le fits (laid_back code place front last has).0))))
 
@@ -228,6 +228,6 @@ module _ (ask : Ask) (k : Tables) (code : Code) (setting : Setting k code) (call
       subst (Runs ask code (Kept k code w0) 0 0 (at d place ks ops l w) c next)
       (sym (ap (λ z. add 1 (bind z after)) (finds_part K v (selectors_of x) selectors d c l w (no_copy_at k code (master_of d v) v.slot w fits.0))))
       (added ask code (Kept k code w0) 1 6 6 0 0 _ c next (bind o after) (omega arith) (omega arith)
-      (part_then k code ask (Kept k code w0) 6 6 x t s d place ks ops c l w next after selectors (agree_part k code setting.places x runs) sees.long (laid_front code place front back has)
+      (part_then k code ask (λ r. Since k code w0) 6 6 x t s d place ks ops c l w next after selectors (agree_part k code setting.places x runs) sees.long (laid_front code place front back has)
       (λ part. subst (λ q. Runs ask code (Kept k code w0) 6 6 (at d (place + length front) ks (Located part ∷ ops) l w) c (arrives (lands a place) d q ks ops) (after (Goes (found_at part)) c l w)) end
       (source_runs bound calls (scope x y s place has) part y selectors1 runs1 (lands a place) (Operand (Record t) ∷ s) w0 d (place + length front) ks ops c l w le fits sees.long (laid_back code place front back has)))))

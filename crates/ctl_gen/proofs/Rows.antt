@@ -1,22 +1,22 @@
 -- The default expressions of the components of a type, as the meaning finds them, and what those come to that are constants (3.8).
 use Rattle.std.proofs.Common.{◌≡◌, ℕ, zero, suc, ◌+◌, ◌-◌, List, [], ◌∷◌, ◌++◌, map, Option, Some, None, refl, sym, ap, ◌∙◌, arith}
 use Rattle.std.specs.Prelude.{slice_get, option_map}
-use Rattle.ctl_program.specs.declared.expression.Expr.{Expr}
+use Rattle.ctl_program.specs.declared.expression.Actual.{Actual}
+use Rattle.ctl_program.specs.declared.expression.Actual.TheOpen.{Expr-F}
+use Rattle.ctl_program.specs.declared.expression.Expr.{Expr, out-Expr, roll-Expr, roll-out-Expr}
+use Rattle.ctl_program.specs.declared.expression.Name.{Name}
+use Rattle.ctl_program.specs.declared.expression.Operand.{Operand}
 use Rattle.ctl_program.specs.declared.types.Component.{Component}
 use Rattle.ctl_program.specs.declared.types.RecordType.{RecordType}
 use Rattle.ctl_meaning.specs.Lists.{item_or}
 use Rattle.ctl_meaning.specs.Choice.{Ask}
-use Rattle.ctl_meaning.specs.Outcome.{Goes, Gives, on_some}
+use Rattle.ctl_meaning.specs.Outcome.{Goes, Gives, on_some, opened_outcome}
 use Rattle.ctl_meaning.specs.Types.{of_parent}
 use Rattle.ctl_meaning.specs.Names.{Call, gone}
-use Rattle.ctl_meaning.specs.Expressions.{Valued, eval}
+use Rattle.ctl_meaning.specs.Expressions.{Valued, eval, eval_step}
+use Rattle.ctl_meaning.proofs.Trees.{eval_roll}
 use Rattle.ctl_meaning.specs.Run.{Meaning, row_of, own_defaults, defaults_from, default_at, default_in, expression_tools}
-use Rattle.ctl_code.specs.declared.code.Code.{Code}
-use Rattle.ctl_layout.specs.Values.{ValueCode}
-use Rattle.ctl_layout.specs.Records.{all_components, component_rows, constant_in, inherited, none_if_absent, rows_by}
-use Rattle.ctl_layout.proofs.Layers.{constant_is}
-use Rattle.ctl_gen.proofs.Setting.{ArePlaced}
-use Rattle.ctl_gen.proofs.Evaluated.{value_since}
+use Rattle.ctl_layout.specs.Records.{all_components, component_rows, constant_at, constant_in, constant_layer, inherited, none_if_absent, rows_by}
 use Rattle.ctl_gen.proofs.Parted.{GivesDefaults}
 
 -- Rows ------------------------------------------------------------------------------------------
@@ -64,9 +64,26 @@ default_of [] i x at = absurd (cc)
 default_of (c ∷ cs) zero x at = let same : c ≡ x = cc at in ap (λ (y : Component). Some (option_map eval y.default)) same
 default_of (c ∷ cs) (suc i) x at = default_of cs i x at
 
-module _ (ask : Ask) (p : Meaning) (code : Code) (placed : ArePlaced p.tables code) (call : Call) (rows : p.defaults ≡ defaults_from [] p.tables.records) where
+-- an expression that is a constant means it
+constant_means : (x : Expr) (n : ℕ) → constant_at x ≡ Some n → eval x ≡ eval_step (Expr-F.Constant n)
+constant_means x n found = by (out-Expr x) (roll-out-Expr x) found
+  where
+    by : (y : Expr-F Actual Expr Name Operand) → roll-Expr y ≡ x → constant_layer y ≡ Some n → eval x ≡ eval_step (Expr-F.Constant n)
+    by (Expr-F.Constant m) is same = let here : m ≡ n = cc same in ap eval (sym is) ∙ eval_roll (Expr-F.Constant m) ∙ ap (λ j. eval_step (Expr-F.Constant j)) here
+    by (Expr-F.Read y ty) is same = absurd (cc)
+    by (Expr-F.Call f actuals ty) is same = absurd (cc)
+    by (Expr-F.Unary op ty y) is same = absurd (cc)
+    by (Expr-F.Chain y o more) is same = absurd (cc)
+    by (Expr-F.Short form y z more) is same = absurd (cc)
+    by (Expr-F.Convert ty y) is same = absurd (cc)
+    by (Expr-F.Access v) is same = absurd (cc)
+    by (Expr-F.New access ty handle y) is same = absurd (cc)
+    by (Expr-F.Subpool which y) is same = absurd (cc)
+    by (Expr-F.Discriminant y j) is same = absurd (cc)
+
+module _ (ask : Ask) (p : Meaning) (call : Call) (rows : p.defaults ≡ defaults_from [] p.tables.records) where
   pub gives_defaults : GivesDefaults p.tables (default_in p.defaults (expression_tools ask p call))
-  unfolding default_in default_at expression_tools item_or on_some
+  unfolding default_in default_at expression_tools item_or eval_step opened_outcome
   gives_defaults t r at plain i x n here is env c l w =
       ap (λ o. on_some (item_or None (slice_get o (i + 1 - 1))) gone (λ (e : Valued). e (expression_tools ask p call) env) c l w) row
       ∙ (ap (λ j. on_some (item_or None (slice_get (defaults_in plain.components) j)) gone (λ (e : Valued). e (expression_tools ask p call) env) c l w) back
@@ -81,6 +98,4 @@ module _ (ask : Ask) (p : Meaning) (code : Code) (placed : ArePlaced p.tables co
 
       by : (o : Option Expr) → constant_in o ≡ Some n → on_some (option_map eval o) gone (λ (e : Valued). e (expression_tools ask p call) env) c l w ≡ Gives (Goes (n ∷ [])) 1 c l w
       by None e = absurd (cc)
-      by (Some y) e =
-          let code_is = constant_is y n e in
-          (value_since ask p.tables code placed call (λ t1 position env1. gone) y (ap (λ (v : ValueCode). v.runs p.tables.records) code_is) w).constant n (ap (λ (v : ValueCode). v.right) code_is) env c l w
+      by (Some y) e = ap (λ (m : Valued). m (expression_tools ask p call) env c l w) (constant_means y n e)

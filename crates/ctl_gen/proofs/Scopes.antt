@@ -3,6 +3,8 @@
 use Rattle.std.proofs.Common.{◌≡◌, ℕ, zero, suc, ◌<◌, ◌≤◌, List, [], ◌∷◌, length, Option, Some, None, Bool, true, false, sym, ap, ◌∙◌, subst, arith}
 use Rattle.std.specs.Prelude.{slice_get, if◌then◌else◌}
 use Rattle.ctl_program.specs.declared.types.Ty.TheVariants.{Record}
+use Rattle.ctl_program.specs.declared.operators.SubprogramKind.{SubprogramKind}
+use Rattle.ctl_program.specs.declared.operators.SubprogramKind.TheVariants.{Procedure}
 use Rattle.ctl_meaning.specs.World.{Object, World}
 use Rattle.ctl_meaning.specs.Lists.{keep, pull_item, pull_rest}
 use Rattle.ctl_meaning.specs.Changes.{object_at, home_of, home_master, opened_changes}
@@ -14,7 +16,7 @@ use Rattle.ctl_code.specs.declared.code.Layout.{Layout}
 use Rattle.ctl_code.specs.declared.code.Operations.{Operations}
 use Rattle.ctl_code.specs.declared.code.Code.{Code}
 use Rattle.ctl_code.specs.Table.{begun_in, begun_of, controlled_in, controlled_of, operation_in, operation_of}
-use Rattle.ctl_code.specs.Valid.{AreBegunBy, AreInScope, IsBegunBy, IsDeclarable, IsDeclaredIn, IsInScope, IsValid, PositionsRise, outermost}
+use Rattle.ctl_code.specs.Valid.{AreBegunBy, AreInScope, HasFormals, IsBegunBy, IsDeclarable, IsDeclaredIn, IsInScope, IsValid, PositionsRise, TakesObject, outermost}
 use Rattle.ctl_code.proofs.Declarable.{layout_of}
 use Rattle.ctl_gen.proofs.Worlds.{Fits, IfFound, IsInside, Settled, Since, home, object_fits, still_home}
 
@@ -48,17 +50,24 @@ operations_in code valid n t inside =
     let at = (valid.layouts t has.layout has.found).operations in
     (at.0, at.1, in_scope_later code has.layout.level n at.0.initialize has.level at.2, in_scope_later code has.layout.level n at.0.finalize has.level at.3, in_scope_later code has.layout.level n at.0.adjust has.level at.4)
 
-named : (code : Code) (t f : ℕ) (g : Operations → Option ℕ) (o : Operations) → slice_get code.records.items t ≡ Some o → operation_of g code t ≡ Some f → g o ≡ Some f
-named code t f g o at op = sym (ap (operation_in g) at) ∙ op
+-- a body of this kind can be called where so many masters are around, with so many actuals
+abbrev pub IsCallable : Code → SubprogramKind → ℕ → ℕ → ℕ → Type 0
+IsCallable code kind masters f count = IsInScope code masters (Some f) × HasFormals code kind f count
 
-pub initialize_in : (code : Code) → IsValid code → (n t f : ℕ) → IsDeclarable code n t → operation_of (λ x. x.initialize) code t ≡ Some f → IsInScope code n (Some f)
-initialize_in code valid n t f inside op = let at = operations_in code valid n t inside in subst (IsInScope code n) (named code t f (λ x. x.initialize) at.0 at.1 op) at.2
+-- one that is in scope, and takes its object, can be called
+operation_callable : (code : Code) (n t f : ℕ) (g : Operations → Option ℕ) (o : Operations) → slice_get code.records.items t ≡ Some o → operation_of g code t ≡ Some f → IsInScope code n (g o) → TakesObject code (g o) → IsCallable code Procedure n f 1
+operation_callable code n t f g o at op scope takes =
+    let named : g o ≡ Some f = sym (ap (operation_in g) at) ∙ op in
+    (subst (IsInScope code n) named scope, subst (TakesObject code) named takes)
 
-pub finalize_in : (code : Code) → IsValid code → (n t f : ℕ) → IsDeclarable code n t → operation_of (λ x. x.finalize) code t ≡ Some f → IsInScope code n (Some f)
-finalize_in code valid n t f inside op = let at = operations_in code valid n t inside in subst (IsInScope code n) (named code t f (λ x. x.finalize) at.0 at.1 op) at.3
+pub initialize_in : (code : Code) → IsValid code → (n t f : ℕ) → IsDeclarable code n t → operation_of (λ x. x.initialize) code t ≡ Some f → IsCallable code Procedure n f 1
+initialize_in code valid n t f inside op = let at = operations_in code valid n t inside in operation_callable code n t f (λ x. x.initialize) at.0 at.1 op at.2 (valid.formals t at.0 at.1).0
 
-pub adjust_in : (code : Code) → IsValid code → (n t f : ℕ) → IsDeclarable code n t → operation_of (λ x. x.adjust) code t ≡ Some f → IsInScope code n (Some f)
-adjust_in code valid n t f inside op = let at = operations_in code valid n t inside in subst (IsInScope code n) (named code t f (λ x. x.adjust) at.0 at.1 op) at.4
+pub finalize_in : (code : Code) → IsValid code → (n t f : ℕ) → IsDeclarable code n t → operation_of (λ x. x.finalize) code t ≡ Some f → IsCallable code Procedure n f 1
+finalize_in code valid n t f inside op = let at = operations_in code valid n t inside in operation_callable code n t f (λ x. x.finalize) at.0 at.1 op at.3 (valid.formals t at.0 at.1).1
+
+pub adjust_in : (code : Code) → IsValid code → (n t f : ℕ) → IsDeclarable code n t → operation_of (λ x. x.adjust) code t ≡ Some f → IsCallable code Procedure n f 1
+adjust_in code valid n t f inside op = let at = operations_in code valid n t inside in operation_callable code n t f (λ x. x.adjust) at.0 at.1 op at.4 (valid.formals t at.0 at.1).2
 
 -- Components ----------------------------------------------------------------------------------------
 

@@ -4,26 +4,29 @@ use Rattle.std.specs.Prelude.{slice_get}
 use Rattle.ctl_program.specs.declared.program.Subprogram.{Subprogram}
 use Rattle.ctl_program.specs.declared.types.Ty.TheVariants.{Record}
 use Rattle.ctl_program.specs.declared.types.RecordType.{RecordType}
+use Rattle.ctl_program.specs.declared.operators.SubprogramKind.{SubprogramKind}
+use Rattle.ctl_program.specs.declared.operators.SubprogramKind.TheVariants.{Function}
 use Rattle.ctl_tree.specs.declared.event.Event.{Event}
 use Rattle.ctl_meaning.specs.World.{Log, World, Slot}
 use Rattle.ctl_meaning.specs.Lists.{last_of}
 use Rattle.ctl_meaning.specs.Choice.{Ask}
-use Rattle.ctl_meaning.specs.Outcome.{Way, Result, tell}
+use Rattle.ctl_meaning.specs.Outcome.{raised_by, Way, Result, Goes, Leaves, Tried, Fine, tell}
 use Rattle.ctl_meaning.specs.Types.{Tables, cells_of, offset_in, operation, placed}
-use Rattle.ctl_meaning.specs.Names.{OfSubprogram, Call, Default, Tools}
+use Rattle.ctl_meaning.specs.Names.{OfSubprogram, Returned, Call, Default, Tools, scalar_of}
 use Rattle.ctl_code.specs.declared.code.Entry.{Entry}
 use Rattle.ctl_code.specs.declared.code.Instr.TheVariants as InstrOf
 use Rattle.ctl_code.specs.declared.code.Code.{Code}
 use Rattle.ctl_code.specs.declared.kinds.Kind.{Kind}
-use Rattle.ctl_code.specs.States.{Frame, State}
-use Rattle.ctl_code.specs.Table.{ended, enter_body, offset_of, operation_of, size_of}
+use Rattle.ctl_code.specs.States.{Handed, Complete, WithValue, Frame, State}
+use Rattle.ctl_code.specs.Table.{awaited, enter_body, offset_of, operation_of, or_complete, size_of}
 use Rattle.ctl_code.specs.Steps.{moved, step}
-use Rattle.ctl_code.specs.Valid.{IsInScope, IsValid, kinds_at}
+use Rattle.ctl_code.specs.Valid.{IsValid, kinds_at}
 use Rattle.ctl_code.specs.Windows.{depth}
 use Rattle.ctl_layout.specs.Records.{adjust_by, is_laid}
 use Rattle.ctl_layout.specs.Run.{IsBody}
 use Rattle.ctl_gen.proofs.Parted.{Agree, GivesDefaults}
 use Rattle.ctl_gen.proofs.Worlds.{Each, HoldsNoCopy, Since, home}
+use Rattle.ctl_gen.proofs.Scopes.{IsCallable}
 use Rattle.ctl_gen.proofs.Follow.{IsRaise, Runs, gives}
 
 -- the first cells of the components of types that are laid out are those of the tables
@@ -57,9 +60,22 @@ pub record Sees (d : List ℕ) (s : List Kind) (w : World) : Type 0 where
   pub long : length d ≡ depth s
   pub deep : 1 ≤ length d
 
+-- what is handed on with no value, where nothing but an exception leaves
+abbrev pub told : {A : Type 0} → Result A → Tried Handed
+told (Goes a) = Fine Complete
+told (Leaves y) = or_complete (raised_by y)
+
 -- what an execution gives to the frame that waits for it
 abbrev pub returns : {A : Type 0} → List Frame → Result A → Log → World → State
-returns ks r l w = gives ks (ended r) l w
+returns ks r l w = gives ks (told r) l w
+
+-- what a body of this kind hands on: a function its value
+abbrev pub handed_by : SubprogramKind → Result Returned → Tried Handed
+handed_by Function (Goes r) = Fine (WithValue (scalar_of r.cells))
+handed_by kind r = told r
+
+abbrev pub returns_by : SubprogramKind → List Frame → Result Returned → Log → World → State
+returns_by kind ks r l w = gives ks (handed_by kind r) l w
 
 -- nothing but an exception leaves a body
 abbrev pub IsTold : Option Way → Type 0
@@ -77,9 +93,10 @@ IsSure (Some y) = ⊥
 abbrev pub Sure : (k : Tables) (code : Code) → World → Option Way → World → Type 0
 Sure k code w0 y w = IsSure y × Since k code w0 w
 
--- bodies behave, while at most this much is on the clock: from the state whose step enters the body, in so many masters as are around it
+-- bodies behave, while at most this much is on the clock: from the state whose step enters the body, in so many masters as are around it,
+-- over frames that wait for a body of its kind
 pub record Calls (ask : Ask) (k : Tables) (code : Code) (setting : Setting k code) (bound : ℕ) (call : Call) : Type 0 where
-  pub runs : (f : ℕ) (s : Subprogram) → slice_get setting.subprograms f ≡ Some s → (w0 : World) (v : List ℕ) (actuals : List Slot) (ks : List Frame) (c : ℕ) (l : Log) (w : World) (s0 : State) → c ≤ bound → Since k code w0 w → IsInScope code (length v) (Some f) → Each HoldsNoCopy actuals → step ask code s0 ≡ moved l (enter_body (slice_get code.entries.items f) [] v actuals ks w) → Runs ask code (Told k code w0) 2 3 s0 c (returns ks) (call (OfSubprogram f actuals) v c l w)
+  pub runs : (f : ℕ) (s : Subprogram) → slice_get setting.subprograms f ≡ Some s → (w0 : World) (v : List ℕ) (actuals : List Slot) (ks : List Frame) (c : ℕ) (l : Log) (w : World) (s0 : State) (kind : SubprogramKind) (count : ℕ) → awaited ks ≡ kind → c ≤ bound → Since k code w0 w → IsCallable code kind (length v) f count → Each HoldsNoCopy actuals → step ask code s0 ≡ moved l (enter_body (slice_get code.entries.items f) [] v actuals ks w) → Runs ask code (Told k code w0) 2 3 s0 c (returns_by kind ks) (call (OfSubprogram f actuals) v c l w)
 
 -- what is shown when a body is entered is shown before
 pub enter_shows : (x : Option Entry) (e : Event) (v : List ℕ) (actuals : List Slot) (k : List Frame) (l : Log) (w : World) → moved l (enter_body x (e ∷ []) v actuals k w) ≡ moved (tell e l) (enter_body x [] v actuals k w)

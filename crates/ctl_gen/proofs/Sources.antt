@@ -12,10 +12,12 @@ use Rattle.ctl_meaning.specs.Outcome.{Act, ◌>>=◌, ticked}
 use Rattle.ctl_meaning.specs.Types.{category_of, cells_of}
 use Rattle.ctl_meaning.specs.Names.{Found, Tools, read_found}
 use Rattle.ctl_meaning.specs.Expressions.{Supplied, Valued, eval, eval_name, eval_step, actual_step as actual_meaning, supply}
-use Rattle.ctl_meaning.proofs.Trees.{actual_roll, eval_roll}
+use Rattle.ctl_meaning.proofs.Trees.{actual_roll as supply_roll, eval_roll}
 use Rattle.ctl_layout.specs.Parts.{Reached, Variable, Part, are_selectors}
-use Rattle.ctl_layout.specs.Values.{ValueCode, copied, is_of, read, reached_by, reached_if, sourced, value_code}
-use Rattle.ctl_layout.proofs.TreeLayers.{value_roll, sourced_roll}
+use Rattle.ctl_layout.specs.Values.{ActualCode, ValueCode, copied, is_of, read, reached_by, reached_if, sourced, value_code}
+use Rattle.ctl_program.specs.declared.expression.Actual.TheVariants.{rolls-Part}
+use Rattle.ctl_layout.proofs.TreeLayers.{value_roll, actual_roll}
+use Rattle.ctl_layout.proofs.Layers.{part_source}
 use Rattle.ctl_gen.proofs.Parts.{composite_leads, find_by, name_leads, selectors_of, variable_of}
 
 -- the value of this type that is found so
@@ -91,17 +93,17 @@ module _ (K : Tools) where
     pub selectors : are_selectors (selectors_of x) ≡ true
     pub finds : m.source K ≡ (λ d. ticked (find_by K (selectors_of x) (variable_of x) d))
 
-  part_source : (n : Name) (ty : Ty) (x : Reached) → reached_by n ≡ Some x → IsSource x (actual_meaning (Actual-F.Part (eval_name n) ty))
+  is_source : (n : Name) (ty : Ty) (x : Reached) → reached_by n ≡ Some x → IsSource x (actual_meaning (Actual-F.Part (eval_name n) ty))
   unfolding actual_meaning
-  part_source n ty x is =
+  is_source n ty x is =
       let at_node : (List ℕ → Act Found) → List ℕ → Act Found = λ find d. ticked (find d) in
       let h = name_leads K n x is in
       record { selectors = h.selectors; finds = ap at_node (composite_leads K x (eval_name n) h) }
 
   actual_rolled : (y : Actual-F Actual Expr Name Operand) (x : Reached) → sourced (roll-Actual y) ≡ Some x → IsSource x (supply (roll-Actual y))
-  actual_rolled (Actual-F.Part n ty) x is = subst (IsSource x) (sym (actual_roll (Actual-F.Part n ty))) (part_source n ty x (sym (sourced_roll (Actual-F.Part n ty)) ∙ is))
-  actual_rolled (Actual-F.ByValue e ty) x is = absurd (let e1 = sym (sourced_roll (Actual-F.ByValue e ty)) ∙ is in cc e1)
-  actual_rolled (Actual-F.Copied n ty begins) x is = absurd (let e1 = sym (sourced_roll (Actual-F.Copied n ty begins)) ∙ is in cc e1)
+  actual_rolled (Actual-F.Part n ty) x is = subst (IsSource x) (sym (supply_roll (Actual-F.Part n ty))) (is_source n ty x (sym (part_source n ty) ∙ sym (ap (λ (a : Actual). sourced a) (rolls-Part n ty)) ∙ is))
+  actual_rolled (Actual-F.ByValue e ty) x is = absurd (let e1 = sym (ap (λ (y : ActualCode). y.reached) (actual_roll (Actual-F.ByValue e ty))) ∙ is in cc e1)
+  actual_rolled (Actual-F.Copied n ty begins) x is = absurd (let e1 = sym (ap (λ (y : ActualCode). y.reached) (actual_roll (Actual-F.Copied n ty begins))) ∙ is in cc e1)
 
   pub source_means : (a : Actual) (x : Reached) → sourced a ≡ Some x → IsSource x (supply a)
   source_means a = subst (λ b. (x : Reached) → sourced b ≡ Some x → IsSource x (supply b)) (roll-out-Actual a) (actual_rolled (out-Actual a))

@@ -42,7 +42,7 @@ use Rattle.ctl_gen.proofs.Declare.{declare_runs}
 use Rattle.ctl_gen.proofs.Copies.{copy_does}
 use Rattle.ctl_gen.proofs.Assign.{scalar_runs, valued_runs}
 use Rattle.ctl_gen.proofs.Expressions.{Value}
-use Rattle.ctl_gen.proofs.Evaluated.{value_since}
+use Rattle.ctl_gen.proofs.Evaluated.{value_means}
 use Rattle.ctl_gen.proofs.Branches.{Ends, arm_runs}
 use Rattle.ctl_gen.proofs.Loops.{leave_step}
 use Rattle.ctl_gen.proofs.Leave.{in_frame, leaves, left_after, steps_out}
@@ -121,7 +121,7 @@ module _ (ask : Ask) (k : Tables) (code : Code) (setting : Setting k code) (call
   unfolding object if_given opened_outcome
   valued_object slot ty e runs =
       let h = both_true _ _ runs in
-      valued_runs ask k code setting.valid bound call default slot ty (value_code e) (eval e K) (scalar_if ty h.0) (value_since ask k code setting.places call default e h.1)
+      valued_runs ask k code setting.valid bound call default slot ty (value_code e) (eval e K) (scalar_if ty h.0) (λ w0. value_means ask k code setting call default bound calls w0 e h.1)
 
   copied_object : (slot t : ℕ) (e : Expr) (o : Option Reached) → copied t (value_code e) ≡ o → (copy slot t o).runs k.records ≡ true → Does ask k code bound (λ a. (copy slot t o).code a.stack) (λ d caught. object slot (Record t) (Some (eval e)) K d (last_of d))
   copied_object slot t e None is runs = absurd (cc)
@@ -185,7 +185,7 @@ module _ (ask : Ask) (k : Tables) (code : Code) (setting : Setting k code) (call
       ((c1 : ℕ) (l1 : Log) (w1 : World) → c1 ≤ c → Since k code w0 w1 → Runs ask code (Kept k code w0) 0 0 (at d (place + length (turn_code x a n) + 1) ks ops l1 w1) c1 (arrives (lands a place) d place1 ks ops) (other c1 l1 w1)) →
       Runs ask code (Kept k code w0) 0 0 (at d place ks ops l w) c (arrives (lands a place) d place1 ks ops) (m K d (caught_in ks) other c l w)
 
-  pub guard_runs : (x : ValueCode) (test : Valued) (xs : List StatementCode) (ms : List Doing) → (x.runs k.records ≡ true → (w0 : World) → Value ask k code (Since k code w0) x (test K)) → EachPerforms xs ms → Guards (record { test = x; body = all xs }) (guard test ms)
+  pub guard_runs : (x : ValueCode) (test : Valued) (xs : List StatementCode) (ms : List Doing) → (x.runs k.records ≡ true → (w0 : World) → Value ask k code bound (Since k code w0) x (test K)) → EachPerforms xs ms → Guards (record { test = x; body = all xs }) (guard test ms)
   unfolding guard
   guard_runs x test xs ms value each runs_test runs_body n texts other a w0 d place place1 ks ops c l w le fits sees has ends elses =
       arm_runs ask k code bound 0 1 (omega arith) x (test K) (value runs_test) (λ b. (all xs).code b n) (λ u caught. do_each K u caught ms) (all_run xs ms each runs_body n texts) other a w0 d place place1 ks ops c l w le fits sees has ends elses

@@ -3,6 +3,7 @@
 use Rattle.std.proofs.Common.{◌≡◌, ℕ, zero, suc, ◌+◌, ◌<◌, ◌≤◌, List, [], ◌∷◌, ◌++◌, length, Option, Some, None, Bool, true, false, refl, sym, ap, ◌∙◌, subst, arith, inr}
 use Rattle.std.specs.Prelude.{slice_get, ◌&&◌, ◌||◌}
 use Rattle.ctl_program.specs.declared.types.Ty.TheVariants.{Record}
+use Rattle.ctl_program.specs.declared.operators.SubprogramKind.TheVariants.{Procedure}
 use Rattle.ctl_tree.specs.declared.ending.Stop.TheVariants.{UseAfterFree}
 use Rattle.ctl_tree.specs.declared.event.Cause.TheVariants.{Failed}
 use Rattle.ctl_tree.specs.declared.event.Event.{Event}
@@ -227,7 +228,7 @@ module _ (ask : Ask) (k : Tables) (code : Code) (setting : Setting k code) (call
           let actuals = holding (Binds s.object s.offset s.path) ∷ [] in
           subst (λ x. Undoes 0 0 s0 c ks (after_own n s t x)) (sym (call_is ask k call default f s c (shown s) l w p at))
           (over _
-          (calls.runs f body.0 body.1 wr (home_of p.origin w) actuals (UndoingOwn s t ∷ ks) c (tell (shown s) l) w s0 le fits (finalize_in code setting.valid _ t f here (setting.finalize t ∙ op)) (tt, tt)
+          (calls.runs f body.0 body.1 wr (home_of p.origin w) actuals (UndoingOwn s t ∷ ks) c (tell (shown s) l) w s0 Procedure 1 refl le fits (finalize_in code setting.valid _ t f here (setting.finalize t ∙ op)) (tt, tt)
           (go ∙ enter_shows (slice_get code.entries.items f) (shown s) (home_of p.origin w) actuals (UndoingOwn s t ∷ ks) l w)))
 
       -- a part that has none, or is not adjusted

@@ -2,8 +2,7 @@
 use Rattle.std.proofs.Common.{◌≡◌, ◌≢◌, ℕ, zero, suc, ◌+◌, ◌*◌, ◌≤◌, List, [], ◌∷◌, ◌++◌, length, map, Option, Some, None, true, refl, sym, ap, ◌∙◌, subst, arith, ◌⊎◌, inl, inr, length-append, append-nil}
 use Rattle.std.specs.Prelude.{slice_get}
 use Rattle.ctl_program.specs.declared.types.RecordType.{RecordType}
-use Rattle.ctl_program.specs.declared.operators.SubprogramKind.{SubprogramKind}
-use Rattle.ctl_program.specs.declared.operators.SubprogramKind.TheVariants.{Function, Procedure}
+use Rattle.ctl_program.specs.declared.operators.SubprogramKind.TheVariants.{Procedure}
 use Rattle.ctl_program.specs.declared.program.Subprogram.{Subprogram}
 use Rattle.ctl_program.specs.declared.program.Checked.{Checked}
 use Rattle.ctl_tree.specs.declared.ending.End.{End}
@@ -19,7 +18,7 @@ use Rattle.ctl_code.specs.declared.template.TextPart.{TextPart}
 use Rattle.ctl_code.specs.declared.code.Entry.{Entry}
 use Rattle.ctl_code.specs.declared.code.Code.{Code}
 use Rattle.ctl_code.specs.States.{Mode, At, Transfers, Giving, Stopped, Stuck, Frame, State}
-use Rattle.ctl_code.specs.Valid.{IsValid}
+use Rattle.ctl_code.specs.Valid.{IsFine, IsValid, kinds_at}
 use Rattle.ctl_code.specs.Table as Table
 use Rattle.ctl_code.specs.Steps.{step, steps, start, machine, end_at, end_of}
 use Rattle.ctl_code.specs.Laws.{IsPrefix, Grows}
@@ -30,12 +29,12 @@ use Rattle.ctl_gen.proofs.Defaults.{agrees}
 use Rattle.ctl_gen.proofs.Layouts.{places, sizes}
 use Rattle.ctl_gen.proofs.Rows.{gives_defaults}
 use Rattle.ctl_layout.specs.Records.{adjust_by}
-use Rattle.ctl_layout.specs.Run.{AreLinked, IsBody, IsRun, IsWritten, are_procedures, is_procedure}
+use Rattle.ctl_layout.specs.Run.{AreLinked, IsBody, IsRun, IsWritten}
 use Rattle.ctl_gen.proofs.Known.{both_true}
 use Rattle.ctl_gen.specs.Correct.{HasReached, RunsAs, Behaves}
 use Rattle.ctl_gen.proofs.Place.{HasAt, has_front, has_back, has_all, Laid, laid_front, laid_back}
-use Rattle.ctl_code.specs.Table.{ended}
-use Rattle.ctl_gen.proofs.Setting.{Setting, Told, returns}
+use Rattle.ctl_gen.proofs.Scopes.{IsCallable}
+use Rattle.ctl_gen.proofs.Setting.{Setting, Told, told, returns}
 use Rattle.ctl_gen.proofs.Bodies.{Stands, main_runs}
 use Rattle.ctl_gen.proofs.Follow.{by_raise, GoingBy, Runs, gives}
 use Rattle.ctl_meaning.specs.World.{empty_world}
@@ -66,16 +65,7 @@ laid_by : (code : Code) (place : ℕ) (lines : List Line) → HasAt code.instruc
 laid_by code place [] h g = tt
 laid_by code place (x ∷ xs) h g = (h.0, g.0, laid_by code (place + 1) xs h.1 g.1)
 
--- what each of them is
-kind_if : (j : SubprogramKind) → is_procedure j ≡ true → j ≡ Procedure
-kind_if Procedure e = refl
-kind_if Function e = absurd (cc)
-
-is_a_procedure : (ss : List Subprogram) → are_procedures ss ≡ true → (f : ℕ) (s : Subprogram) → slice_get ss f ≡ Some s → s.kind ≡ Procedure
-is_a_procedure [] all f s e = absurd (cc)
-is_a_procedure (x ∷ ss) all zero s e = let same : x ≡ s = cc e in subst (λ (y : Subprogram). y.kind ≡ Procedure) same (kind_if x.kind (both_true _ _ all).0)
-is_a_procedure (x ∷ ss) all (suc f) s e = is_a_procedure ss (both_true _ _ all).1 f s e
-
+-- each of them is run
 pub body_is_run : (records : List RecordType) (ss : List Subprogram) → (bodies ss).runs records ≡ true → (f : ℕ) (s : Subprogram) → slice_get ss f ≡ Some s → (body_code s).runs records ≡ true
 body_is_run records [] runs f s e = absurd (cc)
 body_is_run records (x ∷ ss) runs zero s e = let same : x ≡ s = cc e in subst (λ (y : Subprogram). (body_code y).runs records ≡ true) same (both_true _ _ runs).0
@@ -168,9 +158,6 @@ record Moment (code : Code) (ask : Ask) (clock ticks : ℕ) (o : Outcome) : Type
   why : (clock ≤ n) ⊎ (step ask code (steps ask code n start) ≡ steps ask code n start)
 
 module _ (program : Checked) (code : Code) (laid : IsLaidOut program code) (kinds : HasKinds program code) (valid : IsValid code) (run_it : IsRun program) (linked : AreLinked program) where
-  parts : (are_procedures program.subprograms ≡ true) × ((bodies program.subprograms).runs program.records ≡ true)
-  parts = both_true _ _ run_it
-
   has_whole : Laid code 0 (program_code program)
   has_whole =
       laid_by code 0 (program_code program)
@@ -201,11 +188,15 @@ module _ (program : Checked) (code : Code) (laid : IsLaidOut program code) (kind
   unfolding tables_of
   stands f s here =
       let x = find code code.texts.items program.subprograms 1 0 has_whole.2 has_texts f s here in
-      record { place = x.place; before = x.before; entry = ap (λ es. slice_get es f) laid.entries ∙ x.entry; instructions = x.instructions; texts = x.printed; runs = body_is_run program.records program.subprograms parts.1 f s here; procedure = is_a_procedure program.subprograms parts.0 f s here }
+      record { place = x.place; before = x.before; entry = ap (λ es. slice_get es f) laid.entries ∙ x.entry; instructions = x.instructions; texts = x.printed; runs = body_is_run program.records program.subprograms run_it f s here }
+
+  -- the main procedure can be called where no master is around
+  start_callable : slice_get code.instructions.items 0 ≡ Some (InstrOf.Start program.main) → kinds_at code 0 ≡ Some [] → IsCallable code Procedure 0 program.main 0
+  start_callable has standing = let fine : IsFine code 0 (InstrOf.Start program.main) [] = valid.each 0 (InstrOf.Start program.main) [] has standing in (fine.1, fine.2)
 
   whole_runs : (ask : Ask) (clock : ℕ) → Runs ask code (Told (tables_of program) code empty_world) 0 2 start clock (returns []) (run program ask clock)
   unfolding run meaning_of setting
-  whole_runs ask clock = main_runs ask (meaning_of program) code setting stands (routine_at program.subprograms) (λ call. gives_defaults ask (meaning_of program) code setting.places call refl) program.main linked.main.0 linked.main.1 (valid.each 0 (InstrOf.Start program.main) [] has_whole.0 has_whole.1).1 has_whole.0 clock
+  whole_runs ask clock = main_runs ask (meaning_of program) code setting stands (routine_at program.subprograms) (λ call. gives_defaults ask (meaning_of program) call refl) program.main linked.main.0 linked.main.1 (start_callable has_whole.0 has_whole.1) has_whole.0 clock
 
   moment_of : (ask : Ask) (clock : ℕ) (o : Out Returned) → Runs ask code (Told (tables_of program) code empty_world) 0 2 start clock (returns []) o → Moment code ask clock (outcome_of program.exceptions o).ticks (outcome_of program.exceptions o)
   unfolding outcome_of
@@ -215,8 +206,8 @@ module _ (program : Checked) (code : Code) (laid : IsLaidOut program code) (kind
     trace = sym (ap (λ (x : State). x.log.trace) z.comes);
     taken = sym (ap (λ (x : State). x.log.taken) z.comes);
     end = ap (end_of code) z.comes;
-    fine = λ h. let bad : Giving (ended (Goes a)) ≡ Stuck = sym (ap (λ (x : State). x.mode) z.comes) ∙ h in cc;
-    why = inr (subst (Stays ask code) (sym z.comes) (ended_stays ask code (gives [] (ended (Goes a)) l w) (inl (λ h. cc))));
+    fine = λ h. let bad : Giving (told (Goes a)) ≡ Stuck = sym (ap (λ (x : State). x.mode) z.comes) ∙ h in cc;
+    why = inr (subst (Stays ask code) (sym z.comes) (ended_stays ask code (gives [] (told (Goes a)) l w) (inl (λ h. cc))));
   }
   moment_of ask clock (Gives (Leaves y) t c l w) z = by_raise (λ v. Runs ask code (Told (tables_of program) code empty_world) 0 2 start clock (returns {A = Returned} []) (Gives (Leaves v) t c l w) → Moment code ask clock (outcome_of program.exceptions (Gives (Leaves v) t c l w)).ticks (outcome_of program.exceptions (Gives (Leaves v) t c l w))) raised y z.fits.0 z
     where
@@ -227,8 +218,8 @@ module _ (program : Checked) (code : Code) (laid : IsLaidOut program code) (kind
         trace = sym (ap (λ (x : State). x.log.trace) z1.comes);
         taken = sym (ap (λ (x : State). x.log.taken) z1.comes);
         end = ap (end_of code) z1.comes ∙ ap (λ names. Some (end_by names (ByRaise e))) laid.exceptions;
-        fine = λ h. let bad : Giving (ended {A = Returned} (Leaves (ByRaise e))) ≡ Stuck = sym (ap (λ (x : State). x.mode) z1.comes) ∙ h in cc;
-        why = inr (subst (Stays ask code) (sym z1.comes) (ended_stays ask code (gives [] (ended {A = Returned} (Leaves (ByRaise e))) l w) (inl (λ h. cc))));
+        fine = λ h. let bad : Giving (told {A = Returned} (Leaves (ByRaise e))) ≡ Stuck = sym (ap (λ (x : State). x.mode) z1.comes) ∙ h in cc;
+        why = inr (subst (Stays ask code) (sym z1.comes) (ended_stays ask code (gives [] (told {A = Returned} (Leaves (ByRaise e))) l w) (inl (λ h. cc))));
       }
   moment_of ask clock (Stops s t l) z =
       let x = steps ask code z.n start in

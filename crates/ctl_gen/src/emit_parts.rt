@@ -4,7 +4,7 @@ ghost use Rattle.std.specs.Prelude.{◌≡◌, [], OnOk, Some};
 ghost use Rattle.ctl_program.specs.declared.types.Ty.TheVariants.{Record};
 ghost use Rattle.ctl_layout.specs.Parts as spec;
 ghost use Rattle.ctl_layout.specs.Parts.{seen};
-ghost use Rattle.ctl_layout.specs.Layout.{by_reference};
+ghost use Rattle.ctl_layout.specs.Values.{by_reference};
 ghost use Rattle.ctl_gen.specs.Emitted.{lined};
 
 use crate::emit::Emitter;

@@ -161,7 +161,7 @@ impl Emitter {
             Stmt::Exit(condition) => self.exit(condition, landing),
             Stmt::Raise(exception) => self.put(Instr::Transfer(Way::Raise(*exception))),
             Stmt::RaiseAgain => self.put(Instr::RaiseAgain),
-            Stmt::Return(value) => self.leave_body(value, landing),
+            Stmt::Return(value) => self.leave_body(value),
             Stmt::Call(procedure, actuals) => self.call(*procedure, actuals.as_slice()),
             Stmt::If(arms, others) => {
                 let end = self.arms(arms.as_slice(), landing)?;
@@ -320,14 +320,17 @@ impl Emitter {
         }
     }
 
-    /// Emits a return statement.
-    fn leave_body(&mut self, value: &Option<Expr>, landing: Option<usize>) -> Result<(), AllocError>
-        ensures { OnOk result (self.new ≡ stated (spec.return (option_map values.value_code value.now)) landing self.old) }
+    /// Emits a return statement (RM 6.5).
+    fn leave_body(&mut self, value: &Option<Expr>) -> Result<(), AllocError>
+        ensures { OnOk result (self.new ≡ stated (spec.return (option_map values.value_code value.now)) None self.old) }
     {
-        let _ = landing;
         match value {
             None => self.put(Instr::Transfer(Way::Return)),
-            Some(_) => self.put(Instr::Missing),
+            Some(value) => {
+                let ty = value_type(value);
+                let from = self.held(ty, value)?;
+                self.take(Instr::Return { from, ty }, from)
+            }
         }
     }
 

@@ -90,6 +90,7 @@ fn entry_of(emitter: &Emitter, subprogram: &Subprogram) -> Entry
     ensures { result ≡ entry_at (length emitter.now.instructions) subprogram.now }
 {
     Entry {
+        kind: subprogram.kind,
         level: subprogram.level,
         slots: subprogram.body.slots,
         place: emitter.place(),

@@ -11,25 +11,25 @@ use Rattle.ctl_program.specs.declared.statement.Stmt.TheOpen.{Stmt-F}
 use Rattle.ctl_program.specs.declared.statement.Arm.{Arm, Arm-F, roll-Arm, map-Arm, fold-roll-Arm}
 use Rattle.ctl_program.specs.declared.statement.Handler.{Handler, Handler-F, roll-Handler, map-Handler, fold-roll-Handler}
 use Rattle.ctl_program.specs.declared.statement.Master.{Master, Master-F, roll-Master, map-Master, fold-roll-Master}
-use Rattle.ctl_layout.specs.Values.{ValueCode, OperatorCode, value_code, reached_by, sourced, operator_of, actual_step, value_step, name_step, operator_step}
+use Rattle.ctl_layout.specs.Values.{ActualCode, ValueCode, OperatorCode, value_code, reached_by, actual_code, operator_of, actual_step, value_step, name_step, operator_step}
 use Rattle.ctl_layout.specs.Layout.{StatementCode, ArmCode, MasterCode, statement_code, arm_code, handler_code, master_code, statement_step, arm_step, handler_step, master_step}
 use Rattle.ctl_layout.specs.Layout as L
 
-pub value_roll : (y : Expr-F Actual Expr Name Operand) → value_code (roll-Expr y) ≡ value_step (map-Expr Actual Expr Name Operand (Option Reached) ValueCode (Option Reached) OperatorCode sourced value_code reached_by operator_of y)
-unfolding value_code reached_by sourced operator_of
-value_roll y = fold-roll-Expr (Option Reached) ValueCode (Option Reached) OperatorCode actual_step value_step name_step operator_step y
+pub value_roll : (y : Expr-F Actual Expr Name Operand) → value_code (roll-Expr y) ≡ value_step (map-Expr Actual Expr Name Operand ActualCode ValueCode (Option Reached) OperatorCode actual_code value_code reached_by operator_of y)
+unfolding value_code reached_by actual_code operator_of
+value_roll y = fold-roll-Expr ActualCode ValueCode (Option Reached) OperatorCode actual_step value_step name_step operator_step y
 
-pub reached_roll : (y : Name-F Actual Expr Name Operand) → reached_by (roll-Name y) ≡ name_step (map-Name Actual Expr Name Operand (Option Reached) ValueCode (Option Reached) OperatorCode sourced value_code reached_by operator_of y)
-unfolding value_code reached_by sourced operator_of
-reached_roll y = fold-roll-Name (Option Reached) ValueCode (Option Reached) OperatorCode actual_step value_step name_step operator_step y
+pub reached_roll : (y : Name-F Actual Expr Name Operand) → reached_by (roll-Name y) ≡ name_step (map-Name Actual Expr Name Operand ActualCode ValueCode (Option Reached) OperatorCode actual_code value_code reached_by operator_of y)
+unfolding value_code reached_by actual_code operator_of
+reached_roll y = fold-roll-Name ActualCode ValueCode (Option Reached) OperatorCode actual_step value_step name_step operator_step y
 
-pub sourced_roll : (y : Actual-F Actual Expr Name Operand) → sourced (roll-Actual y) ≡ actual_step (map-Actual Actual Expr Name Operand (Option Reached) ValueCode (Option Reached) OperatorCode sourced value_code reached_by operator_of y)
-unfolding value_code reached_by sourced operator_of
-sourced_roll y = fold-roll-Actual (Option Reached) ValueCode (Option Reached) OperatorCode actual_step value_step name_step operator_step y
+pub actual_roll : (y : Actual-F Actual Expr Name Operand) → actual_code (roll-Actual y) ≡ actual_step (map-Actual Actual Expr Name Operand ActualCode ValueCode (Option Reached) OperatorCode actual_code value_code reached_by operator_of y)
+unfolding value_code reached_by actual_code operator_of
+actual_roll y = fold-roll-Actual ActualCode ValueCode (Option Reached) OperatorCode actual_step value_step name_step operator_step y
 
-pub operator_roll : (y : Operand-F Actual Expr Name Operand) → operator_of (roll-Operand y) ≡ operator_step (map-Operand Actual Expr Name Operand (Option Reached) ValueCode (Option Reached) OperatorCode sourced value_code reached_by operator_of y)
-unfolding value_code reached_by sourced operator_of
-operator_roll y = fold-roll-Operand (Option Reached) ValueCode (Option Reached) OperatorCode actual_step value_step name_step operator_step y
+pub operator_roll : (y : Operand-F Actual Expr Name Operand) → operator_of (roll-Operand y) ≡ operator_step (map-Operand Actual Expr Name Operand ActualCode ValueCode (Option Reached) OperatorCode actual_code value_code reached_by operator_of y)
+unfolding value_code reached_by actual_code operator_of
+operator_roll y = fold-roll-Operand ActualCode ValueCode (Option Reached) OperatorCode actual_step value_step name_step operator_step y
 
 pub statement_roll : (y : Stmt-F Stmt Arm Handler Master) → statement_code (roll-Stmt y) ≡ statement_step (map-Stmt Stmt Arm Handler Master StatementCode ArmCode L.HandlerCode MasterCode statement_code arm_code handler_code master_code y)
 unfolding statement_code arm_code handler_code master_code

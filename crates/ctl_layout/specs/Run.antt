@@ -1,27 +1,17 @@
 -- The programs that this version runs: blocks, objects of types that extend Controlled or Limited_Controlled and of records that are not
 -- tagged, whose components are scalar or of such types again, their Initialize, Adjust and Finalize, expressions over constants, variables
--- and components, assignments to variables and components, calls of procedures whose actuals are scalar values and parts of objects, texts
--- with images, handlers of exceptions, and control; also objects that take the value of a part of their type, which may be any whose objects
+-- and components, assignments to variables and components, calls of procedures and of functions with scalar results, whose actuals are scalar
+-- values and parts of objects, return statements, texts with images, handlers of exceptions, and control; also objects that take the value of a part of their type, which may be any whose objects
 -- are declared, and assignments of records to one another where their type is one of the main procedure's own declarative part.
 use Rattle.std.specs.Prelude.{◌≡◌, ℕ, List, [], ◌∷◌, slice_get, Option, Some, None, Bool, true, false, ◌&&◌, IsTrue}
-use Rattle.ctl_program.specs.declared.operators.SubprogramKind.{SubprogramKind}
-use Rattle.ctl_program.specs.declared.operators.SubprogramKind.TheVariants.{Procedure}
 use Rattle.ctl_program.specs.declared.program.Subprogram.{Subprogram}
 use Rattle.ctl_program.specs.declared.program.Checked.{Checked}
 use Rattle.ctl_program.specs.declared.types.RecordType.{RecordType}
 use Rattle.ctl_layout.specs.Layout.{bodies}
 
-abbrev pub is_procedure : SubprogramKind → Bool
-is_procedure Procedure = true
-is_procedure _ = false
-
-abbrev pub are_procedures : List Subprogram → Bool
-are_procedures [] = true
-are_procedures (s ∷ ss) = is_procedure s.kind && are_procedures ss
-
 -- whether this version runs each construct of a program
 abbrev pub is_run : Checked → Bool
-is_run program = are_procedures program.subprograms && (bodies program.subprograms).runs program.records
+is_run program = (bodies program.subprograms).runs program.records
 
 abbrev pub IsRun : Checked → Type 0
 IsRun program = IsTrue (is_run program)

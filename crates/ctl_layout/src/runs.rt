@@ -14,9 +14,8 @@ ghost use Rattle.ctl_layout.specs.Values as values;
 
 use crate::forms::{Table, is_run_type};
 use crate::right::{Reached, reached_by, sourced};
-use crate::typing::copied;
+use crate::typing::{copied, value_type};
 use ctl_program::expression::{Actual, Expr, Name, Operand, Step};
-use ctl_program::operators::SubprogramKind;
 use ctl_program::program::{Checked, Subprogram};
 use ctl_program::statement::{Arm, Choices, Handler, Item, Master, Piece, Stmt};
 use ctl_program::types::{RecordType, Ty};
@@ -27,22 +26,7 @@ pub fn is_run(alloc: Global, program: &Checked) -> Result<bool, AllocError>
     ensures { IfOk result (λ runs. runs ≡ whole.is_run program.now) }
 {
     let table = Table::new(alloc, program.records.as_slice())?;
-    Ok(
-        are_procedures(program.subprograms.as_slice())
-            && bodies(&table, program.subprograms.as_slice()),
-    )
-}
-
-/// Tells whether no subprogram is a function.
-fn are_procedures(subprograms: &[Subprogram]) -> bool
-    ensures { result ≡ whole.are_procedures subprograms.now }
-{
-    for subprogram in subprograms {
-        if !matches!(subprogram.kind, SubprogramKind::Procedure) {
-            return false;
-        }
-    }
-    true
+    Ok(bodies(&table, program.subprograms.as_slice()))
 }
 
 /// Tells whether the bodies of these subprograms are run.
@@ -85,7 +69,7 @@ fn is_read(name: &Name, ty: Ty, table: &Table) -> bool
 
 /// Tells whether an expression is run.
 #[cycle(values)]
-#[tactic(auto, using(crate::proofs::Layers::value_constant, crate::proofs::Layers::value_read, crate::proofs::Layers::value_call, crate::proofs::Layers::value_unary, crate::proofs::Layers::chain_runs, crate::proofs::Layers::short_runs, crate::proofs::Layers::value_convert, crate::proofs::Layers::value_access, crate::proofs::Layers::value_new, crate::proofs::Layers::value_subpool, crate::proofs::Layers::value_discriminant))]
+#[tactic(auto, using(crate::proofs::Layers::value_constant, crate::proofs::Layers::value_read, crate::proofs::Layers::call_runs, crate::proofs::Layers::value_unary, crate::proofs::Layers::chain_runs, crate::proofs::Layers::short_runs, crate::proofs::Layers::value_convert, crate::proofs::Layers::value_access, crate::proofs::Layers::value_new, crate::proofs::Layers::value_subpool, crate::proofs::Layers::value_discriminant))]
 fn value(expression: &Expr, table: &Table) -> bool
     ensures { result ≡ (values.value_code expression.now).runs table.now.records.now }
 {
@@ -103,13 +87,39 @@ fn value(expression: &Expr, table: &Table) -> bool
                 && value(second.get(), table)
                 && values(more.as_slice(), table)
         }
-        Expr::Call(..)
-        | Expr::Convert(..)
+        Expr::Call(_, actuals, ty) => is_run_type(*ty) && are_actuals(actuals.as_slice(), table),
+        Expr::Convert(..)
         | Expr::Access(_)
         | Expr::New(..)
         | Expr::Subpool(..)
         | Expr::Discriminant(..) => false,
     }
+}
+
+/// Tells whether an actual is run: a scalar value, or a part that a name denotes (RM 6.4.1).
+#[cycle(values)]
+#[tactic(auto, using(crate::proofs::Layers::actual_value, crate::proofs::Layers::actual_part, crate::proofs::Layers::actual_copied))]
+fn is_actual(actual: &Actual, table: &Table) -> bool
+    ensures { result ≡ (values.actual_code actual.now).runs table.now.records.now }
+{
+    match actual {
+        Actual::ByValue(expression, ty) => is_run_type(*ty) && value(expression, table),
+        Actual::Part(name, Ty::Record(_)) => may_be_part(reached_by(name), table),
+        Actual::Part(..) | Actual::Copied(..) => false,
+    }
+}
+
+/// Tells whether the actuals of a call are run (RM 6.4).
+#[cycle(values)]
+fn are_actuals(actuals: &[Actual], table: &Table) -> bool
+    ensures { result ≡ values.actuals_run (map values.actual_code actuals.now) table.now.records.now }
+{
+    for one in actuals {
+        if !is_actual(one, table) {
+            return false;
+        }
+    }
+    true
 }
 
 /// Tells whether the right operand of an operator is run.
@@ -283,34 +293,14 @@ fn is_exit(condition: &Option<Expr>, table: &Table) -> bool
     }
 }
 
-/// Tells whether a return statement is run: without a value.
-fn is_return(value: &Option<Expr>) -> bool
-    ensures { result ≡ (spec.return (option_map values.value_code value.now)).runs [] }
+/// Tells whether a return statement is run: without a value, or with one of a scalar type (RM 6.5).
+fn is_return(given: &Option<Expr>, table: &Table) -> bool
+    ensures { result ≡ (spec.return (option_map values.value_code given.now)).runs table.now.records.now }
 {
-    value.is_none()
-}
-
-/// Tells whether an actual is run: a scalar value, or a part that a name denotes (RM 6.4.1).
-fn is_actual(actual: &Actual, table: &Table) -> bool
-    ensures { result ≡ (spec.actual_code actual.now).runs table.now.records.now }
-{
-    match actual {
-        Actual::ByValue(expression, ty) => is_run_type(*ty) && value(expression, table),
-        Actual::Part(name, Ty::Record(_)) => may_be_part(reached_by(name), table),
-        Actual::Part(..) | Actual::Copied(..) => false,
+    match given {
+        Some(expression) => is_run_type(value_type(expression)) && value(expression, table),
+        None => true,
     }
-}
-
-/// Tells whether a call is run: each of its actuals (RM 6.4).
-fn is_call(actuals: &[Actual], table: &Table) -> bool
-    ensures { result ≡ spec.actuals_run (map spec.actual_code actuals.now) table.now.records.now }
-{
-    for one in actuals {
-        if !is_actual(one, table) {
-            return false;
-        }
-    }
-    true
 }
 
 /// Tells whether a statement is run.
@@ -327,8 +317,8 @@ fn statement(statement: &Stmt, table: &Table) -> bool
         }
         Stmt::Put(text) | Stmt::PutLine(text) => pieces(text.as_slice(), table),
         Stmt::Exit(condition) => is_exit(condition, table),
-        Stmt::Return(value) => is_return(value),
-        Stmt::Call(_, actuals) => is_call(actuals.as_slice(), table),
+        Stmt::Return(value) => is_return(value, table),
+        Stmt::Call(_, actuals) => are_actuals(actuals.as_slice(), table),
         Stmt::If(arms, otherwise) => {
             conditional(arms.as_slice(), table) && statements(otherwise.as_slice(), table)
         }

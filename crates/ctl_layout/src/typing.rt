@@ -15,11 +15,10 @@ pub fn type_of(expression: &Expr) -> Option<Ty>
     ensures { result ≡ (spec.value_code expression.now).own }
 {
     match expression {
-        Expr::Read(_, ty) | Expr::Unary(_, ty, _) => Some(*ty),
+        Expr::Read(_, ty) | Expr::Call(_, _, ty) | Expr::Unary(_, ty, _) => Some(*ty),
         Expr::Chain(_, first, more) => Some(last_type(first.get().ty, more.as_slice())),
         Expr::Short(..) => Some(Ty::Boolean),
         Expr::Constant(_)
-        | Expr::Call(..)
         | Expr::Convert(..)
         | Expr::Access(_)
         | Expr::New(..)

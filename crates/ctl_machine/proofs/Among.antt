@@ -2,8 +2,11 @@
 use Rattle.std.proofs.Common.{◌≡◌, ℕ, zero, suc, ◌+◌, ◌-◌, ◌<◌, ◌≤◌, List, [], ◌∷◌, ◌++◌, Bool, true, false, Some, length, refl, sym, ap, ◌∙◌, arith, drop, take}
 use Rattle.std.specs.Prelude.{slice_get, if◌then◌else◌}
 use Rattle.std.proofs.lemmas.List.{append-nil, length-append, take_all}
+use Rattle.ctl_tree.specs.declared.request.Order.{Order}
+use Rattle.ctl_tree.specs.declared.request.Order.TheVariants as OrderOf
 use Rattle.ctl_meaning.specs.Lists.{keep, pull_item, pull_rest, opened_lists}
 use Rattle.ctl_code.specs.declared.code.Begun.{Begun}
+use Rattle.ctl_machine.specs.Filling.{pick_among}
 use Rattle.ctl_machine.specs.Undoing.{IsChosenAmong, among}
 use Rattle.ctl_machine.proofs.Complete.{counted}
 use Rattle.ctl_machine.proofs.Intervals.{get_behind}
@@ -80,6 +83,17 @@ rest_last x [] zero e = refl
 rest_last x [] (suc n) e = absurd (omega (arith, e))
 rest_last x (y ∷ xs) zero e = absurd (omega (arith, e))
 rest_last x (y ∷ xs) (suc n) e = ap (λ (l : List Begun). y ∷ l) (rest_last x xs n (omega (arith, e)))
+
+-- one less is left
+rest_fewer : (left : List Begun) (pick : ℕ) → pick < length left → length (pull_rest pick left) ≡ length left - 1
+unfolding opened_lists
+rest_fewer [] pick less = absurd (omega (arith, less))
+rest_fewer (x ∷ xs) zero less = omega arith
+rest_fewer (x ∷ xs) (suc n) less = let rest = rest_fewer xs n (omega (arith, less)) in omega (arith, rest, less)
+
+pub one_fewer : (order : Order) (left : List Begun) (count : ℕ) → count ≡ length left → 0 < count → count - 1 ≡ length (pull_rest (pick_among order (length left)) left)
+one_fewer OrderOf.Newest left count many some = let rest = rest_fewer left (length left - 1) (omega (arith, many, some)) in omega (arith, rest, many)
+one_fewer OrderOf.Oldest left count many some = let rest = rest_fewer left 0 (omega (arith, many, some)) in omega (arith, rest, many)
 
 -- the first of those that pass is chosen
 pub chooses_first : (all left : List Begun) (at last next : ℕ) (p : Begun → Bool) (x : Begun) → at < last → next ≡ at + 1 → last ≤ length all → slice_get all at ≡ Some x → p x ≡ true → among all at last p ≡ left → IsChosenAmong all p left 0 at (record { first = next; last = last })

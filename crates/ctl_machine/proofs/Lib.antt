@@ -87,7 +87,7 @@ pub mod Assignments
 pub mod Assigned
 pub mod Targets
 pub mod AfterAssigning
-pub mod ProcedureCalled
+pub mod SubprogramCalled
 pub mod Caught
 pub mod PartBegun
 pub mod Creations

@@ -41,7 +41,7 @@ next_by_type code s (x ∷ xs) pick k w y t some is type =
 -- The frame with the rest --------------------------------------------------------------------------------
 
 -- with further cells
-pub rest_undoes : (code : Code) (old new : Engine) (type first : ℕ) (those rest : Left) (p : Spot) (t : Finished) (left right : List Begun) (more : List ℕ) → UndoesParts code old type those first t left → AreAmong (controlled_of code type) rest (is_undone t.spot t.control) right
-    → kept new ≡ with_top (FrameOf.UndoingParts type rest first) (with_cells (kept old) (old.cells.items ++ more)) → Finishes code new (record { spot = p; control = T.UndoingParts t.spot right ∷ t.control; world = t.world })
-rest_undoes code old new type first those rest p t left right more f b are =
-    changed_finishes code old new (FrameOf.UndoingParts type those first) (FrameOf.UndoingParts type rest first) (T.UndoingParts t.spot left) (T.UndoingParts t.spot right) p f.frames t more (undoes_parts f.undone f.are) (undoes_parts f.undone b) f.top f.holds f.spots f.sized are
+pub rest_undoes : (code : Code) (old new : Engine) (type count fewer first : ℕ) (those rest : Left) (p : Spot) (t : Finished) (left right : List Begun) (more : List ℕ) → UndoesParts code old type those count first t left → AreAmong (controlled_of code type) rest (is_undone t.spot t.control) right → fewer ≡ length right
+    → kept new ≡ with_top (FrameOf.UndoingParts type rest fewer first) (with_cells (kept old) (old.cells.items ++ more)) → Finishes code new (record { spot = p; control = T.UndoingParts t.spot right ∷ t.control; world = t.world })
+rest_undoes code old new type count fewer first those rest p t left right more f b many are =
+    changed_finishes code old new (FrameOf.UndoingParts type those count first) (FrameOf.UndoingParts type rest fewer first) (T.UndoingParts t.spot left) (T.UndoingParts t.spot right) p f.frames t more (undoes_parts f.undone f.are f.many) (undoes_parts f.undone b many) f.top f.holds f.spots f.sized are

@@ -1,5 +1,5 @@
 -- Frames that wait for the newest part: one comes over a state without operands, and goes.
-use Rattle.std.proofs.Common.{◌≡◌, ℕ, List, [], ◌∷◌, ◌++◌, Option, Bool, refl, sym, ap, ◌∙◌, subst, reverse}
+use Rattle.std.proofs.Common.{◌≡◌, ℕ, List, [], ◌∷◌, ◌++◌, Option, Bool, length, refl, sym, ap, ◌∙◌, subst, reverse}
 use Rattle.std.proofs.lemmas.List.{append-nil, append_assoc}
 use Rattle.ctl_tree.specs.declared.event.Cause.{Cause}
 use Rattle.ctl_meaning.specs.Finalization.{Spot}
@@ -22,7 +22,7 @@ use Rattle.ctl_machine.specs.Noted.{IsNoting, IsUndone, noted_in}
 use Rattle.ctl_machine.specs.Saved.{AreSaved}
 use Rattle.ctl_machine.specs.Spots.{spots_in}
 use Rattle.ctl_machine.specs.Under.{tall, under}
-use Rattle.ctl_machine.specs.Shows.{Wait, master_waits, leaving_waits, creating_waits, copying_waits, assigning_waits, calling_waits, finalizing_waits, filling_waits, initializing_waits, failing_waits, adjusting_waits, adjusting_own_waits, undoing_waits, undoing_own_waits, undoing_parts_waits, finalizing_own_waits, finalizing_parts_waits, SizedBelow, Kept, Holds}
+use Rattle.ctl_machine.specs.Shows.{Wait, master_waits, leaving_waits, creating_waits, copying_waits, assigning_waits, calling_waits, evaluating_waits, finalizing_waits, filling_waits, initializing_waits, failing_waits, adjusting_waits, adjusting_own_waits, undoing_waits, undoing_own_waits, undoing_parts_waits, finalizing_own_waits, finalizing_parts_waits, SizedBelow, Kept, Holds}
 use Rattle.ctl_machine.proofs.StillLeft.{left_below}
 
 -- over the same frames, a frame of the machine, one of the table, and the part that both wait for
@@ -35,8 +35,8 @@ pub data IsPartFrame (code : Code) (k : List T.Frame) : Frame → T.Frame → Sp
       → IsNoting creation k → AreLeft (controlled_of code t) those left → IsPartFrame code k (FrameOf.Adjusting creation t those) (T.Adjusting creation s t left) s
   adjusts_own : {creation : Option ℕ} {t : ℕ} {failed : Bool} {s : Spot} → IsNoting creation k → IsPartFrame code k (FrameOf.AdjustingOwn creation t failed) (T.AdjustingOwn creation s t failed) s
   undoes_own : {t first : ℕ} {s : Spot} → IsUndone first k → IsPartFrame code k (FrameOf.UndoingOwn t first) (T.UndoingOwn s t) s
-  undoes_parts : {t first : ℕ} {those : Left} {left : List Begun} {s : Spot}
-      → IsUndone first k → AreAmong (controlled_of code t) those (is_undone s k) left → IsPartFrame code k (FrameOf.UndoingParts t those first) (T.UndoingParts s left) s
+  undoes_parts : {t count first : ℕ} {those : Left} {left : List Begun} {s : Spot}
+      → IsUndone first k → AreAmong (controlled_of code t) those (is_undone s k) left → count ≡ length left → IsPartFrame code k (FrameOf.UndoingParts t those count first) (T.UndoingParts s left) s
   finalizes_own : {cause : Cause} {t : ℕ} {s : Spot} → IsPartFrame code k (FrameOf.FinalizingOwn cause t) (T.FinalizingOwn cause s t) s
   finalizes_parts : {cause : Cause} {t : ℕ} {those : Apart} {failed : Bool} {left : List Begun} {s : Spot}
       → AreApart (controlled_of code t) those left → IsPartFrame code k (FrameOf.FinalizingParts cause t those failed) (T.FinalizingParts cause s left failed) s
@@ -50,7 +50,7 @@ spots_with code fails = refl
 spots_with code (adjusts noting left) = refl
 spots_with code (adjusts_own noting) = refl
 spots_with code (undoes_own undone) = refl
-spots_with code (undoes_parts undone left) = refl
+spots_with code (undoes_parts undone left many) = refl
 spots_with code finalizes_own = refl
 spots_with code (finalizes_parts left) = refl
 
@@ -62,7 +62,7 @@ cells_with code fails acts = refl
 cells_with code (adjusts noting left) acts = refl
 cells_with code (adjusts_own noting) acts = refl
 cells_with code (undoes_own undone) acts = refl
-cells_with code (undoes_parts undone left) acts = refl
+cells_with code (undoes_parts undone left many) acts = refl
 cells_with code finalizes_own acts = refl
 cells_with code (finalizes_parts left) acts = refl
 
@@ -73,7 +73,7 @@ tall_with code fails hs = refl
 tall_with code (adjusts noting left) hs = refl
 tall_with code (adjusts_own noting) hs = refl
 tall_with code (undoes_own undone) hs = refl
-tall_with code (undoes_parts undone left) hs = refl
+tall_with code (undoes_parts undone left many) hs = refl
 tall_with code finalizes_own hs = refl
 tall_with code (finalizes_parts left) hs = refl
 
@@ -84,7 +84,7 @@ saved_with code fails saved = refl
 saved_with code (adjusts noting left) saved = refl
 saved_with code (adjusts_own noting) saved = refl
 saved_with code (undoes_own undone) saved = refl
-saved_with code (undoes_parts undone left) saved = refl
+saved_with code (undoes_parts undone left many) saved = refl
 saved_with code finalizes_own saved = refl
 saved_with code (finalizes_parts left) saved = refl
 
@@ -95,7 +95,7 @@ sized_with code fails hs = refl
 sized_with code (adjusts noting left) hs = refl
 sized_with code (adjusts_own noting) hs = refl
 sized_with code (undoes_own undone) hs = refl
-sized_with code (undoes_parts undone left) hs = refl
+sized_with code (undoes_parts undone left many) hs = refl
 sized_with code finalizes_own hs = refl
 sized_with code (finalizes_parts left) hs = refl
 
@@ -106,7 +106,7 @@ waits_with code fails = refl
 waits_with code (adjusts noting left) = refl
 waits_with code (adjusts_own noting) = refl
 waits_with code (undoes_own undone) = refl
-waits_with code (undoes_parts undone left) = refl
+waits_with code (undoes_parts undone left many) = refl
 waits_with code finalizes_own = refl
 waits_with code (finalizes_parts left) = refl
 
@@ -117,7 +117,7 @@ known_with code fails = refl
 known_with code (adjusts noting left) = refl
 known_with code (adjusts_own noting) = refl
 known_with code (undoes_own undone) = refl
-known_with code (undoes_parts undone left) = refl
+known_with code (undoes_parts undone left many) = refl
 known_with code finalizes_own = refl
 known_with code (finalizes_parts left) = refl
 
@@ -129,7 +129,7 @@ noted_with code fails = refl
 noted_with code (adjusts noting left) = refl
 noted_with code (adjusts_own noting) = refl
 noted_with code (undoes_own undone) = refl
-noted_with code (undoes_parts undone left) = refl
+noted_with code (undoes_parts undone left many) = refl
 noted_with code finalizes_own = refl
 noted_with code (finalizes_parts left) = refl
 
@@ -140,7 +140,7 @@ leaves_with code fails = tt
 leaves_with code (adjusts noting left) = (noting, left)
 leaves_with code (adjusts_own noting) = noting
 leaves_with code (undoes_own undone) = undone
-leaves_with code (undoes_parts undone left) = (undone, left)
+leaves_with code (undoes_parts undone left many) = (undone, left, many)
 leaves_with code finalizes_own = tt
 leaves_with code (finalizes_parts left) = left
 
@@ -151,7 +151,7 @@ on_top code fails w = failing_waits w
 on_top code (adjusts noting left) w = adjusting_waits w
 on_top code (adjusts_own noting) w = adjusting_own_waits w
 on_top code (undoes_own undone) w = undoing_own_waits w
-on_top code (undoes_parts undone left) w = undoing_parts_waits w
+on_top code (undoes_parts undone left many) w = undoing_parts_waits w
 on_top code finalizes_own w = finalizing_own_waits w
 on_top code (finalizes_parts left) w = finalizing_parts_waits w
 
@@ -168,7 +168,7 @@ no_master code fails = tt
 no_master code (adjusts noting left) = tt
 no_master code (adjusts_own noting) = tt
 no_master code (undoes_own undone) = tt
-no_master code (undoes_parts undone left) = tt
+no_master code (undoes_parts undone left many) = tt
 no_master code finalizes_own = tt
 no_master code (finalizes_parts left) = tt
 
@@ -182,6 +182,7 @@ below_top (initializing_waits i j w) master = w
 below_top (failing_waits w) master = w
 below_top (assigning_waits v p d w) master = w
 below_top (calling_waits p d w) master = w
+below_top (evaluating_waits p d w) master = w
 below_top (finalizing_waits i w) master = w
 below_top (adjusting_waits w) master = w
 below_top (adjusting_own_waits w) master = w

@@ -69,19 +69,19 @@ none_undone code old new type first n t b u is none are mode events picks =
     (finished_gives code old new t EndedOf.Complete (Fine T.Complete) (same_finishes code old new t b are) mode refl events picks)
 
 -- those are left
-pub some_undone : (code : Code) (old new : Engine) (type first n : ℕ) (t : Finished) → Finishes code old t → IsUndone first t.control → n ≡ length (controlled_of code type)
-    → 0 < length (among (controlled_of code type) 0 n (has_any_of (noted_from first old.noted.items) t.spot))
-    → kept new ≡ with_frames (FrameOf.UndoingParts type (record { first = 0; last = n }) first ∷ reverse old.control.items) (old.spots.items ++ t.spot ∷ []) (kept old)
+pub some_undone : (code : Code) (old new : Engine) (type count first n : ℕ) (t : Finished) → Finishes code old t → IsUndone first t.control → n ≡ length (controlled_of code type)
+    → count ≡ length (among (controlled_of code type) 0 n (has_any_of (noted_from first old.noted.items) t.spot)) → 0 < count
+    → kept new ≡ with_frames (FrameOf.UndoingParts type (record { first = 0; last = n }) count first ∷ reverse old.control.items) (old.spots.items ++ t.spot ∷ []) (kept old)
     → new.mode ≡ ModeOf.Giving EndedOf.Complete → new.events.items ≡ old.events.items → new.picks.items ≡ old.picks.items → Makes code old new (undo_components code t.spot type t.control t.world)
-some_undone code old new type first n t b u is some are mode events picks =
+some_undone code old new type count first n t b u is many some are mode events picks =
     let all = controlled_of code type in
     let left = adjusted_of code t.spot type (adjusted_in t.control) in
     let those : Left = record { first = 0; last = n } in
-    let many = ap (λ (l : List Begun). length l) (undone_all code old type first n t b u is) in
+    let same = ap (λ (l : List Begun). length l) (undone_all code old type first n t b u is) in
     let among_them : AreAmong all those (is_undone t.spot t.control) left = record { rising = omega arith; within = omega (arith, is); are = sym (among_all all n (is_undone t.spot t.control) is) } in
-    subst (λ (m : Move). Makes code old new m) (sym (left_some t.spot left t.control t.world (omega (arith, many, some))))
+    subst (λ (m : Move). Makes code old new m) (sym (left_some t.spot left t.control t.world (omega (arith, many, same, some))))
     (finished_gives code old new (over (T.UndoingParts t.spot left) t) EndedOf.Complete (Fine T.Complete)
-    (comes_over code old new (FrameOf.UndoingParts type those first) (T.UndoingParts t.spot left) t (undoes_parts u among_them) b are) mode refl events picks)
+    (comes_over code old new (FrameOf.UndoingParts type those count first) (T.UndoingParts t.spot left) t (undoes_parts u among_them (many ∙ same)) b are) mode refl events picks)
 
 -- Its own Finalize -------------------------------------------------------------------------------------
 

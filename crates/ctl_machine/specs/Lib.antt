@@ -17,7 +17,9 @@ pub mod Windows
 pub mod Parts
 pub mod Holders
 pub mod Passing
+pub mod Calling
 pub mod Filling
+pub mod Resuming
 pub mod Saved
 pub mod Assigning
 pub mod Handlers

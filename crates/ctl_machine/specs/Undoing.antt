@@ -1,5 +1,5 @@
 -- Parts of copies that failed: which of them are adjusted, and what stands there before they are finalized.
-use Rattle.std.specs.Prelude.{◌≡◌, ℕ, ◌-◌, ◌≤◌, Bool, List, ◌∷◌, [], ◌++◌, Some, drop, reverse, slice_get, take}
+use Rattle.std.specs.Prelude.{◌≡◌, ℕ, ◌-◌, ◌≤◌, Bool, List, ◌∷◌, [], ◌++◌, Some, drop, length, reverse, slice_get, take}
 use Rattle.ctl_meaning.specs.Finalization.{Spot}
 use Rattle.ctl_meaning.specs.Lists.{any_of, begins, keep, pull_item, pull_rest}
 use Rattle.ctl_code.specs.declared.code.Begun.{Begun}
@@ -59,13 +59,14 @@ pub record CallsUndone (code : Code) (e : Engine) (entry : Entry) (type at : ℕ
   pub body : slice_get code.entries.items x.body ≡ Some entry
   pub slots : 1 ≤ entry.slots
 
--- the frame of this part is the newest, and these of its components are left, of those that are noted from one on
-pub record UndoesParts (code : Code) (e : Engine) (type : ℕ) (those : Left) (first : ℕ) (t : Finished) (left : List Begun) : Type 0 where
+-- the frame of this part is the newest, and these of its components are left, so many, of those that are noted from one on
+pub record UndoesParts (code : Code) (e : Engine) (type : ℕ) (those : Left) (count first : ℕ) (t : Finished) (left : List Begun) : Type 0 where
   pub frames : List Frame
-  pub top : reverse e.control.items ≡ FrameOf.UndoingParts type those first ∷ frames
+  pub top : reverse e.control.items ≡ FrameOf.UndoingParts type those count first ∷ frames
   pub holds : Holds code (kept e) (T.UndoingParts t.spot left ∷ t.control) [] t.world
   pub spots : e.spots.items ≡ spots_in t.control ++ t.spot ∷ []
   pub sized : SizedBelow code t.control (heads_of t.world.activations)
   pub waits : Waits code t.control
   pub undone : IsUndone first t.control
   pub are : AreAmong (controlled_of code type) those (is_undone t.spot t.control) left
+  pub many : count ≡ length left

@@ -95,6 +95,9 @@ impl Engine {
                 | Frame::Calling { place } => {
                     return self.window() + code.kinds.height_at(place, 0);
                 }
+                Frame::Evaluating { place } => {
+                    return self.window() + code.kinds.height_at(place, 1);
+                }
                 _ => {}
             }
         }

@@ -12,12 +12,13 @@ pub enum Completion {
     Transferred(Way),
 }
 
-/// How a body has ended, or the finalization or the adjustment of a part: complete, where perhaps an operation in it failed, or by an
-/// exception.
+/// How a body has ended, or the finalization or the adjustment of a part: complete, where perhaps an operation in it failed, with the value
+/// of a function, or by an exception.
 #[derive(Clone, Copy)]
 pub enum Ended {
     Complete,
     OperationFailed,
+    WithValue(u64),
     Raised(usize),
 }
 
@@ -129,14 +130,19 @@ pub enum Frame {
         first: usize,
     },
     /// the components of the newest part that are still to be finalized, of those of its record type with a controlled part: the ones that
-    /// are noted from `first` on, or have a part that is (RM 7.6.1)
+    /// are noted from `first` on, or have a part that is, and how many they are (RM 7.6.1)
     UndoingParts {
         record: usize,
         left: Left,
+        count: usize,
         first: usize,
     },
     /// a procedure that was called, and the place where its call goes on (RM 6.4)
     Calling {
+        place: usize,
+    },
+    /// a function that was called, and the place where its value is the newest operand (RM 6.4)
+    Evaluating {
         place: usize,
     },
     /// the finalization of an owned object, by its place

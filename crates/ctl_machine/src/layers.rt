@@ -62,7 +62,7 @@ impl Departure {
 pub(crate) fn says_failed(ended: Ended) -> bool
     ensures { result ≡ Table.says_failed (Shows.tried_of ended) }
 {
-    !matches!(ended, Ended::Complete)
+    matches!(ended, Ended::OperationFailed | Ended::Raised(_))
 }
 
 /// Tells whether a finalization has failed, before or in what has ended so (RM 7.6.1).

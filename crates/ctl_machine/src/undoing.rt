@@ -209,14 +209,15 @@ impl Engine {
             first: 0,
             last: count_controlled(code, record),
         };
-        let candidates = self.count_undone(code, record, &spot, first, left);
-        if candidates == 0 {
+        let count = self.count_undone(code, record, &spot, first, left);
+        if count == 0 {
             self.mode = Mode::Giving(Ended::Complete);
             return;
         }
         self.control.push_reserved(Frame::UndoingParts {
             record,
             left,
+            count,
             first,
         });
         self.spots.push_reserved(spot);
@@ -338,14 +339,13 @@ impl Engine {
         order: Order,
         record: usize,
         left: Left,
+        count: usize,
         first: usize,
-        candidates: usize,
     ) -> Result<(), AllocError>
         ghost t: { Finished × List Begun × T.Frame }
         requires valid { IsValid code.now }
-        requires waits { UndoesParts code.now self.old «record» left first t.0 t.1 }
-        requires some { 0 < candidates }
-        requires count { candidates ≡ length t.1 }
+        requires waits { UndoesParts code.now self.old «record» left count first t.0 t.1 }
+        requires some { 0 < count }
         requires rest { t.2 ≡ T.UndoingParts t.0.spot (pull_rest (pick_among order (length t.1)) t.1) }
         requires number { self.old.given_masters + 1 < 2 ^ 64 }
         ensures ok { OnOk result (Chooses code.now self.old self.new (Table.undo_next code.now t.0.spot t.1 (pick_among order (length t.1)) t.0.control t.0.world) (noted_among (length t.1) (pick_among order (length t.1)))) }
@@ -360,16 +360,17 @@ impl Engine {
             &self.spots[newest],
             first,
             left,
-            candidates,
+            count,
         );
         let component = controlled_at(code, record, chosen.at);
         let frame = Frame::UndoingParts {
             record,
             left: chosen.rest,
+            count: count - 1,
             first,
         };
         let Initial::ByType(record_type) = component.initial else {
-            note_pick(&mut self.picks, candidates, chosen.pick);
+            note_pick(&mut self.picks, count, chosen.pick);
             replace_top(&mut self.control, frame);
             self.mode = Mode::Giving(Ended::Complete);
             return Ok(());
@@ -377,7 +378,7 @@ impl Engine {
         let base = self.next_window(code);
         let doubles = self.double_component(&component)?;
         self.prepare_finalization(code, base)?;
-        note_pick(&mut self.picks, candidates, chosen.pick);
+        note_pick(&mut self.picks, count, chosen.pick);
         replace_top(&mut self.control, frame);
         let undoing = Undone {
             record_type,
@@ -388,8 +389,8 @@ impl Engine {
         Ok(())
     }
 
-    /// Goes on with the components of the newest part, behind what has ended so: one of those that are left is finalized, by the order, or
-    /// else the part is. An exception goes on at once (RM 7.6.1). Unchanged where memory is refused.
+    /// Goes on with the components of the newest part, behind what has ended so: one of those that are left, so many, is finalized, by the
+    /// order, or else the part is. An exception goes on at once (RM 7.6.1). Unchanged where memory is refused.
     pub(crate) fn resume_undoing_parts(
         &mut self,
         code: &Code,
@@ -397,12 +398,13 @@ impl Engine {
         ended: Ended,
         record: usize,
         left: Left,
+        count: usize,
         first: usize,
     ) -> Result<(), AllocError>
         ghost s: { State }
         requires valid { IsValid code.now }
         requires before { BeforeResuming code.now self.old s }
-        requires top { (fs : List Frame) × (reverse self.old.control.items ≡ FrameOf.UndoingParts «record» left first ∷ fs) }
+        requires top { (fs : List Frame) × (reverse self.old.control.items ≡ FrameOf.UndoingParts «record» left count first ∷ fs) }
         requires number { self.old.given_masters + 1 < 2 ^ 64 }
         ensures ok { OnOk result (Resumes code.now self.old self.new order (Shows.tried_of ended) s) }
         ensures err { OnErr result (GoesOn self.old self.new self.old.mode self.old.cells.items) }
@@ -412,13 +414,11 @@ impl Engine {
             self.mode = Mode::Giving(ended);
             return Ok(());
         }
-        let newest = self.count_spots() - 1;
-        let candidates = self.count_undone(code, record, &self.spots[newest], first, left);
-        if candidates == 0 {
+        if count == 0 {
             let _ = self.drop_frame();
             self.mode = Mode::Giving(Ended::Complete);
             return Ok(());
         }
-        self.undo_next(code, order, record, left, first, candidates)
+        self.undo_next(code, order, record, left, count, first)
     }
 }

@@ -137,7 +137,7 @@ allocator k env access ty m = spend (m >>= (λ p. k.call (OfAllocator access ty 
 unfoldable pub eval_step : Expr-F Supplied Valued Naming Applied → Valued
 eval_step (Expr-F.Constant n) k env = ticked (done (n ∷ []))
 eval_step (Expr-F.Read name ty) k env = ticked (name (category_of ty) k env >>= read_found (cells_of k.tables ty))
-eval_step (Expr-F.Call f actuals ty) k env = ticked (pass_each k env actuals no_actuals >>= call_with k env f >>= (λ r. done r.cells))
+eval_step (Expr-F.Call f actuals ty) k env = ticked (pass_each k env actuals no_actuals >>= call_with k env f >>= (λ r. read_found (cells_of k.tables ty) (Alone r.cells)))
 eval_step (Expr-F.Unary op ty e) k env = ticked (e k env >>= (λ v. or_constraint_error (unary op ty (scalar_of v))))
 eval_step (Expr-F.Chain e first rest) k env = e k env >>= apply_each k env (first ∷ rest)
 eval_step (Expr-F.Short op e first rest) k env = e k env >>= join_each k env op (first ∷ rest)

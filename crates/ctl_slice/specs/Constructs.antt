@@ -17,6 +17,7 @@ use Rattle.ctl_syntax.specs.declared.item.Mode.{Mode}
 use Rattle.ctl_syntax.specs.declared.item.Mode.TheVariants.{In}
 use Rattle.ctl_syntax.specs.declared.item.Objects.{Objects}
 use Rattle.ctl_syntax.specs.declared.item.Specification.{Specification}
+use Rattle.ctl_syntax.specs.declared.name.Mark.{Mark}
 use Rattle.ctl_syntax.specs.declared.name.Name.{Name}
 use Rattle.ctl_slice.specs.declared.construct.Support.{Support}
 use Rattle.ctl_slice.specs.declared.construct.Support.TheVariants.{Run, LeftOut}
@@ -62,12 +63,17 @@ abbrev pub may_all_be_passed : List (Formal Definition Use) → Bool
 may_all_be_passed [] = true
 may_all_be_passed (f ∷ fs) = may_be_passed f && may_all_be_passed fs
 
--- a procedure with such parameters, or with none (6.1)
-abbrev pub is_procedure : Specification Definition Use → Bool
-is_procedure s = is_none s.result && may_all_be_passed s.formals
+-- no result, or one of a scalar type (6.1)
+abbrev pub may_be_given : Option (Mark Use) → Bool
+may_be_given None = true
+may_be_given (Some m) = is_scalar m.first.denoted
+
+-- a procedure with such parameters, or with none, and a function with such ones that gives such a result (6.1)
+abbrev pub is_subprogram : Specification Definition Use → Bool
+is_subprogram s = may_be_given s.result && may_all_be_passed s.formals
 
 abbrev pub of_heading : Specification Definition Use → Support
-of_heading s = support_when (is_operation s || is_procedure s)
+of_heading s = support_when (is_operation s || is_subprogram s)
 
 -- True or False (3.5.3)
 abbrev pub is_truth : Denoted → Bool

@@ -59,12 +59,22 @@ fn may_all_be_passed(formals: &[Formal<Definition, Use>]) -> bool
     true
 }
 
-/// Judges a heading: operations of controlled types are run (RM 7.6), and procedures with such formals (RM 6.1).
+/// Tells whether a heading has no result, or one of a scalar type (RM 6.1).
+fn may_be_given(heading: &Specification<Definition, Use>) -> bool
+    ensures { result ≡ spec.may_be_given heading.now.result }
+{
+    match &heading.result {
+        Some(mark) => is_scalar(mark.first.denoted),
+        None => true,
+    }
+}
+
+/// Judges a heading: operations of controlled types are run (RM 7.6), and procedures and functions with such formals and results (RM 6.1).
 pub(crate) fn of_heading(heading: &Specification<Definition, Use>) -> Support
     ensures { result ≡ spec.of_heading heading.now }
 {
-    let is_procedure = heading.result.is_none() && may_all_be_passed(heading.formals.as_slice());
-    support_when(is_operation(heading) || is_procedure)
+    let is_subprogram = may_be_given(heading) && may_all_be_passed(heading.formals.as_slice());
+    support_when(is_operation(heading) || is_subprogram)
 }
 
 /// Tells whether this is True or False (RM 3.5.3).

@@ -123,11 +123,10 @@ fn statement(statement: &Statement<Definition, Use>) -> Option<Span>
         Statement::Null(_)
         | Statement::Assignment(..)
         | Statement::Exit(..)
+        | Statement::Return(..)
         | Statement::Raise(..)
         | Statement::RaiseAgain(_) => None,
         Statement::Call(place, name) => where_left_out(of_call(name), *place),
-        Statement::Return(_, None) => None,
-        Statement::Return(place, Some(_)) => Some(*place),
         Statement::If(_, first, more, otherwise) => {
             let opening = branch(first);
             let between = branches(more.as_slice());

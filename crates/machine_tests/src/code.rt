@@ -6,7 +6,7 @@ use crate::lines::{
 };
 use ctl_code::code::{Cell, Code, Entry, Instr, Named, Operations, Way};
 use ctl_code::template::{Template, TextPart};
-use ctl_program::operators::{Direction, Shortcut, UnaryOp};
+use ctl_program::operators::{Direction, Shortcut, SubprogramKind, UnaryOp};
 use ctl_program::types::Ty;
 use ctl_tree::text::Text;
 use std::alloc::{AllocError, Global};
@@ -304,6 +304,14 @@ const EACH_INSTRUCTION: &[Line] = &[
     ),
     (Instr::RaiseAgain, "f"),
     (Instr::Transfer(Way::Raise(0)), "f"),
+    (
+        Instr::Return {
+            from: FIRST,
+            ty: Ty::Integer,
+        },
+        "f",
+    ),
+    (Instr::Transfer(Way::ReturnValue(1)), "f"),
     (Instr::Transfer(Way::Return), "f"),
 ];
 
@@ -565,11 +573,13 @@ fn code_of(
         room,
         entries: vec![in alloc;
             Entry {
+                kind: SubprogramKind::Procedure,
                 level: 0,
                 slots: MAIN_SLOTS,
                 place: 1
             },
             Entry {
+                kind: SubprogramKind::Procedure,
                 level: 1,
                 slots: BODY_SLOTS,
                 place

@@ -7,6 +7,7 @@ use ctl_code::code::{Code, Entry, Instr, Layout, Operations};
 use ctl_code::template::{Template, TextPart};
 use ctl_code::valid::ValidCode;
 use ctl_machine::outcome::Outcome;
+use ctl_program::operators::SubprogramKind;
 use ctl_tree::ending::{End, Stop};
 use ctl_tree::event::{Event, Owner};
 use ctl_tree::text::Text;
@@ -67,6 +68,7 @@ fn code_with(
 ) -> Result<Code, AllocError> {
     let mut entries = vec![in alloc;
         Entry {
+            kind: SubprogramKind::Procedure,
             level: 0,
             slots: MAIN_SLOTS,
             place: 1
@@ -80,6 +82,7 @@ fn code_with(
             finalize: Some(entries.len()),
         })?;
         entries.push(Entry {
+            kind: SubprogramKind::Procedure,
             level: BODY_LEVEL,
             slots: BODY_SLOTS,
             place: *place,

@@ -7,6 +7,7 @@ use ctl_code::code::{Begun, Code, Entry, Initial, Instr, Layout, Operations, Par
 use ctl_code::valid::ValidCode;
 use ctl_machine::machine::Machine;
 use ctl_machine::outcome::Outcome;
+use ctl_program::operators::SubprogramKind;
 use ctl_text::trace_text;
 use ctl_tree::request::Order;
 use ctl_tree::text::Text;
@@ -53,6 +54,7 @@ const PAST_THE_TABLE: usize = 3;
 fn entries(alloc: Global) -> Result<Vec<Entry>, AllocError> {
     let mut entries = vec![in alloc;
         Entry {
+            kind: SubprogramKind::Procedure,
             level: 0,
             slots: MAIN_SLOTS,
             place: 1
@@ -60,6 +62,7 @@ fn entries(alloc: Global) -> Result<Vec<Entry>, AllocError> {
     ]?;
     for place in [SILENT_PLACE, RAISING_PLACE] {
         entries.push(Entry {
+            kind: SubprogramKind::Procedure,
             level: BODY_LEVEL,
             slots: BODY_SLOTS,
             place,

@@ -242,10 +242,10 @@ fn faults_of_texts(rt: HostRuntime) -> Result<(), Fail> {
             b"procedure Main is task T; begin null; end Main;",
             "1:19: 12 LEFT_OUT",
         ),
-        // a function
+        // a function that gives a record
         (
-            b"procedure Main is function F return Integer is begin return 1; end F; begin null; end Main;",
-            "1:19: 12 LEFT_OUT",
+            b"procedure Main is type R is record N : Integer; end record; function F return R is V : R; begin return V; end F; begin null; end Main;",
+            "1:61: 12 LEFT_OUT",
         ),
         // a rule on names or types is judged before a construct is left out, wherever they stand
         (

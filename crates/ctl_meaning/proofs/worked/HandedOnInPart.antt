@@ -16,7 +16,7 @@ the_program =
     procedure 1 (master 1 [] (put_line (integer_image (read (name 2 0 (Component 4 1 ∷ [])) Integer) ∷ []) ∷ []) []) ∷
     procedure 1 (master 1 [] (call 1 (by_name (variable 2 0) (Record 4) ∷ []) ∷ []) []) ∷
     procedure 1 (master 1 [] (call 2 (by_name (name 2 0 (Component 5 2 ∷ [])) (Record 4) ∷ []) ∷ []) []) ∷
-    procedure 0 (master 0 (silent ∷ silent ∷ silent ∷ silent ∷ silent ∷ []) (call 3 (by_value (call_of 0 [] (Record 4)) (Record 4) ∷ []) ∷ []) []) ∷ [])
+    procedure 0 (master 0 (silent ∷ silent ∷ silent ∷ silent ∷ silent ∷ []) (call 3 (by_value (call_of 0 [] (Record 5)) (Record 5) ∷ []) ∷ []) []) ∷ [])
     4
 
 computes : played the_program newest 300 ≡ (print (image 7) ∷ newline ∷ [], [], Some Done)

@@ -7,7 +7,7 @@ use Rattle.ctl_layout.proofs.StatementLayers.{master_is}
 use Rattle.ctl_gen.proofs.generate.entry_of.Goals as goal
 
 abbrev entry : Subprogram → ℕ → ℕ → Entry
-entry s place n = record { level = s.level; slots = n; place = place }
+entry s place n = record { kind = s.kind; level = s.level; slots = n; place = place }
 
 pub returns : goal.returns
 returns c =

@@ -1,7 +1,7 @@
 use Rattle.std.proofs.Common.{Some, ap, sym, ◌∙◌}
 use Rattle.ctl_program.specs.declared.types.Ty.TheVariants.{Record}
 use Rattle.ctl_layout.specs.Parts.{seen}
-use Rattle.ctl_layout.specs.Layout.{by_reference}
+use Rattle.ctl_layout.specs.Values.{by_reference}
 use Rattle.ctl_gen.specs.Emitted.{lined}
 use Rattle.ctl_gen.proofs.Emission.{on_ok}
 use Rattle.ctl_gen.proofs.EmittedParts.{part_selected}

@@ -2,42 +2,58 @@ use Rattle.std.proofs.Common.{◌≡◌, ◌+◌, ◌≤◌, ◌∷◌, ◌++◌
 use Rattle.std.specs.Prelude.{slice_get}
 use Rattle.std.proofs.lemmas.List.{append-nil, reverse-append}
 use Rattle.std.proofs.lemmas.Option.{slice_get_within}
+use Rattle.ctl_program.specs.declared.operators.SubprogramKind.{SubprogramKind}
+use Rattle.ctl_code.specs.declared.kinds.Kind.{Kind}
 use Rattle.ctl_code.specs.declared.kinds.Kind.TheVariants.{Body}
+use Rattle.ctl_code.specs.Kinds.{stack_at}
+use Rattle.ctl_code.specs.Windows.{height}
 use Rattle.ctl_machine.specs.declared.frame.After.TheVariants as AfterOf
 use Rattle.ctl_machine.specs.declared.frame.Frame.{Frame}
-use Rattle.ctl_machine.specs.declared.frame.Frame.TheVariants.{Calling}
 use Rattle.ctl_machine.specs.declared.frame.Master.{Master}
+use Rattle.ctl_machine.specs.Calling.{count_values, frame_for}
 use Rattle.ctl_machine.specs.Masters.{first_window, heads_of}
 use Rattle.ctl_machine.specs.Spots.{standing}
 use Rattle.ctl_machine.specs.Passing.{with_actuals}
 use Rattle.ctl_machine.specs.Shows.{Kept, kept, with_cells, with_master}
 use Rattle.ctl_machine.proofs.Links.{got}
-use Rattle.ctl_machine.proofs.ProcedureCalled.{call_makes, has_actuals, has_slots, linked_before, passed_spots}
+use Rattle.ctl_machine.proofs.SubprogramCalled.{base_within, call_makes, has_actuals, has_slots, linked_before, passed_spots}
 use Rattle.ctl_machine.proofs.engine.Engine.call.Goals as goal
 
+-- where the window of the body begins
+begins_at : (kinds : List (List Kind)) (kind : SubprogramKind) (place window height_at values first : ℕ) → window ≡ first → height_at ≡ height (drop values (stack_at kinds place)) → values ≡ count_values kind → window + height_at ≡ first + height (drop (count_values kind) (stack_at kinds place))
+begins_at kinds kind place window height_at values first window_is height_is values_is = ap (λ n. n + height_at) window_is ∙ ap (λ n. first + n) (height_is ∙ ap (λ n. height (drop n (stack_at kinds place))) values_is)
+
+pub overflow_add-base : goal.overflow_add-base
+overflow_add-base g c =
+    let old = c.args.self.now in
+    let is = begins_at c.args.code.now.kinds c.args.kind (c.args.place + 1) c.window.result c.height_at.result c.count_values.result (first_window (reverse old.masters.items)) c.window.ensures c.height_at.ensures c.count_values.ensures in
+    let within = base_within c.args.code.now old c.args.kind c.args.place c.args.body c.args.actuals g.s c.requires.1.0 in
+    let bound = old.cells.ok.0 in
+    omega (arith, is, within, bound)
+
 pub around-link-requires : goal.around-link-requires
-around-link-requires g c = linked_before c.args.code.now c.args.self.now c.args.place c.args.body c.args.actuals g.s c.requires.1.0
+around-link-requires g c = linked_before c.args.code.now c.args.self.now c.args.kind c.args.place c.args.body c.args.actuals g.s c.requires.1.0
 
 pub depth_at-depth-requires : goal.depth_at-depth-requires
-depth_at-depth-requires g c = (linked_before c.args.code.now c.args.self.now c.args.place c.args.body c.args.actuals g.s c.requires.1.0, c.around-link.ensures.bound)
+depth_at-depth-requires g c = (linked_before c.args.code.now c.args.self.now c.args.kind c.args.place c.args.body c.args.actuals g.s c.requires.1.0, c.around-link.ensures.bound)
 
 pub begin_slots-requires : goal.begin_slots-requires
 begin_slots-requires g c =
     let code = c.args.code.now in
     let old = c.args.self.now in
     let entry = c.index-entry.result.now in
-    let scope = c.requires.1.0.fine.0 in
+    let scope = c.requires.1.0.called.0 in
     let found : slice_get code.entries.items c.args.body ≡ Some entry = got code.entries.items c.args.body entry (slice_get_within code.entries.items c.args.body scope.0 scope.1) c.index-entry.ensures in
     let fits : 0 + entry.slots ≤ code.room = c.requires.0.room entry.place (Body entry.level entry.slots ∷ []) (c.requires.0.entries c.args.body entry found) in
     let room = c.in_ok-prepare.ensures.cells in (
       omega (arith, fits, room),
       (
-        has_slots code old c.args.place c.args.body c.args.actuals g.s entry c.requires.1.0 found,
+        has_slots code old c.args.kind c.args.place c.args.body c.args.actuals g.s entry c.requires.1.0 found,
         (
           c.in_ok-prepare.ensures.formals,
           (
-            has_actuals code old c.args.place c.args.body c.args.actuals g.s c.requires.1.0,
-            ap (λ (e : Kept). e.spots) c.in_ok-prepare.ensures.ok.1.kept ∙ passed_spots code old c.args.place c.args.body c.args.actuals g.s c.requires.1.0,
+            has_actuals code old c.args.kind c.args.place c.args.body c.args.actuals g.s c.requires.1.0,
+            ap (λ (e : Kept). e.spots) c.in_ok-prepare.ensures.ok.1.kept ∙ passed_spots code old c.args.kind c.args.place c.args.body c.args.actuals g.s c.requires.1.0,
           ),
         ),
       ),
@@ -50,12 +66,12 @@ returns-clause-ok g c =
     let ready = c.prepare.new.self in
     let entry = c.index-entry.result.now in
     let count = c.args.actuals in
-    let scope = c.requires.1.0.fine.0 in
+    let scope = c.requires.1.0.called.0 in
     let found : slice_get code.entries.items c.args.body ≡ Some entry = got code.entries.items c.args.body entry (slice_get_within code.entries.items c.args.body scope.0 scope.1) c.index-entry.ensures in
     let more = c.in_ok-prepare.ensures.ok.0 in
     let goes = c.in_ok-prepare.ensures.ok.1 in
     let row = old.cells.items ++ more in
-    let frame = Calling (c.args.place + 1) in
+    let frame = frame_for c.args.kind (c.args.place + 1) in
     let hs = heads_of g.s.world.activations in
     let ops = g.s.operands in
     let below = standing g.s.control (drop count ops) in
@@ -63,18 +79,18 @@ returns-clause-ok g c =
     let b : Master = record { number = c.begin_slots.new.self.given_masters + 1; window = base; base = base; slots = entry.slots; link = c.around-link.result; depth = c.depth_at-depth.result + 1; owned = c.count_owned.result; outer_formals = c.count_formals-outer_formals.result; formals = c.count_formals.result; spots = c.count_spots.result } in
     let control : reverse c.push_reserved.new.self.items ≡ frame ∷ reverse old.control.items =
     ap (λ (l : List Frame). reverse l) c.push_reserved.ensures.items
-    ∙ (reverse-append ready.control.items (frame ∷ [])
-    ∙ ap (λ (e : Kept). frame ∷ e.control) goes.kept) in
+    ∙ (reverse-append ready.control.items (c.frame_for.result ∷ [])
+    ∙ (ap (λ (f : Frame). f ∷ reverse ready.control.items) c.frame_for.ensures ∙ ap (λ (e : Kept). frame ∷ e.control) goes.kept)) in
     let begun : kept c.begin_slots.new.self ≡ with_actuals (record (with_cells (kept old) row) { control = frame ∷ reverse old.control.items }) ops below base entry.slots count =
     c.begin_slots.ensures.kept
     ∙ (ap (λ (l : List Frame). with_actuals (record (kept ready) { control = l }) ops below base entry.slots count) control
     ∙ ap (λ (e : Kept). with_actuals (record e { control = frame ∷ reverse old.control.items }) ops below base entry.slots count) goes.kept) in
     let cells : ready.cells.items ≡ row = ap (λ (e : Kept). e.cells) goes.kept in
-    call_makes code old c.stand.new.self c.args.place c.args.body count g.s entry b more c.requires.0 c.requires.1.0 found
+    call_makes code old c.stand.new.self c.args.kind c.args.place c.args.body count g.s entry b more c.requires.0 c.requires.1.0 found
     (record {
       number = ap (λ n. n + 1) (c.begin_slots.ensures.given ∙ c.in_ok-prepare.ensures.number);
       window = refl;
-      begins = ap (λ n. n + c.height_at.result) c.window.ensures ∙ ap (λ n. first_window (reverse old.masters.items) + n) c.height_at.ensures;
+      begins = begins_at code.kinds c.args.kind (c.args.place + 1) c.window.result c.height_at.result c.count_values.result (first_window (reverse old.masters.items)) c.window.ensures c.height_at.ensures c.count_values.ensures;
       slots = refl;
       link = c.around-link.ensures.bound;
       display = c.around-link.ensures.display;

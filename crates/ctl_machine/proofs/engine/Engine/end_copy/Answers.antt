@@ -1,7 +1,6 @@
 use Rattle.std.proofs.Common.{◌≡◌, List, [], refl, sym, ap, ◌∙◌, subst, reverse}
 use Rattle.ctl_meaning.specs.Finalization.{Spot}
-use Rattle.ctl_meaning.specs.Outcome.{Tried}
-use Rattle.ctl_code.specs.States.{Giving, Handed}
+use Rattle.ctl_code.specs.States.{Giving}
 use Rattle.ctl_code.specs.Table.{act}
 use Rattle.ctl_machine.specs.declared.frame.Ended.{Ended}
 use Rattle.ctl_machine.specs.declared.frame.Frame.{Frame}
@@ -11,7 +10,7 @@ use Rattle.ctl_machine.specs.declared.engine.Engine.{Engine}
 use Rattle.ctl_machine.specs.declared.frame.Mode.TheVariants as ModeOf
 use Rattle.ctl_machine.specs.Moves.{Makes}
 use Rattle.ctl_machine.specs.Shows.{kept, tried_of}
-use Rattle.ctl_machine.proofs.AfterInitialize.{TakesFrame, complete_of, copy_lives, copy_raises, copying, object_newest, rest_is}
+use Rattle.ctl_machine.proofs.AfterInitialize.{TakesFrame, copy_lives, copy_raises, copying, object_newest, rest_is}
 use Rattle.ctl_machine.proofs.Stages.{Copies}
 use Rattle.ctl_machine.proofs.engine.Engine.end_copy.Goals as goal
 
@@ -41,5 +40,4 @@ returns-in_default g c =
     let rest : reverse c.take_last.new.self.items ≡ top.0 = rest_is old.control.items c.take_last.new.self.items c.take_last.result (FrameOf.Copying c.args.place c.args.first) top.0 c.take_last.ensures.items top.1 in
     let mid : Engine = record old { control = c.take_last.new.self; noted = c.truncate.new.self } in
     let taken : TakesFrame (Copies c.args.first []) old mid top.0 = record { kept = ap (λ (l : List Frame). record (kept old) { control = l; noted = c.truncate.new.self.items }) rest ∙ ap (λ (l : List Spot). record (kept old) { control = top.0; noted = l }) c.truncate.ensures.items; events = refl; picks = refl } in
-    subst (λ (t : Tried Handed). Makes code old c.become_layer.new.self (act code (Giving t) g.s.control g.s.operands g.s.world 0)) (sym (complete_of c.args.ended c.in_default.not-Raised c.requires.1.1))
-    (copy_lives code old mid c.become_layer.new.self c.args.place c.args.first top.0 g.s c.requires.0 top.1 taken c.become_layer.ensures)
+    copy_lives code old mid c.become_layer.new.self c.args.ended c.args.place c.args.first top.0 g.s c.in_default.not-Raised c.requires.1.1 c.requires.0 top.1 taken c.become_layer.ensures

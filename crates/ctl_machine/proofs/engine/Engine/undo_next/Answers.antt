@@ -22,6 +22,7 @@ use Rattle.ctl_machine.specs.Shows.{Kept, kept}
 use Rattle.ctl_machine.specs.Spots.{spots_in}
 use Rattle.ctl_machine.specs.Undoing.{IsChosenAmong}
 use Rattle.ctl_machine.proofs.AfterUndoing.{chosen_so, left_so, spot_read}
+use Rattle.ctl_machine.proofs.Among.{one_fewer}
 use Rattle.ctl_machine.proofs.Finishing.{finished_gives}
 use Rattle.ctl_machine.proofs.Lists.{same_at}
 use Rattle.ctl_machine.proofs.NextPart.{chooses, constant_so, some_begun}
@@ -36,11 +37,11 @@ choose_undone-chosen-requires g c =
     let old = c.args.self.now in
     let f = c.requires.1.0 in
     let s = c.index.result.now in
-    let same = spot_read code old c.args.record c.args.first c.count_spots-newest.result c.args.left g.t.0 g.t.1 s f c.count_spots-newest.ensures.count c.index.ensures in
+    let same = spot_read code old c.args.record c.args.count c.args.first c.count_spots-newest.result c.args.left g.t.0 g.t.1 s f c.count_spots-newest.ensures.count c.index.ensures in
     record {
       within = f.are.within;
       some = c.requires.1.1.0;
-      count = c.requires.1.1.1.0 ∙ ap (λ (l : List Begun). length l) (sym (left_so code old c.args.record c.args.first c.args.left g.t.0 g.t.1 s f same));
+      count = f.many ∙ ap (λ (l : List Begun). length l) (sym (left_so code old c.args.record c.args.count c.args.first c.args.left g.t.0 g.t.1 s f same));
     }
 
 pub controlled_at-component-requires : goal.controlled_at-component-requires
@@ -57,26 +58,27 @@ returns-in_default-clause-ok g c =
     let left = g.t.1 in
     let f = c.requires.1.0 in
     let all = controlled_of code type in
-    let count = c.requires.1.1.1.0 in
+    let count = f.many in
     let positive = c.requires.1.1.0 in
     let some : 0 < length left = omega (arith, positive, count) in
     let x = c.choose_undone-chosen.result in
     let s = c.index.result.now in
-    let same = spot_read code old type c.args.first c.count_spots-newest.result c.args.left t left s f c.count_spots-newest.ensures.count c.index.ensures in
+    let same = spot_read code old type c.args.count c.args.first c.count_spots-newest.result c.args.left t left s f c.count_spots-newest.ensures.count c.index.ensures in
     let pick : x.pick ≡ pick_among c.args.order (length left) = c.choose_undone-chosen.ensures.0 ∙ ap (λ n. pick_among c.args.order n) count in
-    let chosen = subst (λ n. IsChosenAmong all (is_undone t.spot t.control) left n x.at x.rest) pick (chosen_so code old type c.args.first x.pick x.at c.args.left x.rest t left s f same c.choose_undone-chosen.ensures.1) in
+    let chosen = subst (λ n. IsChosenAmong all (is_undone t.spot t.control) left n x.at x.rest) pick (chosen_so code old type c.args.count c.args.first x.pick x.at c.args.left x.rest t left s f same c.choose_undone-chosen.ensures.1) in
     let y = c.controlled_at-component.result in
     let is : (d : Begun) → y ≡ pull_item d (pick_among c.args.order (length left)) left = λ d. same_at y (pull_item d (pick_among c.args.order (length left)) left) (slice_get all x.at) c.controlled_at-component.ensures (chosen.chosen d) in
     let constant = constant_so y.initial c.in_default.not-ByType in
     let right = pull_rest (pick_among c.args.order (length left)) left in
-    let frame = FrameOf.UndoingParts type x.rest c.args.first in
+    let fewer = one_fewer c.args.order left c.args.count f.many c.requires.1.1.0 in
+    let frame = FrameOf.UndoingParts type x.rest (c.args.count - 1) c.args.first in
     let control : reverse c.replace_top.new.control.items ≡ frame ∷ drop 1 (reverse old.control.items) = c.replace_top.ensures.items in
     let are = ap (λ (l : List Frame). record (kept old) { control = l }) control ∙ ap (λ (l : List ℕ). record (kept old) { control = frame ∷ drop 1 (reverse old.control.items); cells = l }) (sym (append-nil old.cells.items)) in
     let new : Engine = record old { mode = ModeOf.Giving Complete; control = c.replace_top.new.control; picks = c.note_pick.new.picks } in
-    let b : Finishes code new (record { spot = t.spot; control = T.UndoingParts t.spot right ∷ t.control; world = t.world }) = rest_undoes code old new type c.args.first c.args.left x.rest t.spot t left right [] f chosen.rest are in
+    let b : Finishes code new (record { spot = t.spot; control = T.UndoingParts t.spot right ∷ t.control; world = t.world }) = rest_undoes code old new type c.args.count (c.args.count - 1) c.args.first c.args.left x.rest t.spot t left right [] f chosen.rest fewer are in
     let noted : c.note_pick.new.picks.items ≡ old.picks.items ++ noted_among (length left) (pick_among c.args.order (length left)) =
     c.note_pick.ensures
-    ∙ (ap (λ (l : List ℕ). l ++ noted_among c.args.candidates x.pick) c.reserve.ensures.items
+    ∙ (ap (λ (l : List ℕ). l ++ noted_among c.args.count x.pick) c.reserve.ensures.items
     ∙ (ap (λ n. old.picks.items ++ noted_among n x.pick) count
     ∙ ap (λ n. old.picks.items ++ noted_among (length left) n) pick)) in
     let move = next_constant code t.spot left (pick_among c.args.order (length left)) t.control t.world y constant.0 some is constant.1 in
@@ -103,24 +105,25 @@ undo_part-requires g c =
     let t = g.t.0 in
     let left = g.t.1 in
     let f = c.requires.1.0 in
-    let rest = c.requires.1.1.1.1.0 in
+    let rest = c.requires.1.1.1.0 in
     let all = controlled_of code type in
-    let count = c.requires.1.1.1.0 in
+    let count = f.many in
     let x = c.choose_undone-chosen.result in
     let s = c.index.result.now in
-    let same = spot_read code old type c.args.first c.count_spots-newest.result c.args.left t left s f c.count_spots-newest.ensures.count c.index.ensures in
+    let same = spot_read code old type c.args.count c.args.first c.count_spots-newest.result c.args.left t left s f c.count_spots-newest.ensures.count c.index.ensures in
     let pick : x.pick ≡ pick_among c.args.order (length left) = c.choose_undone-chosen.ensures.0 ∙ ap (λ n. pick_among c.args.order n) count in
-    let chosen = subst (λ n. IsChosenAmong all (is_undone t.spot t.control) left n x.at x.rest) pick (chosen_so code old type c.args.first x.pick x.at c.args.left x.rest t left s f same c.choose_undone-chosen.ensures.1) in
+    let chosen = subst (λ n. IsChosenAmong all (is_undone t.spot t.control) left n x.at x.rest) pick (chosen_so code old type c.args.count c.args.first x.pick x.at c.args.left x.rest t left s f same c.choose_undone-chosen.ensures.1) in
     let right = pull_rest (pick_among c.args.order (length left)) left in
     let goes = c.in_ok-prepare_finalization.ensures.ok in
     let room = c.in_ok-prepare_finalization.ensures.room in
-    let frame = FrameOf.UndoingParts type x.rest c.args.first in
+    let fewer = one_fewer c.args.order left c.args.count f.many c.requires.1.1.0 in
+    let frame = FrameOf.UndoingParts type x.rest (c.args.count - 1) c.args.first in
     let control : reverse c.replace_top-2.new.control.items ≡ frame ∷ drop 1 (reverse c.prepare_finalization.new.self.control.items) = c.replace_top-2.ensures.items in
     let are = ap (λ (l : List Frame). record (kept c.prepare_finalization.new.self) { control = l }) control ∙ ap (λ (e : Kept). record e { control = frame ∷ drop 1 e.control }) goes.1.kept in
     let k : List T.Frame = T.UndoingParts t.spot left ∷ t.control in
     let mid : Engine = record c.prepare_finalization.new.self { control = c.replace_top-2.new.control; picks = c.note_pick-2.new.picks } in
     let p = c.in_ok-doubles.doubles.spot in
-    let b : Finishes code mid (record { spot = p; control = T.UndoingParts t.spot right ∷ t.control; world = t.world }) = rest_undoes code old mid type c.args.first c.args.left x.rest p t left right goes.0 f chosen.rest are in
+    let b : Finishes code mid (record { spot = p; control = T.UndoingParts t.spot right ∷ t.control; world = t.world }) = rest_undoes code old mid type c.args.count (c.args.count - 1) c.args.first c.args.left x.rest p t left right goes.0 f chosen.rest fewer are in
     let base = c.next_window-base.ensures ∙ end_is code (kept old) k [] t.world f.holds f.waits f.sized in
     let doubles = c.in_ok-doubles.ensures.2 in
     let len = c.replace_top-2.ensures.len in
@@ -154,16 +157,16 @@ returns-clause-ok g c =
     let t = g.t.0 in
     let left = g.t.1 in
     let f = c.requires.1.0 in
-    let rest = c.requires.1.1.1.1.0 in
+    let rest = c.requires.1.1.1.0 in
     let all = controlled_of code record_type in
-    let count = c.requires.1.1.1.0 in
+    let count = f.many in
     let positive = c.requires.1.1.0 in
     let some : 0 < length left = omega (arith, positive, count) in
     let x = c.choose_undone-chosen.result in
     let s = c.index.result.now in
-    let same = spot_read code old record_type c.args.first c.count_spots-newest.result c.args.left t left s f c.count_spots-newest.ensures.count c.index.ensures in
+    let same = spot_read code old record_type c.args.count c.args.first c.count_spots-newest.result c.args.left t left s f c.count_spots-newest.ensures.count c.index.ensures in
     let pick : x.pick ≡ pick_among c.args.order (length left) = c.choose_undone-chosen.ensures.0 ∙ ap (λ n. pick_among c.args.order n) count in
-    let chosen = subst (λ n. IsChosenAmong all (is_undone t.spot t.control) left n x.at x.rest) pick (chosen_so code old record_type c.args.first x.pick x.at c.args.left x.rest t left s f same c.choose_undone-chosen.ensures.1) in
+    let chosen = subst (λ n. IsChosenAmong all (is_undone t.spot t.control) left n x.at x.rest) pick (chosen_so code old record_type c.args.count c.args.first x.pick x.at c.args.left x.rest t left s f same c.choose_undone-chosen.ensures.1) in
     let y = c.controlled_at-component.result in
     let is : (d : Begun) → y ≡ pull_item d (pick_among c.args.order (length left)) left = λ d. same_at y (pull_item d (pick_among c.args.order (length left)) left) (slice_get all x.at) c.controlled_at-component.ensures (chosen.chosen d) in
     let goes = c.in_ok-prepare_finalization.ensures.ok in
@@ -172,8 +175,8 @@ returns-clause-ok g c =
     let spot : c.in_ok-doubles.doubles.spot ≡ component_of t.spot y.offset y.position = copied.2.spot ∙ ap (λ (z : Spot). component_of z y.offset y.position) part in
     let noted : c.note_pick-2.new.picks.items ≡ old.picks.items ++ noted_among (length left) (pick_among c.args.order (length left)) =
     c.note_pick-2.ensures
-    ∙ (ap (λ v. v.items ++ noted_among c.args.candidates x.pick) c.prepare_finalization.ensures.choices
-    ∙ (ap (λ (l : List ℕ). l ++ noted_among c.args.candidates x.pick) c.reserve.ensures.items
+    ∙ (ap (λ v. v.items ++ noted_among c.args.count x.pick) c.prepare_finalization.ensures.choices
+    ∙ (ap (λ (l : List ℕ). l ++ noted_among c.args.count x.pick) c.reserve.ensures.items
     ∙ (ap (λ n. old.picks.items ++ noted_among n x.pick) count
     ∙ ap (λ n. old.picks.items ++ noted_among (length left) n) pick))) in
     let move = next_by_type code t.spot left (pick_among c.args.order (length left)) t.control t.world y c.in-ByType.record_type some is c.in-ByType.is in

@@ -1,0 +1,123 @@
+-- The code of a well-typed expression is well formed, and puts a value of its type where it is wanted; and so is that of well-typed actuals,
+-- which hold expressions.
+use Rattle.std.proofs.Common.{◌≡◌, ℕ, suc, List, [], ◌∷◌, length, map, Option, None, true, inl, inr, refl, sym, ap, ◌∙◌, subst}
+use Rattle.std.specs.Prelude.{◌&&◌}
+use Rattle.ctl_program.specs.declared.types.Ty.{Ty}
+use Rattle.ctl_program.specs.declared.types.Ty.TheVariants.{Boolean}
+use Rattle.ctl_program.specs.declared.types.Ty.TheVariants as TyOf
+use Rattle.ctl_program.specs.declared.types.RecordType.{RecordType}
+use Rattle.ctl_program.specs.declared.operators.Shortcut.{Shortcut}
+use Rattle.ctl_program.specs.declared.expression.Actual.{Actual}
+use Rattle.ctl_program.specs.declared.expression.Expr.{Expr}
+use Rattle.ctl_program.specs.declared.expression.Operand.{Operand, roll-Operand}
+use Rattle.ctl_well_typed.specs.Setting as W
+use Rattle.ctl_well_typed.specs.Types as J
+use Rattle.ctl_well_typed.specs.Expressions.{Chains, FitEach, Fits, Truths, Typed}
+use Rattle.ctl_well_typed.specs.Expressions as T
+use Rattle.ctl_code.specs.declared.kinds.Kind.TheVariants as KindOf
+use Rattle.ctl_code.specs.declared.code.Code.{Code}
+use Rattle.ctl_code.specs.Valid as Valid
+use Rattle.ctl_code.specs.Valid.{HasFormals}
+use Rattle.ctl_layout.specs.Records.{is_run_type}
+use Rattle.ctl_layout.specs.Values.{OperatorCode, ValueCode, actual_code, actuals_run, chain, missing_actual, missing_value, operator_of, operators_run, reached_by, value_code, values_run}
+use Rattle.ctl_layout.proofs.Extensions.{both_true}
+use Rattle.ctl_layout.proofs.Layers.{actual_copied, actual_part, actual_value, value_access, value_call, value_chain, value_constant, value_convert, value_discriminant, value_new, value_read, value_short, value_subpool, value_unary}
+use Rattle.ctl_layout.proofs.TreeLayers.{operator_roll}
+use Rattle.ctl_gen.proofs.Formed.{none}
+use Rattle.ctl_gen.proofs.FormedCalls.{GoodActual, GoodActuals, MayCall, function_own, good_as, kind_by, reference_good, value_good}
+use Rattle.ctl_gen.proofs.FormedTypes.{joins_scalar, run_scalar, takes_unary}
+use Rattle.ctl_gen.proofs.FormedValues.{Conditions, Fine, Operating, chain_own, first_joins, next_condition, next_joins, next_operating, none_operating, read_own, short_own, unary_own, usable_as}
+
+-- as many actuals as formals
+as_many : {k : W.Setting} {env : W.Frames} {fs : List W.Formal} {actuals : List Actual} → FitEach k env fs actuals → length fs ≡ length (map actual_code actuals)
+as_many T.no_more_formals = refl
+as_many (T.one_more_formal fits more) = ap suc (as_many more)
+
+-- a subprogram that is called is of the kind that its result tells, and has slots for its actuals
+pub has_formals : (code : Code) (k : W.Setting) → MayCall code k → {env : W.Frames} {f : ℕ} {is : W.Signature} {actuals : List Actual} {r : Option Ty} → W.Callable k env f is → is.result ≡ r → FitEach k env is.formals actuals → HasFormals code (kind_by r) f (length (map actual_code actuals))
+has_formals code k may_call {env} {f} {is} {actuals} can gives fits =
+    subst (λ r. HasFormals code (kind_by r) f (length (map actual_code actuals))) gives (subst (HasFormals code (kind_by is.result) f) (as_many fits) (may_call env f is can).1)
+
+module _ (code : Code) (records : List RecordType) where
+  -- Names of the same --------------------------------------------------------------------------------
+
+  -- another name of the same value
+  fine_as : (masters : ℕ) (x y : ValueCode) (t : Ty) → x ≡ y → Fine code masters y t → Fine code masters x t
+  fine_as masters x y t same h = subst (λ z. Fine code masters z t) (sym same) h
+
+  runs_as : (x y : ValueCode) → x ≡ y → x.runs records ≡ true → y.runs records ≡ true
+  runs_as x y same h = subst (λ (z : ValueCode). z.runs records ≡ true) same h
+
+  not_missing : (x : ValueCode) → x ≡ missing_value None → x.runs records ≡ true → ⊥
+  not_missing x same h = absurd (let e = sym (ap (λ (z : ValueCode). z.runs records) same) ∙ h in cc)
+
+  -- an access value is a literal here
+  as_access : (masters : ℕ) (x : ValueCode) (a b : ℕ) → Fine code masters x (TyOf.Access a) → Fine code masters x (TyOf.Access b)
+  as_access masters x a b (inl h) = absurd h.usable.scalar
+  as_access masters x a b (inr (n, is, cell)) = inr (n, is, cell)
+
+  -- Well-typed expressions ---------------------------------------------------------------------------
+
+  module _ (k : W.Setting) (may_call : MayCall code k) where
+    mutual
+      pub typed_fine : {env : W.Frames} {x : Expr} {t : Ty} → Typed k env x t → (value_code x).runs records ≡ true → Fine code (length env) (value_code x) t
+      typed_fine {env} (T.constant {cell = n} {t = t} scalar cell view) runs = inr (n, value_constant n, cell)
+      typed_fine {env} (T.read {x = x} {t = t} denotes) runs =
+          let same = value_read x t in
+          fine_as (length env) _ _ t same (inl (read_own code (length env) records (reached_by x) t (runs_as _ _ same runs)))
+      typed_fine {env} (T.call {s = f} {is = is} {actuals = actuals} {t = t} callable gives fits) runs =
+          let same = value_call f actuals t in
+          let e = both_true (is_run_type t) (actuals_run (map actual_code actuals) records) (runs_as _ _ same runs) in
+          fine_as (length env) _ _ t same (inl (function_own code (length env) f (map actual_code actuals) t (run_scalar t e.0) (may_call env f is callable).0 (has_formals code k may_call callable gives fits) (actuals_good fits e.1)))
+      typed_fine {env} (T.unary {o = o} {x = x} {t = t} takes h) runs =
+          let same = value_unary o t x in
+          let u = takes_unary o t takes in
+          fine_as (length env) _ _ t same (inl (unary_own code (length env) o t (value_code x) u.0 (usable_as code (length env) (value_code x) t u.1 (typed_fine h (runs_as _ _ same runs)))))
+      typed_fine {env} (T.chain {x = x} {more = more} {s = s} {t = t} h (T.behind {o = op} {x = y} {t = u} joins right rest)) runs =
+          let o = roll-Operand (record { op = op; ty = u; right = y }) in
+          let is : operator_of o ≡ record { op = op; ty = u; right = value_code y } = operator_roll (record { op = op; ty = u; right = y }) in
+          let same = value_chain x o more ∙ ap (λ z. chain (value_code x) z (map operator_of more)) is in
+          let e = both_true ((value_code x).runs records) ((value_code y).runs records && operators_run records (map operator_of more)) (runs_as _ _ same runs) in
+          let f = both_true ((value_code y).runs records) (operators_run records (map operator_of more)) e.1 in
+          let joined = first_joins code (length env) op (value_code x) (value_code y) s u joins (typed_fine h e.0) (typed_fine right f.0) in
+          let behind_it = operating rest f.1 (joins_scalar op s u joins) in
+          fine_as (length env) _ _ t same (inl (chain_own code (length env) (value_code x) (record { op = op; ty = u; right = value_code y }) (map operator_of more) t joined.1 joined.0 joined.2 behind_it))
+      typed_fine {env} (T.short {form = form} {x = x} {y = y} {more = more} h g rest) runs =
+          let same = value_short form x y more in
+          let e = both_true ((value_code x).runs records) ((value_code y).runs records && values_run records (map value_code more)) (runs_as _ _ same runs) in
+          let f = both_true ((value_code y).runs records) (values_run records (map value_code more)) e.1 in
+          fine_as (length env) _ _ Boolean same (inl (short_own code (length env) form (value_code x) (value_code y) (map value_code more) (usable_as code (length env) (value_code x) Boolean tt (typed_fine h e.0))
+          (next_condition code (length env) form (value_code y) (map value_code more) (usable_as code (length env) (value_code y) Boolean tt (typed_fine g f.0)) (conditions form rest f.1))))
+      typed_fine {env} (T.convert {x = x} {t = t} number from h) runs = absurd (not_missing _ (value_convert t x) runs)
+      typed_fine {env} (T.as_access {x = x} {a = a} {b = b} from to same h) runs = as_access (length env) (value_code x) a b (typed_fine h runs)
+      typed_fine {env} (T.access {v = v} names found designates) runs = absurd (not_missing _ (value_access v) runs)
+      typed_fine {env} (T.allocate {a = a} {t = t} {handle = handle} {value = x} to covers view h g) runs = absurd (not_missing _ (value_new a t handle x) runs)
+      typed_fine {env} (T.subpool {which = which} {x = x} denotes rooted) runs = absurd (not_missing _ (value_subpool which x) runs)
+      typed_fine {env} (T.discriminant {x = x} {i = i} denotes rooted has) runs = absurd (not_missing _ (value_discriminant x i) runs)
+
+      operating : {env : W.Frames} {s t : Ty} {os : List Operand} → Chains k env s os t → operators_run records (map operator_of os) ≡ true → Valid.IsScalar s → Operating code (length env) (map operator_of os) s t
+      operating {env} (T.ended {t = t}) runs scalar = none_operating code (length env) t scalar
+      operating {env} (T.behind {o = op} {x = y} {more = more} {s = s} {t = u} {u = t} joins right rest) runs scalar =
+          let o = roll-Operand (record { op = op; ty = u; right = y }) in
+          let is : operator_of o ≡ record { op = op; ty = u; right = value_code y } = operator_roll (record { op = op; ty = u; right = y }) in
+          let e = both_true ((operator_of o).right.runs records) (operators_run records (map operator_of more)) runs in
+          let y_runs = sym (ap (λ (z : OperatorCode). z.right.runs records) is) ∙ e.0 in
+          subst (λ z. Operating code (length env) (z ∷ map operator_of more) s t) (sym is)
+          (next_operating code (length env) (record { op = op; ty = u; right = value_code y }) (map operator_of more) s t (next_joins code (length env) op s u joins scalar) (usable_as code (length env) (value_code y) s scalar (typed_fine right y_runs)) (operating rest e.1 (joins_scalar op s u joins)))
+
+      conditions : {env : W.Frames} {xs : List Expr} (form : Shortcut) → Truths k env xs → values_run records (map value_code xs) ≡ true → Conditions code (length env) form (map value_code xs)
+      conditions {env} form T.no_more_truths runs = λ s deep. none code (KindOf.Operand Boolean ∷ s)
+      conditions {env} form (T.one_more_truth {x = x} {more = more} h rest) runs =
+          let e = both_true ((value_code x).runs records) (values_run records (map value_code more)) runs in
+          next_condition code (length env) form (value_code x) (map value_code more) (usable_as code (length env) (value_code x) Boolean tt (typed_fine h e.0)) (conditions form rest e.1)
+
+      actual_good : {env : W.Frames} {f : W.Formal} {a : Actual} → Fits k env f a → (actual_code a).runs records ≡ true → GoodActual code (length env) (actual_code a)
+      actual_good {env} (T.by_value {x = x} {s = s} {t = t} covers typed) = good_as code (length env) records _ _ (actual_value x t) (value_good code (length env) records (value_code x) k t s covers (λ runs. typed_fine typed runs))
+      actual_good {env} (T.by_reference {x = x} {t = t} from to denotes) = good_as code (length env) records _ _ (actual_part x t) (reference_good code (length env) records (reached_by x) t)
+      actual_good {env} (T.by_copy {x = x} {p = p} {t = t} written scalar denotes) = good_as code (length env) records _ (missing_actual None t) (actual_copied x t (J.copy_of p t)) (λ runs s deep. absurd (cc))
+
+      pub actuals_good : {env : W.Frames} {fs : List W.Formal} {actuals : List Actual} → FitEach k env fs actuals → actuals_run (map actual_code actuals) records ≡ true → GoodActuals code (length env) (map actual_code actuals)
+      actuals_good T.no_more_formals runs = tt
+      actuals_good (T.one_more_formal {a = a} {more = more} fits rest) runs =
+          let e = both_true ((actual_code a).runs records) (actuals_run (map actual_code more) records) runs in
+          (actual_good fits e.0, actuals_good rest e.1)
