@@ -139,11 +139,14 @@ TEXTS = [
     (CONTROLLED + "type T is new Controlled with null record; X : T; Y : T := X; begin X := Y; end Main;", ACCEPTED, 1, 1),
     (CONTROLLED + "begin declare type T is new Controlled with null record; X, Y : T; begin X := Y; end; end Main;", 12, 1, 46),
     (CONTROLLED + "type T is new Limited_Controlled with null record; X, Y : T; begin X := Y; end Main;", 32, 1, 131),
-    # procedures are run whose parameters are records, or `in` parameters of Integer and Boolean; one with others is left out where it
-    # stands, unless nothing calls it
+    # procedures are run whose parameters are records, or of Integer and Boolean, in each mode; one with others is left out where it stands.
+    # A copy goes back to a variable; of a component only types tell it, at the main procedure
     (ITEM + "procedure P is begin null; end P; begin P; end Main;", ACCEPTED, 1, 1),
     (ITEM + "procedure P (N : Integer) is begin null; end P; begin P (1); end Main;", ACCEPTED, 1, 1),
-    (ITEM + "N : Integer; procedure P (M : in out Integer) is begin null; end P; begin P (N); end Main;", 12, 1, 32),
+    (ITEM + "N : Integer; procedure P (M : in out Integer) is begin null; end P; begin P (N); end Main;", ACCEPTED, 1, 1),
+    (ITEM + "B : Boolean; procedure P (M : out Boolean) is begin M := True; end P; begin P (B); end Main;", ACCEPTED, 1, 1),
+    (ITEM + "type R is record N : Integer; end record; V : R; procedure P (M : out Integer) is begin M := 1; end P; begin P (V.N); end Main;", 12, 1, 1),
+    (ITEM + "procedure P (M : out Integer) is begin M := 1; end P; begin P (1); end Main;", 31, 1, 80),
     # handlers are run
     (ITEM + "begin null; exception when others => raise; end Main;", ACCEPTED, 1, 1),
     # a type that extends another of the text inherits its components

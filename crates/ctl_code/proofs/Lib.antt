@@ -9,6 +9,7 @@ pub mod Declarable
 pub mod Links
 pub mod Lists
 pub mod Logs
+pub mod Numbered
 pub mod Numbers
 pub mod Shapes
 pub mod Small

@@ -479,13 +479,42 @@ fn is_called(code: &Code, place: usize, kind: SubprogramKind, number: usize, act
         && has_operands(code, place, actuals)
 }
 
-/// Checks the call of a procedure, which leaves nothing in the place of its actuals (RM 6.4).
-fn is_call_fine(code: &Code, place: usize, number: usize, actuals: usize) -> bool
+/// Checks the call of a procedure, which leaves so many numbers in the place of its actuals, at most as many as these (RM 6.4, 6.4.1).
+fn is_call_fine(code: &Code, place: usize, number: usize, actuals: usize, copies: usize) -> bool
     requires { place + 1 < 2 ^ 64 }
-    ensures { IsTrue result ↔ IsFine code.now place (I.Call number actuals) (stack_at code.now.kinds place) }
+    ensures { IsTrue result ↔ IsFine code.now place (I.Call number actuals copies) (stack_at code.now.kinds place) }
 {
     is_called(code, place, SubprogramKind::Procedure, number, actuals)
-        && leads_on(code, place, actuals, None)
+        && copies <= actuals
+        && code
+            .kinds
+            .leads_over_numbers(place, actuals, copies, place + 1)
+}
+
+/// Checks that a copy goes back: it is the last of so many numbers, in this cell (RM 6.4.1).
+fn is_copy_back_fine(
+    code: &Code,
+    place: usize,
+    depth: usize,
+    at: usize,
+    out: usize,
+    slot: usize,
+) -> bool
+    requires { place + 1 < 2 ^ 64 }
+    ensures { IsTrue result ↔ IsFine code.now place (I.CopyBack depth at out slot) (stack_at code.now.kinds place) }
+{
+    depth >= 1
+        && code.kinds.has_numbers(place, depth)
+        && code.kinds.height_at(place, depth) == at
+        && leads_on(code, place, 0, None)
+}
+
+/// Checks that so many numbers are dropped.
+fn is_discard_fine(code: &Code, place: usize, count: usize) -> bool
+    requires { place + 1 < 2 ^ 64 }
+    ensures { IsTrue result ↔ IsFine code.now place (I.Discard count) (stack_at code.now.kinds place) }
+{
+    code.kinds.has_numbers(place, count) && leads_on(code, place, count, None)
 }
 
 /// Checks the call of a function, which leaves its value in the place of its actuals (RM 6.4).
@@ -643,7 +672,18 @@ pub fn is_fine(code: &Code, place: usize, instr: &Instr) -> bool
         Instr::Start(entry) => is_start_fine(code, place, entry),
         Instr::Enter { slots, length } => is_enter_fine(code, place, slots, length),
         Instr::Leave => is_at_end(code, place),
-        Instr::Call { procedure, actuals } => is_call_fine(code, place, procedure, actuals),
+        Instr::Call {
+            procedure,
+            actuals,
+            copies,
+        } => is_call_fine(code, place, procedure, actuals, copies),
+        Instr::CopyBack {
+            depth,
+            at,
+            out,
+            slot,
+        } => { is_copy_back_fine(code, place, depth, at, out, slot) }
+        Instr::Discard(count) => is_discard_fine(code, place, count),
         Instr::Evaluate {
             function,
             actuals,

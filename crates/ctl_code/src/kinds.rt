@@ -3,7 +3,7 @@
 ghost use Rattle.std.specs.Prelude.{◌≡◌, ◌↔◌, ℕ, ◌≤◌, [], ◌∷◌, ◌++◌, drop, length, reverse, slice_get, IsTrue, OnOk, MatchOption, List, Some};
 ghost use Rattle.ctl_code.specs.declared.kinds.Kind.{Kind};
 ghost use Rattle.ctl_code.specs.Kinds.{below_newest, changed, stack_at, stack_in, stacks_in};
-ghost use Rattle.ctl_code.specs.Valid.{images_of};
+ghost use Rattle.ctl_code.specs.Valid.{HaveNumbers, images_of, over_numbers};
 ghost use Rattle.ctl_code.specs.Windows.{depth, height, variable_at};
 
 use crate::images::has_images_on;
@@ -163,6 +163,26 @@ impl Kinds {
                 .is_with_top(*to, new, self.stacks.without(stack, taken)),
             None => false,
         }
+    }
+
+    /// Tells whether so many numbers stand before one place, over what is left of the stack before another where so many of the newest are
+    /// taken.
+    pub fn leads_over_numbers(&self, from: usize, taken: usize, count: usize, to: usize) -> bool
+        ensures { IsTrue result ↔ (slice_get self.now to ≡ Some (over_numbers count (drop taken (stack_at self.now from)))) }
+    {
+        let below = number_under(&self.stacks, self.before.as_slice(), from, taken);
+        match self.before.get(to) {
+            Some(to) => self.stacks.is_over_numbers(*to, count, below),
+            None => false,
+        }
+    }
+
+    /// Tells whether so many numbers stand on top before the instruction at a place.
+    pub fn has_numbers(&self, place: usize, count: usize) -> bool
+        ensures { IsTrue result ↔ HaveNumbers count (stack_at self.now place) }
+    {
+        self.stacks
+            .has_numbers(number_at(self.before.as_slice(), place), count)
     }
 
     /// Tells whether nothing stands before the instruction at a place of the table.

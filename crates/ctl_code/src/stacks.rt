@@ -3,9 +3,11 @@
 ghost use Rattle.std.specs.Prelude.{◌≡◌, ◌↔◌, ◌+◌, ◌-◌, ◌<◌, ◌≤◌, ◌^◌, [], ◌∷◌, ◌++◌, drop, length, List, IsTrue, IfSome, MatchOption, OnErr, OnOk};
 ghost use Rattle.ctl_code.specs.declared.kinds.Kind.{Kind};
 ghost use Rattle.ctl_code.specs.Kinds.{stack_in, with_top};
+ghost use Rattle.ctl_code.specs.Valid.{HaveNumbers, over_numbers};
 ghost use Rattle.ctl_code.specs.Windows.{depth, height, slot_over, variable_at};
 
 use crate::kinds::{Kind, is_same_kind};
+use ctl_program::types::Ty;
 use std::alloc::{AllocError, Global};
 use std::marker::Model;
 
@@ -186,6 +188,30 @@ impl Stacks {
             }
         }
         left
+    }
+
+    /// Tells whether so many numbers stand on top.
+    pub fn has_numbers(&self, stack: usize, count: usize) -> bool
+        ensures { IsTrue result ↔ HaveNumbers count (stack_in self.now stack) }
+    {
+        let mut left = stack;
+        for _ in 0..count {
+            let Some((kind, below)) = self.top(left) else {
+                return false;
+            };
+            if !is_same_kind(kind, Kind::Operand(Ty::Integer)) {
+                return false;
+            }
+            left = below;
+        }
+        true
+    }
+
+    /// Tells whether a stack is another one with so many numbers on top.
+    pub fn is_over_numbers(&self, stack: usize, count: usize, below: usize) -> bool
+        ensures { IsTrue result ↔ (stack_in self.now stack ≡ over_numbers count (stack_in self.now below)) }
+    {
+        self.has_numbers(stack, count) && self.is_same(self.without(stack, count), below)
     }
 
     /// Tells whether the same stands on both.

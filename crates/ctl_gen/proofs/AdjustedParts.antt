@@ -21,7 +21,7 @@ use Rattle.ctl_code.specs.declared.code.Begun.{Begun}
 use Rattle.ctl_code.specs.declared.code.Parts.{Parts}
 use Rattle.ctl_code.specs.declared.code.Parts.TheVariants as PartsOf
 use Rattle.ctl_code.specs.declared.code.Code.{Code}
-use Rattle.ctl_code.specs.States.{Complete, Frame, Adjusting, AdjustingOwn, State, tell_all}
+use Rattle.ctl_code.specs.States.{Complete, AfterBody, Frame, Adjusting, AdjustingOwn, State, tell_all}
 use Rattle.ctl_code.specs.Table as Table
 use Rattle.ctl_code.specs.Table.{birth, birth_in, component_of, controlled_of, handed, noting, operation_of, part_at, parts_of, says_failed}
 use Rattle.ctl_code.specs.Steps.{moved, step, stepped}
@@ -160,8 +160,8 @@ module _ (ask : Ask) (k : Tables) (code : Code) (setting : Setting k code) (call
       let here : IsDeclarable code (length (home_of p.origin w)) t = declarable_later code around (length (home_of p.origin w)) t (homes w p fits at) inside in
       subst (λ x. Adjusts 3 3 s0 c ks (after_own s t a x)) (sym (call_is ask k call default f s c (shown s) l w p at))
       (over s t a ks notes s0 c _
-      (calls.runs f body.0 body.1 wr (home_of p.origin w) (holding (Binds s.object s.offset s.path) ∷ []) waits c (tell (shown s) l) w s0 Procedure 1 refl le fits (adjust_in code setting.valid _ t f here (named ∙ op)) (tt, tt)
-      (go ∙ enter_shows (slice_get code.entries.items f) (shown s) (home_of p.origin w) (holding (Binds s.object s.offset s.path) ∷ []) waits l w)))
+      (calls.runs f body.0 body.1 wr (home_of p.origin w) (holding (Binds s.object s.offset s.path) ∷ []) AfterBody waits c (tell (shown s) l) w s0 Procedure 1 tt le fits (adjust_in code setting.valid _ t f here (named ∙ op)) (tt, tt)
+      (go ∙ enter_shows (slice_get code.entries.items f) (shown s) (home_of p.origin w) (holding (Binds s.object s.offset s.path) ∷ []) AfterBody waits l w)))
 
   -- from the step behind the components
   own_runs : (s : Spot) (t : ℕ) (a : Adjusted) (ks : Noted) → Notes made ks → (c : ℕ) (l : Log) (w : World) (s0 : State) → IsSurrounded k code wr around s.object → IsPlainType k (Record t) → IsDeclarable code around t → c ≤ bound → Since k code wr w → step ask code s0 ≡ moved l (Table.adjust_own code (parts_of code t) made s t a.failed (ks a.paths) w) → Adjusts 3 3 s0 c ks (own_adjust K creation s t a c l w)

@@ -1,5 +1,5 @@
 -- The execution of a body, and of the main procedure.
-use Rattle.std.proofs.Common.{◌≡◌, ℕ, zero, suc, ◌+◌, ◌≤◌, List, [], ◌∷◌, ◌++◌, length, Some, None, true, refl, sym, ap, ◌∙◌, subst, arith, inl}
+use Rattle.std.proofs.Common.{◌≡◌, ℕ, zero, suc, ◌+◌, ◌≤◌, List, [], ◌∷◌, ◌++◌, length, Some, true, refl, sym, ap, ◌∙◌, subst, arith, inl}
 use Rattle.std.specs.Prelude.{slice_get, take, drop, replicate}
 use Rattle.ctl_program.specs.declared.operators.SubprogramKind.{SubprogramKind}
 use Rattle.ctl_program.specs.declared.operators.SubprogramKind.TheVariants.{Procedure, Function}
@@ -8,31 +8,31 @@ use Rattle.ctl_program.specs.declared.program.Subprogram.{Subprogram}
 use Rattle.ctl_meaning.specs.World.{Slot, unset, Log, World, empty_log, empty_world}
 use Rattle.ctl_meaning.specs.Changes.{open_master}
 use Rattle.ctl_meaning.specs.Choice.{Ask}
-use Rattle.ctl_meaning.specs.Outcome.{program_error, ByExit, ByReturn, ByRaise, Result, Goes, Leaves, Gives, Done, bind, on_goes, on_some, opened_outcome}
+use Rattle.ctl_meaning.specs.Outcome.{ByExit, ByReturn, ByRaise, Result, Goes, Leaves, Gives, Done, bind, on_goes, on_some, opened_outcome}
 use Rattle.ctl_meaning.specs.Types.{Tables}
 use Rattle.ctl_meaning.specs.Names.{OfSubprogram, Returned, Tools, gone}
 use Rattle.ctl_meaning.specs.Names as Names
 use Rattle.ctl_meaning.specs.Masters.{Left, in_master}
 use Rattle.ctl_meaning.specs.Statements.{Body, Doing, Guarding, arm_step, body_of, exec_step, handler_step, master_step, unset_slots}
-use Rattle.ctl_meaning.specs.Run.{Meaning, default_in, execute, execution, expression_tools, returned, routine_of, run_meaning, run_number, run_routine, slots_for, tools, tools_with}
+use Rattle.ctl_meaning.specs.Run.{Meaning, default_in, execute, execution, expression_tools, handed_back, returned, routine_of, run_meaning, run_number, run_routine, slots_for, tools, tools_with}
 use Rattle.ctl_code.specs.declared.code.Entry.{Entry}
 use Rattle.ctl_code.specs.declared.code.Instr.TheVariants as InstrOf
 use Rattle.ctl_code.specs.declared.code.Code.{Code}
 use Rattle.ctl_code.specs.declared.kinds.Kind.TheVariants as KindOf
-use Rattle.ctl_code.specs.States.{AfterBody, Frame, State}
-use Rattle.ctl_code.specs.Table.{awaited, ended, enter_body}
+use Rattle.ctl_code.specs.States.{After, AfterBlock, AfterProcedure, AfterFunction, AfterBody, Frame, State}
+use Rattle.ctl_code.specs.Table.{behind, enter_body}
 use Rattle.ctl_code.specs.Steps.{moved, step, start}
 use Rattle.ctl_layout.specs.Layout.{MasterCode, body_code, entry_at, master_code, nowhere}
 use Rattle.ctl_layout.proofs.StatementLayers.{master_is}
 use Rattle.ctl_gen.proofs.Place.{HasAt, Laid}
 use Rattle.ctl_gen.proofs.Worlds.{Each, HoldsNoCopy, no_copy_unset, Since, fits_empty, keeps_itself}
 use Rattle.ctl_gen.proofs.Scopes.{IsCallable}
-use Rattle.ctl_gen.proofs.Setting.{Setting, returns, returns_by, Told, Calls}
+use Rattle.ctl_gen.proofs.Setting.{Setting, EndsIn, returned_to, returns, IsTold, Told, Calls}
 use Rattle.ctl_gen.proofs.Parted.{GivesDefaults}
 use Rattle.ctl_gen.proofs.Cells.{by_code}
 use Rattle.ctl_gen.proofs.Leave.{in_frame, leaves}
 use Rattle.ctl_gen.proofs.Executed.{master_does}
-use Rattle.ctl_gen.proofs.Follow.{by_raise, IsGoing, Runs, way_of, at, gives, added, no_step, both}
+use Rattle.ctl_gen.proofs.Follow.{by_raise, IsGoing, Runs, way_of, at, added, no_step, both}
 
 -- a body has as many slots as it means
 slots_alike : (m : Master) → (master_code m).slots ≡ (body_of m).slots
@@ -63,51 +63,62 @@ no_copy_rest zero xs h = h
 no_copy_rest (suc n) [] h = tt
 no_copy_rest (suc n) (x ∷ xs) h = no_copy_rest n xs h.1
 
+-- nothing but an exception leaves a body
+is_handed : (kind : SubprogramKind) (slots : List Slot) (r : Result Done) → IsTold (way_of (handed_back kind slots r))
+is_handed kind slots (Leaves (ByReturn v)) = tt
+is_handed kind slots (Leaves (ByRaise e)) = tt
+is_handed Function slots (Leaves ByExit) = tt
+is_handed Function slots (Goes a) = tt
+is_handed Procedure slots (Leaves ByExit) = tt
+is_handed Procedure slots (Goes a) = tt
+
+-- a body that ends so, with these slots, returns there what it means
+behind_is : (kind : SubprogramKind) (after : After) → EndsIn kind after → (slots : List Slot) (r : Result Done) (ks : List Frame) (l : Log) (w : World) → moved l (behind after r slots ks w) ≡ returned_to after ks (handed_back kind slots r) l w
+behind_is Procedure (AfterProcedure copies p) ends slots (Goes a) ks l w = refl
+behind_is Procedure (AfterProcedure copies p) ends slots (Leaves ByExit) ks l w = refl
+behind_is Procedure (AfterProcedure copies p) ends slots (Leaves (ByReturn v)) ks l w = refl
+behind_is Procedure (AfterProcedure copies p) ends slots (Leaves (ByRaise e)) ks l w = refl
+behind_is Procedure AfterBody ends slots (Goes a) ks l w = refl
+behind_is Procedure AfterBody ends slots (Leaves ByExit) ks l w = refl
+behind_is Procedure AfterBody ends slots (Leaves (ByReturn v)) ks l w = refl
+behind_is Procedure AfterBody ends slots (Leaves (ByRaise e)) ks l w = refl
+behind_is Procedure (AfterBlock p) ends slots r ks l w = absurd ends
+behind_is Procedure (AfterFunction p) ends slots r ks l w = absurd ends
+behind_is Function (AfterFunction p) ends slots (Goes a) ks l w = refl
+behind_is Function (AfterFunction p) ends slots (Leaves ByExit) ks l w = refl
+behind_is Function (AfterFunction p) ends slots (Leaves (ByReturn v)) ks l w = refl
+behind_is Function (AfterFunction p) ends slots (Leaves (ByRaise e)) ks l w = refl
+behind_is Function (AfterBlock p) ends slots r ks l w = absurd ends
+behind_is Function (AfterProcedure copies p) ends slots r ks l w = absurd ends
+behind_is Function AfterBody ends slots r ks l w = absurd ends
+
 module _ (ask : Ask) (p : Meaning) (code : Code) (setting : Setting p.tables code) (bodies : (f : ℕ) (s : Subprogram) → slice_get setting.subprograms f ≡ Some s → Stands p.tables code f s) (meant : (f : ℕ) (s : Subprogram) → slice_get setting.subprograms f ≡ Some s → slice_get p.routines f ≡ Some (routine_of s)) (constants : (call : Names.Call) → GivesDefaults p.tables (default_in p.defaults (expression_tools ask p call))) where
   abbrev k : Tables
   k = p.tables
 
   -- the step that enters a body
-  entered : (f : ℕ) (s : Subprogram) (x : Stands k code f s) (env : List ℕ) (actuals : List Slot) (ks : List Frame) (l : Log) (w : World) → moved l (enter_body (slice_get code.entries.items f) [] env actuals ks w) ≡ at (take s.level env ++ w.ledger.next_master ∷ []) x.place (in_frame w.ledger.next_master 0 AfterBody ks) [] l (open_master (take s.level env) (slots_for (body_of s.body) actuals) w)
+  entered : (f : ℕ) (s : Subprogram) (x : Stands k code f s) (env : List ℕ) (actuals : List Slot) (after : After) (ks : List Frame) (l : Log) (w : World) → moved l (enter_body (slice_get code.entries.items f) [] env actuals after ks w) ≡ at (take s.level env ++ w.ledger.next_master ∷ []) x.place (in_frame w.ledger.next_master 0 after ks) [] l (open_master (take s.level env) (slots_for (body_of s.body) actuals) w)
   unfolding slots_for unset_slots
-  entered f s x env actuals ks l w =
-      ap (λ e. moved l (enter_body e [] env actuals ks w)) x.entry
-      ∙ ap (λ n. at (take s.level env ++ w.ledger.next_master ∷ []) x.place (in_frame w.ledger.next_master 0 AfterBody ks) [] l (open_master (take s.level env) (actuals ++ drop (length actuals) (replicate n unset)) w)) (slots_alike s.body)
+  entered f s x env actuals after ks l w =
+      ap (λ e. moved l (enter_body e [] env actuals after ks w)) x.entry
+      ∙ ap (λ n. at (take s.level env ++ w.ledger.next_master ∷ []) x.place (in_frame w.ledger.next_master 0 after ks) [] l (open_master (take s.level env) (actuals ++ drop (length actuals) (replicate n unset)) w)) (slots_alike s.body)
 
   no_copy_slots : (s : Subprogram) (actuals : List Slot) → Each HoldsNoCopy actuals → Each HoldsNoCopy (slots_for (body_of s.body) actuals)
   unfolding slots_for unset_slots
   no_copy_slots s actuals h = no_copy_both actuals _ h (no_copy_rest (length actuals) (replicate (body_of s.body).slots unset) (no_copy_unset (body_of s.body).slots))
 
-  -- how a body of this kind ends for its call
-  ends_so : (w0 : World) (ks : List Frame) (x : Left) (c : ℕ) (l : Log) (w : World) → Told k code w0 None w → (kind : SubprogramKind) (r : Result Done) → Runs ask code (Told k code w0) 0 0 (gives ks (ended kind r) l w) c (returns_by kind ks) (returned kind x.slots r c l w)
+  -- what follows the master of a body
+  behind_body : (w0 : World) (after : After) (ks : List Frame) (kind : SubprogramKind) → EndsIn kind after → (r : Result Left) (c : ℕ) (l : Log) (w : World) → Told k code w0 (way_of r) w → Runs ask code (Told k code w0) 0 0 (leaves after ks r l w) c (returned_to after ks) (on_goes (λ (x : Left). returned kind x.slots x.result) r c l w)
   unfolding opened_outcome returned
-  ends_so w0 ks x c l w fits Procedure (Goes a) = no_step ask code (Told k code w0) 0 0 _ c 0 (returns_by Procedure ks) (Goes (record { cells = []; slots = x.slots })) l w fits refl
-  ends_so w0 ks x c l w fits Procedure (Leaves ByExit) = no_step ask code (Told k code w0) 0 0 _ c 0 (returns_by Procedure ks) (Goes (record { cells = []; slots = x.slots })) l w fits refl
-  ends_so w0 ks x c l w fits Procedure (Leaves (ByReturn v)) = no_step ask code (Told k code w0) 0 0 _ c 0 (returns_by Procedure ks) (Goes (record { cells = v; slots = x.slots })) l w fits refl
-  ends_so w0 ks x c l w fits Procedure (Leaves (ByRaise e)) = no_step ask code (Told k code w0) 0 0 _ c 0 (returns_by Procedure ks) (Leaves (ByRaise e)) l w fits refl
-  ends_so w0 ks x c l w fits Function (Goes a) = no_step ask code (Told k code w0) 0 0 _ c 0 (returns_by Function ks) (Leaves (ByRaise program_error)) l w fits refl
-  ends_so w0 ks x c l w fits Function (Leaves ByExit) = no_step ask code (Told k code w0) 0 0 _ c 0 (returns_by Function ks) (Leaves (ByRaise program_error)) l w fits refl
-  ends_so w0 ks x c l w fits Function (Leaves (ByReturn v)) = no_step ask code (Told k code w0) 0 0 _ c 0 (returns_by Function ks) (Goes (record { cells = v; slots = x.slots })) l w fits refl
-  ends_so w0 ks x c l w fits Function (Leaves (ByRaise e)) = no_step ask code (Told k code w0) 0 0 _ c 0 (returns_by Function ks) (Leaves (ByRaise e)) l w fits refl
-
-  raises_so : (w0 : World) (ks : List Frame) (e c : ℕ) (l : Log) (w : World) → Told k code w0 (Some (ByRaise e)) w → (kind : SubprogramKind) → Runs ask code (Told k code w0) 0 0 (gives ks (ended kind (Leaves (ByRaise e))) l w) c (returns_by kind ks) (Gives (Leaves (ByRaise e)) 0 c l w)
-  raises_so w0 ks e c l w fits Procedure = no_step ask code (Told k code w0) 0 0 _ c 0 (returns_by Procedure ks) (Leaves (ByRaise e)) l w fits refl
-  raises_so w0 ks e c l w fits Function = no_step ask code (Told k code w0) 0 0 _ c 0 (returns_by Function ks) (Leaves (ByRaise e)) l w fits refl
-
-  behind_call : (w0 : World) (ks : List Frame) (kind : SubprogramKind) → awaited ks ≡ kind → (r : Result Left) (c : ℕ) (l : Log) (w : World) → Told k code w0 (way_of r) w → Runs ask code (Told k code w0) 0 0 (leaves AfterBody ks r l w) c (returns_by kind ks) (on_goes (λ (x : Left). returned kind x.slots x.result) r c l w)
-  unfolding opened_outcome
-  behind_call w0 ks kind waits (Leaves y) c l w fits =
-      subst (λ z. Runs ask code (Told k code w0) 0 0 (gives ks (ended z (Leaves y)) l w) c (returns_by kind ks) (Gives (Leaves y) 0 c l w)) (sym waits)
-      (by_raise (λ v. Told k code w0 (Some v) w → Runs ask code (Told k code w0) 0 0 (gives ks (ended kind (Leaves v)) l w) c (returns_by kind ks) (Gives (Leaves v) 0 c l w))
-      (λ e raised. raises_so w0 ks e c l w raised kind) y fits.0 fits)
-  behind_call w0 ks kind waits (Goes x) c l w fits =
-      subst (λ z. Runs ask code (Told k code w0) 0 0 (gives ks (ended z x.result) l w) c (returns_by kind ks) (returned kind x.slots x.result c l w)) (sym waits)
-      (ends_so w0 ks x c l w fits kind x.result)
+  behind_body w0 after ks kind ends (Goes x) c l w fits = no_step ask code (Told k code w0) 0 0 _ c 0 (returned_to after ks) (handed_back kind x.slots x.result) l w (is_handed kind x.slots x.result, fits.1) (behind_is kind after ends x.slots x.result ks l w)
+  behind_body w0 after ks kind ends (Leaves y) c l w fits =
+      by_raise (λ v. Runs ask code (Told k code w0) 0 0 (leaves after ks (Leaves v) l w) c (returned_to after ks) (Gives (Leaves v) 0 c l w))
+      (λ e. no_step ask code (Told k code w0) 0 0 _ c 0 (returned_to after ks) (Leaves (ByRaise e)) l w (tt, fits.1) (behind_is kind after ends [] (Leaves (ByRaise e)) ks l w)) y fits.0
 
   -- a body, from the step that enters it
-  number_runs : (call : Names.Call) (bound : ℕ) → Calls ask k code setting bound call → (f : ℕ) (s : Subprogram) → slice_get setting.subprograms f ≡ Some s → (w0 : World) (env : List ℕ) (actuals : List Slot) (ks : List Frame) (c0 c : ℕ) (l : Log) (w : World) (s0 : State) (kind : SubprogramKind) (count : ℕ) → awaited ks ≡ kind → c ≤ bound → c ≤ c0 → c0 ≤ c + 1 → Since k code w0 w → IsCallable code kind (length env) f count → Each HoldsNoCopy actuals → step ask code s0 ≡ moved l (enter_body (slice_get code.entries.items f) [] env actuals ks w) → Runs ask code (Told k code w0) 0 2 s0 c0 (returns_by kind ks) (run_number p (tools_with ask p call) env actuals f c l w)
+  number_runs : (call : Names.Call) (bound : ℕ) → Calls ask k code setting bound call → (f : ℕ) (s : Subprogram) → slice_get setting.subprograms f ≡ Some s → (w0 : World) (env : List ℕ) (actuals : List Slot) (after : After) (ks : List Frame) (c0 c : ℕ) (l : Log) (w : World) (s0 : State) (kind : SubprogramKind) (count : ℕ) → EndsIn kind after → c ≤ bound → c ≤ c0 → c0 ≤ c + 1 → Since k code w0 w → IsCallable code kind (length env) f count → Each HoldsNoCopy actuals → step ask code s0 ≡ moved l (enter_body (slice_get code.entries.items f) [] env actuals after ks w) → Runs ask code (Told k code w0) 0 2 s0 c0 (returned_to after ks) (run_number p (tools_with ask p call) env actuals f c l w)
   unfolding run_number run_routine tools_with opened_outcome
-  number_runs call bound calls f s here w0 env actuals ks c0 c l w s0 kind count waits le lo hi fits callable uncopied first =
+  number_runs call bound calls f s here w0 env actuals after ks c0 c l w s0 kind count ends le lo hi fits callable uncopied first =
       let x : Stands k code f s = bodies f s here in
       let inner = λ (display : List ℕ). (body_of s.body).inside (tools_with ask p call) display 0 in
       let scope = callable.0 in
@@ -117,27 +128,27 @@ module _ (ask : Ask) (p : Meaning) (code : Code) (setting : Setting p.tables cod
       let formals = callable.1 in
       let same : formals.0 ≡ entry_at x.place s = cc (sym formals.1 ∙ x.entry) in
       let of_kind : s.kind ≡ kind = ap (λ (e : Entry). e.kind) (sym same) ∙ formals.2 in
-      subst (λ o. Runs ask code (Told k code w0) 0 2 s0 c0 (returns_by kind ks) o) (sym (ap (λ y. on_some y gone (run_routine (tools_with ask p call) env actuals) c l w) (meant f s here)))
-      (subst (λ (b : SubprogramKind). Runs ask code (Told k code w0) 0 2 s0 c0 (returns_by kind ks) (bind (in_master (tools_with ask p call) (take s.level env) (slots_for (body_of s.body) actuals) inner c l w) (on_goes (λ (y : Left). returned b y.slots y.result)))) (sym of_kind)
-      (both ask code (Told k code w0) (Told k code w0) 0 2 0 0 0 2 s0 c0 (leaves AfterBody ks) (returns_by kind ks) _ (on_goes (λ (y : Left). returned kind y.slots y.result)) (omega arith) (omega arith) (omega arith)
-      ((master_does ask k code setting call (default_in p.defaults (expression_tools ask p call)) (constants call) bound calls s.body).inside x.runs x.before x.texts 0 (KindOf.Body s.level (master_code s.body).slots) [] w0 (take s.level env) (slots_for (body_of s.body) actuals) AfterBody ks c0 c l w s0 x.place le lo hi fits long (no_copy_slots s actuals uncopied) x.instructions (first ∙ entered f s x env actuals ks l w))
-      (λ r c1 l1 w1 lo1 fits1. behind_call w0 ks kind waits r c1 l1 w1 fits1)))
+      subst (λ o. Runs ask code (Told k code w0) 0 2 s0 c0 (returned_to after ks) o) (sym (ap (λ y. on_some y gone (run_routine (tools_with ask p call) env actuals) c l w) (meant f s here)))
+      (subst (λ (b : SubprogramKind). Runs ask code (Told k code w0) 0 2 s0 c0 (returned_to after ks) (bind (in_master (tools_with ask p call) (take s.level env) (slots_for (body_of s.body) actuals) inner c l w) (on_goes (λ (y : Left). returned b y.slots y.result)))) (sym of_kind)
+      (both ask code (Told k code w0) (Told k code w0) 0 2 0 0 0 2 s0 c0 (leaves after ks) (returned_to after ks) _ (on_goes (λ (y : Left). returned kind y.slots y.result)) (omega arith) (omega arith) (omega arith)
+      ((master_does ask k code setting call (default_in p.defaults (expression_tools ask p call)) (constants call) bound calls s.body).inside x.runs x.before x.texts 0 (KindOf.Body s.level (master_code s.body).slots) [] w0 (take s.level env) (slots_for (body_of s.body) actuals) after ks c0 c l w s0 x.place le lo hi fits long (no_copy_slots s actuals uncopied) x.instructions (first ∙ entered f s x env actuals after ks l w))
+      (λ r c1 l1 w1 lo1 fits1. behind_body w0 after ks kind ends r c1 l1 w1 fits1)))
 
   -- an execution takes one from the clock, and is a tick
-  call_runs : (n c : ℕ) → c ≤ n → (f : ℕ) (s : Subprogram) → slice_get setting.subprograms f ≡ Some s → (w0 : World) (v : List ℕ) (actuals : List Slot) (ks : List Frame) (l : Log) (w : World) (s0 : State) (kind : SubprogramKind) (count : ℕ) → awaited ks ≡ kind → Since k code w0 w → IsCallable code kind (length v) f count → Each HoldsNoCopy actuals → step ask code s0 ≡ moved l (enter_body (slice_get code.entries.items f) [] v actuals ks w) → Runs ask code (Told k code w0) 2 3 s0 c (returns_by kind ks) (execution ask p (suc n) (OfSubprogram f actuals) v c l w)
+  call_runs : (n c : ℕ) → c ≤ n → (f : ℕ) (s : Subprogram) → slice_get setting.subprograms f ≡ Some s → (w0 : World) (v : List ℕ) (actuals : List Slot) (after : After) (ks : List Frame) (l : Log) (w : World) (s0 : State) (kind : SubprogramKind) (count : ℕ) → EndsIn kind after → Since k code w0 w → IsCallable code kind (length v) f count → Each HoldsNoCopy actuals → step ask code s0 ≡ moved l (enter_body (slice_get code.entries.items f) [] v actuals after ks w) → Runs ask code (Told k code w0) 2 3 s0 c (returned_to after ks) (execution ask p (suc n) (OfSubprogram f actuals) v c l w)
   unfolding execution execute opened_outcome
-  call_runs n zero le f s here w0 v actuals ks l w s0 kind count waits fits callable uncopied first =
-      let e = first ∙ entered f s (bodies f s here) v actuals ks l w in
+  call_runs n zero le f s here w0 v actuals after ks l w s0 kind count ends fits callable uncopied first =
+      let e = first ∙ entered f s (bodies f s here) v actuals after ks l w in
       record { n = 1; in_time = omega arith; logged = ap (λ (x : State). x.log) e; going = subst IsGoing (sym e) tt; why = inl (omega arith) }
-  call_runs zero (suc c) le f s here w0 v actuals ks l w s0 kind count waits fits callable uncopied first = absurd (omega (arith, le))
-  call_runs (suc n) (suc c) le f s here w0 v actuals ks l w s0 kind count waits fits callable uncopied first =
-      added ask code (Told k code w0) 1 0 2 2 3 s0 (suc c) (returns_by kind ks) _ (omega arith) (omega arith)
-      (number_runs (execution ask p (suc n)) n (record { runs = λ f1 s1 here1 w1 v1 actuals1 ks1 c1 l1 w2 s2 kind1 count1 waits1 le1 fits1 callable1 uncopied1 first1. call_runs n c1 le1 f1 s1 here1 w1 v1 actuals1 ks1 l1 w2 s2 kind1 count1 waits1 fits1 callable1 uncopied1 first1 }) f s here w0 v actuals ks (suc c) c l w s0 kind count waits (omega (arith, le)) (omega arith) (omega arith) fits callable uncopied first)
+  call_runs zero (suc c) le f s here w0 v actuals after ks l w s0 kind count ends fits callable uncopied first = absurd (omega (arith, le))
+  call_runs (suc n) (suc c) le f s here w0 v actuals after ks l w s0 kind count ends fits callable uncopied first =
+      added ask code (Told k code w0) 1 0 2 2 3 s0 (suc c) (returned_to after ks) _ (omega arith) (omega arith)
+      (number_runs (execution ask p (suc n)) n (record { runs = λ f1 s1 here1 w1 v1 actuals1 after1 ks1 c1 l1 w2 s2 kind1 count1 ends1 le1 fits1 callable1 uncopied1 first1. call_runs n c1 le1 f1 s1 here1 w1 v1 actuals1 after1 ks1 l1 w2 s2 kind1 count1 ends1 fits1 callable1 uncopied1 first1 }) f s here w0 v actuals after ks (suc c) c l w s0 kind count ends (omega (arith, le)) (omega arith) (omega arith) fits callable uncopied first)
 
   calls_run : (n : ℕ) → Calls ask k code setting n (execution ask p (suc n))
-  calls_run n = record { runs = λ f s here w0 v actuals ks c l w s0 kind count waits le fits callable uncopied first. call_runs n c le f s here w0 v actuals ks l w s0 kind count waits fits callable uncopied first }
+  calls_run n = record { runs = λ f s here w0 v actuals after ks c l w s0 kind count ends le fits callable uncopied first. call_runs n c le f s here w0 v actuals after ks l w s0 kind count ends fits callable uncopied first }
 
   -- the main procedure, which is declared in no master and has no formals
   pub main_runs : (main : ℕ) (s : Subprogram) → slice_get setting.subprograms main ≡ Some s → IsCallable code Procedure 0 main 0 → slice_get code.instructions.items 0 ≡ Some (InstrOf.Start main) → (clock : ℕ) → Runs ask code (Told k code empty_world) 0 2 start clock (returns []) (run_meaning p main ask clock)
   unfolding run_meaning tools
-  main_runs main s here callable has clock = number_runs (execution ask p (suc clock)) clock (calls_run clock) main s here empty_world [] [] [] clock clock empty_log empty_world start Procedure 0 refl (omega arith) (omega arith) (omega arith) (fits_empty k code, keeps_itself k code empty_world) callable tt (by_code ask code [] 0 [] [] empty_log empty_world (InstrOf.Start main) has)
+  main_runs main s here callable has clock = number_runs (execution ask p (suc clock)) clock (calls_run clock) main s here empty_world [] [] AfterBody [] clock clock empty_log empty_world start Procedure 0 tt (omega arith) (omega arith) (omega arith) (fits_empty k code, keeps_itself k code empty_world) callable tt (by_code ask code [] 0 [] [] empty_log empty_world (InstrOf.Start main) has)

@@ -24,7 +24,7 @@ use Rattle.ctl_code.specs.declared.code.Initial.{Initial}
 use Rattle.ctl_code.specs.declared.code.Initial.TheVariants.{Constant, ByType}
 use Rattle.ctl_code.specs.declared.code.Parts.{Parts}
 use Rattle.ctl_code.specs.declared.code.Parts.TheVariants.{Plain, Within, Controlled}
-use Rattle.ctl_code.specs.States.{Complete, Giving, Frame, Newborn, Filling, Initializing, State}
+use Rattle.ctl_code.specs.States.{Complete, Giving, AfterBody, Frame, Newborn, Filling, Initializing, State}
 use Rattle.ctl_code.specs.Table as Table
 use Rattle.ctl_code.specs.Table.{begun_in, begun_of, birth, complete_of, completed, component_of, controlled_of, fail, initialize_by, initialize_own, is_one_of, operation_of, part_at, parts_of, showing, take_default}
 use Rattle.ctl_code.specs.Steps.{moved, step, stepped}
@@ -286,8 +286,8 @@ module _ (ask : Ask) (k : Tables) (code : Code) (setting : Setting k code) (call
             let here = subst (λ (d : List ℕ). IsDeclarable code (length d) t) (sym (still_home k code s.object w0 w inside.0 o fits0 fits.1 inside.1 at)) inside.2 in
             subst goal (sym (ap (λ y. bind y (own_then born s t paths)) (called_is ask k call default f s c (starts s) l w o at)))
             (called_runs paths clean _ c _ le
-            (calls.runs f body.0 body.1 w0 (home_of o.origin w) (holding (Binds s.object s.offset s.path) ∷ []) (Initializing (new_part s t master) ∷ ks) c (tell (starts s) l) w _ Procedure 1 refl le fits (initialize_in code setting.valid (length (home_of o.origin w)) t f here (setting.initialize t ∙ op)) (tt, tt)
-            (go ∙ enter_shows (slice_get code.entries.items f) (starts s) (home_of o.origin w) (holding (Binds s.object s.offset s.path) ∷ []) (Initializing (new_part s t master) ∷ ks) l w)))
+            (calls.runs f body.0 body.1 w0 (home_of o.origin w) (holding (Binds s.object s.offset s.path) ∷ []) AfterBody (Initializing (new_part s t master) ∷ ks) c (tell (starts s) l) w _ Procedure 1 tt le fits (initialize_in code setting.valid (length (home_of o.origin w)) t f here (setting.initialize t ∙ op)) (tt, tt)
+            (go ∙ enter_shows (slice_get code.entries.items f) (starts s) (home_of o.origin w) (holding (Binds s.object s.offset s.path) ∷ []) AfterBody (Initializing (new_part s t master) ∷ ks) l w)))
 
         free : is_controlled k t ≡ false → step ask code (gives (Filling (new_part s t master) [] incomplete ∷ ks) (Fine Complete) l w) ≡ gives ks (Fine Complete) l w → goal (bind (own_initialize K s t paths c l w) (on_goes (begun K born s t)))
         free is go = subst goal (sym (none_is born s t paths c l w is)) (within ask code (Told k code w0) {A = Done} 1 3 3 3 s0 c (returns ks) (Gives (Goes tt) 0 c l w) (omega arith) (omega arith) (end_step ask code (Told k code w0) {A = Done} 3 s0 c 0 (returns ks) (Goes tt) l w (tt, fits) go))

@@ -1,5 +1,6 @@
 -- The code of each expression and of each actual that this version runs does what it means.
 use Rattle.std.proofs.Common.{◌≡◌, ℕ, List, [], ◌∷◌, ◌++◌, map, Option, Some, None, true, refl, sym, ap, ◌∙◌, subst}
+use Rattle.std.proofs.lemmas.Bool.{not-true}
 use Rattle.ctl_program.specs.declared.types.Ty.{Ty}
 use Rattle.ctl_program.specs.declared.types.Var.{Var}
 use Rattle.ctl_program.specs.declared.expression.Expr.{Expr, roll-Expr, map-Expr, ind-Expr}
@@ -156,7 +157,8 @@ module _ (ask : Ask) (k : Tables) (code : Code) (setting : Setting k code) (call
       meets y _ _ (value_roll y) (eval_roll y)
       (λ h.
       let g = both_true _ _ h in
-      function_value ask k code setting call default bound calls w0 f (map actual_code (map (λ z. z.0) xs)) (map supply (map (λ z. z.0) xs)) ty (scalar_if ty g.0) (actuals_too xs g.1))
+      let i = both_true _ _ g.1 in
+      function_value ask k code setting call default bound calls w0 f (map actual_code (map (λ z. z.0) xs)) (map supply (map (λ z. z.0) xs)) ty (scalar_if ty g.0) (not-true _ i.0) (actuals_too xs i.1))
   expr_rolled (Expr-F.Convert ty e) = missing_rolled (Expr-F.Convert ty e.0) (value_roll (Expr-F.Convert ty e.0))
   expr_rolled (Expr-F.Access v) = missing_rolled (Expr-F.Access v) (value_roll (Expr-F.Access v))
   expr_rolled (Expr-F.New access ty None None) = missing_rolled (Expr-F.New access ty None None) (value_roll (Expr-F.New access ty None None))
@@ -190,7 +192,7 @@ module _ (ask : Ask) (k : Tables) (code : Code) (setting : Setting k code) (call
       let g = both_true _ _ h in
       A.value_passes ask k code setting call default bound w0 (value_code e.0) (eval e.0 K) ty (scalar_if ty g.0) (e.1 g.1))
   actual_rolled (Actual-F.Part n ty) = passing (Actual-F.Part n.0 ty) _ _ (actual_roll (Actual-F.Part n.0 ty)) (supply_roll (Actual-F.Part n.0 ty)) (A.reference_passes ask k code setting call default bound w0 (reached_by n.0) ty (eval_name n.0) (name_leads K n.0))
-  actual_rolled (Actual-F.Copied n ty begins) = passing (Actual-F.Copied n.0 ty begins) _ _ (actual_roll (Actual-F.Copied n.0 ty begins)) (supply_roll (Actual-F.Copied n.0 ty begins)) (λ h. absurd (cc h))
+  actual_rolled (Actual-F.Copied n ty begins) = passing (Actual-F.Copied n.0 ty begins) _ _ (actual_roll (Actual-F.Copied n.0 ty begins)) (supply_roll (Actual-F.Copied n.0 ty begins)) (A.copy_passes ask k code setting call default bound w0 (reached_by n.0) ty begins (eval_name n.0) (λ v is. name_finds K n.0 (Variable v) is))
 
   -- Whole trees ---------------------------------------------------------------------------------------
 

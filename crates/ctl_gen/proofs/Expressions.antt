@@ -96,7 +96,7 @@ module _ (ask : Ask) (k : Tables) (code : Code) (bound : ℕ) (Fits : World → 
       ∙ ap (λ n. add 1 (add 1 (read_found n (InVariable (master_of d x) x.slot) c l w))) (scalar_cells k ty scalar)
 
   -- a variable of this window, or of a body around, goes where it is wanted
-  read_step : (at' : Option ℕ) (v : Var) (ty : Ty) (to : Cell) (s : List Kind) (d : List ℕ) (place : ℕ) (ks : List Frame) (ops : List Word) (l : Log) (w : World) → length d ≡ depth s → slice_get code.instructions.items place ≡ Some (read_from at' v ty to s) → step ask code (at d place ks ops l w) ≡ landed to.named d (place + 1) ks ops (Goes (value_of d v w ∷ [])) l w
+  pub read_step : (at' : Option ℕ) (v : Var) (ty : Ty) (to : Cell) (s : List Kind) (d : List ℕ) (place : ℕ) (ks : List Frame) (ops : List Word) (l : Log) (w : World) → length d ≡ depth s → slice_get code.instructions.items place ≡ Some (read_from at' v ty to s) → step ask code (at d place ks ops l w) ≡ landed to.named d (place + 1) ks ops (Goes (value_of d v w ∷ [])) l w
   read_step (Some n) v ty to s d place ks ops l w long has = by_code ask code d place ks ops l w (InstrOf.Move (local_cell s v n) ty to) has ∙ put_is to.named (cell_at d (out_to s v) v.slot w) d place ks ops l w ∙ ap (λ x. landed to.named d (place + 1) ks ops (Goes (x ∷ [])) l w) (cell_is d s v w long)
   read_step None v ty to s d place ks ops l w long has = by_code ask code d place ks ops l w (InstrOf.Fetch (out_to s v) v.slot ty to) has ∙ put_is to.named (cell_at d (out_to s v) v.slot w) d place ks ops l w ∙ ap (λ x. landed to.named d (place + 1) ks ops (Goes (x ∷ [])) l w) (cell_is d s v w long)
 

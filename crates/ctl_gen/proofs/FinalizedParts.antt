@@ -21,7 +21,7 @@ use Rattle.ctl_code.specs.declared.code.Begun.{Begun}
 use Rattle.ctl_code.specs.declared.code.Parts.{Parts}
 use Rattle.ctl_code.specs.declared.code.Parts.TheVariants as PartsOf
 use Rattle.ctl_code.specs.declared.code.Code.{Code}
-use Rattle.ctl_code.specs.States.{Handed, Complete, Frame, FinalizingOwn, FinalizingParts, State}
+use Rattle.ctl_code.specs.States.{Handed, Complete, AfterBody, Frame, FinalizingOwn, FinalizingParts, State}
 use Rattle.ctl_code.specs.Table as Table
 use Rattle.ctl_code.specs.Table.{component_of, controlled_of, finalize_component, finalize_left, finalize_own, handed, operation_of, or_complete, own_failed, part_at, parts_of, says_failed}
 use Rattle.ctl_code.specs.Steps.{moved, step, stepped}
@@ -304,8 +304,8 @@ module _ (ask : Ask) (k : Tables) (code : Code) (setting : Setting k code) (call
       let here : IsDeclarable code (length (home_of p.origin w)) t = declarable_later code around (length (home_of p.origin w)) t (was w p fits at) inside in
       subst (λ x. Finalizes 0 0 s0 c ks (after_own n s t x)) (sym (call_is ask k call default f s c (shown s) l w p at))
       (over n parts s t was old plain inside ks s0 c _ le
-      (calls.runs f body.0 body.1 wr (home_of p.origin w) (holding (Binds s.object s.offset s.path) ∷ []) (FinalizingOwn cause s t ∷ ks) c (tell (shown s) l) w s0 Procedure 1 refl le fits (finalize_in code setting.valid _ t f here (setting.finalize t ∙ op)) (tt, tt)
-      (go ∙ enter_shows (slice_get code.entries.items f) (shown s) (home_of p.origin w) (holding (Binds s.object s.offset s.path) ∷ []) (FinalizingOwn cause s t ∷ ks) l w)))
+      (calls.runs f body.0 body.1 wr (home_of p.origin w) (holding (Binds s.object s.offset s.path) ∷ []) AfterBody (FinalizingOwn cause s t ∷ ks) c (tell (shown s) l) w s0 Procedure 1 tt le fits (finalize_in code setting.valid _ t f here (setting.finalize t ∙ op)) (tt, tt)
+      (go ∙ enter_shows (slice_get code.entries.items f) (shown s) (home_of p.origin w) (holding (Binds s.object s.offset s.path) ∷ []) AfterBody (FinalizingOwn cause s t ∷ ks) l w)))
 
   -- each part
   pub part_runs : (n : ℕ) → PartsRun n

@@ -1,8 +1,13 @@
--- The code of a call is well formed where its actuals are: each of them is a new operand, and the call takes them all (6.4).
-use Rattle.std.proofs.Common.{◌≡◌, ℕ, suc, ◌+◌, List, [], ◌∷◌, ◌++◌, length, Option, Some, None, true, refl, sym, ap, ◌∙◌, subst, arith}
+-- The code of a call is well formed where its actuals are: each of them is a new operand, the call takes them all, and copies go back from
+-- what it leaves (6.4, 6.4.1).
+use Rattle.std.proofs.Common.{◌≡◌, ℕ, zero, suc, ◌+◌, ◌≤◌, List, [], ◌∷◌, drop, length, Option, Some, None, Bool, true, false, refl, sym, ap, ◌∙◌, subst, arith}
+use Rattle.std.specs.Prelude.{if◌then◌else◌}
 use Rattle.ctl_program.specs.declared.types.Ty.{Ty}
 use Rattle.ctl_program.specs.declared.types.Ty.TheVariants.{Integer, Count, Boolean, Address, Handle, Access, Record}
 use Rattle.ctl_program.specs.declared.types.RecordType.{RecordType}
+use Rattle.ctl_program.specs.declared.types.Var.{Var}
+use Rattle.ctl_program.specs.declared.operators.CopyStart.{CopyStart}
+use Rattle.ctl_program.specs.declared.operators.CopyStart.TheVariants as CopyStartOf
 use Rattle.ctl_program.specs.declared.operators.SubprogramKind.{SubprogramKind}
 use Rattle.ctl_program.specs.declared.operators.SubprogramKind.TheVariants.{Procedure, Function}
 use Rattle.ctl_well_typed.specs.Setting as W
@@ -15,18 +20,20 @@ use Rattle.ctl_code.specs.declared.code.Instr.TheVariants as InstrOf
 use Rattle.ctl_code.specs.declared.code.Code.{Code}
 use Rattle.ctl_code.specs.Windows.{depth, height}
 use Rattle.ctl_code.specs.Valid as Valid
-use Rattle.ctl_code.specs.Valid.{HasFormals, HaveOperands, IsCalled, IsFine, IsInScope, Leads}
-use Rattle.ctl_layout.specs.Around.{new_operand}
-use Rattle.ctl_layout.specs.Parts.{Reached}
+use Rattle.ctl_code.specs.Valid.{HasFormals, HaveNumbers, HaveOperands, IsCalled, IsCellOf, IsFine, IsInScope, Leads, over_numbers}
+use Rattle.ctl_code.proofs.Numbered.{below_over, have_over}
+use Rattle.ctl_layout.specs.Around.{new_operand, out_to}
+use Rattle.ctl_layout.specs.Parts.{Reached, Part, Variable}
 use Rattle.ctl_layout.specs.Records.{is_run_type}
-use Rattle.ctl_layout.specs.Values.{ActualCode, ValueCode, actuals_code, by_reference, by_value, evaluates_code, function_call, moved_to, with_actuals}
+use Rattle.ctl_layout.specs.Layout.{calls_code}
+use Rattle.ctl_layout.specs.Values.{ActualCode, ValueCode, actuals_code, back_to, backs_code, begins_code, by_copy, by_reference, by_value, copied_back, copies_code, copies_of, evaluates_code, function_call, goes_back, moved_to, read, with_actuals}
 use Rattle.ctl_layout.proofs.Extensions.{both_true}
 use Rattle.ctl_gen.specs.Emitted.{taking_actuals}
-use Rattle.ctl_gen.proofs.EmittedCalls.{actuals_left}
+use Rattle.ctl_gen.proofs.EmittedCalls.{actuals_left, height_over}
 use Rattle.ctl_gen.proofs.Formed.{Behind, Formed, both, none, one}
 use Rattle.ctl_gen.proofs.FormedParts.{part_formed}
 use Rattle.ctl_gen.proofs.FormedTypes.{run_scalar}
-use Rattle.ctl_gen.proofs.FormedValues.{Fine, Own, Usable, moved_formed, usable_as, with_put}
+use Rattle.ctl_gen.proofs.FormedValues.{Fine, Own, Usable, moved_formed, puts, read_own, usable_as, with_put}
 
 -- What stands there with the actuals --------------------------------------------------------------
 
@@ -46,6 +53,73 @@ actuals_stand actuals s =
 as_deep : (actuals : List ActualCode) (s : List Kind) → depth (with_actuals actuals s) ≡ depth s
 as_deep [] s = refl
 as_deep (a ∷ more) s = as_deep more (Operand a.ty ∷ s)
+
+-- What stands there with copies -------------------------------------------------------------------
+
+-- some numbers, and then others
+over_both : (i n : ℕ) (s : List Kind) → over_numbers (i + n) s ≡ over_numbers n (over_numbers i s)
+over_both zero n s = let same : 0 + n ≡ n = omega arith in ap (λ m. over_numbers m s) same
+over_both (suc i) n s = let same : suc i + n ≡ suc (i + n) = omega arith in ap (λ m. over_numbers m s) same ∙ over_both i n (Operand Integer ∷ s)
+
+-- no more go back than there are actuals
+no_more_back : (actuals : List ActualCode) → copies_of actuals ≤ length actuals
+no_more_back actuals = by (goes_back actuals)
+  where
+    by : (b : Bool) → (if b then length actuals else 0) ≤ length actuals
+    by true = omega arith
+    by false = omega arith
+
+-- a copy may begin with 0
+begins_cell : (t : Ty) → Valid.IsScalar t → IsCellOf t 0
+begins_cell Integer scalar = tt
+begins_cell Count scalar = tt
+begins_cell Boolean scalar = omega arith
+begins_cell Address scalar = tt
+begins_cell Handle scalar = tt
+begins_cell (Access a) scalar = absurd scalar
+begins_cell (Record t) scalar = absurd scalar
+
+module _ (code : Code) where
+  -- Copies that go back ------------------------------------------------------------------------------
+
+  -- one of so many numbers, the first of which stands over the first `i` of all
+  back_formed : (o : Option Var) (i from : ℕ) (s : List Kind) → 1 ≤ from → Formed code (back_to o from (height s + i) (over_numbers (i + from) s)) (over_numbers (i + from) s) (Some (over_numbers (i + from) s))
+  back_formed None i from s some = none code (over_numbers (i + from) s)
+  back_formed (Some v) i from s some =
+      let top = over_numbers (i + from) s in
+      let same = over_both i from s in
+      let below : drop from top ≡ over_numbers i s = ap (drop from) same ∙ below_over from (over_numbers i s) in
+      one code (InstrOf.CopyBack from (height s + i) (out_to top v) v.slot) top (Some top) (λ p next. (some, subst (HaveNumbers from) (sym same) (have_over from (over_numbers i s)), sym (ap height below ∙ height_over i s), next))
+
+  -- those that are left, over the first `i` of all
+  backs_formed : (actuals : List ActualCode) (i n : ℕ) (s : List Kind) → i + length actuals ≡ n → Formed code (backs_code actuals (height s + i) (over_numbers n s)) (over_numbers n s) (Some (over_numbers n s))
+  backs_formed [] i n s all = none code (over_numbers n s)
+  backs_formed (a ∷ more) i n s all =
+      let top = over_numbers n s in
+      let from = length more + 1 in
+      let whole : i + from ≡ n = omega (arith, all) in
+      let further : i + 1 + length more ≡ n = omega (arith, all) in
+      let next : height s + (i + 1) ≡ height s + i + 1 = omega arith in
+      both code (back_to a.back from (height s + i) top) (backs_code more (height s + i + 1) top) top top (Some top)
+      (subst (λ m. Formed code (back_to a.back from (height s + i) (over_numbers m s)) (over_numbers m s) (Some (over_numbers m s))) whole (back_formed a.back i from s (omega arith)))
+      (subst (λ at. Formed code (backs_code more at top) top (Some top)) next (backs_formed more (i + 1) n s further))
+
+  -- all of them, and then they are dropped
+  copied_back_formed : (actuals : List ActualCode) (s : List Kind) → Formed code (copied_back actuals (length actuals) s) (over_numbers (length actuals) s) (Some s)
+  copied_back_formed actuals s =
+      let n = length actuals in
+      let top = over_numbers n s in
+      let none_yet : height s + 0 ≡ height s = omega arith in
+      both code (backs_code actuals (height s) top) ((InstrOf.Discard n, top) ∷ []) top top (Some s)
+      (subst (λ at. Formed code (backs_code actuals at top) top (Some top)) none_yet (backs_formed actuals 0 n s (omega arith)))
+      (one code (InstrOf.Discard n) top (Some s) (λ p next. (have_over n s, subst (Leads code (p + 1)) (sym (below_over n s)) next)))
+
+  copies_formed : (actuals : List ActualCode) (s : List Kind) → Formed code (copies_code actuals s) (over_numbers (copies_of actuals) s) (Some s)
+  copies_formed actuals s = by (goes_back actuals)
+    where
+      by : (b : Bool) → Formed code (if b then copied_back actuals (length actuals) s else []) (over_numbers (if b then length actuals else 0) s) (Some s)
+      by true = copied_back_formed actuals s
+      by false = none code s
 
 -- Subprograms that are called ---------------------------------------------------------------------
 
@@ -86,10 +160,15 @@ module _ (code : Code) (masters : ℕ) where
   called : (kind : SubprogramKind) (f : ℕ) (actuals : List ActualCode) (s : List Kind) → depth s ≡ masters → IsInScope code masters (Some f) → HasFormals code kind f (length actuals) → IsCalled code kind f (length actuals) (with_actuals actuals s)
   called kind f actuals s deep scope formals = (subst (λ n. IsInScope code n (Some f)) (sym (as_deep actuals s ∙ deep)) scope, formals, actuals_stand actuals s)
 
-  pub call_formed : (f : ℕ) (actuals : List ActualCode) (s : List Kind) → depth s ≡ masters → IsInScope code masters (Some f) → HasFormals code Procedure f (length actuals) → GoodActuals actuals → Formed code (taking_actuals (InstrOf.Call f (length actuals)) actuals s) s (Some s)
+  pub call_formed : (f : ℕ) (actuals : List ActualCode) (s : List Kind) → depth s ≡ masters → IsInScope code masters (Some f) → HasFormals code Procedure f (length actuals) → GoodActuals actuals → Formed code (calls_code f actuals s) s (Some s)
   call_formed f actuals s deep scope formals good =
-      taking_formed (InstrOf.Call f (length actuals)) actuals s (Some s) deep good
-      (λ p next. (called Procedure f actuals s deep scope formals, subst (Leads code (p + 1)) (sym (actuals_left actuals s)) next))
+      let copies = copies_of actuals in
+      let i = InstrOf.Call f (length actuals) copies in
+      let top = over_numbers copies s in
+      both code (taking_actuals i actuals s) (copies_code actuals s) s top (Some s)
+      (taking_formed i actuals s (Some top) deep good
+      (λ p next. (called Procedure f actuals s deep scope formals, no_more_back actuals, subst (λ r. Leads code (p + 1) (over_numbers copies r)) (sym (actuals_left actuals s)) next)))
+      (copies_formed code actuals s)
 
   -- the value of a function
   pub function_own : (f : ℕ) (actuals : List ActualCode) (ty : Ty) → Valid.IsScalar ty → IsInScope code masters (Some f) → HasFormals code Function f (length actuals) → GoodActuals actuals → Own code masters (function_call f actuals ty) ty
@@ -127,6 +206,16 @@ module _ (code : Code) (masters : ℕ) where
     reference_good (Some o) Address runs s deep = absurd (cc)
     reference_good (Some o) Handle runs s deep = absurd (cc)
     reference_good (Some o) (Access a) runs s deep = absurd (cc)
+
+    -- what a copy of a variable begins with
+    begins_good : (begins : CopyStart) (v : Var) (t : Ty) → (read (Some (Variable v)) t).runs records ≡ true → (s : List Kind) → depth s ≡ masters → Formed code (begins_code begins v t s) s (Some (Operand t ∷ s))
+    begins_good CopyStartOf.Actual v t runs s deep = (read_own code masters records (Some (Variable v)) t runs).usable.formed (new_operand s) s deep refl
+    begins_good CopyStartOf.Beginning v t runs s deep = one code (InstrOf.Set 0 t (new_operand s)) s (Some (Operand t ∷ s)) (λ p next. (begins_cell t (run_scalar t runs), puts code p (new_operand s) t s refl next))
+
+    pub copy_good : (o : Option Reached) (t : Ty) (begins : CopyStart) → (by_copy o t begins).runs records ≡ true → GoodActual (by_copy o t begins)
+    copy_good None t begins runs s deep = absurd (cc)
+    copy_good (Some (Part v steps u position)) t begins runs s deep = absurd (cc)
+    copy_good (Some (Variable v)) t begins runs s deep = begins_good begins v t runs s deep
 
     -- another name of the same actual
     pub good_as : (a b : ActualCode) → a ≡ b → (b.runs records ≡ true → GoodActual b) → a.runs records ≡ true → GoodActual a

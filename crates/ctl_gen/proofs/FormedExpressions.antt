@@ -1,7 +1,7 @@
 -- The code of a well-typed expression is well formed, and puts a value of its type where it is wanted; and so is that of well-typed actuals,
 -- which hold expressions.
-use Rattle.std.proofs.Common.{◌≡◌, ℕ, suc, List, [], ◌∷◌, length, map, Option, None, true, inl, inr, refl, sym, ap, ◌∙◌, subst}
-use Rattle.std.specs.Prelude.{◌&&◌}
+use Rattle.std.proofs.Common.{◌≡◌, ℕ, suc, List, ◌∷◌, length, map, Option, None, true, inl, inr, refl, sym, ap, ◌∙◌, subst}
+use Rattle.std.specs.Prelude.{◌&&◌, not}
 use Rattle.ctl_program.specs.declared.types.Ty.{Ty}
 use Rattle.ctl_program.specs.declared.types.Ty.TheVariants.{Boolean}
 use Rattle.ctl_program.specs.declared.types.Ty.TheVariants as TyOf
@@ -19,12 +19,12 @@ use Rattle.ctl_code.specs.declared.code.Code.{Code}
 use Rattle.ctl_code.specs.Valid as Valid
 use Rattle.ctl_code.specs.Valid.{HasFormals}
 use Rattle.ctl_layout.specs.Records.{is_run_type}
-use Rattle.ctl_layout.specs.Values.{OperatorCode, ValueCode, actual_code, actuals_run, chain, missing_actual, missing_value, operator_of, operators_run, reached_by, value_code, values_run}
+use Rattle.ctl_layout.specs.Values.{OperatorCode, ValueCode, actual_code, actuals_run, chain, goes_back, missing_value, operator_of, operators_run, reached_by, value_code, values_run}
 use Rattle.ctl_layout.proofs.Extensions.{both_true}
 use Rattle.ctl_layout.proofs.Layers.{actual_copied, actual_part, actual_value, value_access, value_call, value_chain, value_constant, value_convert, value_discriminant, value_new, value_read, value_short, value_subpool, value_unary}
 use Rattle.ctl_layout.proofs.TreeLayers.{operator_roll}
 use Rattle.ctl_gen.proofs.Formed.{none}
-use Rattle.ctl_gen.proofs.FormedCalls.{GoodActual, GoodActuals, MayCall, function_own, good_as, kind_by, reference_good, value_good}
+use Rattle.ctl_gen.proofs.FormedCalls.{GoodActual, GoodActuals, MayCall, copy_good, function_own, good_as, kind_by, reference_good, value_good}
 use Rattle.ctl_gen.proofs.FormedTypes.{joins_scalar, run_scalar, takes_unary}
 use Rattle.ctl_gen.proofs.FormedValues.{Conditions, Fine, Operating, chain_own, first_joins, next_condition, next_joins, next_operating, none_operating, read_own, short_own, unary_own, usable_as}
 
@@ -67,8 +67,9 @@ module _ (code : Code) (records : List RecordType) where
           fine_as (length env) _ _ t same (inl (read_own code (length env) records (reached_by x) t (runs_as _ _ same runs)))
       typed_fine {env} (T.call {s = f} {is = is} {actuals = actuals} {t = t} callable gives fits) runs =
           let same = value_call f actuals t in
-          let e = both_true (is_run_type t) (actuals_run (map actual_code actuals) records) (runs_as _ _ same runs) in
-          fine_as (length env) _ _ t same (inl (function_own code (length env) f (map actual_code actuals) t (run_scalar t e.0) (may_call env f is callable).0 (has_formals code k may_call callable gives fits) (actuals_good fits e.1)))
+          let e = both_true (is_run_type t) (not (goes_back (map actual_code actuals)) && actuals_run (map actual_code actuals) records) (runs_as _ _ same runs) in
+          let g = both_true (not (goes_back (map actual_code actuals))) (actuals_run (map actual_code actuals) records) e.1 in
+          fine_as (length env) _ _ t same (inl (function_own code (length env) f (map actual_code actuals) t (run_scalar t e.0) (may_call env f is callable).0 (has_formals code k may_call callable gives fits) (actuals_good fits g.1)))
       typed_fine {env} (T.unary {o = o} {x = x} {t = t} takes h) runs =
           let same = value_unary o t x in
           let u = takes_unary o t takes in
@@ -114,7 +115,7 @@ module _ (code : Code) (records : List RecordType) where
       actual_good : {env : W.Frames} {f : W.Formal} {a : Actual} → Fits k env f a → (actual_code a).runs records ≡ true → GoodActual code (length env) (actual_code a)
       actual_good {env} (T.by_value {x = x} {s = s} {t = t} covers typed) = good_as code (length env) records _ _ (actual_value x t) (value_good code (length env) records (value_code x) k t s covers (λ runs. typed_fine typed runs))
       actual_good {env} (T.by_reference {x = x} {t = t} from to denotes) = good_as code (length env) records _ _ (actual_part x t) (reference_good code (length env) records (reached_by x) t)
-      actual_good {env} (T.by_copy {x = x} {p = p} {t = t} written scalar denotes) = good_as code (length env) records _ (missing_actual None t) (actual_copied x t (J.copy_of p t)) (λ runs s deep. absurd (cc))
+      actual_good {env} (T.by_copy {x = x} {p = p} {t = t} written scalar denotes) = good_as code (length env) records _ _ (actual_copied x t (J.copy_of p t)) (copy_good code (length env) records (reached_by x) t (J.copy_of p t))
 
       pub actuals_good : {env : W.Frames} {fs : List W.Formal} {actuals : List Actual} → FitEach k env fs actuals → actuals_run (map actual_code actuals) records ≡ true → GoodActuals code (length env) (map actual_code actuals)
       actuals_good T.no_more_formals runs = tt

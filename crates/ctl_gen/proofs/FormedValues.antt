@@ -1,6 +1,6 @@
 -- The code of an expression is well formed where its parts are, and puts a value of its type where it is wanted.
 use Rattle.std.proofs.Common.{◌≡◌, ℕ, ◌+◌, List, [], ◌∷◌, ◌++◌, length, Option, Some, None, true, ◌⊎◌, inl, inr, refl, sym, ap, ◌∙◌, subst}
-use Rattle.std.specs.Prelude.{◌&&◌, unwrap_or}
+use Rattle.std.specs.Prelude.{unwrap_or}
 use Rattle.ctl_program.specs.declared.types.Ty.{Ty}
 use Rattle.ctl_program.specs.declared.types.Ty.TheVariants.{Integer, Boolean}
 use Rattle.ctl_program.specs.declared.types.Ty.TheVariants as TyOf

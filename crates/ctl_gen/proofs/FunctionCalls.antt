@@ -1,5 +1,5 @@
 -- Calls of functions as values: behind the code of the actuals the body is entered, and its value goes where it is wanted (6.4, 6.5).
-use Rattle.std.proofs.Common.{◌≡◌, ℕ, ◌+◌, List, [], ◌∷◌, ◌++◌, length, refl, sym, ap, ◌∙◌, subst, arith, length-append}
+use Rattle.std.proofs.Common.{◌≡◌, ℕ, ◌+◌, List, [], ◌∷◌, ◌++◌, length, false, refl, sym, ap, ◌∙◌, subst, arith, length-append}
 use Rattle.ctl_program.specs.declared.types.Ty.{Ty}
 use Rattle.ctl_program.specs.declared.operators.SubprogramKind.TheVariants.{Function}
 use Rattle.ctl_meaning.specs.World.{Log, World}
@@ -14,17 +14,17 @@ use Rattle.ctl_code.specs.declared.code.Cell.{Cell}
 use Rattle.ctl_code.specs.declared.code.Instr.TheVariants as InstrOf
 use Rattle.ctl_code.specs.declared.code.Code.{Code}
 use Rattle.ctl_code.specs.declared.kinds.Kind.{Kind}
-use Rattle.ctl_code.specs.States.{Word, Frame}
+use Rattle.ctl_code.specs.States.{Word, AfterFunction, Frame}
 use Rattle.ctl_code.specs.Windows.{height}
-use Rattle.ctl_layout.specs.Values.{ActualCode, actuals_code, evaluates_code, function_call, moved_to, with_actuals}
+use Rattle.ctl_layout.specs.Values.{ActualCode, actuals_code, evaluates_code, function_call, goes_back, moved_to, with_actuals}
 use Rattle.ctl_gen.proofs.Known.{IsScalar}
 use Rattle.ctl_gen.proofs.Values.{scalar_cells}
 use Rattle.ctl_gen.proofs.Worlds.{Since}
-use Rattle.ctl_gen.proofs.Setting.{Setting, Calls, Told, tools_with}
+use Rattle.ctl_gen.proofs.Setting.{Setting, Calls, Told, returned_to, tools_with}
 use Rattle.ctl_gen.proofs.Cells.{Any, OneCell, by_code, landed, landed_leaves}
 use Rattle.ctl_gen.proofs.Place.{Laid, laid_front, laid_back}
 use Rattle.ctl_gen.proofs.Actuals as A
-use Rattle.ctl_gen.proofs.Calls.{returned_to, called_runs, point_at}
+use Rattle.ctl_gen.proofs.Calls.{Calling, called_runs, nothing_back, point_at}
 use Rattle.ctl_gen.proofs.Expressions.{Value, moved_by}
 use Rattle.ctl_gen.proofs.Follow.{RunsTo, at, both_to, by_raise, no_step_to, transferred, way_of}
 
@@ -47,7 +47,7 @@ module _ (ask : Ask) (k : Tables) (code : Code) (setting : Setting k code) (call
   one_value ty scalar r c l w = ap (λ n. Gives (Goes (first_cells n r.cells)) 0 c l w) (scalar_cells k ty scalar) ∙ ap (λ v. Gives (Goes v) 0 c l w) (first_is r.cells)
 
   -- a new operand, and then where it is wanted
-  value_runs : (ty : Ty) → IsScalar ty → (to : Cell) (t : Ty) (s : List Kind) (d : List ℕ) (place : ℕ) (ks : List Frame) (ops : List Word) → Laid code place (moved_to to t s) → (r : Result Returned) (c : ℕ) (l : Log) (w : World) → Told k code w0 (way_of r) w → RunsTo ask code (OneCell (Since k code w0) Any) 1 1 (returned_to Function (point_at d place ops) ks r l w) c (landed to.named d (place + length (moved_to to t s)) ks ops) (on_goes (value_of ty) r c l w)
+  value_runs : (ty : Ty) → IsScalar ty → (to : Cell) (t : Ty) (s : List Kind) (d : List ℕ) (place : ℕ) (ks : List Frame) (ops : List Word) → Laid code place (moved_to to t s) → (r : Result Returned) (c : ℕ) (l : Log) (w : World) → Told k code w0 (way_of r) w → RunsTo ask code (OneCell (Since k code w0) Any) 1 1 (returned_to (AfterFunction (point_at d place ops)) ks r l w) c (landed to.named d (place + length (moved_to to t s)) ks ops) (on_goes (value_of ty) r c l w)
   unfolding opened_outcome
   value_runs ty scalar to t s d place ks ops has (Goes r) c l w told =
       subst (RunsTo ask code (OneCell (Since k code w0) Any) 1 1 _ c (landed to.named d (place + length (moved_to to t s)) ks ops)) (sym (one_value ty scalar r c l w))
@@ -57,11 +57,12 @@ module _ (ask : Ask) (k : Tables) (code : Code) (setting : Setting k code) (call
       (λ e. no_step_to ask code (OneCell (Since k code w0) Any) 1 1 _ c 0 (landed to.named d (place + length (moved_to to t s)) ks ops) (Leaves (ByRaise e)) l w (told.1, tt) (landed_leaves to.named d (place + length (moved_to to t s)) ks ops (ByRaise e) l w)) y told.0
 
   -- its first tick pays what its actuals do not
-  pub function_value : (f : ℕ) (xs : List ActualCode) (ms : List Supplied) (ty : Ty) → IsScalar ty → A.EachPasses ask k code setting call default bound w0 xs ms → Value ask k code bound (Since k code w0) (function_call f xs ty) (λ d. ticked (pass_each K d ms no_actuals >>= call_with K d f >>= value_of ty))
+  pub function_value : (f : ℕ) (xs : List ActualCode) (ms : List Supplied) (ty : Ty) → IsScalar ty → goes_back xs ≡ false → A.EachPasses ask k code setting call default bound w0 xs ms → Value ask k code bound (Since k code w0) (function_call f xs ty) (λ d. ticked (pass_each K d ms no_actuals >>= call_with K d f >>= value_of ty))
   unfolding opened_outcome
-  function_value f xs ms ty scalar each = record {
+  function_value f xs ms ty scalar none each = record {
     begins = λ to t s d place ks ops c l w le fits long has.
         let i = InstrOf.Evaluate f (length xs) t (height s) in
+        let calling : Calling ask k code setting call default bound calls Function AfterFunction i f (length xs) = record { ends = λ p. tt; enters = λ d1 place1 ks1 ops1 l1 w1 here1. by_code ask code d1 place1 ks1 ops1 l1 w1 i here1 } in
         let js = evaluates_code f xs t s in
         let front = laid_front code place js (moved_to to t s) has in
         let last = laid_back code place (actuals_code xs s) ((i, with_actuals xs s) ∷ []) front in
@@ -72,8 +73,10 @@ module _ (ask : Ask) (k : Tables) (code : Code) (setting : Setting k code) (call
           out = out;
           is = refl;
           runs = subst (λ n. RunsTo ask code (OneCell (Since k code w0) Any) 8 8 (at d place ks ops l w) c (landed to.named d n ks ops) out) end
-              (both_to ask code (λ r. Told k code w0 (way_of r)) (OneCell (Since k code w0) Any) 3 3 1 1 8 8 _ c (returned_to Function (point_at d (place + length js) ops) ks) (landed to.named d (place + length js + length (moved_to to t s)) ks ops) (bind (pass_each K d ms no_actuals c l w) (on_goes (call_with K d f))) (on_goes (value_of ty)) (omega arith) (omega arith) (omega arith)
-              (called_runs ask k code setting call default bound calls Function i f xs ms (λ d1 place1 ks1 ops1 l1 w1 here1. by_code ask code d1 place1 ks1 ops1 l1 w1 i here1) w0 each s d place ks ops c l w le fits long fine.1 front)
+              (both_to ask code (λ r. Told k code w0 (way_of r)) (OneCell (Since k code w0) Any) 4 4 1 1 8 8 _ c (returned_to (AfterFunction (point_at d (place + length js) ops)) ks) (landed to.named d (place + length js + length (moved_to to t s)) ks ops) (bind (pass_each K d ms no_actuals c l w) (on_goes (call_with K d f))) (on_goes (value_of ty)) (omega arith) (omega arith) (omega arith)
+              (called_runs ask k code setting call default bound calls Function AfterFunction i f xs ms calling 0 (omega arith) w0 each s d place ks ops (returned_to (AfterFunction (point_at d (place + length js) ops)) ks) c l w le fits long fine.1 front
+              (nothing_back ask k code setting call default bound calls w0 xs d c (λ os. AfterFunction (point_at d (place + length js) os)) ks ops (returned_to (AfterFunction (point_at d (place + length js) ops)) ks) none (λ r l1 w1 told. refl))
+              (λ e l1 w1. refl))
               (λ r c1 l1 w1 lo told. value_runs ty scalar to t s d (place + length js) ks ops (laid_back code place js (moved_to to t s) has) r c1 l1 w1 told));
         };
     constant = λ n is d c l w. absurd (cc);

@@ -4,7 +4,7 @@ use Rattle.std.specs.Prelude.{◌||◌, slice_get}
 use Rattle.ctl_program.specs.declared.types.Ty.{Ty}
 use Rattle.ctl_program.specs.declared.types.Ty.TheVariants.{Integer, Count, Boolean, Address, Handle, Access, Record}
 use Rattle.ctl_tree.specs.declared.ending.Stop.TheVariants.{UseAfterFree}
-use Rattle.ctl_meaning.specs.World.{Object, Layer, Single, Sets, Log, World}
+use Rattle.ctl_meaning.specs.World.{Slot, Object, Layer, Single, Sets, Log, World}
 use Rattle.ctl_meaning.specs.Ledger.{layers_of, drop_layer}
 use Rattle.ctl_meaning.specs.Activations.{slots_in, activation_at}
 use Rattle.ctl_meaning.specs.Changes.{object_at, take_layer, close_master}
@@ -17,7 +17,7 @@ use Rattle.ctl_meaning.specs.Masters as Masters
 use Rattle.ctl_meaning.specs.Masters.{Left, finalize_layer, leave_layers, left, leave}
 use Rattle.ctl_code.specs.declared.code.Code.{Code}
 use Rattle.ctl_code.specs.declared.code.Instr.TheVariants as InstrOf
-use Rattle.ctl_code.specs.States.{After, Frame, Handling, handling, InMaster, Leaving, State}
+use Rattle.ctl_code.specs.States.{After, AfterBlock, AfterProcedure, AfterFunction, AfterBody, Frame, Handling, handling, InMaster, Leaving, State}
 use Rattle.ctl_code.specs.Table as Table
 use Rattle.ctl_code.specs.Table.{behind, by_transfer, handlers_in, finalize_declared, next_layer}
 use Rattle.ctl_code.specs.Steps.{moved, step}
@@ -32,8 +32,15 @@ use Rattle.ctl_gen.proofs.Follow.{Runs, Comes, OutOf, at, transferred, arrives, 
 
 -- where the end of a master leads
 abbrev pub leaves : After → List Frame → Result Left → Log → World → State
-leaves after ks (Goes x) l w = moved l (behind after x.result ks w)
-leaves after ks (Leaves y) l w = moved l (behind after (Leaves y) ks w)
+leaves after ks (Goes x) l w = moved l (behind after x.result x.slots ks w)
+leaves after ks (Leaves y) l w = moved l (behind after (Leaves y) [] ks w)
+
+-- an exception leads there whatever the slots of the master held
+raised_behind : (after : After) (e : ℕ) (slots : List Slot) (ks : List Frame) (w : World) → behind after (Leaves (ByRaise e)) slots ks w ≡ behind after (Leaves (ByRaise e)) [] ks w
+raised_behind (AfterBlock p) e slots ks w = refl
+raised_behind (AfterProcedure copies p) e slots ks w = refl
+raised_behind (AfterFunction p) e slots ks w = refl
+raised_behind AfterBody e slots ks w = refl
 
 -- The step that leaves a master ---------------------------------------------------------------------
 
@@ -110,7 +117,8 @@ module _ (ask : Ask) (k : Tables) (code : Code) (setting : Setting k code) (call
   -- the layers that are left, from the step that begins with them
   layers_run : (xs : List Layer) (failed : Bool) (r : Result Done) (m : ℕ) (after : After) (w0 : World) (ks : List Frame) (c : ℕ) (l : Log) (w : World) (s0 : State) → w0.ledger.next_master ≤ m → c ≤ bound → Since k code w0 w → Each IsSingle xs → step ask code s0 ≡ moved l (next_layer code m xs failed r after ks w) → Runs ask code (Told k code w0) 1 1 s0 c (leaves after ks) (bind (leave_layers K m xs failed c l w) (on_goes (left m r)))
   unfolding picked opened_outcome leave_layers left program_error_if
-  layers_run [] true r m after w0 ks c l w s0 young le fits known first = end_step ask code (Told k code w0) 1 s0 c _ (leaves after ks) (Leaves (ByRaise program_error)) l (close_master m w) (tt, since_close k code m w0 w young fits) first
+  layers_run [] true r m after w0 ks c l w s0 young le fits known first = end_step ask code (Told k code w0) 1 s0 c _ (leaves after ks) (Leaves (ByRaise program_error)) l (close_master m w) (tt, since_close k code m w0 w young fits)
+      (first ∙ ap (moved l) (raised_behind after program_error (slots_in (activation_at m w.activations)) ks (close_master m w)))
   layers_run [] false r m after w0 ks c l w s0 young le fits known first = end_step ask code (Told k code w0) 1 s0 c _ (leaves after ks) (Goes (record { result = r; slots = slots_in (activation_at m w.activations) })) l (close_master m w) (tt, since_close k code m w0 w young fits) first
   layers_run (Sets s ∷ xs) failed r m after w0 ks c l w s0 young le fits known first = absurd known.0
   layers_run (Single n ∷ xs) failed r m after w0 ks c l w s0 young le fits known first =

@@ -39,6 +39,7 @@ pub mod Declare
 pub mod Copies
 pub mod RecordAssign
 pub mod Actuals
+pub mod CopiesBack
 pub mod Calls
 pub mod FunctionCalls
 pub mod Texts

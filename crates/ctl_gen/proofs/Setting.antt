@@ -5,7 +5,7 @@ use Rattle.ctl_program.specs.declared.program.Subprogram.{Subprogram}
 use Rattle.ctl_program.specs.declared.types.Ty.TheVariants.{Record}
 use Rattle.ctl_program.specs.declared.types.RecordType.{RecordType}
 use Rattle.ctl_program.specs.declared.operators.SubprogramKind.{SubprogramKind}
-use Rattle.ctl_program.specs.declared.operators.SubprogramKind.TheVariants.{Function}
+use Rattle.ctl_program.specs.declared.operators.SubprogramKind.TheVariants.{Procedure, Function}
 use Rattle.ctl_tree.specs.declared.event.Event.{Event}
 use Rattle.ctl_meaning.specs.World.{Log, World, Slot}
 use Rattle.ctl_meaning.specs.Lists.{last_of}
@@ -17,8 +17,8 @@ use Rattle.ctl_code.specs.declared.code.Entry.{Entry}
 use Rattle.ctl_code.specs.declared.code.Instr.TheVariants as InstrOf
 use Rattle.ctl_code.specs.declared.code.Code.{Code}
 use Rattle.ctl_code.specs.declared.kinds.Kind.{Kind}
-use Rattle.ctl_code.specs.States.{Handed, Complete, WithValue, Frame, State}
-use Rattle.ctl_code.specs.Table.{awaited, enter_body, offset_of, operation_of, or_complete, size_of}
+use Rattle.ctl_code.specs.States.{Scalar, Handed, Complete, After, AfterBlock, AfterProcedure, AfterFunction, AfterBody, Frame, State}
+use Rattle.ctl_code.specs.Table.{enter_body, offset_of, operation_of, or_complete, size_of, with_values}
 use Rattle.ctl_code.specs.Steps.{moved, step}
 use Rattle.ctl_code.specs.Valid.{IsValid, kinds_at}
 use Rattle.ctl_code.specs.Windows.{depth}
@@ -27,7 +27,7 @@ use Rattle.ctl_layout.specs.Run.{IsBody}
 use Rattle.ctl_gen.proofs.Parted.{Agree, GivesDefaults}
 use Rattle.ctl_gen.proofs.Worlds.{Each, HoldsNoCopy, Since, home}
 use Rattle.ctl_gen.proofs.Scopes.{IsCallable}
-use Rattle.ctl_gen.proofs.Follow.{IsRaise, Runs, gives}
+use Rattle.ctl_gen.proofs.Follow.{IsRaise, Runs, at, gives, transferred}
 
 -- the first cells of the components of types that are laid out are those of the tables
 abbrev pub ArePlaced : Tables → Code → Type 0
@@ -69,13 +69,22 @@ told (Leaves y) = or_complete (raised_by y)
 abbrev pub returns : {A : Type 0} → List Frame → Result A → Log → World → State
 returns ks r l w = gives ks (told r) l w
 
--- what a body of this kind hands on: a function its value
-abbrev pub handed_by : SubprogramKind → Result Returned → Tried Handed
-handed_by Function (Goes r) = Fine (WithValue (scalar_of r.cells))
-handed_by kind r = told r
+-- where the end of a body of this kind leads
+abbrev pub EndsIn : SubprogramKind → After → Type 0
+EndsIn Procedure (AfterProcedure copies p) = Unit {0}
+EndsIn Procedure AfterBody = Unit {0}
+EndsIn Function (AfterFunction p) = Unit {0}
+EndsIn _ _ = ⊥
 
-abbrev pub returns_by : SubprogramKind → List Frame → Result Returned → Log → World → State
-returns_by kind ks r l w = gives ks (handed_by kind r) l w
+-- what a body returns, there: what its formals held and the value of a function are operands behind the call, and an exception is under way;
+-- what waits for an operation is told how it ended
+abbrev pub returned_to : After → List Frame → Result Returned → Log → World → State
+returned_to AfterBody ks r l w = returns ks r l w
+returned_to (AfterBlock p) ks r l w = returns ks r l w
+returned_to (AfterProcedure copies p) ks (Goes r) l w = at p.display p.place ks (with_values copies r.slots p.operands) l w
+returned_to (AfterProcedure copies p) ks (Leaves y) l w = transferred y ks l w
+returned_to (AfterFunction p) ks (Goes r) l w = at p.display p.place ks (Scalar (scalar_of r.cells) ∷ p.operands) l w
+returned_to (AfterFunction p) ks (Leaves y) l w = transferred y ks l w
 
 -- nothing but an exception leaves a body
 abbrev pub IsTold : Option Way → Type 0
@@ -94,14 +103,14 @@ abbrev pub Sure : (k : Tables) (code : Code) → World → Option Way → World 
 Sure k code w0 y w = IsSure y × Since k code w0 w
 
 -- bodies behave, while at most this much is on the clock: from the state whose step enters the body, in so many masters as are around it,
--- over frames that wait for a body of its kind
+-- to where a body of its kind leads
 pub record Calls (ask : Ask) (k : Tables) (code : Code) (setting : Setting k code) (bound : ℕ) (call : Call) : Type 0 where
-  pub runs : (f : ℕ) (s : Subprogram) → slice_get setting.subprograms f ≡ Some s → (w0 : World) (v : List ℕ) (actuals : List Slot) (ks : List Frame) (c : ℕ) (l : Log) (w : World) (s0 : State) (kind : SubprogramKind) (count : ℕ) → awaited ks ≡ kind → c ≤ bound → Since k code w0 w → IsCallable code kind (length v) f count → Each HoldsNoCopy actuals → step ask code s0 ≡ moved l (enter_body (slice_get code.entries.items f) [] v actuals ks w) → Runs ask code (Told k code w0) 2 3 s0 c (returns_by kind ks) (call (OfSubprogram f actuals) v c l w)
+  pub runs : (f : ℕ) (s : Subprogram) → slice_get setting.subprograms f ≡ Some s → (w0 : World) (v : List ℕ) (actuals : List Slot) (after : After) (ks : List Frame) (c : ℕ) (l : Log) (w : World) (s0 : State) (kind : SubprogramKind) (count : ℕ) → EndsIn kind after → c ≤ bound → Since k code w0 w → IsCallable code kind (length v) f count → Each HoldsNoCopy actuals → step ask code s0 ≡ moved l (enter_body (slice_get code.entries.items f) [] v actuals after ks w) → Runs ask code (Told k code w0) 2 3 s0 c (returned_to after ks) (call (OfSubprogram f actuals) v c l w)
 
 -- what is shown when a body is entered is shown before
-pub enter_shows : (x : Option Entry) (e : Event) (v : List ℕ) (actuals : List Slot) (k : List Frame) (l : Log) (w : World) → moved l (enter_body x (e ∷ []) v actuals k w) ≡ moved (tell e l) (enter_body x [] v actuals k w)
-enter_shows None e v actuals k l w = refl
-enter_shows (Some x) e v actuals k l w = refl
+pub enter_shows : (x : Option Entry) (e : Event) (v : List ℕ) (actuals : List Slot) (after : After) (k : List Frame) (l : Log) (w : World) → moved l (enter_body x (e ∷ []) v actuals after k w) ≡ moved (tell e l) (enter_body x [] v actuals after k w)
+enter_shows None e v actuals after k l w = refl
+enter_shows (Some x) e v actuals after k l w = refl
 
 -- where something stands there is an instruction
 pub never_missing : (code : Code) → IsValid code → (place : ℕ) (s : List Kind) → slice_get code.instructions.items place ≡ Some InstrOf.Missing → kinds_at code place ≡ Some s → ⊥

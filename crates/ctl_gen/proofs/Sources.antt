@@ -3,6 +3,7 @@ use Rattle.std.proofs.Common.{◌≡◌, ℕ, List, Option, Some, None, Bool, tr
 use Rattle.std.proofs.lemmas.Bool.{eqb-true}
 use Rattle.ctl_program.specs.declared.types.Ty.{Ty}
 use Rattle.ctl_program.specs.declared.types.Ty.TheVariants.{Integer, Count, Boolean, Address, Handle, Access, Record}
+use Rattle.ctl_program.specs.declared.operators.CopyStart.{CopyStart}
 use Rattle.ctl_program.specs.declared.expression.Expr.{Expr, out-Expr, roll-Expr, roll-out-Expr}
 use Rattle.ctl_program.specs.declared.expression.Name.{Name}
 use Rattle.ctl_program.specs.declared.expression.Actual.{Actual, out-Actual, roll-Actual, roll-out-Actual}
@@ -14,7 +15,7 @@ use Rattle.ctl_meaning.specs.Names.{Found, Tools, read_found}
 use Rattle.ctl_meaning.specs.Expressions.{Supplied, Valued, eval, eval_name, eval_step, actual_step as actual_meaning, supply}
 use Rattle.ctl_meaning.proofs.Trees.{actual_roll as supply_roll, eval_roll}
 use Rattle.ctl_layout.specs.Parts.{Reached, Variable, Part, are_selectors}
-use Rattle.ctl_layout.specs.Values.{ActualCode, ValueCode, copied, is_of, read, reached_by, reached_if, sourced, value_code}
+use Rattle.ctl_layout.specs.Values.{ActualCode, ValueCode, by_copy, copied, is_of, read, reached_by, reached_if, sourced, value_code}
 use Rattle.ctl_program.specs.declared.expression.Actual.TheVariants.{rolls-Part}
 use Rattle.ctl_layout.proofs.TreeLayers.{value_roll, actual_roll}
 use Rattle.ctl_layout.proofs.Layers.{part_source}
@@ -48,6 +49,12 @@ is_read : (o : Option Reached) (ty : Ty) (t : ℕ) (x : Reached) → copied t (r
 is_read None ty t x is = absurd (cc is)
 is_read (Some (Variable v)) ty t x is = part_read (Variable v) ty t x is
 is_read (Some (Part v steps u position)) ty t x is = part_read (Part v steps u position) ty t x is
+
+-- a copy of a variable is no source
+copy_reaches : (o : Option Reached) (ty : Ty) (begins : CopyStart) → (by_copy o ty begins).reached ≡ None
+copy_reaches None ty begins = refl
+copy_reaches (Some (Variable v)) ty begins = refl
+copy_reaches (Some (Part v steps u position)) ty begins = refl
 
 module _ (K : Tools) where
   -- a value of this record type that is read from this part: the part is found
@@ -103,7 +110,7 @@ module _ (K : Tools) where
   actual_rolled : (y : Actual-F Actual Expr Name Operand) (x : Reached) → sourced (roll-Actual y) ≡ Some x → IsSource x (supply (roll-Actual y))
   actual_rolled (Actual-F.Part n ty) x is = subst (IsSource x) (sym (supply_roll (Actual-F.Part n ty))) (is_source n ty x (sym (part_source n ty) ∙ sym (ap (λ (a : Actual). sourced a) (rolls-Part n ty)) ∙ is))
   actual_rolled (Actual-F.ByValue e ty) x is = absurd (let e1 = sym (ap (λ (y : ActualCode). y.reached) (actual_roll (Actual-F.ByValue e ty))) ∙ is in cc e1)
-  actual_rolled (Actual-F.Copied n ty begins) x is = absurd (let e1 = sym (ap (λ (y : ActualCode). y.reached) (actual_roll (Actual-F.Copied n ty begins))) ∙ is in cc e1)
+  actual_rolled (Actual-F.Copied n ty begins) x is = absurd (let e1 = sym (copy_reaches (reached_by n) ty begins) ∙ sym (ap (λ (y : ActualCode). y.reached) (actual_roll (Actual-F.Copied n ty begins))) ∙ is in cc e1)
 
   pub source_means : (a : Actual) (x : Reached) → sourced a ≡ Some x → IsSource x (supply a)
   source_means a = subst (λ b. (x : Reached) → sourced b ≡ Some x → IsSource x (supply b)) (roll-out-Actual a) (actual_rolled (out-Actual a))

@@ -405,7 +405,7 @@ module _ (ask : Ask) (k : Tables) (code : Code) (setting : Setting k code) (call
   behind_block e n w0 d place q ks ops is here (Leaves y) c l w fits =
       by_raise (λ v. Runs ask code (Kept k code w0) 1 1 (leaves (AfterBlock (record { display = d; place = q; operands = ops })) ks (Leaves v) l w) c (arrives (target_of e place) d (q + 1) ks ops) (Gives (Leaves v) 0 c l w))
       (λ x. no_step ask code (Kept k code w0) 1 1 _ c 0 (arrives (target_of e place) d (q + 1) ks ops) (Leaves (ByRaise x)) l w fits.1 refl) y fits.0
-  behind_block e n w0 d place q ks ops is here (Goes x) c l w fits = on x.result
+  behind_block e n w0 d place q ks ops is here (Goes x) c l w fits = on x.result x.slots
     where
       led : (y : Way) (b : Bool) → completes_loop y ≡ b → Runs ask code (Kept k code w0) 1 1 (moved l (if b then on_at (record { display = d; place = q; operands = ops }) ks w else transfers y ks w)) c (arrives (target_of e place) d (q + 1) ks ops) (Gives (Leaves y) 0 c l w)
       led y true this =
@@ -414,9 +414,9 @@ module _ (ask : Ask) (k : Tables) (code : Code) (setting : Setting k code) (call
           ∙ sym (ap (λ b. if b then landed_on (target_of e place) d ks ops l w else transferred y ks l w) this))
       led y false this = no_step ask code (Kept k code w0) 1 1 _ c 0 (arrives (target_of e place) d (q + 1) ks ops) (Leaves y) l w fits.1 (sym (ap (λ b. if b then landed_on (target_of e place) d ks ops l w else transferred y ks l w) this))
 
-      on : (r : Result Done) → Runs ask code (Kept k code w0) 1 1 (moved l (goes_behind (AfterBlock (record { display = d; place = q; operands = ops })) r ks w)) c (arrives (target_of e place) d (q + 1) ks ops) (Gives r 0 c l w)
-      on (Goes a) = no_step ask code (Kept k code w0) 1 1 _ c 0 (arrives (target_of e place) d (q + 1) ks ops) (Goes a) l w fits.1 refl
-      on (Leaves y) = led y (completes_loop y) refl
+      on : (r : Result Done) (slots : List Slot) → Runs ask code (Kept k code w0) 1 1 (moved l (goes_behind (AfterBlock (record { display = d; place = q; operands = ops })) r slots ks w)) c (arrives (target_of e place) d (q + 1) ks ops) (Gives r 0 c l w)
+      on (Goes a) slots = no_step ask code (Kept k code w0) 1 1 _ c 0 (arrives (target_of e place) d (q + 1) ks ops) (Goes a) l w fits.1 refl
+      on (Leaves y) slots = led y (completes_loop y) refl
 
   pub block_runs : (x : MasterCode) (b : Body) → Mastered x b → Performs (block x) (do_block b)
   unfolding do_block unset_slots opened_outcome

@@ -21,7 +21,7 @@ use Rattle.ctl_code.specs.declared.code.Begun.{Begun}
 use Rattle.ctl_code.specs.declared.code.Parts.{Parts}
 use Rattle.ctl_code.specs.declared.code.Parts.TheVariants as PartsOf
 use Rattle.ctl_code.specs.declared.code.Code.{Code}
-use Rattle.ctl_code.specs.States.{Handed, Complete, Frame, Undoing, UndoingOwn, UndoingParts, State, whole_spot}
+use Rattle.ctl_code.specs.States.{Handed, Complete, AfterBody, Frame, Undoing, UndoingOwn, UndoingParts, State, whole_spot}
 use Rattle.ctl_code.specs.Table.{adjusted_in, adjusted_of, component_of, controlled_of, part_at, parts_of, undo_by, undo_component, undo_components, undo_left, undo_own, undo_part}
 use Rattle.ctl_code.specs.Steps.{moved, step, stepped}
 use Rattle.ctl_code.specs.Valid.{AreBegunBy, IsBegunBy, IsDeclarable, has_part}
@@ -228,8 +228,8 @@ module _ (ask : Ask) (k : Tables) (code : Code) (setting : Setting k code) (call
           let actuals = holding (Binds s.object s.offset s.path) ∷ [] in
           subst (λ x. Undoes 0 0 s0 c ks (after_own n s t x)) (sym (call_is ask k call default f s c (shown s) l w p at))
           (over _
-          (calls.runs f body.0 body.1 wr (home_of p.origin w) actuals (UndoingOwn s t ∷ ks) c (tell (shown s) l) w s0 Procedure 1 refl le fits (finalize_in code setting.valid _ t f here (setting.finalize t ∙ op)) (tt, tt)
-          (go ∙ enter_shows (slice_get code.entries.items f) (shown s) (home_of p.origin w) actuals (UndoingOwn s t ∷ ks) l w)))
+          (calls.runs f body.0 body.1 wr (home_of p.origin w) actuals AfterBody (UndoingOwn s t ∷ ks) c (tell (shown s) l) w s0 Procedure 1 tt le fits (finalize_in code setting.valid _ t f here (setting.finalize t ∙ op)) (tt, tt)
+          (go ∙ enter_shows (slice_get code.entries.items f) (shown s) (home_of p.origin w) actuals AfterBody (UndoingOwn s t ∷ ks) l w)))
 
       -- a part that has none, or is not adjusted
       within_runs : (l : Log) (w : World) → Since k code wr w → (is_controlled k t && any_of (same_list s.path) paths) ≡ false → step ask code s0 ≡ moved l (undo_components code s t ks w) → Undoes 0 0 s0 c ks (finalize_part K Failed (These paths) (suc n) s t c l w)

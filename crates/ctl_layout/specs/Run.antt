@@ -1,9 +1,10 @@
--- The programs that this version runs: blocks, objects of types that extend Controlled or Limited_Controlled and of records that are not
--- tagged, whose components are scalar or of such types again, their Initialize, Adjust and Finalize, expressions over constants, variables
--- and components, assignments to variables and components, calls of procedures and of functions with scalar results, whose actuals are scalar
--- values and parts of objects, return statements, texts with images, handlers of exceptions, and control; also objects that take the value of a part of their type, which may be any whose objects
--- are declared, and assignments of records to one another where their type is one of the main procedure's own declarative part.
-use Rattle.std.specs.Prelude.{◌≡◌, ℕ, List, [], ◌∷◌, slice_get, Option, Some, None, Bool, true, false, ◌&&◌, IsTrue}
+-- The programs that this version runs: blocks; objects of types that extend Controlled or Limited_Controlled and of records that are not
+-- tagged, whose components are scalar or of such types again, with their Initialize, Adjust and Finalize; expressions over constants,
+-- variables, components and calls of functions with scalar results; assignments to variables and components; calls of procedures, whose
+-- actuals are scalar values, copies of scalar variables and parts of objects; return statements, texts with images, handlers of exceptions,
+-- and control. Also objects that take the value of a part of their type, which may be any whose objects are declared, and assignments of
+-- records to one another where their type is one of the main procedure's own declarative part.
+use Rattle.std.specs.Prelude.{◌≡◌, ℕ, List, slice_get, Option, Some, None, Bool, IsTrue}
 use Rattle.ctl_program.specs.declared.program.Subprogram.{Subprogram}
 use Rattle.ctl_program.specs.declared.program.Checked.{Checked}
 use Rattle.ctl_program.specs.declared.types.RecordType.{RecordType}

@@ -1,6 +1,7 @@
 //! Whether this version runs each construct of a checked program.
 
 ghost use Rattle.std.specs.Prelude.{◌≡◌, ℕ, List, [], ◌∷◌, map, option_map, slice_get, IfOk, Some};
+ghost use Rattle.ctl_program.specs.declared.operators.CopyStart.{CopyStart};
 ghost use Rattle.ctl_program.specs.declared.types.RecordType.{RecordType};
 ghost use Rattle.ctl_program.specs.declared.types.Var.{Var};
 ghost use Rattle.ctl_layout.specs.Defaults as defaults;
@@ -12,6 +13,7 @@ ghost use Rattle.ctl_layout.specs.Run as whole;
 ghost use Rattle.ctl_layout.specs.Texts as texts;
 ghost use Rattle.ctl_layout.specs.Values as values;
 
+use crate::copies::goes_back;
 use crate::forms::{Table, is_run_type};
 use crate::right::{Reached, reached_by, sourced};
 use crate::typing::{copied, value_type};
@@ -87,7 +89,11 @@ fn value(expression: &Expr, table: &Table) -> bool
                 && value(second.get(), table)
                 && values(more.as_slice(), table)
         }
-        Expr::Call(_, actuals, ty) => is_run_type(*ty) && are_actuals(actuals.as_slice(), table),
+        Expr::Call(_, actuals, ty) => {
+            is_run_type(*ty)
+                && !goes_back(actuals.as_slice())
+                && are_actuals(actuals.as_slice(), table)
+        }
         Expr::Convert(..)
         | Expr::Access(_)
         | Expr::New(..)
@@ -96,7 +102,17 @@ fn value(expression: &Expr, table: &Table) -> bool
     }
 }
 
-/// Tells whether an actual is run: a scalar value, or a part that a name denotes (RM 6.4.1).
+/// Tells whether a copy of what a name denotes is run: of a variable, of a scalar type (RM 6.4.1).
+fn is_copied_back(name: &Name, ty: Ty) -> bool
+    ensures { (begins : CopyStart) (all : List RecordType) → result ≡ (values.by_copy (values.reached_by name.now) ty begins).runs all }
+{
+    match reached_by(name) {
+        Some(Reached::Variable(_)) => is_run_type(ty),
+        Some(Reached::Part { .. }) | None => false,
+    }
+}
+
+/// Tells whether an actual is run: a scalar value, a part that a name denotes, or a copy of a scalar variable (RM 6.4.1).
 #[cycle(values)]
 #[tactic(auto, using(crate::proofs::Layers::actual_value, crate::proofs::Layers::actual_part, crate::proofs::Layers::actual_copied))]
 fn is_actual(actual: &Actual, table: &Table) -> bool
@@ -105,7 +121,8 @@ fn is_actual(actual: &Actual, table: &Table) -> bool
     match actual {
         Actual::ByValue(expression, ty) => is_run_type(*ty) && value(expression, table),
         Actual::Part(name, Ty::Record(_)) => may_be_part(reached_by(name), table),
-        Actual::Part(..) | Actual::Copied(..) => false,
+        Actual::Part(..) => false,
+        Actual::Copied(name, ty, _) => is_copied_back(name, *ty),
     }
 }
 

@@ -7,7 +7,7 @@ use Rattle.ctl_code.specs.declared.kinds.Kind.{Kind}
 use Rattle.ctl_code.specs.declared.kinds.Kind.TheVariants.{Operand, Block, Body}
 use Rattle.ctl_code.specs.declared.code.Code.{Code}
 use Rattle.ctl_code.specs.States as T
-use Rattle.ctl_code.specs.States.{Word, InMaster, AfterBlock, AfterBody}
+use Rattle.ctl_code.specs.States.{Word, InMaster, AfterBlock, AfterProcedure, AfterFunction, AfterBody}
 use Rattle.ctl_code.specs.Fits.{Stands}
 use Rattle.ctl_machine.specs.declared.frame.After.{After}
 use Rattle.ctl_machine.specs.declared.frame.Frame.{Frame}
@@ -23,6 +23,8 @@ use Rattle.ctl_machine.proofs.Left.{top_of}
 pub inside_master : (code : Code) (stack : List Kind) (k : List T.Frame) (ops : List Word) → Stands code stack k ops → (n : ℕ) × (handling : T.Handling) × (leads : T.After) × (waiting : List T.Frame) × (k ≡ InMaster n handling leads ∷ waiting)
 inside_master code (Operand ty ∷ stack) k (x ∷ ops) stands = inside_master code stack k ops stands.1
 inside_master code (Block slots ∷ stack) (InMaster n g (AfterBlock p) ∷ k) [] stands = (n, g, AfterBlock p, k, refl)
+inside_master code (Body level slots ∷ []) (InMaster n g (AfterProcedure copies p) ∷ k) [] stands = (n, g, (AfterProcedure copies p), k, refl)
+inside_master code (Body level slots ∷ []) (InMaster n g (AfterFunction p) ∷ k) [] stands = (n, g, (AfterFunction p), k, refl)
 inside_master code (Body level slots ∷ []) (InMaster n g AfterBody ∷ k) [] stands = (n, g, AfterBody, k, refl)
 inside_master code _ _ _ stands = elim stands [ ]
 

@@ -66,6 +66,7 @@ pub mod Newborn
 pub mod InitializeCalled
 pub mod Given
 pub mod Stored
+pub mod CopiesBack
 pub mod InWindow
 pub mod Stretches
 pub mod Alike

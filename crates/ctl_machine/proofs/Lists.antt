@@ -1,8 +1,7 @@
 -- Lists that are read and written at a place.
-use Rattle.std.proofs.Common.{◌≡◌, ◌≢◌, ℕ, zero, suc, ◌+◌, ◌-◌, ◌<◌, List, [], ◌∷◌, ◌++◌, Option, Some, None, true, false, length, refl, sym, ap, ◌∙◌, arith, map, reverse}
+use Rattle.std.proofs.Common.{◌≡◌, ◌≢◌, ℕ, zero, suc, ◌+◌, ◌<◌, List, [], ◌∷◌, ◌++◌, Option, Some, None, true, false, length, refl, sym, ap, ◌∙◌, arith, map}
 use Rattle.std.specs.Prelude.{slice_get, slice_index_or, slice_set, option_map, nat_eq}
 use Rattle.std.proofs.lemmas.Bool.Decides.{nat_tests}
-use Rattle.std.proofs.lemmas.List.{get_or-reverse, length-reverse}
 
 pub eq_same : (a b : ℕ) → a ≡ b → nat_eq a b ≡ true
 eq_same a b same = grind (arith, nat_tests)
@@ -66,14 +65,3 @@ pub get_index : {X : Type 0} (xs : List X) (i : ℕ) (d : X) → i < length xs �
 get_index [] i d h = absurd (omega (arith, h))
 get_index (x ∷ xs) zero d h = refl
 get_index (x ∷ xs) (suc i) d h = get_index xs i d (omega (arith, h))
-
--- the last but one of a list is the second of it the other way round
-pub second_item : {X : Type 0} (xs : List X) (x : X) (i : ℕ) → i + 2 ≡ length xs → x ≡ slice_index_or xs i x → (y : X) × (ys : List X) × (reverse xs ≡ y ∷ x ∷ ys)
-second_item {X} xs x i is read =
-    let at : length xs - 1 - 1 ≡ i = omega (arith, is) in
-    from (reverse xs) (length-reverse xs ∙ sym is) (get_or-reverse xs 1 x (omega (arith, is)) ∙ (ap (λ j. slice_index_or xs j x) at ∙ sym read))
-  where
-    from : (r : List X) → length r ≡ i + 2 → slice_index_or r 1 x ≡ x → (y : X) × (ys : List X) × (r ≡ y ∷ x ∷ ys)
-    from [] long e = absurd (omega (arith, long))
-    from (y ∷ []) long e = absurd (omega (arith, long))
-    from (y ∷ z ∷ zs) long e = (y, zs, ap (λ w. y ∷ w ∷ zs) e)

@@ -18,7 +18,7 @@ use Rattle.ctl_machine.specs.Departing.{ended, in_life}
 use Rattle.ctl_machine.specs.Finishing.{with_owned}
 use Rattle.ctl_machine.specs.Holders.{Lacks}
 use Rattle.ctl_machine.specs.Masters.{Head, AreOf, AreMasters, no_masters, newest_master, layer_if, object_of, rising_layers}
-use Rattle.ctl_machine.specs.Shows.{Wait, nothing_waits, master_waits, leaving_waits, creating_waits, copying_waits, filling_waits, initializing_waits, failing_waits, assigning_waits, calling_waits, evaluating_waits, finalizing_waits, adjusting_waits, adjusting_own_waits, undoing_waits, undoing_own_waits, undoing_parts_waits, finalizing_own_waits, finalizing_parts_waits, IsCreated, Kept, Holds}
+use Rattle.ctl_machine.specs.Shows.{Wait, nothing_waits, master_waits, leaving_waits, creating_waits, copying_waits, filling_waits, initializing_waits, failing_waits, assigning_waits, finalizing_waits, adjusting_waits, adjusting_own_waits, undoing_waits, undoing_own_waits, undoing_parts_waits, finalizing_own_waits, finalizing_parts_waits, IsCreated, Kept, Holds}
 use Rattle.ctl_machine.proofs.Alike.{alike_set}
 use Rattle.ctl_machine.proofs.Declared.{changed_object, rise_set, same_item}
 use Rattle.ctl_machine.proofs.Frames.{ends_object}
@@ -121,8 +121,6 @@ lives_wait ps h (filling_waits i j w) = filling_waits i j (lives_wait ps h w)
 lives_wait ps h (initializing_waits i j w) = initializing_waits i j (lives_wait ps h w)
 lives_wait ps h (failing_waits w) = failing_waits (lives_wait ps h w)
 lives_wait ps h (assigning_waits v p d w) = assigning_waits v p d (lives_wait ps h w)
-lives_wait ps h (calling_waits p d w) = calling_waits p d (lives_wait ps h w)
-lives_wait ps h (evaluating_waits p d w) = evaluating_waits p d (lives_wait ps h w)
 lives_wait {owned = owned} ps h (finalizing_waits {at = at} i w) =
     let there = lives_get owned ps at i.object h i.found in
     finalizing_waits (record { object = in_life there.0 i.object; is_own = i.is_own; found = there.1; number = i.number }) (lives_wait ps h w)

@@ -22,7 +22,7 @@ use Rattle.ctl_machine.specs.Noted.{IsNoting, IsUndone, noted_in}
 use Rattle.ctl_machine.specs.Saved.{AreSaved}
 use Rattle.ctl_machine.specs.Spots.{spots_in}
 use Rattle.ctl_machine.specs.Under.{tall, under}
-use Rattle.ctl_machine.specs.Shows.{Wait, master_waits, leaving_waits, creating_waits, copying_waits, assigning_waits, calling_waits, evaluating_waits, finalizing_waits, filling_waits, initializing_waits, failing_waits, adjusting_waits, adjusting_own_waits, undoing_waits, undoing_own_waits, undoing_parts_waits, finalizing_own_waits, finalizing_parts_waits, SizedBelow, Kept, Holds}
+use Rattle.ctl_machine.specs.Shows.{Wait, master_waits, leaving_waits, creating_waits, copying_waits, assigning_waits, finalizing_waits, filling_waits, initializing_waits, failing_waits, adjusting_waits, adjusting_own_waits, undoing_waits, undoing_own_waits, undoing_parts_waits, finalizing_own_waits, finalizing_parts_waits, SizedBelow, Kept, Holds}
 use Rattle.ctl_machine.proofs.StillLeft.{left_below}
 
 -- over the same frames, a frame of the machine, one of the table, and the part that both wait for
@@ -181,8 +181,6 @@ below_top (filling_waits i j w) master = w
 below_top (initializing_waits i j w) master = w
 below_top (failing_waits w) master = w
 below_top (assigning_waits v p d w) master = w
-below_top (calling_waits p d w) master = w
-below_top (evaluating_waits p d w) master = w
 below_top (finalizing_waits i w) master = w
 below_top (adjusting_waits w) master = w
 below_top (adjusting_own_waits w) master = w

@@ -1,4 +1,4 @@
--- A variable of a body around is given a value.
+-- A variable is given a value.
 use Rattle.std.proofs.Common.{◌≡◌, ℕ, zero, suc, ◌+◌, ◌≤◌, List, [], ◌∷◌, Some, length, refl, sym, ap, ◌∙◌, subst, arith, inl, inr}
 use Rattle.std.specs.Prelude.{slice_get, slice_set}
 use Rattle.ctl_program.specs.declared.types.Ty.{Ty}
@@ -6,23 +6,24 @@ use Rattle.ctl_meaning.specs.World as W
 use Rattle.ctl_meaning.specs.World.{World, Slot, Activation}
 use Rattle.ctl_meaning.specs.Activations.{change_slot}
 use Rattle.ctl_meaning.specs.Changes.{set_slot, slot_at, set_value, opened_changes}
+use Rattle.ctl_code.specs.declared.kinds.Kind.{Kind}
 use Rattle.ctl_code.specs.declared.code.Code.{Code}
 use Rattle.ctl_code.specs.declared.code.Cell.{Cell}
 use Rattle.ctl_code.specs.declared.code.Instr.TheVariants.{Store}
 use Rattle.ctl_code.specs.States as T
-use Rattle.ctl_code.specs.States.{Word, State, Move, At}
+use Rattle.ctl_code.specs.States.{Word, State, At}
 use Rattle.ctl_code.specs.Table.{by_instr, on, quiet, with_cell, out_of}
+use Rattle.ctl_code.specs.Valid.{Leads}
 use Rattle.ctl_machine.specs.declared.engine.Engine.{Engine}
 use Rattle.ctl_machine.specs.declared.frame.Master.{Master}
-use Rattle.ctl_machine.specs.declared.frame.Mode.TheVariants as ModeOf
 use Rattle.ctl_machine.specs.declared.frame.Owned.{Owned}
 use Rattle.ctl_machine.specs.Masters.{Head, heads_of, first_display, AreMasters, newest_master, AreBelow, IsAmong}
 use Rattle.ctl_machine.specs.Shows.{Sized, Kept, Holds, kept}
-use Rattle.ctl_machine.specs.Moves.{Before, Makes, GoesOn, here_of}
-use Rattle.ctl_machine.specs.Variables.{IsVariable, IsNoVariable}
+use Rattle.ctl_machine.specs.Moves.{Before, Inside, Makes, here_of}
+use Rattle.ctl_machine.specs.Variables.{Gives, IsNoVariable, Takes, TakesNone}
 use Rattle.ctl_machine.proofs.Slots.{HaveNo, unwritten, own_written, other_written, is_older}
 use Rattle.ctl_machine.proofs.Held.{no_number}
-use Rattle.ctl_machine.proofs.Values.{IsTaken, taken, value_put}
+use Rattle.ctl_machine.proofs.Values.{taken, value_put}
 use Rattle.ctl_machine.proofs.Plain.{goes_makes}
 use Rattle.ctl_machine.proofs.Computed.{cell_of, same_value}
 use Rattle.ctl_machine.proofs.Reached.{no_zero}
@@ -61,41 +62,42 @@ nothing_written code e k ops w d out slot x h (inr v) =
 
 -- A value is given ----------------------------------------------------------------------------------------
 
-from_taken : (code : Code) (e : Engine) (place : ℕ) (s : State) (from : Cell) (ty : Ty) (out slot : ℕ) → (b : Before code e place (Store from ty out slot) s) → IsTaken code (kept e) from b.fine.1.0 s.control s.operands s.world (first_display (heads_of s.world.activations))
-from_taken code e place s from ty out slot b = taken code (kept e) from ty b.stack b.fine.1.0 s.control s.operands s.world b.fine.0 b.inside b.fine.1.1
-
--- the move, once the value is taken
-stored_move : (code : Code) (e new : Engine) (place : ℕ) (s : State) (from : Cell) (ty : Ty) (out slot x : ℕ) → (b : Before code e place (Store from ty out slot) s) → slice_get e.cells.items (cell_of e from) ≡ Some x
-    → Makes code e new (on (from_taken code e place s from ty out slot b).rest (with_cell (first_display (heads_of s.world.activations)) out slot x s.world) (here_of place s))
-    → Makes code e new (by_instr code (Some (Store from ty out slot)) s.operands (here_of place s))
-stored_move code e new place s from ty out slot x b read m =
-    let v = from_taken code e place s from ty out slot b in
-    let same : x ≡ v.value = same_value x v.value (slice_get e.cells.items (cell_of e from)) read v.read in
-    rw (v.takes (λ y rest. on rest (with_cell (first_display (heads_of s.world.activations)) out slot y s.world) (here_of place s)) place)
-    (subst (λ y. Makes code e new (on v.rest (with_cell (first_display (heads_of s.world.activations)) out slot y s.world) (here_of place s))) same m)
-
-pub store_makes : (code : Code) (e new : Engine) (place : ℕ) (s : State) (from : Cell) (ty : Ty) (out slot at x : ℕ) → Before code e place (Store from ty out slot) s → slice_get e.cells.items (cell_of e from) ≡ Some x → IsVariable (first_display (heads_of s.world.activations)) out slot at (kept e).masters
-    → GoesOn e new (ModeOf.At (place + 1)) (slice_set e.cells.items at x) → Makes code e new (by_instr code (Some (Store from ty out slot)) s.operands (here_of place s))
-store_makes code e new place s from ty out slot at x b read v g =
-    let d = first_display (heads_of s.world.activations) in
-    let t = from_taken code e place s from ty out slot b in
-    let p = value_put code (kept e) s.control t.rest s.world (out_of d out) slot at x v.master t.left.holds v.among v.number v.within v.cell in
-    let w' = with_cell d out slot x s.world in
-    stored_move code e new place s from ty out slot x b read
-    (subst (λ (hs : List Head). Makes code e new (quiet (At (first_display hs) (place + 1)) s.control t.rest w')) p.2
-    (goes_makes code e new (place + 1) b.fine.1.0 s.control t.rest w' (slice_set e.cells.items at x) b.fine.1.2
+given : (code : Code) (e new : Engine) (place : ℕ) (stack : List Kind) (k : List T.Frame) (ops : List Word) (w : World) (out slot x : ℕ) → Leads code (place + 1) stack → Inside code (kept e) stack k ops w → Takes (first_display (heads_of w.activations)) out slot x (place + 1) e new
+    → Makes code e new (quiet (At (first_display (heads_of w.activations)) (place + 1)) k ops (with_cell (first_display (heads_of w.activations)) out slot x w))
+given code e new place stack k ops w out slot x leads i t =
+    let d = first_display (heads_of w.activations) in
+    let v = t.variable in
+    let p = value_put code (kept e) k ops w (out_of d out) slot t.cell x v.master i.holds v.among v.number v.within v.cell in
+    let w' = with_cell d out slot x w in
+    subst (λ (hs : List Head). Makes code e new (quiet (At (first_display hs) (place + 1)) k ops w')) p.2
+    (goes_makes code e new (place + 1) stack k ops w' (slice_set e.cells.items t.cell x) leads
     (record {
-      stands = t.left.stands;
-      sized = subst (λ hs. Sized code b.fine.1.0 s.control hs) (sym p.2) t.left.sized;
+      stands = i.stands;
+      sized = subst (λ hs. Sized code stack k hs) (sym p.2) i.sized;
       holds = p.0;
-      spots = t.left.spots;
-    }) g))
+      spots = i.spots;
+    }) t.goes_on)
 
-pub store_none : (code : Code) (e new : Engine) (place : ℕ) (s : State) (from : Cell) (ty : Ty) (out slot x : ℕ) → Before code e place (Store from ty out slot) s → slice_get e.cells.items (cell_of e from) ≡ Some x → IsNoVariable (first_display (heads_of s.world.activations)) out slot (kept e).masters
-    → GoesOn e new (ModeOf.At (place + 1)) e.cells.items → Makes code e new (by_instr code (Some (Store from ty out slot)) s.operands (here_of place s))
-store_none code e new place s from ty out slot x b read none g =
+none_given : (code : Code) (e new : Engine) (place : ℕ) (stack : List Kind) (k : List T.Frame) (ops : List Word) (w : World) (out slot x : ℕ) → Leads code (place + 1) stack → Inside code (kept e) stack k ops w → TakesNone (first_display (heads_of w.activations)) out slot (place + 1) e new
+    → Makes code e new (quiet (At (first_display (heads_of w.activations)) (place + 1)) k ops (with_cell (first_display (heads_of w.activations)) out slot x w))
+none_given code e new place stack k ops w out slot x leads i t =
+    let d = first_display (heads_of w.activations) in
+    subst (λ (w' : World). Makes code e new (quiet (At d (place + 1)) k ops w')) (sym (nothing_written code (kept e) k ops w d out slot x i.holds t.none))
+    (goes_makes code e new (place + 1) stack k ops w e.cells.items leads i t.goes_on)
+
+-- a variable takes a value, if there is one
+pub gives_makes : (code : Code) (e new : Engine) (place : ℕ) (stack : List Kind) (k : List T.Frame) (ops : List Word) (w : World) (out slot x : ℕ) → Leads code (place + 1) stack → Inside code (kept e) stack k ops w → Gives (first_display (heads_of w.activations)) out slot x (place + 1) e new
+    → Makes code e new (quiet (At (first_display (heads_of w.activations)) (place + 1)) k ops (with_cell (first_display (heads_of w.activations)) out slot x w))
+gives_makes code e new place stack k ops w out slot x leads i (inl t) = given code e new place stack k ops w out slot x leads i t
+gives_makes code e new place stack k ops w out slot x leads i (inr t) = none_given code e new place stack k ops w out slot x leads i t
+
+-- by an instruction that takes the value
+pub store_makes : (code : Code) (e new : Engine) (place : ℕ) (s : State) (from : Cell) (ty : Ty) (out slot x : ℕ) → Before code e place (Store from ty out slot) s → slice_get e.cells.items (cell_of e from) ≡ Some x → Gives (first_display (heads_of s.world.activations)) out slot x (place + 1) e new
+    → Makes code e new (by_instr code (Some (Store from ty out slot)) s.operands (here_of place s))
+store_makes code e new place s from ty out slot x b read gives =
     let d = first_display (heads_of s.world.activations) in
-    let t = from_taken code e place s from ty out slot b in
-    stored_move code e new place s from ty out slot x b read
-    (subst (λ (w : World). Makes code e new (on t.rest w (here_of place s))) (sym (nothing_written code (kept e) s.control t.rest s.world d out slot x t.left.holds none))
-    (goes_makes code e new (place + 1) b.fine.1.0 s.control t.rest s.world e.cells.items b.fine.1.2 t.left g))
+    let v = taken code (kept e) from ty b.stack b.fine.1.0 s.control s.operands s.world b.fine.0 b.inside b.fine.1.1 in
+    let same : x ≡ v.value = same_value x v.value (slice_get e.cells.items (cell_of e from)) read v.read in
+    rw (v.takes (λ y rest. on rest (with_cell d out slot y s.world) (here_of place s)) place)
+    (subst (λ y. Makes code e new (on v.rest (with_cell d out slot y s.world) (here_of place s))) same
+    (gives_makes code e new place b.fine.1.0 s.control v.rest s.world out slot x b.fine.1.2 v.left gives))

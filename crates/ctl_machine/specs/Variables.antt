@@ -1,8 +1,11 @@
 -- A variable of a master around, by how many masters out it stands.
-use Rattle.std.specs.Prelude.{◌≡◌, ℕ, ◌+◌, ◌<◌, ◌≤◌, List, ◌⊎◌}
+use Rattle.std.specs.Prelude.{◌≡◌, ℕ, ◌+◌, ◌<◌, ◌≤◌, List, ◌⊎◌, reverse, slice_set}
 use Rattle.ctl_code.specs.Table.{out_of}
+use Rattle.ctl_machine.specs.declared.engine.Engine.{Engine}
 use Rattle.ctl_machine.specs.declared.frame.Master.{Master}
+use Rattle.ctl_machine.specs.declared.frame.Mode.TheVariants as ModeOf
 use Rattle.ctl_machine.specs.Masters.{IsAmong}
+use Rattle.ctl_machine.specs.Moves.{GoesOn}
 
 -- the cell of a slot of the master so many further out in a display
 pub record IsVariable (d : List ℕ) (out slot place : ℕ) (ms : List Master) : Type 0 where
@@ -22,3 +25,18 @@ pub record IsBeyond (d : List ℕ) (out slot : ℕ) (ms : List Master) : Type 0 
 -- no master has such a slot: no master has the number 0
 abbrev pub IsNoVariable : List ℕ → ℕ → ℕ → List Master → Type 0
 IsNoVariable d out slot ms = (out_of d out ≡ 0) ⊎ IsBeyond d out slot ms
+
+-- the cell of that slot takes a value, and the machine goes on at a place
+pub record Takes (d : List ℕ) (out slot x place : ℕ) (old new : Engine) : Type 0 where
+  pub cell : ℕ
+  pub variable : IsVariable d out slot cell (reverse old.masters.items)
+  pub goes_on : GoesOn old new (ModeOf.At place) (slice_set old.cells.items cell x)
+
+-- there is no such slot, and the machine only goes on
+pub record TakesNone (d : List ℕ) (out slot place : ℕ) (old new : Engine) : Type 0 where
+  pub none : IsNoVariable d out slot (reverse old.masters.items)
+  pub goes_on : GoesOn old new (ModeOf.At place) old.cells.items
+
+-- a variable takes a value, if there is one
+abbrev pub Gives : List ℕ → ℕ → ℕ → ℕ → ℕ → Engine → Engine → Type 0
+Gives d out slot x place old new = Takes d out slot x place old new ⊎ TakesNone d out slot place old new

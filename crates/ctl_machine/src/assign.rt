@@ -64,7 +64,7 @@ fn mode_adjusted(ended: Ended, place: usize) -> Mode
     ensures { result ≡ Assigning.mode_adjusted ended place }
 {
     match ended {
-        Ended::Complete | Ended::WithValue(_) => Mode::At(place),
+        Ended::Complete => Mode::At(place),
         _ => Mode::Transfers(Way::Raise(PROGRAM_ERROR)),
     }
 }

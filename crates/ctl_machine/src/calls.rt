@@ -91,12 +91,8 @@ impl Engine {
                 Frame::InMaster(..) | Frame::Leaving { .. } => return self.end_of_newest(),
                 Frame::Creating { place, .. }
                 | Frame::Copying { place, .. }
-                | Frame::Assigning { place, .. }
-                | Frame::Calling { place } => {
+                | Frame::Assigning { place, .. } => {
                     return self.window() + code.kinds.height_at(place, 0);
-                }
-                Frame::Evaluating { place } => {
-                    return self.window() + code.kinds.height_at(place, 1);
                 }
                 _ => {}
             }

@@ -12,20 +12,26 @@ pub enum Completion {
     Transferred(Way),
 }
 
-/// How a body has ended, or the finalization or the adjustment of a part: complete, where perhaps an operation in it failed, with the value
-/// of a function, or by an exception.
+/// How the body of an operation has ended, or the finalization or the adjustment of a part: complete, where perhaps an operation in it
+/// failed, or by an exception.
 #[derive(Clone, Copy)]
 pub enum Ended {
     Complete,
     OperationFailed,
-    WithValue(u64),
     Raised(usize),
 }
 
-/// Where a master's end leads: behind a block, to this place, or to what waits for the call of a body.
+/// Where a master's end leads.
 #[derive(Clone, Copy)]
 pub enum After {
+    /// behind a block, to this place
     Block(usize),
+    /// behind the call of a procedure, to this place, where what so many of its first formals hold in the end are the newest operands
+    /// (RM 6.4, 6.4.1)
+    Procedure { place: usize, copies: usize },
+    /// behind the call of a function, to this place, where its value is the newest operand (RM 6.4)
+    Function { place: usize },
+    /// to what waits for the body of an operation
     Body,
 }
 
@@ -136,14 +142,6 @@ pub enum Frame {
         left: Left,
         count: usize,
         first: usize,
-    },
-    /// a procedure that was called, and the place where its call goes on (RM 6.4)
-    Calling {
-        place: usize,
-    },
-    /// a function that was called, and the place where its value is the newest operand (RM 6.4)
-    Evaluating {
-        place: usize,
     },
     /// the finalization of an owned object, by its place
     Finalizing(usize),

@@ -3,23 +3,21 @@
 ghost use Rattle.std.specs.Prelude.{◌≡◌, ◌+◌, ◌^◌, ◌<◌, ◌≤◌, ◌∷◌, ◌++◌, [], IsTrue, List, OnErr, OnOk, length, reverse, take, vec_capacity, vec_len};
 ghost use Rattle.ctl_code.specs.Kinds.{stack_at};
 ghost use Rattle.ctl_code.specs.Table as Table;
-ghost use Rattle.ctl_code.specs.States.{Giving, Handed, State, Word};
+ghost use Rattle.ctl_code.specs.States.{State, Word};
 ghost use Rattle.ctl_meaning.specs.Finalization as S;
-ghost use Rattle.ctl_meaning.specs.Outcome.{Fine};
 ghost use Rattle.ctl_code.specs.Valid.{IsValid};
-ghost use Rattle.ctl_machine.specs.declared.frame.Frame.{Frame};
 ghost use Rattle.ctl_machine.specs.Calling as Calling;
 ghost use Rattle.ctl_machine.specs.Calling.{BeforeCall};
-ghost use Rattle.ctl_machine.specs.Moves.{BeforeResuming, GoesOn, Makes, here_of};
+ghost use Rattle.ctl_machine.specs.Moves.{GoesOn, Makes, here_of};
 ghost use Rattle.ctl_machine.specs.Passing.{AreActuals, bound, cell_passed, formal_if, is_located, is_part_at, passed, with_actuals};
 ghost use Rattle.ctl_machine.specs.Spots.{located};
-ghost use Rattle.ctl_machine.specs.Shows as Shows;
 ghost use Rattle.ctl_machine.specs.Shows.{kept};
+ghost use Rattle.ctl_machine.specs.Windows.{IsGoing};
 
 use crate::engine::{Engine, clear};
-use crate::frame::{After, Ended, Formal, Frame, Master, Mode};
+use crate::frame::{After, Formal, Master};
 use crate::spots::Spot;
-use ctl_code::code::{Code, Way};
+use ctl_code::code::Code;
 use ctl_code::kinds::Kind;
 use ctl_program::operators::SubprogramKind;
 use ctl_program::types::Ty;
@@ -86,36 +84,25 @@ fn bind(
     }
 }
 
-/// Counts the values that a call leaves as operands: one, if it is that of a function (RM 6.4).
+/// Counts the values that a call leaves as operands: those of so many copies, or that of a function (RM 6.4, 6.4.1).
 #[inline(always)]
-fn count_values(kind: SubprogramKind) -> usize
-    ensures { result ≡ Calling.count_values kind }
+fn count_values(kind: SubprogramKind, copies: usize) -> usize
+    ensures { result ≡ Calling.count_values kind copies }
 {
     match kind {
-        SubprogramKind::Procedure => 0,
+        SubprogramKind::Procedure => copies,
         SubprogramKind::Function => 1,
     }
 }
 
-/// Makes the frame that waits for the end of a body of this kind, whose call goes on at this place (RM 6.4).
+/// Answers where the end of a body of this kind leads, whose call goes on at this place with so many copies (RM 6.4).
 #[inline(always)]
-fn frame_for(kind: SubprogramKind, place: usize) -> Frame
-    ensures { result ≡ Calling.frame_for kind place }
+fn after_for(kind: SubprogramKind, copies: usize, place: usize) -> After
+    ensures { result ≡ Calling.after_for kind copies place }
 {
     match kind {
-        SubprogramKind::Procedure => Frame::Calling { place },
-        SubprogramKind::Function => Frame::Evaluating { place },
-    }
-}
-
-/// Answers the value of a function whose body has ended so; 0 where it has none (RM 6.5).
-#[inline(always)]
-fn value_in(ended: Ended) -> u64
-    ensures { (h : Handed) → Shows.tried_of ended ≡ Fine h → result ≡ Table.value_in h }
-{
-    match ended {
-        Ended::WithValue(value) => value,
-        _ => 0,
+        SubprogramKind::Procedure => After::Procedure { place, copies },
+        SubprogramKind::Function => After::Function { place },
     }
 }
 
@@ -150,8 +137,9 @@ impl Engine {
     }
 
     /// Calls the procedure or the function whose body has this number, with so many of the newest operands as its actuals: the body is
-    /// entered inside the masters around it that this place sees, and the call goes on at the next place, where the value of a function
-    /// is a new operand (RM 6.4). Unchanged where memory is refused.
+    /// entered inside the masters around it that this place sees, and the call goes on at the next place, where what so many of the first
+    /// formals of a procedure hold in the end are new operands, and so is the value of a function (RM 6.4, 6.4.1). Unchanged where memory
+    /// is refused.
     #[inline(never)]
     pub(crate) fn call(
         &mut self,
@@ -159,23 +147,24 @@ impl Engine {
         kind: SubprogramKind,
         body: usize,
         actuals: usize,
+        copies: usize,
         place: usize,
     ) -> Result<(), AllocError>
         ghost s: { State }
         requires valid { IsValid code.now }
-        requires before { BeforeCall code.now self.old kind place body actuals s }
+        requires before { BeforeCall code.now self.old kind place body actuals copies s }
         requires place { place + 1 < 2 ^ 64 }
         requires number { self.old.given_masters + 1 < 2 ^ 64 }
-        ensures ok { OnOk result (Makes code.now self.old self.new (Table.call_body code.now body actuals (Calling.waiting_for kind) s.operands (here_of place s))) }
+        ensures ok { OnOk result (Makes code.now self.old self.new (Table.call_body code.now body actuals (Calling.leading_to kind copies) s.operands (here_of place s))) }
+        ensures going { OnOk result (IsGoing self.new.mode) }
         ensures err { OnErr result (GoesOn self.old self.new self.old.mode self.old.cells.items) }
     {
         let entry = code.entries[body];
-        let base = self.window() + code.kinds.height_at(place + 1, count_values(kind));
+        let base = self.window() + code.kinds.height_at(place + 1, count_values(kind, copies));
         let link = self.around(entry.level);
         let depth = self.depth_at(link) + 1;
         let outer_formals = self.count_formals();
         self.prepare(base, code.room, actuals)?;
-        self.control.push_reserved(frame_for(kind, place + 1));
         self.begin_slots(code, place, base, entry.slots, actuals);
         let master = Master {
             number: self.given_masters + 1,
@@ -189,37 +178,7 @@ impl Engine {
             formals: self.count_formals(),
             spots: self.count_spots(),
         };
-        self.stand(master, 0, After::Body, entry.place);
+        self.stand(master, 0, after_for(kind, copies, place + 1), entry.place);
         Ok(())
-    }
-
-    /// Goes on behind the call of a procedure or of a function, whose body has ended so: at this place, where the value of a function is the
-    /// newest operand, or its exception goes on (RM 6.4, 6.5, 11.4).
-    pub(crate) fn resume_calling(
-        &mut self,
-        code: &Code,
-        kind: SubprogramKind,
-        ended: Ended,
-        place: usize,
-    )
-        ghost s: { State }
-        requires valid { IsValid code.now }
-        requires before { BeforeResuming code.now self.old s }
-        requires top { (fs : List Frame) × (reverse self.old.control.items ≡ Calling.frame_for kind place ∷ fs) }
-        ensures { Makes code.now self.old self.new (Table.act code.now (Giving (Shows.tried_of ended)) s.control s.operands s.world 0) }
-    {
-        let _ = self.control.take_last();
-        if let Ended::Raised(exception) = ended {
-            self.mode = Mode::Transfers(Way::Raise(exception));
-            return;
-        }
-        self.mode = Mode::At(place);
-        match kind {
-            SubprogramKind::Procedure => {}
-            SubprogramKind::Function => {
-                let cell = self.window() + code.kinds.height_at(place, 1);
-                self.cells[cell] = value_in(ended);
-            }
-        }
     }
 }

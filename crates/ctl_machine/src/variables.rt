@@ -1,4 +1,5 @@
-//! Instructions that give a number to a scalar object, and that reach a variable of a body around (RM 3.3.1, 8.3).
+//! Instructions that give a number to a scalar object, and that reach a variable by its slot: one of a body around, or one that a copy goes
+//! back to (RM 3.3.1, 6.4.1, 8.3).
 
 ghost use Rattle.std.specs.Prelude.{◌≡◌, ◌+◌, ◌^◌, ◌<◌, IfSome, IsNone, List, Some, reverse, slice_get};
 ghost use Rattle.ctl_code.specs.declared.code.Instr.TheVariants as InstrOf;
@@ -13,7 +14,7 @@ ghost use Rattle.ctl_machine.specs.Links.{AreLinked};
 ghost use Rattle.ctl_machine.specs.Masters.{Head, first_display, heads_of};
 ghost use Rattle.ctl_machine.specs.Moves.{Before, Makes, here_of};
 ghost use Rattle.ctl_machine.specs.Shows.{Holds, kept};
-ghost use Rattle.ctl_machine.specs.Variables.{IsNoVariable, IsVariable};
+ghost use Rattle.ctl_machine.specs.Variables.{Gives, IsNoVariable, IsVariable};
 ghost use Rattle.ctl_machine.specs.Windows.{IsGoing, moded};
 
 use crate::engine::Engine;
@@ -99,6 +100,24 @@ impl Engine {
         Mode::At(place + 1)
     }
 
+    /// Gives such a variable a value, and goes on behind this place; where there is none, nothing takes it.
+    fn give(&mut self, code: &Code, out: usize, slot: usize, value: u64, place: usize)
+        ghost s: { State }
+        requires holds { Holds code.now (kept self.old) s.control s.operands s.world }
+        requires place { place + 1 < 2 ^ 64 }
+        ensures mode { self.new.mode ≡ ModeOf.At (place + 1) }
+        ensures masters { reverse self.new.masters.items ≡ reverse self.old.masters.items }
+        ensures gives { Gives (first_display (heads_of s.world.activations)) out slot value (place + 1) self.old self.new }
+    {
+        match self.variable(code, out, slot) {
+            Some(cell) => {
+                self.cells[cell] = value;
+                self.mode = Mode::At(place + 1);
+            }
+            None => self.mode = Mode::At(place + 1),
+        }
+    }
+
     /// Gives a variable of a body around the value of a cell; where there is none, nothing takes it.
     fn store(&mut self, code: &Code, from: &Cell, out: usize, slot: usize, place: usize)
         ghost s: { State }
@@ -110,16 +129,34 @@ impl Engine {
         ensures makes { (ty : Ty) → Makes code.now self.old self.new (Table.by_instr code.now (Some (InstrOf.Store from.now ty out slot)) s.operands (here_of place s)) }
     {
         let value = self.take(from);
-        match self.variable(code, out, slot) {
-            Some(cell) => {
-                self.cells[cell] = value;
-                self.mode = Mode::At(place + 1);
-            }
-            None => self.mode = Mode::At(place + 1),
-        }
+        self.give(code, out, slot, value, place);
     }
 
-    /// Executes this instruction, which stands at this place and reaches a variable of a body around.
+    /// Gives a variable what a copy holds, the last of so many operands, in this cell, which stays; where there is no such variable, nothing
+    /// takes it (RM 6.4.1).
+    // How many operands there are says only which one the table reads.
+    fn copy_back(
+        &mut self,
+        code: &Code,
+        depth: usize,
+        at: usize,
+        out: usize,
+        slot: usize,
+        place: usize,
+    )
+        ghost s: { State }
+        requires before { Before code.now self.old place (InstrOf.CopyBack depth at out slot) s }
+        requires place { place + 1 < 2 ^ 64 }
+        ensures mode { self.new.mode ≡ ModeOf.At (place + 1) }
+        ensures masters { reverse self.new.masters.items ≡ reverse self.old.masters.items }
+        ensures makes { Makes code.now self.old self.new (Table.by_instr code.now (Some (InstrOf.CopyBack depth at out slot)) s.operands (here_of place s)) }
+    {
+        let _ = depth;
+        let value = self.cells[self.window() + at];
+        self.give(code, out, slot, value, place);
+    }
+
+    /// Executes this instruction, which stands at this place and reaches a variable by its slot.
     #[inline(always)]
     pub(crate) fn reach(&mut self, code: &Code, instr: &Instr, place: usize)
         ghost s: { State }
@@ -139,6 +176,12 @@ impl Engine {
                 slot,
                 ..
             } => self.store(code, from, *out, *slot, place),
+            Instr::CopyBack {
+                depth,
+                at,
+                out,
+                slot,
+            } => self.copy_back(code, *depth, *at, *out, *slot, place),
             _ => unreachable!(),
         }
     }

@@ -13,8 +13,6 @@ use Rattle.ctl_syntax.specs.declared.item.Components.{Components}
 use Rattle.ctl_syntax.specs.declared.item.Definition.{Definition as Type_definition}
 use Rattle.ctl_syntax.specs.declared.item.Definition.TheVariants.{Extension, Record}
 use Rattle.ctl_syntax.specs.declared.item.Formal.{Formal}
-use Rattle.ctl_syntax.specs.declared.item.Mode.{Mode}
-use Rattle.ctl_syntax.specs.declared.item.Mode.TheVariants.{In}
 use Rattle.ctl_syntax.specs.declared.item.Objects.{Objects}
 use Rattle.ctl_syntax.specs.declared.item.Specification.{Specification}
 use Rattle.ctl_syntax.specs.declared.name.Mark.{Mark}
@@ -51,13 +49,9 @@ abbrev pub is_of_text : Denoted → Bool
 is_of_text (Declared number level) = true
 is_of_text d = false
 
-abbrev pub is_read : Mode → Bool
-is_read In = true
-is_read m = false
-
--- formals of a type of the text, or of a scalar one that are only read (6.1, 6.2)
+-- formals of a type of the text, or of a scalar one (6.1, 6.2)
 abbrev pub may_be_passed : Formal Definition Use → Bool
-may_be_passed f = is_of_text f.mark.first.denoted || (is_scalar f.mark.first.denoted && is_read f.mode)
+may_be_passed f = is_of_text f.mark.first.denoted || is_scalar f.mark.first.denoted
 
 abbrev pub may_all_be_passed : List (Formal Definition Use) → Bool
 may_all_be_passed [] = true

@@ -6,9 +6,7 @@ ghost use Rattle.ctl_slice.specs.Constructs as spec;
 use ctl_grammar::spelling::is_same_name;
 use ctl_syntax::denoted::{Definition, Denoted, LibraryName, Use};
 use ctl_syntax::expression::Expression;
-use ctl_syntax::item::{
-    Components, Definition as TypeDefinition, Formal, Mode, Objects, Specification,
-};
+use ctl_syntax::item::{Components, Definition as TypeDefinition, Formal, Objects, Specification};
 use ctl_syntax::name::Name;
 
 /// Whether this version runs a construct.
@@ -39,12 +37,12 @@ fn is_operation(heading: &Specification<Definition, Use>) -> bool
         || is_same_name(name, b"finalize")
 }
 
-/// Tells whether a formal is run: of a type of the text, or of a scalar one that is only read (RM 6.1, 6.2).
+/// Tells whether a formal is run: of a type of the text, or of a scalar one (RM 6.1, 6.2).
 fn may_be_passed(formal: &Formal<Definition, Use>) -> bool
     ensures { result ≡ spec.may_be_passed formal.now }
 {
     let mark = formal.mark.first.denoted;
-    is_of_text(mark) || (is_scalar(mark) && matches!(formal.mode, Mode::In))
+    is_of_text(mark) || is_scalar(mark)
 }
 
 /// Tells whether all of these are.

@@ -55,12 +55,14 @@ const NEXT: Instr = Instr::Next {
 const CALL_FIRST: Instr = Instr::Call {
     procedure: 1,
     actuals: 0,
+    copies: 0,
 };
 
 /// Calls the second one.
 const CALL_SECOND: Instr = Instr::Call {
     procedure: 2,
     actuals: 0,
+    copies: 0,
 };
 
 /// Where the first procedure stands, which prints a line.

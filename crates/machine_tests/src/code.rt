@@ -291,6 +291,7 @@ const EACH_INSTRUCTION: &[Line] = &[
         Instr::Call {
             procedure: 1,
             actuals: 0,
+            copies: 0,
         },
         "f",
     ),

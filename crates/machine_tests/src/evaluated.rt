@@ -39,6 +39,7 @@ const EVALUATE: Instr = Instr::Evaluate {
 const CALL: Instr = Instr::Call {
     procedure: 1,
     actuals: 1,
+    copies: 0,
 };
 
 /// Adds both.

@@ -12,6 +12,8 @@ mod codes;
 #[cfg(test)]
 mod controlled;
 #[cfg(test)]
+mod copied;
+#[cfg(test)]
 mod evaluated;
 #[cfg(test)]
 mod filled;

@@ -84,6 +84,7 @@ const PRINT: Instr = Instr::PutLine { text: 1, first: 3 };
 const CALL: Instr = Instr::Call {
     procedure: 2,
     actuals: 1,
+    copies: 0,
 };
 
 /// The first component of the second component of an object takes a value, and is read as a part and as a cell of the object.

@@ -1,9 +1,7 @@
 //! Runs of texts with functions: what is shown, and the choices that were made (RM 6.1, 6.4, 6.5).
 
-use crate::jobs::{order_job, served};
+use crate::jobs::{order_job, ran, served};
 use ctl_tree::request::Order;
-use std::alloc::Global;
-use std::process::Abort;
 use std::test::Fail;
 
 /// The result of a body is evaluated before its object is finalized, whose Finalize changes what was read.
@@ -41,14 +39,6 @@ const FAILING_FINALIZE: &str =
 /// Functions call one another, and are called for bounds of loops, values of objects and components, and actuals.
 const EVERYWHERE: &str =
     "with Ada.Text_IO; use Ada.Text_IO; procedure Main is type R is record N : Integer; end record; V : R; function Is_Odd (N : Integer) return Boolean; function Is_Even (N : Integer) return Boolean is begin if N = 0 then return True; end if; return Is_Odd (N - 1); end Is_Even; function Is_Odd (N : Integer) return Boolean is begin return N /= 0 and then Is_Even (N - 1); end Is_Odd; function Square (N : Integer) return Integer is begin return N * N; end Square; procedure Show (N : Integer; B : Boolean) is begin Put (Integer'Image (N) & Boolean'Image (B)); end Show; K : Integer := Square (3); begin V.N := Square (Square (2)); for I in Square (1) .. Square (2) loop Show (Square (I) + K, Is_Even (I)); end loop; while not Is_Odd (K) loop K := K + 1; end loop; Show (V.N, Is_Even (7)); New_Line; end Main;";
-
-/// Runs a text, and compares what it printed and said.
-fn ran(rt: &impl Abort, alloc: Global, text: &str, wanted: &str) -> Result<(), Fail> {
-    let got = served(alloc, order_job(alloc, Order::Newest), text)?;
-    let wanted = format!(in alloc; "0|{wanted}|adactl: picks none\n")?;
-    assert_eq!(rt; got, wanted, "a run");
-    Ok(())
-}
 
 /// The result is there before the master of the body is finalized (RM 6.5).
 #[test]

@@ -15,6 +15,7 @@ use linked_list_allocator::LocalHeap;
 use std::alloc::{AllocError, Global};
 use std::io;
 use std::io::{Read, Write};
+use std::process::Abort;
 use std::test::Fail;
 
 /// Nothing is declared, and nothing shown.
@@ -140,6 +141,14 @@ pub(crate) fn served(alloc: Global, job: Job, source: &str) -> Result<String, Fa
     let out = String::from_utf8(out).map_err(|_| "no text")?;
     let err = String::from_utf8(err).map_err(|_| "no text")?;
     Ok(format!(in alloc; "{status}|{out}|{err}")?)
+}
+
+/// Runs a text without choices that ends by itself, and compares what it printed and said.
+pub(crate) fn ran(rt: &impl Abort, alloc: Global, text: &str, wanted: &str) -> Result<(), Fail> {
+    let got = served(alloc, order_job(alloc, Order::Newest), text)?;
+    let wanted = format!(in alloc; "0|{wanted}|adactl: picks none\n")?;
+    assert_eq!(rt; got, wanted, "a run");
+    Ok(())
 }
 
 /// Each component that takes its default is chosen among those that are left: a choice among three, one among two, and none (RM 7.6).

@@ -1,16 +1,15 @@
 use Rattle.std.proofs.Common.{◌≡◌, ◌+◌, ◌≤◌, ◌∷◌, ◌++◌, ◌∙◌, List, [], ℕ, Some, ap, arith, drop, length, refl, reverse, subst, sym}
 use Rattle.std.specs.Prelude.{slice_get}
-use Rattle.std.proofs.lemmas.List.{append-nil, reverse-append}
+use Rattle.std.proofs.lemmas.List.{append-nil}
 use Rattle.std.proofs.lemmas.Option.{slice_get_within}
 use Rattle.ctl_program.specs.declared.operators.SubprogramKind.{SubprogramKind}
 use Rattle.ctl_code.specs.declared.kinds.Kind.{Kind}
 use Rattle.ctl_code.specs.declared.kinds.Kind.TheVariants.{Body}
 use Rattle.ctl_code.specs.Kinds.{stack_at}
 use Rattle.ctl_code.specs.Windows.{height}
-use Rattle.ctl_machine.specs.declared.frame.After.TheVariants as AfterOf
-use Rattle.ctl_machine.specs.declared.frame.Frame.{Frame}
+use Rattle.ctl_machine.specs.declared.frame.After.{After}
 use Rattle.ctl_machine.specs.declared.frame.Master.{Master}
-use Rattle.ctl_machine.specs.Calling.{count_values, frame_for}
+use Rattle.ctl_machine.specs.Calling.{after_for, count_values}
 use Rattle.ctl_machine.specs.Masters.{first_window, heads_of}
 use Rattle.ctl_machine.specs.Spots.{standing}
 use Rattle.ctl_machine.specs.Passing.{with_actuals}
@@ -20,22 +19,22 @@ use Rattle.ctl_machine.proofs.SubprogramCalled.{base_within, call_makes, has_act
 use Rattle.ctl_machine.proofs.engine.Engine.call.Goals as goal
 
 -- where the window of the body begins
-begins_at : (kinds : List (List Kind)) (kind : SubprogramKind) (place window height_at values first : ℕ) → window ≡ first → height_at ≡ height (drop values (stack_at kinds place)) → values ≡ count_values kind → window + height_at ≡ first + height (drop (count_values kind) (stack_at kinds place))
-begins_at kinds kind place window height_at values first window_is height_is values_is = ap (λ n. n + height_at) window_is ∙ ap (λ n. first + n) (height_is ∙ ap (λ n. height (drop n (stack_at kinds place))) values_is)
+begins_at : (kinds : List (List Kind)) (kind : SubprogramKind) (copies place window height_at values first : ℕ) → window ≡ first → height_at ≡ height (drop values (stack_at kinds place)) → values ≡ count_values kind copies → window + height_at ≡ first + height (drop (count_values kind copies) (stack_at kinds place))
+begins_at kinds kind copies place window height_at values first window_is height_is values_is = ap (λ n. n + height_at) window_is ∙ ap (λ n. first + n) (height_is ∙ ap (λ n. height (drop n (stack_at kinds place))) values_is)
 
 pub overflow_add-base : goal.overflow_add-base
 overflow_add-base g c =
     let old = c.args.self.now in
-    let is = begins_at c.args.code.now.kinds c.args.kind (c.args.place + 1) c.window.result c.height_at.result c.count_values.result (first_window (reverse old.masters.items)) c.window.ensures c.height_at.ensures c.count_values.ensures in
-    let within = base_within c.args.code.now old c.args.kind c.args.place c.args.body c.args.actuals g.s c.requires.1.0 in
+    let is = begins_at c.args.code.now.kinds c.args.kind c.args.copies (c.args.place + 1) c.window.result c.height_at.result c.count_values.result (first_window (reverse old.masters.items)) c.window.ensures c.height_at.ensures c.count_values.ensures in
+    let within = base_within c.args.code.now old c.args.kind c.args.place c.args.body c.args.actuals c.args.copies g.s c.requires.1.0 in
     let bound = old.cells.ok.0 in
     omega (arith, is, within, bound)
 
 pub around-link-requires : goal.around-link-requires
-around-link-requires g c = linked_before c.args.code.now c.args.self.now c.args.kind c.args.place c.args.body c.args.actuals g.s c.requires.1.0
+around-link-requires g c = linked_before c.args.code.now c.args.self.now c.args.kind c.args.place c.args.body c.args.actuals c.args.copies g.s c.requires.1.0
 
 pub depth_at-depth-requires : goal.depth_at-depth-requires
-depth_at-depth-requires g c = (linked_before c.args.code.now c.args.self.now c.args.kind c.args.place c.args.body c.args.actuals g.s c.requires.1.0, c.around-link.ensures.bound)
+depth_at-depth-requires g c = (linked_before c.args.code.now c.args.self.now c.args.kind c.args.place c.args.body c.args.actuals c.args.copies g.s c.requires.1.0, c.around-link.ensures.bound)
 
 pub begin_slots-requires : goal.begin_slots-requires
 begin_slots-requires g c =
@@ -48,12 +47,12 @@ begin_slots-requires g c =
     let room = c.in_ok-prepare.ensures.cells in (
       omega (arith, fits, room),
       (
-        has_slots code old c.args.kind c.args.place c.args.body c.args.actuals g.s entry c.requires.1.0 found,
+        has_slots code old c.args.kind c.args.place c.args.body c.args.actuals c.args.copies g.s entry c.requires.1.0 found,
         (
           c.in_ok-prepare.ensures.formals,
           (
-            has_actuals code old c.args.kind c.args.place c.args.body c.args.actuals g.s c.requires.1.0,
-            ap (λ (e : Kept). e.spots) c.in_ok-prepare.ensures.ok.1.kept ∙ passed_spots code old c.args.kind c.args.place c.args.body c.args.actuals g.s c.requires.1.0,
+            has_actuals code old c.args.kind c.args.place c.args.body c.args.actuals c.args.copies g.s c.requires.1.0,
+            ap (λ (e : Kept). e.spots) c.in_ok-prepare.ensures.ok.1.kept ∙ passed_spots code old c.args.kind c.args.place c.args.body c.args.actuals c.args.copies g.s c.requires.1.0,
           ),
         ),
       ),
@@ -71,26 +70,19 @@ returns-clause-ok g c =
     let more = c.in_ok-prepare.ensures.ok.0 in
     let goes = c.in_ok-prepare.ensures.ok.1 in
     let row = old.cells.items ++ more in
-    let frame = frame_for c.args.kind (c.args.place + 1) in
     let hs = heads_of g.s.world.activations in
     let ops = g.s.operands in
     let below = standing g.s.control (drop count ops) in
     let base = c.window.result + c.height_at.result in
     let b : Master = record { number = c.begin_slots.new.self.given_masters + 1; window = base; base = base; slots = entry.slots; link = c.around-link.result; depth = c.depth_at-depth.result + 1; owned = c.count_owned.result; outer_formals = c.count_formals-outer_formals.result; formals = c.count_formals.result; spots = c.count_spots.result } in
-    let control : reverse c.push_reserved.new.self.items ≡ frame ∷ reverse old.control.items =
-    ap (λ (l : List Frame). reverse l) c.push_reserved.ensures.items
-    ∙ (reverse-append ready.control.items (c.frame_for.result ∷ [])
-    ∙ (ap (λ (f : Frame). f ∷ reverse ready.control.items) c.frame_for.ensures ∙ ap (λ (e : Kept). frame ∷ e.control) goes.kept)) in
-    let begun : kept c.begin_slots.new.self ≡ with_actuals (record (with_cells (kept old) row) { control = frame ∷ reverse old.control.items }) ops below base entry.slots count =
-    c.begin_slots.ensures.kept
-    ∙ (ap (λ (l : List Frame). with_actuals (record (kept ready) { control = l }) ops below base entry.slots count) control
-    ∙ ap (λ (e : Kept). with_actuals (record e { control = frame ∷ reverse old.control.items }) ops below base entry.slots count) goes.kept) in
+    let begun : kept c.begin_slots.new.self ≡ with_actuals (with_cells (kept old) row) ops below base entry.slots count =
+    c.begin_slots.ensures.kept ∙ ap (λ (e : Kept). with_actuals e ops below base entry.slots count) goes.kept in
     let cells : ready.cells.items ≡ row = ap (λ (e : Kept). e.cells) goes.kept in
-    call_makes code old c.stand.new.self c.args.kind c.args.place c.args.body count g.s entry b more c.requires.0 c.requires.1.0 found
+    call_makes code old c.stand.new.self c.args.kind c.args.place c.args.body count c.args.copies g.s entry b more c.requires.0 c.requires.1.0 found
     (record {
       number = ap (λ n. n + 1) (c.begin_slots.ensures.given ∙ c.in_ok-prepare.ensures.number);
       window = refl;
-      begins = begins_at code.kinds c.args.kind (c.args.place + 1) c.window.result c.height_at.result c.count_values.result (first_window (reverse old.masters.items)) c.window.ensures c.height_at.ensures c.count_values.ensures;
+      begins = begins_at code.kinds c.args.kind c.args.copies (c.args.place + 1) c.window.result c.height_at.result c.count_values.result (first_window (reverse old.masters.items)) c.window.ensures c.height_at.ensures c.count_values.ensures;
       slots = refl;
       link = c.around-link.ensures.bound;
       display = c.around-link.ensures.display;
@@ -103,7 +95,7 @@ returns-clause-ok g c =
     (c.count_spots.ensures.count ∙ ap (λ (e : Kept). length e.spots) begun)
     (subst (λ (l : List ℕ). b.base + code.room ≤ length l) cells c.in_ok-prepare.ensures.cells)
     (record {
-      kept = c.stand.ensures.kept ∙ ap (λ (e : Kept). with_master e 0 AfterOf.Body b e.cells) begun;
+      kept = c.stand.ensures.kept ∙ (ap (λ (a : After). with_master (kept c.begin_slots.new.self) 0 a b c.begin_slots.new.self.cells.items) c.after_for.ensures ∙ ap (λ (e : Kept). with_master e 0 (after_for c.args.kind c.args.copies (c.args.place + 1)) b e.cells) begun);
       mode = c.stand.ensures.mode;
       events = c.stand.ensures.events ∙ (ap (λ v. v.items) c.begin_slots.ensures.events ∙ (goes.events ∙ sym (append-nil old.events.items)));
       picks = c.stand.ensures.picks ∙ (ap (λ v. v.items) c.begin_slots.ensures.picks ∙ goes.picks);

@@ -1,5 +1,6 @@
 use Rattle.std.proofs.Common.{◌+◌, ◌++◌, ◌∙◌, List, [], ◌∷◌, ap, arith, refl, subst, sym}
 use Rattle.std.proofs.lemmas.List.{length-append}
+use Rattle.ctl_machine.specs.declared.frame.After.TheVariants as AfterOf
 use Rattle.ctl_machine.specs.declared.frame.Master.{Master}
 use Rattle.ctl_machine.specs.Holders.{IsOwnerOf, first_formal}
 use Rattle.ctl_machine.specs.Moves.{cleared}
@@ -43,4 +44,4 @@ returns g c =
       formals = ap (λ n. n + 1) c.count_formals-outer_formals.ensures.count ∙ sym (length-append old.formals.items (first_formal g.t.spot ∷ []));
     } in
     operation_makes code old c.open_for.new.self entry c.args.at c.args.base c.owner_of-owner.result g.t b c.args.event c.requires.0 c.requires.1.0 c.requires.1.1.1 owner is c.count_spots.ensures.count
-    (record { kept = c.open_for.ensures.kept ∙ ap (λ (p : Spot). with_body (kept old) b (cleared b.base entry.slots old.cells.items) (old.formals.items ++ first_formal p ∷ [])) c.requires.1.1.0; mode = c.open_for.ensures.mode; events = c.open_for.ensures.events ∙ c.push_reserved.ensures.items; picks = c.open_for.ensures.picks })
+    (record { kept = c.open_for.ensures.kept ∙ ap (λ (p : Spot). with_body (kept old) AfterOf.Body b (cleared b.base entry.slots old.cells.items) (old.formals.items ++ first_formal p ∷ [])) c.requires.1.1.0; mode = c.open_for.ensures.mode; events = c.open_for.ensures.events ∙ c.push_reserved.ensures.items; picks = c.open_for.ensures.picks })

@@ -9,3 +9,6 @@ returns-in-Fetch-clause-makes g c = subst (λ (i : Instr). Makes c.args.code.now
 
 pub returns-in-Store-clause-makes : goal.returns-in-Store-clause-makes
 returns-in-Store-clause-makes g c = subst (λ (i : Instr). Makes c.args.code.now c.args.self.now c.store.new.self (by_instr c.args.code.now (Some i) g.s.operands (here_of c.args.place g.s))) (sym c.in-Store.is) (c.store.ensures.makes c.in-Store.ty)
+
+pub returns-in-CopyBack-clause-makes : goal.returns-in-CopyBack-clause-makes
+returns-in-CopyBack-clause-makes g c = subst (λ (i : Instr). Makes c.args.code.now c.args.self.now c.copy_back.new.self (by_instr c.args.code.now (Some i) g.s.operands (here_of c.args.place g.s))) (sym c.in-CopyBack.is) c.copy_back.ensures.makes

@@ -5,3 +5,6 @@ ghost-fetch g a = g.s
 
 abbrev pub ghost-store : goal.ghost-store
 ghost-store g a = g.s
+
+abbrev pub ghost-copy_back : goal.ghost-copy_back
+ghost-copy_back g a = g.s

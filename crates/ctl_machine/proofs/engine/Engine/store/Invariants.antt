@@ -1,4 +1,4 @@
 use Rattle.ctl_machine.proofs.engine.Engine.store.Given as goal
 
-abbrev pub ghost-variable : goal.ghost-variable
-ghost-variable g a = g.s
+abbrev pub ghost-give : goal.ghost-give
+ghost-give g a = g.s

@@ -1,0 +1,148 @@
+//! What a formal holds in the end of its body is an operand where the call goes on, and goes back to a variable (RM 6.4.1).
+
+use crate::codes::{code_of, printed, valid_code_of};
+use crate::lines::{ADD, CELL_2, FIRST, Line, SECOND};
+use ctl_code::code::{Instr, Way};
+use ctl_machine::machine::Machine;
+use ctl_machine::outcome::Outcome;
+use ctl_program::types::Ty;
+use ctl_tree::ending::End;
+use ctl_tree::request::Order;
+use std::alloc::Global;
+use std::test::Fail;
+
+/// Puts the actual.
+const ACTUAL: Instr = Instr::Set {
+    value: 20,
+    ty: Ty::Integer,
+    to: CELL_2,
+};
+
+/// Calls the procedure with it, whose formal gives back what it holds.
+const CALL: Instr = Instr::Call {
+    procedure: 1,
+    actuals: 1,
+    copies: 1,
+};
+
+/// The second variable takes it.
+const COPY_BACK: Instr = Instr::CopyBack {
+    depth: 1,
+    at: 2,
+    out: 0,
+    slot: 1,
+};
+
+/// What the second variable has.
+const TAKEN: Instr = Instr::Move {
+    from: SECOND,
+    ty: Ty::Integer,
+    to: CELL_2,
+};
+
+const PRINT: Instr = Instr::PutLine { text: 1, first: 2 };
+
+/// Adds one to the formal.
+const INCREASE: Instr = Instr::BinaryConstant {
+    op: ADD,
+    left: FIRST,
+    right: 1,
+    to: FIRST,
+};
+
+/// Where the procedure stands.
+const BODY: usize = 9;
+
+/// A variable takes what the formal holds behind the call, and is printed; so is what it has where the body is left by this.
+fn lines_with(end: Instr) -> [Line; 11] {
+    [
+        (Instr::Start(0), ""),
+        (Instr::Handle(6), "m"),
+        (ACTUAL, "m"),
+        (CALL, "mi"),
+        (COPY_BACK, "mi"),
+        (Instr::Discard(1), "mi"),
+        (TAKEN, "m"),
+        (PRINT, "mi"),
+        (Instr::Leave, "m"),
+        (INCREASE, "f"),
+        (end, "f"),
+    ]
+}
+
+/// The same, with this in the place of the copy that goes back.
+fn lines_with_back(back: Instr) -> [Line; 11] {
+    let mut lines = lines_with(Instr::Leave);
+    lines[4] = (back, "mi");
+    lines
+}
+
+/// Runs these lines.
+fn outcome_of(alloc: Global, lines: &[Line]) -> Result<Outcome, Fail> {
+    let code = valid_code_of(alloc, lines, &[BODY])?;
+    let mut machine = Machine::new(alloc, &code, Order::Newest)?;
+    let _ = machine.run(1000);
+    Ok(machine.finish())
+}
+
+#[test]
+fn a_copy_goes_back(rt: HostRuntime) -> Result<(), Fail> {
+    let alloc = rt.alloc();
+    for end in [Instr::Leave, Instr::Transfer(Way::Return)] {
+        let outcome = outcome_of(alloc, &lines_with(end))?;
+        let bytes = printed(alloc, &outcome)?;
+        assert_eq!(rt; bytes.as_slice(), b" 21\n".as_slice());
+        assert!(rt; matches!(&outcome.end, End::Done));
+    }
+    Ok(())
+}
+
+#[test]
+fn no_copy_goes_back_behind_an_exception(rt: HostRuntime) -> Result<(), Fail> {
+    let alloc = rt.alloc();
+    let mut lines = lines_with(Instr::Transfer(Way::Raise(0)));
+    // The handler begins where the variable is printed.
+    lines[1] = (Instr::Handle(4), "m");
+    let outcome = outcome_of(alloc, &lines)?;
+    let bytes = printed(alloc, &outcome)?;
+    assert_eq!(rt; bytes.as_slice(), b" 0\n".as_slice());
+    assert!(rt; matches!(&outcome.end, End::Done));
+    Ok(())
+}
+
+#[test]
+fn only_what_stands_there_goes_back(rt: HostRuntime) -> Result<(), Fail> {
+    let alloc = rt.alloc();
+    for (depth, at, is_valid) in [(1, 2, true), (1, 1, false), (0, 3, false), (2, 1, false)] {
+        let back = Instr::CopyBack {
+            depth,
+            at,
+            out: 0,
+            slot: 1,
+        };
+        let code = code_of(alloc, &lines_with_back(back), &[BODY])?;
+        assert!(rt; code.validate().is_some() == is_valid);
+    }
+    let mut lines = lines_with(Instr::Leave);
+    lines[5] = (Instr::Discard(2), "mi");
+    assert!(rt; code_of(alloc, &lines, &[BODY])?.validate().is_none());
+    Ok(())
+}
+
+/// No more formals give back what they hold than there are actuals.
+#[test]
+fn there_are_no_more_copies_than_actuals(rt: HostRuntime) -> Result<(), Fail> {
+    let alloc = rt.alloc();
+    let mut lines = lines_with(Instr::Leave);
+    lines[3] = (
+        Instr::Call {
+            procedure: 1,
+            actuals: 0,
+            copies: 1,
+        },
+        "m",
+    );
+    lines[2] = (Instr::NewLine, "m");
+    assert!(rt; code_of(alloc, &lines, &[BODY])?.validate().is_none());
+    Ok(())
+}
