@@ -682,7 +682,7 @@ pub fn is_fine(code: &Code, place: usize, instr: &Instr) -> bool
             at,
             out,
             slot,
-        } => { is_copy_back_fine(code, place, depth, at, out, slot) }
+        } => is_copy_back_fine(code, place, depth, at, out, slot),
         Instr::Discard(count) => is_discard_fine(code, place, count),
         Instr::Evaluate {
             function,

@@ -22,7 +22,7 @@ impl Emitter {
         ensures { OnOk result (self.new ≡ stated (spec.call procedure (map values.actual_code actuals.now)) None self.old) }
     {
         let count = actuals.len();
-        let copies = copies_of(actuals);
+        let copies = count_copies(actuals);
         self.over_actuals(
             actuals,
             Instr::Call {
@@ -31,7 +31,7 @@ impl Emitter {
                 copies,
             },
         )?;
-        self.copies(actuals)
+        self.copies_behind(actuals)
     }
 
     /// Emits a call of a function, whose value of this type goes into a cell (RM 6.4).
@@ -95,7 +95,7 @@ impl Emitter {
                 self.enter(Kind::Operand(*ty))
             }
             Actual::Copied(name, ty, begins) => {
-                self.copied(name, *ty, *begins)?;
+                self.copied_actual(name, *ty, *begins)?;
                 self.enter(Kind::Operand(*ty))
             }
         }
@@ -112,7 +112,7 @@ impl Emitter {
     }
 
     /// Emits what a copy of a variable begins with (RM 6.4.1).
-    fn begins(&mut self, variable: Var, ty: Ty, begins: CopyStart) -> Result<(), AllocError>
+    fn begin_copy(&mut self, variable: Var, ty: Ty, begins: CopyStart) -> Result<(), AllocError>
         ensures { OnOk result (self.new ≡ lined (values.begins_code begins variable ty) self.old) }
     {
         let to = self.new_operand();
@@ -123,11 +123,11 @@ impl Emitter {
     }
 
     /// Emits a copy of what a name denotes.
-    fn copied(&mut self, name: &Name, ty: Ty, begins: CopyStart) -> Result<(), AllocError>
+    fn copied_actual(&mut self, name: &Name, ty: Ty, begins: CopyStart) -> Result<(), AllocError>
         ensures { OnOk result (self.new ≡ lined (values.by_copy (values.reached_by name.now) ty begins).code self.old) }
     {
         match reached_by(name) {
-            Some(Reached::Variable(variable)) => self.begins(variable, ty, begins),
+            Some(Reached::Variable(variable)) => self.begin_copy(variable, ty, begins),
             Some(Reached::Part { .. }) | None => self.put(Instr::Missing),
         }
     }
@@ -152,7 +152,7 @@ impl Emitter {
     }
 
     /// Emits that the copy of an actual goes back, if it does; it is the last of so many operands, in this cell (RM 6.4.1).
-    fn back(&mut self, actual: &Actual, depth: usize, at: usize) -> Result<(), AllocError>
+    fn copy_back(&mut self, actual: &Actual, depth: usize, at: usize) -> Result<(), AllocError>
         ensures { OnOk result (self.new ≡ lined (values.back_to (values.actual_code actual.now).back depth at) self.old) }
     {
         match back_of(actual) {
@@ -170,14 +170,14 @@ impl Emitter {
     }
 
     /// Emits that copies go back, from left to right, the first of these actuals being in this cell (RM 6.4.1).
-    fn backs(&mut self, actuals: &[Actual], at: usize) -> Result<(), AllocError>
+    fn copies_back(&mut self, actuals: &[Actual], at: usize) -> Result<(), AllocError>
         requires { at + length actuals.now < 2 ^ 64 }
         ensures { OnOk result (self.new ≡ lined (values.backs_code (map values.actual_code actuals.now) at) self.old) }
     {
         let mut at = at;
         let mut depth = actuals.len();
         for one in actuals {
-            self.back(one, depth, at)?;
+            self.copy_back(one, depth, at)?;
             at += 1;
             depth = depth.saturating_sub(1);
         }
@@ -185,24 +185,24 @@ impl Emitter {
     }
 
     /// Emits that copies go back behind a call, which left what its formals held as numbers, and that these are dropped.
-    fn copied_back(&mut self, actuals: &[Actual]) -> Result<(), AllocError>
+    fn all_copies_back(&mut self, actuals: &[Actual]) -> Result<(), AllocError>
         ensures { OnOk result (self.new ≡ lined (values.copied_back (map values.actual_code actuals.now) (length actuals.now)) self.old) }
     {
         let numbers = actuals.len();
         self.enter_numbers(numbers)?;
         let at = self.height().saturating_sub(numbers);
-        self.backs(actuals, at)?;
+        self.copies_back(actuals, at)?;
         self.put(Instr::Discard(numbers))?;
         self.leave_actuals(actuals);
         Ok(())
     }
 
     /// Emits the copies of a call, if one goes back.
-    fn copies(&mut self, actuals: &[Actual]) -> Result<(), AllocError>
+    fn copies_behind(&mut self, actuals: &[Actual]) -> Result<(), AllocError>
         ensures { OnOk result (self.new ≡ lined (values.copies_code (map values.actual_code actuals.now)) self.old) }
     {
         if goes_back(actuals) {
-            self.copied_back(actuals)
+            self.all_copies_back(actuals)
         } else {
             Ok(())
         }
@@ -210,7 +210,7 @@ impl Emitter {
 }
 
 /// Counts the formals that give back what they hold: all of them, where a copy goes back.
-fn copies_of(actuals: &[Actual]) -> usize
+fn count_copies(actuals: &[Actual]) -> usize
     ensures { result ≡ values.copies_of (map values.actual_code actuals.now) }
 {
     if goes_back(actuals) { actuals.len() } else { 0 }

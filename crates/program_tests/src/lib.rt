@@ -1,4 +1,4 @@
-//! Tests of the crates `ctl_job`, `ctl_sink`, `ctl_front`, `ctl_run` and `ctl_serve`, one module for each.
+//! Tests of the crates `ctl_job`, `ctl_sink`, `ctl_front`, `ctl_run` and `ctl_serve`: their calls, and runs of whole texts by subject.
 #![tactic(auto)]
 
 #[cfg(test)]

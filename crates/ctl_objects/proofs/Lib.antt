@@ -1,0 +1,11 @@
+pub mod Rising
+pub mod Found
+pub mod Laid
+pub mod Kept
+pub mod Seen
+pub mod InStore
+pub mod Listed
+pub mod Both
+pub mod Runs
+pub mod Conditions
+pub mod Apart

@@ -1,0 +1,8 @@
+use Rattle.std.specs.Prelude.{◌≡◌, drop, not}
+use Rattle.ctl_meaning.specs.Lists.{keep}
+use Rattle.ctl_objects.specs.Sets.{is_of_sets}
+use Rattle.ctl_objects.proofs.allocations.Allocations.close_sets.Given as goal
+
+-- the objects of the collections that are left are still to go
+abbrev pub invariant-loop-set : goal.invariant-loop-set
+invariant-loop-set l = keep (λ o. not (is_of_sets (drop l.set-index l.sets) o.origin)) l.self ≡ keep (λ o. not (is_of_sets l.sets o.origin)) l.fn.self

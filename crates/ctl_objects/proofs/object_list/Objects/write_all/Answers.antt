@@ -1,0 +1,28 @@
+use Rattle.std.proofs.Common.{◌∙◌, ap, sym}
+use Rattle.ctl_meaning.specs.Objects.{change_in}
+use Rattle.ctl_meaning.specs.Objects.{with_cells}
+use Rattle.ctl_objects.proofs.Both.{changed_first, changed_second}
+use Rattle.ctl_objects.proofs.InStore.{cells_keep}
+use Rattle.ctl_objects.proofs.object_list.Objects.write_all.Goals as goal
+
+pub invariant_of-self : goal.invariant_of-self
+invariant_of-self c =
+    let s = c.self.inside in
+    (changed_first c.args.number (with_cells c.args.start c.args.values.now) s.allocated s.declared c.write_all-then-not-write_all.new.self c.write_all.new.self (cells_keep c.args.start c.args.values.now) c.self.invariant c.write_all-then-not-write_all.ensures.written c.write_all.ensures.written).0
+
+pub invariant_of-self-else-not-write_all : goal.invariant_of-self-else-not-write_all
+invariant_of-self-else-not-write_all c =
+    let s = c.self.inside in
+    (changed_second c.args.number (with_cells c.args.start c.args.values.now) s.allocated s.declared c.write_all.new.self (cells_keep c.args.start c.args.values.now) c.self.invariant c.write_all.ensures.written (sym c.if-not-write_all.false ∙ c.write_all.ensures.exists)).0
+
+pub returns-then-not-write_all : goal.returns-then-not-write_all
+returns-then-not-write_all c =
+    let s = c.self.inside in
+    (changed_first c.args.number (with_cells c.args.start c.args.values.now) s.allocated s.declared c.write_all-then-not-write_all.new.self c.write_all.new.self (cells_keep c.args.start c.args.values.now) c.self.invariant c.write_all-then-not-write_all.ensures.written c.write_all.ensures.written).1
+    ∙ ap (change_in c.args.number (with_cells c.args.start c.args.values.now)) c.self.view_is
+
+pub returns-else-not-write_all : goal.returns-else-not-write_all
+returns-else-not-write_all c =
+    let s = c.self.inside in
+    (changed_second c.args.number (with_cells c.args.start c.args.values.now) s.allocated s.declared c.write_all.new.self (cells_keep c.args.start c.args.values.now) c.self.invariant c.write_all.ensures.written (sym c.if-not-write_all.false ∙ c.write_all.ensures.exists)).1
+    ∙ ap (change_in c.args.number (with_cells c.args.start c.args.values.now)) c.self.view_is

@@ -1,0 +1,49 @@
+use Rattle.std.proofs.Common.{◌∙◌, List, Option, ap, subst, sym}
+use Rattle.std.specs.Prelude.{is_some}
+use Rattle.pool_store.specs.Store.{Store}
+use Rattle.ctl_meaning.specs.World.{Object}
+use Rattle.ctl_meaning.specs.Objects.{change_in, object_in, with_cells}
+use Rattle.ctl_objects.specs.InStore.{AreStored, seen}
+use Rattle.ctl_objects.proofs.Rising.{change_lacking}
+use Rattle.ctl_objects.proofs.InStore.{as_many, found_here, found_none, seen_all, stored_all}
+use Rattle.ctl_objects.proofs.stored.StoredObjects.write_all.Goals as goal
+
+pub write_words-requires : goal.write_words-requires
+write_words-requires c =
+    let s = c.self.inside in
+    as_many s.objects.values s.store c.args.number c.in-Some.object.now c.self.invariant (sym c.in-Some.ensures)
+
+pub invariant_of-self : goal.invariant_of-self
+invariant_of-self c =
+    let s = c.self.inside in
+    subst (λ (x : Store). AreStored s.objects.values x) (sym c.write_words.ensures) (stored_all s.objects.values s.store c.args.number c.args.start c.args.values.now c.self.invariant)
+
+pub returns-in-Some-clause-exists : goal.returns-in-Some-clause-exists
+returns-in-Some-clause-exists c =
+    let s = c.self.inside in
+    let n = c.args.number in
+    sym (ap (λ (o : Option Object). is_some o) (found_here s.objects.values s.store n c.in-Some.object.now (sym c.in-Some.ensures)))
+    ∙ ap (λ (l : List Object). is_some (object_in n l)) c.self.view_is
+
+pub returns-in-Some-clause-written : goal.returns-in-Some-clause-written
+returns-in-Some-clause-written c =
+    let s = c.self.inside in
+    let n = c.args.number in
+    let offset = c.args.start in
+    ap (λ (x : Store). seen s.objects.values x) c.write_words.ensures
+    ∙ (seen_all s.objects.values s.store n offset c.args.values.now
+    ∙ ap (λ (l : List Object). change_in n (with_cells offset c.args.values.now) l) c.self.view_is)
+
+pub returns-in-None-clause-exists : goal.returns-in-None-clause-exists
+returns-in-None-clause-exists c =
+    let s = c.self.inside in
+    let n = c.args.number in
+    sym (ap (λ (o : Option Object). is_some o) (found_none s.objects.values s.store n (sym c.in-None.ensures)))
+    ∙ ap (λ (l : List Object). is_some (object_in n l)) c.self.view_is
+
+pub returns-in-None-clause-written : goal.returns-in-None-clause-written
+returns-in-None-clause-written c =
+    let s = c.self.inside in
+    let n = c.args.number in
+    let f = with_cells c.args.start c.args.values.now in
+    sym (change_lacking n f c.args.self.now (ap (λ (l : List Object). object_in n l) (sym c.self.view_is) ∙ found_none s.objects.values s.store n (sym c.in-None.ensures)))

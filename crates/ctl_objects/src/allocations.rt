@@ -1,0 +1,187 @@
+//! The allocated objects, which come and go in any order, or with their collection.
+
+ghost use Rattle.std.specs.Prelude.{◌≡◌, ◌+◌, ◌++◌, ◌∷◌, [], ℕ, List, OnOk, OnErr, replicate, is_some, nat_eq, not, vec_capacity, vec_len, ◌≤◌};
+ghost use Rattle.std.specs.Option.{option_map, option_map_or};
+ghost use Rattle.ctl_meaning.specs.World as W;
+ghost use Rattle.ctl_meaning.specs.Lists.{keep};
+ghost use Rattle.ctl_meaning.specs.Names.{scalar_of};
+ghost use Rattle.ctl_meaning.specs.Objects.{cells_at, change_in, ends_with_master, is_of_set, object_in, with_cells};
+ghost use Rattle.ctl_meaning.specs.Changes.{new_object};
+ghost use Rattle.ctl_objects.specs.Existing.{IsKnown};
+ghost use Rattle.ctl_objects.specs.Order.{AreBelow, Rise};
+ghost use Rattle.ctl_objects.specs.Sets.{AreAmong, is_of_sets};
+ghost use Rattle.ctl_objects.specs.Stages.{with_step};
+
+use crate::existing::{Existing, Step};
+use crate::sets::{Sets, list_object, unlist_object};
+use crate::stored::StoredObjects;
+use ctl_program::types::Ty;
+use number_map::NumberMap;
+use std::alloc::{AllocError, Global};
+use std::marker::Model;
+
+/// The allocated objects with the collections that they belong to, which contracts see as a list of
+/// the meaning's objects. It ends by `close`.
+pub struct Allocations {
+    alloc: Global,
+    objects: StoredObjects,
+    sets: Sets,
+}
+
+impl Model for Allocations {
+    ghost use Rattle.std.specs.Prelude.{List};
+    ghost use Rattle.ctl_meaning.specs.World.{Object};
+    ghost use Rattle.ctl_objects.specs.Sets.{AreListed};
+
+    ghost Value = { List Object };
+
+    ghost view = { λ a. a.objects };
+
+    ghost invariant = { λ a. AreListed a.objects a.sets.values };
+}
+
+impl Allocations {
+    /// Makes no object. It takes no memory.
+    pub fn new(alloc: Global) -> Allocations
+        ensures { result ≡ [] }
+    {
+        Allocations {
+            alloc,
+            objects: StoredObjects::new(alloc),
+            sets: NumberMap::new(alloc),
+        }
+    }
+
+    /// Allocates an object for a collection, with so many cells, all of them 0 (RM 4.8).
+    ///
+    /// # Errors
+    ///
+    /// `AllocError` where the allocator refuses the memory. Nothing changes then.
+    pub fn allocate(
+        &mut self,
+        number: u64,
+        ty: Ty,
+        collection: u64,
+        cells: usize,
+    ) -> Result<(), AllocError>
+        requires { AreBelow number self.old }
+        ensures ok { OnOk result (self.new ≡ self.old ++ new_object number ty (replicate cells 0) (W.Allocated collection W.Standard) ∷ []) }
+        ensures err { OnErr result (self.new ≡ self.old) }
+    {
+        list_object(&mut self.sets, self.alloc, collection, number)?;
+        self.objects.add(number, ty, collection, cells)
+    }
+
+    /// Reads a cell of a part of an object, by the first cell of the part: 0 where the object has
+    /// no such cell, None where it does not exist.
+    #[inline(always)]
+    pub fn read(&self, number: u64, start: usize, offset: usize) -> Option<u64>
+        ensures { result ≡ option_map (λ o. scalar_of (cells_at (start + offset) 1 o)) (object_in number self.now) }
+    {
+        self.objects.read(number, start, offset)
+    }
+
+    /// Writes a cell of a part of an object, by the first cell of the part: nothing where it has no
+    /// such cell. It answers whether the object exists.
+    #[inline(always)]
+    pub fn write(&mut self, number: u64, start: usize, offset: usize, value: u64) -> bool
+        ensures exists { result ≡ is_some (object_in number self.old) }
+        ensures written { self.new ≡ change_in number (with_cells (start + offset) (value ∷ [])) self.old }
+    {
+        self.objects.write(number, start, offset, value)
+    }
+
+    /// Appends so many cells of an object, from one on, to those that are saved, for which there is
+    /// room: 0 for one that the object does not have. It answers whether the object exists; nothing
+    /// is appended where it does not.
+    pub fn save(&self, number: u64, start: usize, count: usize, saved: &mut Vec<u64>) -> bool
+        requires { vec_len saved.old + count ≤ vec_capacity saved.old }
+        ensures exists { result ≡ is_some (object_in number self.now) }
+        ensures items { saved.new.items ≡ saved.old.items ++ option_map_or (cells_at start count) (object_in number self.now) [] }
+    {
+        self.objects.save(number, start, count, saved)
+    }
+
+    /// Writes these values into cells of an object, from one on: none for which it has no cell. It
+    /// answers whether the object exists.
+    pub fn write_all(&mut self, number: u64, start: usize, values: &[u64]) -> bool
+        ensures exists { result ≡ is_some (object_in number self.old) }
+        ensures written { self.new ≡ change_in number (with_cells start values.now) self.old }
+    {
+        self.objects.write_all(number, start, values)
+    }
+
+    /// Answers what is known of an object beside its cells.
+    pub fn find(&self, number: u64) -> Option<Existing>
+        ensures { IsKnown number result self.now }
+    {
+        self.objects.find(number)
+    }
+
+    /// Takes a step of an object. It answers whether the object exists.
+    pub fn step(&mut self, number: u64, step: Step) -> bool
+        ensures exists { result ≡ is_some (object_in number self.old) }
+        ensures stepped { self.new ≡ change_in number (with_step step) self.old }
+    {
+        self.objects.step(number, step)
+    }
+
+    /// Forgets an object, where it exists (RM 13.11.2).
+    pub fn forget(&mut self, number: u64)
+        ensures { self.new ≡ keep (λ o. not (nat_eq o.number number)) self.old }
+    {
+        if let Some(collection) = self.objects.remove(number) {
+            unlist_object(&mut self.sets, collection, number);
+        }
+    }
+
+    /// Forgets the objects of these collections (RM 7.6.1). It takes time in how many they are.
+    pub fn close_sets(&mut self, sets: &[u64])
+        ensures { (master : ℕ) → self.new ≡ keep (λ o. not (ends_with_master master sets.now o.origin)) self.old }
+    {
+        self.are_allocated();
+        for set in sets {
+            self.close_set(*set);
+        }
+    }
+
+    /// Says that no object is declared.
+    fn are_allocated(&self)
+        ensures { (master : ℕ) (sets : List ℕ) → keep (λ o. not (is_of_sets sets o.origin)) self.now ≡ keep (λ o. not (ends_with_master master sets o.origin)) self.now }
+    {
+        let _ = &self.sets;
+    }
+
+    fn close_set(&mut self, set: u64)
+        ensures { self.new ≡ keep (λ o. not (is_of_set set o.origin)) self.old }
+    {
+        match self.sets.remove(set) {
+            Some(members) => forget_members(&mut self.objects, set, members),
+            None => (),
+        }
+    }
+
+    /// Frees all memory.
+    pub fn close(self) {
+        let Allocations {
+            alloc: _alloc,
+            objects,
+            sets: _sets,
+        } = self;
+        objects.close();
+    }
+}
+
+/// Forgets the objects of a collection, which are among these numbers.
+fn forget_members(objects: &mut StoredObjects, set: u64, members: NumberMap<()>)
+    requires rise { Rise 0 objects.old }
+    requires among { AreAmong set objects.old members.values }
+    ensures { objects.new ≡ keep (λ o. not (is_of_set set o.origin)) objects.old }
+{
+    let mut members = members;
+    while let Some((number, ())) = members.pop() {
+        if objects.is_of(number, set) {
+            let _ = objects.remove(number);
+        }
+    }
+}

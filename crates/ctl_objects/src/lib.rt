@@ -1,0 +1,17 @@
+//! The objects that exist while a program runs: those that are declared, and those that are
+//! allocated, with their cells.
+#![tactic(auto)]
+
+mod allocations;
+mod cells;
+mod declarations;
+mod existing;
+mod object_list;
+mod sets;
+mod stored;
+
+pub use existing::{Existing, Life, Origin, Stage};
+pub use object_list::Objects;
+
+#[cfg(test)]
+mod tests;
