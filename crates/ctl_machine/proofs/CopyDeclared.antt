@@ -1,11 +1,13 @@
 -- An object is declared with the value of another one.
-use Rattle.std.proofs.Common.{◌≡◌, ℕ, ◌+◌, ◌-◌, ◌≤◌, List, [], ◌∷◌, Option, Some, None, length, refl, sym, ap, ◌∙◌, subst, drop, reverse}
+use Rattle.std.proofs.Common.{◌≡◌, ℕ, ◌+◌, ◌-◌, ◌≤◌, List, [], ◌∷◌, ◌++◌, Option, Some, None, length, refl, sym, ap, ◌∙◌, subst, drop, replicate, reverse}
 use Rattle.std.specs.Prelude.{slice_get}
+use Rattle.std.specs.Option.{option_map_or}
 use Rattle.ctl_tree.specs.declared.ending.Stop.TheVariants.{UseAfterFree}
 use Rattle.ctl_meaning.specs.World as W
-use Rattle.ctl_meaning.specs.Objects.{cells_at}
-use Rattle.ctl_meaning.specs.World.{World}
-use Rattle.ctl_meaning.specs.Changes.{object_at, write_cells, opened_changes}
+use Rattle.ctl_program.specs.declared.types.Ty.TheVariants.{Record}
+use Rattle.ctl_meaning.specs.Objects.{cells_at, change_in, object_in, with_cells}
+use Rattle.ctl_meaning.specs.World.{Declared, World}
+use Rattle.ctl_meaning.specs.Changes.{new_object, object_at, write_cells, opened_changes}
 use Rattle.ctl_code.specs.declared.kinds.Kind.{Kind}
 use Rattle.ctl_code.specs.declared.code.Code.{Code}
 use Rattle.ctl_code.specs.declared.code.Instr.TheVariants.{DeclareCopy}
@@ -17,22 +19,19 @@ use Rattle.ctl_machine.specs.declared.engine.Engine.{Engine}
 use Rattle.ctl_machine.specs.declared.frame.Master.{Master}
 use Rattle.ctl_machine.specs.declared.frame.Mode.TheVariants as ModeOf
 use Rattle.ctl_machine.specs.declared.frame.Owned.{Owned}
-use Rattle.ctl_machine.specs.Masters.{Head, heads_of, first_display, object_of}
-use Rattle.ctl_machine.specs.Holders.{Lacks}
+use Rattle.ctl_machine.specs.Finishing.{with_objects}
+use Rattle.ctl_machine.specs.Masters.{Head, heads_of, first_display}
 use Rattle.ctl_machine.specs.Shows.{Sized, Kept, Holds, kept, with_spots, IsCreated}
 use Rattle.ctl_machine.specs.Spots.{first_spot, standing}
 use Rattle.ctl_meaning.specs.Finalization.{Spot}
 use Rattle.ctl_machine.proofs.Located.{part_on_top}
 use Rattle.ctl_machine.specs.Moves.{Before, GoesOn, Inside, Makes, here_of}
-use Rattle.ctl_machine.specs.Declaring.{Copied, IsCopied, with_object, with_row}
-use Rattle.ctl_machine.proofs.Copied.{length_copied, value_taken}
+use Rattle.ctl_machine.specs.Declaring.{Copied, IsCopied, with_object}
 use Rattle.ctl_machine.proofs.Created.{newborn}
-use Rattle.ctl_machine.proofs.Finalized.{object_is}
 use Rattle.ctl_machine.proofs.Following.{makes_later}
 use Rattle.ctl_machine.proofs.Newborn.{has_object}
-use Rattle.ctl_machine.proofs.Newest.{get_newest}
-use Rattle.ctl_machine.proofs.Numbers.{no_object}
 use Rattle.ctl_machine.proofs.Operands.{HasPart}
+use Rattle.ctl_machine.proofs.Owned.{cells_keep, holds_changed, new_found, object_shown, still_found}
 use Rattle.ctl_machine.proofs.Touched.{gone_makes}
 
 -- the value of a part of an object, if there is the object
@@ -61,43 +60,65 @@ table_copies code slot t y ops rest h o x are there new = rw (are, there, new) r
 pub copied_part : (code : Code) (e : Engine) (place slot t : ℕ) (s : State) → (b : Before code e place (DeclareCopy slot t) s) → HasPart code (kept e) b.fine.1.0 s.control s.operands s.world
 copied_part code e place slot t s b = part_on_top code e t b.stack b.fine.1.0 s b.inside b.fine.1.1
 
+written_heads : (code : Code) (slot t : ℕ) (s : State) → (let d = first_display (heads_of s.world.activations) in heads_of (Table.with_object code d slot t s.world).activations ≡ heads_of s.world.activations → heads_of (copied_at code 0 slot t s).world.activations ≡ heads_of s.world.activations)
+unfolding opened_changes
+written_heads code slot t s h = h
+
+-- a new object, which has taken this value
+abbrev pub with_copy : Master → ℕ → ℕ → ℕ → List ℕ → Kept → Kept
+with_copy m slot t size value e = with_objects (change_in e.next_object (with_cells 0 value) (with_object m slot t (replicate size 0) e).objects) (with_object m slot t (replicate size 0) e)
+
+-- it is created, and then its cells are copied from an object that was there
+pub copy_kept : (old ready made : Kept) (objects : List W.Object) (spots : List Spot) (m : Master) (slot t size source start offset count number : ℕ) (o : W.Object)
+    → ready ≡ old → made ≡ with_object m slot t (replicate size 0) ready → number ≡ old.next_object → object_in source old.objects ≡ Some o → start ≡ offset → size ≡ count
+    → objects ≡ option_map_or (λ z. change_in number (with_cells 0 (cells_at start size z)) made.objects) (object_in source made.objects) made.objects
+    → record made { spots = spots; objects = objects } ≡ with_copy m slot t count (cells_at offset count o) (with_spots old spots)
+copy_kept old ready made objects spots m slot t size source start offset count number o was created next there from all copied =
+    let x = new_object old.next_object (Record t) (replicate size 0) (Declared m.number) in
+    let made_is : made ≡ with_object m slot t (replicate size 0) old = created ∙ ap (λ (e : Kept). with_object m slot t (replicate size 0) e) was in
+    let more : made.objects ≡ old.objects ++ x ∷ [] = ap (λ (e : Kept). e.objects) made_is in
+    let found : object_in source made.objects ≡ Some o = ap (λ (l : List W.Object). object_in source l) more ∙ still_found old.objects source o x there in
+    let value = cells_at start size o in
+    let is : objects ≡ change_in old.next_object (with_cells 0 value) (old.objects ++ x ∷ []) =
+    copied
+    ∙ (ap (λ (z : Option W.Object). option_map_or (λ z. change_in number (with_cells 0 (cells_at start size z)) made.objects) z made.objects) found
+    ∙ (ap (λ n. change_in n (with_cells 0 value) made.objects) next
+    ∙ ap (λ (l : List W.Object). change_in old.next_object (with_cells 0 value) l) more)) in
+    ap (λ (l : List W.Object). record made { spots = spots; objects = l }) is
+    ∙ (ap (λ (e : Kept). record e { spots = spots; objects = change_in old.next_object (with_cells 0 value) (old.objects ++ x ∷ []) }) made_is
+    ∙ (ap (λ n. with_copy m slot t n (cells_at start n o) (with_spots old spots)) all
+    ∙ ap (λ n. with_copy m slot t count (cells_at n count o) (with_spots old spots)) from))
+
 -- what the object and its slot are
 record IsMade (code : Code) (mid : Engine) (slot t : ℕ) (s : State) (m : Master) (value : List ℕ) : Type 0 where
-  pub world : World
-  pub is : world ≡ write_cells s.world.ledger.next_object 0 value (Table.with_object code (first_display (heads_of s.world.activations)) slot t s.world)
   pub begun : W.Object
   pub there : object_at s.world.ledger.next_object (Table.with_object code (first_display (heads_of s.world.activations)) slot t s.world) ≡ Some begun
-  pub holds : Holds code (with_row m slot t (size_of code t) value (kept mid)) s.control (drop 1 s.operands) world
-  pub heads : heads_of world.activations ≡ heads_of s.world.activations
+  pub holds : Holds code (with_copy m slot t (size_of code t) value (kept mid)) s.control (drop 1 s.operands) (write_cells s.world.ledger.next_object 0 value (Table.with_object code (first_display (heads_of s.world.activations)) slot t s.world))
+  pub heads : heads_of (Table.with_object code (first_display (heads_of s.world.activations)) slot t s.world).activations ≡ heads_of s.world.activations
   pub owned : m.owned ≤ length mid.owned.items
   pub others : List Master
   pub masters : reverse mid.masters.items ≡ m ∷ others
   pub number : mid.given_objects + 1 ≡ s.world.ledger.next_object
 
 -- the object is created, and takes the value
-made_so : (code : Code) (mid : Engine) (below : List Kind) (slot t : ℕ) (s : State) (m : Master) (value : List ℕ) → Inside code (kept mid) below s.control (drop 1 s.operands) s.world → slice_get mid.masters.items (length mid.masters.items - 1) ≡ Some m → length value ≡ size_of code t
+made_so : (code : Code) (mid : Engine) (below : List Kind) (slot t : ℕ) (s : State) (m : Master) (value : List ℕ) → Inside code (kept mid) below s.control (drop 1 s.operands) s.world → slice_get mid.masters.items (length mid.masters.items - 1) ≡ Some m
     → IsMade code mid slot t s m value
 unfolding opened_changes
-made_so code mid below slot t s m value inside newest long =
+made_so code mid below slot t s m value inside newest =
     let w = s.world in
-    let d = first_display (heads_of w.activations) in
     let j = w.ledger.next_object in
-    let size = size_of code t in
     let rest = drop 1 s.operands in
     let has = has_object code mid below slot t s rest m inside newest in
-    let x = newborn (kept mid) slot t size m in
-    let zeros : Kept = with_object m slot t size (kept mid) in
-    let e : Kept = with_row m slot t size value (kept mid) in
-    let created = Table.with_object code d slot t w in
-    let is : x.number ≡ j = sym inside.holds.next_object in
+    let x = new_object (mid.given_objects + 1) (Record t) (replicate (size_of code t) 0) (Declared m.number) in
+    let zeros : Kept = with_object m slot t (replicate (size_of code t) 0) (kept mid) in
+    let created = Table.with_object code (first_display (heads_of w.activations)) slot t w in
+    let is : mid.given_objects + 1 ≡ j = sym inside.holds.next_object in
     let h : Holds code zeros s.control rest created = subst (λ (k : List T.Frame). Holds code zeros k rest created) (sym has.control) has.made.holds in
-    let taken = value_taken code zeros s.control rest created mid.owned.items mid.parts.items value x h refl refl inside.holds.lie refl long in
+    let taken = holds_changed code zeros s.control rest created (mid.given_objects + 1) (with_cells 0 value) (cells_keep 0 value) h in
     record {
-      world = write_cells j 0 value created;
-      is = refl;
-      begun = object_of zeros.parts x;
-      there = ap (λ c. object_at c created) (sym is) ∙ object_is code zeros s.control rest created (length zeros.owned - 1) x h (get_newest mid.owned.items x);
-      holds = subst (λ c. Holds code e s.control rest (write_cells c 0 value created)) is taken;
+      begun = x;
+      there = ap (λ c. object_at c created) (sym is) ∙ (object_shown code zeros s.control rest created (mid.given_objects + 1) h ∙ new_found mid.owned.items (mid.given_objects + 1) mid.objects x inside.holds.owns refl);
+      holds = subst (λ c. Holds code (with_copy m slot t (size_of code t) value (kept mid)) s.control rest (write_cells c 0 value created)) is taken;
       heads = has.made.heads;
       owned = has.owned;
       others = has.first.0;
@@ -106,27 +127,27 @@ made_so code mid below slot t s m value inside newest long =
     }
 
 -- the newest object has taken the value of a part of another one, and is to be adjusted
-pub copied_is : (code : Code) (old mid new : Engine) (place slot t found : ℕ) (s : State) (m : Master) (source : Owned) → Before code old place (DeclareCopy slot t) s → kept mid ≡ with_spots (kept old) (standing s.control (drop 1 s.operands))
-    → slice_get mid.masters.items (length mid.masters.items - 1) ≡ Some m → slice_get mid.owned.items found ≡ Some source → source.number ≡ (first_spot s.operands).object
-    → kept new ≡ with_row m slot t (size_of code t) (cells_at (first_spot s.operands).offset (size_of code t) (object_of mid.parts.items source)) (kept mid) → new.given_objects ≡ mid.given_objects + 1
+pub copied_is : (code : Code) (old mid new : Engine) (place slot t : ℕ) (s : State) (m : Master) (o : W.Object) → Before code old place (DeclareCopy slot t) s → kept mid ≡ with_spots (kept old) (standing s.control (drop 1 s.operands))
+    → slice_get mid.masters.items (length mid.masters.items - 1) ≡ Some m → object_in (first_spot s.operands).object mid.objects ≡ Some o
+    → kept new ≡ with_copy m slot t (size_of code t) (cells_at (first_spot s.operands).offset (size_of code t) o) (kept mid) → new.given_objects ≡ mid.given_objects + 1
     → IsCopied code new t (place + 1) (copied_at code (place + 1) slot t s) × ((new' : Engine) → new.events.items ≡ old.events.items → new.picks.items ≡ old.picks.items
     → (let x = copied_at code (place + 1) slot t s in Makes code new new' (adjust_new code (parts_of code t) x.number t x.point x.control x.world)) → Makes code old new' (by_instr code (Some (DeclareCopy slot t)) s.operands (here_of place s)))
-copied_is code old mid new place slot t found s m source b mid_is newest there number are given =
+copied_is code old mid new place slot t s m o b mid_is newest there are given =
     let w = s.world in
     let y = first_spot s.operands in
-    let o = object_of mid.parts.items source in
     let value = cells_at y.offset (size_of code t) o in
     let below = b.fine.1.0 in
     let rest = drop 1 s.operands in
     let g = copied_part code old place slot t s b in
     let inside : Inside code (kept mid) below s.control rest w = subst (λ (e : Kept). Inside code e below s.control rest w) (sym mid_is) g.left in
-    let made = made_so code mid below slot t s m value inside newest (length_copied y.offset (size_of code t) o) in
-    let e : Kept = with_row m slot t (size_of code t) value (kept mid) in
-    let object : object_at y.object w ≡ Some o = ap (λ c. object_at c w) (sym number) ∙ object_is code (kept mid) s.control rest w found source inside.holds there in
+    let made = made_so code mid below slot t s m value inside newest in
+    let e : Kept = with_copy m slot t (size_of code t) value (kept mid) in
+    let object : object_at y.object w ≡ Some o = object_shown code (kept mid) s.control rest w y.object inside.holds ∙ there in
     let x = copied_at code (place + 1) slot t s in
-    let world : made.world ≡ x.world = made.is ∙ ap (λ (z : Option W.Object). write_cells w.ledger.next_object 0 (value_of y.offset (size_of code t) z) (Table.with_object code (first_display (heads_of w.activations)) slot t w)) (sym object) in
-    let i : IsCreated w.ledger.next_object t m e.owned = record { before = mid.owned.items; object = newborn (kept mid) slot t (size_of code t) m; is_newest = refl; is_own = made.owned; number = made.number; record_type = refl; no_layer = refl } in
-    let heads : heads_of x.world.activations ≡ heads_of w.activations = ap (λ (v : World). heads_of v.activations) (sym world) ∙ made.heads in (
+    let world : write_cells w.ledger.next_object 0 value (Table.with_object code (first_display (heads_of w.activations)) slot t w) ≡ x.world =
+    ap (λ (z : Option W.Object). write_cells w.ledger.next_object 0 (value_of y.offset (size_of code t) z) (Table.with_object code (first_display (heads_of w.activations)) slot t w)) (sym object) in
+    let i : IsCreated w.ledger.next_object t m e.owned = record { before = mid.owned.items; object = newborn (kept mid) slot t m; is_newest = refl; is_own = made.owned; number = made.number; record_type = refl; no_layer = refl } in
+    let heads : heads_of x.world.activations ≡ heads_of w.activations = written_heads code slot t s made.heads in (
       record {
         stack = below;
         leads = b.fine.1.2;
@@ -149,10 +170,10 @@ copied_is code old mid new place slot t found s m source b mid_is newest there n
 table_gone : (code : Code) (slot t : ℕ) (y : Spot) (ops rest : List Word) (h : Here) → ops ≡ Located y ∷ rest → object_at y.object h.world ≡ None → by_declare_copy code slot t ops h ≡ gone h.control h.world
 table_gone code slot t y ops rest h are none = rw (are, none) refl
 
-pub copied_gone : (code : Code) (old new : Engine) (place slot t : ℕ) (s : State) → Before code old place (DeclareCopy slot t) s → Lacks (first_spot s.operands).object old.owned.items
+pub copied_gone : (code : Code) (old new : Engine) (place slot t : ℕ) (s : State) → Before code old place (DeclareCopy slot t) s → object_in (first_spot s.operands).object old.objects ≡ None
     → GoesOn old new (ModeOf.Stopped UseAfterFree) old.cells.items → Makes code old new (by_instr code (Some (DeclareCopy slot t)) s.operands (here_of place s))
 copied_gone code old new place slot t s b none goes =
     let g = copied_part code old place slot t s b in
     let y = first_spot s.operands in
-    let object : object_at y.object s.world ≡ None = no_object code (kept old) s.control s.operands s.world y.object b.inside.holds none in
+    let object : object_at y.object s.world ≡ None = object_shown code (kept old) s.control s.operands s.world y.object b.inside.holds ∙ none in
     subst (λ (z : Move). Makes code old new z) (sym (table_gone code slot t y s.operands (drop 1 s.operands) (here_of place s) g.are object)) (gone_makes code old new s.control s.operands s.world b.inside.holds goes)

@@ -1,7 +1,7 @@
 -- A scalar object takes its number.
 use Rattle.std.proofs.Common.{◌≡◌, ℕ, ◌+◌, List, [], ◌∷◌, Some, refl, sym, ap, ◌∙◌, subst, arith}
 use Rattle.std.proofs.lemmas.List.{append-nil}
-use Rattle.ctl_meaning.specs.World.{World}
+use Rattle.ctl_meaning.specs.World.{Object, World}
 use Rattle.ctl_meaning.specs.Ledger.{opened_ledger}
 use Rattle.ctl_meaning.specs.Changes.{take_object_number, opened_changes}
 use Rattle.ctl_code.specs.declared.code.Code.{Code}
@@ -14,6 +14,8 @@ use Rattle.ctl_machine.specs.declared.frame.Mode.{Mode}
 use Rattle.ctl_machine.specs.declared.frame.Mode.TheVariants as ModeOf
 use Rattle.ctl_machine.specs.declared.frame.Owned.{Owned}
 use Rattle.ctl_machine.specs.Masters.{heads_of, first_display, RiseBelow}
+use Rattle.ctl_objects.proofs.Conditions.{below_more}
+use Rattle.ctl_machine.specs.Owned.{AreOwned}
 use Rattle.ctl_machine.specs.Shows.{ShowsMode, Kept, Holds, kept}
 use Rattle.ctl_machine.specs.Moves.{Before, Makes, here_of}
 use Rattle.ctl_machine.specs.Spots.{KeepsSpots}
@@ -21,6 +23,9 @@ use Rattle.ctl_machine.specs.Spots.{KeepsSpots}
 rise_further : (os : List Owned) (low high : ℕ) → RiseBelow low os high → RiseBelow low os (high + 1)
 rise_further [] low high h = omega (arith, h)
 rise_further (o ∷ os) low high h = (h.0, rise_further os (o.number + 1) high h.1)
+
+owns_further : (owned : List Owned) (next : ℕ) (objects : List Object) → AreOwned owned next objects → AreOwned owned (next + 1) objects
+owns_further owned next objects a = record { declared = a.declared; numbers = below_more next (next + 1) objects (omega arith) a.numbers; apart = a.apart; each_declared = a.each_declared }
 
 abbrev pub with_number : Kept → Kept
 with_number e = record e { next_object = e.next_object + 1 }
@@ -34,7 +39,7 @@ numbered code e k ops w h = record {
   below = h.below;
   waits = h.waits;
   objects = h.objects;
-  lie = h.lie;
+  owns = owns_further e.owned e.next_object e.objects h.owns;
   held = h.held;
   rise = rise_further e.owned 1 e.next_object h.rise;
   next_master = h.next_master;

@@ -19,11 +19,10 @@ use Rattle.ctl_machine.specs.Masters.{Head, heads_of, AreMasters, newest_master,
 use Rattle.ctl_machine.specs.Holders.{holder_in, formal_in, own_formals, AreHeld, own_end}
 use Rattle.ctl_machine.specs.Variables.{IsNoVariable}
 use Rattle.ctl_machine.specs.Shows.{Holds, kept}
-use Rattle.ctl_machine.proofs.Lists.{get_right}
+use Rattle.ctl_machine.proofs.Lists.{length_taken, get_right}
 use Rattle.ctl_machine.proofs.Links.{get_split}
 use Rattle.ctl_machine.proofs.Slots.{is_older, slot_of_own, slot_of_other}
 use Rattle.ctl_machine.proofs.Reached.{no_variable_slot}
-use Rattle.ctl_machine.proofs.Laid.{length_taken}
 
 -- Where the objects of a master end -------------------------------------------------------------------
 

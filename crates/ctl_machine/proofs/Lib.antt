@@ -18,11 +18,11 @@ pub mod Started
 pub mod Prints
 pub mod Leading
 pub mod Declared
+pub mod Owned
 pub mod Departures
 pub mod Links
 pub mod Bodies
 pub mod PartFrames
-pub mod Lives
 pub mod Finishing
 pub mod AfterFinalize
 pub mod GivingUp
@@ -35,7 +35,6 @@ pub mod Finalized
 pub mod Tops
 pub mod Called
 pub mod Frames
-pub mod Copied
 pub mod CopyDeclared
 pub mod Created
 pub mod Leaves
@@ -70,9 +69,8 @@ pub mod CopiesBack
 pub mod InWindow
 pub mod Stretches
 pub mod Alike
+pub mod MasterOf
 pub mod Held
-pub mod Laid
-pub mod PartCells
 pub mod HeldThere
 pub mod Touched
 pub mod PartStored
@@ -82,7 +80,6 @@ pub mod Intervals
 pub mod StillLeft
 pub mod Filled
 pub mod Homes
-pub mod Written
 pub mod Operations
 pub mod Assignments
 pub mod Assigned

@@ -1,5 +1,5 @@
 -- Lists that are read and written at a place.
-use Rattle.std.proofs.Common.{◌≡◌, ◌≢◌, ℕ, zero, suc, ◌+◌, ◌<◌, List, [], ◌∷◌, ◌++◌, Option, Some, None, true, false, length, refl, sym, ap, ◌∙◌, arith, map}
+use Rattle.std.proofs.Common.{◌≡◌, ◌≢◌, ℕ, zero, suc, ◌+◌, ◌<◌, ◌≤◌, List, [], ◌∷◌, ◌++◌, Option, Some, None, true, false, length, refl, sym, ap, ◌∙◌, arith, map, take}
 use Rattle.std.specs.Prelude.{slice_get, slice_index_or, slice_set, option_map, nat_eq}
 use Rattle.std.proofs.lemmas.Bool.Decides.{nat_tests}
 
@@ -65,3 +65,8 @@ pub get_index : {X : Type 0} (xs : List X) (i : ℕ) (d : X) → i < length xs �
 get_index [] i d h = absurd (omega (arith, h))
 get_index (x ∷ xs) zero d h = refl
 get_index (x ∷ xs) (suc i) d h = get_index xs i d (omega (arith, h))
+
+pub length_taken : {X : Type 0} (n : ℕ) (xs : List X) → n ≤ length xs → length (take n xs) ≡ n
+length_taken zero xs h = refl
+length_taken (suc n) [] h = absurd (omega (arith, h))
+length_taken (suc n) (x ∷ xs) h = ap (λ c. suc c) (length_taken n xs (omega (arith, h)))

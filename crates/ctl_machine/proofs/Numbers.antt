@@ -1,77 +1,60 @@
--- Owned objects are found by their numbers, which rise.
-use Rattle.std.proofs.Common.{◌≡◌, ◌∙◌, ℕ, None, refl, map, zero, suc, ◌+◌, ◌<◌, ◌≤◌, List, [], ◌∷◌, Some, ap, arith, subst, length, drop, take}
-use Rattle.std.specs.Prelude.{slice_get, slice_index_or}
-use Rattle.ctl_meaning.specs.World as W
-use Rattle.ctl_meaning.specs.World.{World}
-use Rattle.ctl_meaning.specs.Lists.{opened_lists}
-use Rattle.ctl_meaning.specs.Objects.{object_in, opened_objects}
-use Rattle.ctl_meaning.specs.Changes.{object_at, opened_changes}
-use Rattle.ctl_code.specs.declared.code.Code.{Code}
-use Rattle.ctl_code.specs.States as T
-use Rattle.ctl_code.specs.States.{Word}
-use Rattle.ctl_machine.specs.declared.frame.Owned.{Owned}
-use Rattle.ctl_machine.specs.Holders.{Lacks}
-use Rattle.ctl_machine.specs.Masters.{RiseBelow, object_of}
-use Rattle.ctl_machine.specs.Shows.{Kept, Holds}
-use Rattle.ctl_machine.proofs.Lists.{eq_differs, get_index}
-use Rattle.ctl_machine.proofs.Declared.{same_item, number_above}
+-- The numbers of active masters rise.
+use Rattle.std.proofs.Common.{◌≡◌, ℕ, zero, suc, ◌+◌, ◌<◌, ◌≤◌, List, [], ◌∷◌, Some, Bool, true, false, length, refl, sym, ap, ◌∙◌, arith, reverse, ◌⊎◌, inl, inr}
+use Rattle.std.specs.Prelude.{nat_lt, slice_get}
+use Rattle.std.proofs.lemmas.Bool.Decides.{nat_tests}
+use Rattle.std.proofs.lemmas.List.{reverse-append, reverse-reverse}
+use Rattle.std.proofs.lemmas.Option.{slice_get_within}
+use Rattle.ctl_machine.specs.declared.frame.Master.{Master}
+use Rattle.ctl_machine.specs.Masters.{AreBelow}
+use Rattle.ctl_machine.proofs.Links.{get_split}
+use Rattle.ctl_machine.proofs.Lists.{same_at}
+use Rattle.ctl_machine.proofs.Reached.{among_reversed}
+use Rattle.ctl_machine.proofs.Slots.{is_older}
 
--- the numbers of these objects are below this one, or above it
-abbrev pub AreUnder : ℕ → List Owned → Type 0
-AreUnder n [] = Unit {0}
-AreUnder n (o ∷ os) = (o.number < n) × AreUnder n os
+only : (m c : Master) (l : ℕ) → slice_get (m ∷ []) l ≡ Some c → (l ≡ 0) × (m ≡ c)
+only m c zero e = (refl, cc)
+only m c (suc l) e = absurd (cc)
 
-abbrev pub AreOver : ℕ → List Owned → Type 0
-AreOver n [] = Unit {0}
-AreOver n (o ∷ os) = (n < o.number) × AreOver n os
+-- from the outermost master on
+rises_from : (ms : List Master) (n i j : ℕ) (a b : Master) → AreBelow ms n → slice_get (reverse ms) i ≡ Some a → slice_get (reverse ms) j ≡ Some b → i < j → a.number < b.number
+rises_from [] n i j a b below first second less = absurd (cc)
+rises_from (m ∷ ms) n i j a b below first second less = by (λ f s. rises_from ms m.number i j a b below.1 f s less) (there i a first) (there j b second)
+  where
+    there : (k : ℕ) (c : Master) → slice_get (reverse (m ∷ ms)) k ≡ Some c → (slice_get (reverse ms) k ≡ Some c) ⊎ ((l : ℕ) × (k ≡ length (reverse ms) + l) × (slice_get (m ∷ []) l ≡ Some c))
+    there k c e = get_split (reverse ms) (m ∷ []) k c (sym (ap (λ (l : List Master). slice_get l k) (reverse-append (m ∷ []) ms)) ∙ e)
 
-pub none_over : (n : ℕ) (os : List Owned) → AreOver n (drop (length os) os)
-none_over n [] = tt
-none_over n (o ∷ os) = none_over n os
+    by : (slice_get (reverse ms) i ≡ Some a → slice_get (reverse ms) j ≡ Some b → a.number < b.number)
+        → (slice_get (reverse ms) i ≡ Some a) ⊎ ((l : ℕ) × (i ≡ length (reverse ms) + l) × (slice_get (m ∷ []) l ≡ Some a)) → (slice_get (reverse ms) j ≡ Some b) ⊎ ((l : ℕ) × (j ≡ length (reverse ms) + l) × (slice_get (m ∷ []) l ≡ Some b)) → a.number < b.number
+    by older (inl f) (inl s) = older f s
+    by older (inl f) (inr s) =
+        let lower = is_older ms a m.number below.1 (among_reversed ms i a f) in
+        let same = ap (λ (x : Master). x.number) (only m b s.0 s.2).1 in
+        omega (arith, lower, same)
+    by older (inr f) (inl s) = absurd (let within = slice_get_within (reverse ms) j b s in let at = f.1 in omega (arith, within, at, less))
+    by older (inr f) (inr s) = absurd (let p = (only m a f.0 f.2).0 in let q = (only m b s.0 s.2).0 in let at = f.1 in let behind = s.1 in omega (arith, p, q, at, behind, less))
 
-over_all : (os : List Owned) (low high n : ℕ) → RiseBelow low os high → n < low → AreOver n os
-over_all [] low high n h less = tt
-over_all (o ∷ os) low high n h less = let f = h.0 in (omega (arith, f, less), over_all os (o.number + 1) high n h.1 (omega (arith, f, less)))
+pub rises : (xs : List Master) (n i j : ℕ) (a b : Master) → AreBelow (reverse xs) n → slice_get xs i ≡ Some a → slice_get xs j ≡ Some b → i < j → a.number < b.number
+rises xs n i j a b below first second less =
+    let same : (k : ℕ) (c : Master) → slice_get xs k ≡ Some c → slice_get (reverse (reverse xs)) k ≡ Some c = λ k c e. ap (λ (l : List Master). slice_get l k) (reverse-reverse xs) ∙ e in
+    rises_from (reverse xs) n i j a b below (same i a first) (same j b second) less
 
--- where an object has a lower number, each one before it has, and where it has a higher one, each one behind it
-under_front : (os : List Owned) (at low high n : ℕ) (o : Owned) → RiseBelow low os high → slice_get os at ≡ Some o → o.number < n → AreUnder n (take (suc at) os)
-under_front [] at low high n o h e less = absurd (cc)
-under_front (x ∷ os) zero low high n o h e less = (let same : x.number ≡ o.number = ap (λ (z : Owned). z.number) (same_item x o e) in omega (arith, same, less), tt)
-under_front (x ∷ os) (suc at) low high n o h e less = (let above = number_above os at (x.number + 1) high o h.1 e in omega (arith, above, less), under_front os at (x.number + 1) high n o h.1 e less)
+-- up to one with a lower number than this, and from one with a higher number on
+pub lower_front : (xs : List Master) (n i j number : ℕ) (a b : Master) → AreBelow (reverse xs) n → slice_get xs i ≡ Some a → slice_get xs j ≡ Some b → i ≤ j → b.number < number → a.number < number
+lower_front xs n i j number a b below first second less lower = by (nat_lt i j) refl
+  where
+    by : (more : Bool) → nat_lt i j ≡ more → a.number < number
+    by true e = let higher = rises xs n i j a b below first second (grind (arith, nat_tests, e)) in omega (arith, higher, lower)
+    by false e =
+        let here : i ≡ j = grind (arith, nat_tests, e, less) in
+        let same = ap (λ (m : Master). m.number) (same_at a b (slice_get xs j) (ap (λ k. slice_get xs k) (sym here) ∙ first) second) in
+        omega (arith, same, lower)
 
-over_back : (os : List Owned) (at low high n : ℕ) (o : Owned) → RiseBelow low os high → slice_get os at ≡ Some o → n < o.number → AreOver n (drop at os)
-over_back [] at low high n o h e less = absurd (cc)
-over_back (x ∷ os) zero low high n o h e less =
-    let same : x.number ≡ o.number = ap (λ (z : Owned). z.number) (same_item x o e) in
-    (omega (arith, same, less), over_all os (x.number + 1) high n h.1 (omega (arith, same, less)))
-over_back (x ∷ os) (suc at) low high n o h e less = over_back os at (x.number + 1) high n o h.1 e less
-
-over_lacks : (n : ℕ) (os : List Owned) → AreOver n os → Lacks n os
-over_lacks n [] h = tt
-over_lacks n (o ∷ os) h = ((λ same. let f = h.0 in omega (arith, f, same)), over_lacks n os h.1)
-
--- no object is left between them
-pub none_between : (n : ℕ) (os : List Owned) (low high : ℕ) → high ≤ low → AreUnder n (take low os) → AreOver n (drop high os) → Lacks n os
-none_between n [] low high less under over = tt
-none_between n (o ∷ os) low zero less under over = over_lacks n (o ∷ os) over
-none_between n (o ∷ os) zero (suc high) less under over = absurd (omega (arith, less))
-none_between n (o ∷ os) (suc low) (suc high) less under over = ((λ same. let f = under.0 in omega (arith, f, same)), none_between n os low high (omega (arith, less)) under.1 over)
-
--- the search goes on behind a place, or before it
-pub goes_behind : (os : List Owned) (at n : ℕ) (d : Owned) → ((bound : ℕ) × RiseBelow 1 os bound) → at < length os → (slice_index_or os at d).number < n → AreUnder n (take (at + 1) os)
-goes_behind os at n d rise within less =
-    let e : suc at ≡ at + 1 = omega arith in
-    subst (λ i. AreUnder n (take i os)) e (under_front os at 1 rise.0 n (slice_index_or os at d) rise.1 (get_index os at d within) less)
-
-pub goes_before : (os : List Owned) (at n : ℕ) (d : Owned) → ((bound : ℕ) × RiseBelow 1 os bound) → at < length os → n < (slice_index_or os at d).number → AreOver n (drop at os)
-goes_before os at n d rise within less = over_back os at 1 rise.0 n (slice_index_or os at d) rise.1 (get_index os at d within) less
-
--- what the table finds where no object has a number
-lacking : (parts : List ℕ) (os : List Owned) (n : ℕ) → Lacks n os → object_in n (map (object_of parts) os) ≡ None
-unfolding opened_lists opened_objects
-lacking parts [] n h = refl
-lacking parts (o ∷ os) n h = rw (eq_differs o.number n h.0) (lacking parts os n h.1)
-
-pub no_object : (code : Code) (e : Kept) (k : List T.Frame) (ops : List Word) (w : World) (n : ℕ) → Holds code e k ops w → Lacks n e.owned → object_at n w ≡ None
-unfolding opened_changes
-no_object code e k ops w n h none = ap (λ (l : List W.Object). object_in n l) h.objects ∙ lacking e.parts e.owned n none
+pub higher_back : (xs : List Master) (n i j number : ℕ) (a b : Master) → AreBelow (reverse xs) n → slice_get xs i ≡ Some a → slice_get xs j ≡ Some b → j ≤ i → number < b.number → number < a.number
+higher_back xs n i j number a b below first second less higher = by (nat_lt j i) refl
+  where
+    by : (more : Bool) → nat_lt j i ≡ more → number < a.number
+    by true e = let lower = rises xs n j i b a below second first (grind (arith, nat_tests, e)) in omega (arith, lower, higher)
+    by false e =
+        let here : i ≡ j = grind (arith, nat_tests, e, less) in
+        let same = ap (λ (m : Master). m.number) (same_at a b (slice_get xs j) (ap (λ k. slice_get xs k) (sym here) ∙ first) second) in
+        omega (arith, same, higher)

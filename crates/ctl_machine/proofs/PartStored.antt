@@ -1,5 +1,5 @@
 -- A component of an object takes a value.
-use Rattle.std.proofs.Common.{◌≡◌, ℕ, ◌+◌, ◌<◌, List, [], ◌∷◌, ◌++◌, Option, Some, drop, length, refl, sym, ap, ◌∙◌, subst}
+use Rattle.std.proofs.Common.{◌≡◌, ℕ, ◌+◌, ◌<◌, List, [], ◌∷◌, ◌++◌, Option, Some, None, drop, length, refl, sym, ap, ◌∙◌, subst}
 use Rattle.std.specs.Prelude.{slice_get}
 use Rattle.std.proofs.lemmas.Option.{slice_get_within}
 use Rattle.ctl_tree.specs.declared.ending.Stop.TheVariants.{UseAfterFree}
@@ -7,6 +7,7 @@ use Rattle.ctl_program.specs.declared.types.Ty.{Ty}
 use Rattle.ctl_program.specs.declared.types.Ty.TheVariants.{Record}
 use Rattle.ctl_meaning.specs.World as W
 use Rattle.ctl_meaning.specs.World.{World}
+use Rattle.ctl_meaning.specs.Objects.{change_in, object_in, with_cells}
 use Rattle.ctl_meaning.specs.Changes.{object_at, write_cells, opened_changes}
 use Rattle.ctl_code.specs.declared.kinds.Kind.{Kind}
 use Rattle.ctl_code.specs.declared.kinds.Kind.TheVariants.{Operand}
@@ -18,17 +19,14 @@ use Rattle.ctl_code.specs.Table.{by_instr, locating, offset_of, on, quiet, store
 use Rattle.ctl_code.specs.Valid.{Leads}
 use Rattle.ctl_machine.specs.declared.engine.Engine.{Engine}
 use Rattle.ctl_machine.specs.declared.frame.Mode.TheVariants as ModeOf
-use Rattle.ctl_machine.specs.declared.frame.Owned.{Owned}
-use Rattle.ctl_machine.specs.Holders.{Lacks}
-use Rattle.ctl_machine.specs.Shows.{Holds, kept, with_spots}
+use Rattle.ctl_machine.specs.Finishing.{with_objects}
+use Rattle.ctl_machine.specs.Shows.{Kept, Holds, kept, with_spots}
 use Rattle.ctl_machine.specs.Spots.{first_spot, standing}
 use Rattle.ctl_machine.specs.Moves.{Before, Inside, Makes, GoesOn, here_of}
 use Rattle.ctl_machine.proofs.Computed.{cell_of, same_value}
-use Rattle.ctl_machine.proofs.Finalized.{object_is}
-use Rattle.ctl_machine.proofs.Numbers.{no_object}
 use Rattle.ctl_machine.proofs.Located.{goes_keeping}
 use Rattle.ctl_machine.proofs.Operands.{has_part}
-use Rattle.ctl_machine.proofs.PartCells.{with_part, part_stored}
+use Rattle.ctl_machine.proofs.Owned.{cells_keep, holds_changed, object_shown}
 use Rattle.ctl_machine.proofs.Touched.{gone_makes}
 use Rattle.ctl_machine.proofs.Values.{taken}
 
@@ -75,12 +73,16 @@ is_given code e place s from t position ty b =
 pub value_within : (code : Code) (e : Engine) (place : ℕ) (s : State) (from : Cell) (t position : ℕ) (ty : Ty) → Before code e place (StorePart from ty t position) s → cell_of e from < length e.cells.items
 value_within code e place s from t position ty b = let i = is_given code e place s from t position ty b in slice_get_within e.cells.items (cell_of e from) i.value i.value_read
 
-pub part_makes : (code : Code) (old new : Engine) (place : ℕ) (s : State) (from : Cell) (t position offset x found : ℕ) (ty : Ty) (o : Owned) → Before code old place (StorePart from ty t position) s
-    → slice_get old.cells.items (cell_of old from) ≡ Some x → slice_get old.owned.items found ≡ Some o → (let y = first_spot (parts_of from s) in (o.number ≡ y.object)
-    → new.mode ≡ ModeOf.At (place + 1) → kept new ≡ with_spots (with_part o (y.offset + offset) x (kept old)) (standing s.control (drop 1 (parts_of from s))) → new.events.items ≡ old.events.items → new.picks.items ≡ old.picks.items
+-- with this value in a cell of an object
+abbrev pub stored_in : ℕ → ℕ → ℕ → Kept → Kept
+stored_in n at x e = with_objects (change_in n (with_cells at (x ∷ [])) e.objects) e
+
+pub part_makes : (code : Code) (old new : Engine) (place : ℕ) (s : State) (from : Cell) (t position offset x : ℕ) (ty : Ty) (o : W.Object) → Before code old place (StorePart from ty t position) s
+    → slice_get old.cells.items (cell_of old from) ≡ Some x → (let y = first_spot (parts_of from s) in object_in y.object old.objects ≡ Some o
+    → new.mode ≡ ModeOf.At (place + 1) → kept new ≡ with_spots (stored_in y.object (y.offset + offset) x (kept old)) (standing s.control (drop 1 (parts_of from s))) → new.events.items ≡ old.events.items → new.picks.items ≡ old.picks.items
     → (t' position' : ℕ) (ty' : Ty) → offset ≡ offset_of code t' position' → Makes code old new (by_instr code (Some (StorePart from ty' t' position')) s.operands (here_of place s)))
 unfolding opened_changes
-part_makes code old new place s from t position offset x found ty o b value_read there number mode kept_is events picks t' position' ty' same =
+part_makes code old new place s from t position offset x ty o b value_read there mode kept_is events picks t' position' ty' same =
     let i = is_given code old place s from t position ty b in
     let y = first_spot (parts_of from s) in
     let rest = drop 1 (parts_of from s) in
@@ -88,15 +90,15 @@ part_makes code old new place s from t position offset x found ty o b value_read
     let w = s.world in
     let at = y.offset + offset in
     let value : x ≡ i.value = same_value x i.value (slice_get old.cells.items (cell_of old from)) value_read i.value_read in
-    let object = ap (λ c. object_at c w) (sym number) ∙ object_is code (kept old) k (parts_of from s) w found o i.holds there in
+    let object : object_at y.object w ≡ Some o = object_shown code (kept old) k (parts_of from s) w y.object i.holds ∙ there in
     let h = here_of place s in
     let left = with_spots (kept old) (standing k rest) in
-    let e = with_part o at x left in
-    let stored_there : Holds code e k rest (write_cells o.number at (x ∷ []) w) = part_stored code left k rest w found at x o i.left.holds there in
+    let e = stored_in y.object at x left in
+    let stored_there : Holds code e k rest (write_cells y.object at (x ∷ []) w) = holds_changed code left k rest w y.object (with_cells at (x ∷ [])) (cells_keep at (x ∷ [])) i.left.holds in
     let inside : Inside code e i.below k rest (write_cells y.object at (i.value ∷ []) w) = record {
       stands = i.left.stands;
       sized = i.left.sized;
-      holds = subst (λ c. Holds code e k rest (write_cells c at (i.value ∷ []) w)) number (subst (λ c. Holds code e k rest (write_cells o.number at (c ∷ []) w)) value stored_there);
+      holds = subst (λ c. Holds code e k rest (write_cells y.object at (c ∷ []) w)) value stored_there;
       spots = refl;
     } in
     let made : Makes code old new (on rest (write_cells y.object at (i.value ∷ []) w) h) = goes_keeping code old new e (place + 1) i.below k rest (write_cells y.object at (i.value ∷ []) w) i.leads inside mode kept_is events picks in
@@ -104,13 +106,13 @@ part_makes code old new place s from t position offset x found ty o b value_read
     (subst (λ (m : Move). Makes code old new m) (sym (i.move offset ∙ ap (λ (z : Option W.Object). stored y.object at i.value z rest h) object)) made)
 
 pub store_gone : (code : Code) (old new : Engine) (place : ℕ) (s : State) (from : Cell) (t position offset : ℕ) (ty : Ty) → Before code old place (StorePart from ty t position) s
-    → Lacks (first_spot (parts_of from s)).object old.owned.items → GoesOn old new (ModeOf.Stopped UseAfterFree) old.cells.items
+    → object_in (first_spot (parts_of from s)).object old.objects ≡ None → GoesOn old new (ModeOf.Stopped UseAfterFree) old.cells.items
     → (t' position' : ℕ) (ty' : Ty) → offset ≡ offset_of code t' position' → Makes code old new (by_instr code (Some (StorePart from ty' t' position')) s.operands (here_of place s))
 store_gone code old new place s from t position offset ty b none g t' position' ty' same =
     let i = is_given code old place s from t position ty b in
     let y = first_spot (parts_of from s) in
     let rest = drop 1 (parts_of from s) in
-    let object = no_object code (kept old) s.control (parts_of from s) s.world y.object i.holds none in
+    let object = object_shown code (kept old) s.control (parts_of from s) s.world y.object i.holds ∙ none in
     subst (λ c. Makes code old new (store_move from c place s)) same
     (subst (λ (m : Move). Makes code old new m) (sym (i.move offset ∙ ap (λ (z : Option W.Object). stored y.object (y.offset + offset) i.value z rest (here_of place s)) object))
     (gone_makes code old new s.control (parts_of from s) s.world i.holds g))

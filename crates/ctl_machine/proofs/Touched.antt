@@ -1,13 +1,14 @@
 -- Components of what slots hold are read.
 use Rattle.std.proofs.Common.{◌≡◌, ℕ, ◌+◌, List, [], Option, Some, None, refl, sym, ap, ◌∙◌, subst, reverse}
-use Rattle.std.specs.Prelude.{slice_get, slice_set}
+use Rattle.std.specs.Prelude.{slice_set}
+use Rattle.std.specs.Option.{option_map}
 use Rattle.std.proofs.lemmas.List.{append-nil}
 use Rattle.ctl_tree.specs.declared.ending.Stop.TheVariants.{UseAfterFree}
 use Rattle.ctl_program.specs.declared.types.Ty.{Ty}
 use Rattle.ctl_meaning.specs.World as W
 use Rattle.ctl_meaning.specs.World.{World}
 use Rattle.ctl_meaning.specs.Names.{scalar_of}
-use Rattle.ctl_meaning.specs.Objects.{cells_at}
+use Rattle.ctl_meaning.specs.Objects.{cells_at, object_in}
 use Rattle.ctl_meaning.specs.Changes.{object_at}
 use Rattle.ctl_code.specs.declared.code.Code.{Code}
 use Rattle.ctl_code.specs.declared.code.Cell.{Cell}
@@ -20,14 +21,11 @@ use Rattle.ctl_code.specs.Valid.{IsValid}
 use Rattle.ctl_machine.specs.declared.engine.Engine.{Engine}
 use Rattle.ctl_machine.specs.declared.frame.Mode.{Mode}
 use Rattle.ctl_machine.specs.declared.frame.Mode.TheVariants as ModeOf
-use Rattle.ctl_machine.specs.declared.frame.Owned.{Owned}
-use Rattle.ctl_machine.specs.Masters.{heads_of, first_display, first_window, object_of}
-use Rattle.ctl_machine.specs.Holders.{Lacks}
+use Rattle.ctl_machine.specs.Masters.{heads_of, first_display, first_window}
 use Rattle.ctl_machine.specs.Parts.{part_in, part_at}
 use Rattle.ctl_machine.specs.Shows.{ShowsMode, Kept, Holds, kept}
 use Rattle.ctl_machine.specs.Moves.{Before, Makes, GoesOn, here_of}
-use Rattle.ctl_machine.proofs.Finalized.{object_is}
-use Rattle.ctl_machine.proofs.Numbers.{no_object}
+use Rattle.ctl_machine.proofs.Owned.{object_shown}
 use Rattle.ctl_machine.proofs.Plain.{no_operands, put_makes}
 use Rattle.ctl_machine.specs.Spots.{KeepsSpots}
 use Rattle.ctl_meaning.specs.Finalization.{Spot}
@@ -79,10 +77,10 @@ fetch_gone code old new place s out slot t position offset ty to b is g t' posit
     subst (λ (m : Move). Makes code old new m) (sym (fetch_move code place s out slot t' position' offset ty' to None same is))
     (gone_makes code old new s.control s.operands s.world b.inside.holds g)
 
--- the component of an object that is there
-pub part_there : (code : Code) (e : Engine) (k : List T.Frame) (ops : List Word) (w : World) (at n offset : ℕ) (o : Owned) → Holds code (kept e) k ops w → slice_get e.owned.items at ≡ Some o → o.number ≡ n → part_in offset (object_at n w) ≡ Some (scalar_of (cells_at offset 1 (object_of e.parts.items o)))
-part_there code e k ops w at n offset o h found number =
-    ap (λ c. part_in offset (object_at c w)) (sym number) ∙ ap (λ (x : Option W.Object). part_in offset x) (object_is code (kept e) k ops w at o h found)
-
-pub part_gone : (code : Code) (e : Engine) (k : List T.Frame) (ops : List Word) (w : World) (n offset : ℕ) → Holds code (kept e) k ops w → Lacks n e.owned.items → part_in offset (object_at n w) ≡ None
-part_gone code e k ops w n offset h none = ap (λ (x : Option W.Object). part_in offset x) (no_object code (kept e) k ops w n h none)
+-- what is read of the object of a number
+pub part_read : (code : Code) (e : Kept) (k : List T.Frame) (ops : List Word) (w : World) (n offset : ℕ) (r : Option ℕ) → Holds code e k ops w → r ≡ option_map (λ o. scalar_of (cells_at offset 1 o)) (object_in n e.objects) → r ≡ part_in offset (object_at n w)
+part_read code e k ops w n offset r h read = read ∙ (by (object_in n e.objects) ∙ ap (λ (o : Option W.Object). part_in offset o) (sym (object_shown code e k ops w n h)))
+  where
+    by : (o : Option W.Object) → option_map (λ o. scalar_of (cells_at offset 1 o)) o ≡ part_in offset o
+    by None = refl
+    by (Some o) = refl

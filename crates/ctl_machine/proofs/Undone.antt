@@ -6,6 +6,7 @@ use Rattle.ctl_tree.specs.declared.event.Event.{Event}
 use Rattle.ctl_tree.specs.declared.event.Event.TheVariants.{Finalize}
 use Rattle.ctl_meaning.specs.World as W
 use Rattle.ctl_meaning.specs.World.{World}
+use Rattle.ctl_meaning.specs.Objects.{object_in}
 use Rattle.ctl_meaning.specs.Changes.{object_at}
 use Rattle.ctl_meaning.specs.Finalization.{Spot}
 use Rattle.ctl_meaning.specs.Lists.{any_of, same_list}
@@ -21,19 +22,18 @@ use Rattle.ctl_machine.specs.declared.frame.Ended.TheVariants as EndedOf
 use Rattle.ctl_machine.specs.declared.frame.Frame.TheVariants as FrameOf
 use Rattle.ctl_machine.specs.declared.frame.Left.{Left}
 use Rattle.ctl_machine.specs.declared.frame.Mode.TheVariants as ModeOf
-use Rattle.ctl_machine.specs.declared.frame.Owned.{Owned}
 use Rattle.ctl_machine.specs.Assigning.{Called, Calls}
 use Rattle.ctl_machine.specs.Departing.{IsFinalizeOf}
 use Rattle.ctl_machine.specs.Filling.{AreAmong, is_undone}
 use Rattle.ctl_machine.specs.Finishing.{BeginsOver, Finished, Finishes, with_frames}
-use Rattle.ctl_machine.specs.Masters.{object_of}
+use Rattle.ctl_machine.specs.Owned.{IsObject}
 use Rattle.ctl_machine.specs.Moves.{Makes}
 use Rattle.ctl_machine.specs.Noted.{IsUndone}
 use Rattle.ctl_machine.specs.Shows.{kept}
 use Rattle.ctl_machine.specs.Undoing.{CallsUndone, among, has_any_of, noted_from, undo_call}
 use Rattle.ctl_machine.proofs.Among.{among_all}
 use Rattle.ctl_machine.proofs.Finishing.{call_makes, calls_over, comes_over, finished_gives, nothing_there, over, part_there, same_finishes}
-use Rattle.ctl_machine.proofs.NewestLayers.{owned_at, owned_at_is}
+use Rattle.ctl_machine.proofs.MasterOf.{object_or}
 use Rattle.ctl_machine.proofs.PartFrames.{undoes_own, undoes_parts}
 use Rattle.ctl_machine.proofs.UserBodies.{body_of_finalize}
 
@@ -96,41 +96,39 @@ own_passes : (code : Code) (f : Option ℕ) (s : Spot) (t : ℕ) (o : Option W.O
 own_passes code f s t o there k w none is = rw (none, is) refl
 
 -- the user wrote none
-pub no_own_undone : (code : Code) (old new : Engine) (type at : ℕ) (o : Owned) (t : Finished) → Finishes code old t → slice_get old.owned.items at ≡ Some o → o.number ≡ t.spot.object → operation_of (λ x. x.finalize) code type ≡ None
+pub no_own_undone : (code : Code) (old new : Engine) (type : ℕ) (o : W.Object) (t : Finished) → Finishes code old t → object_in t.spot.object old.objects ≡ Some o → operation_of (λ x. x.finalize) code type ≡ None
     → Makes code old new (undo_components code t.spot type t.control t.world) → Makes code old new (undo_by code (operation_of (λ x. x.finalize) code type) t.spot type (object_at t.spot.object t.world) t.control t.world)
-no_own_undone code old new type at o t b found number none made =
-    subst (λ (m : Move). Makes code old new m) (sym (own_passes code (operation_of (λ x. x.finalize) code type) t.spot type (object_at t.spot.object t.world) (object_of old.parts.items o) t.control t.world none (part_there code old t at o b found number))) made
+no_own_undone code old new type o t b found none made =
+    subst (λ (m : Move). Makes code old new m) (sym (own_passes code (operation_of (λ x. x.finalize) code type) t.spot type (object_at t.spot.object t.world) o t.control t.world none (part_there code old t o b found))) made
 
 own_calls : (code : Code) (f : Option ℕ) (body : ℕ) (s : Spot) (t : ℕ) (o : Option W.Object) (there : W.Object) (k : List T.Frame) (w : World) → f ≡ Some body → o ≡ Some there
     → undo_by code f s t o k w ≡ call_operation code body (Finalize (part_at s) CauseOf.Failed) s there (T.UndoingOwn s t ∷ k) w
 own_calls code f body s t o there k w some is = rw (some, is) refl
 
 -- what the body is called for
-pub calls_undone : (code : Code) (old new : Engine) (entry : Entry) (type at base first : ℕ) (t : Finished) (x : Called) → Finishes code old t → BeginsOver base t → IsUndone first t.control → CallsUndone code old entry type at t x
-    → kept new ≡ with_frames (FrameOf.UndoingOwn type first ∷ reverse old.control.items) (old.spots.items ++ t.spot ∷ []) (kept old) → Calls code new entry at base x
-calls_undone code old new entry type at base first t x b begins u c are =
-    subst (λ (z : Called). Calls code new entry at base z) (sym c.is)
-    (calls_over code old new (FrameOf.UndoingOwn type first) (T.UndoingOwn t.spot type) entry at base x.body x.object t (undoes_own u) b begins c.found c.body c.slots are)
+pub calls_undone : (code : Code) (old new : Engine) (entry : Entry) (type master base first : ℕ) (t : Finished) (x : Called) → Finishes code old t → BeginsOver base t → IsUndone first t.control → CallsUndone code old entry type master t x
+    → kept new ≡ with_frames (FrameOf.UndoingOwn type first ∷ reverse old.control.items) (old.spots.items ++ t.spot ∷ []) (kept old) → Calls code new entry master base x
+calls_undone code old new entry type master base first t x b begins u c are =
+    subst (λ (z : Called). Calls code new entry master base z) (sym c.is)
+    (calls_over code old new (FrameOf.UndoingOwn type first) (T.UndoingOwn t.spot type) entry master base x.body x.object t (undoes_own u) b begins c.object.origin c.body c.slots are)
 
-pub undone_makes : (code : Code) (old mid new : Engine) (entry : Entry) (type at : ℕ) (t : Finished) (x : Called) (event : Event) (parts : List ℕ) → Finishes code old t → CallsUndone code old entry type at t x → event ≡ Finalize (part_at t.spot) CauseOf.Failed → parts ≡ old.parts.items
+pub undone_makes : (code : Code) (old mid new : Engine) (entry : Entry) (type master : ℕ) (t : Finished) (x : Called) (event : Event) → Finishes code old t → CallsUndone code old entry type master t x → event ≡ Finalize (part_at t.spot) CauseOf.Failed
     → mid.events.items ≡ old.events.items → mid.picks.items ≡ old.picks.items
-    → Makes code mid new (call_operation code x.body event x.spot (object_of parts x.object) x.control x.world)
+    → Makes code mid new (call_operation code x.body event x.spot x.object x.control x.world)
     → Makes code old new (undo_by code (operation_of (λ o. o.finalize) code type) t.spot type (object_at t.spot.object t.world) t.control t.world)
-undone_makes code old mid new entry type at t x event parts b c shows same events picks made =
-    let there = part_there code old t at x.object b c.found c.number in
-    subst (λ (m : Move). Makes code old new m) (sym (own_calls code (operation_of (λ o. o.finalize) code type) x.body t.spot type (object_at t.spot.object t.world) (object_of old.parts.items x.object) t.control t.world c.operation there))
-    (call_makes code old mid new x (undo_call x.object x.body type t) event (Finalize (part_at t.spot) CauseOf.Failed) parts c.is shows same events picks made)
+undone_makes code old mid new entry type master t x event b c shows events picks made =
+    let there = part_there code old t x.object b c.object.found in
+    subst (λ (m : Move). Makes code old new m) (sym (own_calls code (operation_of (λ o. o.finalize) code type) x.body t.spot type (object_at t.spot.object t.world) x.object t.control t.world c.operation there))
+    (call_makes code old mid new x (undo_call x.object x.body type t) event (Finalize (part_at t.spot) CauseOf.Failed) c.is shows events picks made)
 
 -- the body that the user wrote
-pub calls_it : (code : Code) (e : Engine) (entry : Entry) (type at : ℕ) (t : Finished) (o : Owned) → slice_get e.owned.items at ≡ Some o → o.number ≡ t.spot.object → IsFinalizeOf code type entry
-    → CallsUndone code e entry type at t (undo_call (owned_at e.owned.items at) (body_of_finalize code type) type t)
-calls_it code e entry type at t o found number i =
+pub calls_it : (code : Code) (e : Engine) (entry : Entry) (type master : ℕ) (t : Finished) → IsObject e.objects t.spot.object master (object_or t.spot.object e.objects) → IsFinalizeOf code type entry
+    → CallsUndone code e entry type master t (undo_call (object_or t.spot.object e.objects) (body_of_finalize code type) type t)
+calls_it code e entry type master t there i =
     let body : body_of_finalize code type ≡ i.body = ap (λ (x : Option ℕ). unwrap_or x 0) i.operation in
-    let same = owned_at_is e.owned.items at o found in
     record {
       is = refl;
-      found = found ∙ ap (λ (x : Owned). Some x) (sym same);
-      number = ap (λ (x : Owned). x.number) same ∙ number;
+      object = there;
       operation = i.operation ∙ ap (λ (n : ℕ). Some n) (sym body);
       body = ap (λ n. slice_get code.entries.items n) body ∙ i.found;
       slots = i.slots;

@@ -4,18 +4,16 @@ use Rattle.std.specs.Prelude.{slice_get, slice_index_or, nat_eq, if◌then◌els
 use Rattle.std.proofs.lemmas.Option.{slice_get_within}
 use Rattle.ctl_meaning.specs.World as W
 use Rattle.ctl_meaning.specs.World.{Content}
-use Rattle.ctl_machine.specs.declared.frame.Life.TheVariants as LifeOf
 use Rattle.ctl_machine.specs.declared.frame.Formal.{Formal}
 use Rattle.ctl_machine.specs.declared.frame.Owned.{Owned}
 use Rattle.ctl_machine.specs.Holders.{binding, holder_in, formal_in}
-use Rattle.ctl_machine.proofs.Lists.{eq_same, eq_differs, get_index}
-use Rattle.ctl_machine.proofs.Laid.{length_taken}
+use Rattle.ctl_machine.proofs.Lists.{length_taken, eq_same, eq_differs, get_index}
 use Rattle.ctl_machine.proofs.Held.{holder_more, bound_more}
 use Rattle.ctl_machine.proofs.Created.{drop_more}
 
 -- what is read where no object is
 abbrev pub any_owned : Owned
-any_owned = record { number = 0; slot = 0; «record» = 0; master = 0; first = 0; cells = 0; life = LifeOf.Untouched; is_layer = false }
+any_owned = record { number = 0; slot = 0; «record» = 0; master = 0; is_layer = false }
 
 pub take_last : {X : Type 0} (os : List X) (i : ℕ) (o : X) → slice_get os i ≡ Some o → take (suc i) os ≡ take i os ++ o ∷ []
 take_last [] i o e = absurd (cc)

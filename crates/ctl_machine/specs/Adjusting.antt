@@ -1,5 +1,6 @@
 -- Parts of objects that are adjusted: what stands there before.
 use Rattle.std.specs.Prelude.{◌≡◌, ℕ, ◌≤◌, List, ◌∷◌, [], ◌++◌, reverse, slice_get, Option, Some, None, ◌<◌, vec_capacity, vec_len}
+use Rattle.ctl_meaning.specs.World.{Object}
 use Rattle.ctl_code.specs.declared.code.Code.{Code}
 use Rattle.ctl_code.specs.declared.code.Begun.{Begun}
 use Rattle.ctl_code.specs.declared.code.Entry.{Entry}
@@ -12,23 +13,22 @@ use Rattle.ctl_machine.specs.declared.engine.Engine.{Engine}
 use Rattle.ctl_machine.specs.declared.frame.Frame.{Frame}
 use Rattle.ctl_machine.specs.declared.frame.Frame.TheVariants as FrameOf
 use Rattle.ctl_machine.specs.declared.frame.Left.{Left}
-use Rattle.ctl_machine.specs.declared.frame.Owned.{Owned}
 use Rattle.ctl_machine.specs.Assigning.{Called}
 use Rattle.ctl_machine.specs.Finishing.{Finished}
 use Rattle.ctl_machine.specs.Masters.{heads_of}
+use Rattle.ctl_machine.specs.Owned.{IsObject}
 use Rattle.ctl_machine.specs.Noted.{IsNoting}
 use Rattle.ctl_machine.specs.Spots.{spots_in}
 use Rattle.ctl_machine.specs.Shows.{SizedBelow, Holds, kept}
 
 -- what the Adjust of a part is called for, over its frame
-abbrev pub adjust_call : Owned → ℕ → Adjustment → Finished → Called
+abbrev pub adjust_call : Object → ℕ → Adjustment → Finished → Called
 adjust_call o body x t = record { object = o; spot = t.spot; body = body; control = T.AdjustingOwn x.creation t.spot x.record_type x.failed ∷ t.control; world = t.world }
 
--- the user wrote this body as the Adjust of a record type, and it is called for the object at a place
-pub record CallsAdjust (code : Code) (e : Engine) (entry : Entry) (y : Adjustment) (at : ℕ) (t : Finished) (x : Called) : Type 0 where
+-- the user wrote this body as the Adjust of a record type, and it is called for an object of a master
+pub record CallsAdjust (code : Code) (e : Engine) (entry : Entry) (y : Adjustment) (master : ℕ) (t : Finished) (x : Called) : Type 0 where
   pub is : x ≡ adjust_call x.object x.body y t
-  pub found : slice_get e.owned.items at ≡ Some x.object
-  pub number : x.object.number ≡ t.spot.object
+  pub object : IsObject e.objects t.spot.object master x.object
   pub operation : operation_of (λ o. o.adjust) code y.record_type ≡ Some x.body
   pub body : slice_get code.entries.items x.body ≡ Some entry
   pub slots : 1 ≤ entry.slots

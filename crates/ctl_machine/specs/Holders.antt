@@ -53,17 +53,11 @@ abbrev pub own_end : Option Master → ℕ → ℕ
 own_end None total = total
 own_end (Some newer) total = newer.owned
 
--- none of these objects has this number
-abbrev pub Lacks : ℕ → List Owned → Type 0
-Lacks n [] = Unit {0}
-Lacks n (o ∷ os) = (o.number ≢ n) × Lacks n os
-
--- of these masters, the outermost first, the newest of so many owns the object at a place: it was entered when no more objects were owned,
--- and the next newer one, if there is one, when more were
-pub record IsOwnerOf (masters : List Master) (at count : ℕ) : Type 0 where
+-- of these masters, the outermost first, the newest of so many has this number; where there is none, none of them has
+pub record IsMasterOf (masters : List Master) (number count : ℕ) : Type 0 where
   pub bound : count ≤ length masters
-  pub before : (m : Master) → 0 < count → slice_get masters (count - 1) ≡ Some m → m.owned ≤ at
-  pub behind : (m : Master) → slice_get masters count ≡ Some m → at < m.owned
+  pub found : (m : Master) → 0 < count → slice_get masters (count - 1) ≡ Some m → m.number ≡ number
+  pub none : count ≡ 0 → (m : Master) (at : ℕ) → slice_get masters at ≡ Some m → m.number ≢ number
 
 -- what was found is there, among these formals
 abbrev pub IsThere : List Formal → Holder → Type 0

@@ -27,3 +27,4 @@ pub mod Spots
 pub mod Noted
 pub mod Adjusting
 pub mod Undoing
+pub mod Owned

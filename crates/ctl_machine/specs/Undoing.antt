@@ -1,5 +1,6 @@
 -- Parts of copies that failed: which of them are adjusted, and what stands there before they are finalized.
 use Rattle.std.specs.Prelude.{◌≡◌, ℕ, ◌-◌, ◌≤◌, Bool, List, ◌∷◌, [], ◌++◌, Some, drop, length, reverse, slice_get, take}
+use Rattle.ctl_meaning.specs.World.{Object}
 use Rattle.ctl_meaning.specs.Finalization.{Spot}
 use Rattle.ctl_meaning.specs.Lists.{any_of, begins, keep, pull_item, pull_rest}
 use Rattle.ctl_code.specs.declared.code.Begun.{Begun}
@@ -12,6 +13,7 @@ use Rattle.ctl_machine.specs.Assigning.{Called}
 use Rattle.ctl_machine.specs.Filling.{AreAmong, is_undone}
 use Rattle.ctl_machine.specs.Finishing.{Finished}
 use Rattle.ctl_machine.specs.Masters.{heads_of}
+use Rattle.ctl_machine.specs.Owned.{IsObject}
 use Rattle.ctl_machine.specs.Noted.{IsUndone, paths_of}
 use Rattle.ctl_machine.specs.Shows.{SizedBelow, Holds, kept}
 use Rattle.ctl_machine.specs.Spots.{spots_in}
@@ -19,7 +21,6 @@ use Rattle.ctl_machine.specs.declared.engine.Engine.{Engine}
 use Rattle.ctl_machine.specs.declared.frame.Frame.{Frame}
 use Rattle.ctl_machine.specs.declared.frame.Frame.TheVariants as FrameOf
 use Rattle.ctl_machine.specs.declared.frame.Left.{Left}
-use Rattle.ctl_machine.specs.declared.frame.Owned.{Owned}
 
 -- Components that are adjusted --------------------------------------------------------------------
 
@@ -47,14 +48,13 @@ pub record IsChosenAmong (all : List Begun) (passes : Begun → Bool) (left : Li
 -- Finalizations -----------------------------------------------------------------------------------
 
 -- what the Finalize of a part is called for, over its frame
-abbrev pub undo_call : Owned → ℕ → ℕ → Finished → Called
+abbrev pub undo_call : Object → ℕ → ℕ → Finished → Called
 undo_call o body type t = record { object = o; spot = t.spot; body = body; control = T.UndoingOwn t.spot type ∷ t.control; world = t.world }
 
--- the user wrote this body as the Finalize of a record type, and it is called for the object at a place
-pub record CallsUndone (code : Code) (e : Engine) (entry : Entry) (type at : ℕ) (t : Finished) (x : Called) : Type 0 where
+-- the user wrote this body as the Finalize of a record type, and it is called for an object of a master
+pub record CallsUndone (code : Code) (e : Engine) (entry : Entry) (type master : ℕ) (t : Finished) (x : Called) : Type 0 where
   pub is : x ≡ undo_call x.object x.body type t
-  pub found : slice_get e.owned.items at ≡ Some x.object
-  pub number : x.object.number ≡ t.spot.object
+  pub object : IsObject e.objects t.spot.object master x.object
   pub operation : operation_of (λ o. o.finalize) code type ≡ Some x.body
   pub body : slice_get code.entries.items x.body ≡ Some entry
   pub slots : 1 ≤ entry.slots

@@ -23,7 +23,6 @@ use crate::engine::Engine;
 use crate::filling::note_pick;
 use crate::finalizing::{Doubles, handed};
 use crate::frame::{Ended, Frame, Left, Mode};
-use crate::holders::find;
 use crate::initialize::finalize_in;
 use crate::layers::says_failed;
 use crate::parts::{controlled_at, count_controlled, parts_of};
@@ -89,15 +88,15 @@ impl Engine {
         self.noted.push_reserved(spot);
     }
 
-    /// Calls the Adjust of a part, which the user wrote for its type with this body, by the place of its object among the owned ones
-    /// (RM 7.6); there is room.
+    /// Calls the Adjust of a part, which the user wrote for its type with this body, and whose object is declared in this
+    /// master (RM 7.6); there is room.
     #[inline(always)]
     fn call_adjust_of(
         &mut self,
         code: &Code,
         entry: &Entry,
         adjustment: Adjustment,
-        at: usize,
+        master: u64,
         doubles: Doubles,
     )
         ghost t: { Finished × Called }
@@ -107,7 +106,7 @@ impl Engine {
         requires room { HasRoomToFinish code.now self.old adjustment.base }
         requires doubles { AreDoubles doubles t.0.spot }
         requires noting { IsNoting adjustment.creation t.0.control }
-        requires calls { CallsAdjust code.now self.old entry.now adjustment at t.0 t.1 }
+        requires calls { CallsAdjust code.now self.old entry.now adjustment master t.0 t.1 }
         ensures { Makes code.now self.old self.new (Table.adjust_by code.now (Table.operation_of (λ x. x.adjust) code.now adjustment.record_type) adjustment.creation t.0.spot adjustment.record_type adjustment.failed (Changes.object_at t.0.spot.object t.0.world) t.0.control t.0.world) }
     {
         let Doubles { spot, formal, part } = doubles;
@@ -118,7 +117,7 @@ impl Engine {
         });
         self.spots.push_reserved(spot);
         let event = Event::Adjust(part);
-        self.call_operation(code, entry, at, adjustment.base, event, formal);
+        self.call_operation(code, entry, master, adjustment.base, event, formal);
     }
 
     /// Adjusts a controlled part, whose components are adjusted, by its own Adjust, where the user wrote one for its type (RM 7.6). Where
@@ -135,12 +134,12 @@ impl Engine {
         requires notes { HasNoteRoom self.old adjustment.creation }
         ensures { Makes code.now self.old self.new (Table.adjust_by code.now (Table.operation_of (λ x. x.adjust) code.now adjustment.record_type) adjustment.creation t.spot adjustment.record_type adjustment.failed (Changes.object_at t.spot.object t.world) t.control t.world) }
     {
-        let Some(at) = find(self.owned.as_slice(), doubles.spot.object()) else {
+        let Some(master) = self.master_of(doubles.spot.object()) else {
             self.mode = Mode::Stopped(Stop::UseAfterFree);
             return;
         };
         match adjust_of(code, adjustment.record_type) {
-            Some(entry) => self.call_adjust_of(code, &entry, adjustment, at, doubles),
+            Some(entry) => self.call_adjust_of(code, &entry, adjustment, master, doubles),
             None => self.adjusted(code, adjustment, doubles.spot, doubles.part),
         }
     }

@@ -13,7 +13,6 @@ ghost use Rattle.ctl_code.specs.Valid.{IsValid};
 ghost use Rattle.ctl_tree.specs.declared.event.Cause.TheVariants as CauseOf;
 ghost use Rattle.ctl_machine.specs.declared.frame.Frame.{Frame};
 ghost use Rattle.ctl_machine.specs.declared.frame.Frame.TheVariants as FrameOf;
-ghost use Rattle.ctl_machine.specs.declared.frame.Owned.{Owned};
 ghost use Rattle.ctl_machine.specs.declared.frame.Value.TheVariants as ValueOf;
 ghost use Rattle.ctl_machine.specs.Assigning.{Assigned, Assigns, Pending, Replaces, SavesValue, TakesValue, waiting_for};
 ghost use Rattle.ctl_machine.specs.Assigning as Assigning;
@@ -28,19 +27,17 @@ use crate::calls::replace_top;
 use crate::engine::Engine;
 use crate::finalizing::{Doubles, Finalization, doubled};
 use crate::frame::{Ended, Frame, Mode, Value};
-use crate::holders::find;
 use crate::layers::PROGRAM_ERROR;
-use crate::parts::{parts_of, save_copy, size_of, write_parts};
+use crate::parts::{parts_of, size_of};
 use ctl_code::code::{Code, Parts, Way};
 use ctl_tree::ending::Stop;
 use ctl_tree::event::Cause;
 use std::alloc::AllocError;
 
-/// An assignment whose target is to take the value that is saved for it: the target, by its place among the owned objects, and their
-/// record type; the place where it goes on, and the cell where the window of a body begins that is called for the target.
+/// An assignment whose target is to take the value that is saved for it: their record type, the place where it goes on, and the cell where
+/// the window of a body begins that is called for the target.
 #[derive(Clone, Copy)]
 pub struct Assignment {
-    pub target: usize,
     pub record_type: usize,
     pub place: usize,
     pub base: usize,
@@ -115,22 +112,21 @@ impl Engine {
         self.adjust_part(code, adjustment, doubles);
     }
 
-    /// Lets the newest part, of the object at this place, take the value that was saved last, which has so many cells.
+    /// Lets the newest part take the value that was saved last, which has so many cells.
     #[inline(always)]
-    fn take_value(&mut self, target: usize, size: usize)
-        requires target { (o : Owned) × (slice_get self.old.owned.items target ≡ Some o) × (o.first + o.cells ≤ length self.old.parts.items) }
+    fn take_value(&mut self, size: usize)
         requires spots { 0 < length self.old.spots.items }
         requires saved { size ≤ length self.old.saved.items }
-        ensures takes { TakesValue self.old self.new target size }
+        ensures takes { TakesValue self.old self.new size }
         ensures room { (code : Code) (base : ℕ) → HasRoomToFinish code self.old base → HasRoomToFinish code self.new base }
         ensures waiting { self.new.control ≡ self.old.control }
     {
-        let object = self.owned[target];
         let newest = self.count_spots() - 1;
+        let target = self.spots[newest].object();
         let offset = self.spots[newest].offset();
         let start = self.saved.as_slice().len() - size;
         let value = &self.saved.as_slice()[start..];
-        write_parts(self.parts.as_mut_slice(), &object, offset, value);
+        self.objects.write_all(target, offset, value);
         self.saved.truncate(start);
     }
 
@@ -145,7 +141,7 @@ impl Engine {
         ensures { Makes code.now self.old self.new (Table.take_over code.now t.0.spot assignment.record_type t.1 (object_at t.0.spot.object t.0.world) t.0.point t.0.control t.0.world) }
     {
         let size = size_of(code, assignment.record_type);
-        self.take_value(assignment.target, size);
+        self.take_value(size);
         let frame = Frame::Assigning {
             record: assignment.record_type,
             value: Value::Taken,
@@ -155,45 +151,44 @@ impl Engine {
         self.adjust_target(code, assignment, doubles);
     }
 
-    /// Takes the newest part off, of the object at this place, and saves its value, so many cells, for which there is room.
+    /// Takes the newest part off, and saves its value, so many cells, for which there is room.
     #[inline(always)]
-    fn save_value(&mut self, source: usize, size: usize)
-        requires source { (o : Owned) × (slice_get self.old.owned.items source ≡ Some o) × (o.first + o.cells ≤ length self.old.parts.items) }
+    fn save_value(&mut self, size: usize)
         requires spots { 0 < length self.old.spots.items }
         requires saved { vec_len self.old.saved + size ≤ vec_capacity self.old.saved }
-        ensures saves { SavesValue self.old self.new source size }
+        ensures saves { SavesValue self.old self.new size }
         ensures room { (code : Code) (base : ℕ) → HasRoomToFinish code self.old base → HasRoomToFinish code self.new base }
         ensures waiting { self.new.control ≡ self.old.control }
     {
-        let object = self.owned[source];
-        let start = self.spots.take_last().offset();
-        save_copy(&mut self.saved, self.parts.as_slice(), &object, start, size);
+        let source = self.spots.take_last();
+        let _ = self
+            .objects
+            .save(source.object(), source.offset(), size, &mut self.saved);
     }
 
-    /// Assigns the value of the newest part, of the object at this place, to the part below it at once: both are of this record type, which
+    /// Assigns the value of the newest part, of an object that is there, to the part below it at once: both are of this record type, which
     /// has no controlled part (RM 5.2). Goes on at this place; unchanged where memory is refused.
     fn replace_at_once(
         &mut self,
         code: &Code,
-        source: usize,
         record: usize,
         place: usize,
     ) -> Result<(), AllocError>
         ghost t: { Assigned × List ℕ }
-        requires replaces { Replaces code.now self.old source «record» place t.0 t.1 }
+        requires replaces { Replaces code.now self.old «record» place t.0 t.1 }
         requires plain { Table.parts_of code.now «record» ≡ PartsOf.Plain }
         ensures ok { OnOk result (Makes code.now self.old self.new (Table.replace_value code.now t.0.spot «record» t.1 t.0.point t.0.control t.0.world)) }
         ensures err { OnErr result (GoesOn self.old self.new self.old.mode self.old.cells.items) }
     {
         let below = self.count_spots() - 2;
-        let Some(target) = find(self.owned.as_slice(), self.spots[below].object()) else {
+        if !self.objects.exists(self.spots[below].object()) {
             self.mode = Mode::Stopped(Stop::UseAfterFree);
             return Ok(());
-        };
+        }
         let size = size_of(code, record);
         self.saved.reserve(size)?;
-        self.save_value(source, size);
-        self.take_value(target, size);
+        self.save_value(size);
+        self.take_value(size);
         let _ = self.spots.take_last();
         self.mode = Mode::At(place);
         Ok(())
@@ -209,19 +204,18 @@ impl Engine {
         doubled(self.alloc, spot)
     }
 
-    /// Saves the value of the newest part, of the object at this place, for the part below it, both of this record type, and finalizes that
+    /// Saves the value of the newest part, of an object that is there, for the part below it, both of this record type, and finalizes that
     /// (RM 5.2, 7.6): the assignment waits, and goes on at this place. Unchanged where memory is refused.
     #[inline(always)]
     fn finalize_target(
         &mut self,
         code: &Code,
-        source: usize,
         record: usize,
         place: usize,
     ) -> Result<(), AllocError>
         ghost t: { Assigned × List ℕ }
         requires valid { IsValid code.now }
-        requires replaces { Replaces code.now self.old source «record» place t.0 t.1 }
+        requires replaces { Replaces code.now self.old «record» place t.0 t.1 }
         requires number { self.old.given_masters + 1 < 2 ^ 64 }
         ensures ok { OnOk result (Makes code.now self.old self.new (Table.finalize_part code.now (Table.parts_of code.now «record») CauseOf.Assign t.0.spot «record» (waiting_for «record» (Some t.1) t.0) t.0.world)) }
         ensures err { OnErr result (GoesOn self.old self.new self.old.mode self.old.cells.items) }
@@ -231,7 +225,7 @@ impl Engine {
         let size = size_of(code, record);
         self.saved.reserve(size)?;
         self.prepare_finalization(code, base)?;
-        self.save_value(source, size);
+        self.save_value(size);
         self.control.push_reserved(Frame::Assigning {
             record,
             value: Value::Saved,
@@ -246,25 +240,19 @@ impl Engine {
         Ok(())
     }
 
-    /// Assigns the value of the newest part, of the object at this place, to the part below it, both of this record type (RM 5.2, 7.6). The
+    /// Assigns the value of the newest part, of an object that is there, to the part below it, both of this record type (RM 5.2, 7.6). The
     /// assignment goes on at this place; unchanged where memory is refused.
-    fn replace_value(
-        &mut self,
-        code: &Code,
-        source: usize,
-        record: usize,
-        place: usize,
-    ) -> Result<(), AllocError>
+    fn replace_value(&mut self, code: &Code, record: usize, place: usize) -> Result<(), AllocError>
         ghost t: { Assigned × List ℕ }
         requires valid { IsValid code.now }
-        requires replaces { Replaces code.now self.old source «record» place t.0 t.1 }
+        requires replaces { Replaces code.now self.old «record» place t.0 t.1 }
         requires number { self.old.given_masters + 1 < 2 ^ 64 }
         ensures ok { OnOk result (Makes code.now self.old self.new (Table.replace_value code.now t.0.spot «record» t.1 t.0.point t.0.control t.0.world)) }
         ensures err { OnErr result (GoesOn self.old self.new self.old.mode self.old.cells.items) }
     {
         match parts_of(code, record) {
-            Parts::Plain => self.replace_at_once(code, source, record, place),
-            _ => self.finalize_target(code, source, record, place),
+            Parts::Plain => self.replace_at_once(code, record, place),
+            _ => self.finalize_target(code, record, place),
         }
     }
 
@@ -288,16 +276,16 @@ impl Engine {
         let count = self.count_spots();
         let source = &self.spots[count - 1];
         let target = &self.spots[count - 2];
-        let Some(source_at) = find(self.owned.as_slice(), source.object()) else {
+        if !self.objects.exists(source.object()) {
             self.mode = Mode::Stopped(Stop::UseAfterFree);
             return Ok(());
-        };
+        }
         if target.is_same(source) {
             self.spots.truncate(count - 2);
             self.mode = Mode::At(place + 1);
             return Ok(());
         }
-        self.replace_value(code, source_at, record, place + 1)
+        self.replace_value(code, record, place + 1)
     }
 
     /// Goes on with an assignment behind the finalization of its target, if the target is still there (RM 13.11.2): it takes the value, and
@@ -313,16 +301,15 @@ impl Engine {
         ensures err { OnErr result (GoesOn self.old self.new self.old.mode self.old.cells.items) }
     {
         let newest = self.count_spots() - 1;
-        let Some(target) = find(self.owned.as_slice(), self.spots[newest].object()) else {
+        if !self.objects.exists(self.spots[newest].object()) {
             let stopped = Mode::Stopped(Stop::UseAfterFree);
             self.end_assignment(code, record, Value::Saved, stopped);
             return Ok(());
-        };
+        }
         let base = self.next_window(code);
         let doubles = self.double_part(newest)?;
         self.prepare_finalization(code, base)?;
         let assignment = Assignment {
-            target,
             record_type: record,
             place,
             base,

@@ -6,13 +6,13 @@ ghost use Rattle.ctl_machine.specs.declared.frame.Frame.TheVariants as FrameOf;
 ghost use Rattle.ctl_code.specs.Valid.{IsValid};
 ghost use Rattle.ctl_machine.specs.Links.{AreLinked, end_behind, first_end};
 ghost use Rattle.ctl_machine.specs.Assigning.{Called, Calls, HasRoom};
-ghost use Rattle.ctl_machine.specs.Masters.{Head, display_from, first_display, object_of};
+ghost use Rattle.ctl_machine.specs.Masters.{Head, display_from, first_display};
 ghost use Rattle.ctl_machine.specs.Holders.{first_formal};
 ghost use Rattle.ctl_machine.specs.Moves.{GoesOn, Makes, OpensBody, cleared};
 
 use crate::engine::Engine;
 use crate::frame::{After, Completion, Formal, Frame, Master};
-use crate::holders::owner_of;
+use crate::holders::master_at;
 use crate::spots::Spot;
 use ctl_code::code::{Code, Entry};
 use ctl_tree::event::Event;
@@ -166,7 +166,7 @@ impl Engine {
         ensures objects { self.new.given_objects ≡ self.old.given_objects }
         ensures waiting { vec_len self.new.control ≡ vec_len self.old.control }
         ensures owned { self.new.owned ≡ self.old.owned }
-        ensures parts { self.new.parts ≡ self.old.parts }
+        ensures existing { self.new.objects ≡ self.old.objects }
         ensures saved { self.new.saved ≡ self.old.saved }
         ensures spots { self.new.spots ≡ self.old.spots }
         ensures noted { self.new.noted ≡ self.old.noted }
@@ -196,28 +196,27 @@ impl Engine {
         self.open(master, 0, After::Body, place);
     }
 
-    /// Calls a body that the user wrote, with what is shown of the call, for a part of the owned object at this place, whichever active
-    /// master owns it: the body is entered inside the masters around it that the object's master sees (RM 7.6). Its window begins with
-    /// this cell, and there is room for it.
+    /// Calls a body that the user wrote, with what is shown of the call, for a part of an object of this master: the body is entered inside
+    /// the masters around it that the object's master sees (RM 7.6). Its window begins with this cell, and there is room for it.
     #[inline(always)]
     pub(crate) fn call_operation(
         &mut self,
         code: &Code,
         entry: &Entry,
-        at: usize,
+        master: u64,
         base: usize,
         event: Event,
         spot: Spot,
     )
         ghost t: { Called }
         requires valid { IsValid code.now }
-        requires calls { Calls code.now self.old entry.now at base t }
+        requires calls { Calls code.now self.old entry.now master base t }
         requires spot { spot ≡ t.spot }
         requires room { HasRoom code.now self.old base }
-        ensures { Makes code.now self.old self.new (Table.call_operation code.now t.body event t.spot (object_of self.old.parts.items t.object) t.control t.world) }
+        ensures { Makes code.now self.old self.new (Table.call_operation code.now t.body event t.spot t.object t.control t.world) }
     {
         let _ = code;
-        let owner = owner_of(self.masters.as_slice(), at);
+        let owner = master_at(self.masters.as_slice(), master);
         let link = self.around_from(owner, entry.level);
         let outer_formals = self.count_formals();
         let master = Master {

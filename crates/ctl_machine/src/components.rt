@@ -19,8 +19,8 @@ ghost use Rattle.ctl_tree.specs.declared.ending.Stop.TheVariants as StopOf;
 
 use crate::engine::Engine;
 use crate::frame::{Holder, Mode};
-use crate::holders::{find, holder};
-use crate::parts::{offset_of, read_component};
+use crate::holders::holder;
+use crate::parts::offset_of;
 use ctl_code::code::{Cell, Code, Instr};
 use ctl_tree::ending::Stop;
 use std::alloc::AllocError;
@@ -73,9 +73,7 @@ impl Engine {
         ensures { result ≡ part_in (start + offset) (object_at object s.world) }
     {
         let _ = code;
-        let found = find(self.owned.as_slice(), object)?;
-        let object = self.owned[found];
-        Some(read_component(self.parts.as_slice(), &object, start, offset))
+        self.objects.read_part(object, start, offset)
     }
 
     /// Reads a component of what this slot holds, by the first cell of the component; None where there is no such object.

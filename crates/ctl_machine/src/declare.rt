@@ -1,6 +1,6 @@
 //! Objects of record types are declared (RM 3.3.1).
 
-ghost use Rattle.std.specs.Prelude.{◌≡◌, ◌+◌, ◌-◌, ◌^◌, ◌<◌, ◌≤◌, [], ◌++◌, OnErr, OnOk, Some, length, vec_capacity, vec_len};
+ghost use Rattle.std.specs.Prelude.{◌≡◌, ◌+◌, ◌-◌, ◌^◌, ◌<◌, ◌≤◌, [], ◌++◌, OnErr, OnOk, Some, length, replicate, vec_capacity, vec_len};
 ghost use Rattle.ctl_meaning.specs.Lists.{last_of};
 ghost use Rattle.ctl_code.specs.declared.code.Instr.TheVariants as InstrOf;
 ghost use Rattle.ctl_code.specs.Table as Table;
@@ -8,66 +8,72 @@ ghost use Rattle.ctl_code.specs.States.{State};
 ghost use Rattle.ctl_code.specs.Valid.{IsValid};
 ghost use Rattle.ctl_machine.specs.Moves.{Before, GoesOn, Makes, here_of};
 ghost use Rattle.ctl_machine.specs.Shows.{kept};
-ghost use Rattle.ctl_machine.specs.Declaring.{Copied, IsCopied, with_row};
+ghost use Rattle.ctl_machine.specs.Declaring.{Copied, IsCopied, with_object};
+ghost use Rattle.ctl_objects.specs.Order.{AreBelow, AreUpTo};
 
 use crate::adjusting::controlled_left;
 use crate::engine::Engine;
-use crate::frame::{Ended, Frame, Life, Master, Mode, Owned};
-use crate::holders::find;
-use crate::parts::{add_copy, add_zeros, parts_of, size_of};
+use crate::frame::{Ended, Frame, Master, Mode, Owned};
+use crate::parts::{parts_of, size_of};
 use crate::spots::Spot;
 use ctl_code::code::{Code, Parts};
 use ctl_tree::ending::Stop;
 use std::alloc::AllocError;
 
 impl Engine {
-    /// Reserves room for an object of so many cells, for the frames that wait for it, and for the part that it is; nothing else changes.
+    /// Reserves room for an object that is owned, for the frames that wait for it, and for the part that it is; nothing else changes.
     #[inline(always)]
-    fn reserve_object(&mut self, size: usize) -> Result<(), AllocError>
+    fn reserve_object(&mut self) -> Result<(), AllocError>
         ensures same { GoesOn self.old self.new self.old.mode self.old.cells.items }
         ensures owned { OnOk result (vec_len self.new.owned < vec_capacity self.new.owned) }
-        ensures parts { OnOk result (vec_len self.new.parts + size ≤ vec_capacity self.new.parts) }
         ensures control { OnOk result (vec_len self.new.control + 2 ≤ vec_capacity self.new.control) }
         ensures spots { OnOk result (vec_len self.new.spots < vec_capacity self.new.spots) }
         ensures number { self.new.given_objects ≡ self.old.given_objects }
     {
         self.owned.reserve(1)?;
-        self.parts.reserve(size)?;
         self.control.reserve(2)?;
         self.spots.reserve(1)?;
         Ok(())
     }
 
-    /// Creates an object of the newest master with so many cells, for which there is room and which are still to be added, and clears the
-    /// cell of its slot (RM 3.3.1).
+    /// Creates an object of the newest master with so many cells of 0, for which there is room among the owned ones, and clears the cell of
+    /// its slot (RM 3.3.1); unchanged where memory is refused.
     #[inline(always)]
-    fn create(&mut self, newest: Master, slot: usize, record: usize, size: usize)
+    fn create(
+        &mut self,
+        newest: Master,
+        slot: usize,
+        record: usize,
+        size: usize,
+    ) -> Result<(), AllocError>
         requires room { vec_len self.old.owned < vec_capacity self.old.owned }
         requires number { self.old.given_objects + 1 < 2 ^ 64 }
+        requires numbers { AreBelow (self.old.given_objects + 1) self.old.objects }
+        requires newest { AreUpTo newest.number self.old.objects }
         requires cell { slot < newest.slots → newest.base + slot < length self.old.cells.items }
-        ensures kept { kept self.new ≡ with_row newest slot «record» size [] (kept self.old) }
+        ensures kept { OnOk result (kept self.new ≡ with_object newest slot «record» (replicate size 0) (kept self.old)) }
+        ensures err { OnErr result (GoesOn self.old self.new self.old.mode self.old.cells.items) }
         ensures masters { self.new.masters ≡ self.old.masters }
-        ensures parts { self.new.parts ≡ self.old.parts }
         ensures control { self.new.control ≡ self.old.control }
         ensures spots { self.new.spots ≡ self.old.spots }
-        ensures number { self.new.given_objects ≡ self.old.given_objects + 1 }
+        ensures number { OnOk result (self.new.given_objects ≡ self.old.given_objects + 1) }
         ensures events { self.new.events ≡ self.old.events }
         ensures picks { self.new.picks ≡ self.old.picks }
     {
-        self.given_objects += 1;
+        let number = self.given_objects + 1;
+        self.objects.declare(number, record, newest.number, size)?;
+        self.given_objects = number;
         self.owned.push_reserved(Owned {
-            number: self.given_objects,
+            number,
             slot,
             record,
             master: newest.number,
-            first: self.parts.as_slice().len(),
-            cells: size,
-            life: Life::Untouched,
             is_layer: false,
         });
         if slot < newest.slots {
             self.cells[newest.base + slot] = 0;
         }
+        Ok(())
     }
 
     /// Declares an object of a record type without a value (RM 3.3.1): it is created, and its components are to begin (RM 7.6); unchanged
@@ -90,9 +96,8 @@ impl Engine {
     {
         let newest = self.newest();
         let size = size_of(code, record);
-        self.reserve_object(size)?;
-        self.create(newest, slot, record, size);
-        add_zeros(&mut self.parts, size);
+        self.reserve_object()?;
+        self.create(newest, slot, record, size)?;
         self.control
             .push_reserved(Frame::Creating { place: place + 1 });
         let spot = Spot::whole(self.alloc, self.given_objects);
@@ -148,15 +153,16 @@ impl Engine {
         let newest_spot = self.count_spots() - 1;
         let spot = &self.spots[newest_spot];
         let start = spot.offset();
-        let Some(found) = find(self.owned.as_slice(), spot.object()) else {
+        let source = spot.object();
+        if !self.objects.exists(source) {
             self.mode = Mode::Stopped(Stop::UseAfterFree);
             return Ok(());
-        };
-        let source = self.owned[found];
+        }
         let size = size_of(code, record);
-        self.reserve_object(size)?;
-        self.create(newest, slot, record, size);
-        add_copy(&mut self.parts, &source, start, size);
+        self.reserve_object()?;
+        self.create(newest, slot, record, size)?;
+        self.objects
+            .copy(source, start, self.given_objects, 0, size);
         let _ = self.spots.take_last();
         self.adjust_new(code, record, newest.number, place + 1);
         Ok(())

@@ -20,8 +20,7 @@ ghost use Rattle.ctl_machine.specs.Shows.{tried_of};
 use crate::calls::replace_top;
 use crate::engine::Engine;
 use crate::frame::{Apart, Ended, Frame, Left, Mode};
-use crate::holders::find;
-use crate::parts::{begun_at, count_begun, count_controlled, parts_of, write_component};
+use crate::parts::{begun_at, count_begun, count_controlled, parts_of};
 use crate::spots::Spot;
 use ctl_code::code::{Begun, Code, Initial, Parts};
 use ctl_tree::ending::Stop;
@@ -201,13 +200,13 @@ impl Engine {
         let newest = self.count_spots() - 1;
         let spot = &self.spots[newest];
         let start = spot.offset();
-        let Some(at) = find(self.owned.as_slice(), spot.object()) else {
+        let object = spot.object();
+        if !self.objects.exists(object) {
             let _ = self.control.take_last();
             self.mode = Mode::Stopped(Stop::UseAfterFree);
             return;
-        };
-        let object = self.owned[at];
-        write_component(self.parts.as_mut_slice(), &object, start, offset, value);
+        }
+        self.objects.write_part(object, start, offset, value);
         replace_top(
             &mut self.control,
             Frame::Filling {

@@ -18,8 +18,7 @@ ghost use Rattle.ctl_machine.specs.declared.frame.Frame.TheVariants as FrameOf;
 ghost use Rattle.ctl_machine.specs.declared.frame.Mode.TheVariants as ModeOf;
 ghost use Rattle.ctl_machine.specs.Assigning.{Called, HasRoom};
 ghost use Rattle.ctl_machine.specs.Filling.{AreApart, IsChosenApart, noted_among, pick_among};
-ghost use Rattle.ctl_machine.specs.Finishing.{AreDoubles, BeginsOver, CallsOwn, DropsFrame, FinalizesParts, Finished, Finishes, HasFrameRoom, HasRoomToFinish, with_owned};
-ghost use Rattle.ctl_machine.specs.Masters.{RiseBelow};
+ghost use Rattle.ctl_machine.specs.Finishing.{AreDoubles, BeginsOver, CallsOwn, DropsFrame, FinalizesParts, Finished, Finishes, HasFrameRoom, HasRoomToFinish, with_objects};
 ghost use Rattle.ctl_machine.specs.Moves.{BeforeResuming, Chooses, GoesOn, Makes, Resumes};
 ghost use Rattle.ctl_machine.specs.Shows as Shows;
 ghost use Rattle.ctl_machine.specs.Shows.{Holds, kept};
@@ -27,8 +26,7 @@ ghost use Rattle.ctl_machine.specs.Shows.{Holds, kept};
 use crate::calls::replace_top;
 use crate::engine::Engine;
 use crate::filling::{all_controlled, note_pick};
-use crate::frame::{Apart, Ended, Frame, Life, Mode};
-use crate::holders::find;
+use crate::frame::{Apart, Ended, Frame, Mode};
 use crate::layers::{PROGRAM_ERROR, fails_with, finalize_of};
 use crate::parts::{controlled_at, parts_of};
 use crate::spots::Spot;
@@ -164,9 +162,8 @@ pub(crate) fn doubled(alloc: Global, spot: Spot) -> Result<Doubles, AllocError>
 impl Engine {
     /// Begins the finalization of the object of this number, if it is there (RM 7.6.1).
     pub(crate) fn begin_finalization(&mut self, number: u64)
-        requires rising { (bound : ℕ) × RiseBelow 1 self.old.owned.items bound }
         ensures holds { (code : Code) (k : List T.Frame) (ops : List Word) (w : World) → Holds code (kept self.old) k ops w → Holds code (kept self.new) k ops (Changes.begin_finalization number w) }
-        ensures kept { kept self.new ≡ with_owned self.new.owned.items (kept self.old) }
+        ensures kept { kept self.new ≡ with_objects self.new.objects (kept self.old) }
         ensures control { self.new.control ≡ self.old.control }
         ensures spots { self.new.spots ≡ self.old.spots }
         ensures others { (self.new.masters ≡ self.old.masters) × (self.new.formals ≡ self.old.formals) }
@@ -174,30 +171,21 @@ impl Engine {
         ensures events { self.new.events ≡ self.old.events }
         ensures picks { self.new.picks ≡ self.old.picks }
     {
-        let Some(at) = find(self.owned.as_slice(), number) else {
-            return;
-        };
-        self.owned[at].life = Life::Finalizing;
+        self.objects.begin_finalization(number);
     }
 
     /// Ends the finalization of the object that is this part as a whole, if it is there (RM 7.6.1); nothing changes where it is a part
     /// inside of an object.
     pub(crate) fn end_whole(&mut self, spot: &Spot)
-        requires rising { (bound : ℕ) × RiseBelow 1 self.old.owned.items bound }
         ensures holds { (code : Code) (k : List T.Frame) (ops : List Word) (w : World) → Holds code (kept self.old) k ops w → Holds code (kept self.new) k ops (if S.is_whole spot.now then Changes.end_finalization spot.now.object w else w) }
-        ensures kept { kept self.new ≡ with_owned self.new.owned.items (kept self.old) }
+        ensures kept { kept self.new ≡ with_objects self.new.objects (kept self.old) }
         ensures stacks { (self.new.control ≡ self.old.control) × (self.new.noted ≡ self.old.noted) }
         ensures events { self.new.events ≡ self.old.events }
         ensures picks { self.new.picks ≡ self.old.picks }
     {
-        if !spot.is_whole() {
-            return;
+        if spot.is_whole() {
+            self.objects.end_finalization(spot.object());
         }
-        let Some(at) = find(self.owned.as_slice(), spot.object()) else {
-            return;
-        };
-        let life = self.owned[at].life;
-        self.owned[at].life = life.ended();
     }
 
     /// Makes room for the finalization or the adjustment of a part: for its frames and the part that they wait for, for the call of a body
@@ -217,7 +205,7 @@ impl Engine {
         ensures choices { self.new.picks ≡ self.old.picks }
         ensures waiting { vec_len self.new.control ≡ vec_len self.old.control }
         ensures owned { self.new.owned ≡ self.old.owned }
-        ensures parts { self.new.parts ≡ self.old.parts }
+        ensures objects { self.new.objects ≡ self.old.objects }
         ensures saved { self.new.saved ≡ self.old.saved }
         ensures notes { OnOk result (vec_len self.new.noted < vec_capacity self.new.noted) }
     {
@@ -259,15 +247,15 @@ impl Engine {
         self.mode = Mode::Giving(Ended::Complete);
     }
 
-    /// Calls the Finalize of a part, which the user wrote for its type with this body, by the place of its object among the owned ones
-    /// (RM 7.6.1); there is room.
+    /// Calls the Finalize of a part, which the user wrote for its type with this body, and whose object is declared in this
+    /// master (RM 7.6.1); there is room.
     #[inline(always)]
     fn call_finalize(
         &mut self,
         code: &Code,
         entry: &Entry,
         finalization: Finalization,
-        at: usize,
+        master: u64,
         doubles: Doubles,
     )
         ghost t: { Finished × Called }
@@ -276,7 +264,7 @@ impl Engine {
         requires base { BeginsOver finalization.base t.0 }
         requires room { HasRoomToFinish code.now self.old finalization.base }
         requires doubles { AreDoubles doubles t.0.spot }
-        requires calls { CallsOwn code.now self.old entry.now finalization.cause finalization.record_type at t.0 t.1 }
+        requires calls { CallsOwn code.now self.old entry.now finalization.cause finalization.record_type master t.0 t.1 }
         ensures { Makes code.now self.old self.new (Table.finalize_own code.now (Table.operation_of (λ x. x.finalize) code.now finalization.record_type) finalization.cause t.0.spot finalization.record_type (Changes.object_at t.0.spot.object t.0.world) t.0.control t.0.world) }
     {
         let Doubles { spot, formal, part } = doubles;
@@ -286,7 +274,7 @@ impl Engine {
         });
         self.spots.push_reserved(spot);
         let event = Event::Finalize(part, finalization.cause);
-        self.call_operation(code, entry, at, finalization.base, event, formal);
+        self.call_operation(code, entry, master, finalization.base, event, formal);
     }
 
     /// Finalizes a controlled part: by its own Finalize, where the user wrote one for its type, and then its components (RM 7.6.1). Where its
@@ -301,12 +289,12 @@ impl Engine {
         requires doubles { AreDoubles doubles t.spot }
         ensures { Makes code.now self.old self.new (Table.finalize_own code.now (Table.operation_of (λ x. x.finalize) code.now finalization.record_type) finalization.cause t.spot finalization.record_type (Changes.object_at t.spot.object t.world) t.control t.world) }
     {
-        let Some(at) = find(self.owned.as_slice(), doubles.spot.object()) else {
+        let Some(master) = self.master_of(doubles.spot.object()) else {
             self.mode = Mode::Stopped(Stop::UseAfterFree);
             return;
         };
         match finalize_of(code, finalization.record_type) {
-            Some(entry) => self.call_finalize(code, &entry, finalization, at, doubles),
+            Some(entry) => self.call_finalize(code, &entry, finalization, master, doubles),
             None => self.finalize_components(
                 code,
                 finalization.cause,

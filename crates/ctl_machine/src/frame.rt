@@ -208,15 +208,7 @@ pub enum Holder {
     Bound(usize),
 }
 
-/// How far the finalization of an owned object has come (RM 7.6.1).
-#[derive(Clone, Copy)]
-pub enum Life {
-    Untouched,
-    Finalizing,
-    Finalized,
-}
-
-/// A declared object of a record type, and its master. Its components are so many cells among those of all objects, from `first` on.
+/// A declared object of a record type, and its master.
 #[derive(Clone, Copy)]
 pub struct Owned {
     pub number: u64,
@@ -224,9 +216,6 @@ pub struct Owned {
     pub slot: usize,
     pub record: usize,
     pub master: u64,
-    pub first: usize,
-    pub cells: usize,
-    pub life: Life,
     /// whether it is a layer of its master: from the end of its creation on, until it is taken out (RM 7.6.1)
     pub is_layer: bool,
 }

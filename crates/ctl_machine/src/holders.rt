@@ -1,10 +1,9 @@
-//! What a slot holds, where an object stands among the owned objects, and which master owns it.
+//! What a slot holds, and where a master stands among the active ones.
 
-ghost use Rattle.std.specs.Prelude.{◌≡◌, ◌≤◌, ℕ, IfSome, IsNone, Some, drop, length, slice_get, take};
+ghost use Rattle.std.specs.Prelude.{◌≡◌, ◌≤◌, ℕ, IfSome, drop, length, reverse, take};
 ghost use Rattle.ctl_code.specs.Table as Table;
-ghost use Rattle.ctl_machine.specs.declared.frame.Owned.{Owned};
-ghost use Rattle.ctl_machine.specs.Holders.{IsOwnerOf, IsThere, Lacks, formal_in, found_in, holder_in, own_formals};
-ghost use Rattle.ctl_machine.specs.Masters.{RiseBelow};
+ghost use Rattle.ctl_machine.specs.Holders.{IsMasterOf, IsThere, formal_in, found_in, holder_in, own_formals};
+ghost use Rattle.ctl_machine.specs.Masters.{AreBelow};
 
 use crate::frame::{Formal, Holder, Master, Owned};
 
@@ -50,45 +49,16 @@ pub(crate) fn holder(
     formal(formals, master.outer_formals, master.formals, slot)
 }
 
-/// Finds the owned object of this number; the numbers rise.
+/// Finds the active master of this number, among these, the outermost first, whose numbers rise: it is the newest of so many; 0 where there
+/// is none.
 #[inline(always)]
-pub(crate) fn find(owned: &[Owned], number: u64) -> Option<usize>
-    requires { (bound : ℕ) × RiseBelow 1 owned.now bound }
-    ensures some { IfSome result (λ at. (o : Owned) × (slice_get owned.now at ≡ Some o) × (o.number ≡ number)) }
-    ensures none { IsNone result → Lacks number owned.now }
-{
-    // What is created or finalized is most often the newest object.
-    if let [.., newest] = owned {
-        if newest.number == number {
-            return Some(owned.len() - 1);
-        }
-    }
-    let mut low = 0;
-    let mut high = owned.len();
-    while low < high {
-        let middle = low + (high - low) / 2;
-        let found = owned[middle].number;
-        if found == number {
-            return Some(middle);
-        }
-        if found < number {
-            low = middle + 1;
-        } else {
-            high = middle;
-        }
-    }
-    None
-}
-
-/// Answers the master that owns the object at this place, as the newest of so many masters, the outermost first: what a master owns was
-/// declared after it was entered.
-#[inline(always)]
-pub(crate) fn owner_of(masters: &[Master], at: usize) -> usize
-    ensures { IsOwnerOf masters.now at result }
+pub(crate) fn master_at(masters: &[Master], number: u64) -> usize
+    requires { (bound : ℕ) × AreBelow (reverse masters.now) bound }
+    ensures { IsMasterOf masters.now number result }
 {
     // Most often it is the newest master.
     if let [.., newest] = masters {
-        if newest.owned <= at {
+        if newest.number == number {
             return masters.len();
         }
     }
@@ -96,11 +66,15 @@ pub(crate) fn owner_of(masters: &[Master], at: usize) -> usize
     let mut high = masters.len();
     while low < high {
         let middle = low + (high - low) / 2;
-        if masters[middle].owned <= at {
+        let found = masters[middle].number;
+        if found == number {
+            return middle + 1;
+        }
+        if found < number {
             low = middle + 1;
         } else {
             high = middle;
         }
     }
-    low
+    0
 }

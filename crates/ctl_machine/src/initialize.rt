@@ -7,16 +7,16 @@ ghost use Rattle.ctl_code.specs.States.{Giving, State};
 ghost use Rattle.ctl_code.specs.Valid.{IsValid};
 ghost use Rattle.ctl_machine.specs.declared.frame.Frame.{Frame};
 ghost use Rattle.ctl_machine.specs.declared.frame.Frame.TheVariants as FrameOf;
-ghost use Rattle.ctl_machine.specs.declared.frame.Owned.{Owned};
-ghost use Rattle.ctl_machine.specs.Initializing.{Grown, Grows, IsInitializeOf, IsPartOf, ended_part, front_of};
+ghost use Rattle.ctl_meaning.specs.World.{Object};
+ghost use Rattle.ctl_machine.specs.Initializing.{Grown, Grows, IsInitializeOf, ended_part, front_of};
 ghost use Rattle.ctl_machine.specs.Moves.{BeforeResuming, GoesOn, Makes};
+ghost use Rattle.ctl_machine.specs.Owned.{IsObject};
 ghost use Rattle.ctl_machine.specs.Shows as Shows;
 
 use crate::calls::replace_top;
 use crate::engine::Engine;
 use crate::filling::{Creation, all_controlled};
 use crate::frame::{Ended, Frame, Mode};
-use crate::holders::find;
 use crate::parts::parts_of;
 use crate::showing::show_life;
 use ctl_code::code::{Code, Entry, Parts};
@@ -75,19 +75,19 @@ impl Engine {
         Ok(())
     }
 
-    /// Calls the Initialize of the newest part, of the owned object at this place, by the body that the user wrote for its type (RM 7.6);
+    /// Calls the Initialize of the newest part, whose object is declared in this master, by the body that the user wrote for its type (RM 7.6);
     /// unchanged where memory is refused.
     fn call_initialize(
         &mut self,
         code: &Code,
         entry: &Entry,
-        at: usize,
+        master: u64,
         creation: Creation,
     ) -> Result<(), AllocError>
-        ghost t: { Grown × Owned }
+        ghost t: { Grown × Object }
         requires valid { IsValid code.now }
         requires grows { Grows code.now self.old creation.record_type creation.master t.0 }
-        requires part { IsPartOf self.old at t.1 t.0 }
+        requires part { IsObject self.old.objects t.0.new.spot.object master t.1 }
         requires body { IsInitializeOf code.now creation.record_type entry.now }
         requires number { self.old.given_masters + 1 < 2 ^ 64 }
         ensures ok { OnOk result (Makes code.now self.old self.new (Table.initialize_by code.now (Table.operation_of (λ x. x.initialize) code.now creation.record_type) t.0.new (object_at t.0.new.spot.object t.0.world) t.0.control t.0.world)) }
@@ -106,7 +106,7 @@ impl Engine {
                 master: creation.master,
             },
         );
-        self.call_operation(code, entry, at, base, Event::Initialize(part), spot);
+        self.call_operation(code, entry, master, base, Event::Initialize(part), spot);
         Ok(())
     }
 
@@ -122,12 +122,12 @@ impl Engine {
     {
         let newest = self.count_spots() - 1;
         let spot = &self.spots[newest];
-        let Some(at) = find(self.owned.as_slice(), spot.object()) else {
+        let Some(master) = self.master_of(spot.object()) else {
             self.end_part(Mode::Stopped(Stop::UseAfterFree));
             return Ok(());
         };
         match initialize_of(code, creation.record_type) {
-            Some(entry) => self.call_initialize(code, &entry, at, creation),
+            Some(entry) => self.call_initialize(code, &entry, master, creation),
             None => self.complete(code, creation),
         }
     }

@@ -2,6 +2,7 @@
 //! controlled (RM 7.6.1).
 
 ghost use Rattle.std.specs.Prelude.{◌≡◌, ◌||◌, ◌+◌, ◌<◌, [], ◌∷◌, List, IfNone, IfSome, None, Some, drop, reverse, slice_get, slice_set, vec_capacity, vec_len};
+ghost use Rattle.ctl_meaning.specs.Objects.{change_in, with_begun};
 ghost use Rattle.ctl_meaning.specs.Outcome.{Fine};
 ghost use Rattle.ctl_code.specs.States.{Giving, State};
 ghost use Rattle.ctl_code.specs.Table as Table;
@@ -9,30 +10,18 @@ ghost use Rattle.ctl_code.specs.Valid.{IsValid};
 ghost use Rattle.ctl_machine.specs.declared.frame.Frame.{Frame};
 ghost use Rattle.ctl_machine.specs.declared.frame.Frame.TheVariants as FrameOf;
 ghost use Rattle.ctl_machine.specs.declared.frame.Owned.{Owned};
-ghost use Rattle.ctl_machine.specs.Departing.{IsFinalizeOf, IsNewestLayer, TakesOut, ended_life, out, taken};
+ghost use Rattle.ctl_machine.specs.Departing.{IsFinalizeOf, IsNewestLayer, TakesOut, out};
 ghost use Rattle.ctl_machine.specs.Masters.{layers_from, rising_layers};
 ghost use Rattle.ctl_machine.specs.Moves.{BeforeResuming, Makes};
 ghost use Rattle.ctl_machine.specs.Shows as Shows;
 
 use crate::calls::{Departure, replace_top};
 use crate::engine::Engine;
-use crate::frame::{Completion, Ended, Frame, Life, Master, Mode};
+use crate::frame::{Completion, Ended, Frame, Master, Mode};
 use ctl_code::code::{Code, Entry, Way};
 
 /// The number of Program_Error in the table of exceptions (RM 11.1).
 pub(crate) const PROGRAM_ERROR: usize = 1;
-
-impl Life {
-    /// Answers how far the life has come where a finalization has ended.
-    pub(crate) fn ended(self) -> Life
-        ensures { result ≡ ended_life self }
-    {
-        match self {
-            Life::Finalizing => Life::Finalized,
-            other => other,
-        }
-    }
-}
 
 /// Answers what the finalization of an object hands on: one that raised is remembered, and the exception goes no further (RM 7.6.1).
 fn remembered(ended: Ended) -> Ended
@@ -122,10 +111,10 @@ impl Engine {
         ensures control { reverse self.new.control.items ≡ FrameOf.Finalizing at ∷ FrameOf.Leaving departure.failed departure.pending departure.after at ∷ drop 1 (reverse self.old.control.items) }
         ensures room { vec_len self.new.control ≡ vec_len self.old.control + 1 }
         ensures capacity { vec_capacity self.new.control ≡ vec_capacity self.old.control }
-        ensures owned { self.new.owned.items ≡ slice_set self.old.owned.items at (taken o) }
+        ensures owned { self.new.owned.items ≡ slice_set self.old.owned.items at (out o) }
         ensures masters { self.new.masters ≡ self.old.masters }
         ensures cells { self.new.cells ≡ self.old.cells }
-        ensures parts { self.new.parts ≡ self.old.parts }
+        ensures objects { self.new.objects ≡ change_in o.number with_begun self.old.objects }
         ensures saved { self.new.saved ≡ self.old.saved }
         ensures noted { self.new.noted ≡ self.old.noted }
         ensures formals { self.new.formals ≡ self.old.formals }
@@ -136,7 +125,8 @@ impl Engine {
     {
         let object = &mut self.owned[at];
         object.is_layer = false;
-        object.life = Life::Finalizing;
+        let number = object.number;
+        self.objects.begin_finalization(number);
         replace_top(&mut self.control, departure.frame(at));
         self.control.push_reserved(Frame::Finalizing(at));
     }
@@ -150,8 +140,8 @@ impl Engine {
         ensures done { Makes code.now self.old self.new (Table.act code.now (Giving (Shows.tried_of ended)) s.control s.operands s.world 0) }
     {
         let _ = code;
-        let life = self.owned[at].life;
-        self.owned[at].life = life.ended();
+        let number = self.owned[at].number;
+        self.objects.end_finalization(number);
         let _ = self.control.take_last();
         self.mode = Mode::Giving(remembered(ended));
     }

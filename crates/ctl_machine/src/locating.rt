@@ -15,8 +15,6 @@ ghost use Rattle.ctl_tree.specs.declared.ending.Stop.TheVariants as StopOf;
 
 use crate::engine::Engine;
 use crate::frame::{Holder, Mode};
-use crate::holders::find;
-use crate::parts::write_component;
 use crate::spots::Spot;
 use ctl_code::code::{Cell, Code, Named};
 use std::alloc::AllocError;
@@ -137,15 +135,13 @@ impl Engine {
         let newest = self.count_spots() - 1;
         let spot = &self.spots[newest];
         let start = spot.offset();
-        match find(self.owned.as_slice(), spot.object()) {
-            Some(found) => {
-                let object = self.owned[found];
-                write_component(self.parts.as_mut_slice(), &object, start, offset, value);
-                let _ = self.spots.take_last();
-                self.mode = Mode::At(place + 1);
-                Some(place + 1)
-            }
-            None => None,
+        let object = spot.object();
+        if !self.objects.exists(object) {
+            return None;
         }
+        self.objects.write_part(object, start, offset, value);
+        let _ = self.spots.take_last();
+        self.mode = Mode::At(place + 1);
+        Some(place + 1)
     }
 }

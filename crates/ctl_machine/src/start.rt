@@ -8,6 +8,7 @@ ghost use Rattle.ctl_machine.specs.Shows.{Shows};
 use crate::engine::Engine;
 use crate::frame::Mode;
 use ctl_code::code::Code;
+use ctl_objects::Objects;
 use ctl_tree::event::Event;
 use std::alloc::{AllocError, Global};
 
@@ -17,16 +18,17 @@ impl Engine {
         requires { IsValid code.now }
         ensures { IfOk result (λ engine. Shows code.now engine Steps.start) }
     {
+        let cells = vec![in alloc; 0; code.room]?;
         Ok(Engine {
             alloc,
             mode: Mode::At(0),
             control: Vec::new(alloc),
             masters: Vec::new(alloc),
-            cells: vec![in alloc; 0; code.room]?,
+            cells,
             owned: Vec::new(alloc),
             formals: Vec::new(alloc),
             spots: Vec::new(alloc),
-            parts: Vec::new(alloc),
+            objects: Objects::new(alloc),
             saved: Vec::new(alloc),
             noted: Vec::new(alloc),
             given_masters: 0,
@@ -36,7 +38,7 @@ impl Engine {
         })
     }
 
-    /// Answers what was shown, and the choices that were made.
+    /// Answers what was shown, and the choices that were made, and frees the objects.
     pub fn into_parts(self) -> (Vec<Event>, Vec<u64>)
         ensures events { result.0.items ≡ self.events.items }
         ensures picks { result.1.items ≡ self.picks.items }
@@ -50,7 +52,7 @@ impl Engine {
             owned: _,
             formals: _,
             spots: _,
-            parts: _,
+            objects,
             saved: _,
             noted: _,
             given_masters: _,
@@ -58,6 +60,7 @@ impl Engine {
             events,
             picks,
         } = self;
+        objects.close();
         (events, picks)
     }
 }

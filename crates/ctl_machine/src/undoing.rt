@@ -25,7 +25,6 @@ use crate::engine::Engine;
 use crate::filling::{Chosen, note_pick};
 use crate::finalizing::Doubles;
 use crate::frame::{Ended, Frame, Left, Mode};
-use crate::holders::find;
 use crate::layers::finalize_of;
 use crate::parts::{controlled_at, count_controlled, parts_of};
 use crate::spots::Spot;
@@ -224,14 +223,14 @@ impl Engine {
         self.mode = Mode::Giving(Ended::Complete);
     }
 
-    /// Calls the Finalize of a part that is adjusted, which the user wrote for its type with this body, by the place of its object among the
-    /// owned ones (RM 7.6.1); there is room.
+    /// Calls the Finalize of a part that is adjusted, which the user wrote for its type with this body, and whose object is declared
+    /// in this master (RM 7.6.1); there is room.
     fn call_undone(
         &mut self,
         code: &Code,
         entry: &Entry,
         undoing: Undone,
-        at: usize,
+        master: u64,
         doubles: Doubles,
     )
         ghost t: { Finished × Called }
@@ -241,7 +240,7 @@ impl Engine {
         requires room { HasRoomToFinish code.now self.old undoing.base }
         requires doubles { AreDoubles doubles t.0.spot }
         requires undone { IsUndone undoing.first t.0.control }
-        requires calls { CallsUndone code.now self.old entry.now undoing.record_type at t.0 t.1 }
+        requires calls { CallsUndone code.now self.old entry.now undoing.record_type master t.0 t.1 }
         ensures { Makes code.now self.old self.new (Table.undo_by code.now (Table.operation_of (λ x. x.finalize) code.now undoing.record_type) t.0.spot undoing.record_type (Changes.object_at t.0.spot.object t.0.world) t.0.control t.0.world) }
     {
         let Doubles { spot, formal, part } = doubles;
@@ -251,7 +250,7 @@ impl Engine {
         });
         self.spots.push_reserved(spot);
         let event = Event::Finalize(part, Cause::Failed);
-        self.call_operation(code, entry, at, undoing.base, event, formal);
+        self.call_operation(code, entry, master, undoing.base, event, formal);
     }
 
     /// Finalizes a controlled part that is adjusted: by its own Finalize, where the user wrote one for its type, and then its components
@@ -266,12 +265,12 @@ impl Engine {
         requires undone { IsUndone undoing.first t.control }
         ensures { Makes code.now self.old self.new (Table.undo_by code.now (Table.operation_of (λ x. x.finalize) code.now undoing.record_type) t.spot undoing.record_type (Changes.object_at t.spot.object t.world) t.control t.world) }
     {
-        let Some(at) = find(self.owned.as_slice(), doubles.spot.object()) else {
+        let Some(master) = self.master_of(doubles.spot.object()) else {
             self.mode = Mode::Stopped(Stop::UseAfterFree);
             return;
         };
         match finalize_of(code, undoing.record_type) {
-            Some(entry) => self.call_undone(code, &entry, undoing, at, doubles),
+            Some(entry) => self.call_undone(code, &entry, undoing, master, doubles),
             None => self.undo_components(code, undoing.record_type, undoing.first, doubles.spot),
         }
     }

@@ -24,7 +24,7 @@ call_operation-requires g c =
     let more = room.control in (
       c.requires.0,
       (
-        calls_adjust code old _ c.args.entry.now x c.args.at x.base t g.t.1 c.requires.1.0 noting c.requires.1.1.0 calls are,
+        calls_adjust code old _ c.args.entry.now x c.args.master x.base t g.t.1 c.requires.1.0 noting c.requires.1.1.0 calls are,
         (
           doubles.formal ∙ sym (ap (λ (y : Called). y.spot) calls.is),
           record { masters = room.call.masters; control = omega (arith, len, capacity, more); events = room.call.events; formals = room.call.formals; cells = room.call.cells; number = room.call.number },
@@ -35,5 +35,5 @@ call_operation-requires g c =
 pub returns : goal.returns
 returns g c =
     let x = c.args.adjustment in
-    adjust_makes c.args.code.now c.args.self.now _ c.call_operation.new.self c.args.entry.now x c.args.at g.t.0 g.t.1 (Adjust c.args.doubles.part) _ c.requires.1.0 c.requires.1.1.1.1.1.1
-    (ap (λ (p : Part). Adjust p) c.requires.1.1.1.1.0.part) refl refl refl c.call_operation.ensures
+    adjust_makes c.args.code.now c.args.self.now _ c.call_operation.new.self c.args.entry.now x c.args.master g.t.0 g.t.1 (Adjust c.args.doubles.part) c.requires.1.0 c.requires.1.1.1.1.1.1
+    (ap (λ (p : Part). Adjust p) c.requires.1.1.1.1.0.part) refl refl c.call_operation.ensures

@@ -32,7 +32,7 @@ call_operation-requires g c =
     let more = room.control in (
       c.requires.0,
       (
-        calls_undone code old _ c.args.entry.now x.record_type c.args.at x.base x.first t g.t.1 c.requires.1.0 c.requires.1.1.0 undone calls are,
+        calls_undone code old _ c.args.entry.now x.record_type c.args.master x.base x.first t g.t.1 c.requires.1.0 c.requires.1.1.0 undone calls are,
         (
           doubles.formal ∙ sym (ap (λ (y : Called). y.spot) calls.is),
           record { masters = room.call.masters; control = omega (arith, len, capacity, more); events = room.call.events; formals = room.call.formals; cells = room.call.cells; number = room.call.number },
@@ -43,5 +43,5 @@ call_operation-requires g c =
 pub returns : goal.returns
 returns g c =
     let x = c.args.undoing in
-    undone_makes c.args.code.now c.args.self.now _ c.call_operation.new.self c.args.entry.now x.record_type c.args.at g.t.0 g.t.1 (Finalize c.args.doubles.part Failed) _ c.requires.1.0 c.requires.1.1.1.1.1.1
-    (ap (λ (p : Part). Finalize p Failed) c.requires.1.1.1.1.0.part) refl refl refl c.call_operation.ensures
+    undone_makes c.args.code.now c.args.self.now _ c.call_operation.new.self c.args.entry.now x.record_type c.args.master g.t.0 g.t.1 (Finalize c.args.doubles.part Failed) c.requires.1.0 c.requires.1.1.1.1.1.1
+    (ap (λ (p : Part). Finalize p Failed) c.requires.1.1.1.1.0.part) refl refl c.call_operation.ensures
