@@ -146,7 +146,7 @@ TEXTS = [
     (ITEM + "N : Integer; procedure P (M : in out Integer) is begin null; end P; begin P (N); end Main;", ACCEPTED, 1, 1),
     (ITEM + "B : Boolean; procedure P (M : out Boolean) is begin M := True; end P; begin P (B); end Main;", ACCEPTED, 1, 1),
     (ITEM + "type R is record N : Integer; end record; V : R; procedure P (M : out Integer) is begin M := 1; end P; begin P (V.N); end Main;", 12, 1, 1),
-    (ITEM + "procedure P (M : out Integer) is begin M := 1; end P; begin P (1); end Main;", 31, 1, 80),
+    (ITEM + "procedure P (M : out Integer) is begin M := 1; end P; begin P (1); end Main;", 31, 1, 82),
     # handlers are run
     (ITEM + "begin null; exception when others => raise; end Main;", ACCEPTED, 1, 1),
     # a type that extends another of the text inherits its components
