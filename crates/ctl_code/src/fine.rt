@@ -10,7 +10,7 @@ ghost use Rattle.ctl_code.specs.declared.code.Cell.{Cell};
 ghost use Rattle.ctl_code.specs.declared.code.Operator.{Operator};
 ghost use Rattle.ctl_code.specs.declared.code.Instr.TheVariants as I;
 ghost use Rattle.ctl_code.specs.Kinds.{changed, stack_at};
-ghost use Rattle.ctl_code.specs.Valid.{HasFormals, HaveOperands, IsCalled, IsOperandAt, Bounded, DropsPart, IsAtEnd, IsDeclarable, IsEntry, IsFine, IsInScope, IsText, Leads, Puts, Taken, Takes, Under, outermost};
+ghost use Rattle.ctl_code.specs.Valid.{HasFormals, HaveOperands, IsCalled, IsOperandAt, Bounded, DropsPart, IsAccess, IsAllocable, IsAtEnd, IsDeclarable, IsEntry, IsFine, IsInScope, IsText, Leads, Puts, Taken, Takes, Under, outermost};
 ghost use Rattle.ctl_code.specs.Windows.{depth, height, variable_at};
 
 use crate::code::{Cell, Code, Instr, Named, Operator, Way};
@@ -600,7 +600,7 @@ fn is_copy_fine(code: &Code, place: usize, number: usize) -> bool
     is_declarable(code, code.kinds.depth_at(place), number) && drops_part(code, place, 0, number)
 }
 
-/// How many masters every object is declared in at least: the main procedure's own.
+/// How many masters every object is declared in at least, or its collection stands in: the main procedure's own.
 const OUTERMOST: usize = 1;
 
 /// Checks the assignment of the value of one part to another (RM 5.2).
@@ -610,6 +610,59 @@ fn is_assign_fine(code: &Code, place: usize, number: usize) -> bool
         IsTrue result ↔ (IsDeclarable code.now outermost number × Under (Operand (Record number) ∷ []) stack (DropsPart code.now place number)) }
 {
     is_declarable(code, OUTERMOST, number) && drops_parts(code, place, number)
+}
+
+/// Tells whether the collection of an access type stands in one of so many masters around a place, and objects of a record type may be
+/// declared where it does (RM 4.8).
+fn is_allocable(code: &Code, masters: usize, access: usize, record: usize) -> bool
+    ensures { IsTrue result ↔ IsAllocable code.now masters access «record» }
+{
+    match code.accesses.get(access) {
+        Some(collection) => {
+            1 <= collection.level
+                && collection.level <= masters
+                && is_declarable(code, collection.level, record)
+        }
+        None => false,
+    }
+}
+
+/// Tells whether it is the number of an access type (RM 3.10).
+fn is_access(code: &Code, access: usize) -> bool
+    ensures { IsTrue result ↔ IsAccess code.now access }
+{
+    match code.accesses.get(access) {
+        Some(_) => true,
+        None => false,
+    }
+}
+
+/// Checks that a collection is made (RM 7.6.1): of an access type of the table, in a master.
+fn is_gather_fine(code: &Code, place: usize, access: usize) -> bool
+    requires { place + 1 < 2 ^ 64 }
+    ensures { let stack = stack_at code.now.kinds place in
+        IsTrue result ↔ (IsAccess code.now access × (1 ≤ depth stack) × Leads code.now (place + 1) stack) }
+{
+    is_access(code, access) && 1 <= code.kinds.depth_at(place) && leads_on(code, place, 0, None)
+}
+
+/// Checks an allocator: the collection of its access type stands in a master that is seen (RM 4.8).
+fn is_new_fine(code: &Code, place: usize, access: usize, record: usize, ty: Ty, at: usize) -> bool
+    requires { place + 1 < 2 ^ 64 }
+    ensures { IsTrue result ↔ IsFine code.now place (I.New access «record» ty at) (stack_at code.now.kinds place) }
+{
+    is_scalar(ty)
+        && is_allocable(code, code.kinds.depth_at(place), access, record)
+        && puts_operand(code, place, 0, at, ty)
+}
+
+/// Checks a dereference: a number stands on top, in this cell (RM 4.1).
+fn is_dereference_fine(code: &Code, place: usize, record: usize, at: usize) -> bool
+    requires { place + 1 < 2 ^ 64 }
+    ensures { IsTrue result ↔ IsFine code.now place (I.Dereference «record» at) (stack_at code.now.kinds place) }
+{
+    is_operand(code, place, 0, at, Ty::Integer)
+        && leads_on(code, place, 1, Some(Kind::Operand(Ty::Record(record))))
 }
 
 /// Checks an operator with two operands (RM 4.5).
@@ -697,6 +750,14 @@ pub fn is_fine(code: &Code, place: usize, instr: &Instr) -> bool
         Instr::RaiseAgain => true,
         Instr::Declare { slot: _, record } => is_declare_fine(code, place, record),
         Instr::DeclareCopy { record, .. } => is_copy_fine(code, place, record),
+        Instr::Gather { access, count: _ } => is_gather_fine(code, place, access),
+        Instr::New {
+            access,
+            record,
+            ty,
+            at,
+        } => is_new_fine(code, place, access, record, ty, at),
+        Instr::Dereference { record, at } => is_dereference_fine(code, place, record, at),
         Instr::Number | Instr::NewLine => leads_on(code, place, 0, None),
         Instr::Set { value, ty, to } => is_cell_of(ty, value) && puts(code, place, 0, to, ty),
         Instr::Move { from, ty, to } => is_scalar(ty) && passes(code, place, 0, from, ty, to, ty),

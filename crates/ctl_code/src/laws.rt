@@ -6,7 +6,7 @@ ghost use Rattle.ctl_code.specs.Fits.{KeepsToItsCode};
 use crate::code::Code;
 use crate::valid::ValidCode;
 
-/// Says that a step shows at most two events, opens at most one master and takes at most one object number.
+/// Says that a step shows at most two events, opens at most one master, takes at most one object number and makes at most one collection.
 pub fn every_step_is_small(code: &Code)
     ensures { IsSmall code.now }
 {

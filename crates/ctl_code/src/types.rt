@@ -21,13 +21,13 @@ pub fn is_same_type(left: Ty, right: Ty) -> bool
     }
 }
 
-/// Tells whether a value of this type is one cell, and the type is in no table.
+/// Tells whether a value of this type is one cell.
 pub fn is_scalar(ty: Ty) -> bool
     ensures { IsTrue result ↔ IsScalar ty }
 {
     match ty {
-        Ty::Integer | Ty::Count | Ty::Boolean | Ty::Address | Ty::Handle => true,
-        Ty::Access(_) | Ty::Record(_) => false,
+        Ty::Integer | Ty::Count | Ty::Boolean | Ty::Address | Ty::Handle | Ty::Access(_) => true,
+        Ty::Record(_) => false,
     }
 }
 
@@ -47,8 +47,8 @@ pub fn is_cell_of(ty: Ty, cell: u64) -> bool
 {
     match ty {
         Ty::Boolean => cell <= 1,
-        Ty::Integer | Ty::Count | Ty::Address | Ty::Handle => true,
-        Ty::Access(_) | Ty::Record(_) => false,
+        Ty::Integer | Ty::Count | Ty::Address | Ty::Handle | Ty::Access(_) => true,
+        Ty::Record(_) => false,
     }
 }
 

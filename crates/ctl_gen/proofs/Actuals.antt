@@ -11,7 +11,7 @@ use Rattle.ctl_meaning.specs.Lists.{opened_lists}
 use Rattle.ctl_meaning.specs.Objects.{first_cells, opened_objects}
 use Rattle.ctl_meaning.specs.Activations.{master_of}
 use Rattle.ctl_meaning.specs.Choice.{Ask}
-use Rattle.ctl_meaning.specs.Outcome.{ByRaise, Result, Goes, Leaves, Out, Gives, Act, add, bind, on_goes, ◌>>=◌, done, ticked, opened_outcome}
+use Rattle.ctl_meaning.specs.Outcome.{constraint_error, ByRaise, Result, Goes, Leaves, Out, Gives, Act, add, bind, on_goes, ◌>>=◌, done, ticked, opened_outcome}
 use Rattle.ctl_meaning.specs.Types.{Tables, Category, Elementary, Composite, category_of, cells_of}
 use Rattle.ctl_meaning.specs.Names.{Alone, InVariable, Found, Call, Default, Tools, opened_names}
 use Rattle.ctl_meaning.specs.Expressions.{Formal, Naming, Passed, Supplied, copied, no_actuals, going_back, pass_each, with_formal}
@@ -22,28 +22,30 @@ use Rattle.ctl_code.specs.declared.code.Code.{Code}
 use Rattle.ctl_code.specs.declared.kinds.Kind.{Kind}
 use Rattle.ctl_code.specs.declared.kinds.Kind.TheVariants as KindOf
 use Rattle.ctl_code.specs.States.{Word, Scalar, Located, Frame, State}
-use Rattle.ctl_code.specs.Table.{formal_of, formals_of, spot_of}
+use Rattle.ctl_code.specs.Table.{formal_of, formals_of}
 use Rattle.ctl_code.specs.Windows.{depth}
 use Rattle.ctl_layout.specs.Around.{Line, local_at, new_operand}
-use Rattle.ctl_layout.specs.Parts.{Reached, Part, Variable, are_selectors, part_code, part_runs}
+use Rattle.ctl_layout.specs.Parts.{Reached, Object, Part, Variable, are_walked, part_code, part_runs}
 use Rattle.ctl_layout.specs.Values.{ActualCode, ValueCode, actuals_code, begins_code, by_copy, by_reference, goes_back, with_actuals}
 use Rattle.ctl_gen.proofs.Known.{IsScalar, scalar_elementary, scalar_if}
 use Rattle.ctl_gen.proofs.Values.{scalar_cells}
 use Rattle.ctl_gen.proofs.Place.{Laid, laid_front, laid_back}
-use Rattle.ctl_gen.proofs.Worlds.{Each, HoldsNoCopy, Since, each_and, no_copy_at}
-use Rattle.ctl_gen.proofs.Setting.{Setting, tools_with}
+use Rattle.ctl_gen.proofs.Each.{Each, each_and}
+use Rattle.ctl_gen.proofs.Worlds.{IsPlainSlot, Since, no_copy_at}
+use Rattle.ctl_gen.proofs.Setting.{Setting, tools_with, IsSeen}
 use Rattle.ctl_gen.proofs.Cells.{Any, by_code, landed, put_is, value_of}
-use Rattle.ctl_gen.proofs.Parts.{Leads, agree_part, composite_leads, content_of, find_by, finds_part, part_found, part_then, selectors_of, variable_of}
+use Rattle.ctl_gen.proofs.Parts.{Leads, agree_part, composite_leads, find_by, part_then}
+use Rattle.ctl_gen.proofs.Walked.{steps_before, steps_of, variable_of}
 use Rattle.ctl_gen.proofs.Worth.{both_cell}
 use Rattle.ctl_gen.proofs.Expressions.{Uses, Value, read_step, value_runs}
 use Rattle.ctl_gen.proofs.Follow.{IsRaise, RunsTo, by_raise, at, transferred, added_to, both_to, last_step_to, no_step_to, within_to, bind_add, bind_bind}
 
 -- Formals -----------------------------------------------------------------------------------------
 
--- what a formal begins with is no copy
-formal_no_copy : (x : Word) → HoldsNoCopy (formal_of x)
-formal_no_copy (Scalar n) = tt
-formal_no_copy (Located p) = tt
+-- what a formal begins with is no copy and no collection
+formal_plain : (x : Word) → IsPlainSlot (formal_of x)
+formal_plain (Scalar n) = tt
+formal_plain (Located p) = tt
 
 -- where the copy of an actual goes back to, if it does, where a display is seen
 abbrev pub back_found : List ℕ → Option Var → Option Found
@@ -75,11 +77,11 @@ pub record Taken (n : ℕ) (ops below : List Word) (backs : List (ℕ × Found))
   pub rest : drop n ops ≡ below
   pub many : length p.slots ≡ n
   pub back : p.back ≡ backs
-  pub uncopied : Each HoldsNoCopy p.slots
+  pub plain : Each IsPlainSlot p.slots
 
 none_taken : (ops : List Word) → Taken 0 ops ops [] no_actuals
 unfolding no_actuals
-none_taken ops = record { slots = refl; rest = refl; many = refl; back = refl; uncopied = tt }
+none_taken ops = record { slots = refl; rest = refl; many = refl; back = refl; plain = tt }
 
 -- a further operand is what a further formal takes
 one_taken : (n : ℕ) (ops below : List Word) (backs : List (ℕ × Found)) (p : Passed) (x : Word) (back : Option Found) → Taken n ops below backs p → Taken (suc n) (x ∷ ops) below (backs ++ going_back n back) (with_formal (formal x back) p)
@@ -89,7 +91,7 @@ one_taken n ops below backs p x back h = record {
   rest = h.rest;
   many = let long = length-append p.slots (formal_of x ∷ []) in let so_far = h.many in omega (arith, long, so_far);
   back = ap (λ b. b ++ going_back (length p.slots) back) h.back ∙ ap (λ m. backs ++ going_back m back) h.many;
-  uncopied = each_and HoldsNoCopy p.slots (formal_of x) (formal_no_copy x) h.uncopied;
+  plain = each_and IsPlainSlot p.slots (formal_of x) (formal_plain x) h.plain;
 }
 
 -- the operand that a formal took, whose slot holds this
@@ -144,7 +146,7 @@ module _ (ask : Ask) (k : Tables) (code : Code) (setting : Setting k code) (call
   -- lines that put one new operand, which is what the formal takes, and whose copy goes back to this variable, if it does
   abbrev pub Puts : (List Kind → List Line) → Option Var → (List ℕ → Act Formal) → Type 0
   Puts lines back give =
-      (s : List Kind) (d : List ℕ) (place : ℕ) (ks : List Frame) (ops : List Word) (c : ℕ) (l : Log) (w : World) → c ≤ bound → Since k code w0 w → length d ≡ depth s → Laid code place (lines s) →
+      (s : List Kind) (d : List ℕ) (place : ℕ) (ks : List Frame) (ops : List Word) (c : ℕ) (l : Log) (w : World) → c ≤ bound → Since k code w0 w → IsSeen w0 d s → Laid code place (lines s) →
       RunsTo ask code (OneFormal k code w0 (back_found d back)) 0 0 (at d place ks ops l w) c (put_there d (place + length (lines s)) ks ops) (give d c l w)
 
   -- its own tick is not taken for that
@@ -152,7 +154,7 @@ module _ (ask : Ask) (k : Tables) (code : Code) (setting : Setting k code) (call
   Passes x m = Puts x.code x.back (λ d. m.source K d >>= m.taken K)
 
   -- a value
-  value_puts : (x : ValueCode) (act : List ℕ → Act (List ℕ)) (ty : Ty) → Value ask k code bound (Since k code w0) x act → Puts (λ s. x.code (new_operand s) ty s) None (λ d. (act d >>= (λ v. done (Alone v))) >>= takes_value Elementary)
+  value_puts : (x : ValueCode) (act : List ℕ → Act (List ℕ)) (ty : Ty) → Value ask k code bound w0 x act → Puts (λ s. x.code (new_operand s) ty s) None (λ d. (act d >>= (λ v. done (Alone v))) >>= takes_value Elementary)
   unfolding opened_outcome opened_names opened_lists opened_objects takes_value
   value_puts x act ty value s d place ks ops c l w le fits long has =
       let Ends = OneFormal k code w0 None in
@@ -161,34 +163,33 @@ module _ (ask : Ask) (k : Tables) (code : Code) (setting : Setting k code) (call
       subst (RunsTo ask code Ends 0 0 (at d place ks ops l w) c next)
       (sym (bind_bind (act d c l w) (on_goes (λ v. done (Alone v))) (on_goes (takes_value Elementary))))
       (both_cell ask code (Since k code w0) Ends Any 0 0 0 0 0 0 _ c (landed NamedOf.Operand d there ks ops) next (act d c l w) _ (omega arith) (omega arith) (omega arith)
-      (value_runs ask k code bound (Since k code w0) x act value (new_operand s) ty s d place ks ops c l w le fits long has)
+      (value_runs ask k code bound w0 x act value (new_operand s) ty s d place ks ops c l w le fits long has)
       (λ n c1 l1 w1 lo fits1 p. no_step_to ask code Ends 0 0 (at d there ks (Scalar n ∷ ops) l1 w1) c1 0 next (Goes (formal (Scalar n) None)) l1 w1 (fits1, (Scalar n, refl)) refl)
       (λ y c1 l1 w1 lo fits1. no_step_to ask code Ends 0 0 (transferred (ByRaise y) ks l1 w1) c1 0 next (Leaves (ByRaise y)) l1 w1 (fits1, tt) refl))
 
-  pub value_passes : (x : ValueCode) (act : List ℕ → Act (List ℕ)) (ty : Ty) → IsScalar ty → Value ask k code bound (Since k code w0) x act → Puts (λ s. x.code (new_operand s) ty s) None (λ d. (act d >>= (λ v. done (Alone v))) >>= takes_value (category_of ty))
+  pub value_passes : (x : ValueCode) (act : List ℕ → Act (List ℕ)) (ty : Ty) → IsScalar ty → Value ask k code bound w0 x act → Puts (λ s. x.code (new_operand s) ty s) None (λ d. (act d >>= (λ v. done (Alone v))) >>= takes_value (category_of ty))
   value_passes x act ty scalar value = subst (λ (c : Category). Puts (λ s. x.code (new_operand s) ty s) None (λ d. (act d >>= (λ v. done (Alone v))) >>= takes_value c)) (sym (scalar_elementary ty scalar)) (value_puts x act ty value)
 
   -- a part, by reference
-  reference_puts : (x : Reached) (t : ℕ) → are_selectors (selectors_of x) ≡ true → part_runs x k.records ≡ true → Puts (part_code x t) None (λ d. ticked (find_by K (selectors_of x) (variable_of x) d) >>= takes_reference)
+  reference_puts : (x : Reached) (t : ℕ) → are_walked false (steps_before x) ≡ true → part_runs x k.records ≡ true → Puts (part_code x t) None (λ d. ticked (find_by K (steps_of x) (variable_of x) d) >>= takes_reference)
   unfolding opened_outcome takes_reference bound_slot
-  reference_puts x t selectors runs s d place ks ops c l w le fits long has =
+  reference_puts x t walked runs s d place ks ops c l w le fits long has =
       let Ends = OneFormal k code w0 None in
       let v = variable_of x in
-      let steps = selectors_of x in
-      let o = part_found k steps (spot_of (content_of d v w)) c l w in
+      let o = find_by K (steps_of x) v d c l w in
       let next = put_there d (place + length (part_code x t s)) ks ops in
       subst (RunsTo ask code Ends 0 0 (at d place ks ops l w) c next)
-      (sym (ap (λ z. bind (add 1 z) (on_goes takes_reference)) (finds_part K v steps selectors d c l w (no_copy_at k code (master_of d v) v.slot w fits.0))
-      ∙ bind_add 1 o (on_goes takes_reference)))
+      (sym (bind_add 1 o (on_goes takes_reference)))
       (added_to ask code Ends 1 0 0 0 0 _ c next _ (omega arith) (omega arith)
-      (part_then k code ask Ends 0 0 x t s d place ks ops c l w next (on_goes takes_reference) selectors (agree_part k code setting.places x runs) long has
-      (λ p. no_step_to ask code Ends 0 0 _ c 0 next (Goes (formal (Located p) None)) l w (fits, (Located p, refl)) refl)))
+      (part_then ask code K Ends next (on_goes takes_reference) d ks ops c l w 0 0 x t s place walked (agree_part k code setting.places x runs) (no_copy_at k code (master_of d v) v.slot w fits.0) long.2 has
+      (λ p. no_step_to ask code Ends 0 0 _ c 0 next (Goes (formal (Located p) None)) l w (fits, (Located p, refl)) refl)
+      (no_step_to ask code Ends 0 0 _ c 0 next (Leaves (ByRaise constraint_error)) l w (fits, tt) refl)))
 
   pub reference_passes : (o : Option Reached) (ty : Ty) (find : Naming) → ((x : Reached) → o ≡ Some x → Leads K x find) → (by_reference o ty).runs k.records ≡ true → Puts (by_reference o ty).code (by_reference o ty).back (λ d. ticked (find Composite K d) >>= takes_reference)
   reference_passes None ty find leads runs = absurd (cc)
   reference_passes (Some x) (Record t) find leads runs =
       let h = leads x refl in
-      subst (λ (g : List ℕ → Act Found). Puts (part_code x t) None (λ d. ticked (g d) >>= takes_reference)) (sym (composite_leads K x find h)) (reference_puts x t h.selectors runs)
+      subst (λ (g : List ℕ → Act Found). Puts (part_code x t) None (λ d. ticked (g d) >>= takes_reference)) (sym (composite_leads K x find h)) (reference_puts x t h.walked runs)
   reference_passes (Some x) Integer find leads runs = absurd (cc)
   reference_passes (Some x) Count find leads runs = absurd (cc)
   reference_passes (Some x) Boolean find leads runs = absurd (cc)
@@ -215,7 +216,7 @@ module _ (ask : Ask) (k : Tables) (code : Code) (setting : Setting k code) (call
   unfolding opened_names opened_lists
   copy_step CopyStartOf.Actual v ty s d place ks ops c l w fits long has =
       last_step_to ask code (OneFormal k code w0 (back_found d (Some v))) 0 0 _ c 2 (put_there d (place + 1) ks ops) (Goes (formal (Scalar (value_of d v w)) (back_found d (Some v)))) l w (omega arith) (fits, (Scalar (value_of d v w), refl))
-      (read_step ask k code bound (Since k code w0) (local_at s v) v ty (new_operand s) s d place ks ops l w long has.0)
+      (read_step ask k code bound w0 (local_at s v) v ty (new_operand s) s d place ks ops l w long has.0)
   copy_step CopyStartOf.Beginning v ty s d place ks ops c l w fits long has =
       last_step_to ask code (OneFormal k code w0 (back_found d (Some v))) 0 0 _ c 2 (put_there d (place + 1) ks ops) (Goes (formal (Scalar 0) (back_found d (Some v)))) l w (omega arith) (fits, (Scalar 0, refl))
       (by_code ask code d place ks ops l w (InstrOf.Set 0 ty (new_operand s)) has.0 ∙ put_is NamedOf.Operand 0 d place ks ops l w)
@@ -223,11 +224,12 @@ module _ (ask : Ask) (k : Tables) (code : Code) (setting : Setting k code) (call
   copy_puts : (begins : CopyStart) (v : Var) (ty : Ty) (find : List ℕ → Act Found) → Uses v find → IsScalar ty → Puts (begins_code begins v ty) (Some v) (λ d. ticked (find d) >>= takes_copy (cells_of k ty) begins)
   copy_puts begins v ty find uses scalar s d place ks ops c l w le fits long has =
       subst (RunsTo ask code (OneFormal k code w0 (back_found d (Some v))) 0 0 (at d place ks ops l w) c (put_there d (place + length (begins_code begins v ty s)) ks ops)) (sym (copy_is begins v ty find uses scalar d c l w))
-      (copy_step begins v ty s d place ks ops c l w fits long has)
+      (copy_step begins v ty s d place ks ops c l w fits long.2 has)
 
   pub copy_passes : (o : Option Reached) (ty : Ty) (begins : CopyStart) (find : Naming) → ((v : Var) → o ≡ Some (Variable v) → Uses v (find Elementary K)) → (by_copy o ty begins).runs k.records ≡ true → Puts (by_copy o ty begins).code (by_copy o ty begins).back (λ d. ticked (find (category_of ty) K d) >>= takes_copy (cells_of k ty) begins)
   copy_passes None ty begins find uses runs = absurd (cc)
   copy_passes (Some (Part v steps t position)) ty begins find uses runs = absurd (cc)
+  copy_passes (Some (Object v steps)) ty begins find uses runs = absurd (cc)
   copy_passes (Some (Variable v)) ty begins find uses runs =
       subst (λ (c : Category). Puts (begins_code begins v ty) (Some v) (λ d. ticked (find c K d) >>= takes_copy (cells_of k ty) begins)) (sym (scalar_elementary ty (scalar_if ty runs)))
       (copy_puts begins v ty (find Elementary K) (uses v refl) (scalar_if ty runs))
@@ -260,7 +262,7 @@ module _ (ask : Ask) (k : Tables) (code : Code) (setting : Setting k code) (call
     Raises = (e : ℕ) (l : Log) (w : World) → Since k code w0 w → Ends (Leaves (ByRaise e)) w × (transferred (ByRaise e) ks l w ≡ next (Leaves (ByRaise e)) l w)
 
     -- the actuals that are left: the tick of each pays a step of what follows
-    each_then : (xs : List ActualCode) (ms : List Supplied) → EachPasses xs ms → (b n : ℕ) (p : Passed) (so_far : List (ℕ × Found)) → n + length xs ≡ count → so_far ++ backs_of d n xs ≡ backs → Taken n (operands_of p.slots below) below so_far p → (s : List Kind) (place c : ℕ) (l : Log) (w : World) → c ≤ bound → Since k code w0 w → length d ≡ depth s → Laid code place (actuals_code xs s) →
+    each_then : (xs : List ActualCode) (ms : List Supplied) → EachPasses xs ms → (b n : ℕ) (p : Passed) (so_far : List (ℕ × Found)) → n + length xs ≡ count → so_far ++ backs_of d n xs ≡ backs → Taken n (operands_of p.slots below) below so_far p → (s : List Kind) (place c : ℕ) (l : Log) (w : World) → c ≤ bound → Since k code w0 w → IsSeen w0 d s → Laid code place (actuals_code xs s) →
         Follows (length xs + b) (place + length (actuals_code xs s)) c → Raises → RunsTo ask code Ends b b (at d place ks (operands_of p.slots below) l w) c next (bind (pass_each K d ms p c l w) (on_goes f))
     unfolding pass_each with_formal opened_outcome
     each_then [] [] each b n p so_far long_is all taken s place c l w le fits long has follows raises =
@@ -299,7 +301,7 @@ module _ (ask : Ask) (k : Tables) (code : Code) (setting : Setting k code) (call
         (λ y c1 l1 w1 lo fits1. let h = raises y l1 w1 fits1 in no_step_to ask code Ends (b + 1) (b + 1) (transferred (ByRaise y) ks l1 w1) c1 0 next (Leaves (ByRaise y)) l1 w1 h.0 h.1)))
 
   -- no operand stands there yet
-  pub actuals_then : {B : Type 0} (Ends : Result B → World → Type 0) (next : Result B → Log → World → State) (f : Passed → Act B) (b : ℕ) (xs : List ActualCode) (ms : List Supplied) → EachPasses xs ms → (s : List Kind) (d : List ℕ) (place : ℕ) (ks : List Frame) (ops : List Word) (c : ℕ) (l : Log) (w : World) → c ≤ bound → Since k code w0 w → length d ≡ depth s → Laid code place (actuals_code xs s) →
+  pub actuals_then : {B : Type 0} (Ends : Result B → World → Type 0) (next : Result B → Log → World → State) (f : Passed → Act B) (b : ℕ) (xs : List ActualCode) (ms : List Supplied) → EachPasses xs ms → (s : List Kind) (d : List ℕ) (place : ℕ) (ks : List Frame) (ops : List Word) (c : ℕ) (l : Log) (w : World) → c ≤ bound → Since k code w0 w → IsSeen w0 d s → Laid code place (actuals_code xs s) →
       Follows Ends next f (length xs) ops (backs_of d 0 xs) d ks (length xs + b) (place + length (actuals_code xs s)) c → Raises Ends next f (length xs) ops (backs_of d 0 xs) d ks →
       RunsTo ask code Ends b b (at d place ks ops l w) c next (bind (pass_each K d ms no_actuals c l w) (on_goes f))
   unfolding no_actuals

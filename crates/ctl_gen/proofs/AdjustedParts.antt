@@ -7,10 +7,11 @@ use Rattle.ctl_program.specs.declared.types.Ty.TheVariants.{Record}
 use Rattle.ctl_program.specs.declared.operators.SubprogramKind.TheVariants.{Procedure}
 use Rattle.ctl_tree.specs.declared.ending.Stop.TheVariants.{UseAfterFree}
 use Rattle.ctl_tree.specs.declared.event.Event.{Event}
+use Rattle.ctl_tree.specs.declared.event.Owner.TheVariants as OwnerOf
 use Rattle.ctl_tree.specs.declared.event.Event.TheVariants as EventOf
-use Rattle.ctl_meaning.specs.World.{Object, Binds, Declared, holding, Log, World}
+use Rattle.ctl_meaning.specs.World.{Object, Binds, holding, Log, World}
 use Rattle.ctl_meaning.specs.Lists.{keep, pull_item, pull_rest}
-use Rattle.ctl_meaning.specs.Changes.{object_at, home_of, owner_of}
+use Rattle.ctl_meaning.specs.Changes.{object_at, home_of}
 use Rattle.ctl_meaning.specs.Choice.{Ask, picked}
 use Rattle.ctl_meaning.specs.Outcome.{Result, Goes, Leaves, Out, Gives, Stops, Cut, Act, Done, Fine, add, after_pick, attempt, bind, on_goes, ◌>>=◌, ◌>>◌, done, nothing, tell, ticked, show, look, told, either, on_some, opened_outcome}
 use Rattle.ctl_meaning.specs.Types.{Tables, Placed, has_controlled, is_controlled, operation, of_record, placed}
@@ -29,7 +30,7 @@ use Rattle.ctl_code.specs.Valid.{AreBegunBy, IsBegunBy, IsDeclarable}
 use Rattle.ctl_gen.proofs.Known.{IsPlainType}
 use Rattle.ctl_gen.proofs.Parted.{GivesDefaults, HasPart, HaveParts, component_is, is_itself, parts_length, parts_pulled, parts_rest}
 use Rattle.ctl_gen.proofs.Picks.{picked_less, rest_length}
-use Rattle.ctl_gen.proofs.Worlds.{Since}
+use Rattle.ctl_gen.proofs.Worlds.{Since, origin_nested}
 use Rattle.ctl_gen.proofs.Scopes.{IsSurrounded, adjust_in, controlled_inside, declarable_later, pulled_inside, rest_inside}
 use Rattle.ctl_gen.proofs.Setting.{Setting, tools_with, returns, Told, Sure, Calls, enter_shows}
 use Rattle.ctl_gen.proofs.FinalizedParts.{call_is, heard}
@@ -39,7 +40,7 @@ use Rattle.ctl_gen.proofs.Follow.{by_raise, Runs, gives, way_of, add_none, added
 -- the meaning's creation is the table's, by the master whose object is created; or neither is one
 abbrev pub IsCreation : Option Birth → Option ℕ → Type 0
 IsCreation None None = Unit {0}
-IsCreation (Some b) (Some m) = b.owner ≡ owner_of (Declared m)
+IsCreation (Some b) (Some m) = b.owner ≡ OwnerOf.Master m
 IsCreation _ _ = ⊥
 
 -- frames that have noted the parts with these paths; in a creation one more part that is adjusted is noted there
@@ -75,9 +76,9 @@ born_is ask k code setting call default (Some b) None same s t a c l w = absurd 
 born_is ask k code setting call default (Some b) (Some m) same s t a c l w =
     ap (λ o. (either (is_some (operation (λ x. x.finalize) k t)) (show (EventOf.Live (part_at s) o)) nothing >> done (settled s a)) c l w) same
     ∙ by (operation (λ x. x.finalize) k t)
-    ∙ ap (λ g. Gives (Goes (settled s a)) 0 c (tell_all (birth g (part_at s) m) l) w) (sym (setting.finalize t))
+    ∙ ap (λ g. Gives (Goes (settled s a)) 0 c (tell_all (birth g (part_at s) (OwnerOf.Master m)) l) w) (sym (setting.finalize t))
   where
-    by : (g : Option ℕ) → (either (is_some g) (show (EventOf.Live (part_at s) (owner_of (Declared m)))) nothing >> done (settled s a)) c l w ≡ Gives (Goes (settled s a)) 0 c (tell_all (birth g (part_at s) m) l) w
+    by : (g : Option ℕ) → (either (is_some g) (show (EventOf.Live (part_at s) (OwnerOf.Master m))) nothing >> done (settled s a)) c l w ≡ Gives (Goes (settled s a)) 0 c (tell_all (birth g (part_at s) (OwnerOf.Master m)) l) w
     by None = refl
     by (Some f) = refl
 
@@ -160,7 +161,7 @@ module _ (ask : Ask) (k : Tables) (code : Code) (setting : Setting k code) (call
       let here : IsDeclarable code (length (home_of p.origin w)) t = declarable_later code around (length (home_of p.origin w)) t (homes w p fits at) inside in
       subst (λ x. Adjusts 3 3 s0 c ks (after_own s t a x)) (sym (call_is ask k call default f s c (shown s) l w p at))
       (over s t a ks notes s0 c _
-      (calls.runs f body.0 body.1 wr (home_of p.origin w) (holding (Binds s.object s.offset s.path) ∷ []) AfterBody waits c (tell (shown s) l) w s0 Procedure 1 tt le fits (adjust_in code setting.valid _ t f here (named ∙ op)) (tt, tt)
+      (calls.runs f body.0 body.1 wr (home_of p.origin w) (holding (Binds s.object s.offset s.path) ∷ []) AfterBody waits c (tell (shown s) l) w s0 Procedure 1 tt le fits (adjust_in code setting.valid _ t f here (named ∙ op)) (origin_nested k code p.origin w fits.0) (tt, tt)
       (go ∙ enter_shows (slice_get code.entries.items f) (shown s) (home_of p.origin w) (holding (Binds s.object s.offset s.path) ∷ []) AfterBody waits l w)))
 
   -- from the step behind the components

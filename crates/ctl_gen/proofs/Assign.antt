@@ -30,7 +30,7 @@ use Rattle.ctl_layout.specs.Layout.{assign_code, store_code, scalar_code, valued
 use Rattle.ctl_gen.proofs.Known.{IsScalar}
 use Rattle.ctl_gen.proofs.Place.{Laid, laid_front, laid_back}
 use Rattle.ctl_gen.proofs.Worlds.{Fits, Since, Kept, since_value, since_number}
-use Rattle.ctl_gen.proofs.Setting.{Sees, tools_with, never_missing}
+use Rattle.ctl_gen.proofs.Setting.{Sees, tools_with, never_missing, seen}
 use Rattle.ctl_gen.proofs.Cells.{here, by_code, landed, waiting, Stays, taking_is, out_is, Any}
 use Rattle.ctl_gen.proofs.Worth.{both_cell}
 use Rattle.ctl_gen.proofs.Expressions.{Uses, Value, value_runs, held_holds, held_then}
@@ -64,13 +64,13 @@ module _ (ask : Ask) (k : Tables) (code : Code) (valid : IsValid code) (bound : 
   assigned_is d s x n w w0 sees = ap (λ m. set_value m x.slot n w) (out_is d s x sees.long)
 
   -- into its cell, or the variable of a body around
-  stored : (o : Option ℕ) (x : Var) (y : ValueCode) (act : List ℕ → Act (List ℕ)) → ((w0 : World) → Value ask k code bound (Since k code w0) y act) → (a : Around) (w0 : World) (d : List ℕ) (place : ℕ) (ks : List Frame) (ops : List Word) (c : ℕ) (l : Log) (w : World) → c ≤ bound → Since k code w0 w → Sees d a.stack w0 → Laid code place (assign_code o x y a.stack) → Runs ask code (Kept k code w0) 0 0 (at d place ks ops l w) c (arrives (lands a place) d (place + length (assign_code o x y a.stack)) ks ops) (bind (act d c l w) (on_goes (write_found (InVariable (master_of d x) x.slot))))
+  stored : (o : Option ℕ) (x : Var) (y : ValueCode) (act : List ℕ → Act (List ℕ)) → ((w0 : World) → Value ask k code bound w0 y act) → (a : Around) (w0 : World) (d : List ℕ) (place : ℕ) (ks : List Frame) (ops : List Word) (c : ℕ) (l : Log) (w : World) → c ≤ bound → Since k code w0 w → Sees d a.stack w0 → Laid code place (assign_code o x y a.stack) → Runs ask code (Kept k code w0) 0 0 (at d place ks ops l w) c (arrives (lands a place) d (place + length (assign_code o x y a.stack)) ks ops) (bind (act d c l w) (on_goes (write_found (InVariable (master_of d x) x.slot))))
   unfolding opened_outcome write_found scalar_of opened_lists
   stored (Some n) x y act value a w0 d place ks ops c l w le fits sees has =
       let s = a.stack in
       let end = place + length (y.code (local_cell s x n) (value_type y) s) in
       both_cell ask code (Since k code w0) (λ r. Since k code w0) Any 0 0 0 0 0 0 _ c (landed (Variable (out_to s x) x.slot) d end ks ops) (arrives (lands a place) d end ks ops) (act d c l w) (on_goes (write_found (InVariable (master_of d x) x.slot))) (omega arith) (omega arith) (omega arith)
-      (value_runs ask k code bound (Since k code w0) y act (value w0) (local_cell s x n) (value_type y) s d place ks ops c l w le fits sees.long has)
+      (value_runs ask k code bound w0 y act (value w0) (local_cell s x n) (value_type y) s d place ks ops c l w le fits (seen sees) has)
       (λ m c1 l1 w1 lo fits1 p. no_step ask code (Kept k code w0) 0 0 _ c1 0 (arrives (lands a place) d end ks ops) (Goes tt) l1 (assigned d x m w1) (since_assigned d x m w0 w1 fits1) (ap (at d end ks ops l1) (assigned_is d s x m w1 w0 sees)))
       (λ z c1 l1 w1 lo fits1. no_step ask code (Kept k code w0) 0 0 _ c1 0 (arrives (lands a place) d end ks ops) (Leaves (ByRaise z)) l1 w1 fits1 refl)
   stored None x y act value a w0 d place ks ops c l w le fits sees has =
@@ -82,15 +82,15 @@ module _ (ask : Ask) (k : Tables) (code : Code) (valid : IsValid code) (bound : 
       let there = (laid_back code place h.code ((i, h.after) ∷ []) has).0 in
       let e : q + 1 ≡ place + length (store_code x ty s h) = omega (arith, length-append h.code ((i, h.after) ∷ [])) in
       subst (λ p. Runs ask code (Kept k code w0) 0 0 (at d place ks ops l w) c (arrives (lands a place) d p ks ops) (bind (act d c l w) (on_goes (write_found (InVariable (master_of d x) x.slot))))) e
-      (held_then ask k code bound (Since k code w0) (λ r. Since k code w0) h (λ n w1. Stays h.cell.named n d w1) act d place ks ops c l w (arrives (lands a place) d (q + 1) ks ops) (on_goes (write_found (InVariable (master_of d x) x.slot)))
-      (held_holds ask k code bound (Since k code w0) y.right y act refl (value w0) ty s d place ks ops c l w le fits sees.long (laid_front code place h.code ((i, h.after) ∷ []) has))
+      (held_then ask k code bound w0 (λ r. Since k code w0) h (λ n w1. Stays h.cell.named n d w1) act d place ks ops c l w (arrives (lands a place) d (q + 1) ks ops) (on_goes (write_found (InVariable (master_of d x) x.slot)))
+      (held_holds ask k code bound w0 y.right y act refl (value w0) ty s d place ks ops c l w le fits (seen sees) (laid_front code place h.code ((i, h.after) ∷ []) has))
       (λ m c1 l1 w1 lo fits1 stays. last_step ask code (Kept k code w0) 8 8 _ c1 0 (arrives (lands a place) d (q + 1) ks ops) (Goes tt) l1 (assigned d x m w1) (omega arith) (since_assigned d x m w0 w1 fits1)
       (by_code ask code d q ks (waiting h.cell.named m ops) l1 w1 i there
       ∙ ap (moved l1) (taking_is h.cell.named m (λ z rest. on rest (with_cell d (out_to s x) x.slot z w1) (here d q ks w1)) ops d q ks w1 stays)
       ∙ ap (at d (q + 1) ks ops l1) (assigned_is d s x m w1 w0 sees)))
       (λ z c1 l1 w1 lo fits1. no_step ask code (Kept k code w0) 8 8 _ c1 0 (arrives (lands a place) d (q + 1) ks ops) (Leaves (ByRaise z)) l1 w1 fits1 refl))
 
-  pub assign_runs : (x : Var) (find : List ℕ → Act Found) → Uses x find → (y : ValueCode) (act : List ℕ → Act (List ℕ)) → ((w0 : World) → Value ask k code bound (Since k code w0) y act) → Does ask k code bound (λ a. assign_code (local_at a.stack x) x y a.stack) (λ d caught. ticked (find d >>= (λ f. act d >>= write_found f)))
+  pub assign_runs : (x : Var) (find : List ℕ → Act Found) → Uses x find → (y : ValueCode) (act : List ℕ → Act (List ℕ)) → ((w0 : World) → Value ask k code bound w0 y act) → Does ask k code bound (λ a. assign_code (local_at a.stack x) x y a.stack) (λ d caught. ticked (find d >>= (λ f. act d >>= write_found f)))
   unfolding opened_outcome
   assign_runs x find uses y act value a w0 d place ks ops c l w le fits sees has =
       subst (λ o. Runs ask code (Kept k code w0) 0 0 (at d place ks ops l w) c (arrives (lands a place) d (place + length (assign_code (local_at a.stack x) x y a.stack)) ks ops) (add 1 (bind o (on_goes (λ f. act d >>= write_found f))))) (sym (uses d c l w))
@@ -121,7 +121,7 @@ module _ (ask : Ask) (k : Tables) (code : Code) (valid : IsValid code) (bound : 
     default_is Count known d slot c l w = absurd known
     default_is Address known d slot c l w = absurd known
     default_is Handle known d slot c l w = absurd known
-    default_is (Access a) known d slot c l w = absurd known
+    default_is (Access a) known d slot c l w = refl
     default_is (Record t) known d slot c l w = absurd known
 
     value_is : (ty : Ty) → IsScalar ty → (d : List ℕ) (slot n c : ℕ) (l : Log) (w : World) → declare (category_of ty) K (last_of d) slot ty (Some (n ∷ [])) c l w ≡ Gives (Goes tt) 0 c l (declared d slot n w)
@@ -131,7 +131,7 @@ module _ (ask : Ask) (k : Tables) (code : Code) (valid : IsValid code) (bound : 
     value_is Count known d slot n c l w = absurd known
     value_is Address known d slot n c l w = absurd known
     value_is Handle known d slot n c l w = absurd known
-    value_is (Access a) known d slot n c l w = absurd known
+    value_is (Access a) known d slot n c l w = refl
     value_is (Record t) known d slot n c l w = absurd known
 
     -- without a value
@@ -150,7 +150,7 @@ module _ (ask : Ask) (k : Tables) (code : Code) (valid : IsValid code) (bound : 
     scalar_runs slot ty known a w0 d place ks ops c l w le fits sees has = by_slot (variable_at a.stack 0 slot) slot ty known a w0 d place ks ops c l w le fits sees has
 
     -- with its value
-    valued_by : (o : Option ℕ) (slot : ℕ) (ty : Ty) (x : ValueCode) (act : List ℕ → Act (List ℕ)) → IsScalar ty → ((w0 : World) → Value ask k code bound (Since k code w0) x act) → Does ask k code bound (λ a. valued_code o slot ty x a.stack) (λ d caught. ticked ((act d >>= (λ u. done (Some u))) >>= declare (category_of ty) K (last_of d) slot ty))
+    valued_by : (o : Option ℕ) (slot : ℕ) (ty : Ty) (x : ValueCode) (act : List ℕ → Act (List ℕ)) → IsScalar ty → ((w0 : World) → Value ask k code bound w0 x act) → Does ask k code bound (λ a. valued_code o slot ty x a.stack) (λ d caught. ticked ((act d >>= (λ u. done (Some u))) >>= declare (category_of ty) K (last_of d) slot ty))
     unfolding opened_outcome scalar_of opened_lists
     valued_by None slot ty x act known value a w0 d place ks ops c l w le fits sees has = absurd (never_missing code valid place a.stack has.0 has.1)
     valued_by (Some n) slot ty x act known value a w0 d place ks ops c l w le fits sees has =
@@ -163,12 +163,12 @@ module _ (ask : Ask) (k : Tables) (code : Code) (valid : IsValid code) (bound : 
         (added ask code (Kept k code w0) 1 1 1 0 0 _ c _ _ (omega arith) (omega arith)
         (subst (λ o. Runs ask code (Kept k code w0) 1 1 (at d place ks ops l w) c (arrives (lands a place) d (q + 1) ks ops) o) (sym (bind_bind (act d c l w) (on_goes (λ u. done (Some u))) (on_goes (declare (category_of ty) K (last_of d) slot ty))))
         (both_cell ask code (Since k code w0) (λ r. Since k code w0) Any 0 0 1 1 1 1 _ c (landed (Variable 0 slot) d q ks ops) (arrives (lands a place) d (q + 1) ks ops) (act d c l w) _ (omega arith) (omega arith) (omega arith)
-        (value_runs ask k code bound (Since k code w0) x act (value w0) (newest_cell slot n) ty s d place ks ops c l w le fits sees.long (laid_front code place is ((InstrOf.Number, s) ∷ []) has))
+        (value_runs ask k code bound w0 x act (value w0) (newest_cell slot n) ty s d place ks ops c l w le fits (seen sees) (laid_front code place is ((InstrOf.Number, s) ∷ []) has))
         (λ m c1 l1 w1 lo fits1 p.
         subst (λ o. Runs ask code (Kept k code w0) 1 1 (at d q ks ops l1 (with_cell d 0 slot m w1)) c1 (arrives (lands a place) d (q + 1) ks ops) (add 0 o)) (sym (value_is ty known d slot m c1 l1 w1))
         (last_step ask code (Kept k code w0) 1 1 _ c1 0 (arrives (lands a place) d (q + 1) ks ops) (Goes tt) l1 (declared d slot m w1) (omega arith) (since_declared d slot m w0 w1 fits1)
         (by_code ask code d q ks ops l1 (with_cell d 0 slot m w1) InstrOf.Number there ∙ ap (at d (q + 1) ks ops l1) (declared_is d slot m w1 fits1.0))))
         (λ z c1 l1 w1 lo fits1. no_step ask code (Kept k code w0) 1 1 _ c1 0 (arrives (lands a place) d (q + 1) ks ops) (Leaves (ByRaise z)) l1 w1 fits1 refl))))
 
-    pub valued_runs : (slot : ℕ) (ty : Ty) (x : ValueCode) (act : List ℕ → Act (List ℕ)) → IsScalar ty → ((w0 : World) → Value ask k code bound (Since k code w0) x act) → Does ask k code bound (λ a. valued_code (variable_at a.stack 0 slot) slot ty x a.stack) (λ d caught. ticked ((act d >>= (λ u. done (Some u))) >>= declare (category_of ty) K (last_of d) slot ty))
+    pub valued_runs : (slot : ℕ) (ty : Ty) (x : ValueCode) (act : List ℕ → Act (List ℕ)) → IsScalar ty → ((w0 : World) → Value ask k code bound w0 x act) → Does ask k code bound (λ a. valued_code (variable_at a.stack 0 slot) slot ty x a.stack) (λ d caught. ticked ((act d >>= (λ u. done (Some u))) >>= declare (category_of ty) K (last_of d) slot ty))
     valued_runs slot ty x act known value a w0 d place ks ops c l w le fits sees has = valued_by (variable_at a.stack 0 slot) slot ty x act known value a w0 d place ks ops c l w le fits sees has

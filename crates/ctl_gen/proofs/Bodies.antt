@@ -1,38 +1,47 @@
 -- The execution of a body, and of the main procedure.
-use Rattle.std.proofs.Common.{◌≡◌, ℕ, zero, suc, ◌+◌, ◌≤◌, List, [], ◌∷◌, ◌++◌, length, Some, true, refl, sym, ap, ◌∙◌, subst, arith, inl}
+use Rattle.std.proofs.Common.{◌≡◌, ℕ, zero, suc, ◌+◌, ◌<◌, ◌≤◌, List, [], ◌∷◌, ◌++◌, length, Some, None, true, refl, sym, ap, ◌∙◌, subst, arith, inl}
 use Rattle.std.specs.Prelude.{slice_get, take, drop, replicate}
+use Rattle.ctl_program.specs.declared.types.Ty.TheVariants.{Record}
 use Rattle.ctl_program.specs.declared.operators.SubprogramKind.{SubprogramKind}
 use Rattle.ctl_program.specs.declared.operators.SubprogramKind.TheVariants.{Procedure, Function}
 use Rattle.ctl_program.specs.declared.statement.Master.{Master, fold_out-Master}
 use Rattle.ctl_program.specs.declared.program.Subprogram.{Subprogram}
-use Rattle.ctl_meaning.specs.World.{Slot, unset, Log, World, empty_log, empty_world}
+use Rattle.ctl_tree.specs.declared.event.Cause.TheVariants.{Collection}
+use Rattle.ctl_meaning.specs.World.{Slot, unset, Member, Log, World, empty_log, empty_world}
 use Rattle.ctl_meaning.specs.Changes.{open_master}
 use Rattle.ctl_meaning.specs.Choice.{Ask}
 use Rattle.ctl_meaning.specs.Outcome.{ByExit, ByReturn, ByRaise, Result, Goes, Leaves, Gives, Done, bind, on_goes, on_some, opened_outcome}
 use Rattle.ctl_meaning.specs.Types.{Tables}
-use Rattle.ctl_meaning.specs.Names.{OfSubprogram, Returned, Tools, gone}
+use Rattle.ctl_meaning.specs.Names.{OfSubprogram, OfAllocator, Returned, Default, Tools, gone}
 use Rattle.ctl_meaning.specs.Names as Names
+use Rattle.ctl_meaning.specs.Finalization.{finalize_begun}
 use Rattle.ctl_meaning.specs.Masters.{Left, in_master}
 use Rattle.ctl_meaning.specs.Statements.{Body, Doing, Guarding, arm_step, body_of, exec_step, handler_step, master_step, unset_slots}
 use Rattle.ctl_meaning.specs.Run.{Meaning, default_in, execute, execution, expression_tools, handed_back, returned, routine_of, run_meaning, run_number, run_routine, slots_for, tools, tools_with}
+use Rattle.ctl_meaning.proofs.Cuts.{UpTo}
 use Rattle.ctl_code.specs.declared.code.Entry.{Entry}
 use Rattle.ctl_code.specs.declared.code.Instr.TheVariants as InstrOf
 use Rattle.ctl_code.specs.declared.code.Code.{Code}
 use Rattle.ctl_code.specs.declared.kinds.Kind.TheVariants as KindOf
-use Rattle.ctl_code.specs.States.{After, AfterBlock, AfterProcedure, AfterFunction, AfterBody, Frame, State}
-use Rattle.ctl_code.specs.Table.{behind, enter_body}
+use Rattle.ctl_code.specs.States.{Word, After, AfterBlock, AfterProcedure, AfterFunction, AfterBody, Frame, State}
+use Rattle.ctl_code.specs.Table.{behind, by_new, enter_body, set_seen}
 use Rattle.ctl_code.specs.Steps.{moved, step, start}
 use Rattle.ctl_layout.specs.Layout.{MasterCode, body_code, entry_at, master_code, nowhere}
 use Rattle.ctl_layout.proofs.StatementLayers.{master_is}
 use Rattle.ctl_gen.proofs.Place.{HasAt, Laid}
-use Rattle.ctl_gen.proofs.Worlds.{Each, HoldsNoCopy, no_copy_unset, Since, fits_empty, keeps_itself}
+use Rattle.ctl_gen.proofs.Each.{Each}
+use Rattle.ctl_gen.proofs.Collections.{nested_taken}
+use Rattle.ctl_gen.proofs.Worlds.{IsNested, IsPlainSlot, plain_unset, Since, fits_empty, keeps_itself}
 use Rattle.ctl_gen.proofs.Scopes.{IsCallable}
-use Rattle.ctl_gen.proofs.Setting.{Setting, EndsIn, returned_to, returns, IsTold, Told, Calls}
+use Rattle.ctl_gen.proofs.Setting.{Setting, Allocates, MayAllocate, EndsIn, returned_to, returns, IsTold, Told, Calls}
+use Rattle.ctl_gen.proofs.Known.{IsPlainType}
 use Rattle.ctl_gen.proofs.Parted.{GivesDefaults}
-use Rattle.ctl_gen.proofs.Cells.{by_code}
+use Rattle.ctl_gen.proofs.Calls.{point_at}
+use Rattle.ctl_gen.proofs.Allocators.{allocator_runs}
+use Rattle.ctl_gen.proofs.Cells.{by_code, here}
 use Rattle.ctl_gen.proofs.Leave.{in_frame, leaves}
 use Rattle.ctl_gen.proofs.Executed.{master_does}
-use Rattle.ctl_gen.proofs.Follow.{by_raise, IsGoing, Runs, way_of, at, added, no_step, both}
+use Rattle.ctl_gen.proofs.Follow.{by_raise, IsGoing, Runs, RunsTo, way_of, at, added, no_step, both}
 
 -- a body has as many slots as it means
 slots_alike : (m : Master) → (master_code m).slots ≡ (body_of m).slots
@@ -54,14 +63,14 @@ taken_length zero xs le = refl
 taken_length (suc n) [] le = absurd (omega (arith, le))
 taken_length (suc n) (x ∷ xs) le = let e = taken_length n xs (omega (arith, le)) in omega (arith, e)
 
-no_copy_both : (xs ys : List Slot) → Each HoldsNoCopy xs → Each HoldsNoCopy ys → Each HoldsNoCopy (xs ++ ys)
-no_copy_both [] ys h g = g
-no_copy_both (x ∷ xs) ys h g = (h.0, no_copy_both xs ys h.1 g)
+plain_both : (xs ys : List Slot) → Each IsPlainSlot xs → Each IsPlainSlot ys → Each IsPlainSlot (xs ++ ys)
+plain_both [] ys h g = g
+plain_both (x ∷ xs) ys h g = (h.0, plain_both xs ys h.1 g)
 
-no_copy_rest : (n : ℕ) (xs : List Slot) → Each HoldsNoCopy xs → Each HoldsNoCopy (drop n xs)
-no_copy_rest zero xs h = h
-no_copy_rest (suc n) [] h = tt
-no_copy_rest (suc n) (x ∷ xs) h = no_copy_rest n xs h.1
+plain_rest : (n : ℕ) (xs : List Slot) → Each IsPlainSlot xs → Each IsPlainSlot (drop n xs)
+plain_rest zero xs h = h
+plain_rest (suc n) [] h = tt
+plain_rest (suc n) (x ∷ xs) h = plain_rest n xs h.1
 
 -- nothing but an exception leaves a body
 is_handed : (kind : SubprogramKind) (slots : List Slot) (r : Result Done) → IsTold (way_of (handed_back kind slots r))
@@ -92,7 +101,7 @@ behind_is Function (AfterBlock p) ends slots r ks l w = absurd ends
 behind_is Function (AfterProcedure copies p) ends slots r ks l w = absurd ends
 behind_is Function AfterBody ends slots r ks l w = absurd ends
 
-module _ (ask : Ask) (p : Meaning) (code : Code) (setting : Setting p.tables code) (bodies : (f : ℕ) (s : Subprogram) → slice_get setting.subprograms f ≡ Some s → Stands p.tables code f s) (meant : (f : ℕ) (s : Subprogram) → slice_get setting.subprograms f ≡ Some s → slice_get p.routines f ≡ Some (routine_of s)) (constants : (call : Names.Call) → GivesDefaults p.tables (default_in p.defaults (expression_tools ask p call))) where
+module _ (ask : Ask) (p : Meaning) (code : Code) (setting : Setting p.tables code) (bodies : (f : ℕ) (s : Subprogram) → slice_get setting.subprograms f ≡ Some s → Stands p.tables code f s) (meant : (f : ℕ) (s : Subprogram) → slice_get setting.subprograms f ≡ Some s → slice_get p.routines f ≡ Some (routine_of s)) (constants : (call : Names.Call) → GivesDefaults p.tables (default_in p.defaults (expression_tools ask p call))) (counted : (n bound : ℕ) → bound < n → (default : Default) (m : Member) → UpTo p.tables ask bound (finalize_begun (record { ask = ask; tables = p.tables; call = execution ask p n; default = default }) Collection m)) where
   abbrev k : Tables
   k = p.tables
 
@@ -103,9 +112,9 @@ module _ (ask : Ask) (p : Meaning) (code : Code) (setting : Setting p.tables cod
       ap (λ e. moved l (enter_body e [] env actuals after ks w)) x.entry
       ∙ ap (λ n. at (take s.level env ++ w.ledger.next_master ∷ []) x.place (in_frame w.ledger.next_master 0 after ks) [] l (open_master (take s.level env) (actuals ++ drop (length actuals) (replicate n unset)) w)) (slots_alike s.body)
 
-  no_copy_slots : (s : Subprogram) (actuals : List Slot) → Each HoldsNoCopy actuals → Each HoldsNoCopy (slots_for (body_of s.body) actuals)
+  plain_slots : (s : Subprogram) (actuals : List Slot) → Each IsPlainSlot actuals → Each IsPlainSlot (slots_for (body_of s.body) actuals)
   unfolding slots_for unset_slots
-  no_copy_slots s actuals h = no_copy_both actuals _ h (no_copy_rest (length actuals) (replicate (body_of s.body).slots unset) (no_copy_unset (body_of s.body).slots))
+  plain_slots s actuals h = plain_both actuals _ h (plain_rest (length actuals) (replicate (body_of s.body).slots unset) (plain_unset (body_of s.body).slots))
 
   -- what follows the master of a body
   behind_body : (w0 : World) (after : After) (ks : List Frame) (kind : SubprogramKind) → EndsIn kind after → (r : Result Left) (c : ℕ) (l : Log) (w : World) → Told k code w0 (way_of r) w → Runs ask code (Told k code w0) 0 0 (leaves after ks r l w) c (returned_to after ks) (on_goes (λ (x : Left). returned kind x.slots x.result) r c l w)
@@ -116,9 +125,9 @@ module _ (ask : Ask) (p : Meaning) (code : Code) (setting : Setting p.tables cod
       (λ e. no_step ask code (Told k code w0) 0 0 _ c 0 (returned_to after ks) (Leaves (ByRaise e)) l w (tt, fits.1) (behind_is kind after ends [] (Leaves (ByRaise e)) ks l w)) y fits.0
 
   -- a body, from the step that enters it
-  number_runs : (call : Names.Call) (bound : ℕ) → Calls ask k code setting bound call → (f : ℕ) (s : Subprogram) → slice_get setting.subprograms f ≡ Some s → (w0 : World) (env : List ℕ) (actuals : List Slot) (after : After) (ks : List Frame) (c0 c : ℕ) (l : Log) (w : World) (s0 : State) (kind : SubprogramKind) (count : ℕ) → EndsIn kind after → c ≤ bound → c ≤ c0 → c0 ≤ c + 1 → Since k code w0 w → IsCallable code kind (length env) f count → Each HoldsNoCopy actuals → step ask code s0 ≡ moved l (enter_body (slice_get code.entries.items f) [] env actuals after ks w) → Runs ask code (Told k code w0) 0 2 s0 c0 (returned_to after ks) (run_number p (tools_with ask p call) env actuals f c l w)
+  number_runs : (call : Names.Call) (bound : ℕ) → Calls ask k code setting bound call → (f : ℕ) (s : Subprogram) → slice_get setting.subprograms f ≡ Some s → (w0 : World) (env : List ℕ) (actuals : List Slot) (after : After) (ks : List Frame) (c0 c : ℕ) (l : Log) (w : World) (s0 : State) (kind : SubprogramKind) (count : ℕ) → EndsIn kind after → c ≤ bound → c ≤ c0 → c0 ≤ c + 1 → Since k code w0 w → IsCallable code kind (length env) f count → IsNested w env → Each IsPlainSlot actuals → step ask code s0 ≡ moved l (enter_body (slice_get code.entries.items f) [] env actuals after ks w) → Runs ask code (Told k code w0) 0 2 s0 c0 (returned_to after ks) (run_number p (tools_with ask p call) env actuals f c l w)
   unfolding run_number run_routine tools_with opened_outcome
-  number_runs call bound calls f s here w0 env actuals after ks c0 c l w s0 kind count ends le lo hi fits callable uncopied first =
+  number_runs call bound calls f s here w0 env actuals after ks c0 c l w s0 kind count ends le lo hi fits callable nested plain first =
       let x : Stands k code f s = bodies f s here in
       let inner = λ (display : List ℕ). (body_of s.body).inside (tools_with ask p call) display 0 in
       let scope = callable.0 in
@@ -131,24 +140,42 @@ module _ (ask : Ask) (p : Meaning) (code : Code) (setting : Setting p.tables cod
       subst (λ o. Runs ask code (Told k code w0) 0 2 s0 c0 (returned_to after ks) o) (sym (ap (λ y. on_some y gone (run_routine (tools_with ask p call) env actuals) c l w) (meant f s here)))
       (subst (λ (b : SubprogramKind). Runs ask code (Told k code w0) 0 2 s0 c0 (returned_to after ks) (bind (in_master (tools_with ask p call) (take s.level env) (slots_for (body_of s.body) actuals) inner c l w) (on_goes (λ (y : Left). returned b y.slots y.result)))) (sym of_kind)
       (both ask code (Told k code w0) (Told k code w0) 0 2 0 0 0 2 s0 c0 (leaves after ks) (returned_to after ks) _ (on_goes (λ (y : Left). returned kind y.slots y.result)) (omega arith) (omega arith) (omega arith)
-      ((master_does ask k code setting call (default_in p.defaults (expression_tools ask p call)) (constants call) bound calls s.body).inside x.runs x.before x.texts 0 (KindOf.Body s.level (master_code s.body).slots) [] w0 (take s.level env) (slots_for (body_of s.body) actuals) after ks c0 c l w s0 x.place le lo hi fits long (no_copy_slots s actuals uncopied) x.instructions (first ∙ entered f s x env actuals after ks l w))
+      ((master_does ask k code setting call (default_in p.defaults (expression_tools ask p call)) (constants call) bound calls s.body).inside x.runs x.before x.texts 0 (KindOf.Body s.level (master_code s.body).slots) [] w0 (take s.level env) (slots_for (body_of s.body) actuals) after ks c0 c l w s0 x.place le lo hi fits long (nested_taken w.ledger.next_master w.activations 0 s.level env nested) (plain_slots s actuals plain) x.instructions (first ∙ entered f s x env actuals after ks l w))
       (λ r c1 l1 w1 lo1 fits1. behind_body w0 after ks kind ends r c1 l1 w1 fits1)))
 
+  -- executions of less than so much on the clock behave
+  abbrev Below : ℕ → Type 0
+  Below zero = Unit {0}
+  Below (suc n) = Calls ask k code setting n (execution ask p (suc n))
+
   -- an execution takes one from the clock, and is a tick
-  call_runs : (n c : ℕ) → c ≤ n → (f : ℕ) (s : Subprogram) → slice_get setting.subprograms f ≡ Some s → (w0 : World) (v : List ℕ) (actuals : List Slot) (after : After) (ks : List Frame) (l : Log) (w : World) (s0 : State) (kind : SubprogramKind) (count : ℕ) → EndsIn kind after → Since k code w0 w → IsCallable code kind (length v) f count → Each HoldsNoCopy actuals → step ask code s0 ≡ moved l (enter_body (slice_get code.entries.items f) [] v actuals after ks w) → Runs ask code (Told k code w0) 2 3 s0 c (returned_to after ks) (execution ask p (suc n) (OfSubprogram f actuals) v c l w)
+  call_runs : (n : ℕ) → Below n → (c : ℕ) → c ≤ n → (f : ℕ) (s : Subprogram) → slice_get setting.subprograms f ≡ Some s → (w0 : World) (v : List ℕ) (actuals : List Slot) (after : After) (ks : List Frame) (l : Log) (w : World) (s0 : State) (kind : SubprogramKind) (count : ℕ) → EndsIn kind after → Since k code w0 w → IsCallable code kind (length v) f count → IsNested w v → Each IsPlainSlot actuals → step ask code s0 ≡ moved l (enter_body (slice_get code.entries.items f) [] v actuals after ks w) → Runs ask code (Told k code w0) 2 3 s0 c (returned_to after ks) (execution ask p (suc n) (OfSubprogram f actuals) v c l w)
   unfolding execution execute opened_outcome
-  call_runs n zero le f s here w0 v actuals after ks l w s0 kind count ends fits callable uncopied first =
+  call_runs n below zero le f s here w0 v actuals after ks l w s0 kind count ends fits callable nested plain first =
       let e = first ∙ entered f s (bodies f s here) v actuals after ks l w in
       record { n = 1; in_time = omega arith; logged = ap (λ (x : State). x.log) e; going = subst IsGoing (sym e) tt; why = inl (omega arith) }
-  call_runs zero (suc c) le f s here w0 v actuals after ks l w s0 kind count ends fits callable uncopied first = absurd (omega (arith, le))
-  call_runs (suc n) (suc c) le f s here w0 v actuals after ks l w s0 kind count ends fits callable uncopied first =
+  call_runs zero below (suc c) le f s here w0 v actuals after ks l w s0 kind count ends fits callable nested plain first = absurd (omega (arith, le))
+  call_runs (suc n) below (suc c) le f s here w0 v actuals after ks l w s0 kind count ends fits callable nested plain first =
       added ask code (Told k code w0) 1 0 2 2 3 s0 (suc c) (returned_to after ks) _ (omega arith) (omega arith)
-      (number_runs (execution ask p (suc n)) n (record { runs = λ f1 s1 here1 w1 v1 actuals1 after1 ks1 c1 l1 w2 s2 kind1 count1 ends1 le1 fits1 callable1 uncopied1 first1. call_runs n c1 le1 f1 s1 here1 w1 v1 actuals1 after1 ks1 l1 w2 s2 kind1 count1 ends1 fits1 callable1 uncopied1 first1 }) f s here w0 v actuals after ks (suc c) c l w s0 kind count ends (omega (arith, le)) (omega arith) (omega arith) fits callable uncopied first)
+      (number_runs (execution ask p (suc n)) n below f s here w0 v actuals after ks (suc c) c l w s0 kind count ends (omega (arith, le)) (omega arith) (omega arith) fits callable nested plain first)
 
-  calls_run : (n : ℕ) → Calls ask k code setting n (execution ask p (suc n))
-  calls_run n = record { runs = λ f s here w0 v actuals after ks c l w s0 kind count ends le fits callable uncopied first. call_runs n c le f s here w0 v actuals after ks l w s0 kind count ends fits callable uncopied first }
+  -- an allocator has taken one before
+  allocate_runs : (n : ℕ) → Below n → (access t : ℕ) → IsPlainType k (Record t) → (w0 : World) (d : List ℕ) (place : ℕ) (ks : List Frame) (ops : List Word) (c0 c : ℕ) (l : Log) (w : World) (s0 : State) → c + 1 ≤ n → c ≤ c0 → c0 ≤ c + 1 → Since k code w0 w → MayAllocate code access t d w → step ask code s0 ≡ moved l (by_new code t (set_seen (slice_get code.accesses.items access) d w) ops (here d place ks w)) → RunsTo ask code (Allocates k code w0) 5 7 s0 c0 (returned_to (AfterFunction (point_at d (place + 1) ops)) ks) (execution ask p (suc n) (OfAllocator access (Record t) None None) d c l w)
+  unfolding execution execute tools_with opened_outcome
+  allocate_runs zero below access t plain w0 d place ks ops c0 c l w s0 le lo hi fits may first = absurd (omega (arith, le))
+  allocate_runs (suc n) below access t plain w0 d place ks ops c0 c l w s0 le lo hi fits may first =
+      let inner = execution ask p (suc n) in
+      allocator_runs ask k code setting inner (default_in p.defaults (expression_tools ask p inner)) (constants inner) n below t plain w0 access (setting.accesses access) (setting.standard access) d place ks ops s0 c0 c l w (omega (arith, le)) lo hi fits may first
+
+  all_below : (n : ℕ) → Below n
+  all_below zero = tt
+  all_below (suc n) = record {
+    runs = λ f s known w0 v actuals after ks c l w s0 kind count ends le fits callable nested plain first. call_runs n (all_below n) c le f s known w0 v actuals after ks l w s0 kind count ends fits callable nested plain first;
+    allocates = λ access t plain w0 d place ks ops c0 c l w s0 le lo hi fits may first. allocate_runs n (all_below n) access t plain w0 d place ks ops c0 c l w s0 le lo hi fits may first;
+    counts = counted (suc n) n (omega arith);
+  }
 
   -- the main procedure, which is declared in no master and has no formals
   pub main_runs : (main : ℕ) (s : Subprogram) → slice_get setting.subprograms main ≡ Some s → IsCallable code Procedure 0 main 0 → slice_get code.instructions.items 0 ≡ Some (InstrOf.Start main) → (clock : ℕ) → Runs ask code (Told k code empty_world) 0 2 start clock (returns []) (run_meaning p main ask clock)
   unfolding run_meaning tools
-  main_runs main s here callable has clock = number_runs (execution ask p (suc clock)) clock (calls_run clock) main s here empty_world [] [] AfterBody [] clock clock empty_log empty_world start Procedure 0 tt (omega arith) (omega arith) (omega arith) (fits_empty k code, keeps_itself k code empty_world) callable tt (by_code ask code [] 0 [] [] empty_log empty_world (InstrOf.Start main) has)
+  main_runs main s here callable has clock = number_runs (execution ask p (suc clock)) clock (all_below (suc clock)) main s here empty_world [] [] AfterBody [] clock clock empty_log empty_world start Procedure 0 tt (omega arith) (omega arith) (omega arith) (fits_empty k code, keeps_itself k code empty_world) callable tt tt (by_code ask code [] 0 [] [] empty_log empty_world (InstrOf.Start main) has)

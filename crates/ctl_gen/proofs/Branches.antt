@@ -36,7 +36,7 @@ module _ (ask : Ask) (k : Tables) (code : Code) (bound : ℕ) where
   arm_of y more x a = test_code y a.stack (length (x (behind (test_length y a.stack) a)) + more) ++ x (behind (test_length y a.stack) a)
 
   -- an arm, or what stands behind it
-  pub arm_runs : (b more : ℕ) → b ≤ 1 → (y : ValueCode) (test : List ℕ → Act (List ℕ)) → ((w0 : World) → Value ask k code bound (Since k code w0) y test) → (x : Around → List Line) (act : List ℕ → ℕ → Act Done) → DoesIn b ask k code bound x act → (other : Act Done) (a : Around) (w0 : World) (d : List ℕ) (place place1 : ℕ) (ks : List Frame) (ops : List Word) (c : ℕ) (l : Log) (w : World) → c ≤ bound → Since k code w0 w → Sees d a.stack w0 → Laid code place (arm_of y more x a) → Ends d (place + length (arm_of y more x a)) place1 ks ops → ((c1 : ℕ) (l1 : Log) (w1 : World) → c1 ≤ c → Since k code w0 w1 → Runs ask code (Kept k code w0) 0 0 (at d (place + length (arm_of y more x a) + more) ks ops l1 w1) c1 (arrives (lands a place) d place1 ks ops) (other c1 l1 w1)) → Runs ask code (Kept k code w0) 0 0 (at d place ks ops l w) c (arrives (lands a place) d place1 ks ops) (scalar (test d) (λ b. either (is_true b) (act d (caught_in ks)) other) c l w)
+  pub arm_runs : (b more : ℕ) → b ≤ 1 → (y : ValueCode) (test : List ℕ → Act (List ℕ)) → ((w0 : World) → Value ask k code bound w0 y test) → (x : Around → List Line) (act : List ℕ → ℕ → Act Done) → DoesIn b ask k code bound x act → (other : Act Done) (a : Around) (w0 : World) (d : List ℕ) (place place1 : ℕ) (ks : List Frame) (ops : List Word) (c : ℕ) (l : Log) (w : World) → c ≤ bound → Since k code w0 w → Sees d a.stack w0 → Laid code place (arm_of y more x a) → Ends d (place + length (arm_of y more x a)) place1 ks ops → ((c1 : ℕ) (l1 : Log) (w1 : World) → c1 ≤ c → Since k code w0 w1 → Runs ask code (Kept k code w0) 0 0 (at d (place + length (arm_of y more x a) + more) ks ops l1 w1) c1 (arrives (lands a place) d place1 ks ops) (other c1 l1 w1)) → Runs ask code (Kept k code w0) 0 0 (at d place ks ops l w) c (arrives (lands a place) d place1 ks ops) (scalar (test d) (λ b. either (is_true b) (act d (caught_in ks)) other) c l w)
   unfolding scalar opened_outcome scalar_of opened_lists
   arm_runs b more few y test value x act does other a w0 d place place1 ks ops c l w le fits sees has ends elses =
       test_runs ask k code bound (on_goes (λ u. either (is_true (scalar_of u)) (act d (caught_in ks)) other)) w0 y test (value w0) a.stack (length is + more) d place ks ops c l w (arrives e d place1 ks ops) le fits sees (laid_front code place (test_code y a.stack (length is + more)) is has)
@@ -85,7 +85,7 @@ module _ (ask : Ask) (k : Tables) (code : Code) (bound : ℕ) where
   paid x act does a w0 d place ks ops c l w le fits sees has = added ask code (Kept k code w0) 1 1 1 0 0 _ c _ _ (omega arith) (omega arith) (does a w0 d place ks ops c l w le fits sees has)
 
   -- a statement that is passed over where a condition does not hold
-  pub only_if_runs : (y : ValueCode) (test : List ℕ → Act (List ℕ)) → ((w0 : World) → Value ask k code bound (Since k code w0) y test) → (x : Around → List Line) (act : List ℕ → ℕ → Act Done) → DoesIn 1 ask k code bound x act → Does ask k code bound (arm_of y 0 x) (λ d caught. ticked (scalar (test d) (λ b. either (is_true b) (act d caught) nothing)))
+  pub only_if_runs : (y : ValueCode) (test : List ℕ → Act (List ℕ)) → ((w0 : World) → Value ask k code bound w0 y test) → (x : Around → List Line) (act : List ℕ → ℕ → Act Done) → DoesIn 1 ask k code bound x act → Does ask k code bound (arm_of y 0 x) (λ d caught. ticked (scalar (test d) (λ b. either (is_true b) (act d caught) nothing)))
   unfolding opened_outcome
   only_if_runs y test value x act does a w0 d place ks ops c l w le fits sees has =
       let end = place + length (arm_of y 0 x a) in

@@ -24,9 +24,9 @@ use Rattle.ctl_layout.specs.Around.{Line}
 use Rattle.ctl_layout.specs.Layout.{call as call_code, calls_code}
 use Rattle.ctl_layout.specs.Values.{ActualCode, actuals_code, copied_back, copies_code, copies_of, goes_back, with_actuals}
 use Rattle.ctl_gen.specs.Emitted.{taking_actuals}
-use Rattle.ctl_gen.proofs.Worlds.{Since, Kept}
+use Rattle.ctl_gen.proofs.Worlds.{IsNested, Since, Kept}
 use Rattle.ctl_gen.proofs.Scopes.{IsCallable}
-use Rattle.ctl_gen.proofs.Setting.{Setting, Calls, EndsIn, Sure, Told, returned_to, tools_with}
+use Rattle.ctl_gen.proofs.Setting.{Setting, Calls, EndsIn, Sure, Told, returned_to, tools_with, IsSeen, seen, seen_nested}
 use Rattle.ctl_gen.proofs.Cells.{by_code, here}
 use Rattle.ctl_gen.proofs.Place.{Laid, laid_front, laid_back}
 use Rattle.ctl_gen.proofs.Actuals.{Taken, backs_of, depth_with, none_back, operands_of}
@@ -68,11 +68,11 @@ module _ (ask : Ask) (k : Tables) (code : Code) (setting : Setting k code) (call
     pub enters : Enters after i f count
 
   -- over the operands that its formals take
-  body_runs : (kind : SubprogramKind) (after : Point → After) (i : Instr) (f count : ℕ) → Calling kind after i f count → (q : Passed) (w0 : World) (d : List ℕ) (place : ℕ) (ks : List Frame) (ops below : List Word) (backs : List (ℕ × Found)) (c : ℕ) (l : Log) (w : World) → c ≤ bound → Since k code w0 w → IsCallable code kind (length d) f count → Taken count ops below backs q → slice_get code.instructions.items place ≡ Some i → Runs ask code (Told k code w0) 2 3 (at d place ks ops l w) c (returned_to (after (point_at d (place + 1) below)) ks) (call (OfSubprogram f q.slots) d c l w)
-  body_runs kind after i f count calling q w0 d place ks ops below backs c l w le fits callable taken has =
+  body_runs : (kind : SubprogramKind) (after : Point → After) (i : Instr) (f count : ℕ) → Calling kind after i f count → (q : Passed) (w0 : World) (d : List ℕ) (place : ℕ) (ks : List Frame) (ops below : List Word) (backs : List (ℕ × Found)) (c : ℕ) (l : Log) (w : World) → c ≤ bound → Since k code w0 w → IsCallable code kind (length d) f count → IsNested w d → Taken count ops below backs q → slice_get code.instructions.items place ≡ Some i → Runs ask code (Told k code w0) 2 3 (at d place ks ops l w) c (returned_to (after (point_at d (place + 1) below)) ks) (call (OfSubprogram f q.slots) d c l w)
+  body_runs kind after i f count calling q w0 d place ks ops below backs c l w le fits callable nested taken has =
       let p = point_at d (place + 1) below in
       let body = setting.body f callable.0.0 callable.0.1 in
-      calls.runs f body.0 body.1 w0 d q.slots (after p) ks c l w (at d place ks ops l w) kind count (calling.ends p) le fits callable taken.uncopied
+      calls.runs f body.0 body.1 w0 d q.slots (after p) ks c l w (at d place ks ops l w) kind count (calling.ends p) le fits callable nested taken.plain
       (calling.enters d place ks ops l w has ∙ entered after f count q d place ks ops below backs l w taken)
 
   -- The call ----------------------------------------------------------------------------------------
@@ -86,7 +86,7 @@ module _ (ask : Ask) (k : Tables) (code : Code) (setting : Setting k code) (call
   GoesOn w0 count c after xs d ks ops next = (q : Passed) (r : Result Returned) (c1 : ℕ) (l1 : Log) (w1 : World) → c1 ≤ c → TakenBy xs d ops q → Told k code w0 (way_of r) w1 → Runs ask code (Told k code w0) count count (returned_to (after ops) ks r l1 w1) c1 next (copying q.back r c1 l1 w1)
 
   -- the actuals, the body, and what follows it, of which the ticks of the actuals pay a step each
-  pub called_runs : (kind : SubprogramKind) (after : Point → After) (i : Instr) (f : ℕ) (xs : List ActualCode) (ms : List Supplied) → Calling kind after i f (length xs) → (count : ℕ) → count ≤ length xs + 1 → (w0 : World) → A.EachPasses ask k code setting call default bound w0 xs ms → (s : List Kind) (d : List ℕ) (place : ℕ) (ks : List Frame) (ops : List Word) (next : Result Returned → Log → World → State) (c : ℕ) (l : Log) (w : World) → c ≤ bound → Since k code w0 w → length d ≡ depth s → IsCalled code kind f (length xs) (with_actuals xs s) → Laid code place (taking_actuals i xs s) →
+  pub called_runs : (kind : SubprogramKind) (after : Point → After) (i : Instr) (f : ℕ) (xs : List ActualCode) (ms : List Supplied) → Calling kind after i f (length xs) → (count : ℕ) → count ≤ length xs + 1 → (w0 : World) → A.EachPasses ask k code setting call default bound w0 xs ms → (s : List Kind) (d : List ℕ) (place : ℕ) (ks : List Frame) (ops : List Word) (next : Result Returned → Log → World → State) (c : ℕ) (l : Log) (w : World) → c ≤ bound → Since k code w0 w → IsSeen w0 d s → IsCalled code kind f (length xs) (with_actuals xs s) → Laid code place (taking_actuals i xs s) →
       GoesOn w0 count c (λ os. after (point_at d (place + length (taking_actuals i xs s)) os)) xs d ks ops next → ((e : ℕ) (l1 : Log) (w1 : World) → transferred (ByRaise e) ks l1 w1 ≡ next (Leaves (ByRaise e)) l1 w1) →
       Runs ask code (Told k code w0) 4 4 (at d place ks ops l w) c next (bind (pass_each K d ms no_actuals c l w) (on_goes (call_with K d f)))
   unfolding call_with opened_outcome
@@ -95,7 +95,7 @@ module _ (ask : Ask) (k : Tables) (code : Code) (setting : Setting k code) (call
       (λ q c1 l1 w1 lo fits1 taken.
       both ask code (Told k code w0) (Told k code w0) 2 3 count count (length xs + 4) (length xs + 4) _ c1 mid next (call (OfSubprogram f q.slots) d c1 l1 w1) (copying q.back) (omega (arith, few)) (omega arith) (omega (arith, few))
       (subst (λ n. Runs ask code (Told k code w0) 2 3 (at d there ks (operands_of q.slots ops) l1 w1) c1 (returned_to (after (point_at d n ops)) ks) (call (OfSubprogram f q.slots) d c1 l1 w1)) end
-      (body_runs kind after i f (length xs) calling q w0 d there ks (operands_of q.slots ops) ops (backs_of d 0 xs) c1 l1 w1 (omega (arith, lo, le)) fits1 callable taken here_it))
+      (body_runs kind after i f (length xs) calling q w0 d there ks (operands_of q.slots ops) ops (backs_of d 0 xs) c1 l1 w1 (omega (arith, lo, le)) fits1 callable (seen_nested k code d s w0 w1 long fits1) taken here_it))
       (λ r c2 l2 w2 lo2 told. on q r c2 l2 w2 (omega (arith, lo, lo2)) taken told))
       (λ e l1 w1 fits1. ((tt, fits1), raises e l1 w1))
     where
@@ -113,7 +113,7 @@ module _ (ask : Ask) (k : Tables) (code : Code) (setting : Setting k code) (call
 
       callable : IsCallable code kind (length d) f (length xs)
       callable =
-          let same : depth (with_actuals xs s) ≡ length d = depth_with xs s ∙ sym long in
+          let same : depth (with_actuals xs s) ≡ length d = depth_with xs s ∙ sym long.2 in
           (subst (λ n. IsInScope code n (Some f)) same called.0, called.1)
 
   -- where no copy goes back, nothing more is done
@@ -215,5 +215,5 @@ module _ (ask : Ask) (k : Tables) (code : Code) (setting : Setting k code) (call
       calling = record { ends = λ p. tt; enters = λ d1 q ks1 ops1 l1 w1 here1. by_code ask code d1 q ks1 ops1 l1 w1 i here1 }
 
       by : (b : Bool) → goes_back xs ≡ b → Runs ask code (Told k code w0) 4 4 (at d place ks ops l w) c (behind_copies d (place + length (taking_actuals (InstrOf.Call f (length xs) (copies_of xs)) xs a.stack) + length (copies_code xs a.stack)) ks ops) (bind (pass_each K d ms no_actuals c l w) (on_goes (call_with K d f)))
-      by false none = called_runs Procedure (AfterProcedure (copies_of xs)) i f xs ms calling 0 (omega arith) w0 (each w0) s d place ks ops next c l w le fits sees.long called front (none_on w0 xs none s d place1 ks ops c) (λ e l1 w1. refl)
-      by true is = called_runs Procedure (AfterProcedure (copies_of xs)) i f xs ms calling (length xs + 1) (omega arith) w0 (each w0) s d place ks ops next c l w le fits sees.long called front (copies_on w0 xs is s d place1 ks ops c sees.long tail) (λ e l1 w1. refl)
+      by false none = called_runs Procedure (AfterProcedure (copies_of xs)) i f xs ms calling 0 (omega arith) w0 (each w0) s d place ks ops next c l w le fits (seen sees) called front (none_on w0 xs none s d place1 ks ops c) (λ e l1 w1. refl)
+      by true is = called_runs Procedure (AfterProcedure (copies_of xs)) i f xs ms calling (length xs + 1) (omega arith) w0 (each w0) s d place ks ops next c l w le fits (seen sees) called front (copies_on w0 xs is s d place1 ks ops c sees.long tail) (λ e l1 w1. refl)

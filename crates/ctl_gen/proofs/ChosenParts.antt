@@ -21,7 +21,7 @@ use Rattle.ctl_code.specs.declared.code.Begun.{Begun}
 use Rattle.ctl_code.specs.declared.code.Code.{Code}
 use Rattle.ctl_gen.proofs.Known.{IsPlainType, both_true}
 use Rattle.ctl_gen.proofs.Parted.{GivesDefaults, HaveParts}
-use Rattle.ctl_gen.proofs.Worlds.{Each, each_all}
+use Rattle.ctl_gen.proofs.Each.{Each, each_all}
 use Rattle.ctl_gen.proofs.Setting.{Setting, tools_with}
 use Rattle.ctl_gen.proofs.FinalizedParts.{and_true, each_left}
 

@@ -12,7 +12,7 @@ use Rattle.ctl_code.specs.declared.code.Begun.{Begun}
 use Rattle.ctl_code.specs.Table.{is_one_of}
 use Rattle.ctl_code.specs.Valid.{PositionsRise}
 use Rattle.ctl_gen.proofs.Parted.{AreBegun, Begins, begun_length}
-use Rattle.ctl_gen.proofs.Worlds.{Each, each_and}
+use Rattle.ctl_gen.proofs.Each.{Each, each_and}
 
 -- Tests of lists ------------------------------------------------------------------------------------
 

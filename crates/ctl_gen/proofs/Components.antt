@@ -1,5 +1,5 @@
 -- Components of objects: the code that reads one and the code that assigns to one does what the program means (4.1.3, 5.2).
-use Rattle.std.proofs.Common.{◌≡◌, ℕ, ◌+◌, ◌≤◌, List, [], ◌∷◌, ◌++◌, length, drop, Option, Some, None, true, refl, sym, ap, ◌∙◌, subst, arith, length-append}
+use Rattle.std.proofs.Common.{◌≡◌, ℕ, ◌+◌, ◌≤◌, List, [], ◌∷◌, ◌++◌, length, drop, Option, Some, None, true, false, refl, sym, ap, ◌∙◌, subst, arith, length-append}
 use Rattle.std.specs.Prelude.{slice_get}
 use Rattle.ctl_program.specs.declared.types.Ty.{Ty}
 use Rattle.ctl_program.specs.declared.types.Ty.TheVariants.{Record}
@@ -12,7 +12,7 @@ use Rattle.ctl_meaning.specs.Activations.{master_of}
 use Rattle.ctl_meaning.specs.Objects.{cells_at}
 use Rattle.ctl_meaning.specs.Changes.{object_at, slot_at, write_cells}
 use Rattle.ctl_meaning.specs.Choice.{Ask}
-use Rattle.ctl_meaning.specs.Outcome.{ByRaise, Result, Goes, Leaves, Out, Act, Done, add, bind, on_goes, ◌>>=◌, done, change, ticked, on_some, opened_outcome}
+use Rattle.ctl_meaning.specs.Outcome.{constraint_error, ByRaise, Result, Goes, Leaves, Out, Act, Done, add, bind, on_goes, ◌>>=◌, done, change, ticked, on_some, opened_outcome}
 use Rattle.ctl_meaning.specs.Types.{Tables, cells_of, offset_in, placed}
 use Rattle.ctl_meaning.specs.Names.{Found, Call, Default, Tools, gone, existing, moved as found_behind, read_found, read_part, scalar_of, write_found, write_part}
 use Rattle.ctl_meaning.specs.Finalization.{Spot}
@@ -27,26 +27,26 @@ use Rattle.ctl_code.specs.Steps.{moved, step}
 use Rattle.ctl_code.specs.Table.{by_fetch_part, fetch_from, fetched, holder_at, locating, offset_of, spot_of, store_into, stored}
 use Rattle.ctl_code.specs.Windows.{depth}
 use Rattle.ctl_layout.specs.Around.{out_to}
-use Rattle.ctl_layout.specs.Parts.{Part, are_selectors, component_code, located_code, parts_run}
+use Rattle.ctl_layout.specs.Parts.{Part, are_walked, component_code, located_code, parts_run}
 use Rattle.ctl_layout.specs.Values.{ValueCode, held, read, value_type}
 use Rattle.ctl_layout.specs.Layout.{assign_part_code, store_part_code}
 use Rattle.ctl_gen.proofs.Known.{IsScalar}
 use Rattle.ctl_gen.proofs.Place.{Laid, laid_front, laid_back}
-use Rattle.ctl_gen.proofs.Worlds.{HoldsNoCopy, Since, Kept, since_written, no_copy_at}
-use Rattle.ctl_gen.proofs.Setting.{ArePlaced, tools_with}
-use Rattle.ctl_gen.proofs.Cells.{Any, OneCell, Stays, by_code, here, landed, out_is, put_there, taking_is, waiting}
+use Rattle.ctl_gen.proofs.Worlds.{HoldsNoCopy, IsNoCopy, Since, Kept, since_written, no_copy_at}
+use Rattle.ctl_gen.proofs.Setting.{ArePlaced, IsSeen, seen, tools_with}
+use Rattle.ctl_gen.proofs.Cells.{Any, OneCell, Stays, by_code, here, landed, landed_leaves, out_is, put_there, taking_is, waiting}
 use Rattle.ctl_gen.proofs.Values.{one_cell, scalar_cells}
 use Rattle.ctl_gen.proofs.Expressions as X
 use Rattle.ctl_gen.proofs.Expressions.{Value, held_holds, held_then}
-use Rattle.ctl_gen.proofs.Parts.{Agree, agree_run, component_found, content_of, find_by, finds_part, found_at, located_then, part_found, stepping}
+use Rattle.ctl_gen.proofs.Parts.{Agree, agree_run, component_found, content_of, find_by, finds_object, found_at, located_then, object_found, stepping}
 use Rattle.ctl_gen.proofs.Does.{Does}
-use Rattle.ctl_gen.proofs.Follow.{Runs, Target, added, added_to, arrives, at, bind_bind, lands, last_step, last_step_to, no_step, stop_step, stop_step_to}
+use Rattle.ctl_gen.proofs.Follow.{Runs, Target, added, added_to, arrives, at, bind_bind, lands, last_step, last_step_to, no_step, no_step_to, stop_step, stop_step_to, transferred}
 
 module _ (ask : Ask) (k : Tables) (code : Code) (placed_so : ArePlaced k code) (call : Call) (default : Default) where
   abbrev K : Tools
   K = tools_with ask k call default
 
-  module _ (v : Var) (steps : List Step) (t position : ℕ) (runs : parts_run k.records steps t ≡ true) (selectors : are_selectors (steps ++ Component t position ∷ []) ≡ true) where
+  module _ (v : Var) (steps : List Step) (t position : ℕ) (runs : parts_run k.records steps t ≡ true) (walked : are_walked false steps ≡ true) where
     abbrev all : List Step
     all = steps ++ Component t position ∷ []
 
@@ -59,9 +59,12 @@ module _ (ask : Ask) (k : Tables) (code : Code) (placed_so : ArePlaced k code) (
 
     -- Reading ---------------------------------------------------------------------------------------
 
-    module _ (bound : ℕ) (Fits : World → Type 0) where
+    module _ (bound : ℕ) (w0 : World) where
+      abbrev Fits : World → Type 0
+      Fits w = Since k code w0 w
+
       abbrev Gets : ℕ → ℕ → State → ℕ → (Result (List ℕ) → Log → World → State) → Out (List ℕ) → Type 0
-      Gets = X.Gets ask k code bound Fits Any
+      Gets = X.Gets ask k code bound w0 Any
 
       -- the value of the component, behind what finds the part
       abbrev fetching : Result Found → Act (List ℕ)
@@ -77,7 +80,7 @@ module _ (ask : Ask) (k : Tables) (code : Code) (placed_so : ArePlaced k code) (
           by (Some y) go = last_step_to ask code (OneCell Fits Any) 8 8 s0 c 1 (landed to d (place + 1) ks ops) (Goes (cells_at (p.offset + offset) 1 y)) l w (omega arith) (fits, (scalar_of (cells_at (p.offset + offset) 1 y), one_cell (drop (p.offset + offset) y.cells), tt)) (go ∙ put_there to (cells_at (p.offset + offset) 1 y) d place ks ops l w)
 
       -- a component of the object in the variable itself
-      fetches_it : (to : Cell) (ty : Ty) (s : List Kind) (d : List ℕ) (place : ℕ) (ks : List Frame) (ops : List Word) (c : ℕ) (l : Log) (w : World) → Fits w → length d ≡ depth s → slice_get code.instructions.items place ≡ Some (InstrOf.FetchPart (out_to s v) v.slot t position ty to) → Gets 8 8 (at d place ks ops l w) c (landed to.named d (place + 1) ks ops) (bind (part_found k [] (spot_of (content_of d v w)) c l w) fetching)
+      fetches_it : (to : Cell) (ty : Ty) (s : List Kind) (d : List ℕ) (place : ℕ) (ks : List Frame) (ops : List Word) (c : ℕ) (l : Log) (w : World) → Fits w → length d ≡ depth s → slice_get code.instructions.items place ≡ Some (InstrOf.FetchPart (out_to s v) v.slot t position ty to) → Gets 8 8 (at d place ks ops l w) c (landed to.named d (place + 1) ks ops) (bind (object_found (spot_of (content_of d v w)) c l w) fetching)
       unfolding opened_outcome
       fetches_it to ty s d place ks ops c l w fits long has =
           by (spot_of (content_of d v w))
@@ -85,7 +88,7 @@ module _ (ask : Ask) (k : Tables) (code : Code) (placed_so : ArePlaced k code) (
           ∙ ap (λ j. moved l (by_fetch_part j (holder_at d (out_to s v) v.slot w) to.named ops (here d place ks w))) there
           ∙ ap (λ m. moved l (by_fetch_part offset (spot_of (slot_at m v.slot w).content) to.named ops (here d place ks w))) (out_is d s v long))
         where
-          by : (o : Option Spot) → step ask code (at d place ks ops l w) ≡ moved l (by_fetch_part offset o to.named ops (here d place ks w)) → Gets 8 8 (at d place ks ops l w) c (landed to.named d (place + 1) ks ops) (bind (part_found k [] o c l w) fetching)
+          by : (o : Option Spot) → step ask code (at d place ks ops l w) ≡ moved l (by_fetch_part offset o to.named ops (here d place ks w)) → Gets 8 8 (at d place ks ops l w) c (landed to.named d (place + 1) ks ops) (bind (object_found o c l w) fetching)
           by None first = stop_step_to ask code (OneCell Fits Any) 8 8 _ _ c 1 (landed to.named d (place + 1) ks ops) UseAfterFree l (omega arith) first refl refl
           by (Some p) first = added_to ask code (OneCell Fits Any) 1 8 8 8 8 _ c (landed to.named d (place + 1) ks ops) (fetching (Goes (found_at p)) c l w) (omega arith) (omega arith) (fetches p to.named d place ks ops c l w _ fits first)
 
@@ -96,23 +99,33 @@ module _ (ask : Ask) (k : Tables) (code : Code) (placed_so : ArePlaced k code) (
           (by_code ask code d place ks (Located p ∷ ops) l w (InstrOf.TakePart t position ty to) has
           ∙ ap (λ j. moved l (fetch_from j p to.named ops (here d place ks w))) there)
 
-      reads : (before : List Step) → before ≡ steps → (to : Cell) (ty : Ty) (s : List Kind) (d : List ℕ) (place : ℕ) (ks : List Frame) (ops : List Word) (c : ℕ) (l : Log) (w : World) → Fits w → length d ≡ depth s → Laid code place (component_code v before t position ty to s) → Gets 8 8 (at d place ks ops l w) c (landed to.named d (place + length (component_code v before t position ty to s)) ks ops) (bind (part_found k before (spot_of (content_of d v w)) c l w) fetching)
-      reads [] same to ty s d place ks ops c l w fits long has = fetches_it to ty s d place ks ops c l w fits long has.0
-      reads (x ∷ more) same to ty s d place ks ops c l w fits long has =
+      -- an exception is under way to the innermost master
+      leaves_it : (to : Named) (d : List ℕ) (place : ℕ) (ks : List Frame) (ops : List Word) (c : ℕ) (l : Log) (w : World) → Fits w → Gets 8 8 (transferred (ByRaise constraint_error) ks l w) c (landed to d place ks ops) (fetching (Leaves (ByRaise constraint_error)) c l w)
+      unfolding opened_outcome
+      leaves_it to d place ks ops c l w fits = no_step_to ask code (OneCell Fits Any) 8 8 _ c 0 (landed to d place ks ops) (Leaves (ByRaise constraint_error)) l w (fits, tt) (landed_leaves to d place ks ops (ByRaise constraint_error) l w)
+
+      reads : (before : List Step) → before ≡ steps → (to : Cell) (ty : Ty) (s : List Kind) (d : List ℕ) (place : ℕ) (ks : List Frame) (ops : List Word) (c : ℕ) (l : Log) (w : World) → Fits w → IsNoCopy (content_of d v w) → length d ≡ depth s → Laid code place (component_code v before t position ty to s) → Gets 8 8 (at d place ks ops l w) c (landed to.named d (place + length (component_code v before t position ty to s)) ks ops) (bind (find_by K before v d c l w) fetching)
+      reads [] same to ty s d place ks ops c l w fits uncopied long has =
+          subst (λ o. Gets 8 8 (at d place ks ops l w) c (landed to.named d (place + 1) ks ops) (bind o fetching)) (sym (finds_object K v d c l w uncopied))
+          (fetches_it to ty s d place ks ops c l w fits long has.0)
+      reads (x ∷ more) same to ty s d place ks ops c l w fits uncopied long has =
           let front = located_code v (x ∷ more) t s in
           let last = (InstrOf.TakePart t position ty to, Operand (Record t) ∷ s) ∷ [] in
           let end : place + length front + 1 ≡ place + length (front ++ last) = omega (arith, length-append front last) in
-          subst (λ q. Gets 8 8 (at d place ks ops l w) c (landed to.named d q ks ops) (bind (part_found k (x ∷ more) (spot_of (content_of d v w)) c l w) fetching)) end
-          (located_then k code ask (OneCell Fits Any) 8 8 v (x ∷ more) t s d place ks ops c l w (landed to.named d (place + length front + 1) ks ops) fetching (subst (Agree k code) (sym same) (agree_run k code placed_so steps t runs).0) long (laid_front code place front last has)
-          (λ p. takes_it p to ty d (place + length front) ks ops c l w fits (laid_back code place front last has).0))
+          let next = landed to.named d (place + length front + 1) ks ops in
+          subst (λ q. Gets 8 8 (at d place ks ops l w) c (landed to.named d q ks ops) (bind (find_by K (x ∷ more) v d c l w) fetching)) end
+          (located_then ask code K (OneCell Fits Any) next fetching d ks ops c l w 8 8 v (x ∷ more) t s place
+          (subst (λ ss. are_walked false ss ≡ true) (sym same) walked) (subst (Agree k code) (sym same) (agree_run k code placed_so steps t runs).0) uncopied long (laid_front code place front last has)
+          (λ p. takes_it p to ty d (place + length front) ks ops c l w fits (laid_back code place front last has).0)
+          (leaves_it to.named d (place + length front + 1) ks ops c l w fits))
 
-      pub component_value : ((n i : ℕ) (w : World) → Fits w → HoldsNoCopy (slot_at n i w)) → (find : List ℕ → Act Found) → find ≡ find_by K all v → (ty : Ty) → IsScalar ty → Value ask k code bound Fits (read (Some (Part v steps t position)) ty) (λ d. ticked (find d >>= read_found (cells_of k ty)))
+      pub component_value : ((n i : ℕ) (w : World) → Fits w → HoldsNoCopy (slot_at n i w)) → (find : List ℕ → Act Found) → find ≡ find_by K all v → (ty : Ty) → IsScalar ty → Value ask k code bound w0 (read (Some (Part v steps t position)) ty) (λ d. ticked (find d >>= read_found (cells_of k ty)))
       unfolding opened_outcome
       component_value uncopied find is ty scalar = record {
         begins = λ to u s d place ks ops c l w le fits long has. record {
-          out = bind (part_found k steps (spot_of (content_of d v w)) c l w) fetching;
-          is = reads_it d c l w ∙ ap (add 1) (reads_part d c l w fits);
-          runs = reads steps refl to u s d place ks ops c l w fits long has;
+          out = bind (find_by K steps v d c l w) fetching;
+          is = reads_it d c l w ∙ ap (add 1) (reads_part d c l w);
+          runs = reads steps refl to u s d place ks ops c l w fits (uncopied (master_of d v) v.slot w fits) long.2 has;
         };
         constant = λ n is1 d c l w. absurd (cc);
         variable = λ y is1 d c l w. absurd (cc);
@@ -121,14 +134,14 @@ module _ (ask : Ask) (k : Tables) (code : Code) (placed_so : ArePlaced k code) (
           reads_it : (d : List ℕ) (c : ℕ) (l : Log) (w : World) → ticked (find d >>= read_found (cells_of k ty)) c l w ≡ add 1 (bind (find_by K all v d c l w) (on_goes (read_found 1)))
           reads_it d c l w = ap (λ (f : List ℕ → Act Found). add 1 (bind (f d c l w) (on_goes (read_found (cells_of k ty))))) is ∙ ap (λ n. add 1 (bind (find_by K all v d c l w) (on_goes (read_found n)))) (scalar_cells k ty scalar)
 
-          reads_part : (d : List ℕ) (c : ℕ) (l : Log) (w : World) → Fits w → bind (find_by K all v d c l w) (on_goes (read_found 1)) ≡ bind (part_found k steps (spot_of (content_of d v w)) c l w) fetching
-          reads_part d c l w fits =
-              ap (λ o. bind o (on_goes (read_found 1))) (finds_part K v all selectors d c l w (uncopied (master_of d v) v.slot w fits) ∙ component_found k steps t position (spot_of (content_of d v w)) selectors c l w)
-              ∙ bind_bind (part_found k steps (spot_of (content_of d v w)) c l w) (on_goes (stepping k t position)) (on_goes (read_found 1))
+          reads_part : (d : List ℕ) (c : ℕ) (l : Log) (w : World) → bind (find_by K all v d c l w) (on_goes (read_found 1)) ≡ bind (find_by K steps v d c l w) fetching
+          reads_part d c l w =
+              ap (λ o. bind o (on_goes (read_found 1))) (component_found K v steps t position d c l w)
+              ∙ bind_bind (find_by K steps v d c l w) (on_goes (stepping k t position)) (on_goes (read_found 1))
 
     -- Assigning ---------------------------------------------------------------------------------------
 
-    module _ (bound : ℕ) (y : ValueCode) (act : List ℕ → Act (List ℕ)) (value : (w0 : World) → Value ask k code bound (Since k code w0) y act) where
+    module _ (bound : ℕ) (y : ValueCode) (act : List ℕ → Act (List ℕ)) (value : (w0 : World) → Value ask k code bound w0 y act) where
       -- a value is evaluated behind what finds the part, and goes into its component
       abbrev storing : List ℕ → Result Found → Act Done
       storing d r c l w = bind (on_goes (stepping k t position) r c l w) (on_goes (λ f. act d >>= write_found f))
@@ -149,7 +162,7 @@ module _ (ask : Ask) (k : Tables) (code : Code) (placed_so : ArePlaced k code) (
           by (Some o) go = last_step ask code (Kept k code w0) 8 8 _ c 0 (arrives e d (q + 1) ks ops) (Goes tt) l (write_cells p.object (p.offset + offset) (m ∷ []) w) (omega arith) (since_written k code p.object (p.offset + offset) (m ∷ []) w0 w fits) go
 
       -- over the part that has the component
-      part_stores : (p : Spot) (e : Target) (s : List Kind) (w0 : World) (d : List ℕ) (place : ℕ) (ks : List Frame) (ops : List Word) (c : ℕ) (l : Log) (w : World) → c ≤ bound → Since k code w0 w → length d ≡ depth s → Laid code place (store_part_code t position y s) → Runs ask code (Kept k code w0) 0 0 (at d place ks (Located p ∷ ops) l w) c (arrives e d (place + length (store_part_code t position y s)) ks ops) (storing d (Goes (found_at p)) c l w)
+      part_stores : (p : Spot) (e : Target) (s : List Kind) (w0 : World) (d : List ℕ) (place : ℕ) (ks : List Frame) (ops : List Word) (c : ℕ) (l : Log) (w : World) → c ≤ bound → Since k code w0 w → IsSeen w0 d s → Laid code place (store_part_code t position y s) → Runs ask code (Kept k code w0) 0 0 (at d place ks (Located p ∷ ops) l w) c (arrives e d (place + length (store_part_code t position y s)) ks ops) (storing d (Goes (found_at p)) c l w)
       unfolding opened_outcome
       part_stores p e s w0 d place ks ops c l w le fits long has =
           let over = Operand (Record t) ∷ s in
@@ -161,8 +174,8 @@ module _ (ask : Ask) (k : Tables) (code : Code) (placed_so : ArePlaced k code) (
           let end : q + 1 ≡ place + length (store_part_code t position y s) = omega (arith, length-append h.code ((i, h.after) ∷ [])) in
           added ask code (Kept k code w0) 1 0 0 0 0 _ c (arrives e d (place + length (store_part_code t position y s)) ks ops) (bind (act d c l w) (on_goes (write_found f))) (omega arith) (omega arith)
           (subst (λ z. Runs ask code (Kept k code w0) 0 0 (at d place ks (Located p ∷ ops) l w) c (arrives e d z ks ops) (bind (act d c l w) (on_goes (write_found f)))) end
-          (held_then ask k code bound (Since k code w0) (λ r. Since k code w0) h (λ m w1. Stays h.cell.named m d w1) act d place ks (Located p ∷ ops) c l w (arrives e d (q + 1) ks ops) (on_goes (write_found f))
-          (held_holds ask k code bound (Since k code w0) y.right y act refl (value w0) ty over d place ks (Located p ∷ ops) c l w le fits long (laid_front code place h.code ((i, h.after) ∷ []) has))
+          (held_then ask k code bound w0 (λ r. Since k code w0) h (λ m w1. Stays h.cell.named m d w1) act d place ks (Located p ∷ ops) c l w (arrives e d (q + 1) ks ops) (on_goes (write_found f))
+          (held_holds ask k code bound w0 y.right y act refl (value w0) ty over d place ks (Located p ∷ ops) c l w le fits long (laid_front code place h.code ((i, h.after) ∷ []) has))
           (λ m c1 l1 w1 lo fits1 stays. stores w0 h.cell p m e d q ks ops c1 l1 w1 fits1 stays (laid_back code place h.code ((i, h.after) ∷ []) has).0)
           (λ z c1 l1 w1 lo fits1. no_step ask code (Kept k code w0) 8 8 _ c1 0 (arrives e d (q + 1) ks ops) (Leaves (ByRaise z)) l1 w1 fits1 refl)))
 
@@ -172,15 +185,15 @@ module _ (ask : Ask) (k : Tables) (code : Code) (placed_so : ArePlaced k code) (
           let s = a.stack in
           let front = located_code v steps t s in
           let back = store_part_code t position y s in
-          let o = spot_of (content_of d v w) in
           let next = arrives (lands a place) d (place + length (assign_part_code v steps t position y s)) ks ops in
           let end : place + length front + length back ≡ place + length (assign_part_code v steps t position y s) = omega (arith, length-append front back) in
           let f : Result Found → Act Done = on_goes (λ z. act d >>= write_found z) in
           subst (Runs ask code (Kept k code w0) 0 0 (at d place ks ops l w) c next)
           (sym (ap (λ (g : List ℕ → Act Found). add 1 (bind (g d c l w) f)) is
-          ∙ ap (λ z. add 1 (bind z f)) (finds_part K v all selectors d c l w (no_copy_at k code (master_of d v) v.slot w fits.0) ∙ component_found k steps t position o selectors c l w)
-          ∙ ap (add 1) (bind_bind (part_found k steps o c l w) (on_goes (stepping k t position)) f)))
+          ∙ ap (λ z. add 1 (bind z f)) (component_found K v steps t position d c l w)
+          ∙ ap (add 1) (bind_bind (find_by K steps v d c l w) (on_goes (stepping k t position)) f)))
           (added ask code (Kept k code w0) 1 0 0 0 0 _ c next _ (omega arith) (omega arith)
-          (located_then k code ask (λ r. Since k code w0) 0 0 v steps t s d place ks ops c l w next (storing d) (agree_run k code placed_so steps t runs).0 sees.long (laid_front code place front back has)
+          (located_then ask code K (λ r. Since k code w0) next (storing d) d ks ops c l w 0 0 v steps t s place walked (agree_run k code placed_so steps t runs).0 (no_copy_at k code (master_of d v) v.slot w fits.0) sees.long (laid_front code place front back has)
           (λ p. subst (λ q. Runs ask code (Kept k code w0) 0 0 (at d (place + length front) ks (Located p ∷ ops) l w) c (arrives (lands a place) d q ks ops) (storing d (Goes (found_at p)) c l w)) end
-          (part_stores p (lands a place) s w0 d (place + length front) ks ops c l w le fits sees.long (laid_back code place front back has)))))
+          (part_stores p (lands a place) s w0 d (place + length front) ks ops c l w le fits (seen sees) (laid_back code place front back has)))
+          (no_step ask code (Kept k code w0) 0 0 _ c 0 next (Leaves (ByRaise constraint_error)) l w fits refl)))

@@ -10,9 +10,9 @@ use Rattle.ctl_meaning.specs.World.{Object, Holds, Declared, holding, Log, World
 use Rattle.ctl_meaning.specs.Lists.{last_of}
 use Rattle.ctl_meaning.specs.Activations.{master_of}
 use Rattle.ctl_meaning.specs.Objects.{cells_at}
-use Rattle.ctl_meaning.specs.Changes.{object_at, create, write_cells, set_slot, home_of}
+use Rattle.ctl_meaning.specs.Changes.{object_at, create, write_cells, set_slot, home_of, owner_of}
 use Rattle.ctl_meaning.specs.Choice.{Ask, picked}
-use Rattle.ctl_meaning.specs.Outcome.{program_error, Result, Goes, Leaves, Out, Gives, Stops, Act, Done, Fine, add, bind, on_goes, ◌>>=◌, ◌>>◌, done, nothing, raise, change, ticked, either, on_some, when, opened_outcome}
+use Rattle.ctl_meaning.specs.Outcome.{constraint_error, program_error, ByRaise, Result, Goes, Leaves, Out, Gives, Stops, Act, Done, Fine, add, bind, on_goes, ◌>>=◌, ◌>>◌, done, nothing, raise, change, ticked, either, on_some, when, opened_outcome}
 use Rattle.ctl_meaning.specs.Types.{Tables, Composite, category_of, depth, has_controlled, of_record, cells_of}
 use Rattle.ctl_meaning.specs.Names.{Found, Call, Default, Tools, gone, existing, read_found, read_part, write_part}
 use Rattle.ctl_meaning.specs.Expressions.{eval, if_given}
@@ -26,10 +26,10 @@ use Rattle.ctl_code.specs.declared.code.Parts.TheVariants as PartsOf
 use Rattle.ctl_code.specs.declared.code.Code.{Code}
 use Rattle.ctl_code.specs.declared.kinds.Kind.{Kind}
 use Rattle.ctl_code.specs.declared.kinds.Kind.TheVariants.{Operand}
-use Rattle.ctl_code.specs.States.{Word, Located, Complete, Point, Frame, Adjusting, Copying, Creating, State, whole_spot}
-use Rattle.ctl_code.specs.Valid.{IsDeclarable, has_part}
+use Rattle.ctl_code.specs.States.{Word, Located, Complete, Point, ByDeclaration, Frame, Adjusting, Copying, Creating, State, whole_spot}
+use Rattle.ctl_code.specs.Valid.{IsDeclarable}
 use Rattle.ctl_code.specs.Table as Table
-use Rattle.ctl_code.specs.Table.{controlled_of, handed, parts_of, size_of, spot_of, with_object}
+use Rattle.ctl_code.specs.Table.{controlled_of, handed, has_part, parts_of, size_of, with_object}
 use Rattle.ctl_code.specs.Steps.{moved, step}
 use Rattle.ctl_layout.specs.Around.{Line}
 use Rattle.ctl_layout.specs.Parts.{Reached, part_code, part_runs}
@@ -37,7 +37,8 @@ use Rattle.ctl_layout.specs.Values.{copied, value_code}
 use Rattle.ctl_layout.specs.Layout.{copy_of}
 use Rattle.ctl_gen.proofs.Known.{IsPlain, IsPlainType}
 use Rattle.ctl_gen.proofs.Sources.{copied_means}
-use Rattle.ctl_gen.proofs.Parts.{agree_part, content_of, finds_part, found_at, part_found, part_then, selectors_of, variable_of}
+use Rattle.ctl_gen.proofs.Parts.{agree_part, find_by, found_at, part_then}
+use Rattle.ctl_gen.proofs.Walked.{steps_of, variable_of}
 use Rattle.ctl_gen.proofs.Adjust.{untouched_is}
 use Rattle.ctl_gen.proofs.AdjustedParts.{Noted, hands, waiting_runs}
 use Rattle.ctl_gen.proofs.FailedParts.{Fallen, fallen_told}
@@ -51,7 +52,7 @@ use Rattle.ctl_gen.proofs.Setting.{Setting, Calls, Sees, Sure, returns, tools_wi
 use Rattle.ctl_gen.proofs.Cells.{by_code, here}
 use Rattle.ctl_gen.proofs.Place.{laid_front, laid_back}
 use Rattle.ctl_gen.proofs.Does.{Does}
-use Rattle.ctl_gen.proofs.Follow.{gives, way_of, Runs, Target, add_none, added, arrives, at, bind_add, bind_bind, both, lands, one_step, stop_step}
+use Rattle.ctl_gen.proofs.Follow.{gives, way_of, Runs, Target, add_none, added, arrives, at, bind_add, bind_bind, both, lands, no_step, one_step, stop_step}
 use Rattle.ctl_gen.proofs.Declare as D
 
 module _ (ask : Ask) (k : Tables) (code : Code) (setting : Setting k code) (call : Call) (default : Default) (constants : GivesDefaults k default) (t : ℕ) (r : RecordType) (record_is : slice_get k.records t ≡ Some r) (plain : IsPlain k t r) where
@@ -158,16 +159,16 @@ module _ (ask : Ask) (k : Tables) (code : Code) (setting : Setting k code) (call
         by false is =
             subst (λ x. Runs ask code (Kept k code w0) 2 4 s0 c next (bind x (stands n m))) (sym (lived_is (born m w2) n a c l w is))
             (added ask code (Kept k code w0) 0 1 3 2 4 s0 c next (stands n m (Goes tt) c l w) (omega arith) (omega arith)
-            (D.lives_on ask k code setting call default constants t r record_is plain [] w0 n e p ks s0 c l w (since_on k code w0 w1 w fits1 fits) (ap (λ b. moved l (Table.by_copying code (Fine (handed b)) n t a.paths p ks w)) is)))
+            (D.lives_on ask k code setting call default constants t r record_is plain w0 n e p ks s0 c l w (since_on k code w0 w1 w fits1 fits) (ap (λ b. moved l (Table.by_copying code (Fine (handed b)) n t a.paths p ks w)) is)))
         by true is =
-            both ask code (Fallen k code w1) (Kept k code w0) 1 1 1 3 2 4 s0 c (returns (Creating n t p ∷ ks)) next (adjusted K (born m w2) (whole_spot n) t a c l w) (stands n m) (omega arith) (omega arith) (omega arith)
-            (failed_copy_runs ask k code setting call default constants bound calls w1 around.0 fits1.0 (birth_of (Declared m) w2) a n t (Creating n t p ∷ ks) c l w s0 is around.1 plain_type held around.2 le fits (ap (λ b. moved l (Table.by_copying code (Fine (handed b)) n t a.paths p ks w)) is))
+            both ask code (Fallen k code w1) (Kept k code w0) 1 1 1 3 2 4 s0 c (returns (Creating ByDeclaration n t p ∷ ks)) next (adjusted K (born m w2) (whole_spot n) t a c l w) (stands n m) (omega arith) (omega arith) (omega arith)
+            (failed_copy_runs ask k code setting call default constants bound calls w1 around.0 fits1.0 (birth_of (Declared m) w2) a n t (Creating ByDeclaration n t p ∷ ks) c l w s0 is around.1 plain_type held around.2 le fits (ap (λ b. moved l (Table.by_copying code (Fine (handed b)) n t a.paths p ks w)) is))
             (λ x c1 l1 v lo fallen. D.stands_runs ask k code setting call default constants t r record_is plain bound calls w0 w1 n e p ks fits1 x c1 l1 v (fallen_told k code w1 v (way_of x) fallen))
 
     -- an object that has its value, and a controlled part, from the frame that has its parts adjusted
     adjusts_runs : (w0 w1 w2 : World) (n : ℕ) (e : Target) (p : Point) (ks : List Frame) → Since k code w0 w1 → IsAround code n t w1 → has_controlled k (Record t) ≡ true → (c : ℕ) (l : Log) (w : World) → c ≤ bound → Since k code w1 w
         → Runs ask code (Kept k code w0) 5 7 (gives (Adjusting (Some (last_of p.display)) (whole_spot n) t (controlled_of code t) ∷ Copying n t [] p ∷ ks) (Fine Complete) l w) c (arrives e p.display p.place ks p.operands) (standing n (last_of p.display) (adjust K (born (last_of p.display) w2) (whole n) (Record t) c l w))
-    unfolding birth_of unadjusted
+    unfolding birth_of owner_of unadjusted
     adjusts_runs w0 w1 w2 n e p ks fits1 around held c l w le fits =
         let m = last_of p.display in
         let next = arrives e p.display p.place ks p.operands in
@@ -198,7 +199,7 @@ module _ (ask : Ask) (k : Tables) (code : Code) (setting : Setting k code) (call
         subst (λ x. Runs ask code (Kept k code w0) 6 8 s0 c (arrives e p.display p.place ks p.operands) (standing n m x)) (sym (untouched_is ask k call default t plain_type (agrees.has ∙ ap has_part is) (agrees.itself ∙ ap is_itself is) (born m w2) (whole n) c l w))
         (subst (Runs ask code (Kept k code w0) 6 8 s0 c (arrives e p.display p.place ks p.operands)) (sym (D.standing_is ask k code setting call default constants t r record_is plain n m (Gives (Goes tt) 0 c l w)))
         (added ask code (Kept k code w0) 0 1 3 6 8 s0 c (arrives e p.display p.place ks p.operands) (stands n m (Goes tt) c l w) (omega arith) (omega arith)
-        (D.lives_on ask k code setting call default constants t r record_is plain [] w0 n e p ks s0 c l w (since_on k code w0 w1 w fits1 fits) first)))
+        (D.lives_on ask k code setting call default constants t r record_is plain w0 n e p ks s0 c l w (since_on k code w0 w1 w fits1 fits) first)))
     fills w0 w1 w2 n e p ks fits1 around s0 c l w le fits PartsOf.Within is first = waits w0 w1 w2 n e p ks fits1 around s0 c l w le fits ((setting.agrees default constants t plain_type).has ∙ ap has_part is) first
     fills w0 w1 w2 n e p ks fits1 around s0 c l w le fits PartsOf.Controlled is first = waits w0 w1 w2 n e p ks fits1 around s0 c l w le fits ((setting.agrees default constants t plain_type).has ∙ ap has_part is) first
 
@@ -236,18 +237,18 @@ module _ (ask : Ask) (k : Tables) (code : Code) (setting : Setting k code) (call
         let last : List Line = (InstrOf.DeclareCopy slot t, Operand (Record t) ∷ s) ∷ [] in
         let there = laid_back code place front last has in
         let declarable = subst (λ n. IsDeclarable code n t) (sym sees.long) (setting.valid.each (place + length front) (InstrOf.DeclareCopy slot t) (Operand (Record t) ∷ s) there.0 there.1).0 in
-        let o = part_found k (selectors_of x) (spot_of (content_of d v w)) c l w in
+        let o = find_by K (steps_of x) v d c l w in
         let next = arrives (lands a place) d (place + length (copy_of slot t x s)) ks ops in
         let end : place + length front + 1 ≡ place + length (copy_of slot t x s) = omega (arith, length-append front last) in
         subst (Runs ask code (Kept k code w0) 0 0 (at d place ks ops l w) c next)
         (sym (ap (λ (f : List ℕ → Act (List ℕ)). ticked ((f d >>= (λ u. done (Some u))) >>= declare Composite K (last_of d) slot (Record t)) c l w) known.reads
-        ∙ ap (λ y. add 1 (bind (bind (add 1 (bind y reading)) given) (declaring slot d))) (finds_part K v (selectors_of x) known.selectors d c l w (no_copy_at k code (master_of d v) v.slot w fits.0))
         ∙ ap (add 1) (found_is slot d o)))
         (added ask code (Kept k code w0) 1 0 0 0 0 _ c next (add 1 (bind o (found_then slot d))) (omega arith) (omega arith)
         (added ask code (Kept k code w0) 1 6 8 0 0 _ c next (bind o (found_then slot d)) (omega arith) (omega arith)
-        (part_then k code ask (λ r. Since k code w0) 6 8 x t s d place ks ops c l w next (found_then slot d) known.selectors (agree_part k code setting.places x runs) sees.long (laid_front code place front last has)
+        (part_then ask code K (λ r. Since k code w0) next (found_then slot d) d ks ops c l w 6 8 x t s place known.walked (agree_part k code setting.places x runs) (no_copy_at k code (master_of d v) v.slot w fits.0) sees.long (laid_front code place front last has)
         (λ p.
         subst (Runs ask code (Kept k code w0) 6 8 (at d (place + length front) ks (Located p ∷ ops) l w) c next) (sym (object_is slot d p c l w))
         (subst (λ q. Runs ask code (Kept k code w0) 6 8 (at d (place + length front) ks (Located p ∷ ops) l w) c (arrives (lands a place) d q ks ops) (add 0 (given_by slot d p.offset (object_at p.object w) c l w))) end
         (added ask code (Kept k code w0) 0 6 8 6 8 _ c (arrives (lands a place) d (place + length front + 1) ks ops) (given_by slot d p.offset (object_at p.object w) c l w) (omega arith) (omega arith)
-        (given_runs slot p (lands a place) s w0 d (place + length front) ks ops c l w le fits sees declarable there.0)))))))
+        (given_runs slot p (lands a place) s w0 d (place + length front) ks ops c l w le fits sees declarable there.0))))
+        (no_step ask code (Kept k code w0) 6 8 _ c 0 next (Leaves (ByRaise constraint_error)) l w fits refl))))

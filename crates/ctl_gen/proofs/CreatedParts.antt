@@ -7,9 +7,10 @@ use Rattle.ctl_program.specs.declared.operators.SubprogramKind.TheVariants.{Proc
 use Rattle.ctl_tree.specs.declared.ending.Stop.TheVariants.{UseAfterFree}
 use Rattle.ctl_tree.specs.declared.event.Event.{Event}
 use Rattle.ctl_tree.specs.declared.event.Event.TheVariants as EventOf
-use Rattle.ctl_meaning.specs.World.{Object, Declared, Binds, holding, Log, World}
+use Rattle.ctl_tree.specs.declared.event.Owner.{Owner}
+use Rattle.ctl_meaning.specs.World.{Object, Binds, holding, Log, World}
 use Rattle.ctl_meaning.specs.Lists.{pull_item, pull_rest}
-use Rattle.ctl_meaning.specs.Changes.{object_at, write_cells, home_of, owner_of}
+use Rattle.ctl_meaning.specs.Changes.{object_at, write_cells, home_of}
 use Rattle.ctl_meaning.specs.Choice.{Ask, picked}
 use Rattle.ctl_meaning.specs.Outcome.{Way, ByRaise, Result, Goes, Leaves, Out, Gives, Stops, Cut, Act, Done, Tried, Fine, Raised, add, after_pick, ticked, bind, on_goes, ◌>>=◌, ◌>>◌, nothing, tell, show, look, change, told, attempt, when, either, on_some, opened_outcome}
 use Rattle.ctl_meaning.specs.Types.{Tables, Placed, is_controlled, operation, of_record}
@@ -34,7 +35,7 @@ use Rattle.ctl_gen.proofs.Known.{IsPlainType}
 use Rattle.ctl_gen.proofs.Parted.{AgreesOn, AreBegun, BeginsBy, GivesDefaults, begun_length, begun_pulled, begun_rest, is_itself}
 use Rattle.ctl_gen.proofs.Picks.{picked_less, rest_length}
 use Rattle.ctl_gen.proofs.Plain.{scalar_of_record}
-use Rattle.ctl_gen.proofs.Worlds.{Fits, Since, since_written, still_home}
+use Rattle.ctl_gen.proofs.Worlds.{Fits, Since, since_written, still_home, origin_nested}
 use Rattle.ctl_gen.proofs.Scopes.{begun_inside, initialize_in, pulled_inside, rest_inside}
 use Rattle.ctl_gen.proofs.Complete.{AreSame, Progress, behind, begins, complete_paths, goes_on, initialized_parts, paths_in, placed_at}
 use Rattle.ctl_gen.proofs.FinalizedParts.{call_is}
@@ -80,8 +81,8 @@ module _ (ask : Ask) (k : Tables) (call : Call) (default : Default) where
   library_gone s c e l w at = ap (λ x. add 1 (on_some x gone (λ _. nothing) c l w)) at
 
 -- a part that is created
-abbrev pub new_part : Spot → ℕ → ℕ → Newborn
-new_part s t master = record { spot = s; type = t; master = master }
+abbrev pub new_part : Spot → ℕ → Owner → Newborn
+new_part s t owner = record { spot = s; type = t; owner = owner }
 
 -- the object of this number was there in an earlier world, and the type is declared in the masters around its operations
 abbrev pub IsAround : Code → ℕ → ℕ → World → Type 0
@@ -107,8 +108,8 @@ module _ (ask : Ask) (k : Tables) (code : Code) (setting : Setting k code) (call
   -- parts of the first so many types are created as the meaning says
   abbrev pub PartsRun : ℕ → Type 0
   PartsRun m =
-      (t : ℕ) → t < m → IsPlainType k (Record t) → (s : Spot) (master : ℕ) (born : Birth) → born.owner ≡ owner_of (Declared master) → (w0 : World) → Fits k code w0 → IsAround code s.object t w0 → (ks : List Frame) (c : ℕ) (l : Log) (w : World) → c ≤ bound → Since k code w0 w
-      → Runs ask code (Told k code w0) 3 3 (gives (Filling (new_part s t master) (begun_of code t) (begun_of code t) ∷ ks) (Fine Complete) l w) c (returns ks) (initialize_part K born m s t c l w)
+      (t : ℕ) → t < m → IsPlainType k (Record t) → (s : Spot) (owner : Owner) (born : Birth) → born.owner ≡ owner → (w0 : World) → Fits k code w0 → IsAround code s.object t w0 → (ks : List Frame) (c : ℕ) (l : Log) (w : World) → c ≤ bound → Since k code w0 w
+      → Runs ask code (Told k code w0) 3 3 (gives (Filling (new_part s t owner) (begun_of code t) (begun_of code t) ∷ ks) (Fine Complete) l w) c (returns ks) (initialize_part K born m s t c l w)
 
   -- What the creation means -----------------------------------------------------------------------------
 
@@ -227,82 +228,82 @@ module _ (ask : Ask) (k : Tables) (code : Code) (setting : Setting k code) (call
   -- What its code does ----------------------------------------------------------------------------------
 
   -- the part is complete, from the step that shows it
-  alive_runs : (born : Birth) (s : Spot) (t master : ℕ) → born.owner ≡ owner_of (Declared master) → (w0 : World) (ks : List Frame) (s0 : State) (c : ℕ) (l : Log) (w : World) → Since k code w0 w → step ask code s0 ≡ moved l (completed code (new_part s t master) ks w) → Runs ask code (Told k code w0) 1 1 s0 c (returns ks) (alive (operation (λ x. x.finalize) k t) born s c l w)
+  alive_runs : (born : Birth) (s : Spot) (t : ℕ) (owner : Owner) → born.owner ≡ owner → (w0 : World) (ks : List Frame) (s0 : State) (c : ℕ) (l : Log) (w : World) → Since k code w0 w → step ask code s0 ≡ moved l (completed code (new_part s t owner) ks w) → Runs ask code (Told k code w0) 1 1 s0 c (returns ks) (alive (operation (λ x. x.finalize) k t) born s c l w)
   unfolding opened_outcome
-  alive_runs born s t master owner w0 ks s0 c l w fits first = by (operation (λ x. x.finalize) k t) (first ∙ ap (λ g. moved l (showing (birth g (part_at s) master) (Giving (Fine Complete)) ks [] w)) (setting.finalize t))
+  alive_runs born s t owner owned w0 ks s0 c l w fits first = by (operation (λ x. x.finalize) k t) (first ∙ ap (λ g. moved l (showing (birth g (part_at s) owner) (Giving (Fine Complete)) ks [] w)) (setting.finalize t))
     where
-      by : (g : Option ℕ) → step ask code s0 ≡ moved l (showing (birth g (part_at s) master) (Giving (Fine Complete)) ks [] w) → Runs ask code (Told k code w0) 1 1 s0 c (returns ks) (alive g born s c l w)
+      by : (g : Option ℕ) → step ask code s0 ≡ moved l (showing (birth g (part_at s) owner) (Giving (Fine Complete)) ks [] w) → Runs ask code (Told k code w0) 1 1 s0 c (returns ks) (alive g born s c l w)
       by None go = end_step ask code (Told k code w0) {A = Done} 1 s0 c 0 (returns ks) (Goes tt) l w (tt, fits) go
-      by (Some f) go = end_step ask code (Told k code w0) {A = Done} 1 s0 c 0 (returns ks) (Goes tt) (tell (EventOf.Live (part_at s) born.owner) l) w (tt, fits) (go ∙ ap (λ o. gives ks (Fine Complete) (tell (EventOf.Live (part_at s) o) l) w) (sym owner))
+      by (Some f) go = end_step ask code (Told k code w0) {A = Done} 1 s0 c 0 (returns ks) (Goes tt) (tell (EventOf.Live (part_at s) born.owner) l) w (tt, fits) (go ∙ ap (λ o. gives ks (Fine Complete) (tell (EventOf.Live (part_at s) o) l) w) (sym owned))
 
-  module _ (t : ℕ) (plain : IsPlainType k (Record t)) (s : Spot) (master : ℕ) (born : Birth) (owner : born.owner ≡ owner_of (Declared master)) (w0 : World) (fits0 : Fits k code w0) (inside : IsAround code s.object t w0) (ks : List Frame) where
+  module _ (t : ℕ) (plain : IsPlainType k (Record t)) (s : Spot) (owner : Owner) (born : Birth) (owned : born.owner ≡ owner) (w0 : World) (fits0 : Fits k code w0) (inside : IsAround code s.object t w0) (ks : List Frame) where
     -- all the components but these are complete, and their controlled parts have these paths
     abbrev HavePaths : List Begun → List (List ℕ) → Type 0
     HavePaths left paths = AreSame K s paths (paths_in K s (placed_at (behind left) (initialized_parts k t)))
 
     -- after its own Initialize the part is complete, or is cleaned up
-    called_runs : (paths : List (List ℕ)) → HavePaths [] paths → (s0 : State) (c : ℕ) (o : Out Returned) → c ≤ bound → Runs ask code (Told k code w0) 2 3 s0 c (returns (Initializing (new_part s t master) ∷ ks)) o → Runs ask code (Told k code w0) 3 3 s0 c (returns ks) (bind (bind o (on_goes (λ _. nothing))) (own_then born s t paths))
+    called_runs : (paths : List (List ℕ)) → HavePaths [] paths → (s0 : State) (c : ℕ) (o : Out Returned) → c ≤ bound → Runs ask code (Told k code w0) 2 3 s0 c (returns (Initializing (new_part s t owner) ∷ ks)) o → Runs ask code (Told k code w0) 3 3 s0 c (returns ks) (bind (bind o (on_goes (λ _. nothing))) (own_then born s t paths))
     unfolding picked opened_outcome
     called_runs paths clean s0 c o le z =
         subst (Runs ask code (Told k code w0) 3 3 s0 c (returns ks)) (sym (bind_bind o (on_goes (λ _. nothing)) (own_then born s t paths)))
-        (both ask code (Told k code w0) (Told k code w0) 2 3 1 1 3 3 s0 c (returns (Initializing (new_part s t master) ∷ ks)) (returns ks) o _ (omega arith) (omega arith) (omega arith) z over)
+        (both ask code (Told k code w0) (Told k code w0) 2 3 1 1 3 3 s0 c (returns (Initializing (new_part s t owner) ∷ ks)) (returns ks) o _ (omega arith) (omega arith) (omega arith) z over)
       where
-        over : (r : Result Returned) (c1 : ℕ) (l1 : Log) (w1 : World) → c1 ≤ c → Told k code w0 (way_of r) w1 → Runs ask code (Told k code w0) 1 1 (returns (Initializing (new_part s t master) ∷ ks) r l1 w1) c1 (returns ks) (bind (on_goes (λ _. nothing) r c1 l1 w1) (own_then born s t paths))
+        over : (r : Result Returned) (c1 : ℕ) (l1 : Log) (w1 : World) → c1 ≤ c → Told k code w0 (way_of r) w1 → Runs ask code (Told k code w0) 1 1 (returns (Initializing (new_part s t owner) ∷ ks) r l1 w1) c1 (returns ks) (bind (on_goes (λ _. nothing) r c1 l1 w1) (own_then born s t paths))
         over (Goes u) c1 l1 w1 lo told1 =
-            subst (Runs ask code (Told k code w0) 1 1 (gives (Initializing (new_part s t master) ∷ ks) (Fine Complete) l1 w1) c1 (returns ks)) (sym (ap (add 0) (own_done born s t paths c1 l1 w1)))
+            subst (Runs ask code (Told k code w0) 1 1 (gives (Initializing (new_part s t owner) ∷ ks) (Fine Complete) l1 w1) c1 (returns ks)) (sym (ap (add 0) (own_done born s t paths c1 l1 w1)))
             (added ask code (Told k code w0) 0 1 1 1 1 _ c1 (returns ks) _ (omega arith) (omega arith)
             (added ask code (Told k code w0) 0 1 1 1 1 _ c1 (returns ks) _ (omega arith) (omega arith)
-            (alive_runs born s t master owner w0 ks _ c1 l1 w1 told1.1 refl)))
+            (alive_runs born s t owner owned w0 ks _ c1 l1 w1 told1.1 refl)))
         over (Leaves y) c1 l1 w1 lo told1 =
-            by_raise (λ v. Runs ask code (Told k code w0) 1 1 (returns {A = Returned} (Initializing (new_part s t master) ∷ ks) (Leaves v) l1 w1) c1 (returns ks) (bind (on_goes {A = Returned} (λ _. nothing) (Leaves v) c1 l1 w1) (own_then born s t paths)))
+            by_raise (λ v. Runs ask code (Told k code w0) 1 1 (returns {A = Returned} (Initializing (new_part s t owner) ∷ ks) (Leaves v) l1 w1) c1 (returns ks) (bind (on_goes {A = Returned} (λ _. nothing) (Leaves v) c1 l1 w1) (own_then born s t paths)))
             (λ e.
-            subst (Runs ask code (Told k code w0) 1 1 (gives (Initializing (new_part s t master) ∷ ks) (Raised e) l1 w1) c1 (returns ks)) (sym (ap (add 0) (own_raised born s t paths e c1 l1 w1)))
+            subst (Runs ask code (Told k code w0) 1 1 (gives (Initializing (new_part s t owner) ∷ ks) (Raised e) l1 w1) c1 (returns ks)) (sym (ap (add 0) (own_raised born s t paths e c1 l1 w1)))
             (added ask code (Told k code w0) 0 1 1 1 1 _ c1 (returns ks) _ (omega arith) (omega arith)
             (added ask code (Told k code w0) 0 0 0 1 1 _ c1 (returns ks) _ (omega arith) (omega arith)
             (clean_up_runs s t [] paths e w0 ks c1 l1 w1 _ plain (omega (arith, lo, le)) fits0 inside told1.1 clean (ap (λ xs. moved l1 (fail s xs e ks w1)) (sym (all_complete code t)))))))
             y told1.0
 
     -- the part itself, once its components have begun
-    own_runs : AgreesOn k code default t → (incomplete : List Begun) (paths : List (List ℕ)) (c : ℕ) (l : Log) (w : World) → c ≤ bound → Since k code w0 w → HavePaths [] paths → Runs ask code (Told k code w0) 3 3 (gives (Filling (new_part s t master) [] incomplete ∷ ks) (Fine Complete) l w) c (returns ks) (bind (own_initialize K s t paths c l w) (on_goes (begun K born s t)))
+    own_runs : AgreesOn k code default t → (incomplete : List Begun) (paths : List (List ℕ)) (c : ℕ) (l : Log) (w : World) → c ≤ bound → Since k code w0 w → HavePaths [] paths → Runs ask code (Told k code w0) 3 3 (gives (Filling (new_part s t owner) [] incomplete ∷ ks) (Fine Complete) l w) c (returns ks) (bind (own_initialize K s t paths c l w) (on_goes (begun K born s t)))
     unfolding picked opened_outcome
     own_runs agrees incomplete paths c l w le fits clean = by (parts_of code t) agrees.itself refl
       where
         s0 : State
-        s0 = gives (Filling (new_part s t master) [] incomplete ∷ ks) (Fine Complete) l w
+        s0 = gives (Filling (new_part s t owner) [] incomplete ∷ ks) (Fine Complete) l w
 
         goal : Out Done → Type 0
-        goal o = Runs ask code (Told k code w0) 3 3 (gives (Filling (new_part s t master) [] incomplete ∷ ks) (Fine Complete) l w) c (returns ks) o
+        goal o = Runs ask code (Told k code w0) 3 3 (gives (Filling (new_part s t owner) [] incomplete ∷ ks) (Fine Complete) l w) c (returns ks) o
 
-        starts_by : (g : Option ℕ) (o : Option Object) → operation (λ z. z.initialize) k t ≡ g → object_at s.object w ≡ o → step ask code (gives (Filling (new_part s t master) [] incomplete ∷ ks) (Fine Complete) l w) ≡ moved l (initialize_by code g (new_part s t master) o ks w) → goal (bind (call_operation K s g (starts s) c l w) (own_then born s t paths))
+        starts_by : (g : Option ℕ) (o : Option Object) → operation (λ z. z.initialize) k t ≡ g → object_at s.object w ≡ o → step ask code (gives (Filling (new_part s t owner) [] incomplete ∷ ks) (Fine Complete) l w) ≡ moved l (initialize_by code g (new_part s t owner) o ks w) → goal (bind (call_operation K s g (starts s) c l w) (own_then born s t paths))
         starts_by None None op at go = subst goal (sym (ap (λ y. bind y (own_then born s t paths)) (library_gone ask k call default s c (starts s) l w at))) (stop_step ask code (Told k code w0) {A = Done} 3 3 _ _ c 1 (returns ks) UseAfterFree l (omega arith) go refl refl)
         starts_by None (Some o) op at go =
             subst goal (sym (ap (λ y. bind y (own_then born s t paths)) (library_is ask k call default s c (starts s) l w o at) ∙ ap (add 1) (own_done born s t paths c l w)))
             (added ask code (Told k code w0) 1 3 3 3 3 _ c (returns ks) _ (omega arith) (omega arith)
             (added ask code (Told k code w0) 0 1 1 3 3 _ c (returns ks) _ (omega arith) (omega arith)
-            (alive_runs born s t master owner w0 ks _ c l w fits go)))
+            (alive_runs born s t owner owned w0 ks _ c l w fits go)))
         starts_by (Some f) None op at go = subst goal (sym (ap (λ y. bind y (own_then born s t paths)) (call_gone ask k call default f s c (starts s) l w at))) (stop_step ask code (Told k code w0) {A = Done} 3 3 _ _ c 0 (returns ks) UseAfterFree l (omega arith) go refl refl)
         starts_by (Some f) (Some o) op at go =
             let body = setting.initialize_body t f op in
             let here = subst (λ (d : List ℕ). IsDeclarable code (length d) t) (sym (still_home k code s.object w0 w inside.0 o fits0 fits.1 inside.1 at)) inside.2 in
             subst goal (sym (ap (λ y. bind y (own_then born s t paths)) (called_is ask k call default f s c (starts s) l w o at)))
             (called_runs paths clean _ c _ le
-            (calls.runs f body.0 body.1 w0 (home_of o.origin w) (holding (Binds s.object s.offset s.path) ∷ []) AfterBody (Initializing (new_part s t master) ∷ ks) c (tell (starts s) l) w _ Procedure 1 tt le fits (initialize_in code setting.valid (length (home_of o.origin w)) t f here (setting.initialize t ∙ op)) (tt, tt)
-            (go ∙ enter_shows (slice_get code.entries.items f) (starts s) (home_of o.origin w) (holding (Binds s.object s.offset s.path) ∷ []) AfterBody (Initializing (new_part s t master) ∷ ks) l w)))
+            (calls.runs f body.0 body.1 w0 (home_of o.origin w) (holding (Binds s.object s.offset s.path) ∷ []) AfterBody (Initializing (new_part s t owner) ∷ ks) c (tell (starts s) l) w _ Procedure 1 tt le fits (initialize_in code setting.valid (length (home_of o.origin w)) t f here (setting.initialize t ∙ op)) (origin_nested k code o.origin w fits.0) (tt, tt)
+            (go ∙ enter_shows (slice_get code.entries.items f) (starts s) (home_of o.origin w) (holding (Binds s.object s.offset s.path) ∷ []) AfterBody (Initializing (new_part s t owner) ∷ ks) l w)))
 
-        free : is_controlled k t ≡ false → step ask code (gives (Filling (new_part s t master) [] incomplete ∷ ks) (Fine Complete) l w) ≡ gives ks (Fine Complete) l w → goal (bind (own_initialize K s t paths c l w) (on_goes (begun K born s t)))
+        free : is_controlled k t ≡ false → step ask code (gives (Filling (new_part s t owner) [] incomplete ∷ ks) (Fine Complete) l w) ≡ gives ks (Fine Complete) l w → goal (bind (own_initialize K s t paths c l w) (on_goes (begun K born s t)))
         free is go = subst goal (sym (none_is born s t paths c l w is)) (within ask code (Told k code w0) {A = Done} 1 3 3 3 s0 c (returns ks) (Gives (Goes tt) 0 c l w) (omega arith) (omega arith) (end_step ask code (Told k code w0) {A = Done} 3 s0 c 0 (returns ks) (Goes tt) l w (tt, fits) go))
 
         by : (q : Parts) → is_controlled k t ≡ is_itself q → parts_of code t ≡ q → goal (bind (own_initialize K s t paths c l w) (on_goes (begun K born s t)))
-        by Plain is e = free is (ap (λ q. moved l (initialize_own code q (new_part s t master) ks w)) e)
-        by Within is e = free is (ap (λ q. moved l (initialize_own code q (new_part s t master) ks w)) e)
+        by Plain is e = free is (ap (λ q. moved l (initialize_own code q (new_part s t owner) ks w)) e)
+        by Within is e = free is (ap (λ q. moved l (initialize_own code q (new_part s t owner) ks w)) e)
         by Controlled is e =
             subst goal (sym (own_is born s t paths (operation (λ z. z.initialize) k t) c l w refl is))
-            (starts_by (operation (λ z. z.initialize) k t) (object_at s.object w) refl refl (ap (λ q. moved l (initialize_own code q (new_part s t master) ks w)) e ∙ ap (λ g. moved l (initialize_by code g (new_part s t master) (object_at s.object w) ks w)) (setting.initialize t)))
+            (starts_by (operation (λ z. z.initialize) k t) (object_at s.object w) refl refl (ap (λ q. moved l (initialize_own code q (new_part s t owner) ks w)) e ∙ ap (λ g. moved l (initialize_by code g (new_part s t owner) (object_at s.object w) ks w)) (setting.initialize t)))
 
     -- what the frame that fills a part does with the component that is chosen
     fill_step : (count : ℕ) (incomplete : List Begun) (l : Log) (w : World) (b : Begun) (bs : List Begun) (o : Option (ℕ × Log)) → length (b ∷ bs) ≡ suc count → picked ask (suc count) l ≡ o
-        → step ask code (gives (Filling (new_part s t master) (b ∷ bs) incomplete ∷ ks) (Fine Complete) l w) ≡ stepped code (gives (Filling (new_part s t master) (b ∷ bs) incomplete ∷ ks) (Fine Complete) l w) o
-    fill_step count incomplete l w b bs o long is = ap (λ j. stepped code (gives (Filling (new_part s t master) (b ∷ bs) incomplete ∷ ks) (Fine Complete) l w) (picked ask j l)) long ∙ ap (stepped code (gives (Filling (new_part s t master) (b ∷ bs) incomplete ∷ ks) (Fine Complete) l w)) is
+        → step ask code (gives (Filling (new_part s t owner) (b ∷ bs) incomplete ∷ ks) (Fine Complete) l w) ≡ stepped code (gives (Filling (new_part s t owner) (b ∷ bs) incomplete ∷ ks) (Fine Complete) l w) o
+    fill_step count incomplete l w b bs o long is = ap (λ j. stepped code (gives (Filling (new_part s t owner) (b ∷ bs) incomplete ∷ ks) (Fine Complete) l w) (picked ask j l)) long ∙ ap (stepped code (gives (Filling (new_part s t owner) (b ∷ bs) incomplete ∷ ks) (Fine Complete) l w)) is
 
     module _ (agrees : AgreesOn k code default t) (m : ℕ) (parts : PartsRun m) (old : t < suc m) where
       -- the types of components are declared where the whole is
@@ -313,7 +314,7 @@ module _ (ask : Ask) (k : Tables) (code : Code) (setting : Setting k code) (call
       abbrev Others : ℕ → Type 0
       Others count =
           (c : ℕ) (l : Log) (w : World) (left : List Placed) (items incomplete : List Begun) (paths : List (List ℕ)) → c ≤ bound → length left ≡ count → AreBegun k default t left items → AreAround items → Progress K s (initialized_parts k t) left items paths → Since k code w0 w
-          → Runs ask code (Told k code w0) 3 3 (gives (Filling (new_part s t master) items incomplete ∷ ks) (Fine Complete) l w) c (returns ks) (bind (each m born s t count left paths c l w) (after born s t))
+          → Runs ask code (Told k code w0) 3 3 (gives (Filling (new_part s t owner) items incomplete ∷ ks) (Fine Complete) l w) c (returns ks) (bind (each m born s t count left paths c l w) (after born s t))
 
       -- the components that are left are these, one of them is chosen, and so many others remain
       abbrev Stands : ℕ → ℕ → List Placed → List Begun → List (List ℕ) → Type 0
@@ -321,22 +322,22 @@ module _ (ask : Ask) (k : Tables) (code : Code) (setting : Setting k code) (call
 
       -- after one that is complete
       goes_runs : (count i : ℕ) (left : List Placed) (items : List Begun) (paths : List (List ℕ)) (y : Begun) → Others count → Stands count i left items paths → (incomplete : List Begun) (c : ℕ) (l : Log) (w : World) → c ≤ bound → Since k code w0 w
-          → Runs ask code (Told k code w0) 3 3 (gives (Filling (new_part s t master) (pull_rest i items) incomplete ∷ ks) (Fine Complete) l w) c (returns ks) (one_more m born s t count i left paths (Goes tt) c l w)
+          → Runs ask code (Told k code w0) 3 3 (gives (Filling (new_part s t owner) (pull_rest i items) incomplete ∷ ks) (Fine Complete) l w) c (returns ks) (one_more m born s t count i left paths (Goes tt) c l w)
       goes_runs count i left items paths y others h incomplete c l w le fits =
-          subst (Runs ask code (Told k code w0) 3 3 (gives (Filling (new_part s t master) (pull_rest i items) incomplete ∷ ks) (Fine Complete) l w) c (returns ks)) (sym (more_is m born s t count i c left paths l w))
+          subst (Runs ask code (Told k code w0) 3 3 (gives (Filling (new_part s t owner) (pull_rest i items) incomplete ∷ ks) (Fine Complete) l w) c (returns ks)) (sym (more_is m born s t count i c left paths l w))
           (added ask code (Told k code w0) 0 3 3 3 3 _ c (returns ks) _ (omega arith) (omega arith)
           (others c l w (pull_rest i left) (pull_rest i items) incomplete (paths ++ paths_of K s (pull_item no_component i left)) le (rest_length i count left h.1 h.0) (begun_rest k default t i left items h.2) (rest_inside code (length (home_of inside.0.origin w0)) i items h.3)
           (goes_on K s k default t i (initialized_parts k t) left items paths y h.2 h.1 (begun_pulled k default t no_component y i left items h.2 h.1) h.4) fits))
 
       -- and after one that raised
       after_one : (count i : ℕ) (left : List Placed) (items : List Begun) (paths : List (List ℕ)) (y : Begun) → Others count → Stands count i left items paths → (c : ℕ) → c ≤ bound
-          → (r : Result Done) (c1 : ℕ) (l1 : Log) (w1 : World) → c1 ≤ c → Told k code w0 (way_of r) w1 → Runs ask code (Told k code w0) 3 3 (returns (Filling (new_part s t master) (pull_rest i items) items ∷ ks) r l1 w1) c1 (returns ks) (one_more m born s t count i left paths r c1 l1 w1)
+          → (r : Result Done) (c1 : ℕ) (l1 : Log) (w1 : World) → c1 ≤ c → Told k code w0 (way_of r) w1 → Runs ask code (Told k code w0) 3 3 (returns (Filling (new_part s t owner) (pull_rest i items) items ∷ ks) r l1 w1) c1 (returns ks) (one_more m born s t count i left paths r c1 l1 w1)
       unfolding picked
       after_one count i left items paths y others h c le (Goes u) c1 l1 w1 lo told1 = goes_runs count i left items paths y others h items c1 l1 w1 (omega (arith, lo, le)) told1.1
       after_one count i left items paths y others h c le (Leaves v) c1 l1 w1 lo told1 =
-          by_raise (λ z. Runs ask code (Told k code w0) 3 3 (returns {A = Done} (Filling (new_part s t master) (pull_rest i items) items ∷ ks) (Leaves z) l1 w1) c1 (returns ks) (one_more m born s t count i left paths (Leaves z) c1 l1 w1))
+          by_raise (λ z. Runs ask code (Told k code w0) 3 3 (returns {A = Done} (Filling (new_part s t owner) (pull_rest i items) items ∷ ks) (Leaves z) l1 w1) c1 (returns ks) (one_more m born s t count i left paths (Leaves z) c1 l1 w1))
           (λ e.
-          subst (Runs ask code (Told k code w0) 3 3 (gives (Filling (new_part s t master) (pull_rest i items) items ∷ ks) (Raised e) l1 w1) c1 (returns ks)) (sym (raised_is m born s t count i e c1 left paths l1 w1))
+          subst (Runs ask code (Told k code w0) 3 3 (gives (Filling (new_part s t owner) (pull_rest i items) items ∷ ks) (Raised e) l1 w1) c1 (returns ks)) (sym (raised_is m born s t count i e c1 left paths l1 w1))
           (added ask code (Told k code w0) 0 3 3 3 3 _ c1 (returns ks) _ (omega arith) (omega arith)
           (added ask code (Told k code w0) 0 0 0 3 3 _ c1 (returns ks) _ (omega arith) (omega arith)
           (clean_up_runs s t items paths e w0 ks c1 l1 w1 _ plain (omega (arith, lo, le)) fits0 inside told1.1 (complete_paths K s k default t (initialized_parts k t) left items paths h.2 h.4) refl))))
@@ -345,35 +346,35 @@ module _ (ask : Ask) (k : Tables) (code : Code) (setting : Setting k code) (call
       -- the one that is chosen, from the step that begins it
       chosen_runs : (count i : ℕ) (left : List Placed) (items : List Begun) (paths : List (List ℕ)) (y : Begun) → Others count → Stands count i left items paths → (c : ℕ) (l : Log) (w : World) → c ≤ bound → Since k code w0 w
           → (place position : ℕ) → place ≡ (pull_item no_component i left).offset → position ≡ (pull_item no_component i left).position → (j : Initial) → BeginsBy k default t (pull_item no_component i left) j → IsBegunBy code (length (home_of inside.0.origin w0)) j
-          → (s0 : State) → step ask code s0 ≡ moved l (Table.begin_component code (new_part s t master) (record { position = position; offset = place; initial = j }) j (pull_rest i items) items ks w)
+          → (s0 : State) → step ask code s0 ≡ moved l (Table.begin_component code (new_part s t owner) (record { position = position; offset = place; initial = j }) j (pull_rest i items) items ks w)
           → Runs ask code (Told k code w0) 30 30 s0 c (returns ks) (bind (begin_component K born (initialize_part K born m) s t (pull_item no_component i left) c l w) (one_more m born s t count i left paths))
       unfolding opened_outcome
       chosen_runs count i left items paths y others h c l w le fits place position offset number (Constant v) begins_by declared s0 first =
           subst (λ o. Runs ask code (Told k code w0) 30 30 s0 c (returns ks) (bind o (one_more m born s t count i left paths))) (sym (constant_is m born s t (pull_item no_component i left) v place c l w offset begins_by))
           (filled (object_at s.object w) first)
         where
-          filled : (o : Option Object) → step ask code s0 ≡ moved l (take_default (new_part s t master) place v (pull_rest i items) o ks w) → Runs ask code (Told k code w0) 30 30 s0 c (returns ks) (bind (one_filled s.object (s.offset + place) v c l w o) (one_more m born s t count i left paths))
+          filled : (o : Option Object) → step ask code s0 ≡ moved l (take_default (new_part s t owner) place v (pull_rest i items) o ks w) → Runs ask code (Told k code w0) 30 30 s0 c (returns ks) (bind (one_filled s.object (s.offset + place) v c l w o) (one_more m born s t count i left paths))
           filled None go = stop_step ask code (Told k code w0) {A = Done} 30 30 s0 _ c 1 (returns ks) UseAfterFree l (omega arith) go refl refl
           filled (Some o) go =
               let w1 = write_cells s.object (s.offset + place) (v ∷ []) w in
-              one_step ask code (Told k code w0) 3 3 30 30 s0 (gives (Filling (new_part s t master) (pull_rest i items) (pull_rest i items) ∷ ks) (Fine Complete) l w1) c c (returns ks) (add 1 (one_more m born s t count i left paths (Goes tt) c l w1)) (omega arith) (omega arith) (omega arith) (omega arith) go
-              (added ask code (Told k code w0) 1 3 3 3 3 (gives (Filling (new_part s t master) (pull_rest i items) (pull_rest i items) ∷ ks) (Fine Complete) l w1) c (returns ks) (one_more m born s t count i left paths (Goes tt) c l w1) (omega arith) (omega arith)
+              one_step ask code (Told k code w0) 3 3 30 30 s0 (gives (Filling (new_part s t owner) (pull_rest i items) (pull_rest i items) ∷ ks) (Fine Complete) l w1) c c (returns ks) (add 1 (one_more m born s t count i left paths (Goes tt) c l w1)) (omega arith) (omega arith) (omega arith) (omega arith) go
+              (added ask code (Told k code w0) 1 3 3 3 3 (gives (Filling (new_part s t owner) (pull_rest i items) (pull_rest i items) ∷ ks) (Fine Complete) l w1) c (returns ks) (one_more m born s t count i left paths (Goes tt) c l w1) (omega arith) (omega arith)
               (goes_runs count i left items paths y others h (pull_rest i items) c l w1 le (since_written k code s.object (s.offset + place) (v ∷ []) w0 w fits)))
       chosen_runs count i left items paths y others h c l w le fits place position offset number (ByType u) begins_by declared s0 first =
           let part = component_of s place position in
-          let mid = Filling (new_part s t master) (pull_rest i items) items ∷ ks in
-          let s1 = gives (Filling (new_part part u master) (begun_of code u) (begun_of code u) ∷ mid) (Fine Complete) l w in
+          let mid = Filling (new_part s t owner) (pull_rest i items) items ∷ ks in
+          let s1 = gives (Filling (new_part part u owner) (begun_of code u) (begun_of code u) ∷ mid) (Fine Complete) l w in
           let older = begins_by.2 in
           subst (λ o. Runs ask code (Told k code w0) 30 30 s0 c (returns ks) (bind o (one_more m born s t count i left paths))) (sym (record_is m born s t (pull_item no_component i left) u place position c l w offset number begins_by))
           (one_step ask code (Told k code w0) 20 20 30 30 s0 s1 c c (returns ks) (bind (initialize_part K born m part u c l w) (one_more m born s t count i left paths)) (omega arith) (omega arith) (omega arith) (omega arith) first
           (both ask code (Told k code w0) (Told k code w0) 3 3 3 3 20 20 s1 c (returns mid) (returns ks) (initialize_part K born m part u c l w) (one_more m born s t count i left paths) (omega arith) (omega arith) (omega arith)
-          (parts u (omega (arith, older, old)) begins_by.3 part master born owner w0 fits0 (inside.0, inside.1, declared) mid c l w le fits)
+          (parts u (omega (arith, older, old)) begins_by.3 part owner born owned w0 fits0 (inside.0, inside.1, declared) mid c l w le fits)
           (after_one count i left items paths y others h c le)))
 
       each_runs : (count : ℕ) → Others count
       unfolding picked
       each_runs zero c l w [] [] incomplete paths le long are around progress fits =
-          subst (Runs ask code (Told k code w0) 3 3 (gives (Filling (new_part s t master) [] incomplete ∷ ks) (Fine Complete) l w) c (returns ks)) (sym (each_over m born s t c [] paths l w))
+          subst (Runs ask code (Told k code w0) 3 3 (gives (Filling (new_part s t owner) [] incomplete ∷ ks) (Fine Complete) l w) c (returns ks)) (sym (each_over m born s t c [] paths l w))
           (added ask code (Told k code w0) 0 3 3 3 3 _ c (returns ks) _ (omega arith) (omega arith)
           (own_runs agrees incomplete paths c l w le fits (complete_paths K s k default t (initialized_parts k t) [] [] paths are progress)))
       each_runs zero c l w [] (b ∷ bs) incomplete paths le long are around progress fits = absurd are
@@ -383,7 +384,7 @@ module _ (ask : Ask) (k : Tables) (code : Code) (setting : Setting k code) (call
       each_runs (suc count) c l w (q ∷ qs) (b ∷ bs) incomplete paths le long are around progress fits = by (each_runs count) (picked ask (suc count) l) refl
         where
           s0 : State
-          s0 = gives (Filling (new_part s t master) (b ∷ bs) incomplete ∷ ks) (Fine Complete) l w
+          s0 = gives (Filling (new_part s t owner) (b ∷ bs) incomplete ∷ ks) (Fine Complete) l w
 
           goal : Out Done → Type 0
           goal o = Runs ask code (Told k code w0) 3 3 s0 c (returns ks) o
@@ -406,9 +407,9 @@ module _ (ask : Ask) (k : Tables) (code : Code) (setting : Setting k code) (call
   -- Parts of parts --------------------------------------------------------------------------------------
 
   pub parts_run : (m : ℕ) → PartsRun m
-  parts_run zero t less plain s master born owner w0 fits0 inside ks c l w le fits = absurd (omega (arith, less))
-  parts_run (suc m) t less plain s master born owner w0 fits0 inside ks c l w le fits =
+  parts_run zero t less plain s owner born owned w0 fits0 inside ks c l w le fits = absurd (omega (arith, less))
+  parts_run (suc m) t less plain s owner born owned w0 fits0 inside ks c l w le fits =
       let agrees = setting.agrees default constants t plain in
-      subst (Runs ask code (Told k code w0) 3 3 (gives (Filling (new_part s t master) (begun_of code t) (begun_of code t) ∷ ks) (Fine Complete) l w) c (returns ks)) (sym (part_is m born s t c l w))
-      (each_runs t plain s master born owner w0 fits0 inside ks agrees m (parts_run m) less (length (initialized_parts k t)) c l w (initialized_parts k t) (begun_of code t) (begun_of code t) [] le refl agrees.begun (begun_inside code setting.valid (length (home_of inside.0.origin w0)) t inside.2)
+      subst (Runs ask code (Told k code w0) 3 3 (gives (Filling (new_part s t owner) (begun_of code t) (begun_of code t) ∷ ks) (Fine Complete) l w) c (returns ks)) (sym (part_is m born s t c l w))
+      (each_runs t plain s owner born owned w0 fits0 inside ks agrees m (parts_run m) less (length (initialized_parts k t)) c l w (initialized_parts k t) (begun_of code t) (begun_of code t) [] le refl agrees.begun (begun_inside code setting.valid (length (home_of inside.0.origin w0)) t inside.2)
       (begins K s (initialized_parts k t) (begun_of code t) (positions_rise code setting.valid (length (home_of inside.0.origin w0)) t inside.2)) fits)

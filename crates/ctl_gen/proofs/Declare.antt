@@ -6,11 +6,11 @@ use Rattle.std.proofs.lemmas.Option.{slice_get_within}
 use Rattle.ctl_program.specs.declared.types.Ty.TheVariants.{Record}
 use Rattle.ctl_program.specs.declared.types.RecordType.{RecordType}
 use Rattle.ctl_tree.specs.declared.ending.Stop.TheVariants.{UseAfterFree}
-use Rattle.ctl_tree.specs.declared.event.Event.{Event}
+use Rattle.ctl_tree.specs.declared.event.Owner.TheVariants as OwnerOf
 use Rattle.ctl_meaning.specs.World.{Object, Declared, Single, Holds, holding, Log, World}
 use Rattle.ctl_meaning.specs.Lists.{first_with, last_of, opened_lists}
 use Rattle.ctl_meaning.specs.Objects.{object_in}
-use Rattle.ctl_meaning.specs.Changes.{object_at, create, set_slot, add_layer, opened_changes}
+use Rattle.ctl_meaning.specs.Changes.{object_at, create, set_slot, add_layer, owner_of, opened_changes}
 use Rattle.ctl_meaning.specs.Choice.{Ask, picked}
 use Rattle.ctl_meaning.specs.Outcome.{ByRaise, Result, Goes, Leaves, Out, Act, Done, Fine, add, bind, on_goes, nothing, change, on_some, opened_outcome}
 use Rattle.ctl_meaning.specs.Types.{Tables, Composite, begin_cells, cells_of, depth, of_record}
@@ -21,14 +21,16 @@ use Rattle.ctl_meaning.specs.Initialization.{initialize, initialize_part, fill}
 use Rattle.ctl_meaning.specs.Masters.{declare}
 use Rattle.ctl_code.specs.declared.code.Instr.TheVariants as InstrOf
 use Rattle.ctl_code.specs.declared.code.Code.{Code}
-use Rattle.ctl_code.specs.States.{Word, Complete, Point, Frame, Creating, Filling, State, tell_all, whole_spot}
+use Rattle.ctl_code.specs.States.{Word, Complete, Point, ByDeclaration, Frame, Creating, Filling, State, whole_spot}
 use Rattle.ctl_code.specs.declared.kinds.Kind.{Kind}
 use Rattle.ctl_code.specs.Valid.{IsDeclarable}
 use Rattle.ctl_code.specs.Table.{begun_of, come_to_life, size_of, with_object}
 use Rattle.ctl_code.specs.Steps.{moved, step}
 use Rattle.ctl_gen.proofs.Known.{IsPlain}
 use Rattle.ctl_gen.proofs.Parted.{GivesDefaults}
-use Rattle.ctl_gen.proofs.Worlds.{Each, IfFound, Settled, Since, Kept, home, keeps_itself, keeps_on, object_fits, since_create, since_slot, since_layer}
+use Rattle.ctl_gen.proofs.Each.{Each}
+use Rattle.ctl_gen.proofs.Collections.{home}
+use Rattle.ctl_gen.proofs.Worlds.{Since, Kept, keeps_itself, keeps_on, since_create, since_slot, since_layer}
 use Rattle.ctl_gen.proofs.Scopes.{type_inside}
 use Rattle.ctl_gen.proofs.CreatedParts.{IsAround, new_part, parts_run}
 use Rattle.ctl_gen.proofs.Setting.{Setting, tools_with, returns, Told, Sees, Calls}
@@ -95,45 +97,44 @@ module _ (ask : Ask) (k : Tables) (code : Code) (setting : Setting k code) (call
   created_around slot w0 d w fits fits1 =
       let w1 = with_object code d slot t w in
       let there = found_newest w.ledger.next_object w.objects _ fits.0.numbers refl in
-      let settled = subst (IfFound (Settled k code w1.ledger.next_master w1.activations)) there (object_fits k code w.ledger.next_object w1 fits1.0) in
-      (_, there, type_inside k code w1 _ t refl settled)
+      (_, there, type_inside k code w.ledger.next_object w1 _ t fits1.0 there refl)
 
   -- What its code does ----------------------------------------------------------------------------------
 
-  -- an object that is there comes to life, with what is shown then; nothing more is done of one that is gone
-  pub lives_on : (es : List Event) (w0 : World) (n : ℕ) (e : Target) (p : Point) (ks : List Frame) (s0 : State) (c : ℕ) (l : Log) (w : World) → Since k code w0 w → step ask code s0 ≡ moved l (come_to_life es n (object_at n w) p ks w)
-      → Runs ask code (Kept k code w0) 1 3 s0 c (arrives e p.display p.place ks p.operands) (stands n (last_of p.display) (Goes tt) c (tell_all es l) w)
+  -- an object that is there comes to life; nothing more is done of one that is gone
+  pub lives_on : (w0 : World) (n : ℕ) (e : Target) (p : Point) (ks : List Frame) (s0 : State) (c : ℕ) (l : Log) (w : World) → Since k code w0 w → step ask code s0 ≡ moved l (come_to_life ByDeclaration n (object_at n w) p ks w)
+      → Runs ask code (Kept k code w0) 1 3 s0 c (arrives e p.display p.place ks p.operands) (stands n (last_of p.display) (Goes tt) c l w)
   unfolding must_exist existing gone opened_outcome
-  lives_on es w0 n e p ks s0 c l w fits first = by (object_at n w) first
+  lives_on w0 n e p ks s0 c l w fits first = by (object_at n w) first
     where
-      by : (o : Option Object) → step ask code s0 ≡ moved l (come_to_life es n o p ks w) → Runs ask code (Kept k code w0) 1 3 s0 c (arrives e p.display p.place ks p.operands) (bind (on_some o gone (λ _. nothing) c (tell_all es l) w) (on_goes (λ _. change (add_layer (last_of p.display) (Single n)))))
-      by None go = stop_step ask code (Kept k code w0) {A = Done} 1 3 s0 _ c 0 (arrives e p.display p.place ks p.operands) UseAfterFree (tell_all es l) (omega arith) go refl refl
-      by (Some o) go = end_step ask code (Kept k code w0) {A = Done} 3 s0 c 0 (arrives e p.display p.place ks p.operands) (Goes tt) (tell_all es l) (add_layer (last_of p.display) (Single n) w) (since_layer k code (last_of p.display) n w0 w fits) go
+      by : (o : Option Object) → step ask code s0 ≡ moved l (come_to_life ByDeclaration n o p ks w) → Runs ask code (Kept k code w0) 1 3 s0 c (arrives e p.display p.place ks p.operands) (bind (on_some o gone (λ _. nothing) c l w) (on_goes (λ _. change (add_layer (last_of p.display) (Single n)))))
+      by None go = stop_step ask code (Kept k code w0) {A = Done} 1 3 s0 _ c 0 (arrives e p.display p.place ks p.operands) UseAfterFree l (omega arith) go refl refl
+      by (Some o) go = end_step ask code (Kept k code w0) {A = Done} 3 s0 c 0 (arrives e p.display p.place ks p.operands) (Goes tt) l (add_layer (last_of p.display) (Single n) w) (since_layer k code (last_of p.display) (Single n) w0 w fits) go
 
   module _ (bound : ℕ) (calls : Calls ask k code setting bound call) where
     -- after its creation
-    pub stands_runs : (w0 w1 : World) (n : ℕ) (e : Target) (p : Point) (ks : List Frame) → Since k code w0 w1 → (r : Result Done) (c : ℕ) (l : Log) (w : World) → Told k code w1 (way_of r) w → Runs ask code (Kept k code w0) 1 3 (returns (Creating n t p ∷ ks) r l w) c (arrives e p.display p.place ks p.operands) (stands n (last_of p.display) r c l w)
+    pub stands_runs : (w0 w1 : World) (n : ℕ) (e : Target) (p : Point) (ks : List Frame) → Since k code w0 w1 → (r : Result Done) (c : ℕ) (l : Log) (w : World) → Told k code w1 (way_of r) w → Runs ask code (Kept k code w0) 1 3 (returns (Creating ByDeclaration n t p ∷ ks) r l w) c (arrives e p.display p.place ks p.operands) (stands n (last_of p.display) r c l w)
     unfolding picked opened_outcome
-    stands_runs w0 w1 n e p ks fits1 (Goes u) c l w told1 = lives_on [] w0 n e p ks _ c l w (told1.1.0, keeps_on k code w0 w1 w fits1.1 told1.1.1) refl
+    stands_runs w0 w1 n e p ks fits1 (Goes u) c l w told1 = lives_on w0 n e p ks _ c l w (told1.1.0, keeps_on k code w0 w1 w fits1.1 told1.1.1) refl
     stands_runs w0 w1 n e p ks fits1 (Leaves y) c l w told1 =
-        by_raise (λ v. Runs ask code (Kept k code w0) 1 3 (returns {A = Done} (Creating n t p ∷ ks) (Leaves v) l w) c (arrives e p.display p.place ks p.operands) (stands n (last_of p.display) (Leaves v) c l w))
+        by_raise (λ v. Runs ask code (Kept k code w0) 1 3 (returns {A = Done} (Creating ByDeclaration n t p ∷ ks) (Leaves v) l w) c (arrives e p.display p.place ks p.operands) (stands n (last_of p.display) (Leaves v) c l w))
         (λ x. end_step ask code (Kept k code w0) {A = Done} 3 _ c 0 (arrives e p.display p.place ks p.operands) (Leaves (ByRaise x)) l w (told1.1.0, keeps_on k code w0 w1 w fits1.1 told1.1.1) refl) y told1.0
 
     -- a declaration: its operations are in scope, as the code is well formed
     pub declare_runs : (slot : ℕ) (e : Target) (s : List Kind) (w0 : World) (d : List ℕ) (place : ℕ) (ks : List Frame) (ops : List Word) (c : ℕ) (l : Log) (w : World) → c ≤ bound → Since k code w0 w → Sees d s w0 → Laid code place ((InstrOf.Declare slot t, s) ∷ [])
         → Runs ask code (Kept k code w0) 5 7 (at d place ks ops l w) c (arrives e d (place + 1) ks ops) (declare Composite K (last_of d) slot (Record t) None c l w)
-    unfolding birth_of
+    unfolding birth_of owner_of
     declare_runs slot e s w0 d place ks ops c l w le fits sees has =
         let n = w.ledger.next_object in
         let p : Point = record { display = d; place = place + 1; operands = ops } in
         let w1 = with_object code d slot t w in
         let fits1 = created_fits slot s w0 d w (subst (λ x. IsDeclarable code x t) (sym sees.long) (setting.valid.each place (InstrOf.Declare slot t) s has.0 has.1).0) fits sees in
         let born = birth_of (Declared (last_of d)) w in
-        let mid = Creating n t p ∷ ks in
-        let s1 = gives (Filling (new_part (whole_spot n) t (last_of d)) (begun_of code t) (begun_of code t) ∷ mid) (Fine Complete) l w1 in
+        let mid = Creating ByDeclaration n t p ∷ ks in
+        let s1 = gives (Filling (new_part (whole_spot n) t (OwnerOf.Master (last_of d))) (begun_of code t) (begun_of code t) ∷ mid) (Fine Complete) l w1 in
         let created = initialize_part K born (suc (length k.records)) (whole_spot n) t c l w1 in
         subst (λ o. Runs ask code (Kept k code w0) 5 7 (at d place ks ops l w) c (arrives e d (place + 1) ks ops) o) (sym (declare_is (last_of d) slot c l w ∙ standing_is n (last_of d) created))
         (one_step ask code (Kept k code w0) 4 6 5 7 (at d place ks ops l w) s1 c c (arrives e d (place + 1) ks ops) (bind created (stands n (last_of d))) (omega arith) (omega arith) (omega arith) (omega arith) (by_code ask code d place ks ops l w (InstrOf.Declare slot t) has.0)
         (both ask code (Told k code w1) (Kept k code w0) 3 3 1 3 4 6 s1 c (returns mid) (arrives e d (place + 1) ks ops) created (stands n (last_of d)) (omega arith) (omega arith) (omega arith)
-        (parts_run ask k code setting call default constants bound calls (suc (length k.records)) t (let within = slice_get_within k.records t r here in omega (arith, within)) (r, here, plain) (whole_spot n) (last_of d) born refl w1 fits1.0 (created_around slot w0 d w fits fits1) mid c l w1 le (fits1.0, keeps_itself k code w1))
+        (parts_run ask k code setting call default constants bound calls (suc (length k.records)) t (let within = slice_get_within k.records t r here in omega (arith, within)) (r, here, plain) (whole_spot n) (OwnerOf.Master (last_of d)) born refl w1 fits1.0 (created_around slot w0 d w fits fits1) mid c l w1 le (fits1.0, keeps_itself k code w1))
         (λ x c1 l1 w2 lo told1. stands_runs w0 w1 n e p ks fits1 x c1 l1 w2 told1)))

@@ -17,8 +17,7 @@ use Rattle.ctl_code.specs.declared.code.Initial.{Initial}
 use Rattle.ctl_code.specs.declared.code.Initial.TheVariants.{Constant, ByType}
 use Rattle.ctl_code.specs.declared.code.Layout.{Layout}
 use Rattle.ctl_code.specs.declared.code.Code.{Code}
-use Rattle.ctl_code.specs.Table.{begun_in, controlled_in, parts_in}
-use Rattle.ctl_code.specs.Valid.{has_part}
+use Rattle.ctl_code.specs.Table.{begun_in, controlled_in, has_part, parts_in}
 use Rattle.ctl_layout.specs.Layout.{AreLayouts}
 use Rattle.ctl_layout.specs.Records.{constant_at, constant_in, constant_of, have_constants, may_default}
 use Rattle.ctl_layout.specs.Defaults.{are_none, begun_before, begun_from, by_type, finalized_by, initial_by, initial_of, is_begun, is_finalized_by, parts_by, type_if}

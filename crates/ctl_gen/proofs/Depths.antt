@@ -20,7 +20,7 @@ scalar_of_record d f TyOf.Boolean h = refl
 scalar_of_record d f TyOf.Count h = absurd h
 scalar_of_record d f TyOf.Address h = absurd h
 scalar_of_record d f TyOf.Handle h = absurd h
-scalar_of_record d f (TyOf.Access a) h = absurd h
+scalar_of_record d f (TyOf.Access a) h = refl
 scalar_of_record d f (Record t) h = absurd h
 
 module _ (records : List RecordType) (t : ℕ) where

@@ -1,7 +1,9 @@
 -- The code of each expression and of each actual that this version runs does what it means.
-use Rattle.std.proofs.Common.{◌≡◌, ℕ, List, [], ◌∷◌, ◌++◌, map, Option, Some, None, true, refl, sym, ap, ◌∙◌, subst}
+use Rattle.std.proofs.Common.{◌≡◌, ℕ, List, [], ◌∷◌, ◌++◌, map, Option, Some, None, true, false, refl, sym, ap, ◌∙◌, subst}
+use Rattle.std.specs.Prelude.{is_some, ◌||◌}
 use Rattle.std.proofs.lemmas.Bool.{not-true}
 use Rattle.ctl_program.specs.declared.types.Ty.{Ty}
+use Rattle.ctl_program.specs.declared.types.Ty.TheVariants.{Integer, Count, Boolean, Address, Handle, Access, Record}
 use Rattle.ctl_program.specs.declared.types.Var.{Var}
 use Rattle.ctl_program.specs.declared.expression.Expr.{Expr, roll-Expr, map-Expr, ind-Expr}
 use Rattle.ctl_program.specs.declared.expression.Name.{Name}
@@ -17,9 +19,9 @@ use Rattle.ctl_meaning.specs.Expressions.{Applied, Naming, Supplied, Valued, act
 use Rattle.ctl_meaning.proofs.Trees.{actual_roll as supply_roll, eval_roll, operand_roll}
 use Rattle.ctl_code.specs.declared.code.Code.{Code}
 use Rattle.ctl_program.specs.declared.expression.Step.TheVariants.{Component}
-use Rattle.ctl_layout.specs.Parts.{Reached, Variable, Part, are_selectors}
-use Rattle.ctl_layout.specs.Values.{ActualCode, ValueCode, OperatorCode, actual_code, actuals_run, missing_value, operator_of, operators_run, read, value_code, values_run, reached_by}
-use Rattle.ctl_gen.proofs.Known.{IsScalar, both_true, scalar_elementary, scalar_if}
+use Rattle.ctl_layout.specs.Parts.{Reached, Variable, Part, Object, are_walked}
+use Rattle.ctl_layout.specs.Values.{ActualCode, ValueCode, OperatorCode, actual_code, actuals_run, missing_value, new, operator_of, operators_run, read, value_code, values_run, reached_by}
+use Rattle.ctl_gen.proofs.Known.{IsScalar, both_true, plain_if, scalar_elementary, scalar_if}
 use Rattle.ctl_gen.proofs.Worlds.{Since, no_copy_at}
 use Rattle.ctl_gen.proofs.Parts.{Leads, find_as, find_by, name_leads, part_leads}
 use Rattle.ctl_gen.proofs.Components.{component_value}
@@ -27,6 +29,7 @@ use Rattle.ctl_layout.proofs.TreeLayers.{value_roll, operator_roll, actual_roll}
 use Rattle.ctl_gen.proofs.Setting.{Setting, Calls, tools_with}
 use Rattle.ctl_gen.proofs.Actuals as A
 use Rattle.ctl_gen.proofs.FunctionCalls.{function_value}
+use Rattle.ctl_gen.proofs.Allocators.{new_value}
 use Rattle.ctl_gen.proofs.Expressions as X
 
 -- Names -------------------------------------------------------------------------------------------
@@ -35,7 +38,8 @@ module _ (K : Tools) where
   -- what a name means that reaches something
   abbrev pub Reaches : Reached → (List ℕ → Act Found) → Type 0
   Reaches (Variable v) find = X.Uses v find
-  Reaches (Part v steps t position) find = (are_selectors (steps ++ Component t position ∷ []) ≡ true) × (find ≡ find_by K (steps ++ Component t position ∷ []) v)
+  Reaches (Object v steps) find = Unit {0}
+  Reaches (Part v steps t position) find = (are_walked false steps ≡ true) × (find ≡ find_by K (steps ++ Component t position ∷ []) v)
 
   -- in one tick
   uses_it : (x : Var) → X.Uses x (find_as K Elementary [] x)
@@ -45,7 +49,8 @@ module _ (K : Tools) where
   reaches : (x : Reached) (find : Naming) → Leads K x find → Reaches x (find Elementary K)
   unfolding begins_as
   reaches (Variable v) find h = subst (X.Uses v) (sym (h.finds Elementary)) (uses_it v)
-  reaches (Part v steps t position) find h = (h.selectors, part_leads K v steps t position find Elementary h)
+  reaches (Object v steps) find h = tt
+  reaches (Part v steps t position) find h = (h.walked, part_leads K v steps t position find Elementary h)
 
   pub name_finds : (n : Name) (x : Reached) → reached_by n ≡ Some x → Reaches x (eval_name n Elementary K)
   name_finds n x is = reaches x (eval_name n) (name_leads K n x is)
@@ -61,10 +66,10 @@ module _ (ask : Ask) (k : Tables) (code : Code) (setting : Setting k code) (call
   Fits w = Since k code w0 w
 
   abbrev pub IsValue : Expr → Type 0
-  IsValue e = (value_code e).runs k.records ≡ true → X.Value ask k code bound Fits (value_code e) (eval e K)
+  IsValue e = (value_code e).runs k.records ≡ true → X.Value ask k code bound w0 (value_code e) (eval e K)
 
   abbrev IsOperator : Operand → Type 0
-  IsOperator o = (operator_of o).right.runs k.records ≡ true → X.Further ask k code bound Fits (operator_of o) (apply o K)
+  IsOperator o = (operator_of o).right.runs k.records ≡ true → X.Further ask k code bound w0 (operator_of o) (apply o K)
 
   abbrev IsActual : Actual → Type 0
   IsActual a = (actual_code a).runs k.records ≡ true → A.Passes ask k code setting call default bound w0 (actual_code a) (supply a)
@@ -95,11 +100,11 @@ module _ (ask : Ask) (k : Tables) (code : Code) (setting : Setting k code) (call
 
   -- Lists of children -------------------------------------------------------------------------------
 
-  operators_too : (os : List OperandToo) → operators_run k.records (map operator_of (map (λ o. o.0) os)) ≡ true → X.Operators ask k code bound Fits K (map operator_of (map (λ o. o.0) os)) (map apply (map (λ o. o.0) os))
+  operators_too : (os : List OperandToo) → operators_run k.records (map operator_of (map (λ o. o.0) os)) ≡ true → X.Operators ask k code bound w0 K (map operator_of (map (λ o. o.0) os)) (map apply (map (λ o. o.0) os))
   operators_too [] h = tt
   operators_too (o ∷ os) h = let g = both_true _ _ h in (o.1 g.0, operators_too os g.1)
 
-  values_too : (xs : List ExprToo) → values_run k.records (map value_code (map (λ x. x.0) xs)) ≡ true → X.EachValue ask k code bound Fits K (map value_code (map (λ x. x.0) xs)) (map eval (map (λ x. x.0) xs))
+  values_too : (xs : List ExprToo) → values_run k.records (map value_code (map (λ x. x.0) xs)) ≡ true → X.EachValue ask k code bound w0 K (map value_code (map (λ x. x.0) xs)) (map eval (map (λ x. x.0) xs))
   values_too [] h = tt
   values_too (x ∷ xs) h = let g = both_true _ _ h in (x.1 g.0, values_too xs g.1)
 
@@ -111,7 +116,7 @@ module _ (ask : Ask) (k : Tables) (code : Code) (setting : Setting k code) (call
 
   -- what a construct has, and what it means
   abbrev Meets : ValueCode → Valued → Type 0
-  Meets x m = x.runs k.records ≡ true → X.Value ask k code bound Fits x (m K)
+  Meets x m = x.runs k.records ≡ true → X.Value ask k code bound w0 x (m K)
 
   meets : (y : Expr-F Actual Expr Name Operand) (x : ValueCode) (m : Valued) → value_code (roll-Expr y) ≡ x → eval (roll-Expr y) ≡ m → Meets x m → IsValue (roll-Expr y)
   meets y x m same means h = subst (λ z. Meets z (eval (roll-Expr y))) (sym same) (subst (Meets x) (sym means) h)
@@ -120,38 +125,64 @@ module _ (ask : Ask) (k : Tables) (code : Code) (setting : Setting k code) (call
   missing_rolled : (y : Expr-F Actual Expr Name Operand) → value_code (roll-Expr y) ≡ missing_value None → IsValue (roll-Expr y)
   missing_rolled y same h = absurd (let e = sym (ap (λ (x : ValueCode). x.runs k.records) same) ∙ h in cc)
 
+  -- an allocator of a record type, without a handle or a value
+  allocates : (access : ℕ) (ty : Ty) → Meets (new access ty None None) (eval_step (Expr-F.New access ty None None))
+  allocates access (Record t) runs = new_value ask k code setting call default bound calls w0 access t (plain_if k t runs)
+  allocates access Integer runs = absurd (cc)
+  allocates access Boolean runs = absurd (cc)
+  allocates access Count runs = absurd (cc)
+  allocates access Address runs = absurd (cc)
+  allocates access Handle runs = absurd (cc)
+  allocates access (Access a) runs = absurd (cc)
+
+  -- with one of them it is not run
+  not_new : (access : ℕ) (ty : Ty) (handle value : Option ValueCode) → (is_some handle || is_some value) ≡ true → (new access ty handle value).runs k.records ≡ true → ⊥
+  not_new access (Record t) None None some runs = absurd (cc)
+  not_new access (Record t) None (Some v) some runs = absurd (cc)
+  not_new access (Record t) (Some h) value some runs = absurd (cc)
+  not_new access Integer handle value some runs = absurd (cc)
+  not_new access Boolean handle value some runs = absurd (cc)
+  not_new access Count handle value some runs = absurd (cc)
+  not_new access Address handle value some runs = absurd (cc)
+  not_new access Handle handle value some runs = absurd (cc)
+  not_new access (Access a) handle value some runs = absurd (cc)
+
+  new_rolled : (y : Expr-F Actual Expr Name Operand) (access : ℕ) (ty : Ty) (handle value : Option ValueCode) → value_code (roll-Expr y) ≡ new access ty handle value → (is_some handle || is_some value) ≡ true → IsValue (roll-Expr y)
+  new_rolled y access ty handle value same some h = absurd (not_new access ty handle value some (subst (λ (x : ValueCode). x.runs k.records ≡ true) same h))
+
   -- a value of an elementary type
-  elementary : (o : Option Reached) (ty : Ty) (find : Naming) → IsScalar ty → X.Value ask k code bound Fits (read o ty) (λ v. ticked (find Elementary K v >>= read_found (cells_of k ty))) → X.Value ask k code bound Fits (read o ty) (eval_step (Expr-F.Read find ty) K)
+  elementary : (o : Option Reached) (ty : Ty) (find : Naming) → IsScalar ty → X.Value ask k code bound w0 (read o ty) (λ v. ticked (find Elementary K v >>= read_found (cells_of k ty))) → X.Value ask k code bound w0 (read o ty) (eval_step (Expr-F.Read find ty) K)
   unfolding eval_step
-  elementary o ty find scalar h = subst (λ (c : Category). X.Value ask k code bound Fits (read o ty) (λ v. ticked (find c K v >>= read_found (cells_of k ty)))) (sym (scalar_elementary ty scalar)) h
+  elementary o ty find scalar h = subst (λ (c : Category). X.Value ask k code bound w0 (read o ty) (λ v. ticked (find c K v >>= read_found (cells_of k ty)))) (sym (scalar_elementary ty scalar)) h
 
   reads : (o : Option Reached) (ty : Ty) (find : Naming) → ((x : Reached) → o ≡ Some x → Reaches K x (find Elementary K)) → Meets (read o ty) (eval_step (Expr-F.Read find ty))
   reads None ty find h runs = absurd (cc)
-  reads (Some (Variable v)) ty find h runs = elementary (Some (Variable v)) ty find (scalar_if ty runs) (X.read_value ask k code bound Fits v (find Elementary K) (h (Variable v) refl) ty (scalar_if ty runs))
+  reads (Some (Variable v)) ty find h runs = elementary (Some (Variable v)) ty find (scalar_if ty runs) (X.read_value ask k code bound w0 v (find Elementary K) (h (Variable v) refl) ty (scalar_if ty runs))
+  reads (Some (Object v steps)) ty find h runs = absurd (cc)
   reads (Some (Part v steps t position)) ty find h runs =
       let e = both_true _ _ runs in
       let g = h (Part v steps t position) refl in
-      elementary (Some (Part v steps t position)) ty find (scalar_if ty e.0) (component_value ask k code setting.places call default v steps t position e.1 g.0 bound Fits (λ n i w fits. no_copy_at k code n i w fits.0) (find Elementary K) g.1 ty (scalar_if ty e.0))
+      elementary (Some (Part v steps t position)) ty find (scalar_if ty e.0) (component_value ask k code setting.places call default v steps t position e.1 g.0 bound w0 (λ n i w fits. no_copy_at k code n i w fits.0) (find Elementary K) g.1 ty (scalar_if ty e.0))
 
   expr_rolled : (y : Expr-F ActualToo ExprToo NameToo OperandToo) → IsValue (roll-Expr (bare_expr y))
   unfolding eval_step
-  expr_rolled (Expr-F.Constant n) = meets (Expr-F.Constant n) _ _ (value_roll (Expr-F.Constant n)) (eval_roll (Expr-F.Constant n)) (λ h. X.constant_value ask k code bound Fits n)
+  expr_rolled (Expr-F.Constant n) = meets (Expr-F.Constant n) _ _ (value_roll (Expr-F.Constant n)) (eval_roll (Expr-F.Constant n)) (λ h. X.constant_value ask k code bound w0 n)
   expr_rolled (Expr-F.Read n ty) = meets (Expr-F.Read n.0 ty) _ _ (value_roll (Expr-F.Read n.0 ty)) (eval_roll (Expr-F.Read n.0 ty)) (reads (reached_by n.0) ty (eval_name n.0) (name_finds K n.0))
-  expr_rolled (Expr-F.Unary op ty e) = meets (Expr-F.Unary op ty e.0) _ _ (value_roll (Expr-F.Unary op ty e.0)) (eval_roll (Expr-F.Unary op ty e.0)) (λ h. X.unary_value ask k code bound Fits op ty (value_code e.0) (eval e.0 K) (e.1 h))
+  expr_rolled (Expr-F.Unary op ty e) = meets (Expr-F.Unary op ty e.0) _ _ (value_roll (Expr-F.Unary op ty e.0)) (eval_roll (Expr-F.Unary op ty e.0)) (λ h. X.unary_value ask k code bound w0 op ty (value_code e.0) (eval e.0 K) (e.1 h))
   expr_rolled (Expr-F.Chain e o os) =
       let y = Expr-F.Chain e.0 o.0 (map (λ z. z.0) os) in
       meets y _ _ (value_roll y) (eval_roll y)
       (λ h.
       let g = both_true _ _ h in
       let i = operators_too (o ∷ os) g.1 in
-      X.chain_value ask k code bound Fits K (value_code e.0) (eval e.0 K) (e.1 g.0) (operator_of o.0) (map operator_of (map (λ z. z.0) os)) (apply o.0) (map apply (map (λ z. z.0) os)) i)
+      X.chain_value ask k code bound w0 K (value_code e.0) (eval e.0 K) (e.1 g.0) (operator_of o.0) (map operator_of (map (λ z. z.0) os)) (apply o.0) (map apply (map (λ z. z.0) os)) i)
   expr_rolled (Expr-F.Short form e f es) =
       let y = Expr-F.Short form e.0 f.0 (map (λ z. z.0) es) in
       meets y _ _ (value_roll y) (eval_roll y)
       (λ h.
       let g = both_true _ _ h in
       let i = values_too (f ∷ es) g.1 in
-      X.short_value ask k code bound Fits K form (value_code e.0) (eval e.0 K) (e.1 g.0) (value_code f.0) (map value_code (map (λ z. z.0) es)) (eval f.0) (map eval (map (λ z. z.0) es)) i)
+      X.short_value ask k code bound w0 K form (value_code e.0) (eval e.0 K) (e.1 g.0) (value_code f.0) (map value_code (map (λ z. z.0) es)) (eval f.0) (map eval (map (λ z. z.0) es)) i)
   expr_rolled (Expr-F.Call f xs ty) =
       let y = Expr-F.Call f (map (λ z. z.0) xs) ty in
       meets y _ _ (value_roll y) (eval_roll y)
@@ -161,10 +192,10 @@ module _ (ask : Ask) (k : Tables) (code : Code) (setting : Setting k code) (call
       function_value ask k code setting call default bound calls w0 f (map actual_code (map (λ z. z.0) xs)) (map supply (map (λ z. z.0) xs)) ty (scalar_if ty g.0) (not-true _ i.0) (actuals_too xs i.1))
   expr_rolled (Expr-F.Convert ty e) = missing_rolled (Expr-F.Convert ty e.0) (value_roll (Expr-F.Convert ty e.0))
   expr_rolled (Expr-F.Access v) = missing_rolled (Expr-F.Access v) (value_roll (Expr-F.Access v))
-  expr_rolled (Expr-F.New access ty None None) = missing_rolled (Expr-F.New access ty None None) (value_roll (Expr-F.New access ty None None))
-  expr_rolled (Expr-F.New access ty None (Some v)) = missing_rolled (Expr-F.New access ty None (Some v.0)) (value_roll (Expr-F.New access ty None (Some v.0)))
-  expr_rolled (Expr-F.New access ty (Some h) None) = missing_rolled (Expr-F.New access ty (Some h.0) None) (value_roll (Expr-F.New access ty (Some h.0) None))
-  expr_rolled (Expr-F.New access ty (Some h) (Some v)) = missing_rolled (Expr-F.New access ty (Some h.0) (Some v.0)) (value_roll (Expr-F.New access ty (Some h.0) (Some v.0)))
+  expr_rolled (Expr-F.New access ty None None) = let y = Expr-F.New access ty None None in meets y _ _ (value_roll y) (eval_roll y) (allocates access ty)
+  expr_rolled (Expr-F.New access ty None (Some v)) = let y = Expr-F.New access ty None (Some v.0) in new_rolled y access ty None (Some (value_code v.0)) (value_roll y) refl
+  expr_rolled (Expr-F.New access ty (Some h) None) = let y = Expr-F.New access ty (Some h.0) None in new_rolled y access ty (Some (value_code h.0)) None (value_roll y) refl
+  expr_rolled (Expr-F.New access ty (Some h) (Some v)) = let y = Expr-F.New access ty (Some h.0) (Some v.0) in new_rolled y access ty (Some (value_code h.0)) (Some (value_code v.0)) (value_roll y) refl
   expr_rolled (Expr-F.Subpool which n) = missing_rolled (Expr-F.Subpool which n.0) (value_roll (Expr-F.Subpool which n.0))
   expr_rolled (Expr-F.Discriminant n i) = missing_rolled (Expr-F.Discriminant n.0 i) (value_roll (Expr-F.Discriminant n.0 i))
 
@@ -173,9 +204,9 @@ module _ (ask : Ask) (k : Tables) (code : Code) (setting : Setting k code) (call
   operand_rolled y h =
       let is = operator_roll (bare_operand y) in
       let means = operand_roll (bare_operand y) in
-      subst (λ (o : OperatorCode). X.Further ask k code bound Fits o (apply (roll-Operand (bare_operand y)) K)) (sym is)
-      (subst (λ (m : Applied). X.Further ask k code bound Fits (record { op = y.op; ty = y.ty; right = value_code y.right.0 }) (m K)) (sym means)
-      (X.operator_further ask k code bound Fits (record { op = y.op; ty = y.ty; right = value_code y.right.0 }) (eval y.right.0 K) (y.right.1 (sym (ap (λ (o : OperatorCode). o.right.runs k.records) is) ∙ h))))
+      subst (λ (o : OperatorCode). X.Further ask k code bound w0 o (apply (roll-Operand (bare_operand y)) K)) (sym is)
+      (subst (λ (m : Applied). X.Further ask k code bound w0 (record { op = y.op; ty = y.ty; right = value_code y.right.0 }) (m K)) (sym means)
+      (X.operator_further ask k code bound w0 (record { op = y.op; ty = y.ty; right = value_code y.right.0 }) (eval y.right.0 K) (y.right.1 (sym (ap (λ (o : OperatorCode). o.right.runs k.records) is) ∙ h))))
 
   -- what an actual has, and what it means
   abbrev Passing : ActualCode → Supplied → Type 0

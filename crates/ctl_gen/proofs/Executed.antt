@@ -21,7 +21,7 @@ use Rattle.ctl_code.specs.declared.code.Code.{Code}
 use Rattle.ctl_code.specs.declared.code.Instr.TheVariants as InstrOf
 use Rattle.ctl_code.specs.declared.code.Way.TheVariants as WayOf
 use Rattle.ctl_code.specs.Table.{caught_in}
-use Rattle.ctl_layout.specs.Parts.{Reached, Variable, Part}
+use Rattle.ctl_layout.specs.Parts.{Reached, Variable, Part, Object}
 use Rattle.ctl_layout.specs.Values.{value_code, value_type, reached_by, sourced}
 use Rattle.ctl_layout.specs.Layout.{StatementCode, all, all_items, arm_code, assign, assign_record, call as call_code, record_code, exit, handled, handler_code, return, inside, item_code, master_code, missing_statement, statement_code, leaves_code}
 use Rattle.ctl_layout.specs.Values.{actual_code}
@@ -29,12 +29,13 @@ use Rattle.ctl_gen.proofs.Known.{both_true, plain_if}
 use Rattle.ctl_layout.proofs.TreeLayers.{handler_roll, arm_roll, master_roll, statement_roll}
 use Rattle.ctl_gen.proofs.Setting.{Setting, Calls, tools_with}
 use Rattle.ctl_gen.proofs.Parted.{GivesDefaults}
-use Rattle.ctl_gen.proofs.Worlds.{Since, Kept}
+use Rattle.ctl_gen.proofs.Worlds.{Kept}
 use Rattle.ctl_gen.proofs.Cells.{by_code}
 use Rattle.ctl_gen.proofs.Expressions.{Value}
 use Rattle.ctl_gen.proofs.Evaluated.{Reaches, actuals_mean, name_finds, value_means}
 use Rattle.ctl_gen.proofs.Components.{part_does}
-use Rattle.ctl_gen.proofs.Parts.{Leads, composite_leads, find_by, name_leads, selectors_of, variable_of}
+use Rattle.ctl_gen.proofs.Parts.{Leads, composite_leads, find_by, name_leads}
+use Rattle.ctl_gen.proofs.Walked.{steps_of, variable_of}
 use Rattle.ctl_gen.proofs.Sources.{IsSource, source_means}
 use Rattle.ctl_gen.proofs.RecordAssign.{record_does}
 use Rattle.ctl_gen.proofs.Calls.{call_does}
@@ -106,7 +107,7 @@ module _ (ask : Ask) (k : Tables) (code : Code) (setting : Setting k code) (call
   each_does xs = S.all_run ask k code setting call default constants bound calls (map statement_code (map (λ x. x.0) xs)) (map exec (map (λ x. x.0) xs)) (statements_too xs)
 
   -- a value, in the worlds since any
-  means : (e : Expr) → (value_code e).runs k.records ≡ true → (w0 : World) → Value ask k code bound (Since k code w0) (value_code e) (eval e K)
+  means : (e : Expr) → (value_code e).runs k.records ≡ true → (w0 : World) → Value ask k code bound w0 (value_code e) (eval e K)
   means e runs w0 = value_means ask k code setting call default bound calls w0 e runs
 
   -- One layer ---------------------------------------------------------------------------------------
@@ -122,6 +123,7 @@ module _ (ask : Ask) (k : Tables) (code : Code) (setting : Setting k code) (call
   unfolding assign_doing
   assign_does None find e reaches runs n texts = absurd (cc)
   assign_does (Some (Variable v)) find e reaches runs n texts = assign_runs ask k code setting.valid bound v (find Elementary K) (reaches (Variable v) refl) (value_code e) (eval e K) (means e runs)
+  assign_does (Some (Object v steps)) find e reaches runs n texts = absurd (cc)
   assign_does (Some (Part v steps t position)) find e reaches runs n texts =
       let h = both_true _ _ runs in
       let g = reaches (Part v steps t position) refl in
@@ -138,8 +140,8 @@ module _ (ask : Ask) (k : Tables) (code : Code) (setting : Setting k code) (call
       let to = target x refl in
       let from = source y refl in
       subst (λ (find1 : List ℕ → Act Found). DoesIn 0 ask k code bound (λ a. record_code x t y a.stack) (λ d caught. ticked (find1 d >>= (λ f. m.source K d >>= assign_found K t f)))) (sym (composite_leads K x find to))
-      (subst (λ (find2 : List ℕ → Act Found). DoesIn 0 ask k code bound (λ a. record_code x t y a.stack) (λ d caught. ticked (find_by K (selectors_of x) (variable_of x) d >>= (λ f. find2 d >>= assign_found K t f)))) (sym from.finds)
-      (record_does ask k code setting call default constants t known bound calls x y to.selectors from.selectors h.0 g.0))
+      (subst (λ (find2 : List ℕ → Act Found). DoesIn 0 ask k code bound (λ a. record_code x t y a.stack) (λ d caught. ticked (find_by K (steps_of x) (variable_of x) d >>= (λ f. find2 d >>= assign_found K t f)))) (sym from.finds)
+      (record_does ask k code setting call default constants t known bound calls x y to.walked from.walked h.0 g.0))
 
   called_does : (f : ℕ) (actuals : List Actual) → Performs (call_code f (map actual_code actuals)) (call_doing f (map supply actuals))
   called_does f actuals runs n texts = call_does ask k code setting call default bound calls f (map actual_code actuals) (map supply actuals) (λ w0. actuals_mean ask k code setting call default bound calls w0 actuals runs)

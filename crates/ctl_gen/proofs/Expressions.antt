@@ -1,5 +1,6 @@
 -- The code of an expression puts the expression's value where it is wanted, or leaves the statement. An expression is an act that gives one
--- cell, in the worlds that fit and with no more than the bound on the clock: nothing else is said of what it does.
+-- cell, in the worlds since an earlier one in which its display is seen, and with no more than the bound on the clock: nothing else is said of
+-- what it does.
 use Rattle.std.proofs.Common.{◌≡◌, ℕ, ◌+◌, ◌≤◌, List, [], ◌∷◌, ◌++◌, length, Option, Some, None, Bool, true, false, refl, sym, ap, ◌∙◌, subst, arith, length-append}
 use Rattle.std.specs.Prelude.{slice_get}
 use Rattle.ctl_program.specs.declared.types.Ty.{Ty}
@@ -32,13 +33,15 @@ use Rattle.ctl_code.specs.Windows.{depth, height}
 use Rattle.ctl_layout.specs.Parts as Parts
 use Rattle.ctl_layout.specs.declared.right.Right.{Right}
 use Rattle.ctl_layout.specs.declared.right.Right.TheVariants as RightOf
-use Rattle.ctl_layout.specs.Around.{Line, new_operand, local_at, local_cell, out_to}
-use Rattle.ctl_layout.specs.Values.{ValueCode, OperatorCode, Held, held, held_by, evaluated, in_cell, left_held, operator_for, binary_code, operator_by, operator_code, operators_code, other_code, others_code, moved_to, constant, read, read_from, unary_code, chain, first_type, short}
+use Rattle.ctl_layout.specs.Around.{Line, new_operand, local_at, local_cell, out_to, read_from}
+use Rattle.ctl_layout.specs.Values.{ValueCode, OperatorCode, Held, held, held_by, evaluated, in_cell, left_held, operator_for, binary_code, operator_by, operator_code, operators_code, other_code, others_code, moved_to, constant, read, unary_code, chain, first_type, short}
 use Rattle.ctl_layout.specs.Values.{unary as unary_value_code}
 use Rattle.ctl_gen.proofs.Known.{IsScalar}
 use Rattle.ctl_gen.proofs.Values.{scalar_cells}
 use Rattle.ctl_gen.proofs.Place.{Laid, laid_front, laid_back}
 use Rattle.ctl_gen.proofs.Cells.{here, by_code, landed, landed_leaves, put_is, waiting, Stays, held_in, taking_is, value_of, cell_is, OneCell, Any}
+use Rattle.ctl_gen.proofs.Worlds.{Since}
+use Rattle.ctl_gen.proofs.Setting.{IsSeen}
 use Rattle.ctl_gen.proofs.Worth.{both_cell, then_paid}
 use Rattle.ctl_gen.proofs.Follow.{RunsTo, at, transferred, added_to, within_to, one_step_to, last_step_to, no_step_to, arriving_to, weaker_to, bind_add}
 
@@ -46,7 +49,10 @@ use Rattle.ctl_gen.proofs.Follow.{RunsTo, at, transferred, added_to, within_to, 
 abbrev pub Uses : Var → (List ℕ → Act Found) → Type 0
 Uses x find = (d : List ℕ) (c : ℕ) (l : Log) (w : World) → find d c l w ≡ Gives (Goes (InVariable (master_of d x) x.slot)) 1 c l w
 
-module _ (ask : Ask) (k : Tables) (code : Code) (bound : ℕ) (Fits : World → Type 0) where
+module _ (ask : Ask) (k : Tables) (code : Code) (bound : ℕ) (w0 : World) where
+  abbrev Fits : World → Type 0
+  Fits w = Since k code w0 w
+
   -- an evaluation gives one cell in a world that fits, of which this is true, or raises
   abbrev pub Gets : (ℕ → World → Type 0) → ℕ → ℕ → State → ℕ → (Result (List ℕ) → Log → World → State) → Out (List ℕ) → Type 0
   Gets P b h s c next o = RunsTo ask code (OneCell Fits P) b h s c next o
@@ -59,7 +65,7 @@ module _ (ask : Ask) (k : Tables) (code : Code) (bound : ℕ) (Fits : World → 
 
   -- the code of an expression does what it means, wherever it stands and its value is wanted; and so does an operator that takes it
   pub record Value (x : ValueCode) (act : List ℕ → Act (List ℕ)) : Type 0 where
-    pub begins : (to : Cell) (ty : Ty) (s : List Kind) (d : List ℕ) (place : ℕ) (ks : List Frame) (ops : List Word) (c : ℕ) (l : Log) (w : World) → c ≤ bound → Fits w → length d ≡ depth s → Laid code place (x.code to ty s) → Begins Any (at d place ks ops l w) c (landed to.named d (place + length (x.code to ty s)) ks ops) (act d c l w)
+    pub begins : (to : Cell) (ty : Ty) (s : List Kind) (d : List ℕ) (place : ℕ) (ks : List Frame) (ops : List Word) (c : ℕ) (l : Log) (w : World) → c ≤ bound → Fits w → IsSeen w0 d s → Laid code place (x.code to ty s) → Begins Any (at d place ks ops l w) c (landed to.named d (place + length (x.code to ty s)) ks ops) (act d c l w)
     pub constant : (n : ℕ) → x.right ≡ RightOf.Constant n → (d : List ℕ) (c : ℕ) (l : Log) (w : World) → act d c l w ≡ Gives (Goes (n ∷ [])) 1 c l w
     pub variable : (y : Var) → x.right ≡ RightOf.Variable y → (d : List ℕ) (c : ℕ) (l : Log) (w : World) → act d c l w ≡ Gives (Goes (value_of d y w ∷ [])) 2 c l w
 
@@ -106,7 +112,7 @@ module _ (ask : Ask) (k : Tables) (code : Code) (bound : ℕ) (Fits : World → 
     begins = λ to t s d place ks ops c l w le fits long has. record {
       out = Gives (Goes (value_of d x w ∷ [])) 1 c l w;
       is = reads_it x find uses ty scalar d c l w;
-      runs = last_step_to ask code (OneCell Fits Any) 8 8 _ c 1 (landed to.named d (place + 1) ks ops) (Goes (value_of d x w ∷ [])) l w (omega arith) (fits, (value_of d x w, refl, tt)) (read_step (local_at s x) x t to s d place ks ops l w long has.0);
+      runs = last_step_to ask code (OneCell Fits Any) 8 8 _ c 1 (landed to.named d (place + 1) ks ops) (Goes (value_of d x w ∷ [])) l w (omega arith) (fits, (value_of d x w, refl, tt)) (read_step (local_at s x) x t to s d place ks ops l w long.2 has.0);
     };
     constant = λ n is d c l w. absurd (cc);
     variable = λ y is d c l w. let same : x ≡ y = cc in reads_it x find uses ty scalar d c l w ∙ ap (λ (z : Var). Gives (Goes (value_of d z w ∷ [])) 2 c l w) same;
@@ -139,7 +145,7 @@ module _ (ask : Ask) (k : Tables) (code : Code) (bound : ℕ) (Fits : World → 
       by (Goes u) w h = (h.0, (h.1.0, h.1.1, f h.1.0 w h.1.2))
       by (Leaves y) w h = h
 
-  evaluated_holds : (x : ValueCode) (act : List ℕ → Act (List ℕ)) → Value x act → (ty : Ty) (s : List Kind) (d : List ℕ) (place : ℕ) (ks : List Frame) (ops : List Word) (c : ℕ) (l : Log) (w : World) → c ≤ bound → Fits w → length d ≡ depth s → Laid code place (evaluated x ty s).code → Holds (evaluated x ty s) Any act d place ks ops c l w
+  evaluated_holds : (x : ValueCode) (act : List ℕ → Act (List ℕ)) → Value x act → (ty : Ty) (s : List Kind) (d : List ℕ) (place : ℕ) (ks : List Frame) (ops : List Word) (c : ℕ) (l : Log) (w : World) → c ≤ bound → Fits w → IsSeen w0 d s → Laid code place (evaluated x ty s).code → Holds (evaluated x ty s) Any act d place ks ops c l w
   evaluated_holds x act value ty s d place ks ops c l w le fits long has =
       let y = value.begins (new_operand s) ty s d place ks ops c l w le fits long has in
       record { out = y.out; is = y.is; runs = arriving_to ask code (OneCell Fits Any) 8 8 _ c _ _ y.out same y.runs }
@@ -152,14 +158,14 @@ module _ (ask : Ask) (k : Tables) (code : Code) (bound : ℕ) (Fits : World → 
       same (Leaves y) l1 w1 = refl
 
   -- a variable: what is true of the world stays so
-  variable_holds : (x : ValueCode) (act : List ℕ → Act (List ℕ)) → Value x act → (v : Var) → x.right ≡ RightOf.Variable v → (P : World → Type 0) (at' : Option ℕ) (ty : Ty) (s : List Kind) (d : List ℕ) (place : ℕ) (ks : List Frame) (ops : List Word) (c : ℕ) (l : Log) (w : World) → c ≤ bound → Fits w → P w → length d ≡ depth s → Laid code place (in_cell at' v x ty s).code → Holds (in_cell at' v x ty s) (λ n w1. Stays (in_cell at' v x ty s).cell.named n d w1 × P w1) act d place ks ops c l w
+  variable_holds : (x : ValueCode) (act : List ℕ → Act (List ℕ)) → Value x act → (v : Var) → x.right ≡ RightOf.Variable v → (P : World → Type 0) (at' : Option ℕ) (ty : Ty) (s : List Kind) (d : List ℕ) (place : ℕ) (ks : List Frame) (ops : List Word) (c : ℕ) (l : Log) (w : World) → c ≤ bound → Fits w → P w → IsSeen w0 d s → Laid code place (in_cell at' v x ty s).code → Holds (in_cell at' v x ty s) (λ n w1. Stays (in_cell at' v x ty s).cell.named n d w1 × P w1) act d place ks ops c l w
   unfolding add
   variable_holds x act value v is P (Some n) ty s d place ks ops c l w le fits true_of long has =
       let e : place ≡ place + 0 = omega arith in
       record {
         out = Gives (Goes (value_of d v w ∷ [])) 1 c l w;
         is = value.variable v is d c l w;
-        runs = no_step_to ask code (OneCell Fits (λ m w1. Stays (Variable (out_to s v) v.slot) m d w1 × P w1)) 8 8 _ c 1 (held_in (Variable (out_to s v) v.slot) d (place + 0) ks ops) (Goes (value_of d v w ∷ [])) l w (fits, (value_of d v w, refl, (cell_is d s v w long, true_of))) (ap (λ p. at d p ks ops l w) e);
+        runs = no_step_to ask code (OneCell Fits (λ m w1. Stays (Variable (out_to s v) v.slot) m d w1 × P w1)) 8 8 _ c 1 (held_in (Variable (out_to s v) v.slot) d (place + 0) ks ops) (Goes (value_of d v w ∷ [])) l w (fits, (value_of d v w, refl, (cell_is d s v w long.2, true_of))) (ap (λ p. at d p ks ops l w) e);
       }
   variable_holds x act value v is P None ty s d place ks ops c l w le fits true_of long has =
       let y = evaluated_holds x act value ty s d place ks ops c l w le fits long has in
@@ -173,7 +179,7 @@ module _ (ask : Ask) (k : Tables) (code : Code) (bound : ℕ) (Fits : World → 
       }
 
   -- an operand stays where it is, or is evaluated
-  pub held_holds : (r : Right) (x : ValueCode) (act : List ℕ → Act (List ℕ)) → x.right ≡ r → Value x act → (ty : Ty) (s : List Kind) (d : List ℕ) (place : ℕ) (ks : List Frame) (ops : List Word) (c : ℕ) (l : Log) (w : World) → c ≤ bound → Fits w → length d ≡ depth s → Laid code place (held_by r x ty s).code → Holds (held_by r x ty s) (λ n w1. Stays (held_by r x ty s).cell.named n d w1) act d place ks ops c l w
+  pub held_holds : (r : Right) (x : ValueCode) (act : List ℕ → Act (List ℕ)) → x.right ≡ r → Value x act → (ty : Ty) (s : List Kind) (d : List ℕ) (place : ℕ) (ks : List Frame) (ops : List Word) (c : ℕ) (l : Log) (w : World) → c ≤ bound → Fits w → IsSeen w0 d s → Laid code place (held_by r x ty s).code → Holds (held_by r x ty s) (λ n w1. Stays (held_by r x ty s).cell.named n d w1) act d place ks ops c l w
   held_holds (RightOf.Constant m) x act is value ty s d place ks ops c l w le fits long has = evaluated_holds x act value ty s d place ks ops c l w le fits long has
   held_holds RightOf.Evaluated x act is value ty s d place ks ops c l w le fits long has = evaluated_holds x act value ty s d place ks ops c l w le fits long has
   held_holds (RightOf.Variable v) x act is value ty s d place ks ops c l w le fits long has =
@@ -223,7 +229,7 @@ module _ (ask : Ask) (k : Tables) (code : Code) (bound : ℕ) (Fits : World → 
 
   -- an operator goes on from a left operand, wherever that is held
   abbrev pub Further : OperatorCode → (List ℕ → List ℕ → Act (List ℕ)) → Type 0
-  Further o more = (left : Cell) (ty : Ty) (to : Cell) (s : List Kind) → MayStay left.named o.right.right → (n : ℕ) (d : List ℕ) (place : ℕ) (ks : List Frame) (ops : List Word) (c : ℕ) (l : Log) (w : World) → c ≤ bound → Fits w → length d ≡ depth s → Stays left.named n d w → Laid code place (operator_code o left ty to s) → Gets Any 0 0 (at d place ks (waiting left.named n ops) l w) c (landed to.named d (place + length (operator_code o left ty to s)) ks ops) (more d (n ∷ []) c l w)
+  Further o more = (left : Cell) (ty : Ty) (to : Cell) (s : List Kind) → MayStay left.named o.right.right → (n : ℕ) (d : List ℕ) (place : ℕ) (ks : List Frame) (ops : List Word) (c : ℕ) (l : Log) (w : World) → c ≤ bound → Fits w → IsSeen w0 d s → Stays left.named n d w → Laid code place (operator_code o left ty to s) → Gets Any 0 0 (at d place ks (waiting left.named n ops) l w) c (landed to.named d (place + length (operator_code o left ty to s)) ks ops) (more d (n ∷ []) c l w)
 
   abbrev combined : OperatorCode → (List ℕ → Act (List ℕ)) → List ℕ → List ℕ → Act (List ℕ)
   combined o act d u = ticked (act d >>= (λ z. or_constraint_error (binary o.op o.ty (scalar_of u) (scalar_of z))))
@@ -246,12 +252,12 @@ module _ (ask : Ask) (k : Tables) (code : Code) (bound : ℕ) (Fits : World → 
       (λ y c1 l1 w1 lo fits1. leaves_it 8 8 to.named d (place + length (binary_code o left ty to h)) ks ops y c1 l1 w1 fits1))
 
   -- an evaluated right operand, over a left one that is an operand
-  both_hold : (x : ValueCode) (act : List ℕ → Act (List ℕ)) → Value x act → (left : Named) → MayStay left RightOf.Evaluated → (n : ℕ) (ty : Ty) (s : List Kind) (d : List ℕ) (place : ℕ) (ks : List Frame) (ops : List Word) (c : ℕ) (l : Log) (w : World) → c ≤ bound → Fits w → length d ≡ depth s → Laid code place (evaluated x ty s).code → Holds (evaluated x ty s) (λ m w1. Stays Operand m d w1 × Stays left n d w1) act d place ks ops c l w
+  both_hold : (x : ValueCode) (act : List ℕ → Act (List ℕ)) → Value x act → (left : Named) → MayStay left RightOf.Evaluated → (n : ℕ) (ty : Ty) (s : List Kind) (d : List ℕ) (place : ℕ) (ks : List Frame) (ops : List Word) (c : ℕ) (l : Log) (w : World) → c ≤ bound → Fits w → IsSeen w0 d s → Laid code place (evaluated x ty s).code → Holds (evaluated x ty s) (λ m w1. Stays Operand m d w1 × Stays left n d w1) act d place ks ops c l w
   both_hold x act value Operand stay n ty s d place ks ops c l w le fits long has =
       holds_less Any (λ m w1. Unit {0} × Unit {0}) (λ m w1 h. (tt, tt)) _ c _ _ (evaluated_holds x act value ty s d place ks ops c l w le fits long has)
   both_hold x act value (Variable out slot) stay n ty s d place ks ops c l w le fits long has = absurd stay
 
-  operator_runs : (r : Right) (o : OperatorCode) (act : List ℕ → Act (List ℕ)) → o.right.right ≡ r → Value o.right act → (left : Cell) (ty : Ty) (to : Cell) (s : List Kind) → MayStay left.named r → (n : ℕ) (d : List ℕ) (place : ℕ) (ks : List Frame) (ops : List Word) (c : ℕ) (l : Log) (w : World) → c ≤ bound → Fits w → length d ≡ depth s → Stays left.named n d w → Laid code place (operator_by r o left ty to s) → Gets Any 0 0 (at d place ks (waiting left.named n ops) l w) c (landed to.named d (place + length (operator_by r o left ty to s)) ks ops) (combined o act d (n ∷ []) c l w)
+  operator_runs : (r : Right) (o : OperatorCode) (act : List ℕ → Act (List ℕ)) → o.right.right ≡ r → Value o.right act → (left : Cell) (ty : Ty) (to : Cell) (s : List Kind) → MayStay left.named r → (n : ℕ) (d : List ℕ) (place : ℕ) (ks : List Frame) (ops : List Word) (c : ℕ) (l : Log) (w : World) → c ≤ bound → Fits w → IsSeen w0 d s → Stays left.named n d w → Laid code place (operator_by r o left ty to s) → Gets Any 0 0 (at d place ks (waiting left.named n ops) l w) c (landed to.named d (place + length (operator_by r o left ty to s)) ks ops) (combined o act d (n ∷ []) c l w)
   unfolding opened_outcome scalar_of opened_lists
   operator_runs (RightOf.Constant m) o act is value left ty to s stay n d place ks ops c l w le fits long stays has =
       subst (λ q. Gets Any 0 0 (at d place ks (waiting left.named n ops) l w) c (landed to.named d (place + 1) ks ops) (add 1 (bind q (on_goes (λ z. or_constraint_error (binary o.op o.ty n (scalar_of z))))))) (sym (value.constant m is d c l w))
@@ -281,7 +287,7 @@ module _ (ask : Ask) (k : Tables) (code : Code) (bound : ℕ) (Fits : World → 
   Operators K _ _ = ⊥
 
   -- the last of them puts its value where it is wanted
-  operators_run : (K : Tools) (o : OperatorCode) (os : List OperatorCode) (m : Applied) (ms : List Applied) → Operators K (o ∷ os) (m ∷ ms) → (base : List Kind) (left : Cell) (s : List Kind) (ty : Ty) (to : Cell) → MayStay left.named o.right.right → (n : ℕ) (d : List ℕ) (place : ℕ) (ks : List Frame) (ops : List Word) (c : ℕ) (l : Log) (w : World) → c ≤ bound → Fits w → length d ≡ depth base → length d ≡ depth s → Stays left.named n d w → Laid code place (operators_code base left s ty (o ∷ os) to) → Gets Any 0 0 (at d place ks (waiting left.named n ops) l w) c (landed to.named d (place + length (operators_code base left s ty (o ∷ os) to)) ks ops) (apply_each K d (m ∷ ms) (n ∷ []) c l w)
+  operators_run : (K : Tools) (o : OperatorCode) (os : List OperatorCode) (m : Applied) (ms : List Applied) → Operators K (o ∷ os) (m ∷ ms) → (base : List Kind) (left : Cell) (s : List Kind) (ty : Ty) (to : Cell) → MayStay left.named o.right.right → (n : ℕ) (d : List ℕ) (place : ℕ) (ks : List Frame) (ops : List Word) (c : ℕ) (l : Log) (w : World) → c ≤ bound → Fits w → IsSeen w0 d base → IsSeen w0 d s → Stays left.named n d w → Laid code place (operators_code base left s ty (o ∷ os) to) → Gets Any 0 0 (at d place ks (waiting left.named n ops) l w) c (landed to.named d (place + length (operators_code base left s ty (o ∷ os) to)) ks ops) (apply_each K d (m ∷ ms) (n ∷ []) c l w)
   unfolding apply_each opened_outcome scalar_of opened_lists
   operators_run K o [] m (m2 ∷ ms) h base left s ty to stay n d place ks ops c l w le fits long0 long stays has = absurd h.1
   operators_run K o (p ∷ ps) m [] h base left s ty to stay n d place ks ops c l w le fits long0 long stays has = absurd h.1
@@ -331,7 +337,7 @@ module _ (ask : Ask) (k : Tables) (code : Code) (bound : ℕ) (Fits : World → 
   left_stays (RightOf.Variable v) x ty s = variable_stays (held x ty s).cell.named v
   left_stays RightOf.Evaluated x ty s = tt
 
-  left_holds : (r : Right) (x : ValueCode) (act : List ℕ → Act (List ℕ)) → Value x act → (ty : Ty) (s : List Kind) (d : List ℕ) (place : ℕ) (ks : List Frame) (ops : List Word) (c : ℕ) (l : Log) (w : World) → c ≤ bound → Fits w → length d ≡ depth s → Laid code place (left_held r x ty s).code → Holds (left_held r x ty s) (λ n w1. Stays (left_held r x ty s).cell.named n d w1) act d place ks ops c l w
+  left_holds : (r : Right) (x : ValueCode) (act : List ℕ → Act (List ℕ)) → Value x act → (ty : Ty) (s : List Kind) (d : List ℕ) (place : ℕ) (ks : List Frame) (ops : List Word) (c : ℕ) (l : Log) (w : World) → c ≤ bound → Fits w → IsSeen w0 d s → Laid code place (left_held r x ty s).code → Holds (left_held r x ty s) (λ n w1. Stays (left_held r x ty s).cell.named n d w1) act d place ks ops c l w
   left_holds (RightOf.Constant m) x act value ty s d place ks ops c l w le fits long has = held_holds x.right x act refl value ty s d place ks ops c l w le fits long has
   left_holds (RightOf.Variable v) x act value ty s d place ks ops c l w le fits long has = held_holds x.right x act refl value ty s d place ks ops c l w le fits long has
   left_holds RightOf.Evaluated x act value ty s d place ks ops c l w le fits long has = evaluated_holds x act value ty s d place ks ops c l w le fits long has
@@ -356,7 +362,7 @@ module _ (ask : Ask) (k : Tables) (code : Code) (bound : ℕ) (Fits : World → 
         subst (λ q. Begins Any (at d place ks ops l w) c (landed to.named d q ks ops) (bind (act d c l w) (on_goes (apply_each K d (m ∷ ms))))) e
         (begins_with h (λ n w1. Stays h.cell.named n d w1) act (apply_each K d (m ∷ ms)) d place ks ops c l w to.named (place + length h.code + length js)
         (left_holds o.right.right x act value ty s d place ks ops c l w le fits long (laid_front code place h.code js has))
-        (λ n c1 l1 w1 lo fits1 p. operators_run K o os m ms each s h.cell h.after ty to (left_stays o.right.right x ty s) n d (place + length h.code) ks ops c1 l1 w1 (omega (arith, lo, le)) fits1 long (long ∙ sym (left_depth o.right.right x ty s)) p (laid_back code place h.code js has)));
+        (λ n c1 l1 w1 lo fits1 p. operators_run K o os m ms each s h.cell h.after ty to (left_stays o.right.right x ty s) n d (place + length h.code) ks ops c1 l1 w1 (omega (arith, lo, le)) fits1 long (long.0, long.1, long.2 ∙ sym (left_depth o.right.right x ty s)) p (laid_back code place h.code js has)));
     constant = λ n is d c l w. absurd (cc);
     variable = λ y is d c l w. absurd (cc);
   }
@@ -370,14 +376,14 @@ module _ (ask : Ask) (k : Tables) (code : Code) (bound : ℕ) (Fits : World → 
   EachValue K _ _ = ⊥
 
   -- a value as an operand
-  pub value_runs : (x : ValueCode) (act : List ℕ → Act (List ℕ)) → Value x act → (to : Cell) (ty : Ty) (s : List Kind) (d : List ℕ) (place : ℕ) (ks : List Frame) (ops : List Word) (c : ℕ) (l : Log) (w : World) → c ≤ bound → Fits w → length d ≡ depth s → Laid code place (x.code to ty s) → Gets Any 0 0 (at d place ks ops l w) c (landed to.named d (place + length (x.code to ty s)) ks ops) (act d c l w)
+  pub value_runs : (x : ValueCode) (act : List ℕ → Act (List ℕ)) → Value x act → (to : Cell) (ty : Ty) (s : List Kind) (d : List ℕ) (place : ℕ) (ks : List Frame) (ops : List Word) (c : ℕ) (l : Log) (w : World) → c ≤ bound → Fits w → IsSeen w0 d s → Laid code place (x.code to ty s) → Gets Any 0 0 (at d place ks ops l w) c (landed to.named d (place + length (x.code to ty s)) ks ops) (act d c l w)
   value_runs x act value to ty s d place ks ops c l w le fits long has =
       let y = value.begins to ty s d place ks ops c l w le fits long has in
       let next = landed to.named d (place + length (x.code to ty s)) ks ops in
       subst (λ o. Gets Any 0 0 (at d place ks ops l w) c next o) (sym y.is) (added_to ask code (OneCell Fits Any) 1 8 8 0 0 _ c next y.out (omega arith) (omega arith) y.runs)
 
   -- a further operand, whose tick pays
-  other_runs : (form : Shortcut) (x : ValueCode) (act : List ℕ → Act (List ℕ)) → Value x act → (s : List Kind) (n : ℕ) (d : List ℕ) (place : ℕ) (ks : List Frame) (ops : List Word) (c : ℕ) (l : Log) (w : World) → c ≤ bound → Fits w → length d ≡ depth s → Laid code place (other_code form x s) → Gets Any 1 1 (at d place ks (Scalar n ∷ ops) l w) c (landed Operand d (place + length (other_code form x s)) ks ops) (either (decides form (n ∷ [])) (done (n ∷ [])) (act d) c l w)
+  other_runs : (form : Shortcut) (x : ValueCode) (act : List ℕ → Act (List ℕ)) → Value x act → (s : List Kind) (n : ℕ) (d : List ℕ) (place : ℕ) (ks : List Frame) (ops : List Word) (c : ℕ) (l : Log) (w : World) → c ≤ bound → Fits w → IsSeen w0 d s → Laid code place (other_code form x s) → Gets Any 1 1 (at d place ks (Scalar n ∷ ops) l w) c (landed Operand d (place + length (other_code form x s)) ks ops) (either (decides form (n ∷ [])) (done (n ∷ [])) (act d) c l w)
   unfolding opened_outcome scalar_of opened_lists
   other_runs form x act value s n d place ks ops c l w le fits long has =
       let e : place + 1 + length is ≡ place + length (other_code form x s) = omega arith in
@@ -412,7 +418,7 @@ module _ (ask : Ask) (k : Tables) (code : Code) (bound : ℕ) (Fits : World → 
   spare_least [] = omega arith
   spare_least (x ∷ xs) = omega arith
 
-  others_run : (K : Tools) (form : Shortcut) (xs : List ValueCode) (ms : List Valued) → EachValue K xs ms → (to : Cell) (s : List Kind) (n : ℕ) (d : List ℕ) (place : ℕ) (ks : List Frame) (ops : List Word) (c : ℕ) (l : Log) (w : World) → c ≤ bound → Fits w → length d ≡ depth s → Laid code place (others_code form xs s) → Laid code (place + length (others_code form xs s)) (moved_to to Boolean s) → Gets Any (spare xs) (spare xs) (at d place ks (Scalar n ∷ ops) l w) c (landed to.named d (place + length (others_code form xs s) + length (moved_to to Boolean s)) ks ops) (join_each K d form ms (n ∷ []) c l w)
+  others_run : (K : Tools) (form : Shortcut) (xs : List ValueCode) (ms : List Valued) → EachValue K xs ms → (to : Cell) (s : List Kind) (n : ℕ) (d : List ℕ) (place : ℕ) (ks : List Frame) (ops : List Word) (c : ℕ) (l : Log) (w : World) → c ≤ bound → Fits w → IsSeen w0 d s → Laid code place (others_code form xs s) → Laid code (place + length (others_code form xs s)) (moved_to to Boolean s) → Gets Any (spare xs) (spare xs) (at d place ks (Scalar n ∷ ops) l w) c (landed to.named d (place + length (others_code form xs s) + length (moved_to to Boolean s)) ks ops) (join_each K d form ms (n ∷ []) c l w)
   unfolding join_each opened_outcome scalar_of opened_lists
   others_run K form [] [] h to s n d place ks ops c l w le fits long has last =
       let e : place + 0 ≡ place = omega arith in

@@ -22,7 +22,8 @@ use Rattle.ctl_code.specs.Steps.{moved, step}
 use Rattle.ctl_code.specs.Valid.{IsDeclarable}
 use Rattle.ctl_gen.proofs.Known.{IsPlainType}
 use Rattle.ctl_gen.proofs.Parted.{GivesDefaults, have_kept}
-use Rattle.ctl_gen.proofs.Worlds.{Each, each_all, Fits, Since, since_begin, since_end, since_on}
+use Rattle.ctl_gen.proofs.Each.{Each, each_all}
+use Rattle.ctl_gen.proofs.Worlds.{Fits, Since, since_begin, since_end, since_on}
 use Rattle.ctl_gen.proofs.Scopes.{controlled_inside, kept_inside, still_surrounded}
 use Rattle.ctl_gen.proofs.Setting.{Setting, tools_with, returns, Calls, Sure, Told}
 use Rattle.ctl_gen.proofs.FinalizedParts.{heard, keep_passes, left_run, part_runs, tells}

@@ -1,16 +1,17 @@
--- The finalization of a declared object of a plain type.
-use Rattle.std.proofs.Common.{◌≡◌, ℕ, ◌<◌, ◌≤◌, List, ◌∷◌, length, Some, Bool, true, false, refl, sym, ap, ◌∙◌, subst, arith}
+-- The finalization of a whole object of a plain type: of a declared one, and of any that has a controlled part.
+use Rattle.std.proofs.Common.{◌≡◌, ℕ, ◌<◌, ◌≤◌, List, ◌∷◌, length, Option, Some, Bool, true, false, refl, sym, ap, ◌∙◌, subst, arith}
 use Rattle.std.specs.Prelude.{◌||◌, nat_eq}
 use Rattle.std.proofs.lemmas.Option.{slice_get_within}
 use Rattle.ctl_program.specs.declared.types.Ty.{Ty}
 use Rattle.ctl_program.specs.declared.types.Ty.TheVariants.{Record}
+use Rattle.ctl_tree.specs.declared.event.Cause.{Cause}
 use Rattle.ctl_tree.specs.declared.event.Cause.TheVariants.{Scope}
 use Rattle.ctl_meaning.specs.World.{Object, Member, Log, World}
 use Rattle.ctl_meaning.specs.Lists.{first_with, opened_lists}
 use Rattle.ctl_meaning.specs.Pools.{opened_pools}
 use Rattle.ctl_meaning.specs.Changes.{object_at, begin_finalization, end_finalization, home_of}
 use Rattle.ctl_meaning.specs.Choice.{Ask, picked}
-use Rattle.ctl_meaning.specs.Outcome.{Result, Goes, Leaves, Out, Gives, Act, add, bind, on_goes, ◌>>=◌, ◌>>◌, done, nothing, change, either, on_some, opened_outcome}
+use Rattle.ctl_meaning.specs.Outcome.{Way, Result, Goes, Leaves, Out, Gives, Act, add, bind, on_goes, ◌>>=◌, ◌>>◌, done, nothing, change, either, on_some, opened_outcome}
 use Rattle.ctl_meaning.specs.Types.{Tables, depth, has_controlled, of_record}
 use Rattle.ctl_meaning.specs.Names.{Call, Default, Tools, gone, opened_names}
 use Rattle.ctl_meaning.specs.Finalization.{Every, finalize, finalize_part, finalize_object, finalize_if_controlled, whole, opened_finalization}
@@ -20,16 +21,16 @@ use Rattle.ctl_code.specs.declared.code.Parts.TheVariants as PartsOf
 use Rattle.ctl_code.specs.declared.code.Code.{Code}
 use Rattle.ctl_code.specs.States.{Frame, Finalizing, State, whole_spot}
 use Rattle.ctl_code.specs.Table as Table
-use Rattle.ctl_code.specs.Table.{handed, parts_of}
+use Rattle.ctl_code.specs.Table.{has_part, parts_of}
 use Rattle.ctl_code.specs.Steps.{moved, step}
-use Rattle.ctl_code.specs.Valid.{IsDeclarable, has_part}
+use Rattle.ctl_code.specs.Valid.{IsDeclarable}
 use Rattle.ctl_gen.proofs.Known.{IsPlainType}
 use Rattle.ctl_gen.proofs.Parted.{GivesDefaults}
-use Rattle.ctl_gen.proofs.Worlds.{IfFound, Fits, Settled, Since, keeps_itself, object_fits, since_begin, since_end, since_on}
+use Rattle.ctl_gen.proofs.Worlds.{Fits, Since, keeps_itself, since_begin, since_end, since_on}
 use Rattle.ctl_gen.proofs.Scopes.{still_surrounded, type_inside}
-use Rattle.ctl_gen.proofs.Setting.{Setting, tools_with, Sure, Calls}
-use Rattle.ctl_gen.proofs.FinalizedParts.{part_runs, tells}
-use Rattle.ctl_gen.proofs.Follow.{Runs, way_of, added, both, no_step, last_step}
+use Rattle.ctl_gen.proofs.Setting.{Setting, tools_with, IsSure, Sure, Calls}
+use Rattle.ctl_gen.proofs.FinalizedParts.{IsPassed, Passed, part_runs, tells}
+use Rattle.ctl_gen.proofs.Follow.{Runs, way_of, added, both, no_step, last_step, weaker}
 
 -- an object that exists is finalized by its own type, and closes then if it is a pool
 abbrev pub finalize_as : Tools → ℕ → Ty → Act Bool
@@ -66,28 +67,30 @@ module _ (ask : Ask) (k : Tables) (code : Code) (setting : Setting k code) (call
   finalized n x = bind x (on_goes (λ b. change (end_finalization n) >> done b))
 
   -- an object that exists
-  object_is : (t n c : ℕ) (l : Log) (w : World) (o : Object) → object_at n w ≡ Some o → finalize_object K Scope (record { number = n; ty = Record t }) c l w ≡ add 0 (finalized n (finalize_part K Scope Every (depth k) (whole_spot n) t c l (begin_finalization n w)))
+  object_is : (cause : Cause) (t n c : ℕ) (l : Log) (w : World) (o : Object) → object_at n w ≡ Some o → finalize_object K cause (record { number = n; ty = Record t }) c l w ≡ add 0 (finalized n (finalize_part K cause Every (depth k) (whole_spot n) t c l (begin_finalization n w)))
   unfolding opened_finalization opened_outcome opened_names of_record depth
-  object_is t n c l w o at = ap (λ x. bind (bind (on_some x gone (λ _. nothing) c l w) (on_goes (λ _. change (begin_finalization n)))) (on_goes (λ _. finalize K Scope Every (whole n) t >>= (λ b. change (end_finalization n) >> done b)))) at
+  object_is cause t n c l w o at = ap (λ x. bind (bind (on_some x gone (λ _. nothing) c l w) (on_goes (λ _. change (begin_finalization n)))) (on_goes (λ _. finalize K cause Every (whole n) t >>= (λ b. change (end_finalization n) >> done b)))) at
 
-  object_runs : (t n : ℕ) (w0 : World) (ks : List Frame) (c : ℕ) (l : Log) (w : World) (s0 : State) (o : Object) → c ≤ bound → Since k code w0 w → object_at n w ≡ Some o → o.ty ≡ Record t → IsPlainType k (Record t) → has_controlled k (Record t) ≡ true → step ask code s0 ≡ moved l (Table.finalize_part code (parts_of code t) Scope (whole_spot n) t (Finalizing n ∷ ks) (begin_finalization n w)) → Runs ask code (Sure k code w0) 1 1 s0 c (tells ks) (finalize_object K Scope (record { number = n; ty = Record t }) c l w)
+  -- for a cause for which nothing leaves its finalization
+  pub object_runs : (cause : Cause) → ((y : Option Way) → IsPassed cause y → IsSure y) → (t n : ℕ) (w0 : World) (ks : List Frame) (c : ℕ) (l : Log) (w : World) (s0 : State) (o : Object) → c ≤ bound → Since k code w0 w → object_at n w ≡ Some o → o.ty ≡ Record t → IsPlainType k (Record t) → has_controlled k (Record t) ≡ true → step ask code s0 ≡ moved l (Table.finalize_part code (parts_of code t) cause (whole_spot n) t (Finalizing n ∷ ks) (begin_finalization n w)) → Runs ask code (Sure k code w0) 1 1 s0 c (tells ks) (finalize_object K cause (record { number = n; ty = Record t }) c l w)
   unfolding picked opened_outcome
-  object_runs t n w0 ks c l w s0 o le fits at ty plain held first =
-      subst (Runs ask code (Sure k code w0) 1 1 s0 c (tells ks)) (sym (object_is t n c l w o at))
+  object_runs cause sure t n w0 ks c l w s0 o le fits at ty plain held first =
+      subst (Runs ask code (Sure k code w0) 1 1 s0 c (tells ks)) (sym (object_is cause t n c l w o at))
       (added ask code (Sure k code w0) 0 1 1 1 1 s0 c (tells ks) _ (omega arith) (omega arith)
       (both ask code (Sure k code w) (Sure k code w0) 0 0 1 1 1 1 s0 c (tells (Finalizing n ∷ ks)) (tells ks) _ _ (omega arith) (omega arith) (omega arith)
-      (part_runs ask k code setting call default constants bound calls Scope w (length (home_of o.origin w)) (depth k) (whole_spot n) t (Finalizing n ∷ ks) c l (begin_finalization n w) s0 (still_surrounded k code w n o fits.0 at) (within_depth k t plain) plain held inside le (since_begin k code n w w (fits.0, keeps_itself k code w)) first)
+      (weaker ask code (Passed k code cause w) (Sure k code w) 0 0 s0 c (tells (Finalizing n ∷ ks)) _ (λ y v passed. (sure y passed.0, passed.1))
+      (part_runs ask k code setting call default constants bound calls cause w (length (home_of o.origin w)) (depth k) (whole_spot n) t (Finalizing n ∷ ks) c l (begin_finalization n w) s0 (still_surrounded k code w n o fits.0 at) (within_depth k t plain) plain held inside le (since_begin k code n w w (fits.0, keeps_itself k code w)) first))
       after))
     where
       inside : IsDeclarable code (length (home_of o.origin w)) t
-      inside = type_inside k code w o t ty (subst (IfFound (Settled k code w.ledger.next_master w.activations)) at (object_fits k code n w fits.0))
+      inside = type_inside k code n w o t fits.0 at ty
 
       after : (r : Result Bool) (c1 : ℕ) (l1 : Log) (w1 : World) → c1 ≤ c → Sure k code w (way_of r) w1 → Runs ask code (Sure k code w0) 1 1 (tells (Finalizing n ∷ ks) r l1 w1) c1 (tells ks) (on_goes (λ b. change (end_finalization n) >> done b) r c1 l1 w1)
       after (Goes b) c1 l1 w1 lo sure = last_step ask code (Sure k code w0) 1 1 _ c1 0 (tells ks) (Goes b) l1 (end_finalization n w1) (omega arith) (tt, since_end k code n w0 w1 (since_on k code w0 w w1 fits sure.1)) refl
       after (Leaves y) c1 l1 w1 lo sure = absurd sure.0
 
   -- a declared object, which is no pool
-  pub declared_runs : (t n : ℕ) (w0 : World) (ks : List Frame) (c : ℕ) (l : Log) (w : World) (s0 : State) (o : Object) → c ≤ bound → Since k code w0 w → object_at n w ≡ Some o → o.ty ≡ Record t → IsPlainType k (Record t) → step ask code s0 ≡ moved l (Table.finalize_object code (parts_of code t) n t ks w) → Runs ask code (Sure k code w0) 3 3 s0 c (tells ks) (finalize_as K n (Record t) c l w)
+  pub declared_runs : (t n : ℕ) (w0 : World) (ks : List Frame) (c : ℕ) (l : Log) (w : World) (s0 : State) (o : Object) → c ≤ bound → Since k code w0 w → object_at n w ≡ Some o → o.ty ≡ Record t → IsPlainType k (Record t) → step ask code s0 ≡ moved l (Table.finalize_object code (parts_of code t) Scope n t ks w) → Runs ask code (Sure k code w0) 3 3 s0 c (tells ks) (finalize_as K n (Record t) c l w)
   unfolding opened_outcome opened_finalization
   declared_runs t n w0 ks c l w s0 o le fits at ty plain first = by (parts_of code t) refl first
     where
@@ -108,9 +111,9 @@ module _ (ask : Ask) (k : Tables) (code : Code) (setting : Setting k code) (call
       touched : has_controlled k (Record t) ≡ true → step ask code s0 ≡ moved l (Table.finalize_part code (parts_of code t) Scope (whole_spot n) t (Finalizing n ∷ ks) (begin_finalization n w)) → Runs ask code (Sure k code w0) 3 3 s0 c (tells ks) (finalize_as K n (Record t) c l w)
       touched held go =
           subst (λ b. Runs ask code (Sure k code w0) 3 3 s0 c (tells ks) (bind (either b (finalize_object K Scope m) (done false) c l w) (on_goes (λ a. close_pool K n >>= (λ b1. done (a || b1)))))) (sym held)
-          (both ask code (Sure k code w0) (Sure k code w0) 1 1 0 0 3 3 s0 c (tells ks) (tells ks) _ _ (omega arith) (omega arith) (omega arith) (object_runs t n w0 ks c l w s0 o le fits at ty plain held go) after)
+          (both ask code (Sure k code w0) (Sure k code w0) 1 1 0 0 3 3 s0 c (tells ks) (tells ks) _ _ (omega arith) (omega arith) (omega arith) (object_runs Scope (λ y h. h) t n w0 ks c l w s0 o le fits at ty plain held go) after)
 
-      by : (p : Parts) → parts_of code t ≡ p → step ask code s0 ≡ moved l (Table.finalize_object code p n t ks w) → Runs ask code (Sure k code w0) 3 3 s0 c (tells ks) (finalize_as K n (Record t) c l w)
+      by : (p : Parts) → parts_of code t ≡ p → step ask code s0 ≡ moved l (Table.finalize_object code p Scope n t ks w) → Runs ask code (Sure k code w0) 3 3 s0 c (tells ks) (finalize_as K n (Record t) c l w)
       by PartsOf.Plain is go = subst (Runs ask code (Sure k code w0) 3 3 s0 c (tells ks)) (sym (untouched_is t n c l w (has ∙ ap has_part is) fits.0)) (last_step ask code (Sure k code w0) 3 3 s0 c 0 (tells ks) (Goes false) l w (omega arith) (tt, fits) go)
       by PartsOf.Within is go = touched (has ∙ ap has_part is) (go ∙ ap (λ p. moved l (Table.finalize_part code p Scope (whole_spot n) t (Finalizing n ∷ ks) (begin_finalization n w))) (sym is))
       by PartsOf.Controlled is go = touched (has ∙ ap has_part is) (go ∙ ap (λ p. moved l (Table.finalize_part code p Scope (whole_spot n) t (Finalizing n ∷ ks) (begin_finalization n w))) (sym is))

@@ -23,13 +23,14 @@ use Rattle.ctl_code.specs.declared.code.Parts.TheVariants as PartsOf
 use Rattle.ctl_code.specs.declared.code.Code.{Code}
 use Rattle.ctl_code.specs.States.{Handed, Complete, AfterBody, Frame, FinalizingOwn, FinalizingParts, State}
 use Rattle.ctl_code.specs.Table as Table
-use Rattle.ctl_code.specs.Table.{component_of, controlled_of, finalize_component, finalize_left, finalize_own, handed, operation_of, or_complete, own_failed, part_at, parts_of, says_failed}
+use Rattle.ctl_code.specs.Table.{component_of, controlled_of, finalize_component, finalize_left, finalize_own, handed, has_part, operation_of, or_complete, own_failed, part_at, parts_of, says_failed}
 use Rattle.ctl_code.specs.Steps.{moved, step, stepped}
-use Rattle.ctl_code.specs.Valid.{AreBegunBy, IsBegunBy, IsDeclarable, has_part}
+use Rattle.ctl_code.specs.Valid.{AreBegunBy, IsBegunBy, IsDeclarable}
 use Rattle.ctl_gen.proofs.Known.{IsPlainType}
 use Rattle.ctl_gen.proofs.Parted.{AgreesOn, GivesDefaults, HasPart, HaveParts, component_is, is_itself, parts_length, parts_pulled, parts_rest}
 use Rattle.ctl_gen.proofs.Picks.{next_in_order, none_in_order, picked_less, rest_length}
-use Rattle.ctl_gen.proofs.Worlds.{Each, Since}
+use Rattle.ctl_gen.proofs.Each.{Each}
+use Rattle.ctl_gen.proofs.Worlds.{Since, origin_nested}
 use Rattle.ctl_gen.proofs.Scopes.{IsSurrounded, controlled_inside, declarable_later, finalize_in, pulled_inside, rest_inside}
 use Rattle.ctl_gen.proofs.Setting.{Setting, tools_with, returns, IsSure, Told, Calls, enter_shows}
 use Rattle.ctl_gen.proofs.Follow.{IsRaise, by_raise, Comes, Runs, gives, way_of, added, after_comes, both, last_step, one_step, stop_step, more_quits, more_halts}
@@ -304,7 +305,7 @@ module _ (ask : Ask) (k : Tables) (code : Code) (setting : Setting k code) (call
       let here : IsDeclarable code (length (home_of p.origin w)) t = declarable_later code around (length (home_of p.origin w)) t (was w p fits at) inside in
       subst (λ x. Finalizes 0 0 s0 c ks (after_own n s t x)) (sym (call_is ask k call default f s c (shown s) l w p at))
       (over n parts s t was old plain inside ks s0 c _ le
-      (calls.runs f body.0 body.1 wr (home_of p.origin w) (holding (Binds s.object s.offset s.path) ∷ []) AfterBody (FinalizingOwn cause s t ∷ ks) c (tell (shown s) l) w s0 Procedure 1 tt le fits (finalize_in code setting.valid _ t f here (setting.finalize t ∙ op)) (tt, tt)
+      (calls.runs f body.0 body.1 wr (home_of p.origin w) (holding (Binds s.object s.offset s.path) ∷ []) AfterBody (FinalizingOwn cause s t ∷ ks) c (tell (shown s) l) w s0 Procedure 1 tt le fits (finalize_in code setting.valid _ t f here (setting.finalize t ∙ op)) (origin_nested k code p.origin w fits.0) (tt, tt)
       (go ∙ enter_shows (slice_get code.entries.items f) (shown s) (home_of p.origin w) (holding (Binds s.object s.offset s.path) ∷ []) AfterBody (FinalizingOwn cause s t ∷ ks) l w)))
 
   -- each part

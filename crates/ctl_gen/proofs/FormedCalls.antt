@@ -1,6 +1,6 @@
 -- The code of a call is well formed where its actuals are: each of them is a new operand, the call takes them all, and copies go back from
 -- what it leaves (6.4, 6.4.1).
-use Rattle.std.proofs.Common.{◌≡◌, ℕ, zero, suc, ◌+◌, ◌≤◌, List, [], ◌∷◌, drop, length, Option, Some, None, Bool, true, false, refl, sym, ap, ◌∙◌, subst, arith}
+use Rattle.std.proofs.Common.{◌≡◌, ℕ, zero, suc, ◌+◌, ◌≤◌, List, [], ◌∷◌, drop, length, Option, Some, None, Bool, true, false, refl, sym, ap, ◌∙◌, subst, arith, inl}
 use Rattle.std.specs.Prelude.{if◌then◌else◌}
 use Rattle.ctl_program.specs.declared.types.Ty.{Ty}
 use Rattle.ctl_program.specs.declared.types.Ty.TheVariants.{Integer, Count, Boolean, Address, Handle, Access, Record}
@@ -20,10 +20,10 @@ use Rattle.ctl_code.specs.declared.code.Instr.TheVariants as InstrOf
 use Rattle.ctl_code.specs.declared.code.Code.{Code}
 use Rattle.ctl_code.specs.Windows.{depth, height}
 use Rattle.ctl_code.specs.Valid as Valid
-use Rattle.ctl_code.specs.Valid.{HasFormals, HaveNumbers, HaveOperands, IsCalled, IsCellOf, IsFine, IsInScope, Leads, over_numbers}
+use Rattle.ctl_code.specs.Valid.{IsAllocable, HasFormals, HaveNumbers, HaveOperands, IsCalled, IsCellOf, IsFine, IsInScope, Leads, over_numbers}
 use Rattle.ctl_code.proofs.Numbered.{below_over, have_over}
 use Rattle.ctl_layout.specs.Around.{new_operand, out_to}
-use Rattle.ctl_layout.specs.Parts.{Reached, Part, Variable}
+use Rattle.ctl_layout.specs.Parts.{Reached, Object, Part, Variable}
 use Rattle.ctl_layout.specs.Records.{is_run_type}
 use Rattle.ctl_layout.specs.Layout.{calls_code}
 use Rattle.ctl_layout.specs.Values.{ActualCode, ValueCode, actuals_code, back_to, backs_code, begins_code, by_copy, by_reference, by_value, copied_back, copies_code, copies_of, evaluates_code, function_call, goes_back, moved_to, read, with_actuals}
@@ -32,8 +32,9 @@ use Rattle.ctl_gen.specs.Emitted.{taking_actuals}
 use Rattle.ctl_gen.proofs.EmittedCalls.{actuals_left, height_over}
 use Rattle.ctl_gen.proofs.Formed.{Behind, Formed, both, none, one}
 use Rattle.ctl_gen.proofs.FormedParts.{part_formed}
+use Rattle.ctl_gen.proofs.Walked.{IsWalked}
 use Rattle.ctl_gen.proofs.FormedTypes.{run_scalar}
-use Rattle.ctl_gen.proofs.FormedValues.{Fine, Own, Usable, moved_formed, puts, read_own, usable_as, with_put}
+use Rattle.ctl_gen.proofs.FormedValues.{Fine, Own, Usable, moved_formed, own_as, puts, read_own, usable_as, with_put}
 
 -- What stands there with the actuals --------------------------------------------------------------
 
@@ -76,7 +77,7 @@ begins_cell Count scalar = tt
 begins_cell Boolean scalar = omega arith
 begins_cell Address scalar = tt
 begins_cell Handle scalar = tt
-begins_cell (Access a) scalar = absurd scalar
+begins_cell (Access a) scalar = tt
 begins_cell (Record t) scalar = absurd scalar
 
 module _ (code : Code) where
@@ -132,6 +133,14 @@ kind_by (Some t) = Function
 abbrev pub MayCall : Code → W.Setting → Type 0
 MayCall code k = (env : W.Frames) (f : ℕ) (is : W.Signature) → W.Callable k env f is → IsInScope code (length env) (Some f) × HasFormals code (kind_by is.result) f (length is.formals)
 
+-- levels count from 1
+pub named_level : {env : W.Frames} {v : Var} {h : W.Holding} → W.Names env v h → 1 ≤ v.level
+named_level (W.slot found there) = omega arith
+
+-- the collection of an access type in view stands around, and its record type is declared around that
+abbrev pub MayNew : Code → W.Setting → Type 0
+MayNew code k = (env : W.Frames) (a t : ℕ) → (to : W.HasAccess k env a) → to.is.designated ≡ Record t → IsAllocable code (length env) a t
+
 -- inside so many masters
 module _ (code : Code) (masters : ℕ) where
   -- an actual is a new operand of its type
@@ -172,20 +181,19 @@ module _ (code : Code) (masters : ℕ) where
 
   -- the value of a function
   pub function_own : (f : ℕ) (actuals : List ActualCode) (ty : Ty) → Valid.IsScalar ty → IsInScope code masters (Some f) → HasFormals code Function f (length actuals) → GoodActuals actuals → Own code masters (function_call f actuals ty) ty
-  function_own f actuals ty scalar scope formals good = record {
-    own = refl;
-    usable = record {
-      scalar = scalar;
-      formed = λ to s deep at.
-          let top = Operand ty ∷ s in
-          let left = sym (actuals_left actuals s) in
-          both code (evaluates_code f actuals ty s) (moved_to to ty s) s top (Some (with_put to.named ty s))
-          (taking_formed (InstrOf.Evaluate f (length actuals) ty (height s)) actuals s (Some top) deep good
-          (λ p next. (scalar, called Function f actuals s deep scope formals, ap height left, subst (λ r. Leads code (p + 1) (Operand ty ∷ r)) left next)))
-          (moved_formed code to ty s scalar at);
-      constant = λ n is. absurd (cc);
-    };
-  }
+  function_own f actuals ty scalar scope formals good =
+      own_as code masters (function_call f actuals ty) ty refl scalar
+      (λ u of_scalar. record {
+        scalar = of_scalar;
+        formed = λ to s deep at.
+            let top = Operand u ∷ s in
+            let left = sym (actuals_left actuals s) in
+            both code (evaluates_code f actuals u s) (moved_to to u s) s top (Some (with_put to.named u s))
+            (taking_formed (InstrOf.Evaluate f (length actuals) u (height s)) actuals s (Some top) deep good
+            (λ p next. (of_scalar, called Function f actuals s deep scope formals, ap height left, subst (λ r. Leads code (p + 1) (Operand u ∷ r)) left next)))
+            (moved_formed code to u s of_scalar at);
+        constant = λ n is. absurd (cc);
+      })
 
   -- Actuals ----------------------------------------------------------------------------------------
 
@@ -197,24 +205,25 @@ module _ (code : Code) (masters : ℕ) where
         u.formed (new_operand stack) stack deep refl
     value_good x k t s (J.ancestor descends) fine runs stack deep = absurd (cc)
 
-    pub reference_good : (o : Option Reached) (t : Ty) → (by_reference o t).runs records ≡ true → GoodActual (by_reference o t)
-    reference_good None t runs s deep = absurd (cc)
-    reference_good (Some o) (Record t) runs s deep = part_formed code records o t s runs
-    reference_good (Some o) Integer runs s deep = absurd (cc)
-    reference_good (Some o) Count runs s deep = absurd (cc)
-    reference_good (Some o) Boolean runs s deep = absurd (cc)
-    reference_good (Some o) Address runs s deep = absurd (cc)
-    reference_good (Some o) Handle runs s deep = absurd (cc)
-    reference_good (Some o) (Access a) runs s deep = absurd (cc)
+    pub reference_good : (o : Option Reached) (t : Ty) → IsWalked o → (by_reference o t).runs records ≡ true → GoodActual (by_reference o t)
+    reference_good None t walked runs s deep = absurd (cc)
+    reference_good (Some o) (Record t) walked runs s deep = part_formed code o t s walked
+    reference_good (Some o) Integer walked runs s deep = absurd (cc)
+    reference_good (Some o) Count walked runs s deep = absurd (cc)
+    reference_good (Some o) Boolean walked runs s deep = absurd (cc)
+    reference_good (Some o) Address walked runs s deep = absurd (cc)
+    reference_good (Some o) Handle walked runs s deep = absurd (cc)
+    reference_good (Some o) (Access a) walked runs s deep = absurd (cc)
 
     -- what a copy of a variable begins with
     begins_good : (begins : CopyStart) (v : Var) (t : Ty) → (read (Some (Variable v)) t).runs records ≡ true → (s : List Kind) → depth s ≡ masters → Formed code (begins_code begins v t s) s (Some (Operand t ∷ s))
-    begins_good CopyStartOf.Actual v t runs s deep = (read_own code masters records (Some (Variable v)) t runs).usable.formed (new_operand s) s deep refl
+    begins_good CopyStartOf.Actual v t runs s deep = ((read_own code masters records (Some (Variable v)) t refl runs).usable t (inl refl)).formed (new_operand s) s deep refl
     begins_good CopyStartOf.Beginning v t runs s deep = one code (InstrOf.Set 0 t (new_operand s)) s (Some (Operand t ∷ s)) (λ p next. (begins_cell t (run_scalar t runs), puts code p (new_operand s) t s refl next))
 
     pub copy_good : (o : Option Reached) (t : Ty) (begins : CopyStart) → (by_copy o t begins).runs records ≡ true → GoodActual (by_copy o t begins)
     copy_good None t begins runs s deep = absurd (cc)
     copy_good (Some (Part v steps u position)) t begins runs s deep = absurd (cc)
+    copy_good (Some (Object v steps)) t begins runs s deep = absurd (cc)
     copy_good (Some (Variable v)) t begins runs s deep = begins_good begins v t runs s deep
 
     -- another name of the same actual

@@ -1,7 +1,7 @@
 -- The code of a well-typed expression is well formed, and puts a value of its type where it is wanted; and so is that of well-typed actuals,
 -- which hold expressions.
-use Rattle.std.proofs.Common.{◌≡◌, ℕ, suc, List, ◌∷◌, length, map, Option, None, true, inl, inr, refl, sym, ap, ◌∙◌, subst}
-use Rattle.std.specs.Prelude.{◌&&◌, not}
+use Rattle.std.proofs.Common.{◌≡◌, ℕ, suc, List, ◌∷◌, length, map, Option, Some, None, true, inl, inr, refl, sym, ap, ◌∙◌, subst}
+use Rattle.std.specs.Prelude.{◌&&◌, not, option_map}
 use Rattle.ctl_program.specs.declared.types.Ty.{Ty}
 use Rattle.ctl_program.specs.declared.types.Ty.TheVariants.{Boolean}
 use Rattle.ctl_program.specs.declared.types.Ty.TheVariants as TyOf
@@ -17,16 +17,17 @@ use Rattle.ctl_well_typed.specs.Expressions as T
 use Rattle.ctl_code.specs.declared.kinds.Kind.TheVariants as KindOf
 use Rattle.ctl_code.specs.declared.code.Code.{Code}
 use Rattle.ctl_code.specs.Valid as Valid
-use Rattle.ctl_code.specs.Valid.{HasFormals}
+use Rattle.ctl_code.specs.Valid.{HasFormals, IsAllocable}
 use Rattle.ctl_layout.specs.Records.{is_run_type}
-use Rattle.ctl_layout.specs.Values.{OperatorCode, ValueCode, actual_code, actuals_run, chain, goes_back, missing_value, operator_of, operators_run, reached_by, value_code, values_run}
+use Rattle.ctl_layout.specs.Values.{OperatorCode, ValueCode, actual_code, actuals_run, chain, goes_back, missing_value, new, operator_of, operators_run, reached_by, value_code, values_run}
 use Rattle.ctl_layout.proofs.Extensions.{both_true}
 use Rattle.ctl_layout.proofs.Layers.{actual_copied, actual_part, actual_value, value_access, value_call, value_chain, value_constant, value_convert, value_discriminant, value_new, value_read, value_short, value_subpool, value_unary}
 use Rattle.ctl_layout.proofs.TreeLayers.{operator_roll}
 use Rattle.ctl_gen.proofs.Formed.{none}
-use Rattle.ctl_gen.proofs.FormedCalls.{GoodActual, GoodActuals, MayCall, copy_good, function_own, good_as, kind_by, reference_good, value_good}
-use Rattle.ctl_gen.proofs.FormedTypes.{joins_scalar, run_scalar, takes_unary}
-use Rattle.ctl_gen.proofs.FormedValues.{Conditions, Fine, Operating, chain_own, first_joins, next_condition, next_joins, next_operating, none_operating, read_own, short_own, unary_own, usable_as}
+use Rattle.ctl_gen.proofs.Walked.{name_walked}
+use Rattle.ctl_gen.proofs.FormedCalls.{GoodActual, GoodActuals, MayCall, MayNew, copy_good, function_own, good_as, kind_by, reference_good, value_good}
+use Rattle.ctl_gen.proofs.FormedTypes.{IsAccessType, joins_plain, joins_scalar, run_scalar, takes_unary}
+use Rattle.ctl_gen.proofs.FormedValues.{Conditions, Fine, Operating, chain_own, fine_like, first_joins, new_own, next_condition, next_joins, next_operating, none_operating, read_own, short_own, unary_own, usable_as}
 
 -- as many actuals as formals
 as_many : {k : W.Setting} {env : W.Frames} {fs : List W.Formal} {actuals : List Actual} → FitEach k env fs actuals → length fs ≡ length (map actual_code actuals)
@@ -51,20 +52,32 @@ module _ (code : Code) (records : List RecordType) where
   not_missing : (x : ValueCode) → x ≡ missing_value None → x.runs records ≡ true → ⊥
   not_missing x same h = absurd (let e = sym (ap (λ (z : ValueCode). z.runs records) same) ∙ h in cc)
 
-  -- an access value is a literal here
-  as_access : (masters : ℕ) (x : ValueCode) (a b : ℕ) → Fine code masters x (TyOf.Access a) → Fine code masters x (TyOf.Access b)
-  as_access masters x a b (inl h) = absurd h.usable.scalar
-  as_access masters x a b (inr (n, is, cell)) = inr (n, is, cell)
+  -- an allocator, which is run where it has no handle and no value
+  allocated_fine : (masters a : ℕ) (t : Ty) (handle value : Option ValueCode) → ((u : ℕ) → t ≡ TyOf.Record u → IsAllocable code masters a u) → (new a t handle value).runs records ≡ true → Fine code masters (new a t handle value) (TyOf.Access a)
+  allocated_fine masters a (TyOf.Record u) None None may runs = inl (new_own code masters a u (may u refl))
+  allocated_fine masters a (TyOf.Record u) None (Some x) may runs = absurd (cc)
+  allocated_fine masters a (TyOf.Record u) (Some h) x may runs = absurd (cc)
+  allocated_fine masters a TyOf.Integer h x may runs = absurd (cc)
+  allocated_fine masters a TyOf.Count h x may runs = absurd (cc)
+  allocated_fine masters a TyOf.Boolean h x may runs = absurd (cc)
+  allocated_fine masters a TyOf.Address h x may runs = absurd (cc)
+  allocated_fine masters a TyOf.Handle h x may runs = absurd (cc)
+  allocated_fine masters a (TyOf.Access b) h x may runs = absurd (cc)
+
+  -- no operator gives an access value
+  chain_plain : {k : W.Setting} {env : W.Frames} {s t : Ty} {os : List Operand} → Chains k env s os t → (IsAccessType s → ⊥) → IsAccessType t → ⊥
+  chain_plain T.ended plain = plain
+  chain_plain (T.behind {o = op} {s = s} {t = u} joins right rest) plain = chain_plain rest (joins_plain op s u joins)
 
   -- Well-typed expressions ---------------------------------------------------------------------------
 
-  module _ (k : W.Setting) (may_call : MayCall code k) where
+  module _ (k : W.Setting) (may_call : MayCall code k) (may_new : MayNew code k) where
     mutual
       pub typed_fine : {env : W.Frames} {x : Expr} {t : Ty} → Typed k env x t → (value_code x).runs records ≡ true → Fine code (length env) (value_code x) t
       typed_fine {env} (T.constant {cell = n} {t = t} scalar cell view) runs = inr (n, value_constant n, cell)
       typed_fine {env} (T.read {x = x} {t = t} denotes) runs =
           let same = value_read x t in
-          fine_as (length env) _ _ t same (inl (read_own code (length env) records (reached_by x) t (runs_as _ _ same runs)))
+          fine_as (length env) _ _ t same (inl (read_own code (length env) records (reached_by x) t (name_walked x) (runs_as _ _ same runs)))
       typed_fine {env} (T.call {s = f} {is = is} {actuals = actuals} {t = t} callable gives fits) runs =
           let same = value_call f actuals t in
           let e = both_true (is_run_type t) (not (goes_back (map actual_code actuals)) && actuals_run (map actual_code actuals) records) (runs_as _ _ same runs) in
@@ -82,7 +95,7 @@ module _ (code : Code) (records : List RecordType) where
           let f = both_true ((value_code y).runs records) (operators_run records (map operator_of more)) e.1 in
           let joined = first_joins code (length env) op (value_code x) (value_code y) s u joins (typed_fine h e.0) (typed_fine right f.0) in
           let behind_it = operating rest f.1 (joins_scalar op s u joins) in
-          fine_as (length env) _ _ t same (inl (chain_own code (length env) (value_code x) (record { op = op; ty = u; right = value_code y }) (map operator_of more) t joined.1 joined.0 joined.2 behind_it))
+          fine_as (length env) _ _ t same (inl (chain_own code (length env) (value_code x) (record { op = op; ty = u; right = value_code y }) (map operator_of more) t (chain_plain rest (joins_plain op s u joins)) joined.1 joined.0 joined.2 behind_it))
       typed_fine {env} (T.short {form = form} {x = x} {y = y} {more = more} h g rest) runs =
           let same = value_short form x y more in
           let e = both_true ((value_code x).runs records) ((value_code y).runs records && values_run records (map value_code more)) (runs_as _ _ same runs) in
@@ -90,9 +103,11 @@ module _ (code : Code) (records : List RecordType) where
           fine_as (length env) _ _ Boolean same (inl (short_own code (length env) form (value_code x) (value_code y) (map value_code more) (usable_as code (length env) (value_code x) Boolean tt (typed_fine h e.0))
           (next_condition code (length env) form (value_code y) (map value_code more) (usable_as code (length env) (value_code y) Boolean tt (typed_fine g f.0)) (conditions form rest f.1))))
       typed_fine {env} (T.convert {x = x} {t = t} number from h) runs = absurd (not_missing _ (value_convert t x) runs)
-      typed_fine {env} (T.as_access {x = x} {a = a} {b = b} from to same h) runs = as_access (length env) (value_code x) a b (typed_fine h runs)
+      typed_fine {env} (T.as_access {x = x} {a = a} {b = b} from to same h) runs = fine_like code (length env) (value_code x) (TyOf.Access b) (TyOf.Access a) (inr ((b, refl), (a, refl))) (typed_fine h runs)
       typed_fine {env} (T.access {v = v} names found designates) runs = absurd (not_missing _ (value_access v) runs)
-      typed_fine {env} (T.allocate {a = a} {t = t} {handle = handle} {value = x} to covers view h g) runs = absurd (not_missing _ (value_new a t handle x) runs)
+      typed_fine {env} (T.allocate {a = a} {t = t} {handle = handle} {value = x} to designates view h g) runs =
+          let same = value_new a t handle x in
+          fine_as (length env) _ _ (TyOf.Access a) same (allocated_fine (length env) a t (option_map value_code handle) (option_map value_code x) (λ u is. may_new env a u to (designates ∙ is)) (runs_as _ _ same runs))
       typed_fine {env} (T.subpool {which = which} {x = x} denotes rooted) runs = absurd (not_missing _ (value_subpool which x) runs)
       typed_fine {env} (T.discriminant {x = x} {i = i} denotes rooted has) runs = absurd (not_missing _ (value_discriminant x i) runs)
 
@@ -114,7 +129,7 @@ module _ (code : Code) (records : List RecordType) where
 
       actual_good : {env : W.Frames} {f : W.Formal} {a : Actual} → Fits k env f a → (actual_code a).runs records ≡ true → GoodActual code (length env) (actual_code a)
       actual_good {env} (T.by_value {x = x} {s = s} {t = t} covers typed) = good_as code (length env) records _ _ (actual_value x t) (value_good code (length env) records (value_code x) k t s covers (λ runs. typed_fine typed runs))
-      actual_good {env} (T.by_reference {x = x} {t = t} from to denotes) = good_as code (length env) records _ _ (actual_part x t) (reference_good code (length env) records (reached_by x) t)
+      actual_good {env} (T.by_reference {x = x} {t = t} from to denotes) = good_as code (length env) records _ _ (actual_part x t) (reference_good code (length env) records (reached_by x) t (name_walked x))
       actual_good {env} (T.by_copy {x = x} {p = p} {t = t} written scalar denotes) = good_as code (length env) records _ _ (actual_copied x t (J.copy_of p t)) (copy_good code (length env) records (reached_by x) t (J.copy_of p t))
 
       pub actuals_good : {env : W.Frames} {fs : List W.Formal} {actuals : List Actual} → FitEach k env fs actuals → actuals_run (map actual_code actuals) records ≡ true → GoodActuals code (length env) (map actual_code actuals)

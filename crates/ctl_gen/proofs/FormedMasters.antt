@@ -8,7 +8,7 @@ use Rattle.ctl_program.specs.declared.types.RecordType.{RecordType}
 use Rattle.ctl_program.specs.declared.expression.Actual.{Actual}
 use Rattle.ctl_program.specs.declared.expression.Expr.{Expr}
 use Rattle.ctl_program.specs.declared.statement.Item.{Item}
-use Rattle.ctl_program.specs.declared.statement.Item.TheVariants.{Object}
+use Rattle.ctl_program.specs.declared.statement.Item.TheVariants.{Collections, Object}
 use Rattle.ctl_program.specs.declared.statement.Stmt.{Stmt}
 use Rattle.ctl_program.specs.declared.statement.Stmt.TheVariants.{rolls-Assign, rolls-AssignRecord, rolls-Block, rolls-Call, rolls-Dispatch, rolls-Exit, rolls-For, rolls-Free, rolls-If, rolls-LibraryAllocate, rolls-LibraryDeallocate, rolls-Loop, rolls-NewLine, rolls-Nothing, rolls-Null, rolls-Put, rolls-PutLine, rolls-Raise, rolls-RaiseAgain, rolls-Release, rolls-Return, rolls-While}
 use Rattle.ctl_program.specs.declared.statement.Arm.{Arm}
@@ -26,13 +26,14 @@ use Rattle.ctl_code.specs.declared.code.Instr.TheVariants as InstrOf
 use Rattle.ctl_code.specs.declared.code.Way.TheVariants as WayOf
 use Rattle.ctl_code.specs.declared.code.Code.{Code}
 use Rattle.ctl_code.specs.Windows.{depth, variable_at}
-use Rattle.ctl_code.specs.Valid.{IsAtEnd, IsDeclarable, outermost}
+use Rattle.ctl_code.specs.Valid.{IsAccess, IsAtEnd, IsDeclarable, outermost}
 use Rattle.ctl_layout.specs.Around.{behind, local_at}
-use Rattle.ctl_layout.specs.Parts.{Reached, Variable, Part, part_runs, parts_run}
+use Rattle.ctl_layout.specs.Parts.{Reached, Variable, Part, Object, part_runs, parts_run}
 use Rattle.ctl_layout.specs.Values.{ValueCode, actual_code, copied, sourced, value_code, value_type, reached_by}
 use Rattle.ctl_layout.specs.Records.{is_run_type}
 use Rattle.ctl_layout.specs.Defaults.{is_assignable, is_outermost}
-use Rattle.ctl_layout.specs.Layout.{ArmCode, HandlerCode, ItemCode, MasterCode, StatementCode, all, all_items, arm_code, arms_run, assign, assign_record, block, call, exit, return, handled, handler_code, handlers_run, has_choice, in_master, inside, item_code, master_code, missing_statement, statement_code, tested, valued, with_value}
+use Rattle.ctl_layout.specs.Layout as Layout
+use Rattle.ctl_layout.specs.Layout.{ArmCode, HandlerCode, ItemCode, MasterCode, StatementCode, all, all_items, arm_code, arms_run, assign, assign_record, block, call, exit, gathers_code, return, handled, handler_code, handlers_run, has_choice, in_master, inside, item_code, master_code, missing_statement, statement_code, tested, valued, with_value}
 use Rattle.ctl_layout.proofs.Extensions.{both_true}
 use Rattle.ctl_layout.proofs.TreeLayers.{arm_roll, layer_of, master_roll, handler_roll}
 use Rattle.ctl_gen.proofs.Place.{HasAt}
@@ -40,10 +41,11 @@ use Rattle.ctl_gen.proofs.Formed.{both, both_at, Formed, FormedAt, none, one}
 use Rattle.ctl_gen.proofs.FormedAround.{Agrees, agrees_inside, leave_behind, leaves_formed, newest_there}
 use Rattle.ctl_gen.proofs.FormedArms.{GoodArms, branches_stay}
 use Rattle.ctl_gen.proofs.FormedHandlers.{AreChoices, AreExceptions, GoodHandlers, StaysAtEnd, handled_stays}
-use Rattle.ctl_gen.proofs.FormedCalls.{MayCall, call_formed}
+use Rattle.ctl_gen.proofs.FormedCalls.{MayCall, MayNew, call_formed, named_level}
 use Rattle.ctl_gen.proofs.FormedExpressions.{actuals_good, has_formals, typed_fine}
 use Rattle.ctl_gen.proofs.FormedLines.{block_formed}
 use Rattle.ctl_gen.proofs.FormedParts.{record_formed}
+use Rattle.ctl_gen.proofs.Walked.{IsWalked, copied_walked, name_walked, source_walked}
 use Rattle.ctl_gen.proofs.FormedStatements.{MayDeclare, Stays, all_stay, assign_formed, assign_part_formed, copy_formed, declaration_formed, for_stays, leaves_stay, leaves_when_stay, loop_stays, returned_formed, tested_turns, valued_formed}
 use Rattle.ctl_gen.proofs.FormedTexts.{print_formed}
 use Rattle.ctl_gen.proofs.FormedTypes.{run_scalar}
@@ -56,7 +58,7 @@ slots_told (D.master {f = f} {is = items} {body = body} {hs = hs} elaborated don
 
 -- the operations of each record type that is declared around a place are declared there too, and so is each subprogram that can be called
 -- there, with slots for its formals; and those of one of the main procedure's own declarative part inside its master
-module _ (code : Code) (records : List RecordType) (k : W.Setting) (declarable : (env : W.Frames) (t : ℕ) → W.HasRecord k env t → IsDeclarable code (length env) t) (may_call : MayCall code k) (assignable : (t : ℕ) → is_outermost (slice_get records t) ≡ true → IsDeclarable code outermost t) (raisable : (x : ℕ) → x < k.exceptions → x < length code.exceptions.items) where
+module _ (code : Code) (records : List RecordType) (k : W.Setting) (declarable : (env : W.Frames) (t : ℕ) → W.HasRecord k env t → IsDeclarable code (length env) t) (may_call : MayCall code k) (may_new : MayNew code k) (collected : (env : W.Frames) (a : ℕ) → W.HasAccess k env a → IsAccess code a) (assignable : (t : ℕ) → is_outermost (slice_get records t) ≡ true → IsDeclarable code outermost t) (raisable : (x : ℕ) → x < k.exceptions → x < length code.exceptions.items) where
   -- Items ------------------------------------------------------------------------------------------
 
   may_declare : (env : W.Frames) (ty : Ty) → W.InView k env ty → MayDeclare code (length env) ty
@@ -82,7 +84,7 @@ module _ (code : Code) (records : List RecordType) (k : W.Setting) (declarable :
 
   -- a declaration with a value
   given_good : (env : W.Frames) (slot : ℕ) (ty : Ty) (e : Expr) {s : List Kind} → W.InView k env ty → (at : ℕ) × (variable_at s 0 slot ≡ Some at) → ((value_code e).runs records ≡ true → Fine code (length env) (value_code e) ty) → (with_value slot ty (value_code e)).runs records ≡ true → Agrees env s → Formed code ((with_value slot ty (value_code e)).code s) s (Some s)
-  given_good env slot (Record t) e {s} view cell fine runs agrees = copy_formed code records slot t (copied t (value_code e)) s runs (subst (λ n. IsDeclarable code n t) (sym agrees.deep) (declarable env t view))
+  given_good env slot (Record t) e {s} view cell fine runs agrees = copy_formed code records slot t (copied t (value_code e)) s (copied_walked t e) runs (subst (λ n. IsDeclarable code n t) (sym agrees.deep) (declarable env t view))
   given_good env slot Integer e {s} view cell fine runs agrees = valued_good (length env) slot Integer (value_code e) s agrees.deep cell fine runs
   given_good env slot Count e {s} view cell fine runs agrees = valued_good (length env) slot Count (value_code e) s agrees.deep cell fine runs
   given_good env slot Boolean e {s} view cell fine runs agrees = valued_good (length env) slot Boolean (value_code e) s agrees.deep cell fine runs
@@ -94,12 +96,26 @@ module _ (code : Code) (records : List RecordType) (k : W.Setting) (declarable :
   object_good env slot ty None fresh view T.left_out runs s agrees =
       let cell = filled env slot (W.Declared ty) s fresh agrees in
       declaration_formed code records slot cell.0 ty s runs cell.1 (subst (λ n. MayDeclare code n ty) (sym agrees.deep) (may_declare env ty view))
-  object_good env slot ty (Some e) fresh view (T.given h) runs s agrees = given_good env slot ty e view (filled env slot (W.Declared ty) s fresh agrees) (typed_fine code records k may_call h) runs agrees
+  object_good env slot ty (Some e) fresh view (T.given h) runs s agrees = given_good env slot ty e view (filled env slot (W.Declared ty) s fresh agrees) (typed_fine code records k may_call may_new h) runs agrees
+
+  -- each collection is made in the master of its access type
+  gathers_good : {env : W.Frames} {as' : List ℕ} → D.Gathers k env as' → (count : ℕ) (s : List Kind) → Agrees env s → Formed code (gathers_code as' count s) s (Some s)
+  gathers_good D.no_more_collections count s agrees = none code s
+  gathers_good {env} (D.one_more_collection {a = a} {more = more} of level names rest) count s agrees =
+      let least = named_level names in
+      let gather = InstrOf.Gather a (Layout.layer_of more (count + 1)) in
+      both code ((gather, s) ∷ []) (gathers_code more (count + 1) s) s s (Some s)
+      (one code gather s (Some s) (λ p next. (collected env a of, omega (arith, least, level, agrees.deep), next)))
+      (gathers_good rest (count + 1) s agrees)
+
+  collections_good : {env : W.Frames} (as' : List ℕ) → D.Gathers k env as' → GoodItem env (item_code (Collections as'))
+  collections_good [] h = λ runs s agrees. absurd (cc)
+  collections_good (a ∷ more) h = λ runs s agrees. gathers_good h 0 s agrees
 
   item_good : {env : W.Frames} {x : Item} → Elaborated k env x → GoodItem env (item_code x)
   item_good {env} (D.object {number = slot} {t = ty} {value = o} fresh view perhaps) = object_good env slot ty o fresh view perhaps
   item_good D.silent = λ runs s agrees. none code s
-  item_good (D.collections gathers) = λ runs s agrees. absurd (cc)
+  item_good (D.collections {as' = as'} gathers) = collections_good as' gathers
   item_good (D.pool fresh view rooted pool long given) = λ runs s agrees. absurd (cc)
 
   items_good : {env : W.Frames} {xs : List Item} → ElaboratedEach k env xs → GoodItem env (all_items (map item_code xs))
@@ -119,35 +135,36 @@ module _ (code : Code) (records : List RecordType) (k : W.Setting) (declarable :
   not_missing : (env : W.Frames) (x : StatementCode) → x ≡ missing_statement → GoodStatement env x
   not_missing env x same runs = absurd (let e = sym (ap (λ (z : StatementCode). z.runs records) same) ∙ runs in cc)
 
-  assign_good : (env : W.Frames) (o : Option Reached) (x : ValueCode) (t : Ty) → (x.runs records ≡ true → Fine code (length env) x t) → GoodStatement env (assign o x)
-  assign_good env None x t fine runs a n p agrees texts can = absurd (cc)
-  assign_good env (Some (Part v steps u position)) x t fine runs a n p agrees texts can =
+  assign_good : (env : W.Frames) (o : Option Reached) (x : ValueCode) (t : Ty) → IsWalked o → (x.runs records ≡ true → Fine code (length env) x t) → GoodStatement env (assign o x)
+  assign_good env None x t walked fine runs a n p agrees texts can = absurd (cc)
+  assign_good env (Some (Object v steps)) x t walked fine runs a n p agrees texts can = absurd (cc)
+  assign_good env (Some (Part v steps u position)) x t walked fine runs a n p agrees texts can =
       let e = both_true (parts_run records steps u) (x.runs records) runs in
-      assign_part_formed code records (length env) v steps u position x a.stack agrees.deep e.0 (value_usable code (length env) x t (fine e.1)) p
-  assign_good env (Some (Variable v)) x t fine runs a n p agrees texts can = assign_formed code (length env) (local_at a.stack v) v x a.stack agrees.deep refl (value_usable code (length env) x t (fine runs)) p
+      assign_part_formed code (length env) v steps u position x a.stack agrees.deep walked (value_usable code (length env) x t (fine e.1)) p
+  assign_good env (Some (Variable v)) x t walked fine runs a n p agrees texts can = assign_formed code (length env) (local_at a.stack v) v x a.stack agrees.deep refl (value_usable code (length env) x t (fine runs)) p
 
-  record_good : (env : W.Frames) (o : Option Reached) (t : ℕ) (q : Option Reached) → GoodStatement env (assign_record o t q)
-  record_good env None t q runs a n p agrees texts can = absurd (cc)
-  record_good env (Some target) t None runs a n p agrees texts can = absurd (cc)
-  record_good env (Some target) t (Some source) runs a n p agrees texts can =
+  record_good : (env : W.Frames) (o : Option Reached) (t : ℕ) (q : Option Reached) → IsWalked o → IsWalked q → GoodStatement env (assign_record o t q)
+  record_good env None t q walked walked1 runs a n p agrees texts can = absurd (cc)
+  record_good env (Some target) t None walked walked1 runs a n p agrees texts can = absurd (cc)
+  record_good env (Some target) t (Some source) walked walked1 runs a n p agrees texts can =
       let e = both_true (part_runs target records) (part_runs source records && is_assignable records t) runs in
       let f = both_true (part_runs source records) (is_assignable records t) e.1 in
-      record_formed code records target source t a.stack e.0 f.0 (assignable t (both_true _ _ f.1).1) p
+      record_formed code target source t a.stack walked walked1 (assignable t (both_true _ _ f.1).1) p
 
   call_good : {env : W.Frames} {f : ℕ} {is : W.Signature} {actuals : List Actual} → W.Callable k env f is → is.result ≡ None → T.FitEach k env is.formals actuals → GoodStatement env (call f (map actual_code actuals))
   call_good {env} {f} {is} {actuals} can_call gives fits = λ runs a n p agrees texts can.
-      call_formed code (length env) f (map actual_code actuals) a.stack agrees.deep (may_call env f is can_call).0 (has_formals code k may_call can_call gives fits) (actuals_good code records k may_call fits runs) p
+      call_formed code (length env) f (map actual_code actuals) a.stack agrees.deep (may_call env f is can_call).0 (has_formals code k may_call can_call gives fits) (actuals_good code records k may_call may_new fits runs) p
 
   leaving_good : {env : W.Frames} (o : Option Expr) → Perhaps k env o Boolean → GoodStatement env (exit (option_map value_code o))
   leaving_good {env} None T.left_out runs = leaves_stay code env
-  leaving_good {env} (Some e) (T.given h) runs = leaves_when_stay code env (value_code e) (usable_as code (length env) (value_code e) Boolean tt (typed_fine code records k may_call h runs))
+  leaving_good {env} (Some e) (T.given h) runs = leaves_when_stay code env (value_code e) (usable_as code (length env) (value_code e) Boolean tt (typed_fine code records k may_call may_new h runs))
 
   returning_good : {env : W.Frames} {gives : Option Ty} (o : Option Expr) → Returns k env gives o → GoodStatement env (return (option_map value_code o))
   returning_good None D.nothing runs = λ a n p agrees texts can. one code (InstrOf.Transfer WayOf.Return) a.stack (Some a.stack) (λ q next. tt) p
   returning_good {env} (Some e) (D.result {t = t} h) runs = λ a n p agrees texts can.
       let x = value_code e in
       let g = both_true (is_run_type (value_type x)) (x.runs records) runs in
-      returned_formed code (length env) x a.stack agrees.deep (value_usable code (length env) x t (typed_fine code records k may_call h g.1)) p
+      returned_formed code (length env) x a.stack agrees.deep (value_usable code (length env) x t (typed_fine code records k may_call may_new h g.1)) p
 
   -- Masters ------------------------------------------------------------------------------------------
 
@@ -201,9 +218,9 @@ module _ (code : Code) (records : List RecordType) (k : W.Setting) (declarable :
   mutual
     pub statement_good : {env : W.Frames} {a : D.Around} {y : Stmt} → Done k env a y → GoodStatement env (statement_code y)
     statement_good {env} D.null = good_as env _ _ (layer_of _ (sym rolls-Null)) (λ runs a n p agrees texts can. none code a.stack p)
-    statement_good {env} (D.assign {x = x} {v = v} {t = t} scalar denotes h) = good_as env _ _ (layer_of _ (sym (rolls-Assign x v))) (assign_good env (reached_by x) (value_code v) t (λ runs. typed_fine code records k may_call h runs))
-    statement_good {env} (D.put {ps = ps} puts) = good_as env _ _ (layer_of _ (sym (rolls-Put ps))) (λ runs a n p agrees texts can. print_formed code records k may_call false n ps puts runs texts.0 a.stack agrees.deep p)
-    statement_good {env} (D.put_line {ps = ps} puts) = good_as env _ _ (layer_of _ (sym (rolls-PutLine ps))) (λ runs a n p agrees texts can. print_formed code records k may_call true n ps puts runs texts.0 a.stack agrees.deep p)
+    statement_good {env} (D.assign {x = x} {v = v} {t = t} scalar denotes h) = good_as env _ _ (layer_of _ (sym (rolls-Assign x v))) (assign_good env (reached_by x) (value_code v) t (name_walked x) (λ runs. typed_fine code records k may_call may_new h runs))
+    statement_good {env} (D.put {ps = ps} puts) = good_as env _ _ (layer_of _ (sym (rolls-Put ps))) (λ runs a n p agrees texts can. print_formed code records k may_call may_new false n ps puts runs texts.0 a.stack agrees.deep p)
+    statement_good {env} (D.put_line {ps = ps} puts) = good_as env _ _ (layer_of _ (sym (rolls-PutLine ps))) (λ runs a n p agrees texts can. print_formed code records k may_call may_new true n ps puts runs texts.0 a.stack agrees.deep p)
     statement_good {env} D.new_line = good_as env _ _ (layer_of _ (sym rolls-NewLine)) (λ runs a n p agrees texts can. one code InstrOf.NewLine a.stack (Some a.stack) (λ q next. next) p)
     statement_good {env} (D.raise {x = x} known) = good_as env _ _ (layer_of _ (sym (rolls-Raise x))) (λ runs a n p agrees texts can. one code (InstrOf.Transfer (WayOf.Raise x)) a.stack (Some a.stack) (λ q next. raisable x known) p)
     statement_good {env} (D.return {x = o} returns) = good_as env _ _ (layer_of _ (sym (rolls-Return o))) (returning_good o returns)
@@ -218,7 +235,7 @@ module _ (code : Code) (records : List RecordType) (k : W.Setting) (declarable :
         good_as env _ _ (layer_of _ (sym (rolls-While e body))) (λ runs.
         let b = all (map statement_code body) in
         let g = both_true ((value_code e).runs records) (b.runs records) runs in
-        loop_stays code env (tested (value_code e) b) (tested_turns code env (value_code e) b (usable_as code (length env) (value_code e) Boolean tt (typed_fine code records k may_call t g.0)) (each_good h g.1)))
+        loop_stays code env (tested (value_code e) b) (tested_turns code env (value_code e) b (usable_as code (length env) (value_code e) Boolean tt (typed_fine code records k may_call may_new t g.0)) (each_good h g.1)))
     statement_good {env} (D.for {number = number} {way = way} {low = low} {high = high} {body = body} (D.fills names) from to h) =
         let v : Var = record { level = length env; slot = number } in
         good_as env _ _ (layer_of _ (sym (rolls-For v way low high body))) (λ runs.
@@ -226,11 +243,11 @@ module _ (code : Code) (records : List RecordType) (k : W.Setting) (declarable :
         let e = both_true ((value_code low).runs records) ((value_code high).runs records && b.runs records) runs in
         let g = both_true ((value_code high).runs records) (b.runs records) e.1 in
         for_stays code env v way (value_code low) (value_code high) b (λ s agrees. newest_there env s v W.LoopParameter agrees names refl)
-        (usable_as code (length env) (value_code low) Integer tt (typed_fine code records k may_call from e.0))
-        (usable_as code (length env) (value_code high) Integer tt (typed_fine code records k may_call to g.0))
+        (usable_as code (length env) (value_code low) Integer tt (typed_fine code records k may_call may_new from e.0))
+        (usable_as code (length env) (value_code high) Integer tt (typed_fine code records k may_call may_new to g.0))
         (each_good h g.1))
     statement_good {env} (D.block {m = m} {f = f} h) = good_as env _ _ (layer_of _ (sym (rolls-Block m))) (block_good env f (master_code m) (slots_told h) (master_good h))
-    statement_good {env} (D.assign_record {x = x} {t = t} {v = v} denotes fits) = good_as env _ _ (layer_of _ (sym (rolls-AssignRecord x t v))) (record_good env (reached_by x) t (sourced v))
+    statement_good {env} (D.assign_record {x = x} {t = t} {v = v} denotes fits) = good_as env _ _ (layer_of _ (sym (rolls-AssignRecord x t v))) (record_good env (reached_by x) t (sourced v) (name_walked x) (source_walked v))
     statement_good {env} (D.call {s = f} {actuals = actuals} can_call gives fits) = good_as env _ _ (layer_of _ (sym (rolls-Call f actuals))) (call_good can_call gives fits)
     statement_good {env} (D.nothing_done {x = x} views) = not_missing env _ (layer_of _ (sym (rolls-Nothing x)))
     statement_good {env} (D.dispatch {o = o} {x = x} views) = not_missing env _ (layer_of _ (sym (rolls-Dispatch o x)))
@@ -254,7 +271,7 @@ module _ (code : Code) (records : List RecordType) (k : W.Setting) (declarable :
         let b = all (map statement_code body) in
         let f = both_true ((value_code e).runs records) (b.runs records && arms_run (map arm_code more) records) runs in
         let g = both_true (b.runs records) (arms_run (map arm_code more) records) f.1 in
-        (tested_turns code env (value_code e) b (usable_as code (length env) (value_code e) Boolean tt (typed_fine code records k may_call t f.0)) (each_good h g.0), arms_good rest g.1))
+        (tested_turns code env (value_code e) b (usable_as code (length env) (value_code e) Boolean tt (typed_fine code records k may_call may_new t f.0)) (each_good h g.0), arms_good rest g.1))
 
     handlers_good : {env : W.Frames} {a : D.Around} {ys : List Handler} → HandledEach k env a ys → handlers_run (map handler_code ys) records ≡ true → GoodHandlers code env (map handler_code ys)
     handlers_good D.no_more_handlers = λ runs. tt

@@ -1,62 +1,98 @@
--- The code that finds a part of an object is well formed, and puts it on top (4.1.3); so is the code that assigns one part to another (5.2).
-use Rattle.std.proofs.Common.{◌≡◌, ℕ, List, [], ◌∷◌, Some, true, refl}
+-- The code that finds a part of an object is well formed, and puts it on top (4.1, 4.1.3); so is the code that assigns one part to another (5.2).
+use Rattle.std.proofs.Common.{◌≡◌, ℕ, List, [], ◌∷◌, Option, Some, None, Bool, true, false, refl}
+use Rattle.std.specs.Prelude.{if◌then◌else◌}
+use Rattle.ctl_program.specs.declared.types.Ty.{Ty}
 use Rattle.ctl_program.specs.declared.types.Ty.TheVariants.{Record}
 use Rattle.ctl_program.specs.declared.types.Var.{Var}
-use Rattle.ctl_program.specs.declared.types.RecordType.{RecordType}
 use Rattle.ctl_program.specs.declared.expression.Step.{Step}
 use Rattle.ctl_program.specs.declared.expression.Step.TheVariants.{Component, Dereference, Narrow}
 use Rattle.ctl_code.specs.declared.kinds.Kind.{Kind}
 use Rattle.ctl_code.specs.declared.kinds.Kind.TheVariants.{Operand}
+use Rattle.ctl_code.specs.declared.code.Cell.{Cell}
 use Rattle.ctl_code.specs.declared.code.Instr.TheVariants as InstrOf
 use Rattle.ctl_code.specs.declared.code.Code.{Code}
 use Rattle.ctl_code.specs.Windows.{height}
-use Rattle.ctl_code.specs.Valid.{IsDeclarable, outermost}
-use Rattle.ctl_layout.specs.Around.{out_to}
-use Rattle.ctl_layout.specs.Parts.{Reached, Variable, Part, first_type, located_code, part_code, part_runs, parts_run, selects_code}
+use Rattle.ctl_code.specs.Valid as Valid
+use Rattle.ctl_code.specs.Valid.{IsDeclarable, IsFine, Puts, outermost}
+use Rattle.ctl_layout.specs.Around.{local_at, new_operand, out_to, read_from}
+use Rattle.ctl_layout.specs.Parts.{Reached, Variable, Part, Object, access_value, are_walked, first_type, found, is_dereferenced, located_code, part_code, selected, selects_code}
 use Rattle.ctl_layout.specs.Layout.{record_code, take_over_code}
-use Rattle.ctl_layout.proofs.Extensions.{both_true}
 use Rattle.ctl_gen.proofs.Formed.{Formed, both, none, one}
+use Rattle.ctl_gen.proofs.Walked.{IsWalked}
+
+-- what stands before these steps: an access value where they begin with a dereference, else the part whose component they select
+abbrev before : List Step → ℕ → List Kind → List Kind
+before steps t s = (if is_dereferenced steps then Operand access_value else Operand (Record (first_type steps t))) ∷ s
 
 module _ (code : Code) where
-  -- the object in a variable
-  locate_formed : (v : Var) (t : ℕ) (s : List Kind) → Formed code (located_code v [] t s) s (Some (Operand (Record t) ∷ s))
-  locate_formed v t s = one code (InstrOf.Locate (out_to s v) v.slot t (height s)) s (Some (Operand (Record t) ∷ s)) (λ p next. (refl, next))
+  -- the value of a variable goes where it is wanted
+  pub read_fine : (o : Option ℕ) (v : Var) (ty : Ty) (to : Cell) (s : List Kind) (p : ℕ) → local_at s v ≡ o → Valid.IsScalar ty → Puts code p to ty s → IsFine code p (read_from o v ty to s) s
+  read_fine (Some at) v ty to s p here scalar put = (scalar, (s, (refl, here), put))
+  read_fine None v ty to s p here scalar put = (scalar, put)
+
+  -- the object in a variable, or the access value that is dereferenced
+  found_formed : (v : Var) (steps : List Step) (t : ℕ) (s : List Kind) → Formed code ((found v steps t s, s) ∷ []) s (Some (before steps t s))
+  found_formed v steps t s = by (is_dereferenced steps)
+    where
+      by : (b : Bool) → Formed code (((if b then read_from (local_at s v) v access_value (new_operand s) s else InstrOf.Locate (out_to s v) v.slot (first_type steps t) (height s)), s) ∷ []) s (Some ((if b then Operand access_value else Operand (Record (first_type steps t))) ∷ s))
+      by true = one code (read_from (local_at s v) v access_value (new_operand s) s) s (Some (Operand access_value ∷ s)) (λ p next. read_fine (local_at s v) v access_value (new_operand s) s p refl tt (refl, next))
+      by false = one code (InstrOf.Locate (out_to s v) v.slot (first_type steps t) (height s)) s (Some (Operand (Record (first_type steps t)) ∷ s)) (λ p next. (refl, next))
 
   -- a component in place of the part that has it
-  selected_formed : (t position part : ℕ) (s : List Kind) → Formed code ((InstrOf.Select t position part, Operand (Record t) ∷ s) ∷ []) (Operand (Record t) ∷ s) (Some (Operand (Record part) ∷ s))
-  selected_formed t position part s = one code (InstrOf.Select t position part) (Operand (Record t) ∷ s) (Some (Operand (Record part) ∷ s)) (λ p next. (s, refl, next))
+  select_formed : (t position part : ℕ) (s : List Kind) → Formed code ((InstrOf.Select t position part, Operand (Record t) ∷ s) ∷ []) (Operand (Record t) ∷ s) (Some (Operand (Record part) ∷ s))
+  select_formed t position part s = one code (InstrOf.Select t position part) (Operand (Record t) ∷ s) (Some (Operand (Record part) ∷ s)) (λ p next. (s, refl, next))
 
-  module _ (records : List RecordType) where
-    selects_formed : (steps : List Step) (t : ℕ) (s : List Kind) → parts_run records steps t ≡ true → Formed code (selects_code steps t s) (Operand (Record (first_type steps t)) ∷ s) (Some (Operand (Record t) ∷ s))
-    selects_formed [] t s runs = none code (Operand (Record t) ∷ s)
-    selects_formed (Component u position ∷ steps) t s runs =
-        let part = first_type steps t in
-        both code ((InstrOf.Select u position part, Operand (Record u) ∷ s) ∷ []) (selects_code steps t s) (Operand (Record u) ∷ s) (Operand (Record part) ∷ s) (Some (Operand (Record t) ∷ s))
-        (selected_formed u position part s)
-        (selects_formed steps t s (both_true _ _ runs).1)
-    selects_formed (Dereference ∷ steps) t s runs = absurd (cc)
-    selects_formed (Narrow u ∷ steps) t s runs = absurd (cc)
+  -- or its value, where that is dereferenced
+  selected_formed : (u position : ℕ) (steps : List Step) (t : ℕ) (s : List Kind) → Formed code ((selected u position steps t s, Operand (Record u) ∷ s) ∷ []) (Operand (Record u) ∷ s) (Some (before steps t s))
+  selected_formed u position steps t s = by (is_dereferenced steps)
+    where
+      part : List Kind
+      part = Operand (Record u) ∷ s
 
-    pub located_formed : (v : Var) (steps : List Step) (t : ℕ) (s : List Kind) → parts_run records steps t ≡ true → Formed code (located_code v steps t s) s (Some (Operand (Record t) ∷ s))
-    located_formed v steps t s runs =
-        let first = first_type steps t in
-        both code (located_code v [] first s) (selects_code steps t s) s (Operand (Record first) ∷ s) (Some (Operand (Record t) ∷ s))
-        (locate_formed v first s)
-        (selects_formed steps t s runs)
+      by : (b : Bool) → Formed code (((if b then InstrOf.TakePart u position access_value (new_operand s) else InstrOf.Select u position (first_type steps t)), Operand (Record u) ∷ s) ∷ []) (Operand (Record u) ∷ s) (Some ((if b then Operand access_value else Operand (Record (first_type steps t))) ∷ s))
+      by true = one code (InstrOf.TakePart u position access_value (new_operand s)) part (Some (Operand access_value ∷ s)) (λ p next. (tt, (s, refl, (refl, next))))
+      by false = select_formed u position (first_type steps t) s
 
-    pub part_formed : (o : Reached) (t : ℕ) (s : List Kind) → part_runs o records ≡ true → Formed code (part_code o t s) s (Some (Operand (Record t) ∷ s))
-    part_formed (Variable v) t s runs = locate_formed v t s
-    part_formed (Part v steps u position) t s runs =
-        both code (located_code v steps u s) ((InstrOf.Select u position t, Operand (Record u) ∷ s) ∷ []) s (Operand (Record u) ∷ s) (Some (Operand (Record t) ∷ s))
-        (located_formed v steps u s runs)
-        (selected_formed u position t s)
+  -- the object that an access value designates, of which a component is selected, if any is
+  designated_formed : (steps : List Step) (t : ℕ) (s : List Kind) → are_walked true steps ≡ true → Formed code ((InstrOf.Dereference (first_type steps t) (height s), Operand access_value ∷ s) ∷ []) (Operand access_value ∷ s) (Some (before steps t s))
+  designated_formed [] t s walked = one code (InstrOf.Dereference t (height s)) (Operand access_value ∷ s) (Some (Operand (Record t) ∷ s)) (λ p next. (s, refl, (refl, next)))
+  designated_formed (Component u position ∷ steps) t s walked = one code (InstrOf.Dereference u (height s)) (Operand access_value ∷ s) (Some (Operand (Record u) ∷ s)) (λ p next. (s, refl, (refl, next)))
+  designated_formed (Dereference ∷ steps) t s walked = absurd (cc walked)
+  designated_formed (Narrow u ∷ steps) t s walked = absurd (cc walked)
 
-    -- Assignments ------------------------------------------------------------------------------------
+  selects_formed : (behind : Bool) (steps : List Step) (t : ℕ) (s : List Kind) → are_walked behind steps ≡ true → Formed code (selects_code steps t s) (before steps t s) (Some (Operand (Record t) ∷ s))
+  selects_formed behind [] t s walked = none code (Operand (Record t) ∷ s)
+  selects_formed behind (Component u position ∷ steps) t s walked =
+      both code ((selected u position steps t s, Operand (Record u) ∷ s) ∷ []) (selects_code steps t s) (Operand (Record u) ∷ s) (before steps t s) (Some (Operand (Record t) ∷ s))
+      (selected_formed u position steps t s)
+      (selects_formed false steps t s walked)
+  selects_formed false (Dereference ∷ steps) t s walked =
+      both code ((InstrOf.Dereference (first_type steps t) (height s), Operand access_value ∷ s) ∷ []) (selects_code steps t s) (Operand access_value ∷ s) (before steps t s) (Some (Operand (Record t) ∷ s))
+      (designated_formed steps t s walked)
+      (selects_formed true steps t s walked)
+  selects_formed true (Dereference ∷ steps) t s walked = absurd (cc walked)
+  selects_formed behind (Narrow u ∷ steps) t s walked = absurd (cc walked)
 
-    pub record_formed : (target source : Reached) (t : ℕ) (s : List Kind) → part_runs target records ≡ true → part_runs source records ≡ true → IsDeclarable code outermost t → Formed code (record_code target t source s) s (Some s)
-    record_formed target source t s found from declarable =
-        let above = Operand (Record t) ∷ s in
-        let top = Operand (Record t) ∷ above in
-        both code (part_code target t s) (take_over_code t source above) s above (Some s) (part_formed target t s found)
-        (both code (part_code source t above) ((InstrOf.Assign t, top) ∷ []) above top (Some s) (part_formed source t above from)
-        (one code (InstrOf.Assign t) top (Some s) (λ p next. (declarable, (above, refl, (s, refl, next))))))
+  pub located_formed : (v : Var) (steps : List Step) (t : ℕ) (s : List Kind) → are_walked false steps ≡ true → Formed code (located_code v steps t s) s (Some (Operand (Record t) ∷ s))
+  located_formed v steps t s walked =
+      both code ((found v steps t s, s) ∷ []) (selects_code steps t s) s (before steps t s) (Some (Operand (Record t) ∷ s))
+      (found_formed v steps t s)
+      (selects_formed false steps t s walked)
+
+  pub part_formed : (o : Reached) (t : ℕ) (s : List Kind) → IsWalked (Some o) → Formed code (part_code o t s) s (Some (Operand (Record t) ∷ s))
+  part_formed (Variable v) t s walked = located_formed v [] t s walked
+  part_formed (Object v steps) t s walked = located_formed v steps t s walked
+  part_formed (Part v steps u position) t s walked =
+      both code (located_code v steps u s) ((InstrOf.Select u position t, Operand (Record u) ∷ s) ∷ []) s (Operand (Record u) ∷ s) (Some (Operand (Record t) ∷ s))
+      (located_formed v steps u s walked)
+      (select_formed u position t s)
+
+  -- Assignments --------------------------------------------------------------------------------------
+
+  pub record_formed : (target source : Reached) (t : ℕ) (s : List Kind) → IsWalked (Some target) → IsWalked (Some source) → IsDeclarable code outermost t → Formed code (record_code target t source s) s (Some s)
+  record_formed target source t s found_so from declarable =
+      let above = Operand (Record t) ∷ s in
+      let top = Operand (Record t) ∷ above in
+      both code (part_code target t s) (take_over_code t source above) s above (Some s) (part_formed target t s found_so)
+      (both code (part_code source t above) ((InstrOf.Assign t, top) ∷ []) above top (Some s) (part_formed source t above from)
+      (one code (InstrOf.Assign t) top (Some s) (λ p next. (declarable, (above, refl, (s, refl, next))))))

@@ -1,5 +1,5 @@
 -- The code of each construct is well formed where its parts are, and leaves in the window what stood there.
-use Rattle.std.proofs.Common.{◌≡◌, ℕ, ◌+◌, List, [], ◌∷◌, ◌++◌, length, true, Option, Some, None, refl, sym, subst, arith, length-append}
+use Rattle.std.proofs.Common.{◌≡◌, ℕ, ◌+◌, List, [], ◌∷◌, ◌++◌, length, true, false, Option, Some, None, refl, sym, subst, arith, length-append}
 use Rattle.ctl_program.specs.declared.types.Ty.{Ty}
 use Rattle.ctl_program.specs.declared.types.Ty.TheVariants.{Integer, Count, Boolean, Address, Handle, Access, Record}
 use Rattle.ctl_program.specs.declared.types.Var.{Var}
@@ -14,18 +14,18 @@ use Rattle.ctl_code.specs.declared.code.Code.{Code}
 use Rattle.ctl_code.specs.declared.template.TextPart.{TextPart}
 use Rattle.ctl_code.specs.Windows.{depth, variable_at}
 use Rattle.ctl_code.specs.Valid.{IsCellOf, IsDeclarable, Leads}
-use Rattle.ctl_layout.specs.Parts.{Reached, located_code, part_code, parts_run}
+use Rattle.ctl_layout.specs.Parts.{Reached, are_walked, located_code, part_code}
 use Rattle.ctl_layout.specs.Around.{Line, Around, behind, local_at, local_cell, new_operand, newest_at, newest_cell, out_to}
 use Rattle.ctl_layout.specs.Values.{ValueCode, held, value_type}
 use Rattle.ctl_layout.specs.Layout.{StatementCode, all, assign_code, assign_part_code, bounds_code, copy, declaration, for, in_loop, leaves_code, loop, return_held, scalar_code, store_part_code, test_code, test_held, test_length, tested_code, turns_code, valued_code, with_bounds}
 use Rattle.ctl_layout.specs.Defaults.{is_declared}
-use Rattle.ctl_layout.proofs.Extensions.{both_true}
 use Rattle.ctl_gen.proofs.Place.{HasAt}
 use Rattle.ctl_gen.proofs.Place as Place
 use Rattle.ctl_gen.proofs.Formed.{both, both_at, Formed, FormedAt, has_end, leads_at, one}
 use Rattle.ctl_gen.proofs.FormedAround.{Agrees, CanLeave, agrees_under, leave_behind, leaves_formed}
 use Rattle.ctl_gen.proofs.FormedLines.{loop_formed, test_formed, turns_formed}
 use Rattle.ctl_gen.proofs.FormedParts.{located_formed, part_formed}
+use Rattle.ctl_gen.proofs.Walked.{IsWalked}
 use Rattle.ctl_gen.proofs.FormedValues.{Usable, found}
 
 module _ (code : Code) where
@@ -59,15 +59,15 @@ module _ (code : Code) where
   declaration_formed records slot at Count s runs there may = absurd (cc)
   declaration_formed records slot at Address s runs there may = absurd (cc)
   declaration_formed records slot at Handle s runs there may = absurd (cc)
-  declaration_formed records slot at (Access a) s runs there may = absurd (cc)
+  declaration_formed records slot at (Access a) s runs there may = scalar_formed slot at (Access a) s there tt
 
   -- one with the value of a part of its record type
-  pub copy_formed : (records : List RecordType) (slot t : ℕ) (o : Option Reached) (s : List Kind) → (copy slot t o).runs records ≡ true → IsDeclarable code (depth s) t → Formed code ((copy slot t o).code s) s (Some s)
-  copy_formed records slot t None s runs may = absurd (cc)
-  copy_formed records slot t (Some o) s runs may =
+  pub copy_formed : (records : List RecordType) (slot t : ℕ) (o : Option Reached) (s : List Kind) → IsWalked o → (copy slot t o).runs records ≡ true → IsDeclarable code (depth s) t → Formed code ((copy slot t o).code s) s (Some s)
+  copy_formed records slot t None s walked runs may = absurd (cc)
+  copy_formed records slot t (Some o) s walked runs may =
       let over = Operand (Record t) ∷ s in
       let declare = InstrOf.DeclareCopy slot t in
-      both code (part_code o t s) ((declare, over) ∷ []) s over (Some s) (part_formed code records o t s (both_true _ _ runs).1)
+      both code (part_code o t s) ((declare, over) ∷ []) s over (Some s) (part_formed code o t s walked)
       (one code declare over (Some s) (λ p next. (may, (s, refl, next))))
 
   -- Statements -------------------------------------------------------------------------------------
@@ -98,13 +98,13 @@ module _ (code : Code) where
       (one code store h.after (Some s) (λ p next. (usable.scalar, (s, f.taken, next))))
 
   -- a value goes into a component of a part
-  pub assign_part_formed : (records : List RecordType) (masters : ℕ) (v : Var) (steps : List Step) (t position : ℕ) (x : ValueCode) (s : List Kind) → depth s ≡ masters → parts_run records steps t ≡ true → Usable code masters x (value_type x) → Formed code (assign_part_code v steps t position x s) s (Some s)
-  assign_part_formed records masters v steps t position x s deep runs usable =
+  pub assign_part_formed : (masters : ℕ) (v : Var) (steps : List Step) (t position : ℕ) (x : ValueCode) (s : List Kind) → depth s ≡ masters → are_walked false steps ≡ true → Usable code masters x (value_type x) → Formed code (assign_part_code v steps t position x s) s (Some s)
+  assign_part_formed masters v steps t position x s deep walked usable =
       let over = Operand (Record t) ∷ s in
       let h = held x (value_type x) over in
       let f = found code masters x (value_type x) over deep usable in
       let store = InstrOf.StorePart h.cell (value_type x) t position in
-      both code (located_code v steps t s) (store_part_code t position x s) s over (Some s) (located_formed code records v steps t s runs)
+      both code (located_code v steps t s) (store_part_code t position x s) s over (Some s) (located_formed code v steps t s walked)
       (both code h.code ((store, h.after) ∷ []) over h.after (Some s) f.formed
       (one code store h.after (Some s) (λ p next. (usable.scalar, (over, f.taken, (s, refl, next))))))
 

@@ -19,7 +19,7 @@ use Rattle.ctl_layout.specs.Values.{value_code}
 use Rattle.ctl_layout.specs.Texts.{parts_of, piece_code, pieces_are_run, pieces_code, print_code, print_of, with_piece, with_pieces}
 use Rattle.ctl_gen.proofs.Known.{both_true}
 use Rattle.ctl_gen.proofs.Formed.{Formed, both, none, one}
-use Rattle.ctl_gen.proofs.FormedCalls.{MayCall}
+use Rattle.ctl_gen.proofs.FormedCalls.{MayCall, MayNew}
 use Rattle.ctl_gen.proofs.FormedExpressions.{typed_fine}
 use Rattle.ctl_gen.proofs.FormedValues.{Usable, usable_as}
 
@@ -57,17 +57,17 @@ print_fine : (code : Code) (ends_line : Bool) (n : ℕ) (s : List Kind) (ps : Li
 print_fine code true n s ps text place next = (parts_of ps, text, (s, images_stand s ps, (refl, next)))
 print_fine code false n s ps text place next = (parts_of ps, text, (s, images_stand s ps, (refl, next)))
 
-module _ (code : Code) (records : List RecordType) (k : W.Setting) (may_call : MayCall code k) where
+module _ (code : Code) (records : List RecordType) (k : W.Setting) (may_call : MayCall code k) (may_new : MayNew code k) where
   images : {env : W.Frames} {ps : List Piece} → Puts k env ps → pieces_are_run records ps ≡ true → Images code (length env) ps
   images D.no_more_pieces runs = λ s deep. none code s
   images {env} (D.literal {s = v} {more = ps} rest) runs = next_image code (length env) (PieceOf.Text v) ps (λ s deep. none code s) (images rest (both_true true (pieces_are_run records ps) runs).1)
   images {env} (D.integer {x = x} {more = ps} h rest) runs =
       let e = both_true ((value_code x).runs records) (pieces_are_run records ps) runs in
-      let u : Usable code (length env) (value_code x) Integer = usable_as code (length env) (value_code x) Integer tt (typed_fine code records k may_call h e.0) in
+      let u : Usable code (length env) (value_code x) Integer = usable_as code (length env) (value_code x) Integer tt (typed_fine code records k may_call may_new h e.0) in
       next_image code (length env) (PieceOf.IntegerImage x) ps (λ s deep. u.formed (new_operand s) s deep refl) (images rest e.1)
   images {env} (D.boolean {x = x} {more = ps} h rest) runs =
       let e = both_true ((value_code x).runs records) (pieces_are_run records ps) runs in
-      let u : Usable code (length env) (value_code x) Boolean = usable_as code (length env) (value_code x) Boolean tt (typed_fine code records k may_call h e.0) in
+      let u : Usable code (length env) (value_code x) Boolean = usable_as code (length env) (value_code x) Boolean tt (typed_fine code records k may_call may_new h e.0) in
       next_image code (length env) (PieceOf.BooleanImage x) ps (λ s deep. u.formed (new_operand s) s deep refl) (images rest e.1)
 
   pub print_formed : {env : W.Frames} (ends_line : Bool) (n : ℕ) (ps : List Piece) → Puts k env ps → pieces_are_run records ps ≡ true → slice_get code.texts.items n ≡ Some (parts_of ps) → (s : List Kind) → depth s ≡ length env → Formed code (print_code ends_line n ps s) s (Some s)

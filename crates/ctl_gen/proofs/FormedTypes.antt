@@ -1,9 +1,10 @@
 -- What the types of a well-typed expression say of its instructions.
-use Rattle.std.proofs.Common.{◌≡◌, ℕ, Option, Bool, true, refl}
+use Rattle.std.proofs.Common.{◌≡◌, ℕ, Option, Bool, true, refl, sym, subst, ◌⊎◌, inl, inr}
 use Rattle.ctl_program.specs.declared.types.Ty.{Ty}
 use Rattle.ctl_program.specs.declared.types.Ty.TheVariants.{Integer, Count, Boolean, Address, Handle, Record}
 use Rattle.ctl_program.specs.declared.types.Ty.TheVariants as TyOf
 use Rattle.ctl_program.specs.declared.operators.UnaryOp.{UnaryOp}
+use Rattle.ctl_program.specs.declared.operators.UnaryOp.TheVariants as One
 use Rattle.ctl_program.specs.declared.operators.BinaryOp.{BinaryOp}
 use Rattle.ctl_program.specs.declared.operators.BinaryOp.TheVariants.{Add, Subtract, Multiply, Divide, Modulo, Remainder, And, Or, Xor, Equal, Unequal, Less, LessEqual, Greater, GreaterEqual}
 use Rattle.ctl_well_typed.specs.Types.{Takes, Joins, IsCell, is_arithmetic, is_equality, is_logical, is_number, is_ordering}
@@ -37,7 +38,7 @@ run_scalar Boolean e = tt
 run_scalar Count e = absurd (cc)
 run_scalar Address e = absurd (cc)
 run_scalar Handle e = absurd (cc)
-run_scalar (TyOf.Access a) e = absurd (cc)
+run_scalar (TyOf.Access a) e = tt
 run_scalar (Record t) e = absurd (cc)
 
 pub cell_of : (t : Ty) (n : ℕ) → Valid.IsScalar t → IsCell t n → IsCellOf t n
@@ -46,7 +47,7 @@ cell_of Count n s h = tt
 cell_of Boolean n s h = h
 cell_of Address n s h = tt
 cell_of Handle n s h = tt
-cell_of (TyOf.Access a) n s h = absurd s
+cell_of (TyOf.Access a) n s h = tt
 cell_of (Record t) n s h = absurd s
 
 pub takes_unary : (o : UnaryOp) (t : Ty) → Takes o t → UnaryOf o t × Valid.IsScalar t
@@ -203,3 +204,52 @@ of_logical Less ty a b e = absurd (cc)
 of_logical LessEqual ty a b e = absurd (cc)
 of_logical Greater ty a b e = absurd (cc)
 of_logical GreaterEqual ty a b e = absurd (cc)
+
+-- Access types (3.10, 4.6) -------------------------------------------------------------------------
+
+abbrev pub IsAccessType : Ty → Type 0
+IsAccessType t = (a : ℕ) × (t ≡ TyOf.Access a)
+
+-- two types are one, or both are access types: a value of the one is, as it stands, one of the other
+abbrev pub IsLike : Ty → Ty → Type 0
+IsLike s t = (s ≡ t) ⊎ (IsAccessType s × IsAccessType t)
+
+pub like_back : (s t : Ty) → IsLike s t → IsLike t s
+like_back s t (inl e) = inl (sym e)
+like_back s t (inr (a, b)) = inr (b, a)
+
+pub like_then : (s t u : Ty) → IsLike s t → IsLike t u → IsLike s u
+like_then s t u (inl e) l = subst (λ x. IsLike x u) (sym e) l
+like_then s t u (inr (a, b)) (inl e) = inr (a, subst IsAccessType e b)
+like_then s t u (inr (a, b)) (inr (c, d)) = inr (a, d)
+
+pub like_scalar : (s t : Ty) → IsLike s t → Valid.IsScalar t → Valid.IsScalar s
+like_scalar s t (inl e) h = subst Valid.IsScalar (sym e) h
+like_scalar s t (inr ((a, e), b)) h = subst Valid.IsScalar (sym e) tt
+
+pub cell_like : (s t : Ty) (n : ℕ) → IsLike s t → IsCell t n → IsCell s n
+cell_like s t n (inl e) h = subst (λ x. IsCell x n) (sym e) h
+cell_like s t n (inr ((a, e), (b, f))) h = subst (λ x. IsCell x n) (sym e) (subst (λ x. IsCell x n) f h)
+
+pub same_unless : (s t : Ty) → (IsAccessType t → ⊥) → IsLike s t → s ≡ t
+same_unless s t plain (inl e) = e
+same_unless s t plain (inr (a, b)) = absurd (plain b)
+
+pub boolean_plain : IsAccessType Boolean → ⊥
+boolean_plain (a, e) = absurd (cc e)
+
+number_plain : (t : Ty) → IsNumber t → IsAccessType t → ⊥
+number_plain t h (a, e) = subst IsNumber e h
+
+pub unary_plain : (o : UnaryOp) (t : Ty) → UnaryOf o t → IsAccessType t → ⊥
+unary_plain One.Not t h a = boolean_plain (subst IsAccessType h a)
+unary_plain One.Plus t h a = number_plain t h a
+unary_plain One.Minus t h a = number_plain t h a
+unary_plain One.Abs t h a = number_plain t h a
+
+-- no operator gives an access value
+pub joins_plain : (o : BinaryOp) (s t : Ty) → Joins o s t → IsAccessType t → ⊥
+joins_plain o s t (J.arithmetic a n) = number_plain t (number_of t n)
+joins_plain o s t (J.logical l) = boolean_plain
+joins_plain o s t (J.equality e h) = boolean_plain
+joins_plain o s t (J.ordering e h) = boolean_plain

@@ -1,5 +1,5 @@
 -- The code of an expression is well formed where its parts are, and puts a value of its type where it is wanted.
-use Rattle.std.proofs.Common.{◌≡◌, ℕ, ◌+◌, List, [], ◌∷◌, ◌++◌, length, Option, Some, None, true, ◌⊎◌, inl, inr, refl, sym, ap, ◌∙◌, subst}
+use Rattle.std.proofs.Common.{◌≡◌, ℕ, ◌+◌, List, [], ◌∷◌, ◌++◌, length, Option, Some, None, true, false, ◌⊎◌, inl, inr, refl, sym, ap, ◌∙◌, subst}
 use Rattle.std.specs.Prelude.{unwrap_or}
 use Rattle.ctl_program.specs.declared.types.Ty.{Ty}
 use Rattle.ctl_program.specs.declared.types.Ty.TheVariants.{Integer, Boolean}
@@ -21,17 +21,18 @@ use Rattle.ctl_code.specs.declared.code.Instr.TheVariants as InstrOf
 use Rattle.ctl_code.specs.declared.code.Code.{Code}
 use Rattle.ctl_code.specs.Windows.{depth, height, variable_at}
 use Rattle.ctl_code.specs.Valid as Valid
-use Rattle.ctl_code.specs.Valid.{BinaryOf, IsCellOf, IsFine, Leads, Puts, Taken, UnaryOf}
+use Rattle.ctl_code.specs.Valid.{BinaryOf, IsAllocable, IsCellOf, Leads, Puts, Taken, UnaryOf}
 use Rattle.ctl_layout.specs.declared.right.Right.{Right}
 use Rattle.ctl_layout.specs.declared.right.Right.TheVariants as RightOf
-use Rattle.ctl_layout.specs.Around.{Line, local_at, new_operand, out_to}
+use Rattle.ctl_layout.specs.Around.{Line, local_at, new_operand, out_to, read_from}
 use Rattle.ctl_layout.specs.Records.{is_run_type}
-use Rattle.ctl_layout.specs.Parts.{Reached, Variable, Part, component_code, located_code, parts_run}
-use Rattle.ctl_layout.specs.Values.{Held, OperatorCode, ValueCode, binary_code, chain, common_type, constant, evaluated, first_type, held, held_by, in_cell, last_type, left_held, moved_to, next_target, operand_type, operator_by, operator_code, operator_for, operators_code, other_code, others_code, read, read_from, short, unary, value_type}
+use Rattle.ctl_layout.specs.Parts.{Reached, Variable, Part, Object, are_walked, component_code, located_code, parts_run}
+use Rattle.ctl_layout.specs.Values.{Held, OperatorCode, ValueCode, binary_code, chain, common_type, constant, evaluated, first_type, held, held_by, in_cell, last_type, left_held, moved_to, new, next_target, operand_type, operator_by, operator_code, operator_for, operators_code, other_code, others_code, read, short, unary, value_type}
 use Rattle.ctl_layout.proofs.Extensions.{both_true}
 use Rattle.ctl_gen.proofs.Formed.{Formed, both, has_end, none, one}
-use Rattle.ctl_gen.proofs.FormedParts.{located_formed}
-use Rattle.ctl_gen.proofs.FormedTypes.{arithmetic_of, cell_of, equality_relates, is_relation, logical_of, number_of, number_scalar, of_arithmetic, of_logical, of_relation, ordering_relates, relation_of, run_scalar}
+use Rattle.ctl_gen.proofs.FormedParts.{located_formed, read_fine}
+use Rattle.ctl_gen.proofs.Walked.{IsWalked}
+use Rattle.ctl_gen.proofs.FormedTypes.{IsAccessType, IsLike, arithmetic_of, boolean_plain, cell_like, cell_of, equality_relates, is_relation, like_back, like_scalar, like_then, logical_of, number_of, number_scalar, of_arithmetic, of_logical, of_relation, ordering_relates, relation_of, run_scalar, same_unless, unary_plain}
 
 -- Cells -------------------------------------------------------------------------------------------
 
@@ -92,13 +93,23 @@ module _ (code : Code) (masters : ℕ) where
     pub formed : (to : Cell) (s : List Kind) → depth s ≡ masters → Placed to s → Formed code (x.code to ty s) s (Some (with_put to.named ty s))
     pub constant : (n : ℕ) → x.right ≡ RightOf.Constant n → IsCellOf ty n
 
-  -- a value of this type of its own, or a constant
+  -- a value of this type of its own, or a constant. An access value is one of each access type that designates the same type (4.6)
   pub record Own (x : ValueCode) (ty : Ty) : Type 0 where
-    pub own : x.own ≡ Some ty
-    pub usable : Usable x ty
+    pub type : Ty
+    pub own : x.own ≡ Some type
+    pub like : IsLike type ty
+    pub usable : (t : Ty) → IsLike t ty → Usable x t
 
   abbrev pub Fine : ValueCode → Ty → Type 0
   Fine x ty = Own x ty ⊎ ((n : ℕ) × (x ≡ constant n) × IsCell ty n)
+
+  -- where its own type is no access type
+  own_of : (x : ValueCode) (ty : Ty) → x.own ≡ Some ty → (IsAccessType ty → ⊥) → Usable x ty → Own x ty
+  own_of x ty own plain usable = record { type = ty; own = own; like = inl refl; usable = λ t like. subst (Usable x) (sym (same_unless t ty plain like)) usable }
+
+  -- and where it is usable as each scalar type
+  pub own_as : (x : ValueCode) (ty : Ty) → x.own ≡ Some ty → Valid.IsScalar ty → ((t : Ty) → Valid.IsScalar t → Usable x t) → Own x ty
+  own_as x ty own scalar usable = record { type = ty; own = own; like = inl refl; usable = λ t like. usable t (like_scalar t ty like scalar) }
 
   pub usable_constant : (n : ℕ) (ty : Ty) → Valid.IsScalar ty → IsCellOf ty n → Usable (constant n) ty
   usable_constant n ty scalar cell = record {
@@ -109,13 +120,18 @@ module _ (code : Code) (masters : ℕ) where
 
   -- where its type is scalar
   pub usable_as : (x : ValueCode) (ty : Ty) → Valid.IsScalar ty → Fine x ty → Usable x ty
-  usable_as x ty scalar (inl h) = h.usable
+  usable_as x ty scalar (inl h) = h.usable ty (inl refl)
   usable_as x ty scalar (inr (n, is, cell)) = subst (λ y. Usable y ty) (sym is) (usable_constant n ty scalar (cell_of ty n scalar cell))
 
   -- where each scalar type will do
   pub value_usable : (x : ValueCode) (ty : Ty) → Fine x ty → Usable x (value_type x)
-  value_usable x ty (inl h) = subst (Usable x) (sym (ap (λ o. unwrap_or o Integer) h.own)) h.usable
+  value_usable x ty (inl h) = subst (Usable x) (sym (ap (λ o. unwrap_or o Integer) h.own)) (h.usable h.type h.like)
   value_usable x ty (inr (n, is, cell)) = subst (λ (y : ValueCode). Usable y (value_type y)) (sym is) (usable_constant n Integer tt tt)
+
+  -- one of another access type
+  pub fine_like : (x : ValueCode) (s t : Ty) → IsLike s t → Fine x t → Fine x s
+  fine_like x s t like (inl h) = inl (record { type = h.type; own = h.own; like = like_then h.type t s h.like (like_back s t like); usable = λ u l. h.usable u (like_then u s t l like) })
+  fine_like x s t like (inr (n, is, cell)) = inr (n, is, cell_like s t n like cell)
 
   -- Operands ----------------------------------------------------------------------------------------
 
@@ -177,31 +193,31 @@ module _ (code : Code) (masters : ℕ) where
   }
 
   -- a chain, whose first operand and first operator have this type
-  pub chain_own : (x : ValueCode) (o : OperatorCode) (more : List OperatorCode) (ty : Ty) → Usable x (first_type x o) → BinaryOf o.op (first_type x o) o.ty → Usable o.right (first_type x o) → Operating more o.ty ty → Own (chain x o more) ty
-  chain_own x o more ty usable has right rest =
+  pub chain_own : (x : ValueCode) (o : OperatorCode) (more : List OperatorCode) (ty : Ty) → (IsAccessType ty → ⊥) → Usable x (first_type x o) → BinaryOf o.op (first_type x o) o.ty → Usable o.right (first_type x o) → Operating more o.ty ty → Own (chain x o more) ty
+  chain_own x o more ty plain usable has right rest =
       let left = first_type x o in
-      record {
-        own = ap Some rest.gives;
-        usable = record {
-          scalar = rest.scalar;
-          formed = λ to s deep at.
-              let h = left_held o.right.right x left s in
-              let f = found_left o.right.right x left s deep usable in
-              both code h.code (operators_code s h.cell h.after left (o ∷ more) to) s h.after (Some (with_put to.named ty s)) f.formed
-              (first_operating o more h.cell left ty h.after s to deep has right rest f.taken at);
-          constant = λ n is. absurd (cc);
-        };
-      }
+      own_of (chain x o more) ty (ap Some rest.gives) plain
+      (record {
+        scalar = rest.scalar;
+        formed = λ to s deep at.
+            let h = left_held o.right.right x left s in
+            let f = found_left o.right.right x left s deep usable in
+            both code h.code (operators_code s h.cell h.after left (o ∷ more) to) s h.after (Some (with_put to.named ty s)) f.formed
+            (first_operating o more h.cell left ty h.after s to deep has right rest f.taken at);
+        constant = λ n is. absurd (cc);
+      })
 
   -- the operands of a relation, where their types are found
   common_usable : (x y : ValueCode) (s : Ty) → Fine x s → Fine y s → Usable x (common_type x.own y.own) × Usable y (common_type x.own y.own)
   common_usable x y s (inl h) g =
-      let e : s ≡ common_type x.own y.own = sym (ap (λ a. common_type a y.own) h.own) in
-      (subst (Usable x) e h.usable, subst (Usable y) e (usable_as y s h.usable.scalar g))
+      let e : h.type ≡ common_type x.own y.own = sym (ap (λ a. common_type a y.own) h.own) in
+      let u = h.usable h.type h.like in
+      (subst (Usable x) e u, subst (Usable y) e (usable_as y h.type u.scalar (fine_like y h.type s h.like g)))
   common_usable x y s (inr (n, is, cell)) (inl g) =
       let a : x.own ≡ None = ap (λ (z : ValueCode). z.own) is in
-      let e : s ≡ common_type x.own y.own = sym (ap (λ o. common_type o y.own) a ∙ ap (λ o. common_type None o) g.own) in
-      (subst (Usable x) e (usable_as x s g.usable.scalar (inr (n, is, cell))), subst (Usable y) e g.usable)
+      let e : g.type ≡ common_type x.own y.own = sym (ap (λ o. common_type o y.own) a ∙ ap (λ o. common_type None o) g.own) in
+      let u = g.usable g.type g.like in
+      (subst (Usable x) e (usable_as x g.type u.scalar (fine_like x g.type s g.like (inr (n, is, cell)))), subst (Usable y) e u)
   common_usable x y s (inr (n, is, cell)) (inr (m, same, cell1)) =
       let a : x.own ≡ None = ap (λ (z : ValueCode). z.own) is in
       let b : y.own ≡ None = ap (λ (z : ValueCode). z.own) same in
@@ -253,69 +269,75 @@ module _ (code : Code) (masters : ℕ) where
       (rest s deep)
 
   pub short_own : (form : Shortcut) (x y : ValueCode) (more : List ValueCode) → Usable x Boolean → Conditions form (y ∷ more) → Own (short form x y more) Boolean
-  short_own form x y more usable rest = record {
-    own = refl;
-    usable = record {
-      scalar = tt;
-      formed = λ to s deep at.
-          let top = KindOf.Operand Boolean ∷ s in
-          let first = x.code (new_operand s) Boolean s in
-          both code (first ++ others_code form (y ∷ more) s) (moved_to to Boolean s) s top (Some (with_put to.named Boolean s))
-          (both code first (others_code form (y ∷ more) s) s top (Some top) (usable.formed (new_operand s) s deep refl) (rest s deep))
-          (moved_formed code to Boolean s tt at);
-      constant = λ n is. absurd (cc);
-    };
-  }
+  short_own form x y more usable rest =
+      own_of (short form x y more) Boolean refl (λ h. boolean_plain h)
+      (record {
+        scalar = tt;
+        formed = λ to s deep at.
+            let top = KindOf.Operand Boolean ∷ s in
+            let first = x.code (new_operand s) Boolean s in
+            both code (first ++ others_code form (y ∷ more) s) (moved_to to Boolean s) s top (Some (with_put to.named Boolean s))
+            (both code first (others_code form (y ∷ more) s) s top (Some top) (usable.formed (new_operand s) s deep refl) (rest s deep))
+            (moved_formed code to Boolean s tt at);
+        constant = λ n is. absurd (cc);
+      })
 
   -- The other constructs ----------------------------------------------------------------------------
 
   pub unary_own : (op : UnaryOp) (ty : Ty) (x : ValueCode) → UnaryOf op ty → Usable x ty → Own (unary op ty x) ty
-  unary_own op ty x has usable = record {
-    own = refl;
-    usable = record {
-      scalar = usable.scalar;
-      formed = λ to s deep at.
-          let h = held x ty s in
-          let f = found x ty s deep usable in
-          let after = Some (with_put to.named ty s) in
-          both code h.code ((InstrOf.Unary op ty h.cell to, h.after) ∷ []) s h.after after f.formed
-          (one code (InstrOf.Unary op ty h.cell to) h.after after (λ p next. (has, (s, f.taken, puts code p to ty s at next))));
-      constant = λ n is. absurd (cc);
-    };
-  }
+  unary_own op ty x has usable =
+      own_of (unary op ty x) ty refl (unary_plain op ty has)
+      (record {
+        scalar = usable.scalar;
+        formed = λ to s deep at.
+            let h = held x ty s in
+            let f = found x ty s deep usable in
+            let after = Some (with_put to.named ty s) in
+            both code h.code ((InstrOf.Unary op ty h.cell to, h.after) ∷ []) s h.after after f.formed
+            (one code (InstrOf.Unary op ty h.cell to) h.after after (λ p next. (has, (s, f.taken, puts code p to ty s at next))));
+        constant = λ n is. absurd (cc);
+      })
 
-  read_fine : (o : Option ℕ) (v : Var) (ty : Ty) (to : Cell) (s : List Kind) (p : ℕ) → local_at s v ≡ o → Valid.IsScalar ty → Puts code p to ty s → IsFine code p (read_from o v ty to s) s
-  read_fine (Some at) v ty to s p here scalar put = (scalar, (s, (refl, here), put))
-  read_fine None v ty to s p here scalar put = (scalar, put)
+  -- the value of an allocator is a new operand, and then goes where it is wanted
+  pub new_own : (access t : ℕ) → IsAllocable code masters access t → Own (new access (TyOf.Record t) None None) (TyOf.Access access)
+  new_own access t allocable =
+      own_as (new access (TyOf.Record t) None None) (TyOf.Access access) refl tt
+      (λ ty scalar. record {
+        scalar = scalar;
+        formed = λ to s deep at.
+            let top = KindOf.Operand ty ∷ s in
+            both code ((InstrOf.New access t ty (height s), s) ∷ []) (moved_to to ty s) s top (Some (with_put to.named ty s))
+            (one code (InstrOf.New access t ty (height s)) s (Some top) (λ p next. (scalar, subst (λ n. IsAllocable code n access t) (sym deep) allocable, refl, next)))
+            (moved_formed code to ty s scalar at);
+        constant = λ n is. absurd (cc);
+      })
 
   module _ (records : List RecordType) where
     -- the value of a component goes where it is wanted
-    component_formed : (v : Var) (steps : List Step) (t position : ℕ) (ty : Ty) (to : Cell) (s : List Kind) → Valid.IsScalar ty → parts_run records steps t ≡ true → Placed to s → Formed code (component_code v steps t position ty to s) s (Some (with_put to.named ty s))
-    component_formed v [] t position ty to s scalar runs at = one code (InstrOf.FetchPart (out_to s v) v.slot t position ty to) s (Some (with_put to.named ty s)) (λ p next. (scalar, puts code p to ty s at next))
-    component_formed v (step ∷ steps) t position ty to s scalar runs at =
+    component_formed : (v : Var) (steps : List Step) (t position : ℕ) (ty : Ty) (to : Cell) (s : List Kind) → Valid.IsScalar ty → are_walked false steps ≡ true → Placed to s → Formed code (component_code v steps t position ty to s) s (Some (with_put to.named ty s))
+    component_formed v [] t position ty to s scalar walked at = one code (InstrOf.FetchPart (out_to s v) v.slot t position ty to) s (Some (with_put to.named ty s)) (λ p next. (scalar, puts code p to ty s at next))
+    component_formed v (step ∷ steps) t position ty to s scalar walked at =
         let part = KindOf.Operand (TyOf.Record t) ∷ s in
         let after = Some (with_put to.named ty s) in
         both code (located_code v (step ∷ steps) t s) ((InstrOf.TakePart t position ty to, part) ∷ []) s part after
-        (located_formed code records v (step ∷ steps) t s runs)
+        (located_formed code v (step ∷ steps) t s walked)
         (one code (InstrOf.TakePart t position ty to) part after (λ p next. (scalar, (s, refl, puts code p to ty s at next))))
 
-    pub read_own : (o : Option Reached) (ty : Ty) → (read o ty).runs records ≡ true → Own (read o ty) ty
-    read_own None ty runs = absurd (cc)
-    read_own (Some (Part v steps t position)) ty runs =
+    pub read_own : (o : Option Reached) (ty : Ty) → IsWalked o → (read o ty).runs records ≡ true → Own (read o ty) ty
+    read_own None ty walked runs = absurd (cc)
+    read_own (Some (Object v steps)) ty walked runs = absurd (cc)
+    read_own (Some (Part v steps t position)) ty walked runs =
         let e = both_true (is_run_type ty) (parts_run records steps t) runs in
-        record {
-          own = refl;
-          usable = record {
-            scalar = run_scalar ty e.0;
-            formed = λ to s deep at. component_formed v steps t position ty to s (run_scalar ty e.0) e.1 at;
-            constant = λ n is. absurd (cc);
-          };
-        }
-    read_own (Some (Variable v)) ty runs = record {
-      own = refl;
-      usable = record {
-        scalar = run_scalar ty runs;
-        formed = λ to s deep at. one code (read_from (local_at s v) v ty to s) s (Some (with_put to.named ty s)) (λ p next. read_fine (local_at s v) v ty to s p refl (run_scalar ty runs) (puts code p to ty s at next));
-        constant = λ n is. absurd (cc);
-      };
-    }
+        own_as (read (Some (Part v steps t position)) ty) ty refl (run_scalar ty e.0)
+        (λ u scalar. record {
+          scalar = scalar;
+          formed = λ to s deep at. component_formed v steps t position u to s scalar walked at;
+          constant = λ n is. absurd (cc);
+        })
+    read_own (Some (Variable v)) ty walked runs =
+        own_as (read (Some (Variable v)) ty) ty refl (run_scalar ty runs)
+        (λ u scalar. record {
+          scalar = scalar;
+          formed = λ to s deep at. one code (read_from (local_at s v) v u to s) s (Some (with_put to.named u s)) (λ p next. read_fine code (local_at s v) v u to s p refl scalar (puts code p to u s at next));
+          constant = λ n is. absurd (cc);
+        })

@@ -1,8 +1,9 @@
 -- The code of a well-typed program is valid, and the subprograms that such a program names are in its table.
 use Rattle.std.proofs.Common.{◌<◌, ◌≡◌, ℕ, zero, suc, ◌+◌, ◌≤◌, List, [], ◌∷◌, ◌++◌, length, map, Option, Some, None, true, refl, sym, ap, ◌∙◌, subst, arith, length-append}
-use Rattle.std.specs.Prelude.{slice_get}
+use Rattle.std.specs.Prelude.{option_map, slice_get}
 use Rattle.std.proofs.lemmas.List.{length-map}
 use Rattle.std.proofs.lemmas.Bool.{leb-true}
+use Rattle.ctl_program.specs.declared.types.AccessType.{AccessType}
 use Rattle.ctl_program.specs.declared.types.RecordType.{RecordType}
 use Rattle.ctl_program.specs.declared.types.Root.{Root}
 use Rattle.ctl_program.specs.declared.types.Root.TheVariants.{BlockPool, Controlled, MarkPool, Untagged}
@@ -20,19 +21,20 @@ use Rattle.ctl_code.specs.declared.code.Instr.{Instr}
 use Rattle.ctl_code.specs.declared.code.Entry.{Entry}
 use Rattle.ctl_code.specs.declared.code.Operations.{Operations}
 use Rattle.ctl_code.specs.declared.code.Code.{Code}
-use Rattle.ctl_code.specs.Valid.{AreInScope, IsBegun, IsDeclarable, IsEntry, IsFine, IsInScope, IsValid, Leads, MayBeEntry, TakesObject, outermost}
+use Rattle.ctl_code.specs.Valid.{AreInScope, IsAccess, IsBegun, IsDeclarable, IsEntry, IsFine, IsInScope, IsValid, Leads, MayBeEntry, TakesObject, outermost}
 use Rattle.ctl_layout.specs.Around.{Line, Around, behind}
 use Rattle.ctl_layout.specs.Layout.{bodies, body_code, entries_from, entry_at, HasKinds, in_body, instructions_of, IsLaidOut, kinds_of, master_code, nowhere, operations_in, operations_of, program_code}
 use Rattle.ctl_layout.specs.Defaults.{is_outermost}
 use Rattle.ctl_layout.specs.Records.{adjust_by}
-use Rattle.ctl_layout.specs.Run.{AreLinked, IsBody, IsRun, IsWritten}
+use Rattle.ctl_layout.specs.Run.{AreLinked, IsBody, IsRun, IsWritten, are_standard}
 use Rattle.ctl_gen.proofs.Known.{both_true}
 use Rattle.ctl_gen.proofs.Place.{HasAt, has_all}
 use Rattle.ctl_gen.proofs.Place as Place
+use Rattle.ctl_gen.proofs.Gathers.{collection_in}
 use Rattle.ctl_gen.proofs.Formed.{AreFine, fine_both, FormedAt, Has, has_back, has_front}
 use Rattle.ctl_gen.proofs.FormedAround.{Agrees, agrees_body}
 use Rattle.ctl_gen.proofs.FormedLayouts.{alike, declarable, declarable_in, home_of, layouts_laid, not_more}
-use Rattle.ctl_gen.proofs.FormedCalls.{MayCall, kind_by}
+use Rattle.ctl_gen.proofs.FormedCalls.{MayCall, MayNew, kind_by, named_level}
 use Rattle.ctl_gen.proofs.FormedMasters.{master_good, slots_told}
 
 -- Tables ---------------------------------------------------------------------------------------------
@@ -262,6 +264,24 @@ module _ (program : Checked) (code : Code) (laid : IsLaidOut program code) (kind
       let least = not_more is.home env c.encloses in
       ((e, x.1, omega (arith, level, least)), (e, x.1, kind_told s.fine.result, subst (λ m. length is.formals ≤ m) (sym (slots_told s.fine.body)) (formals_first is.formals s.fine.others)))
 
+  -- an access type in view is declared around, where its collection stands, and its record type is in view there
+  may_new : MayNew code typed.k
+  may_new env a t to designates =
+      let there : slice_get program.accesses a ≡ Some to.is = sym (ap (λ xs. slice_get xs a) typed.fits.accesses) ∙ to.found in
+      let fine = typed.each_access a to.is to.home there to.at_home in
+      let level = fine.level in
+      let least = not_more to.home env to.encloses in (
+        to.is.collection,
+        ap (λ vs. slice_get vs a) laid.accesses ∙ collection_in program.accesses a ∙ ap (option_map (λ (x : AccessType). x.collection)) there,
+        named_level fine.collection,
+        omega (arith, level, least),
+        subst (λ n. IsDeclarable code n t) (sym level) (declarable program typed code laid to.home t (subst (W.InView typed.k to.home) designates fine.designated)),
+      )
+
+  -- the table has each access type that is declared around a place
+  collected : (env : W.Frames) (a : ℕ) → W.HasAccess typed.k env a → IsAccess code a
+  collected env a has = (has.is.collection, ap (λ xs. slice_get xs a) laid.accesses ∙ collection_in program.accesses a ∙ ap (option_map (λ x. x.collection)) (sym (ap (λ xs. slice_get xs a) typed.fits.accesses) ∙ has.found))
+
   -- the level of a type says how many masters are around it
   assignable : (t : ℕ) → is_outermost (slice_get program.records t) ≡ true → IsDeclarable code outermost t
   assignable t e = by (slice_get program.records t) refl e
@@ -290,7 +310,7 @@ module _ (program : Checked) (code : Code) (laid : IsLaidOut program code) (kind
       let frame = map W.OfFormal is.formals ++ h.others in
       let slots = (master_code s.body).slots in
       let over = subst (λ m. Agrees (is.home ++ frame ∷ []) (Body s.level m ∷ [])) (sym (slots_told h.body)) (agrees_body is.home frame s.level h.level) in
-      master_good code program.records typed.k (declarable program typed code laid) may_call assignable raisable h.body runs (Body s.level slots) [] n p over texts tt
+      master_good code program.records typed.k (declarable program typed code laid) may_call may_new collected assignable raisable h.body runs (Body s.level slots) [] n p over texts tt
 
   good : (f : ℕ) (s : Subprogram) → slice_get program.subprograms f ≡ Some s → GoodBody code program.records s
   good f s e =
@@ -298,7 +318,7 @@ module _ (program : Checked) (code : Code) (laid : IsLaidOut program code) (kind
       good_body s is.0 (typed.each_subprogram f s is.0 e is.1)
 
   formed : BodiesFormed code program.records nowhere 1 0 program.subprograms
-  formed = bodies_formed code program.records program.subprograms run_it good nowhere 1 0 printed stands.1
+  formed = bodies_formed code program.records program.subprograms (both_true (are_standard program.accesses) ((bodies program.subprograms).runs program.records) run_it).1 good nowhere 1 0 printed stands.1
 
   -- the main procedure is declared in no master, and has no formals
   all_fine : AreFine code 0 (program_code program)

@@ -51,13 +51,13 @@ module _ (ask : Ask) (k : Tables) (code : Code) (setting : Setting k code) (call
   unfolding opened_outcome
   value_runs ty scalar to t s d place ks ops has (Goes r) c l w told =
       subst (RunsTo ask code (OneCell (Since k code w0) Any) 1 1 _ c (landed to.named d (place + length (moved_to to t s)) ks ops)) (sym (one_value ty scalar r c l w))
-      (moved_by ask k code bound (Since k code w0) to.at to.named t s (scalar_of r.cells) d place ks ops c l w told.1 has)
+      (moved_by ask k code bound w0 to.at to.named t s (scalar_of r.cells) d place ks ops c l w told.1 has)
   value_runs ty scalar to t s d place ks ops has (Leaves y) c l w told =
       by_raise (λ v. RunsTo ask code (OneCell (Since k code w0) Any) 1 1 (transferred v ks l w) c (landed to.named d (place + length (moved_to to t s)) ks ops) (Gives (Leaves v) 0 c l w))
       (λ e. no_step_to ask code (OneCell (Since k code w0) Any) 1 1 _ c 0 (landed to.named d (place + length (moved_to to t s)) ks ops) (Leaves (ByRaise e)) l w (told.1, tt) (landed_leaves to.named d (place + length (moved_to to t s)) ks ops (ByRaise e) l w)) y told.0
 
   -- its first tick pays what its actuals do not
-  pub function_value : (f : ℕ) (xs : List ActualCode) (ms : List Supplied) (ty : Ty) → IsScalar ty → goes_back xs ≡ false → A.EachPasses ask k code setting call default bound w0 xs ms → Value ask k code bound (Since k code w0) (function_call f xs ty) (λ d. ticked (pass_each K d ms no_actuals >>= call_with K d f >>= value_of ty))
+  pub function_value : (f : ℕ) (xs : List ActualCode) (ms : List Supplied) (ty : Ty) → IsScalar ty → goes_back xs ≡ false → A.EachPasses ask k code setting call default bound w0 xs ms → Value ask k code bound w0 (function_call f xs ty) (λ d. ticked (pass_each K d ms no_actuals >>= call_with K d f >>= value_of ty))
   unfolding opened_outcome
   function_value f xs ms ty scalar none each = record {
     begins = λ to t s d place ks ops c l w le fits long has.

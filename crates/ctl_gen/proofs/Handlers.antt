@@ -24,7 +24,8 @@ use Rattle.ctl_layout.specs.Around.{Line}
 use Rattle.ctl_layout.specs.Layout.{HandlerCode, StatementCode, all, catches_code, handled, handler_lines, handlers_code, handlers_run, handlers_texts, has_choice}
 use Rattle.ctl_gen.proofs.Known.{both_true}
 use Rattle.ctl_gen.proofs.Place.{HasAt, has_front, has_back, Laid, laid_front, laid_back}
-use Rattle.ctl_gen.proofs.Worlds.{home, Since, Kept}
+use Rattle.ctl_gen.proofs.Collections.{home}
+use Rattle.ctl_gen.proofs.Worlds.{Since, Kept}
 use Rattle.ctl_gen.proofs.Setting.{Setting, tools_with, Sees, Told, Calls}
 use Rattle.ctl_gen.proofs.Parted.{GivesDefaults}
 use Rattle.ctl_gen.proofs.Cells.{by_code}

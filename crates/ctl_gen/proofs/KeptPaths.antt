@@ -12,7 +12,7 @@ use Rattle.ctl_meaning.specs.Initialization.{paths_of, paths_within}
 use Rattle.ctl_code.specs.declared.code.Begun.{Begun}
 use Rattle.ctl_code.specs.Table.{is_one_of}
 use Rattle.ctl_gen.proofs.Known.{both_true}
-use Rattle.ctl_gen.proofs.Worlds.{Each, each_all}
+use Rattle.ctl_gen.proofs.Each.{Each, each_all}
 use Rattle.ctl_gen.proofs.Complete.{AreSame, behind, initialized_parts, paths_in, placed_at}
 use Rattle.ctl_gen.proofs.ChosenParts.{AreKept, IsKept, begins_front, each_of, each_tested, paths_below}
 use Rattle.ctl_gen.proofs.FailedParts.{AreComplete, StandsIn}

@@ -19,6 +19,7 @@ use Rattle.ctl_layout.proofs.Extensions.{HasComponents, IsRow, extends_none, ext
 abbrev pub IsScalar : Ty → Type 0
 IsScalar Integer = Unit {0}
 IsScalar Boolean = Unit {0}
+IsScalar (Access a) = Unit {0}
 IsScalar _ = ⊥
 
 -- a scalar type is elementary
@@ -29,7 +30,7 @@ scalar_elementary Boolean h = refl
 scalar_elementary Count h = absurd h
 scalar_elementary Address h = absurd h
 scalar_elementary Handle h = absurd h
-scalar_elementary (Access a) h = absurd h
+scalar_elementary (Access a) h = refl
 scalar_elementary (Record t) h = absurd h
 
 pub scalar_if : (ty : Ty) → is_run_type ty ≡ true → IsScalar ty
@@ -38,7 +39,7 @@ scalar_if Boolean e = tt
 scalar_if Count e = absurd (cc)
 scalar_if Address e = absurd (cc)
 scalar_if Handle e = absurd (cc)
-scalar_if (Access a) e = absurd (cc)
+scalar_if (Access a) e = tt
 scalar_if (Record t) e = absurd (cc)
 
 -- a component of a type whose objects are declared and which stands before this one in the table: it has no default
@@ -167,7 +168,7 @@ module _ (records : List RecordType) (t : ℕ) (r : RecordType) (here : slice_ge
   part_if c Count is e = absurd (cc)
   part_if c Address is e = absurd (cc)
   part_if c Handle is e = absurd (cc)
-  part_if c (Access a) is e = absurd (cc)
+  part_if c (Access a) is e = inl (subst IsScalar (sym is) tt)
   part_if c (Record u) is e =
       let h = both_true (is_plain_form (slice_get made.before u)) (is_none c.default) e in
       let x = before_if u (plain_laid (slice_get made.before u) h.0) in

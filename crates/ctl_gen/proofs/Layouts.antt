@@ -14,7 +14,8 @@ use Rattle.ctl_code.specs.declared.code.Initial.{Initial}
 use Rattle.ctl_code.specs.declared.code.Initial.TheVariants.{Constant, ByType}
 use Rattle.ctl_code.specs.declared.code.Layout.{Layout}
 use Rattle.ctl_code.specs.Table as Table
-use Rattle.ctl_code.specs.Valid.{PositionsRise, has_part}
+use Rattle.ctl_code.specs.Table.{has_part}
+use Rattle.ctl_code.specs.Valid.{PositionsRise}
 use Rattle.ctl_layout.specs.Layout.{AreLayouts, IsLayout, cells_by, next_position, offsets_from, offsets_in, parent_layout}
 use Rattle.ctl_layout.specs.Records.{is_laid}
 use Rattle.ctl_layout.specs.Defaults.{begun_before, begun_from, by_type, constant_of, finalized_by, initial_by, initial_of, is_begun, is_finalized_by, type_if}
@@ -320,7 +321,7 @@ one_cell layouts TyOf.Boolean h = refl
 one_cell layouts TyOf.Count h = absurd h
 one_cell layouts TyOf.Address h = absurd h
 one_cell layouts TyOf.Handle h = absurd h
-one_cell layouts (TyOf.Access a) h = absurd h
+one_cell layouts (TyOf.Access a) h = refl
 one_cell layouts (Record t) h = absurd h
 
 offset_is : (o : Option Layout) (position : ℕ) → Table.offset_in o position ≡ item_or 0 (slice_get (offsets_in o) (position - 1))
@@ -334,7 +335,7 @@ no_type layouts TyOf.Boolean h = refl
 no_type layouts TyOf.Count h = absurd h
 no_type layouts TyOf.Address h = absurd h
 no_type layouts TyOf.Handle h = absurd h
-no_type layouts (TyOf.Access a) h = absurd h
+no_type layouts (TyOf.Access a) h = refl
 no_type layouts (Record t) h = absurd h
 
 -- Each type of the table --------------------------------------------------------------------------

@@ -1,5 +1,5 @@
 -- A master is left: its layers are finalized, from the newest on, and what it declared is gone.
-use Rattle.std.proofs.Common.{◌≡◌, ℕ, ◌≤◌, List, [], ◌∷◌, Option, Some, None, Bool, true, false, refl, sym, ap, ◌∙◌, subst, arith}
+use Rattle.std.proofs.Common.{◌≡◌, ℕ, ◌+◌, ◌≤◌, List, [], ◌∷◌, length, Option, Some, None, Bool, true, false, refl, sym, ap, ◌∙◌, subst, arith}
 use Rattle.std.specs.Prelude.{◌||◌, slice_get}
 use Rattle.ctl_program.specs.declared.types.Ty.{Ty}
 use Rattle.ctl_program.specs.declared.types.Ty.TheVariants.{Integer, Count, Boolean, Address, Handle, Access, Record}
@@ -7,28 +7,30 @@ use Rattle.ctl_tree.specs.declared.ending.Stop.TheVariants.{UseAfterFree}
 use Rattle.ctl_meaning.specs.World.{Slot, Object, Layer, Single, Sets, Log, World}
 use Rattle.ctl_meaning.specs.Ledger.{layers_of, drop_layer}
 use Rattle.ctl_meaning.specs.Activations.{slots_in, activation_at}
-use Rattle.ctl_meaning.specs.Changes.{object_at, take_layer, close_master}
+use Rattle.ctl_meaning.specs.Changes.{object_at, take_layer, close_master, start_collections}
 use Rattle.ctl_meaning.specs.Choice.{Ask, picked}
-use Rattle.ctl_meaning.specs.Outcome.{program_error, raised_by, Way, ByRaise, Result, Goes, Leaves, Out, Act, Done, add, bind, on_goes, ◌>>◌, ticked, change, on_some, opened_outcome}
+use Rattle.ctl_meaning.specs.Outcome.{program_error, raised_by, Way, ByRaise, Result, Goes, Leaves, Out, Act, Done, Fine, add, bind, on_goes, ◌>>◌, ticked, change, on_some, opened_outcome}
 use Rattle.ctl_meaning.specs.Types.{Tables}
 use Rattle.ctl_meaning.specs.Names.{Call, Default, Tools, gone, existing}
 use Rattle.ctl_meaning.specs.Storage.{program_error_if}
 use Rattle.ctl_meaning.specs.Masters as Masters
-use Rattle.ctl_meaning.specs.Masters.{Left, finalize_layer, leave_layers, left, leave}
+use Rattle.ctl_meaning.specs.Masters.{Left, finalize_layer, finalize_sets, leave_layers, left, leave}
 use Rattle.ctl_code.specs.declared.code.Code.{Code}
 use Rattle.ctl_code.specs.declared.code.Instr.TheVariants as InstrOf
-use Rattle.ctl_code.specs.States.{After, AfterBlock, AfterProcedure, AfterFunction, AfterBody, Frame, Handling, handling, InMaster, Leaving, State}
+use Rattle.ctl_code.specs.States.{After, AfterBlock, AfterProcedure, AfterFunction, AfterBody, Complete, Frame, Handling, handling, InMaster, Leaving, Emptying, State}
 use Rattle.ctl_code.specs.Table as Table
 use Rattle.ctl_code.specs.Table.{behind, by_transfer, handlers_in, finalize_declared, next_layer}
 use Rattle.ctl_code.specs.Steps.{moved, step}
 use Rattle.ctl_gen.proofs.Known.{IsPlainType}
 use Rattle.ctl_gen.proofs.Parted.{GivesDefaults}
-use Rattle.ctl_gen.proofs.Worlds.{Each, IfFound, IsSingle, Settled, Since, object_fits, layers_fit, since_take, since_close}
+use Rattle.ctl_gen.proofs.Each.{IfFound}
+use Rattle.ctl_gen.proofs.Worlds.{Settled, Since, object_fits, since_take, since_started, since_close}
 use Rattle.ctl_gen.proofs.Setting.{Setting, tools_with, Calls, Told, Sure}
 use Rattle.ctl_gen.proofs.Cells.{by_code}
 use Rattle.ctl_gen.proofs.FinalizedParts.{heard, tells}
 use Rattle.ctl_gen.proofs.Finalize.{finalize_as, declared_runs}
-use Rattle.ctl_gen.proofs.Follow.{Runs, Comes, OutOf, at, transferred, arrives, leads_out, raised_is, way_of, both, added, after_paid, stop_step, end_step, bind_bind}
+use Rattle.ctl_gen.proofs.Emptied.{group_runs}
+use Rattle.ctl_gen.proofs.Follow.{Runs, Comes, OutOf, at, gives, transferred, arrives, leads_out, raised_is, way_of, both, added, after_paid, one_step, stop_step, end_step, bind_bind}
 
 -- where the end of a master leads
 abbrev pub leaves : After → List Frame → Result Left → Log → World → State
@@ -89,7 +91,7 @@ module _ (ask : Ask) (k : Tables) (code : Code) (setting : Setting k code) (call
   rest m xs r failed s c l w = bind (on_goes (λ b. leave_layers K m xs (failed || b)) s c l w) (on_goes (left m r))
 
   -- a declared object that is found, or not, from the step that looks for it
-  found_runs : (n : ℕ) (w0 : World) (ks : List Frame) (c : ℕ) (l : Log) (w : World) (s0 : State) → c ≤ bound → Since k code w0 w → (y : Option Object) → object_at n w ≡ y → IfFound (Settled k code w.ledger.next_master w.activations) y → step ask code s0 ≡ moved l (finalize_declared code n y ks w) → Runs ask code (Sure k code w0) 3 3 s0 c (tells ks) (on_some y gone (λ o. finalize_as K n o.ty) c l w)
+  found_runs : (n : ℕ) (w0 : World) (ks : List Frame) (c : ℕ) (l : Log) (w : World) (s0 : State) → c ≤ bound → Since k code w0 w → (y : Option Object) → object_at n w ≡ y → IfFound (Settled k code w.ledger.next_master w.activations w.ledger.collections) y → step ask code s0 ≡ moved l (finalize_declared code n y ks w) → Runs ask code (Sure k code w0) 3 3 s0 c (tells ks) (on_some y gone (λ o. finalize_as K n o.ty) c l w)
   unfolding opened_outcome gone
   found_runs n w0 ks c l w s0 le fits None at known first = stop_step ask code (Sure k code w0) 3 3 s0 _ c 0 (tells ks) UseAfterFree l (omega arith) first refl refl
   found_runs n w0 ks c l w s0 le fits (Some o) at known first = by o.ty refl known.plain first
@@ -114,18 +116,33 @@ module _ (ask : Ask) (k : Tables) (code : Code) (setting : Setting k code) (call
       (added ask code (Sure k code w0) 0 3 3 3 3 s0 c (tells ks) _ (omega arith) (omega arith)
       (found_runs n w0 ks c l (take_layer m w) s0 le (since_take k code m w0 w fits) (object_at n w) refl (object_fits k code n w fits.0) first))
 
+  -- so are the members of collections
+  sets_run : (s : List ℕ) (m : ℕ) (w0 : World) (ks : List Frame) (c : ℕ) (l : Log) (w : World) (s0 : State) → c ≤ bound → Since k code w0 w → step ask code s0 ≡ gives (Emptying s false ∷ ks) (Fine Complete) l (start_collections s (take_layer m w)) → Runs ask code (Sure k code w0) 0 0 s0 c (tells ks) (ticked (change (take_layer m) >> finalize_layer K (Sets s)) c l w)
+  unfolding opened_outcome finalize_layer finalize_sets
+  sets_run s m w0 ks c l w s0 le fits first =
+      let w1 = start_collections s (take_layer m w) in
+      added ask code (Sure k code w0) 1 2 2 0 0 s0 c (tells ks) _ (omega arith) (omega arith)
+      (added ask code (Sure k code w0) 0 2 2 2 2 s0 c (tells ks) _ (omega arith) (omega arith)
+      (added ask code (Sure k code w0) (length s + 0) 2 2 2 2 s0 c (tells ks) _ (omega arith) (omega arith)
+      (one_step ask code (Sure k code w0) 1 1 2 2 s0 (gives (Emptying s false ∷ ks) (Fine Complete) l w1) c c (tells ks) _ (omega arith) (omega arith) (omega arith) (omega arith) first
+      (group_runs ask k code setting call default constants bound calls s w0 ks c l w1 le (since_started k code s w0 (take_layer m w) (since_take k code m w0 w fits))))))
+
+  -- the next layer, from the step that begins with it
+  next_runs : (x : Layer) (xs : List Layer) (failed : Bool) (r : Result Done) (m : ℕ) (after : After) (w0 : World) (ks : List Frame) (c : ℕ) (l : Log) (w : World) (s0 : State) → c ≤ bound → Since k code w0 w → step ask code s0 ≡ moved l (next_layer code m (x ∷ xs) failed r after ks w) → Runs ask code (Sure k code w0) 0 0 s0 c (tells (Leaving m xs failed r after ∷ ks)) (ticked (change (take_layer m) >> finalize_layer K x) c l w)
+  next_runs (Single n) xs failed r m after w0 ks c l w s0 le fits first = layer_runs n m w0 (Leaving m xs failed r after ∷ ks) c l w s0 le fits first
+  next_runs (Sets s) xs failed r m after w0 ks c l w s0 le fits first = sets_run s m w0 (Leaving m xs failed r after ∷ ks) c l w s0 le fits first
+
   -- the layers that are left, from the step that begins with them
-  layers_run : (xs : List Layer) (failed : Bool) (r : Result Done) (m : ℕ) (after : After) (w0 : World) (ks : List Frame) (c : ℕ) (l : Log) (w : World) (s0 : State) → w0.ledger.next_master ≤ m → c ≤ bound → Since k code w0 w → Each IsSingle xs → step ask code s0 ≡ moved l (next_layer code m xs failed r after ks w) → Runs ask code (Told k code w0) 1 1 s0 c (leaves after ks) (bind (leave_layers K m xs failed c l w) (on_goes (left m r)))
+  layers_run : (xs : List Layer) (failed : Bool) (r : Result Done) (m : ℕ) (after : After) (w0 : World) (ks : List Frame) (c : ℕ) (l : Log) (w : World) (s0 : State) → w0.ledger.next_master ≤ m → c ≤ bound → Since k code w0 w → step ask code s0 ≡ moved l (next_layer code m xs failed r after ks w) → Runs ask code (Told k code w0) 1 1 s0 c (leaves after ks) (bind (leave_layers K m xs failed c l w) (on_goes (left m r)))
   unfolding picked opened_outcome leave_layers left program_error_if
-  layers_run [] true r m after w0 ks c l w s0 young le fits known first = end_step ask code (Told k code w0) 1 s0 c _ (leaves after ks) (Leaves (ByRaise program_error)) l (close_master m w) (tt, since_close k code m w0 w young fits)
+  layers_run [] true r m after w0 ks c l w s0 young le fits first = end_step ask code (Told k code w0) 1 s0 c _ (leaves after ks) (Leaves (ByRaise program_error)) l (close_master m w) (tt, since_close k code m w0 w young fits)
       (first ∙ ap (moved l) (raised_behind after program_error (slots_in (activation_at m w.activations)) ks (close_master m w)))
-  layers_run [] false r m after w0 ks c l w s0 young le fits known first = end_step ask code (Told k code w0) 1 s0 c _ (leaves after ks) (Goes (record { result = r; slots = slots_in (activation_at m w.activations) })) l (close_master m w) (tt, since_close k code m w0 w young fits) first
-  layers_run (Sets s ∷ xs) failed r m after w0 ks c l w s0 young le fits known first = absurd known.0
-  layers_run (Single n ∷ xs) failed r m after w0 ks c l w s0 young le fits known first =
-      subst goal (sym (bind_bind (ticked (change (take_layer m) >> finalize_layer K (Single n)) c l w) (on_goes (λ b. leave_layers K m xs (failed || b))) (on_goes (left m r))))
+  layers_run [] false r m after w0 ks c l w s0 young le fits first = end_step ask code (Told k code w0) 1 s0 c _ (leaves after ks) (Goes (record { result = r; slots = slots_in (activation_at m w.activations) })) l (close_master m w) (tt, since_close k code m w0 w young fits) first
+  layers_run (x ∷ xs) failed r m after w0 ks c l w s0 young le fits first =
+      subst goal (sym (bind_bind (ticked (change (take_layer m) >> finalize_layer K x) c l w) (on_goes (λ b. leave_layers K m xs (failed || b))) (on_goes (left m r))))
       (both ask code (Sure k code w0) (Told k code w0) 0 0 1 1 1 1 s0 c (tells frames) (leaves after ks) _ (rest m xs r failed) (omega arith) (omega arith) (omega arith)
-      (layer_runs n m w0 frames c l w s0 le fits first)
-      (on (λ b c1 l1 w1 lo fits1 next. layers_run xs (failed || b) r m after w0 ks c1 l1 w1 (tells frames (Goes b) l1 w1) young (omega (arith, lo, le)) fits1 known.1 next)))
+      (next_runs x xs failed r m after w0 ks c l w s0 le fits first)
+      (on (λ b c1 l1 w1 lo fits1 next. layers_run xs (failed || b) r m after w0 ks c1 l1 w1 (tells frames (Goes b) l1 w1) young (omega (arith, lo, le)) fits1 next)))
     where
       frames : List Frame
       frames = Leaving m xs failed r after ∷ ks
@@ -139,7 +156,7 @@ module _ (ask : Ask) (k : Tables) (code : Code) (setting : Setting k code) (call
 
   -- a master whose statements have ended so, from the step that leaves it
   pub leave_runs : (r : Result Done) (m : ℕ) (after : After) (w0 : World) (ks : List Frame) (c : ℕ) (l : Log) (w : World) (s0 : State) → w0.ledger.next_master ≤ m → c ≤ bound → Since k code w0 w → step ask code s0 ≡ moved l (next_layer code m (layers_of m w.ledger) false r after ks w) → Runs ask code (Told k code w0) 1 1 s0 c (leaves after ks) (bind (leave_layers K m (layers_of m w.ledger) false c l w) (on_goes (left m r)))
-  leave_runs r m after w0 ks c l w s0 young le fits first = layers_run (layers_of m w.ledger) false r m after w0 ks c l w s0 young le fits (layers_fit k code m w fits.0) first
+  leave_runs r m after w0 ks c l w s0 young le fits first = layers_run (layers_of m w.ledger) false r m after w0 ks c l w s0 young le fits first
 
   -- the same, where its tick pays
   pub left_runs : (r : Result Done) (m : ℕ) (after : After) (w0 : World) (ks : List Frame) (c : ℕ) (l : Log) (w : World) (s0 : State) → w0.ledger.next_master ≤ m → c ≤ bound → Since k code w0 w → StepsOut ask code s0 r m after ks l w → Runs ask code (Told k code w0) 0 0 s0 c (leaves after ks) (leave K m r c l w)

@@ -8,13 +8,17 @@ pub mod Picks
 pub mod Plain
 pub mod Values
 pub mod Cells
+pub mod Walked
 pub mod Parts
 pub mod Components
 pub mod Worth
 pub mod Expressions
+pub mod Each
+pub mod Collections
 pub mod Worlds
 pub mod Scopes
 pub mod Setting
+pub mod Allocable
 pub mod Evaluated
 pub mod Defaults
 pub mod Rows
@@ -24,6 +28,7 @@ pub mod Assign
 pub mod Branches
 pub mod FinalizedParts
 pub mod Finalize
+pub mod Emptied
 pub mod FinalizedTarget
 pub mod ChosenParts
 pub mod FailedParts
@@ -31,9 +36,11 @@ pub mod UndoneParts
 pub mod Complete
 pub mod KeptPaths
 pub mod CreatedParts
+pub mod Allocators
 pub mod Sources
 pub mod Adjust
 pub mod AdjustedParts
+pub mod Gathers
 pub mod Leave
 pub mod Declare
 pub mod Copies

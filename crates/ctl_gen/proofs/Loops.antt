@@ -22,7 +22,7 @@ use Rattle.ctl_layout.specs.Values.{ValueCode, held}
 use Rattle.ctl_layout.specs.Layout.{in_loop, loop_code, test_code, test_length}
 use Rattle.ctl_gen.proofs.Place.{Laid, laid_front, laid_back}
 use Rattle.ctl_gen.proofs.Worlds.{Since, Kept}
-use Rattle.ctl_gen.proofs.Setting.{Sees}
+use Rattle.ctl_gen.proofs.Setting.{Sees, seen}
 use Rattle.ctl_gen.proofs.Cells.{here, by_code, waiting, Stays, taking_is}
 use Rattle.ctl_gen.proofs.Expressions.{Value, held_holds, held_then}
 use Rattle.ctl_gen.proofs.Does.{Does}
@@ -94,13 +94,13 @@ module _ (ask : Ask) (k : Tables) (code : Code) (bound : ℕ) where
   -- Conditions --------------------------------------------------------------------------------------
 
   -- a condition, from where it begins: what it guards, or behind it and so many instructions
-  pub test_runs : (f : Result (List ℕ) → Act Done) (w0 : World) (y : ValueCode) (test : List ℕ → Act (List ℕ)) → Value ask k code bound (Since k code w0) y test → (s : List Kind) (size : ℕ) (d : List ℕ) (place : ℕ) (ks : List Frame) (ops : List Word) (c : ℕ) (l : Log) (w : World) (next : Result Done → Log → World → State) → c ≤ bound → Since k code w0 w → Sees d s w0 → Laid code place (test_code y s size) → ((m c1 : ℕ) (l1 : Log) (w1 : World) (s0 : State) → c1 ≤ c → Since k code w0 w1 → step ask code s0 ≡ at d (place + test_length y s + (if is_true m then 0 else size)) ks ops l1 w1 → IsGoing s0 → s0.log ≡ l1 → Runs ask code (Kept k code w0) 8 8 s0 c1 next (f (Goes (m ∷ [])) c1 l1 w1)) → ((x c1 : ℕ) (l1 : Log) (w1 : World) → c1 ≤ c → Since k code w0 w1 → Runs ask code (Kept k code w0) 8 8 (transferred (ByRaise x) ks l1 w1) c1 next (f (Leaves (ByRaise x)) c1 l1 w1)) → Runs ask code (Kept k code w0) 0 0 (at d place ks ops l w) c next (bind (test d c l w) f)
+  pub test_runs : (f : Result (List ℕ) → Act Done) (w0 : World) (y : ValueCode) (test : List ℕ → Act (List ℕ)) → Value ask k code bound w0 y test → (s : List Kind) (size : ℕ) (d : List ℕ) (place : ℕ) (ks : List Frame) (ops : List Word) (c : ℕ) (l : Log) (w : World) (next : Result Done → Log → World → State) → c ≤ bound → Since k code w0 w → Sees d s w0 → Laid code place (test_code y s size) → ((m c1 : ℕ) (l1 : Log) (w1 : World) (s0 : State) → c1 ≤ c → Since k code w0 w1 → step ask code s0 ≡ at d (place + test_length y s + (if is_true m then 0 else size)) ks ops l1 w1 → IsGoing s0 → s0.log ≡ l1 → Runs ask code (Kept k code w0) 8 8 s0 c1 next (f (Goes (m ∷ [])) c1 l1 w1)) → ((x c1 : ℕ) (l1 : Log) (w1 : World) → c1 ≤ c → Since k code w0 w1 → Runs ask code (Kept k code w0) 8 8 (transferred (ByRaise x) ks l1 w1) c1 next (f (Leaves (ByRaise x)) c1 l1 w1)) → Runs ask code (Kept k code w0) 0 0 (at d place ks ops l w) c next (bind (test d c l w) f)
   test_runs f w0 y test value s size d place ks ops c l w next le fits sees has goes leaves =
       let h = held y Boolean s in
       let i = InstrOf.Unless h.cell size in
       let there = (laid_back code place h.code ((i, h.after) ∷ []) has).0 in
-      held_then ask k code bound (Since k code w0) (λ r. Since k code w0) h (λ n w1. Stays h.cell.named n d w1) test d place ks ops c l w next f
-      (held_holds ask k code bound (Since k code w0) y.right y test refl value Boolean s d place ks ops c l w le fits sees.long (laid_front code place h.code ((i, h.after) ∷ []) has))
+      held_then ask k code bound w0 (λ r. Since k code w0) h (λ n w1. Stays h.cell.named n d w1) test d place ks ops c l w next f
+      (held_holds ask k code bound w0 y.right y test refl value Boolean s d place ks ops c l w le fits (seen sees) (laid_front code place h.code ((i, h.after) ∷ []) has))
       (λ m c1 l1 w1 lo fits1 stays. goes m c1 l1 w1 (at d (place + length h.code) ks (waiting h.cell.named m ops) l1 w1) lo fits1 (unless m l1 w1 stays there) tt refl)
       (λ x c1 l1 w1 lo fits1. leaves x c1 l1 w1 lo fits1)
     where
@@ -122,7 +122,7 @@ module _ (ask : Ask) (k : Tables) (code : Code) (bound : ℕ) where
   abbrev turn_of : ValueCode → (Around → List Line) → List Kind → List Line
   turn_of y x s = test_code y s (length (x (behind (test_length y s) (in_loop s))) + 1) ++ x (behind (test_length y s) (in_loop s))
 
-  whiles_run : (y : ValueCode) (test : List ℕ → Act (List ℕ)) → ((w0 : World) → Value ask k code bound (Since k code w0) y test) → (x : Around → List Line) (act : List ℕ → ℕ → Act Done) → Does ask k code bound x act → (s : List Kind) (n : ℕ) (e : Target) (w0 : World) (d : List ℕ) (start place : ℕ) (ks : List Frame) (ops : List Word) (c : ℕ) (l : Log) (w : World) → c ≤ n → c ≤ bound → Since k code w0 w → Sees d s w0 → Laid code start (turn_of y x s ++ (InstrOf.Back (length (turn_of y x s)), s) ∷ []) → Lands d (start - 1) ks ops place ops → start + length (turn_of y x s) + 1 ≡ place → Runs ask code (Kept k code w0) 0 2 (at d start ks ops l w) c (arrives e d place ks ops) (turns n (while (test d) (act d (caught_in ks))) c l w)
+  whiles_run : (y : ValueCode) (test : List ℕ → Act (List ℕ)) → ((w0 : World) → Value ask k code bound w0 y test) → (x : Around → List Line) (act : List ℕ → ℕ → Act Done) → Does ask k code bound x act → (s : List Kind) (n : ℕ) (e : Target) (w0 : World) (d : List ℕ) (start place : ℕ) (ks : List Frame) (ops : List Word) (c : ℕ) (l : Log) (w : World) → c ≤ n → c ≤ bound → Since k code w0 w → Sees d s w0 → Laid code start (turn_of y x s ++ (InstrOf.Back (length (turn_of y x s)), s) ∷ []) → Lands d (start - 1) ks ops place ops → start + length (turn_of y x s) + 1 ≡ place → Runs ask code (Kept k code w0) 0 2 (at d start ks ops l w) c (arrives e d place ks ops) (turns n (while (test d) (act d (caught_in ks))) c l w)
   unfolding turns while turned opened_outcome scalar_of opened_lists
   whiles_run y test value x act does s zero e w0 d start place ks ops c l w fuel le fits sees has lands far = record { n = 0; in_time = omega arith; logged = refl; going = tt; why = inl (omega (arith, fuel)) }
   whiles_run y test value x act does s (suc n) e w0 d start place ks ops c l w fuel le fits sees has lands far =
@@ -178,7 +178,7 @@ module _ (ask : Ask) (k : Tables) (code : Code) (bound : ℕ) where
           (last_step ask code (Kept k code w0) 8 8 s0 c1 0 (arrives e d place ks ops) (Goes tt) l1 w1 (omega arith) fits1 (first ∙ ap (λ z. at d (q + (if z then 0 else length b + 1)) ks ops l1 w1) t ∙ ap (λ p. at d p ks ops l1 w1) e1))
 
   -- the turns of such a loop are those of one without a scheme, and a test
-  pub while_runs : (y : ValueCode) (test : List ℕ → Act (List ℕ)) → ((w0 : World) → Value ask k code bound (Since k code w0) y test) → (x : Around → List Line) (act : List ℕ → ℕ → Act Done) → Does ask k code bound x act → Does ask k code bound (λ a. loop_code (turn_of y x a.stack) a.stack) (λ d caught. ticked (leaving (loop (while (test d) (act d caught)))))
+  pub while_runs : (y : ValueCode) (test : List ℕ → Act (List ℕ)) → ((w0 : World) → Value ask k code bound w0 y test) → (x : Around → List Line) (act : List ℕ → ℕ → Act Done) → Does ask k code bound x act → Does ask k code bound (λ a. loop_code (turn_of y x a.stack) a.stack) (λ d caught. ticked (leaving (loop (while (test d) (act d caught)))))
   unfolding leaving loop opened_outcome
   while_runs y test value x act does a w0 d place ks ops c l w le fits sees has =
       let s = a.stack in

@@ -17,8 +17,7 @@ use Rattle.ctl_code.specs.declared.code.Initial.{Initial}
 use Rattle.ctl_code.specs.declared.code.Initial.TheVariants.{Constant, ByType}
 use Rattle.ctl_code.specs.declared.code.Parts.{Parts}
 use Rattle.ctl_code.specs.declared.code.Parts.TheVariants.{Controlled}
-use Rattle.ctl_code.specs.Table.{begun_of, component_of, controlled_of, parts_of}
-use Rattle.ctl_code.specs.Valid.{has_part}
+use Rattle.ctl_code.specs.Table.{begun_of, component_of, controlled_of, has_part, parts_of}
 use Rattle.ctl_layout.specs.Defaults.{constant_of}
 use Rattle.ctl_gen.proofs.Known.{IsPlain, IsPlainType, IsScalar}
 

@@ -1,5 +1,7 @@
--- Parts of objects (4.1.3): what a name denotes, what it means to find that, and the instructions that find it.
-use Rattle.std.proofs.Common.{◌≡◌, ℕ, ◌+◌, List, [], ◌∷◌, ◌++◌, length, Option, Some, None, Bool, true, false, refl, sym, ap, ◌∙◌, subst, arith, append_assoc, length-append}
+-- Parts of objects (4.1, 4.1.3): what a name denotes, what it means to find that, and the instructions that find it. The walk of a name reads
+-- values on its way, so that what is said is what follows it: the part is on top, or an exception is under way, or it has stopped.
+use Rattle.std.proofs.Common.{◌≡◌, ℕ, zero, suc, ◌+◌, ◌≤◌, List, [], ◌∷◌, ◌++◌, length, Option, Some, None, true, false, refl, sym, ap, ◌∙◌, subst, arith, length-append}
+use Rattle.std.specs.Prelude.{slice_get}
 use Rattle.ctl_program.specs.declared.types.Ty.TheVariants.{Record}
 use Rattle.ctl_program.specs.declared.types.Var.{Var}
 use Rattle.ctl_program.specs.declared.expression.Name.{Name, roll-Name, out-Name, roll-out-Name}
@@ -10,76 +12,39 @@ use Rattle.ctl_program.specs.declared.expression.Actual.TheOpen.{Name-F}
 use Rattle.ctl_program.specs.declared.expression.Step.{Step}
 use Rattle.ctl_program.specs.declared.expression.Step.TheVariants.{Component, Dereference, Narrow}
 use Rattle.ctl_tree.specs.declared.ending.Stop.TheVariants.{UseAfterFree}
-use Rattle.ctl_meaning.specs.World.{Content, Nothing, Holds, Binds, Copies, Gathers, Log, World}
+use Rattle.ctl_meaning.specs.World.{Object as ObjectOf, Content, Nothing, Holds, Binds, Copies, Gathers, Log, World}
+use Rattle.ctl_meaning.specs.Lists.{opened_lists}
+use Rattle.ctl_meaning.specs.Objects.{cells_at, first_cells}
 use Rattle.ctl_meaning.specs.Activations.{master_of}
-use Rattle.ctl_meaning.specs.Changes.{slot_at}
+use Rattle.ctl_meaning.specs.Changes.{object_at, slot_at}
 use Rattle.ctl_meaning.specs.Choice.{Ask}
-use Rattle.ctl_meaning.specs.Outcome.{Result, Goes, Gives, Stops, Act, add, bind, on_goes, ◌>>=◌, opened_outcome}
+use Rattle.ctl_meaning.specs.Outcome.{constraint_error, ByRaise, Result, Goes, Leaves, Out, Gives, Stops, Cut, Act, add, bind, on_goes, ◌>>=◌, done, nothing, stop, ticked, on_some, opened_outcome}
 use Rattle.ctl_meaning.specs.Types.{Tables, Category, Composite, offset_in, placed}
-use Rattle.ctl_meaning.specs.Names.{Found, InObject, found_in, find_var, Tools, gone, moved as found_behind, one_step as one_selector, walk, begins_as}
+use Rattle.ctl_meaning.specs.Names.{Found, InObject, found_in, find_var, Tools, gone, existing, must_exist, dereferenced, read_found, read_part, scalar_of, moved as found_behind, one_step as step_meant, walk, begins_as}
 use Rattle.ctl_meaning.specs.Finalization.{Spot}
 use Rattle.ctl_meaning.specs.Expressions.{Naming, eval_name, name_step as name_meaning, var_part}
 use Rattle.ctl_meaning.proofs.Trees.{name_roll}
 use Rattle.ctl_code.specs.declared.code.Instr.TheVariants as InstrOf
+use Rattle.ctl_code.specs.declared.code.Named.TheVariants as NamedOf
 use Rattle.ctl_code.specs.declared.code.Code.{Code}
 use Rattle.ctl_code.specs.declared.kinds.Kind.{Kind}
 use Rattle.ctl_code.specs.declared.kinds.Kind.TheVariants.{Operand as OperandOf}
-use Rattle.ctl_code.specs.States.{Word, Located, Frame, State}
-use Rattle.ctl_code.specs.Steps.{moved, step, steps as steps_of_machine}
-use Rattle.ctl_code.specs.Table.{by_locate, component_of, holder_at, offset_of, spot_of}
+use Rattle.ctl_code.specs.States.{Word, Scalar, Located, Frame, State, whole_spot}
+use Rattle.ctl_code.specs.Steps.{moved, step}
+use Rattle.ctl_code.specs.Table.{by_locate, component_of, designated, fetch_from, fetched, offset_of, spot_of}
 use Rattle.ctl_code.specs.Windows.{depth, height}
-use Rattle.ctl_layout.specs.Around.{out_to}
-use Rattle.ctl_layout.specs.Parts.{Reached, Variable, Part, are_selectors, part_if, behind_last, behind_further, behind_steps, first_type, located_code, part_code, part_runs, parts_run, selects_code}
+use Rattle.ctl_layout.specs.Around.{Line, local_at, new_operand, out_to}
+use Rattle.ctl_layout.specs.Parts.{Reached, Variable, Part, Object, access_value, are_walked, first_type, located_code, part_code, part_runs, parts_run, selects_code, selectors_run}
 use Rattle.ctl_layout.specs.Values.{reached_by}
 use Rattle.ctl_layout.proofs.TreeLayers.{reached_roll}
 use Rattle.ctl_gen.proofs.Known.{both_true}
-use Rattle.ctl_gen.proofs.Place.{Laid}
+use Rattle.ctl_gen.proofs.Walked.{behind_is, steps_before, steps_of, variable_of}
+use Rattle.ctl_gen.proofs.Place.{Laid, laid_front, laid_back}
 use Rattle.ctl_gen.proofs.Worlds.{IsNoCopy}
 use Rattle.ctl_gen.proofs.Setting.{ArePlaced}
-use Rattle.ctl_gen.proofs.Cells.{by_code, here, out_is}
-use Rattle.ctl_gen.proofs.Follow.{RunsTo, after_comes_to, at, steps_add, stop_step_to}
-
--- Names -------------------------------------------------------------------------------------------
-
--- the variable that a name begins with, and its selectors
-abbrev pub variable_of : Reached → Var
-variable_of (Variable v) = v
-variable_of (Part v steps t position) = v
-
-abbrev pub selectors_of : Reached → List Step
-selectors_of (Variable v) = []
-selectors_of (Part v steps t position) = steps ++ Component t position ∷ []
-
--- a variable behind these steps, all of which are selectors, is what is reached
-pub record Denoted (v : Var) (ss : List Step) (x : Reached) : Type 0 where
-  pub variable : v ≡ variable_of x
-  pub steps : ss ≡ selectors_of x
-  pub selectors : are_selectors ss ≡ true
-
-selectors_last : (steps : List Step) (t position : ℕ) → are_selectors steps ≡ true → are_selectors (steps ++ Component t position ∷ []) ≡ true
-selectors_last [] t position h = refl
-selectors_last (Component u i ∷ steps) t position h = selectors_last steps t position h
-selectors_last (Dereference ∷ steps) t position h = absurd (cc h)
-selectors_last (Narrow u ∷ steps) t position h = absurd (cc h)
-
-last_is : (v : Var) (steps : List Step) (s : Step) (x : Reached) → behind_last v steps s ≡ Some x → Denoted v (steps ++ s ∷ []) x
-last_is v steps (Component t position) x is = by (are_selectors steps) refl is
-  where
-    by : (b : Bool) → are_selectors steps ≡ b → part_if b v steps t position ≡ Some x → Denoted v (steps ++ Component t position ∷ []) x
-    by true e h =
-        let same : Part v steps t position ≡ x = cc h in
-        subst (Denoted v (steps ++ Component t position ∷ [])) same (record { variable = refl; steps = refl; selectors = selectors_last steps t position e })
-    by false e h = absurd (cc h)
-last_is v steps Dereference x is = absurd (cc is)
-last_is v steps (Narrow t) x is = absurd (cc is)
-
-further_is : (v : Var) (before : List Step) (s : Step) (more : List Step) (x : Reached) → behind_further v before (s ∷ more) ≡ Some x → Denoted v (before ++ s ∷ more) x
-further_is v before s [] x is = last_is v before s x is
-further_is v before s (next ∷ more) x is = subst (λ ss. Denoted v ss x) (append_assoc before (s ∷ []) (next ∷ more)) (further_is v (before ++ s ∷ []) next more x is)
-
-behind_is : (v : Var) (ss : List Step) (x : Reached) → behind_steps v ss ≡ Some x → Denoted v ss x
-behind_is v [] x is = let same : Variable v ≡ x = cc is in subst (Denoted v []) same (record { variable = refl; steps = refl; selectors = refl })
-behind_is v (s ∷ ss) x is = further_is v [] s ss x is
+use Rattle.ctl_gen.proofs.Cells.{by_code, here, landed, out_is, value_of}
+use Rattle.ctl_gen.proofs.Expressions.{read_step}
+use Rattle.ctl_gen.proofs.Follow.{RunsTo, added_to, at, bind_add, bind_bind, one_step_to, stop_step_to, transferred}
 
 -- What it means to find a part --------------------------------------------------------------------
 
@@ -87,56 +52,44 @@ behind_is v (s ∷ ss) x is = further_is v [] s ss x is
 abbrev pub find_as : Tools → Category → List Step → Var → List ℕ → Act Found
 find_as K c ss v d = var_part c d v >>= walk K ss
 
--- and one of a record type
+-- and one of a record type, which a variable of an access type may lead to
 abbrev pub find_by : Tools → List Step → Var → List ℕ → Act Found
-find_by K ss v = find_as K Composite ss v
+find_by K ss v = find_as K (begins_as ss Composite) ss v
 
 -- what a name means that reaches this
 pub record Leads (K : Tools) (x : Reached) (find : Naming) : Type 0 where
-  pub selectors : are_selectors (selectors_of x) ≡ true
-  pub finds : (c : Category) → find c K ≡ find_as K (begins_as (selectors_of x) c) (selectors_of x) (variable_of x)
+  pub walked : are_walked false (steps_before x) ≡ true
+  pub finds : (c : Category) → find c K ≡ find_as K (begins_as (steps_of x) c) (steps_of x) (variable_of x)
 
 name_rolled : (K : Tools) (y : Name-F Actual Expr Name Operand) (x : Reached) → reached_by (roll-Name y) ≡ Some x → Leads K x (eval_name (roll-Name y))
 unfolding name_meaning
 name_rolled K (Name-F.Variable v ss) x is =
     let h = behind_is v ss x (sym (reached_roll (Name-F.Variable v ss)) ∙ is) in
     record {
-      selectors = subst (λ s. are_selectors s ≡ true) h.steps h.selectors;
-      finds = λ c. ap (λ (m : Naming). m c K) (name_roll (Name-F.Variable v ss)) ∙ ap (λ s. find_as K (begins_as s c) s v) h.steps ∙ ap (find_as K (begins_as (selectors_of x) c) (selectors_of x)) h.variable;
+      walked = h.walked;
+      finds = λ c. ap (λ (m : Naming). m c K) (name_roll (Name-F.Variable v ss)) ∙ ap (λ s. find_as K (begins_as s c) s v) h.steps ∙ ap (find_as K (begins_as (steps_of x) c) (steps_of x)) h.variable;
     }
 name_rolled K (Name-F.Given e ss) x is = absurd (let e1 = sym (reached_roll (Name-F.Given e ss)) ∙ is in cc e1)
 
 pub name_leads : (K : Tools) (n : Name) (x : Reached) → reached_by n ≡ Some x → Leads K x (eval_name n)
 name_leads K n = subst (λ m. (x : Reached) → reached_by m ≡ Some x → Leads K x (eval_name m)) (roll-out-Name n) (name_rolled K (out-Name n))
 
-begins_composite : (steps : List Step) → are_selectors steps ≡ true → begins_as steps Composite ≡ Composite
-unfolding begins_as
-begins_composite [] h = refl
-begins_composite (Component t position ∷ steps) h = refl
-begins_composite (Dereference ∷ steps) h = absurd (cc h)
-begins_composite (Narrow t ∷ steps) h = absurd (cc h)
-
--- a part is one of a variable of a record type
-begins_part : (steps : List Step) (t position : ℕ) (c : Category) → are_selectors steps ≡ true → begins_as (steps ++ Component t position ∷ []) c ≡ Composite
-unfolding begins_as
-begins_part [] t position c h = refl
-begins_part (Component u i ∷ steps) t position c h = refl
-begins_part (Dereference ∷ steps) t position c h = absurd (cc h)
-begins_part (Narrow u ∷ steps) t position c h = absurd (cc h)
-
 -- what is found where it is of a record type
-pub composite_leads : (K : Tools) (x : Reached) (find : Naming) → Leads K x find → find Composite K ≡ find_by K (selectors_of x) (variable_of x)
-composite_leads K x find h = h.finds Composite ∙ ap (λ c. find_as K c (selectors_of x) (variable_of x)) (begins_composite (selectors_of x) h.selectors)
+pub composite_leads : (K : Tools) (x : Reached) (find : Naming) → Leads K x find → find Composite K ≡ find_by K (steps_of x) (variable_of x)
+composite_leads K x find h = h.finds Composite
 
--- all selectors but the last one
-selectors_before : (steps : List Step) (t position : ℕ) → are_selectors (steps ++ Component t position ∷ []) ≡ true → are_selectors steps ≡ true
-selectors_before [] t position h = refl
-selectors_before (Component u i ∷ steps) t position h = selectors_before steps t position h
-selectors_before (Dereference ∷ steps) t position h = absurd (cc h)
-selectors_before (Narrow u ∷ steps) t position h = absurd (cc h)
+-- the variable of a component is the one of the part that has it
+begins_part : (steps : List Step) (t position : ℕ) (c : Category) → begins_as (steps ++ Component t position ∷ []) c ≡ begins_as steps Composite
+unfolding begins_as
+begins_part [] t position c = refl
+begins_part (Component u i ∷ steps) t position c = refl
+begins_part (Dereference ∷ steps) t position c = refl
+begins_part (Narrow u ∷ steps) t position c = refl
 
 pub part_leads : (K : Tools) (v : Var) (steps : List Step) (t position : ℕ) (find : Naming) (c : Category) → Leads K (Part v steps t position) find → find c K ≡ find_by K (steps ++ Component t position ∷ []) v
-part_leads K v steps t position find c h = h.finds c ∙ ap (λ b. find_as K b (steps ++ Component t position ∷ []) v) (begins_part steps t position c (selectors_before steps t position h.selectors))
+part_leads K v steps t position find c h =
+    let all = steps ++ Component t position ∷ [] in
+    h.finds c ∙ ap (λ b. find_as K b all v) (begins_part steps t position c ∙ sym (begins_part steps t position Composite))
 
 -- What is found -----------------------------------------------------------------------------------
 
@@ -146,154 +99,254 @@ content_of d v w = (slot_at (master_of d v) v.slot w).content
 abbrev pub found_at : Spot → Found
 found_at s = InObject s.object s.offset s.path
 
--- the part behind these selectors
-abbrev pub spot_behind : Tables → List Step → Spot → Spot
-spot_behind k [] s = s
-spot_behind k (Component t position ∷ steps) s = spot_behind k steps (component_of s (offset_in position (placed k t)) position)
-spot_behind k (_ ∷ steps) s = s
-
-walks : (K : Tools) (steps : List Step) (s : Spot) → are_selectors steps ≡ true → (c : ℕ) (l : Log) (w : World) → walk K steps (found_at s) c l w ≡ Gives (Goes (found_at (spot_behind K.tables steps s))) (length steps) c l w
-unfolding walk one_selector found_behind opened_outcome
-walks K [] s h c l w = refl
-walks K (Component t position ∷ steps) s h c l w =
-    let s1 = component_of s (offset_in position (placed K.tables t)) position in
-    let e : 1 + length steps ≡ length (Component t position ∷ steps) = omega arith in
-    ap (add 1) (walks K steps s1 h c l w) ∙ ap (λ n. Gives (Goes (found_at (spot_behind K.tables steps s1))) n c l w) e
-walks K (Dereference ∷ steps) s h c l w = absurd (cc h)
-walks K (Narrow t ∷ steps) s h c l w = absurd (cc h)
-
--- the part of the object in a variable, with a tick for each part of its name
-abbrev pub part_found : Tables → List Step → Option Spot → Act Found
-part_found k steps None c l w = Stops UseAfterFree 1 l
-part_found k steps (Some s) c l w = Gives (Goes (found_at (spot_behind k steps s))) (1 + length steps) c l w
-
-found_part : (K : Tools) (steps : List Step) → are_selectors steps ≡ true → (m i : ℕ) (x : Content) → IsNoCopy x → (c : ℕ) (l : Log) (w : World) → bind (add 1 (found_in m i x c l w)) (on_goes (walk K steps)) ≡ part_found K.tables steps (spot_of x) c l w
-unfolding found_in gone opened_outcome
-found_part K steps h m i Nothing uncopied c l w = refl
-found_part K steps h m i (Holds n) uncopied c l w = ap (add 1) (walks K steps (record { object = n; offset = 0; path = [] }) h c l w)
-found_part K steps h m i (Binds n offset path) uncopied c l w = ap (add 1) (walks K steps (record { object = n; offset = offset; path = path }) h c l w)
-found_part K steps h m i (Copies v) uncopied c l w = absurd uncopied
-found_part K steps h m i (Gathers n) uncopied c l w = refl
-
-pub finds_part : (K : Tools) (v : Var) (steps : List Step) → are_selectors steps ≡ true → (d : List ℕ) (c : ℕ) (l : Log) (w : World) → IsNoCopy (content_of d v w) → find_by K steps v d c l w ≡ part_found K.tables steps (spot_of (content_of d v w)) c l w
-unfolding var_part find_var opened_outcome
-finds_part K v steps h d c l w uncopied = found_part K steps h (master_of d v) v.slot (content_of d v w) uncopied c l w
-
 -- a step from what was found to its component
 abbrev pub stepping : Tables → ℕ → ℕ → Found → Act Found
 stepping k t position f c l w = Gives (Goes (found_behind (offset_in position (placed k t)) position f)) 1 c l w
 
-spot_last : (k : Tables) (steps : List Step) (t position : ℕ) (s : Spot) → are_selectors steps ≡ true → spot_behind k (steps ++ Component t position ∷ []) s ≡ component_of (spot_behind k steps s) (offset_in position (placed k t)) position
-spot_last k [] t position s h = refl
-spot_last k (Component u i ∷ steps) t position s h = spot_last k steps t position (component_of s (offset_in i (placed k u)) i) h
-spot_last k (Dereference ∷ steps) t position s h = absurd (cc h)
-spot_last k (Narrow u ∷ steps) t position s h = absurd (cc h)
+-- what follows is the same whatever goes on
+bind_same : (o : Out Found) (g h next : Found → Act Found) → ((a : Found) (c : ℕ) (l : Log) (w : World) → g a c l w ≡ bind (h a c l w) (on_goes next)) → bind o (on_goes g) ≡ bind (bind o (on_goes h)) (on_goes next)
+unfolding opened_outcome
+bind_same (Gives (Goes a) t c l w) g h next same = ap (add t) (same a c l w) ∙ sym (bind_add t (h a c l w) (on_goes next))
+bind_same (Gives (Leaves y) t c l w) g h next same = sym (bind_add t (Gives (Leaves y) 0 c l w) (on_goes next))
+bind_same (Stops why t l) g h next same = refl
+bind_same (Cut t c l) g h next same = refl
+
+-- a selector behind other steps
+walks_last : (K : Tools) (steps : List Step) (t position : ℕ) (f : Found) (c : ℕ) (l : Log) (w : World) → walk K (steps ++ Component t position ∷ []) f c l w ≡ bind (walk K steps f c l w) (on_goes (stepping K.tables t position))
+unfolding walk step_meant opened_outcome
+walks_last K [] t position f c l w = refl
+walks_last K (s ∷ steps) t position f c l w = bind_same (ticked (step_meant K s f) c l w) (walk K (steps ++ Component t position ∷ [])) (walk K steps) (stepping K.tables t position) (walks_last K steps t position)
 
 -- the last selector comes behind the others
-pub component_found : (k : Tables) (steps : List Step) (t position : ℕ) (o : Option Spot) → are_selectors (steps ++ Component t position ∷ []) ≡ true → (c : ℕ) (l : Log) (w : World) → part_found k (steps ++ Component t position ∷ []) o c l w ≡ bind (part_found k steps o c l w) (on_goes (stepping k t position))
-unfolding found_behind opened_outcome
-component_found k steps t position None h c l w = refl
-component_found k steps t position (Some s) h c l w =
-    let e : 1 + length (steps ++ Component t position ∷ []) ≡ 1 + length steps + 1 = omega (arith, length-append steps (Component t position ∷ [])) in
-    ap (λ p. Gives (Goes (found_at p)) (1 + length (steps ++ Component t position ∷ [])) c l w) (spot_last k steps t position s (selectors_before steps t position h))
-    ∙ ap (λ n. Gives (Goes (found_at (component_of (spot_behind k steps s) (offset_in position (placed k t)) position))) n c l w) e
+pub component_found : (K : Tools) (v : Var) (steps : List Step) (t position : ℕ) (d : List ℕ) (c : ℕ) (l : Log) (w : World) → find_by K (steps ++ Component t position ∷ []) v d c l w ≡ bind (find_by K steps v d c l w) (on_goes (stepping K.tables t position))
+unfolding opened_outcome
+component_found K v steps t position d c l w =
+    ap (λ b. find_as K b (steps ++ Component t position ∷ []) v d c l w) (begins_part steps t position Composite)
+    ∙ bind_same (var_part (begins_as steps Composite) d v c l w) (walk K (steps ++ Component t position ∷ [])) (walk K steps) (stepping K.tables t position) (walks_last K steps t position)
 
--- Instructions ------------------------------------------------------------------------------------
+-- what is found in a variable of a record type, by its slot
+abbrev pub object_found : Option Spot → Act Found
+object_found None c l w = Stops UseAfterFree 1 l
+object_found (Some p) c l w = Gives (Goes (found_at p)) 1 c l w
 
-first_last : (steps : List Step) (u position t : ℕ) → are_selectors steps ≡ true → first_type (steps ++ Component u position ∷ []) t ≡ first_type steps u
-first_last [] u position t h = refl
-first_last (Component a i ∷ steps) u position t h = refl
-first_last (Dereference ∷ steps) u position t h = absurd (cc h)
-first_last (Narrow a ∷ steps) u position t h = absurd (cc h)
+found_part : (m i : ℕ) (x : Content) → IsNoCopy x → (c : ℕ) (l : Log) (w : World) → add 1 (found_in m i x c l w) ≡ object_found (spot_of x) c l w
+unfolding found_in gone opened_outcome
+found_part m i Nothing uncopied c l w = refl
+found_part m i (Holds n) uncopied c l w = refl
+found_part m i (Binds n offset path) uncopied c l w = refl
+found_part m i (Copies v) uncopied c l w = absurd uncopied
+found_part m i (Gathers n) uncopied c l w = refl
 
-selects_last : (steps : List Step) (u position t : ℕ) (s : List Kind) → are_selectors steps ≡ true → selects_code (steps ++ Component u position ∷ []) t s ≡ selects_code steps u s ++ (InstrOf.Select u position t, OperandOf (Record u) ∷ s) ∷ []
-selects_last [] u position t s h = refl
-selects_last (Component a i ∷ steps) u position t s h =
-    ap (λ b. (InstrOf.Select a i b, OperandOf (Record a) ∷ s) ∷ selects_code (steps ++ Component u position ∷ []) t s) (first_last steps u position t h)
-    ∙ ap (λ is. (InstrOf.Select a i (first_type steps u), OperandOf (Record a) ∷ s) ∷ is) (selects_last steps u position t s h)
-selects_last (Dereference ∷ steps) u position t s h = absurd (cc h)
-selects_last (Narrow a ∷ steps) u position t s h = absurd (cc h)
+finds_composite : (K : Tools) (v : Var) (steps : List Step) (d : List ℕ) (c : ℕ) (l : Log) (w : World) → IsNoCopy (content_of d v w) → find_as K Composite steps v d c l w ≡ bind (object_found (spot_of (content_of d v w)) c l w) (on_goes (walk K steps))
+unfolding var_part find_var opened_outcome
+finds_composite K v steps d c l w uncopied = ap (λ o. bind o (on_goes (walk K steps))) (found_part (master_of d v) v.slot (content_of d v w) uncopied c l w)
 
--- what finds the part that a name denotes is what finds one behind all its selectors
-part_code_is : (x : Reached) (t : ℕ) (s : List Kind) → are_selectors (selectors_of x) ≡ true → part_code x t s ≡ located_code (variable_of x) (selectors_of x) t s
-part_code_is (Variable v) t s h = refl
-part_code_is (Part v steps u position) t s h =
-    let before = selectors_before steps u position h in
-    sym (ap (λ a. (InstrOf.Locate (out_to s v) v.slot a (height s), s) ∷ selects_code (steps ++ Component u position ∷ []) t s) (first_last steps u position t before)
-    ∙ ap (λ is. (InstrOf.Locate (out_to s v) v.slot (first_type steps u) (height s), s) ∷ is) (selects_last steps u position t s before))
+-- the object in a variable
+pub finds_object : (K : Tools) (v : Var) (d : List ℕ) (c : ℕ) (l : Log) (w : World) → IsNoCopy (content_of d v w) → find_by K [] v d c l w ≡ object_found (spot_of (content_of d v w)) c l w
+unfolding begins_as walk opened_outcome
+finds_object K v d c l w uncopied = finds_composite K v [] d c l w uncopied ∙ by (spot_of (content_of d v w))
+  where
+    by : (o : Option Spot) → bind (object_found o c l w) (on_goes (walk K [])) ≡ object_found o c l w
+    by None = refl
+    by (Some p) = refl
+
+-- a variable whose value is dereferenced
+reads_variable : (K : Tools) (v : Var) (steps : List Step) (d : List ℕ) (c : ℕ) (l : Log) (w : World) → find_by K (Dereference ∷ steps) v d c l w ≡ add 1 (bind (add 1 (add 0 (dereferenced (value_of d v w) c l w))) (on_goes (walk K steps)))
+unfolding begins_as var_part find_var walk step_meant read_found first_cells scalar_of opened_lists opened_outcome
+reads_variable K v steps d c l w = refl
+
+-- a value that is a new operand
+on_top : (n : ℕ) (d : List ℕ) (place : ℕ) (ks : List Frame) (ops : List Word) (l : Log) (w : World) → landed NamedOf.Operand d place ks ops (Goes (n ∷ [])) l w ≡ at d place ks (Scalar n ∷ ops) l w
+unfolding scalar_of opened_lists
+on_top n d place ks ops l w = refl
+
+-- Where components lie ------------------------------------------------------------------------------
 
 module _ (k : Tables) (code : Code) where
   -- the component of each of these selectors lies where the tables say
   abbrev pub Agree : List Step → Type 0
   Agree [] = Unit {0}
   Agree (Component t position ∷ steps) = (offset_of code t position ≡ offset_in position (placed k t)) × Agree steps
-  Agree (_ ∷ steps) = ⊥
+  Agree (_ ∷ steps) = Agree steps
 
-  agree_last : (steps : List Step) (t position : ℕ) → Agree steps → offset_of code t position ≡ offset_in position (placed k t) → Agree (steps ++ Component t position ∷ [])
-  agree_last [] t position h e = (e, tt)
-  agree_last (Component u i ∷ steps) t position h e = (h.0, agree_last steps t position h.1 e)
-  agree_last (Dereference ∷ steps) t position h e = absurd h
-  agree_last (Narrow u ∷ steps) t position h e = absurd h
+  -- and so does the one that a name denotes
+  abbrev pub AgreePart : Reached → Type 0
+  AgreePart (Variable v) = Unit {0}
+  AgreePart (Part v steps t position) = Agree steps × (offset_of code t position ≡ offset_in position (placed k t))
+  AgreePart (Object v steps) = Agree steps
 
   module _ (placed_so : ArePlaced k code) where
+    agree_steps : (steps : List Step) → selectors_run k.records steps ≡ true → Agree steps
+    agree_steps [] h = tt
+    agree_steps (Component u i ∷ steps) h = let g = both_true _ _ h in (placed_so u i g.0, agree_steps steps g.1)
+    agree_steps (Dereference ∷ steps) h = agree_steps steps h
+    agree_steps (Narrow u ∷ steps) h = agree_steps steps h
+
     -- and so does each component of the type behind them
     pub agree_run : (steps : List Step) (t : ℕ) → parts_run k.records steps t ≡ true → Agree steps × ((position : ℕ) → offset_of code t position ≡ offset_in position (placed k t))
-    agree_run [] t h = (tt, λ position. placed_so t position h)
-    agree_run (Component u i ∷ steps) t h =
-        let g = both_true _ _ h in
-        let rest = agree_run steps t g.1 in
-        ((placed_so u i g.0, rest.0), rest.1)
-    agree_run (Dereference ∷ steps) t h = absurd (cc h)
-    agree_run (Narrow u ∷ steps) t h = absurd (cc h)
+    agree_run steps t h = let g = both_true _ _ h in (agree_steps steps g.0, λ position. placed_so t position g.1)
 
-    pub agree_part : (x : Reached) → part_runs x k.records ≡ true → Agree (selectors_of x)
+    pub agree_part : (x : Reached) → part_runs x k.records ≡ true → AgreePart x
     agree_part (Variable v) h = tt
-    agree_part (Part v steps t position) h = let g = agree_run steps t h in agree_last steps t position g.0 (g.1 position)
+    agree_part (Part v steps t position) h = let g = agree_run steps t h in (g.0, g.1 position)
+    agree_part (Object v steps) h = agree_steps steps h
 
-  module _ (ask : Ask) where
-    -- from a part to the one behind these selectors, an instruction each
-    selects : (steps : List Step) (t : ℕ) (s : List Kind) (p : Spot) (d : List ℕ) (place : ℕ) (ks : List Frame) (ops : List Word) (l : Log) (w : World) → Agree steps → Laid code place (selects_code steps t s) → steps_of_machine ask code (length steps) (at d place ks (Located p ∷ ops) l w) ≡ at d (place + length (selects_code steps t s)) ks (Located (spot_behind k steps p) ∷ ops) l w
-    selects [] t s p d place ks ops l w agree has = let e : place ≡ place + 0 = omega arith in ap (λ q. at d q ks (Located p ∷ ops) l w) e
-    selects (Component u i ∷ steps) t s p d place ks ops l w agree has =
-        let n : length (Component u i ∷ steps) ≡ length steps + 1 = omega arith in
-        let q : place + 1 + length (selects_code steps t s) ≡ place + length (selects_code (Component u i ∷ steps) t s) = omega arith in
-        let p1 = component_of p (offset_in i (placed k u)) i in
-        ap (λ j. steps_of_machine ask code j (at d place ks (Located p ∷ ops) l w)) n
-        ∙ steps_add ask code (length steps) 1 (at d place ks (Located p ∷ ops) l w)
-        ∙ ap (steps_of_machine ask code (length steps)) (by_code ask code d place ks (Located p ∷ ops) l w (InstrOf.Select u i (first_type steps t)) has.0 ∙ ap (λ j. at d (place + 1) ks (Located (component_of p j i) ∷ ops) l w) agree.0)
-        ∙ selects steps t s p1 d (place + 1) ks ops l w agree.1 has.2
-        ∙ ap (λ j. at d j ks (Located (spot_behind k steps p1) ∷ ops) l w) q
-    selects (Dereference ∷ steps) t s p d place ks ops l w agree has = absurd agree
-    selects (Narrow u ∷ steps) t s p d place ks ops l w agree has = absurd agree
+-- Instructions ------------------------------------------------------------------------------------
 
-    -- what finds a part, and what follows it: each instruction is paid by the tick of its part of the name
-    pub located_then : {A : Type 0} (Ends : Result A → World → Type 0) (b h : ℕ) (v : Var) (steps : List Step) (t : ℕ) (s : List Kind) (d : List ℕ) (place : ℕ) (ks : List Frame) (ops : List Word) (c : ℕ) (l : Log) (w : World) (next : Result A → Log → World → State) (g : Result Found → Act A) → Agree steps → length d ≡ depth s → Laid code place (located_code v steps t s) →
-        ((p : Spot) → RunsTo ask code Ends b h (at d (place + length (located_code v steps t s)) ks (Located p ∷ ops) l w) c next (g (Goes (found_at p)) c l w)) →
-        RunsTo ask code Ends b h (at d place ks ops l w) c next (bind (part_found k steps (spot_of (content_of d v w)) c l w) g)
-    unfolding opened_outcome
-    located_then Ends b h v steps t s d place ks ops c l w next g agree long has more = by (spot_of (content_of d v w)) (located ∙ ap (λ m. moved l (by_locate (spot_of (slot_at m v.slot w).content) ops (here d place ks w))) (out_is d s v long))
+-- a cell is read and dereferenced, each of which is paid by the tick of its step
+paid_twice : {A : Type 0} (o : Out Found) (f : Result Found → Act Found) (g : Result Found → Act A) → bind (add 1 (bind (add 1 (add 0 o)) f)) g ≡ add 1 (add 1 (add 0 (bind (bind o f) g)))
+paid_twice o f g =
+    ap (λ z. bind (add 1 z) g) (bind_add 1 (add 0 o) f ∙ ap (add 1) (bind_add 0 o f))
+    ∙ bind_add 1 (add 1 (add 0 (bind o f))) g
+    ∙ ap (add 1) (bind_add 1 (add 0 (bind o f)) g ∙ ap (add 1) (bind_add 0 (bind o f) g))
+
+module _ (ask : Ask) (code : Code) (K : Tools) where
+  -- what follows a name, where this is seen, with these operands below the part: it is on top, or it was null that was dereferenced
+  module _ {A : Type 0} (Ends : Result A → World → Type 0) (next : Result A → Log → World → State) (g : Result Found → Act A) (d : List ℕ) (ks : List Frame) (ops : List Word) (c : ℕ) (l : Log) (w : World) where
+    abbrev Puts : ℕ → ℕ → ℕ → Type 0
+    Puts b h place = (p : Spot) → RunsTo ask code Ends b h (at d place ks (Located p ∷ ops) l w) c next (g (Goes (found_at p)) c l w)
+
+    abbrev Raises : ℕ → ℕ → Type 0
+    Raises b h = RunsTo ask code Ends b h (transferred (ByRaise constraint_error) ks l w) c next (g (Leaves (ByRaise constraint_error)) c l w)
+
+    abbrev Meets : ℕ → ℕ → State → Out Found → Type 0
+    Meets b h s o = RunsTo ask code Ends b h s c next (bind o g)
+
+    -- an access value on top, and what follows the object that it designates
+    designates : (b h n t cell place : ℕ) (f : Found → Act Found) → slice_get code.instructions.items place ≡ Some (InstrOf.Dereference t cell) → ((m : ℕ) → Meets b h (at d (place + 1) ks (Located (whole_spot m) ∷ ops) l w) (f (found_at (whole_spot m)) c l w)) → Raises b h → Meets (b + 3) (h + 3) (at d place ks (Scalar n ∷ ops) l w) (bind (dereferenced n c l w) (on_goes f))
+    unfolding dereferenced must_exist existing gone opened_outcome
+    designates b h zero t cell place f has then raises =
+        added_to ask code Ends 0 (b + 3) (h + 3) (b + 3) (h + 3) _ c next _ (omega arith) (omega arith)
+        (one_step_to ask code Ends b h (b + 3) (h + 3) _ (transferred (ByRaise constraint_error) ks l w) c c next _ (omega arith) (omega arith) (omega arith) (omega arith) (by_code ask code d place ks (Scalar zero ∷ ops) l w (InstrOf.Dereference t cell) has) raises)
+    designates b h (suc n) t cell place f has then raises = by (object_at (suc n) w) (by_code ask code d place ks (Scalar (suc n) ∷ ops) l w (InstrOf.Dereference t cell) has)
       where
-        located : steps_of_machine ask code 1 (at d place ks ops l w) ≡ moved l (by_locate (holder_at d (out_to s v) v.slot w) ops (here d place ks w))
-        located = by_code ask code d place ks ops l w (InstrOf.Locate (out_to s v) v.slot (first_type steps t) (height s)) has.0
+        s0 : State
+        s0 = at d place ks (Scalar (suc n) ∷ ops) l w
 
-        by : (o : Option Spot) → step ask code (at d place ks ops l w) ≡ moved l (by_locate o ops (here d place ks w)) → RunsTo ask code Ends b h (at d place ks ops l w) c next (bind (part_found k steps o c l w) g)
-        by None first = stop_step_to ask code Ends b h _ _ c 1 next UseAfterFree l (omega arith) first refl refl
-        by (Some p) first =
-            let q : place + 1 + length (selects_code steps t s) ≡ place + length (located_code v steps t s) = omega arith in
-            let there : steps_of_machine ask code (length steps + 1) (at d place ks ops l w) ≡ at d (place + length (located_code v steps t s)) ks (Located (spot_behind k steps p) ∷ ops) l w =
-            steps_add ask code (length steps) 1 (at d place ks ops l w)
-            ∙ ap (steps_of_machine ask code (length steps)) first
-            ∙ selects steps t s p d (place + 1) ks ops l w agree has.2
-            ∙ ap (λ j. at d j ks (Located (spot_behind k steps p) ∷ ops) l w) q in
-            after_comes_to ask code {X = Unit {0}} Ends 0 b h b h _ (at d (place + length (located_code v steps t s)) ks (Located (spot_behind k steps p) ∷ ops) l w) c c (1 + length steps) next _ (omega arith) (omega arith)
-            (record { n = length steps + 1; falls = omega arith; enough = omega arith; in_time = omega arith; comes = there; fits = tt })
-            (more (spot_behind k steps p))
+        by : (x : Option ObjectOf) → step ask code (at d place ks (Scalar (suc n) ∷ ops) l w) ≡ moved l (designated (suc n) x ops (here d place ks w)) → Meets (b + 3) (h + 3) (at d place ks (Scalar (suc n) ∷ ops) l w) (bind (bind (on_some x (stop UseAfterFree) (λ o. nothing) c l w) (on_goes (λ _. done (InObject (suc n) 0 [])))) (on_goes f))
+        by None first = stop_step_to ask code Ends (b + 3) (h + 3) s0 _ c 0 next UseAfterFree l (omega arith) first refl refl
+        by (Some o) first =
+            let m = found_at (whole_spot (suc n)) in
+            subst (RunsTo ask code Ends (b + 3) (h + 3) s0 c next) (sym (bind_add 0 (f m c l w) g))
+            (added_to ask code Ends 0 (b + 3) (h + 3) (b + 3) (h + 3) s0 c next (bind (f m c l w) g) (omega arith) (omega arith)
+            (one_step_to ask code Ends b h (b + 3) (h + 3) s0 (at d (place + 1) ks (Located (whole_spot (suc n)) ∷ ops) l w) c c next _ (omega arith) (omega arith) (omega arith) (omega arith) first (then (suc n))))
 
-    -- the same of the part that a name denotes
-    pub part_then : {A : Type 0} (Ends : Result A → World → Type 0) (b h : ℕ) (x : Reached) (t : ℕ) (s : List Kind) (d : List ℕ) (place : ℕ) (ks : List Frame) (ops : List Word) (c : ℕ) (l : Log) (w : World) (next : Result A → Log → World → State) (g : Result Found → Act A) → are_selectors (selectors_of x) ≡ true → Agree (selectors_of x) → length d ≡ depth s → Laid code place (part_code x t s) →
-        ((p : Spot) → RunsTo ask code Ends b h (at d (place + length (part_code x t s)) ks (Located p ∷ ops) l w) c next (g (Goes (found_at p)) c l w)) →
-        RunsTo ask code Ends b h (at d place ks ops l w) c next (bind (part_found k (selectors_of x) (spot_of (content_of d (variable_of x) w)) c l w) g)
-    part_then Ends b h x t s d place ks ops c l w next g selectors agree long has more =
-        let same = part_code_is x t s selectors in
-        located_then Ends b h (variable_of x) (selectors_of x) t s d place ks ops c l w next g agree long (subst (Laid code place) same has)
-        (λ p. subst (λ is. RunsTo ask code Ends b h (at d (place + length is) ks (Located p ∷ ops) l w) c next (g (Goes (found_at p)) c l w)) same (more p))
+    -- the step that reads an access value, and what follows
+    reads_access : (b h n t cell place : ℕ) (s0 : State) (f : Found → Act Found) → step ask code s0 ≡ at d place ks (Scalar n ∷ ops) l w → slice_get code.instructions.items place ≡ Some (InstrOf.Dereference t cell) → ((m : ℕ) → Meets b h (at d (place + 1) ks (Located (whole_spot m) ∷ ops) l w) (f (found_at (whole_spot m)) c l w)) → Raises b h → Meets b h s0 (add 1 (bind (add 1 (add 0 (dereferenced n c l w))) (on_goes f)))
+    reads_access b h n t cell place s0 f first has then raises =
+        subst (RunsTo ask code Ends b h s0 c next) (sym (paid_twice (dereferenced n c l w) (on_goes f) g))
+        (added_to ask code Ends 1 b h b h s0 c next _ (omega arith) (omega arith)
+        (added_to ask code Ends 1 (b + 4) (h + 4) b h s0 c next _ (omega arith) (omega arith)
+        (added_to ask code Ends 0 (b + 4) (h + 4) (b + 4) (h + 4) s0 c next _ (omega arith) (omega arith)
+        (one_step_to ask code Ends (b + 3) (h + 3) (b + 4) (h + 4) s0 (at d place ks (Scalar n ∷ ops) l w) c c next _ (omega arith) (omega arith) (omega arith) (omega arith) first (designates b h n t cell place f has then raises)))))
+
+    -- a component in place of the part that has it
+    puts_part : (b h u i part place : ℕ) (p : Spot) (f : Found → Act Found) → offset_of code u i ≡ offset_in i (placed K.tables u) → slice_get code.instructions.items place ≡ Some (InstrOf.Select u i part) → ((q : Spot) → Meets b h (at d (place + 1) ks (Located q ∷ ops) l w) (f (found_at q) c l w)) → Meets b h (at d place ks (Located p ∷ ops) l w) (add 1 (f (found_behind (offset_in i (placed K.tables u)) i (found_at p)) c l w))
+    unfolding found_behind
+    puts_part b h u i part place p f lies has then =
+        let q = component_of p (offset_in i (placed K.tables u)) i in
+        let s0 = at d place ks (Located p ∷ ops) l w in
+        subst (RunsTo ask code Ends b h s0 c next) (sym (bind_add 1 (f (found_at q) c l w) g))
+        (added_to ask code Ends 1 (b + 1) (h + 1) b h s0 c next _ (omega arith) (omega arith)
+        (one_step_to ask code Ends b h (b + 1) (h + 1) s0 (at d (place + 1) ks (Located q ∷ ops) l w) c c next _ (omega arith) (omega arith) (omega arith) (omega arith)
+        (by_code ask code d place ks (Located p ∷ ops) l w (InstrOf.Select u i part) has ∙ ap (λ j. at d (place + 1) ks (Located (component_of p j i) ∷ ops) l w) lies) (then q)))
+
+    -- a component whose value is dereferenced
+    takes_part : (b h u i t cell place : ℕ) (s : List Kind) (p : Spot) (more : List Step) → offset_of code u i ≡ offset_in i (placed K.tables u) → slice_get code.instructions.items place ≡ Some (InstrOf.TakePart u i access_value (new_operand s)) → slice_get code.instructions.items (place + 1) ≡ Some (InstrOf.Dereference t cell) → ((m : ℕ) → Meets b h (at d (place + 1 + 1) ks (Located (whole_spot m) ∷ ops) l w) (walk K more (found_at (whole_spot m)) c l w)) → Raises b h
+        → Meets b h (at d place ks (Located p ∷ ops) l w) (walk K (Component u i ∷ Dereference ∷ more) (found_at p) c l w)
+    unfolding walk step_meant found_behind read_found read_part existing gone opened_outcome
+    takes_part b h u i t cell place s p more lies has has1 then raises =
+        by (object_at p.object w)
+        (by_code ask code d place ks (Located p ∷ ops) l w (InstrOf.TakePart u i access_value (new_operand s)) has
+        ∙ ap (λ j. moved l (fetch_from j p NamedOf.Operand ops (here d place ks w))) lies)
+      where
+        offset : ℕ
+        offset = p.offset + offset_in i (placed K.tables u)
+
+        s0 : State
+        s0 = at d place ks (Located p ∷ ops) l w
+
+        by : (x : Option ObjectOf) → step ask code (at d place ks (Located p ∷ ops) l w) ≡ moved l (fetched (p.offset + offset_in i (placed K.tables u)) x NamedOf.Operand ops (here d place ks w)) → Meets b h (at d place ks (Located p ∷ ops) l w) (add 1 (bind (add 1 (bind (on_some x (stop UseAfterFree) (λ o. done (cells_at (p.offset + offset_in i (placed K.tables u)) 1 o)) c l w) (on_goes (λ v. dereferenced (scalar_of v))))) (on_goes (walk K more))))
+        by None first = stop_step_to ask code Ends b h s0 _ c 2 next UseAfterFree l (omega arith) first refl refl
+        by (Some o) first = reads_access b h (scalar_of (cells_at offset 1 o)) t cell (place + 1) s0 (walk K more) first has1 then raises
+
+    -- from a part on top to the one behind these steps, the first of which is no dereference; there are at most n of them
+    selects_in : (n b h : ℕ) (steps : List Step) (t : ℕ) (s : List Kind) (p : Spot) (place : ℕ) → length steps ≤ n → are_walked true steps ≡ true → Agree K.tables code steps → Laid code place (selects_code steps t s) → Puts b h (place + length (selects_code steps t s)) → Raises b h → Meets b h (at d place ks (Located p ∷ ops) l w) (walk K steps (found_at p) c l w)
+    unfolding walk step_meant opened_outcome
+    selects_in n b h [] t s p place le walked agree has then raises =
+        let e : place + 0 ≡ place = omega arith in
+        added_to ask code Ends 0 b h b h _ c next (g (Goes (found_at p)) c l w) (omega arith) (omega arith) (subst (Puts b h) e then p)
+    selects_in zero b h (x ∷ steps) t s p place le walked agree has then raises = absurd (omega (arith, le))
+    selects_in (suc n) b h (Component u i ∷ []) t s p place le walked agree has then raises =
+        let e : place + 1 ≡ place + 1 + 0 = omega arith in
+        puts_part b h u i t place p (walk K []) agree.0 has.0 (λ q. selects_in n b h [] t s q (place + 1) (omega arith) refl tt tt (subst (Puts b h) e then) raises)
+    selects_in (suc n) b h (Component u i ∷ Component u2 i2 ∷ more) t s p place le walked agree has then raises =
+        let rest = Component u2 i2 ∷ more in
+        let e : place + length (selects_code (Component u i ∷ rest) t s) ≡ place + 1 + length (selects_code rest t s) = omega arith in
+        puts_part b h u i u2 place p (walk K rest) agree.0 has.0 (λ q. selects_in n b h rest t s q (place + 1) (omega (arith, le)) walked agree.1 has.2 (subst (Puts b h) e then) raises)
+    selects_in (suc n) b h (Component u i ∷ Dereference ∷ more) t s p place le walked agree has then raises =
+        let e : place + length (selects_code (Component u i ∷ Dereference ∷ more) t s) ≡ place + 1 + 1 + length (selects_code more t s) = omega arith in
+        takes_part b h u i (first_type more t) (height s) place s p more agree.0 has.0 has.2.0 (λ m. selects_in n b h more t s (whole_spot m) (place + 1 + 1) (omega (arith, le)) walked agree.1 has.2.2 (subst (Puts b h) e then) raises) raises
+    selects_in (suc n) b h (Component u i ∷ Narrow u2 ∷ more) t s p place le walked agree has then raises = absurd (cc walked)
+    selects_in (suc n) b h (Dereference ∷ steps) t s p place le walked agree has then raises = absurd (cc walked)
+    selects_in (suc n) b h (Narrow u ∷ steps) t s p place le walked agree has then raises = absurd (cc walked)
+
+    selects : (b h : ℕ) (steps : List Step) (t : ℕ) (s : List Kind) (p : Spot) (place : ℕ) → are_walked true steps ≡ true → Agree K.tables code steps → Laid code place (selects_code steps t s) → Puts b h (place + length (selects_code steps t s)) → Raises b h → Meets b h (at d place ks (Located p ∷ ops) l w) (walk K steps (found_at p) c l w)
+    selects b h steps t s p place = selects_in (length steps) b h steps t s p place (omega arith)
+
+    -- from a variable of a record type
+    object_then : (b h : ℕ) (v : Var) (steps : List Step) (first t : ℕ) (s : List Kind) (place : ℕ) → are_walked true steps ≡ true → Agree K.tables code steps → IsNoCopy (content_of d v w) → length d ≡ depth s → slice_get code.instructions.items place ≡ Some (InstrOf.Locate (out_to s v) v.slot first (height s)) → Laid code (place + 1) (selects_code steps t s) → Puts b h (place + 1 + length (selects_code steps t s)) → Raises b h → Meets b h (at d place ks ops l w) (find_as K Composite steps v d c l w)
+    unfolding opened_outcome
+    object_then b h v steps first t s place walked agree uncopied long has rest then raises =
+        subst (Meets b h (at d place ks ops l w)) (sym (finds_composite K v steps d c l w uncopied))
+        (by (spot_of (content_of d v w)) (by_code ask code d place ks ops l w (InstrOf.Locate (out_to s v) v.slot first (height s)) has ∙ ap (λ m. moved l (by_locate (spot_of (slot_at m v.slot w).content) ops (here d place ks w))) (out_is d s v long)))
+      where
+        by : (o : Option Spot) → step ask code (at d place ks ops l w) ≡ moved l (by_locate o ops (here d place ks w)) → Meets b h (at d place ks ops l w) (bind (object_found o c l w) (on_goes (walk K steps)))
+        by None go = stop_step_to ask code Ends b h _ _ c 1 next UseAfterFree l (omega arith) go refl refl
+        by (Some p) go =
+            let s0 = at d place ks ops l w in
+            subst (RunsTo ask code Ends b h s0 c next) (sym (bind_add 1 (walk K steps (found_at p) c l w) g))
+            (added_to ask code Ends 1 (b + 1) (h + 1) b h s0 c next _ (omega arith) (omega arith)
+            (one_step_to ask code Ends b h (b + 1) (h + 1) s0 (at d (place + 1) ks (Located p ∷ ops) l w) c c next _ (omega arith) (omega arith) (omega arith) (omega arith) go
+            (selects b h steps t s p (place + 1) walked agree rest then raises)))
+
+    -- what finds a part, and what follows it: each instruction is paid by the tick of its step of the name
+    pub located_then : (b h : ℕ) (v : Var) (steps : List Step) (t : ℕ) (s : List Kind) (place : ℕ) → are_walked false steps ≡ true → Agree K.tables code steps → IsNoCopy (content_of d v w) → length d ≡ depth s → Laid code place (located_code v steps t s) → Puts b h (place + length (located_code v steps t s)) → Raises b h → Meets b h (at d place ks ops l w) (find_by K steps v d c l w)
+    unfolding begins_as
+    located_then b h v [] t s place walked agree uncopied long has then raises =
+        let e : place + 1 ≡ place + 1 + 0 = omega arith in
+        object_then b h v [] t t s place refl tt uncopied long has.0 has.2 (subst (Puts b h) e then) raises
+    located_then b h v (Component u i ∷ steps) t s place walked agree uncopied long has then raises =
+        let all = Component u i ∷ steps in
+        let e : place + length (located_code v all t s) ≡ place + 1 + length (selects_code all t s) = omega arith in
+        object_then b h v all u t s place walked agree uncopied long has.0 has.2 (subst (Puts b h) e then) raises
+    located_then b h v (Dereference ∷ steps) t s place walked agree uncopied long has then raises =
+        let s0 = at d place ks ops l w in
+        let e : place + length (located_code v (Dereference ∷ steps) t s) ≡ place + 1 + 1 + length (selects_code steps t s) = omega arith in
+        subst (Meets b h s0) (sym (reads_variable K v steps d c l w))
+        (reads_access b h (value_of d v w) (first_type steps t) (height s) (place + 1) s0 (walk K steps) (read_step ask K.tables code 0 w (local_at s v) v access_value (new_operand s) s d place ks ops l w long has.0 ∙ on_top (value_of d v w) d (place + 1) ks ops l w) has.2.0
+        (λ m. selects b h steps t s (whole_spot m) (place + 1 + 1) walked agree has.2.2 (subst (Puts b h) e then) raises) raises)
+    located_then b h v (Narrow u ∷ steps) t s place walked agree uncopied long has then raises = absurd (cc walked)
+
+  -- the same of the part that a name denotes
+  module _ {A : Type 0} (Ends : Result A → World → Type 0) (next : Result A → Log → World → State) (g : Result Found → Act A) (d : List ℕ) (ks : List Frame) (ops : List Word) (c : ℕ) (l : Log) (w : World) where
+    pub part_then : (b h : ℕ) (x : Reached) (t : ℕ) (s : List Kind) (place : ℕ) → are_walked false (steps_before x) ≡ true → AgreePart K.tables code x → IsNoCopy (content_of d (variable_of x) w) → length d ≡ depth s → Laid code place (part_code x t s) → Puts Ends next g d ks ops c l w b h (place + length (part_code x t s)) → Raises Ends next g d ks ops c l w b h → Meets Ends next g d ks ops c l w b h (at d place ks ops l w) (find_by K (steps_of x) (variable_of x) d c l w)
+    unfolding opened_outcome found_behind
+    part_then b h (Variable v) t s place walked agree uncopied long has then raises = located_then Ends next g d ks ops c l w b h v [] t s place walked tt uncopied long has then raises
+    part_then b h (Object v steps) t s place walked agree uncopied long has then raises = located_then Ends next g d ks ops c l w b h v steps t s place walked agree uncopied long has then raises
+    part_then b h (Part v steps u position) t s place walked agree uncopied long has then raises =
+        let front = located_code v steps u s in
+        let last : List Line = (InstrOf.Select u position t, OperandOf (Record u) ∷ s) ∷ [] in
+        let end : place + length (part_code (Part v steps u position) t s) ≡ place + length front + 1 = omega (arith, length-append front last) in
+        let offset = offset_in position (placed K.tables u) in
+        let selected : Result Found → Act A = λ r c1 l1 w1. bind (on_goes (stepping K.tables u position) r c1 l1 w1) g in
+        subst (RunsTo ask code Ends b h (at d place ks ops l w) c next) (sym (ap (λ o. bind o g) (component_found K v steps u position d c l w) ∙ bind_bind (find_by K steps v d c l w) (on_goes (stepping K.tables u position)) g))
+        (located_then Ends next selected d ks ops c l w b h v steps u s place walked agree.0 uncopied long (laid_front code place front last has)
+        (λ p.
+        let q = component_of p offset position in
+        let s0 = at d (place + length front) ks (Located p ∷ ops) l w in
+        added_to ask code Ends 1 (b + 1) (h + 1) b h s0 c next _ (omega arith) (omega arith)
+        (one_step_to ask code Ends b h (b + 1) (h + 1) s0 (at d (place + length front + 1) ks (Located q ∷ ops) l w) c c next _ (omega arith) (omega arith) (omega arith) (omega arith)
+        (by_code ask code d (place + length front) ks (Located p ∷ ops) l w (InstrOf.Select u position t) (laid_back code place front last has).0 ∙ ap (λ j. at d (place + length front + 1) ks (Located (component_of p j position) ∷ ops) l w) agree.1)
+        (subst (λ z. RunsTo ask code Ends b h (at d z ks (Located q ∷ ops) l w) c next (g (Goes (found_at q)) c l w)) end (then q))))
+        (added_to ask code Ends 0 b h b h _ c next (g (Leaves (ByRaise constraint_error)) c l w) (omega arith) (omega arith) raises))

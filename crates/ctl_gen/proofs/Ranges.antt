@@ -33,7 +33,7 @@ use Rattle.ctl_layout.specs.Values.{ValueCode}
 use Rattle.ctl_layout.specs.Layout.{in_loop, with_bounds, bounds_code, turns_code, next_of}
 use Rattle.ctl_gen.proofs.Place.{Laid, laid_front, laid_back}
 use Rattle.ctl_gen.proofs.Worlds.{Since, Kept, since_value}
-use Rattle.ctl_gen.proofs.Setting.{Sees, never_missing}
+use Rattle.ctl_gen.proofs.Setting.{Sees, never_missing, seen}
 use Rattle.ctl_gen.proofs.Cells.{Any, by_code, here, landed, out_is}
 use Rattle.ctl_gen.proofs.Worth.{both_cell}
 use Rattle.ctl_gen.proofs.Assign.{newest_is}
@@ -229,16 +229,16 @@ module _ (ask : Ask) (k : Tables) (code : Code) (valid : IsValid code) (bound : 
           (counted_run x act does s v (height s) parameter way n a b e w0 d (q + 2) place ks ops c l w (at d q ks (Scalar b ∷ Scalar a ∷ ops) l w) is newest le fits sees (laid_front code (q + 2) turn ((next_of (Some parameter) (height s) v way (length turn), with_bounds s) ∷ []) body) (laid_back code (q + 2) turn ((next_of (Some parameter) (height s) v way (length turn), with_bounds s) ∷ []) body).0 far lands
           (first ∙ ap (λ t. moved l (if t then in_turn way v.slot (b ∷ a ∷ []) (q + 2) ops (here d q ks w) else ahead (length turn + 2) ops w (here d q ks w))) (some_left (signed a) (signed b) n is)) tt refl)
 
-  pub for_runs : (v : Var) (way : Direction) (low high : ValueCode) (low_of high_of : List ℕ → Act (List ℕ)) → ((w0 : World) → Value ask k code bound (Since k code w0) low low_of) → ((w0 : World) → Value ask k code bound (Since k code w0) high high_of) → (x : Around → List Line) (act : List ℕ → ℕ → Act Done) → Does ask k code bound x act → Does ask k code bound (λ a. bounds_code low high a.stack ++ turns_code (newest_at a.stack v) v way (x (in_loop (with_bounds a.stack))) a.stack) (λ d caught. ticked (leaving (scalar (low_of d) (λ a. scalar (high_of d) (λ b. for way (λ z. set_loop d v z >> act d caught) (signed a) (signed b))))))
+  pub for_runs : (v : Var) (way : Direction) (low high : ValueCode) (low_of high_of : List ℕ → Act (List ℕ)) → ((w0 : World) → Value ask k code bound w0 low low_of) → ((w0 : World) → Value ask k code bound w0 high high_of) → (x : Around → List Line) (act : List ℕ → ℕ → Act Done) → Does ask k code bound x act → Does ask k code bound (λ a. bounds_code low high a.stack ++ turns_code (newest_at a.stack v) v way (x (in_loop (with_bounds a.stack))) a.stack) (λ d caught. ticked (leaving (scalar (low_of d) (λ a. scalar (high_of d) (λ b. for way (λ z. set_loop d v z >> act d caught) (signed a) (signed b))))))
   unfolding leaving scalar opened_outcome scalar_of opened_lists
   for_runs v way low high low_of high_of low_value high_value x act does ar w0 d place ks ops c l w le fits sees has =
       arriving ask code (Kept k code w0) 0 0 _ c _ _ _ (λ r l1 w1. ap (λ p. arrives e d p ks ops r l1 w1) far)
       (added ask code (Kept k code w0) 1 1 2 0 0 _ c _ _ (omega arith) (omega arith)
       (left_behind ask code (Kept k code w0) 1 2 1 2 _ c (arrives e d end ks ops) _ (omega arith) (omega arith)
       (both_cell ask code (Since k code w0) (λ r. Since k code w0) Any 0 0 1 2 1 2 _ c (landed Operand d (place + length is) ks ops) (arrives e d end ks ops) (low_of d c l w) _ (omega arith) (omega arith) (omega arith)
-      (value_runs ask k code bound (Since k code w0) low low_of (low_value w0) (new_operand s) Integer s d place ks ops c l w le fits sees.long (laid_front code place is js bounds))
+      (value_runs ask k code bound w0 low low_of (low_value w0) (new_operand s) Integer s d place ks ops c l w le fits (seen sees) (laid_front code place is js bounds))
       (λ a c1 l1 w1 lo fits1 p1. both_cell ask code (Since k code w0) (λ r. Since k code w0) Any 0 0 1 2 1 2 (at d (place + length is) ks (Scalar a ∷ ops) l1 w1) c1 (landed Operand d q ks (Scalar a ∷ ops)) (arrives e d end ks ops) (high_of d c1 l1 w1) (on_goes (λ u. for way (λ z. set_loop d v z >> act d (caught_in ks)) (signed a) (signed (scalar_of u)))) (omega arith) (omega arith) (omega arith)
-      (value_runs ask k code bound (Since k code w0) high high_of (high_value w0) (new_operand (KindOf.Operand Integer ∷ s)) Integer (KindOf.Operand Integer ∷ s) d (place + length is) ks (Scalar a ∷ ops) c1 l1 w1 (omega (arith, lo, le)) fits1 sees.long (laid_back code place is js bounds))
+      (value_runs ask k code bound w0 high high_of (high_value w0) (new_operand (KindOf.Operand Integer ∷ s)) Integer (KindOf.Operand Integer ∷ s) d (place + length is) ks (Scalar a ∷ ops) c1 l1 w1 (omega (arith, lo, le)) fits1 (seen sees) (laid_back code place is js bounds))
       (λ b c2 l2 w2 lo2 fits2 p2. ranged x act does s v way (newest_at s v) a b e w0 d q ks ops c2 l2 w2 refl (omega (arith, lo, lo2, le)) fits2 sees tail)
       (λ y c2 l2 w2 lo2 fits2. no_step ask code (Kept k code w0) 1 2 _ c2 0 (arrives e d end ks ops) (Leaves (ByRaise y)) l2 w2 fits2 refl))
       (λ y c1 l1 w1 lo fits1. no_step ask code (Kept k code w0) 1 2 _ c1 0 (arrives e d end ks ops) (Leaves (ByRaise y)) l1 w1 fits1 refl))))

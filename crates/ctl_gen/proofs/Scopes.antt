@@ -7,7 +7,7 @@ use Rattle.ctl_program.specs.declared.operators.SubprogramKind.{SubprogramKind}
 use Rattle.ctl_program.specs.declared.operators.SubprogramKind.TheVariants.{Procedure}
 use Rattle.ctl_meaning.specs.World.{Object, World}
 use Rattle.ctl_meaning.specs.Lists.{keep, pull_item, pull_rest}
-use Rattle.ctl_meaning.specs.Changes.{object_at, home_of, home_master, opened_changes}
+use Rattle.ctl_meaning.specs.Changes.{object_at, home_of}
 use Rattle.ctl_meaning.specs.Types.{Tables}
 use Rattle.ctl_code.specs.declared.code.Begun.{Begun}
 use Rattle.ctl_code.specs.declared.code.Initial.{Initial}
@@ -18,7 +18,9 @@ use Rattle.ctl_code.specs.declared.code.Code.{Code}
 use Rattle.ctl_code.specs.Table.{begun_in, begun_of, controlled_in, controlled_of, operation_in, operation_of}
 use Rattle.ctl_code.specs.Valid.{AreBegunBy, AreInScope, HasFormals, IsBegunBy, IsDeclarable, IsDeclaredIn, IsInScope, IsValid, PositionsRise, TakesObject, outermost}
 use Rattle.ctl_code.proofs.Declarable.{layout_of}
-use Rattle.ctl_gen.proofs.Worlds.{Fits, IfFound, IsInside, Settled, Since, home, object_fits, still_home}
+use Rattle.ctl_gen.proofs.Each.{IfFound}
+use Rattle.ctl_gen.proofs.Collections.{home, belongs_home}
+use Rattle.ctl_gen.proofs.Worlds.{Fits, IsInside, Settled, Since, object_fits, still_home}
 
 -- Inside more masters -------------------------------------------------------------------------------
 
@@ -116,13 +118,13 @@ rest_inside code n (suc i) (x ∷ xs) h = (h.0, rest_inside code n i xs h.1)
 -- Objects -------------------------------------------------------------------------------------------
 
 -- the display that the operations of a settled object are called with
-pub home_is : (k : Tables) (code : Code) (w : World) (o : Object) → (h : Settled k code w.ledger.next_master w.activations o) → home_of o.origin w ≡ home h.master w.activations
-unfolding opened_changes
-home_is k code w o h = ap (λ x. home (home_master w x) w.activations) h.origin
+home_is : (k : Tables) (code : Code) (w : World) (o : Object) → (h : Settled k code w.ledger.next_master w.activations w.ledger.collections o) → home_of o.origin w ≡ home h.master w.activations
+home_is k code w o h = belongs_home h.master w o.origin h.origin
 
--- its type is declared there
-pub type_inside : (k : Tables) (code : Code) (w : World) (o : Object) (t : ℕ) → o.ty ≡ Record t → Settled k code w.ledger.next_master w.activations o → IsDeclarable code (length (home_of o.origin w)) t
-type_inside k code w o t ty h =
+-- the type of an object that is there is declared around its operations, whether it was declared or allocated
+pub type_inside : (k : Tables) (code : Code) (n : ℕ) (w : World) (o : Object) (t : ℕ) → Fits k code w → object_at n w ≡ Some o → o.ty ≡ Record t → IsDeclarable code (length (home_of o.origin w)) t
+type_inside k code n w o t fits at ty =
+    let h = subst (IfFound (Settled k code w.ledger.next_master w.activations w.ledger.collections)) at (object_fits k code n w fits) in
     subst (λ (d : List ℕ). IsDeclarable code (length d) t) (sym (home_is k code w o h)) (subst (λ y. IsInside code y (length (home h.master w.activations))) ty h.inside)
 
 -- since an earlier world at least so many masters have been around the operations of the object of this number, whenever it existed
@@ -136,5 +138,5 @@ still_surrounded k code w0 n o fits was w p since at = subst (λ (d : List ℕ).
 -- and the main procedure's own master in any case
 pub outermost_surrounds : (k : Tables) (code : Code) (w0 : World) (n : ℕ) → IsSurrounded k code w0 outermost n
 outermost_surrounds k code w0 n w o since at =
-    let settled = subst (IfFound (Settled k code w.ledger.next_master w.activations)) at (object_fits k code n w since.0) in
+    let settled = subst (IfFound (Settled k code w.ledger.next_master w.activations w.ledger.collections)) at (object_fits k code n w since.0) in
     subst (λ (d : List ℕ). outermost ≤ length d) (sym (home_is k code w o settled)) settled.deep

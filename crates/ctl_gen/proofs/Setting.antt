@@ -1,33 +1,40 @@
 -- What the simulation of each construct stands on: the tables agree, and bodies behave when they are called.
-use Rattle.std.proofs.Common.{◌≡◌, ℕ, ◌<◌, ◌≤◌, List, [], ◌∷◌, length, Option, Some, None, true, refl}
-use Rattle.std.specs.Prelude.{slice_get}
+use Rattle.std.proofs.Common.{◌≡◌, ℕ, ◌+◌, ◌<◌, ◌≤◌, List, [], ◌∷◌, length, Option, Some, None, true, refl, ◌∙◌, subst}
+use Rattle.std.specs.Prelude.{slice_get, option_map}
 use Rattle.ctl_program.specs.declared.program.Subprogram.{Subprogram}
 use Rattle.ctl_program.specs.declared.types.Ty.TheVariants.{Record}
+use Rattle.ctl_program.specs.declared.types.AccessType.{AccessType}
 use Rattle.ctl_program.specs.declared.types.RecordType.{RecordType}
 use Rattle.ctl_program.specs.declared.operators.SubprogramKind.{SubprogramKind}
 use Rattle.ctl_program.specs.declared.operators.SubprogramKind.TheVariants.{Procedure, Function}
+use Rattle.ctl_tree.specs.declared.event.Cause.TheVariants as CauseOf
 use Rattle.ctl_tree.specs.declared.event.Event.{Event}
-use Rattle.ctl_meaning.specs.World.{Log, World, Slot}
+use Rattle.ctl_meaning.specs.World.{Collection, Log, World, Slot, Member}
 use Rattle.ctl_meaning.specs.Lists.{last_of}
 use Rattle.ctl_meaning.specs.Choice.{Ask}
 use Rattle.ctl_meaning.specs.Outcome.{raised_by, Way, Result, Goes, Leaves, Tried, Fine, tell}
 use Rattle.ctl_meaning.specs.Types.{Tables, cells_of, offset_in, operation, placed}
-use Rattle.ctl_meaning.specs.Names.{OfSubprogram, Returned, Call, Default, Tools, scalar_of}
+use Rattle.ctl_meaning.specs.Names.{OfSubprogram, OfAllocator, Returned, Call, Default, Tools, scalar_of}
+use Rattle.ctl_meaning.specs.Finalization.{finalize_begun}
+use Rattle.ctl_meaning.proofs.Cuts.{UpTo}
 use Rattle.ctl_code.specs.declared.code.Entry.{Entry}
 use Rattle.ctl_code.specs.declared.code.Instr.TheVariants as InstrOf
 use Rattle.ctl_code.specs.declared.code.Code.{Code}
 use Rattle.ctl_code.specs.declared.kinds.Kind.{Kind}
-use Rattle.ctl_code.specs.States.{Scalar, Handed, Complete, After, AfterBlock, AfterProcedure, AfterFunction, AfterBody, Frame, State}
-use Rattle.ctl_code.specs.Table.{enter_body, offset_of, operation_of, or_complete, size_of, with_values}
+use Rattle.ctl_code.specs.States.{Word, Scalar, Handed, Complete, After, AfterBlock, AfterProcedure, AfterFunction, AfterBody, Frame, State}
+use Rattle.ctl_code.specs.Table.{by_new, enter_body, offset_of, operation_of, or_complete, set_seen, size_of, with_values}
 use Rattle.ctl_code.specs.Steps.{moved, step}
-use Rattle.ctl_code.specs.Valid.{IsValid, kinds_at}
+use Rattle.ctl_code.specs.Valid.{IsDeclarable, IsValid, kinds_at}
 use Rattle.ctl_code.specs.Windows.{depth}
 use Rattle.ctl_layout.specs.Records.{adjust_by, is_laid}
 use Rattle.ctl_layout.specs.Run.{IsBody}
+use Rattle.ctl_gen.proofs.Known.{IsPlainType}
 use Rattle.ctl_gen.proofs.Parted.{Agree, GivesDefaults}
-use Rattle.ctl_gen.proofs.Worlds.{Each, HoldsNoCopy, Since, home}
+use Rattle.ctl_gen.proofs.Each.{Each}
+use Rattle.ctl_gen.proofs.Collections.{home}
+use Rattle.ctl_gen.proofs.Worlds.{IsNested, IsPlainSlot, Since, home_nested}
 use Rattle.ctl_gen.proofs.Scopes.{IsCallable}
-use Rattle.ctl_gen.proofs.Follow.{IsRaise, Runs, at, gives, transferred}
+use Rattle.ctl_gen.proofs.Follow.{IsRaise, Runs, RunsTo, at, gives, transferred}
 
 -- the first cells of the components of types that are laid out are those of the tables
 abbrev pub ArePlaced : Tables → Code → Type 0
@@ -44,6 +51,9 @@ pub record Setting (k : Tables) (code : Code) : Type 0 where
   pub initialize : (t : ℕ) → operation_of (λ x. x.initialize) code t ≡ operation (λ x. x.initialize) k t
   pub adjust : (t : ℕ) (r : RecordType) → slice_get k.records t ≡ Some r → operation_of (λ x. x.adjust) code t ≡ adjust_by r.root r.operations.adjust
   pub finalize : (t : ℕ) → operation_of (λ x. x.finalize) code t ≡ operation (λ x. x.finalize) k t
+  -- the collection of each access type stands in the same slot, and its objects lie in the standard pool
+  pub accesses : (access : ℕ) → slice_get code.accesses.items access ≡ option_map (λ a. a.collection) (slice_get k.accesses access)
+  pub standard : (access : ℕ) (a : AccessType) → slice_get k.accesses access ≡ Some a → a.pool ≡ None
   pub body : (f : ℕ) (e : Entry) → slice_get code.entries.items f ≡ Some e → IsBody subprograms f
   pub initialize_body : (t f : ℕ) → operation (λ x. x.initialize) k t ≡ Some f → IsBody subprograms f
   pub adjust_body : (t f : ℕ) → operation (λ x. x.adjust) k t ≡ Some f → IsBody subprograms f
@@ -59,6 +69,17 @@ pub record Sees (d : List ℕ) (s : List Kind) (w : World) : Type 0 where
   pub home : home (last_of d) w.activations ≡ d
   pub long : length d ≡ depth s
   pub deep : 1 ≤ length d
+
+-- what expressions want of a display, whatever operands stand over the others
+abbrev pub IsSeen : World → List ℕ → List Kind → Type 0
+IsSeen w d s = (last_of d < w.ledger.next_master) × (home (last_of d) w.activations ≡ d) × (length d ≡ depth s)
+
+pub seen : {w : World} {d : List ℕ} {s : List Kind} → Sees d s w → IsSeen w d s
+seen sees = (sees.old, sees.home, sees.long)
+
+-- its masters are nested in one another, also since then
+pub seen_nested : (k : Tables) (code : Code) (d : List ℕ) (s : List Kind) (w0 w : World) → IsSeen w0 d s → Since k code w0 w → IsNested w d
+seen_nested k code d s w0 w sees since = subst (IsNested w) (since.1.homes (last_of d) sees.0 ∙ sees.1) (home_nested k code (last_of d) w since.0)
 
 -- what is handed on with no value, where nothing but an exception leaves
 abbrev pub told : {A : Type 0} → Result A → Tried Handed
@@ -102,10 +123,23 @@ IsSure (Some y) = ⊥
 abbrev pub Sure : (k : Tables) (code : Code) → World → Option Way → World → Type 0
 Sure k code w0 y w = IsSure y × Since k code w0 w
 
+-- a record type is declared around the collection that an access type has where a display is seen, if one stands
+abbrev pub MayAllocate : Code → ℕ → ℕ → List ℕ → World → Type 0
+MayAllocate code access t d w = (x : Collection) → set_seen (slice_get code.accesses.items access) d w ≡ Some x → IsDeclarable code (length (home x.master w.activations)) t
+
+-- an allocator gives one cell, and nothing but an exception leaves it
+abbrev pub Allocates : (k : Tables) (code : Code) → World → Result Returned → World → Type 0
+Allocates k code w0 (Goes r) w = ((n : ℕ) × (r.cells ≡ n ∷ [])) × Since k code w0 w
+Allocates k code w0 (Leaves y) w = IsRaise y × Since k code w0 w
+
 -- bodies behave, while at most this much is on the clock: from the state whose step enters the body, in so many masters as are around it,
--- to where a body of its kind leads
+-- which are nested, to where a body of its kind leads. And so do allocators without a handle or a value, behind the one that they take from the clock: from
+-- the state whose step is theirs. The finalization of a member, with all that its operations do, leaves no more on the clock and members to
+-- be finalized together than there were
 pub record Calls (ask : Ask) (k : Tables) (code : Code) (setting : Setting k code) (bound : ℕ) (call : Call) : Type 0 where
-  pub runs : (f : ℕ) (s : Subprogram) → slice_get setting.subprograms f ≡ Some s → (w0 : World) (v : List ℕ) (actuals : List Slot) (after : After) (ks : List Frame) (c : ℕ) (l : Log) (w : World) (s0 : State) (kind : SubprogramKind) (count : ℕ) → EndsIn kind after → c ≤ bound → Since k code w0 w → IsCallable code kind (length v) f count → Each HoldsNoCopy actuals → step ask code s0 ≡ moved l (enter_body (slice_get code.entries.items f) [] v actuals after ks w) → Runs ask code (Told k code w0) 2 3 s0 c (returned_to after ks) (call (OfSubprogram f actuals) v c l w)
+  pub runs : (f : ℕ) (s : Subprogram) → slice_get setting.subprograms f ≡ Some s → (w0 : World) (v : List ℕ) (actuals : List Slot) (after : After) (ks : List Frame) (c : ℕ) (l : Log) (w : World) (s0 : State) (kind : SubprogramKind) (count : ℕ) → EndsIn kind after → c ≤ bound → Since k code w0 w → IsCallable code kind (length v) f count → IsNested w v → Each IsPlainSlot actuals → step ask code s0 ≡ moved l (enter_body (slice_get code.entries.items f) [] v actuals after ks w) → Runs ask code (Told k code w0) 2 3 s0 c (returned_to after ks) (call (OfSubprogram f actuals) v c l w)
+  pub allocates : (access t : ℕ) → IsPlainType k (Record t) → (w0 : World) (d : List ℕ) (place : ℕ) (ks : List Frame) (ops : List Word) (c0 c : ℕ) (l : Log) (w : World) (s0 : State) → c + 1 ≤ bound → c ≤ c0 → c0 ≤ c + 1 → Since k code w0 w → MayAllocate code access t d w → step ask code s0 ≡ moved l (by_new code t (set_seen (slice_get code.accesses.items access) d w) ops (record { display = d; place = place; control = ks; world = w })) → RunsTo ask code (Allocates k code w0) 5 7 s0 c0 (returned_to (AfterFunction (record { display = d; place = place + 1; operands = ops })) ks) (call (OfAllocator access (Record t) None None) d c l w)
+  pub counts : (default : Default) (m : Member) → UpTo k ask bound (finalize_begun (tools_with ask k call default) CauseOf.Collection m)
 
 -- what is shown when a body is entered is shown before
 pub enter_shows : (x : Option Entry) (e : Event) (v : List ℕ) (actuals : List Slot) (after : After) (k : List Frame) (l : Log) (w : World) → moved l (enter_body x (e ∷ []) v actuals after k w) ≡ moved (tell e l) (enter_body x [] v actuals after k w)

@@ -33,8 +33,10 @@ use Rattle.ctl_layout.specs.Layout.{ArmCode, ItemCode, MasterCode, StatementCode
 use Rattle.ctl_layout.specs.Defaults.{is_declared}
 use Rattle.ctl_gen.proofs.Known.{both_true, plain_if, scalar_if}
 use Rattle.ctl_gen.proofs.Place.{HasAt, has_front, has_back, Laid, laid_front, laid_back}
-use Rattle.ctl_gen.proofs.Worlds.{home, Each, HoldsNoCopy, no_copy_unset, Since, Kept, home_new, keeps_itself, keeps_on, keeps_open, fits_open}
-use Rattle.ctl_gen.proofs.Setting.{Setting, tools_with, Sees, Told, Calls}
+use Rattle.ctl_gen.proofs.Each.{Each}
+use Rattle.ctl_gen.proofs.Collections.{home}
+use Rattle.ctl_gen.proofs.Worlds.{IsNested, IsPlainSlot, plain_unset, Since, Kept, home_new, keeps_itself, keeps_on, keeps_open, fits_open}
+use Rattle.ctl_gen.proofs.Setting.{Setting, tools_with, Sees, Told, Calls, seen, seen_nested}
 use Rattle.ctl_gen.proofs.Parted.{GivesDefaults}
 use Rattle.ctl_gen.proofs.Cells.{by_code}
 use Rattle.ctl_gen.proofs.Does.{Does}
@@ -45,6 +47,7 @@ use Rattle.ctl_gen.proofs.Expressions.{Value}
 use Rattle.ctl_gen.proofs.Evaluated.{value_means}
 use Rattle.ctl_gen.proofs.Branches.{Ends, arm_runs}
 use Rattle.ctl_gen.proofs.Loops.{leave_step}
+use Rattle.ctl_gen.proofs.Gathers.{collections_do}
 use Rattle.ctl_gen.proofs.Leave.{in_frame, leaves, left_after, steps_out}
 use Rattle.ctl_gen.proofs.Follow.{by_raise, raised_is, Comes, Runs, Target, OutOf, target_of, landing_further, landed_on, way_of, at, arrives, add_none, added, bind_bind, last_step, no_step, both, both_from, arriving, left_behind, in_row, lands, transferred}
 
@@ -114,7 +117,7 @@ module _ (ask : Ask) (k : Tables) (code : Code) (setting : Setting k code) (call
   bare_object slot Count runs a w0 d place ks ops c l w le fits sees has = absurd (cc)
   bare_object slot Address runs a w0 d place ks ops c l w le fits sees has = absurd (cc)
   bare_object slot Handle runs a w0 d place ks ops c l w le fits sees has = absurd (cc)
-  bare_object slot (Access t) runs a w0 d place ks ops c l w le fits sees has = absurd (cc)
+  bare_object slot (Access t) runs a w0 d place ks ops c l w le fits sees has = scalar_runs ask k code setting.valid bound call default slot (Access t) tt a w0 d place ks ops c l w le fits sees has
 
   -- a declaration with a value
   valued_object : (slot : ℕ) (ty : Ty) (e : Expr) → (valued slot ty (value_code e)).runs k.records ≡ true → Does ask k code bound (λ a. (valued slot ty (value_code e)).code a.stack) (λ d caught. object slot ty (Some (eval e)) K d (last_of d))
@@ -144,7 +147,8 @@ module _ (ask : Ask) (k : Tables) (code : Code) (setting : Setting k code) (call
   item_elaborates (Object slot ty None) runs = bare_object slot ty runs
   item_elaborates (Object slot ty (Some e)) runs = given_object slot ty e runs
   item_elaborates Silent runs = λ a w0 d place ks ops c l w le fits sees has. still_there 1 (lands a place) w0 d place ks ops c l w fits
-  item_elaborates (Collections accesses) runs = absurd (cc)
+  item_elaborates (Collections []) runs = absurd (cc)
+  item_elaborates (Collections (a ∷ more)) runs = collections_do ask k code setting call default bound a more
   item_elaborates (Pool slot t ds) runs = absurd (cc)
 
   items_run : (xs : List Item) → (all_items (map item_code xs)).runs k.records ≡ true → Does ask k code bound (λ a. (all_items (map item_code xs)).code a.stack) (λ d caught. elaborate K d (last_of d) (map elaborate_item xs))
@@ -185,7 +189,7 @@ module _ (ask : Ask) (k : Tables) (code : Code) (setting : Setting k code) (call
       ((c1 : ℕ) (l1 : Log) (w1 : World) → c1 ≤ c → Since k code w0 w1 → Runs ask code (Kept k code w0) 0 0 (at d (place + length (turn_code x a n) + 1) ks ops l1 w1) c1 (arrives (lands a place) d place1 ks ops) (other c1 l1 w1)) →
       Runs ask code (Kept k code w0) 0 0 (at d place ks ops l w) c (arrives (lands a place) d place1 ks ops) (m K d (caught_in ks) other c l w)
 
-  pub guard_runs : (x : ValueCode) (test : Valued) (xs : List StatementCode) (ms : List Doing) → (x.runs k.records ≡ true → (w0 : World) → Value ask k code bound (Since k code w0) x (test K)) → EachPerforms xs ms → Guards (record { test = x; body = all xs }) (guard test ms)
+  pub guard_runs : (x : ValueCode) (test : Valued) (xs : List StatementCode) (ms : List Doing) → (x.runs k.records ≡ true → (w0 : World) → Value ask k code bound w0 x (test K)) → EachPerforms xs ms → Guards (record { test = x; body = all xs }) (guard test ms)
   unfolding guard
   guard_runs x test xs ms value each runs_test runs_body n texts other a w0 d place place1 ks ops c l w le fits sees has ends elses =
       arm_runs ask k code bound 0 1 (omega arith) x (test K) (value runs_test) (λ b. (all xs).code b n) (λ u caught. do_each K u caught ms) (all_run xs ms each runs_body n texts) other a w0 d place place1 ks ops c l w le fits sees has ends elses
@@ -326,14 +330,14 @@ module _ (ask : Ask) (k : Tables) (code : Code) (setting : Setting k code) (call
   -- a master, from the step that enters it
   abbrev pub Masters : StatementCode → Doing → Type 0
   Masters x m =
-      x.runs k.records ≡ true → (n : ℕ) → HasAt code.texts.items n x.texts → (caught : ℕ) (new : Kind) (s : List Kind) (w0 : World) (env : List ℕ) (slots : List Slot) (after : After) (ks : List Frame) (c0 c : ℕ) (l : Log) (w : World) (s0 : State) (place : ℕ) → c ≤ bound → c ≤ c0 → c0 ≤ c + 1 → Since k code w0 w → length env + 1 ≡ depth (new ∷ s) → Each HoldsNoCopy slots → Laid code place (x.code (in_new new s) n) →
+      x.runs k.records ≡ true → (n : ℕ) → HasAt code.texts.items n x.texts → (caught : ℕ) (new : Kind) (s : List Kind) (w0 : World) (env : List ℕ) (slots : List Slot) (after : After) (ks : List Frame) (c0 c : ℕ) (l : Log) (w : World) (s0 : State) (place : ℕ) → c ≤ bound → c ≤ c0 → c0 ≤ c + 1 → Since k code w0 w → length env + 1 ≡ depth (new ∷ s) → IsNested w env → Each IsPlainSlot slots → Laid code place (x.code (in_new new s) n) →
       step ask code s0 ≡ at (env ++ w.ledger.next_master ∷ []) place (in_frame w.ledger.next_master caught after ks) [] l (open_master env slots w) →
       Runs ask code (Told k code w0) 0 2 s0 c0 (leaves after ks) (in_master K env slots (λ inner. m K inner caught) c l w)
 
   -- its items come first
   pub master_runs : (items : List Item) (x : StatementCode) (m : Doing) → Closes x m → Masters (inside (all_items (map item_code items)) x) (λ j env caught. elaborate j env (last_of env) (map elaborate_item items) >> m j env caught)
   unfolding in_master opened_outcome
-  master_runs items x m closes runs n texts caught new s w0 env slots after ks c0 c l w s0 place le lo hi fits long uncopied has first =
+  master_runs items x m closes runs n texts caught new s w0 env slots after ks c0 c l w s0 place le lo hi fits long nested plain has first =
       let front : Comes ask code 1 s0 c0 0 c (at inner place frames [] l w2) (Unit {0}) = record { n = 1; falls = lo; enough = omega (arith, hi); in_time = omega arith; comes = first; fits = tt } in
       subst (λ o. Runs ask code (Told k code w0) 0 2 s0 c0 (leaves after ks) (add 0 o)) (sym (bind_bind (elaborate K inner (last_of inner) (map elaborate_item items) c l w2) (on_goes (λ _. m K inner caught)) (leave K master)))
       (both_from ask code (Kept k code w2) (Told k code w0) 1 0 0 1 2 0 s0 (at inner place frames [] l w2) c0 c 0 (arrives OutOf inner (place + length is) frames []) (leaves after ks) _ _ (omega arith) (omega arith) front
@@ -361,7 +365,7 @@ module _ (ask : Ask) (k : Tables) (code : Code) (setting : Setting k code) (call
       js = x.code (in_new new s) n
 
       fits2 : Since k code (open_master env slots w) (open_master env slots w)
-      fits2 = (fits_open k code env slots w uncopied fits.0, keeps_itself k code w2)
+      fits2 = (fits_open k code env slots w nested plain fits.0, keeps_itself k code w2)
 
       next : (open_master env slots w).ledger.next_master ≡ w.ledger.next_master + 1
       next = next_after env slots w
@@ -430,6 +434,6 @@ module _ (ask : Ask) (k : Tables) (code : Code) (setting : Setting k code) (call
       added ask code (Kept k code w0) 1 1 2 0 0 _ c _ _ (omega arith) (omega arith)
       (arriving ask code (Kept k code w0) 1 2 _ c _ _ _ (λ r l1 w1. ap (λ z. arrives (lands a place) d z ks ops r l1 w1) e)
       (both ask code (Told k code w0) (Kept k code w0) 0 2 1 1 1 2 _ c (leaves (AfterBlock p) ks) (arrives (lands a place) d (q + 1) ks ops) _ (on_goes (λ (y : Left). given y.result)) (omega arith) (omega arith) (omega arith)
-      (mastered.inside runs n texts (caught_in ks) (KindOf.Block x.slots) a.stack w0 d (replicate b.slots unset) (AfterBlock p) ks c c l w (at d place ks ops l w) (place + 1) le (omega arith) (omega arith) fits (ap (λ z. z + 1) sees.long) (no_copy_unset b.slots) (laid_front code (place + 1) inner out has.2)
+      (mastered.inside runs n texts (caught_in ks) (KindOf.Block x.slots) a.stack w0 d (replicate b.slots unset) (AfterBlock p) ks c c l w (at d place ks ops l w) (place + 1) le (omega arith) (omega arith) fits (ap (λ z. z + 1) sees.long) (seen_nested k code d a.stack w0 w (seen sees) fits) (plain_unset b.slots) (laid_front code (place + 1) inner out has.2)
       (by_code ask code d place ks ops l w (InstrOf.Enter x.slots (length inner)) has.0 ∙ ap (λ j. at (d ++ w.ledger.next_master ∷ []) (place + 1) (in_frame w.ledger.next_master (caught_in ks) (AfterBlock p) ks) [] l (open_master d (replicate j unset) w)) mastered.slots))
       (λ r c1 l1 w1 lo fits1. behind_block a.landing (length inner + 1) w0 d place q ks ops at_end (laid_back code (place + 1) inner out has.2).0 r c1 l1 w1 fits1)))

@@ -36,7 +36,7 @@ use Rattle.ctl_gen.proofs.Known.{both_true}
 use Rattle.ctl_gen.proofs.Evaluated.{value_means}
 use Rattle.ctl_gen.proofs.Place.{HasAt, Laid, laid_front, laid_back}
 use Rattle.ctl_gen.proofs.Worlds.{Since, Kept}
-use Rattle.ctl_gen.proofs.Setting.{Setting, Calls, tools_with}
+use Rattle.ctl_gen.proofs.Setting.{Setting, Calls, tools_with, IsSeen, seen}
 use Rattle.ctl_gen.proofs.Cells.{Any, by_code, here, landed}
 use Rattle.ctl_gen.proofs.Worth.{both_cell}
 use Rattle.ctl_gen.proofs.Expressions.{value_runs}
@@ -116,19 +116,19 @@ module _ (ask : Ask) (k : Tables) (code : Code) (setting : Setting k code) (call
   piece_depth (PieceOf.BooleanImage e) s = refl
 
   -- the image of a value, and what follows it
-  image_runs : (e : Expr) (ty : Ty) (image : ℕ → List ℕ) → (value_code e).runs k.records ≡ true → (f : Result (List ℕ) → Act Done) (s : List Kind) (w0 : World) (d : List ℕ) (place : ℕ) (ks : List Frame) (ops : List Word) (c : ℕ) (l : Log) (w : World) (next : Result Done → Log → World → State) → c ≤ bound → Since k code w0 w → length d ≡ depth s → Laid code place ((value_code e).code (new_operand s) ty s) → ((y c1 : ℕ) (l1 : Log) (w1 : World) → c1 ≤ c → Since k code w0 w1 → Runs ask code (Kept k code w0) 1 1 (transferred (ByRaise y) ks l1 w1) c1 next (f (Leaves (ByRaise y)) c1 l1 w1)) → ((n c1 : ℕ) (l1 : Log) (w1 : World) → c1 ≤ c → Since k code w0 w1 → Runs ask code (Kept k code w0) 1 1 (at d (place + length ((value_code e).code (new_operand s) ty s)) ks (Scalar n ∷ ops) l1 w1) c1 next (f (Goes (image n)) c1 l1 w1)) → Runs ask code (Kept k code w0) 1 1 (at d place ks ops l w) c next (bind (ticked (eval e K d >>= (λ x. done (image (scalar_of x)))) c l w) f)
+  image_runs : (e : Expr) (ty : Ty) (image : ℕ → List ℕ) → (value_code e).runs k.records ≡ true → (f : Result (List ℕ) → Act Done) (s : List Kind) (w0 : World) (d : List ℕ) (place : ℕ) (ks : List Frame) (ops : List Word) (c : ℕ) (l : Log) (w : World) (next : Result Done → Log → World → State) → c ≤ bound → Since k code w0 w → IsSeen w0 d s → Laid code place ((value_code e).code (new_operand s) ty s) → ((y c1 : ℕ) (l1 : Log) (w1 : World) → c1 ≤ c → Since k code w0 w1 → Runs ask code (Kept k code w0) 1 1 (transferred (ByRaise y) ks l1 w1) c1 next (f (Leaves (ByRaise y)) c1 l1 w1)) → ((n c1 : ℕ) (l1 : Log) (w1 : World) → c1 ≤ c → Since k code w0 w1 → Runs ask code (Kept k code w0) 1 1 (at d (place + length ((value_code e).code (new_operand s) ty s)) ks (Scalar n ∷ ops) l1 w1) c1 next (f (Goes (image n)) c1 l1 w1)) → Runs ask code (Kept k code w0) 1 1 (at d place ks ops l w) c next (bind (ticked (eval e K d >>= (λ x. done (image (scalar_of x)))) c l w) f)
   unfolding opened_outcome scalar_of opened_lists
   image_runs e ty image known f s w0 d place ks ops c l w next le fits long has leaves more =
       let value = value_means ask k code setting call default bound calls w0 e known in
       subst (λ o. Runs ask code (Kept k code w0) 1 1 (at d place ks ops l w) c next o) (sym (bind_add 1 (bind (eval e K d c l w) (on_goes (λ x. done (image (scalar_of x))))) f ∙ ap (add 1) (bind_bind (eval e K d c l w) (on_goes (λ x. done (image (scalar_of x)))) f)))
       (added ask code (Kept k code w0) 1 1 1 1 1 _ c next _ (omega arith) (omega arith)
       (both_cell ask code (Since k code w0) (λ r. Since k code w0) Any 0 0 1 1 1 1 _ c (landed Operand d (place + length ((value_code e).code (new_operand s) ty s)) ks ops) next (eval e K d c l w) _ (omega arith) (omega arith) (omega arith)
-      (value_runs ask k code bound (Since k code w0) (value_code e) (eval e K) value (new_operand s) ty s d place ks ops c l w le fits long has)
+      (value_runs ask k code bound w0 (value_code e) (eval e K) value (new_operand s) ty s d place ks ops c l w le fits long has)
       (λ n c1 l1 w1 lo fits1 p. added ask code (Kept k code w0) 0 1 1 1 1 (at d (place + length ((value_code e).code (new_operand s) ty s)) ks (Scalar n ∷ ops) l1 w1) c1 next (f (Goes (image n)) c1 l1 w1) (omega arith) (omega arith) (more n c1 l1 w1 lo fits1))
       (λ y c1 l1 w1 lo fits1. added ask code (Kept k code w0) 0 1 1 1 1 (transferred (ByRaise y) ks l1 w1) c1 next (f (Leaves (ByRaise y)) c1 l1 w1) (omega arith) (omega arith) (leaves y c1 l1 w1 lo fits1))))
 
   -- a piece, and what follows it
-  piece_runs : (p : Piece) → piece_is_run k.records p ≡ true → (qs : List TextPart) (rs u : List ℕ) → Holds qs rs u → (f : Result (List ℕ) → Act Done) (s : List Kind) (w0 : World) (d : List ℕ) (place : ℕ) (ks : List Frame) (ops : List Word) (c : ℕ) (l : Log) (w : World) (next : Result Done → Log → World → State) → c ≤ bound → Since k code w0 w → length d ≡ depth s → Laid code place (piece_code p s) → ((y c1 : ℕ) (l1 : Log) (w1 : World) → c1 ≤ c → Since k code w0 w1 → Runs ask code (Kept k code w0) 1 1 (transferred (ByRaise y) ks l1 w1) c1 next (f (Leaves (ByRaise y)) c1 l1 w1)) → ((rs1 x : List ℕ) (c1 : ℕ) (l1 : Log) (w1 : World) → c1 ≤ c → Since k code w0 w1 → Holds (qs ++ part_of p ∷ []) rs1 (u ++ x) → Runs ask code (Kept k code w0) 1 1 (at d (place + length (piece_code p s)) ks (operands rs1 ++ ops) l1 w1) c1 next (f (Goes x) c1 l1 w1)) → Runs ask code (Kept k code w0) 1 1 (at d place ks (operands rs ++ ops) l w) c next (bind (eval_piece p K d c l w) f)
+  piece_runs : (p : Piece) → piece_is_run k.records p ≡ true → (qs : List TextPart) (rs u : List ℕ) → Holds qs rs u → (f : Result (List ℕ) → Act Done) (s : List Kind) (w0 : World) (d : List ℕ) (place : ℕ) (ks : List Frame) (ops : List Word) (c : ℕ) (l : Log) (w : World) (next : Result Done → Log → World → State) → c ≤ bound → Since k code w0 w → IsSeen w0 d s → Laid code place (piece_code p s) → ((y c1 : ℕ) (l1 : Log) (w1 : World) → c1 ≤ c → Since k code w0 w1 → Runs ask code (Kept k code w0) 1 1 (transferred (ByRaise y) ks l1 w1) c1 next (f (Leaves (ByRaise y)) c1 l1 w1)) → ((rs1 x : List ℕ) (c1 : ℕ) (l1 : Log) (w1 : World) → c1 ≤ c → Since k code w0 w1 → Holds (qs ++ part_of p ∷ []) rs1 (u ++ x) → Runs ask code (Kept k code w0) 1 1 (at d (place + length (piece_code p s)) ks (operands rs1 ++ ops) l1 w1) c1 next (f (Goes x) c1 l1 w1)) → Runs ask code (Kept k code w0) 1 1 (at d place ks (operands rs ++ ops) l w) c next (bind (eval_piece p K d c l w) f)
   unfolding literal integer_text boolean_text opened_outcome
   piece_runs (PieceOf.Text t) known qs rs u holds f s w0 d place ks ops c l w next le fits long has leaves more =
       let e : place + 0 ≡ place = omega arith in
@@ -160,7 +160,7 @@ module _ (ask : Ask) (k : Tables) (code : Code) (setting : Setting k code) (call
   printing b n first t ps s = pieces_code ps s ++ (print_of b n first, t) ∷ []
 
   -- the rest of the pieces
-  join_runs : (b : Bool) (n first : ℕ) (t : List Kind) (full : List TextPart) → HasAt code.texts.items n (full ∷ []) → (ps : List Piece) → pieces_are_run k.records ps ≡ true → (qs : List TextPart) (rs u : List ℕ) → Holds qs rs u → qs ++ parts_of ps ≡ full → (s : List Kind) (e : Target) (w0 : World) (d : List ℕ) (place : ℕ) (ks : List Frame) (ops : List Word) (c : ℕ) (l : Log) (w : World) → c ≤ bound → Since k code w0 w → length d ≡ depth s → Laid code place (printing b n first t ps s) → Runs ask code (Kept k code w0) 1 1 (at d place ks (operands rs ++ ops) l w) c (arrives e d (place + length (printing b n first t ps s)) ks ops) (bind (join_pieces K d (map eval_piece ps) u c l w) (on_goes (printed b)))
+  join_runs : (b : Bool) (n first : ℕ) (t : List Kind) (full : List TextPart) → HasAt code.texts.items n (full ∷ []) → (ps : List Piece) → pieces_are_run k.records ps ≡ true → (qs : List TextPart) (rs u : List ℕ) → Holds qs rs u → qs ++ parts_of ps ≡ full → (s : List Kind) (e : Target) (w0 : World) (d : List ℕ) (place : ℕ) (ks : List Frame) (ops : List Word) (c : ℕ) (l : Log) (w : World) → c ≤ bound → Since k code w0 w → IsSeen w0 d s → Laid code place (printing b n first t ps s) → Runs ask code (Kept k code w0) 1 1 (at d place ks (operands rs ++ ops) l w) c (arrives e d (place + length (printing b n first t ps s)) ks ops) (bind (join_pieces K d (map eval_piece ps) u c l w) (on_goes (printed b)))
   unfolding join_pieces opened_outcome
   join_runs b n first t full texts [] known qs rs u holds same s e w0 d place ks ops c l w le fits long has =
       added ask code (Kept k code w0) 0 1 1 1 1 _ c _ _ (omega arith) (omega arith)
@@ -175,7 +175,7 @@ module _ (ask : Ask) (k : Tables) (code : Code) (setting : Setting k code) (call
       (piece_runs p (both_true _ _ known).0 qs rs u holds (λ r c1 l1 w1. bind (on_goes (λ x. join_pieces K d (map eval_piece ps) (u ++ x)) r c1 l1 w1) (on_goes (printed b))) s w0 d place ks ops c l w (arrives e d (place + length (printing b n first t (p ∷ ps) s)) ks ops) le fits long (laid_front code place (piece_code p s) is has1)
       (λ y c1 l1 w1 lo fits1. no_step ask code (Kept k code w0) 1 1 (transferred (ByRaise y) ks l1 w1) c1 0 (arrives e d (place + length (printing b n first t (p ∷ ps) s)) ks ops) (Leaves (ByRaise y)) l1 w1 fits1 refl)
       (λ rs1 x c1 l1 w1 lo fits1 holds1. subst (λ q. Runs ask code (Kept k code w0) 1 1 (at d (place + length (piece_code p s)) ks (operands rs1 ++ ops) l1 w1) c1 (arrives e d q ks ops) (bind (join_pieces K d (map eval_piece ps) (u ++ x) c1 l1 w1) (on_goes (printed b)))) far
-      (join_runs b n first t full texts ps (both_true _ _ known).1 (qs ++ part_of p ∷ []) rs1 (u ++ x) holds1 (append_assoc qs (part_of p ∷ []) (parts_of ps) ∙ same) (with_piece p s) e w0 d (place + length (piece_code p s)) ks ops c1 l1 w1 (omega (arith, lo, le)) fits1 (long ∙ sym (piece_depth p s)) (laid_back code place (piece_code p s) is has1)))))
+      (join_runs b n first t full texts ps (both_true _ _ known).1 (qs ++ part_of p ∷ []) rs1 (u ++ x) holds1 (append_assoc qs (part_of p ∷ []) (parts_of ps) ∙ same) (with_piece p s) e w0 d (place + length (piece_code p s)) ks ops c1 l1 w1 (omega (arith, lo, le)) fits1 (long.0, long.1, long.2 ∙ sym (piece_depth p s)) (laid_back code place (piece_code p s) is has1)))))
 
   -- the pieces in turn, and then the text
   pub print_runs : (b : Bool) (ps : List Piece) → pieces_are_run k.records ps ≡ true → (n : ℕ) → HasAt code.texts.items n (parts_of ps ∷ []) → Does ask k code bound (λ a. print_code b n ps a.stack) (λ d caught. ticked (eval_text K d (map eval_piece ps) >>= printed b))
@@ -194,7 +194,7 @@ module _ (ask : Ask) (k : Tables) (code : Code) (setting : Setting k code) (call
       let has1 = subst (Laid code place) flat has in
       added ask code (Kept k code w0) 1 1 1 0 0 _ c _ _ (omega arith) (omega arith)
       (subst (λ o. Runs ask code (Kept k code w0) 1 1 (at d place ks ops l w) c (arrives e d (place + length (printing b n first t (p ∷ ps) s)) ks ops) o) (sym (bind_bind (eval_piece p K d c l w) (on_goes (λ x. join_pieces K d (map eval_piece ps) x)) (on_goes (printed b))))
-      (piece_runs p (both_true _ _ known).0 [] [] [] (record { count = refl; text = refl }) (λ r c1 l1 w1. bind (on_goes (λ x. join_pieces K d (map eval_piece ps) x) r c1 l1 w1) (on_goes (printed b))) s w0 d place ks ops c l w (arrives e d (place + length (printing b n first t (p ∷ ps) s)) ks ops) le fits sees.long (laid_front code place (piece_code p s) is has1)
+      (piece_runs p (both_true _ _ known).0 [] [] [] (record { count = refl; text = refl }) (λ r c1 l1 w1. bind (on_goes (λ x. join_pieces K d (map eval_piece ps) x) r c1 l1 w1) (on_goes (printed b))) s w0 d place ks ops c l w (arrives e d (place + length (printing b n first t (p ∷ ps) s)) ks ops) le fits (seen sees) (laid_front code place (piece_code p s) is has1)
       (λ y c1 l1 w1 lo fits1. no_step ask code (Kept k code w0) 1 1 (transferred (ByRaise y) ks l1 w1) c1 0 (arrives e d (place + length (printing b n first t (p ∷ ps) s)) ks ops) (Leaves (ByRaise y)) l1 w1 fits1 refl)
       (λ rs1 x c1 l1 w1 lo fits1 holds1. subst (λ q. Runs ask code (Kept k code w0) 1 1 (at d (place + length (piece_code p s)) ks (operands rs1 ++ ops) l1 w1) c1 (arrives e d q ks ops) (bind (join_pieces K d (map eval_piece ps) x c1 l1 w1) (on_goes (printed b)))) far
-      (join_runs b n first t (parts_of (p ∷ ps)) texts ps (both_true _ _ known).1 (part_of p ∷ []) rs1 x holds1 refl (with_piece p s) e w0 d (place + length (piece_code p s)) ks ops c1 l1 w1 (omega (arith, lo, le)) fits1 (sees.long ∙ sym (piece_depth p s)) (laid_back code place (piece_code p s) is has1)))))
+      (join_runs b n first t (parts_of (p ∷ ps)) texts ps (both_true _ _ known).1 (part_of p ∷ []) rs1 x holds1 refl (with_piece p s) e w0 d (place + length (piece_code p s)) ks ops c1 l1 w1 (omega (arith, lo, le)) fits1 (sees.old, sees.home, sees.long ∙ sym (piece_depth p s)) (laid_back code place (piece_code p s) is has1)))))

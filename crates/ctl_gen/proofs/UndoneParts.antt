@@ -22,13 +22,14 @@ use Rattle.ctl_code.specs.declared.code.Parts.{Parts}
 use Rattle.ctl_code.specs.declared.code.Parts.TheVariants as PartsOf
 use Rattle.ctl_code.specs.declared.code.Code.{Code}
 use Rattle.ctl_code.specs.States.{Handed, Complete, AfterBody, Frame, Undoing, UndoingOwn, UndoingParts, State, whole_spot}
-use Rattle.ctl_code.specs.Table.{adjusted_in, adjusted_of, component_of, controlled_of, part_at, parts_of, undo_by, undo_component, undo_components, undo_left, undo_own, undo_part}
+use Rattle.ctl_code.specs.Table.{adjusted_in, adjusted_of, component_of, controlled_of, has_part, part_at, parts_of, undo_by, undo_component, undo_components, undo_left, undo_own, undo_part}
 use Rattle.ctl_code.specs.Steps.{moved, step, stepped}
-use Rattle.ctl_code.specs.Valid.{AreBegunBy, IsBegunBy, IsDeclarable, has_part}
+use Rattle.ctl_code.specs.Valid.{AreBegunBy, IsBegunBy, IsDeclarable}
 use Rattle.ctl_gen.proofs.Known.{IsPlainType}
 use Rattle.ctl_gen.proofs.Parted.{AgreesOn, GivesDefaults, HasPart, HaveParts, component_is, have_kept, is_itself, parts_length, parts_pulled, parts_rest}
 use Rattle.ctl_gen.proofs.Picks.{next_in_order, none_in_order, picked_less, rest_length}
-use Rattle.ctl_gen.proofs.Worlds.{Each, each_all, Fits, Since, since_begin, since_end, still_home}
+use Rattle.ctl_gen.proofs.Each.{Each, each_all}
+use Rattle.ctl_gen.proofs.Worlds.{Fits, Since, since_begin, since_end, still_home, origin_nested}
 use Rattle.ctl_gen.proofs.Scopes.{controlled_inside, finalize_in, kept_inside, pulled_inside, rest_inside}
 use Rattle.ctl_gen.proofs.Setting.{Setting, tools_with, returns, Told, Sure, Calls, enter_shows}
 use Rattle.ctl_gen.proofs.FinalizedParts.{call_is, each_left, each_pulled, keep_passes}
@@ -228,7 +229,7 @@ module _ (ask : Ask) (k : Tables) (code : Code) (setting : Setting k code) (call
           let actuals = holding (Binds s.object s.offset s.path) ∷ [] in
           subst (λ x. Undoes 0 0 s0 c ks (after_own n s t x)) (sym (call_is ask k call default f s c (shown s) l w p at))
           (over _
-          (calls.runs f body.0 body.1 wr (home_of p.origin w) actuals AfterBody (UndoingOwn s t ∷ ks) c (tell (shown s) l) w s0 Procedure 1 tt le fits (finalize_in code setting.valid _ t f here (setting.finalize t ∙ op)) (tt, tt)
+          (calls.runs f body.0 body.1 wr (home_of p.origin w) actuals AfterBody (UndoingOwn s t ∷ ks) c (tell (shown s) l) w s0 Procedure 1 tt le fits (finalize_in code setting.valid _ t f here (setting.finalize t ∙ op)) (origin_nested k code p.origin w fits.0) (tt, tt)
           (go ∙ enter_shows (slice_get code.entries.items f) (shown s) (home_of p.origin w) actuals AfterBody (UndoingOwn s t ∷ ks) l w)))
 
       -- a part that has none, or is not adjusted

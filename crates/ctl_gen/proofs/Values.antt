@@ -22,5 +22,5 @@ scalar_cells k TyOf.Boolean h = refl
 scalar_cells k TyOf.Count h = absurd h
 scalar_cells k TyOf.Address h = absurd h
 scalar_cells k TyOf.Handle h = absurd h
-scalar_cells k (TyOf.Access a) h = absurd h
+scalar_cells k (TyOf.Access a) h = refl
 scalar_cells k (TyOf.Record t) h = absurd h

@@ -1,10 +1,13 @@
 -- The whole program: what is shown is the beginning of what it means, and everything comes in time.
 use Rattle.std.proofs.Common.{◌≡◌, ◌≢◌, ℕ, zero, suc, ◌+◌, ◌*◌, ◌≤◌, List, [], ◌∷◌, ◌++◌, length, map, Option, Some, None, true, refl, sym, ap, ◌∙◌, subst, arith, ◌⊎◌, inl, inr, length-append, append-nil}
-use Rattle.std.specs.Prelude.{slice_get}
+use Rattle.std.specs.Prelude.{is_none, slice_get}
+use Rattle.ctl_program.specs.declared.types.AccessType.{AccessType}
 use Rattle.ctl_program.specs.declared.types.RecordType.{RecordType}
+use Rattle.ctl_program.specs.declared.types.Var.{Var}
 use Rattle.ctl_program.specs.declared.operators.SubprogramKind.TheVariants.{Procedure}
 use Rattle.ctl_program.specs.declared.program.Subprogram.{Subprogram}
 use Rattle.ctl_program.specs.declared.program.Checked.{Checked}
+use Rattle.ctl_tree.specs.declared.event.Cause.TheVariants.{Collection}
 use Rattle.ctl_tree.specs.declared.ending.End.{End}
 use Rattle.ctl_tree.specs.declared.ending.End as EndOf
 use Rattle.ctl_meaning.specs.World.{Pick, Log, empty_log}
@@ -13,6 +16,7 @@ use Rattle.ctl_meaning.specs.Outcome.{Goes, Leaves, Out, Gives, Stops, Cut}
 use Rattle.ctl_meaning.specs.Types.{tables_of, operation, operation_in}
 use Rattle.ctl_meaning.specs.Names.{Returned}
 use Rattle.ctl_meaning.specs.Run.{Outcome, end_by, meaning_of, outcome, outcome_of, routine_of, run}
+use Rattle.ctl_meaning.proofs.Cuts.{begun_bounded}
 use Rattle.ctl_code.specs.declared.code.Instr.TheVariants as InstrOf
 use Rattle.ctl_code.specs.declared.template.TextPart.{TextPart}
 use Rattle.ctl_code.specs.declared.code.Entry.{Entry}
@@ -29,12 +33,13 @@ use Rattle.ctl_gen.proofs.Defaults.{agrees}
 use Rattle.ctl_gen.proofs.Layouts.{places, sizes}
 use Rattle.ctl_gen.proofs.Rows.{gives_defaults}
 use Rattle.ctl_layout.specs.Records.{adjust_by}
-use Rattle.ctl_layout.specs.Run.{AreLinked, IsBody, IsRun, IsWritten}
+use Rattle.ctl_layout.specs.Run.{AreLinked, IsBody, IsRun, IsWritten, are_standard, is_standard}
 use Rattle.ctl_gen.proofs.Known.{both_true}
 use Rattle.ctl_gen.specs.Correct.{HasReached, RunsAs, Behaves}
 use Rattle.ctl_gen.proofs.Place.{HasAt, has_front, has_back, has_all, Laid, laid_front, laid_back}
 use Rattle.ctl_gen.proofs.Scopes.{IsCallable}
 use Rattle.ctl_gen.proofs.Setting.{Setting, Told, told, returns}
+use Rattle.ctl_gen.proofs.Gathers.{collection_in}
 use Rattle.ctl_gen.proofs.Bodies.{Stands, main_runs}
 use Rattle.ctl_gen.proofs.Follow.{by_raise, GoingBy, Runs, gives}
 use Rattle.ctl_meaning.specs.World.{empty_world}
@@ -116,6 +121,16 @@ finalize_in [] t = refl
 finalize_in (r ∷ rs) zero = refl
 finalize_in (r ∷ rs) (suc t) = finalize_in rs t
 
+-- where the objects of access types lie
+standard_in : (xs : List AccessType) → are_standard xs ≡ true → (a : ℕ) (x : AccessType) → slice_get xs a ≡ Some x → x.pool ≡ None
+standard_in [] all a x e = absurd (cc)
+standard_in (y ∷ xs) all zero x e = let same : y ≡ x = cc e in subst (λ (z : AccessType). z.pool ≡ None) same (by y.pool (both_true (is_standard y) (are_standard xs) all).0)
+  where
+    by : (o : Option Var) → is_none o ≡ true → o ≡ None
+    by None h = refl
+    by (Some v) h = absurd (cc h)
+standard_in (y ∷ xs) all (suc a) x e = standard_in xs (both_true (is_standard y) (are_standard xs) all).1 a x e
+
 -- Ends ------------------------------------------------------------------------------------------
 
 no_rest : (a b rest : List Pick) → a ≡ b ++ rest → length a ≤ length b → a ≡ b
@@ -172,6 +187,8 @@ module _ (program : Checked) (code : Code) (laid : IsLaidOut program code) (kind
   setting = record {
     subprograms = program.subprograms;
     valid = valid;
+    accesses = λ a. ap (λ xs. slice_get xs a) laid.accesses ∙ collection_in program.accesses a;
+    standard = standard_in program.accesses (both_true (are_standard program.accesses) ((bodies program.subprograms).runs program.records) run_it).0;
     places = places (tables_of program) code.layouts.items laid.layouts;
     sizes = sizes (tables_of program) code.layouts.items laid.layouts;
     agrees = agrees (tables_of program) code laid.layouts;
@@ -188,7 +205,7 @@ module _ (program : Checked) (code : Code) (laid : IsLaidOut program code) (kind
   unfolding tables_of
   stands f s here =
       let x = find code code.texts.items program.subprograms 1 0 has_whole.2 has_texts f s here in
-      record { place = x.place; before = x.before; entry = ap (λ es. slice_get es f) laid.entries ∙ x.entry; instructions = x.instructions; texts = x.printed; runs = body_is_run program.records program.subprograms run_it f s here }
+      record { place = x.place; before = x.before; entry = ap (λ es. slice_get es f) laid.entries ∙ x.entry; instructions = x.instructions; texts = x.printed; runs = body_is_run program.records program.subprograms (both_true (are_standard program.accesses) ((bodies program.subprograms).runs program.records) run_it).1 f s here }
 
   -- the main procedure can be called where no master is around
   start_callable : slice_get code.instructions.items 0 ≡ Some (InstrOf.Start program.main) → kinds_at code 0 ≡ Some [] → IsCallable code Procedure 0 program.main 0
@@ -196,7 +213,7 @@ module _ (program : Checked) (code : Code) (laid : IsLaidOut program code) (kind
 
   whole_runs : (ask : Ask) (clock : ℕ) → Runs ask code (Told (tables_of program) code empty_world) 0 2 start clock (returns []) (run program ask clock)
   unfolding run meaning_of setting
-  whole_runs ask clock = main_runs ask (meaning_of program) code setting stands (routine_at program.subprograms) (λ call. gives_defaults ask (meaning_of program) call refl) program.main linked.main.0 linked.main.1 (start_callable has_whole.0 has_whole.1) has_whole.0 clock
+  whole_runs ask clock = main_runs ask (meaning_of program) code setting stands (routine_at program.subprograms) (λ call. gives_defaults ask (meaning_of program) call refl) (λ n bound less default m. begun_bounded program ask n bound less default Collection m) program.main linked.main.0 linked.main.1 (start_callable has_whole.0 has_whole.1) has_whole.0 clock
 
   moment_of : (ask : Ask) (clock : ℕ) (o : Out Returned) → Runs ask code (Told (tables_of program) code empty_world) 0 2 start clock (returns []) o → Moment code ask clock (outcome_of program.exceptions o).ticks (outcome_of program.exceptions o)
   unfolding outcome_of

@@ -128,7 +128,7 @@ impl Emitter {
     {
         match reached_by(name) {
             Some(Reached::Variable(variable)) => self.begin_copy(variable, ty, begins),
-            Some(Reached::Part { .. }) | None => self.put(Instr::Missing),
+            Some(Reached::Part { .. } | Reached::Object { .. }) | None => self.put(Instr::Missing),
         }
     }
 

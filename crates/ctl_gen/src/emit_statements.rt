@@ -3,7 +3,7 @@
 //! An exit statement leads to the landing of the innermost loop of its master, or out of the master: `landing` is the place of the one, or
 //! None.
 
-ghost use Rattle.std.specs.Prelude.{◌≡◌, ◌≤◌, ◌-◌, [], IfOk, length, map, option_map, OnOk, None, Some};
+ghost use Rattle.std.specs.Prelude.{◌≡◌, ◌≤◌, ◌<◌, ◌+◌, ◌-◌, [], IfOk, drop, length, map, option_map, OnOk, None, Some};
 ghost use Rattle.std.specs.Option.{ForSome};
 ghost use Rattle.ctl_layout.specs.Parts as parts;
 ghost use Rattle.ctl_layout.specs.Parts.{seen};
@@ -64,8 +64,31 @@ impl Emitter {
         match item {
             Item::Object(slot, ty, value) => self.object(*slot, *ty, value),
             Item::Silent => Ok(()),
-            Item::Collections(_) | Item::Pool(..) => self.put(Instr::Missing),
+            Item::Collections(accesses) => self.collections(accesses.as_slice()),
+            Item::Pool(..) => self.put(Instr::Missing),
         }
+    }
+
+    /// Emits the collections of access types that are frozen at one place, of which there is at least one (RM 7.6.1, 13.14).
+    fn collections(&mut self, accesses: &[usize]) -> Result<(), AllocError>
+        ensures { OnOk result (self.new ≡ lined (spec.collections accesses.now).code self.old) }
+    {
+        match accesses {
+            [] => self.put(Instr::Missing),
+            [..] => self.gathers(accesses),
+        }
+    }
+
+    /// Emits the collections of access types, of which the last one makes all of them a layer (RM 7.6.1).
+    fn gathers(&mut self, accesses: &[usize]) -> Result<(), AllocError>
+        ensures { OnOk result (self.new ≡ lined (spec.gathers_code accesses.now 0) self.old) }
+    {
+        for index in 0..accesses.len() {
+            let access = accesses[index];
+            let count = layer_of(accesses, index);
+            self.put(Instr::Gather { access, count })?;
+        }
+        Ok(())
     }
 
     /// Emits the declaration of an object, with its value if it has one.
@@ -198,7 +221,7 @@ impl Emitter {
                     position,
                 },
             ) => self.assign_component(of, steps, record, position, value),
-            None => self.put(Instr::Missing),
+            Some(Reached::Object { .. }) | None => self.put(Instr::Missing),
         }
     }
 
@@ -571,5 +594,17 @@ fn print_of(ends_line: bool, text: usize, first: usize) -> Instr
         Instr::PutLine { text, first }
     } else {
         Instr::Put { text, first }
+    }
+}
+
+/// Answers how many collections are a layer behind that of the access type at this index: all of them, behind the last one (RM 7.6.1).
+fn layer_of(accesses: &[usize], index: usize) -> usize
+    requires { index < length accesses.now }
+    ensures { result ≡ spec.layer_of (drop (index + 1) accesses.now) (index + 1) }
+{
+    if index + 1 == accesses.len() {
+        index + 1
+    } else {
+        0
     }
 }

@@ -1,13 +1,13 @@
 //! The code of a whole program.
 
-ghost use Rattle.std.specs.Prelude.{◌≡◌, ◌⊎◌, ◌+◌, ◌++◌, [], ◌∷◌, IfErr, IfOk, OnOk, length, slice_get};
+ghost use Rattle.std.specs.Prelude.{◌≡◌, ◌⊎◌, ◌+◌, ◌++◌, [], ◌∷◌, IfErr, IfOk, OnOk, length, map, slice_get};
 ghost use Rattle.ctl_tree.specs.declared.fault.FaultCode.TheVariants.{LeftOut, Memory};
 ghost use Rattle.ctl_well_typed.specs.Programs.{WellTyped};
 ghost use Rattle.ctl_gen.specs.Correct.{Behaves};
 ghost use Rattle.ctl_layout.specs.Run.{AreLinked, IsRun};
 ghost use Rattle.ctl_meaning.specs.Types.{total};
 ghost use Rattle.ctl_code.specs.Table.{begun_in, size_in};
-ghost use Rattle.ctl_code.specs.Valid as valid;
+ghost use Rattle.ctl_code.specs.Table as table;
 ghost use Rattle.ctl_layout.specs.Defaults as starts;
 ghost use Rattle.ctl_layout.specs.Defaults.{begun_before, begun_from, finalized_by};
 ghost use Rattle.ctl_layout.specs.Records as types;
@@ -20,7 +20,7 @@ use ctl_code::code::{Begun, Code, Entry, Initial, Instr, Layout, Operations, Par
 use ctl_code::valid::ValidCode;
 use ctl_layout::right::constant;
 use ctl_program::program::{Checked, Subprogram};
-use ctl_program::types::{Component, RecordType, Root, Ty};
+use ctl_program::types::{AccessType, Component, RecordType, Root, Ty, Var};
 use ctl_tree::fault::{Fault, FaultCode};
 use ctl_tree::text::Text;
 use std::alloc::{AllocError, Global};
@@ -70,6 +70,7 @@ fn assemble(alloc: Global, program: &Checked) -> Result<Code, Fault>
     }
     let records = records_of(alloc, program.records.as_slice())?;
     let layouts = layouts_of(alloc, program.records.as_slice())?;
+    let accesses = accesses_of(alloc, program.accesses.as_slice())?;
     let exceptions = names_of(alloc, program.exceptions.as_slice())?;
     let room = emitter.room();
     let (instructions, texts, kinds) = emitter.finish();
@@ -80,6 +81,7 @@ fn assemble(alloc: Global, program: &Checked) -> Result<Code, Fault>
         entries,
         records,
         layouts,
+        accesses,
         texts,
         exceptions,
     })
@@ -147,7 +149,7 @@ fn cells_by(layouts: &[Layout], ty: Ty) -> usize
 
 /// Tells whether there is a controlled part (RM 7.6).
 fn has_part(parts: Parts) -> bool
-    ensures { result ≡ valid.has_part parts }
+    ensures { result ≡ table.has_part parts }
 {
     !matches!(parts, Parts::Plain)
 }
@@ -328,6 +330,17 @@ fn layouts_of(alloc: Global, records: &[RecordType]) -> Result<Vec<Layout>, Allo
     for entry in records {
         let layout = layout_of(alloc, all.as_slice(), entry)?;
         all.push(layout)?;
+    }
+    Ok(all)
+}
+
+/// Gives where the collections of access types stand (RM 7.6.1).
+fn accesses_of(alloc: Global, accesses: &[AccessType]) -> Result<Vec<Var>, AllocError>
+    ensures { IfOk result (λ all. all.items ≡ map (λ a. a.collection) accesses.now) }
+{
+    let mut all = Vec::new(alloc);
+    for access in accesses {
+        all.push(access.collection)?;
     }
     Ok(all)
 }

@@ -14,8 +14,8 @@ use Rattle.ctl_code.specs.declared.code.Initial.TheVariants.{Constant, ByType}
 use Rattle.ctl_code.specs.declared.code.Layout.{Layout}
 use Rattle.ctl_code.specs.declared.code.Parts.{Parts}
 use Rattle.ctl_code.specs.declared.code.Parts.TheVariants as PartsOf
-use Rattle.ctl_code.specs.Table.{parts_in}
-use Rattle.ctl_code.specs.Valid.{has_part, outermost}
+use Rattle.ctl_code.specs.Table.{has_part, parts_in}
+use Rattle.ctl_code.specs.Valid.{outermost}
 pub use Rattle.ctl_layout.specs.Records.{constant_of, have_constants, is_plain}
 use Rattle.ctl_layout.specs.Records.{is_plain, is_run_type}
 

@@ -15,7 +15,7 @@ pub fn back_of(actual: &Actual) -> Option<Var>
     match actual {
         Actual::Copied(name, _, _) => match reached_by(name) {
             Some(Reached::Variable(variable)) => Some(variable),
-            Some(Reached::Part { .. }) | None => None,
+            Some(Reached::Part { .. } | Reached::Object { .. }) | None => None,
         },
         Actual::ByValue(..) | Actual::Part(..) => None,
     }

@@ -31,7 +31,7 @@ pub struct Table<'a> {
 pub(crate) fn is_run_type(ty: Ty) -> bool
     ensures { result ≡ types.is_run_type ty }
 {
-    matches!(ty, Ty::Integer | Ty::Boolean)
+    matches!(ty, Ty::Integer | Ty::Boolean | Ty::Access(_))
 }
 
 /// Tells whether a component has no default, or a constant (RM 3.8).

@@ -20,7 +20,8 @@ use crate::typing::{copied, value_type};
 use ctl_program::expression::{Actual, Expr, Name, Operand, Step};
 use ctl_program::program::{Checked, Subprogram};
 use ctl_program::statement::{Arm, Choices, Handler, Item, Master, Piece, Stmt};
-use ctl_program::types::{RecordType, Ty};
+use ctl_program::types::{AccessType, RecordType, Ty};
+use sqlite_items::Boxed;
 use std::alloc::{AllocError, Global};
 
 /// Tells whether this version runs each construct of a program.
@@ -28,7 +29,26 @@ pub fn is_run(alloc: Global, program: &Checked) -> Result<bool, AllocError>
     ensures { IfOk result (λ runs. runs ≡ whole.is_run program.now) }
 {
     let table = Table::new(alloc, program.records.as_slice())?;
-    Ok(bodies(&table, program.subprograms.as_slice()))
+    Ok(are_standard(program.accesses.as_slice()) && bodies(&table, program.subprograms.as_slice()))
+}
+
+/// Tells whether the objects of an access type lie in the standard pool (RM 13.11).
+fn is_standard(access: &AccessType) -> bool
+    ensures { result ≡ whole.is_standard access.now }
+{
+    access.pool.is_none()
+}
+
+/// Tells whether the objects of these access types lie in the standard pool (RM 13.11).
+fn are_standard(accesses: &[AccessType]) -> bool
+    ensures { result ≡ whole.are_standard accesses.now }
+{
+    for access in accesses {
+        if !is_standard(access) {
+            return false;
+        }
+    }
+    true
 }
 
 /// Tells whether the bodies of these subprograms are run.
@@ -43,20 +63,27 @@ fn bodies(table: &Table, subprograms: &[Subprogram]) -> bool
     true
 }
 
+/// Tells whether the record types of the selectors of a name are run (RM 4.1.3).
+fn do_selectors_run(table: &Table, steps: &[Step]) -> bool
+    ensures { result ≡ parts.selectors_run table.now.records.now steps.now }
+{
+    for step in steps {
+        match step {
+            Step::Component(record, _) if !table.is_laid(*record) => return false,
+            _ => {}
+        }
+    }
+    true
+}
+
 /// Tells whether the record types of the selectors of a name are run, and the one of what they lead to (RM 4.1.3).
 fn are_laid_out(table: &Table, steps: &[Step], number: usize) -> bool
     ensures { result ≡ parts.parts_run table.now.records.now steps.now number }
 {
-    for step in steps {
-        match step {
-            Step::Component(record, _) if table.is_laid(*record) => {}
-            _ => return false,
-        }
-    }
-    table.is_laid(number)
+    do_selectors_run(table, steps) && table.is_laid(number)
 }
 
-/// Tells whether the value of a name is run: of a variable, or of a component of the object in one, or of a part of it.
+/// Tells whether the value of a name is run: of a variable, or of a component of what the steps of the name lead to.
 fn is_read(name: &Name, ty: Ty, table: &Table) -> bool
     ensures { result ≡ (values.read (values.reached_by name.now) ty).runs table.now.records.now }
 {
@@ -65,13 +92,28 @@ fn is_read(name: &Name, ty: Ty, table: &Table) -> bool
         Some(Reached::Part { steps, record, .. }) => {
             is_run_type(ty) && are_laid_out(table, steps, record)
         }
-        None => false,
+        Some(Reached::Object { .. }) | None => false,
+    }
+}
+
+/// Tells whether an allocator is run: of an object of a record type, without a handle and a value (RM 4.8).
+fn is_allocated(
+    table: &Table,
+    ty: Ty,
+    handle: &Option<Boxed<Expr>>,
+    value: &Option<Boxed<Expr>>,
+) -> bool
+    ensures { (access : ℕ) → result ≡ (values.new access ty (option_map values.value_code handle.now) (option_map values.value_code value.now)).runs table.now.records.now }
+{
+    match ty {
+        Ty::Record(number) => { handle.is_none() && value.is_none() && table.is_plain(number) }
+        _ => false,
     }
 }
 
 /// Tells whether an expression is run.
 #[cycle(values)]
-#[tactic(auto, using(crate::proofs::Layers::value_constant, crate::proofs::Layers::value_read, crate::proofs::Layers::call_runs, crate::proofs::Layers::value_unary, crate::proofs::Layers::chain_runs, crate::proofs::Layers::short_runs, crate::proofs::Layers::value_convert, crate::proofs::Layers::value_access, crate::proofs::Layers::value_new, crate::proofs::Layers::value_subpool, crate::proofs::Layers::value_discriminant))]
+#[tactic(auto, using(crate::proofs::Layers::value_constant, crate::proofs::Layers::value_read, crate::proofs::Layers::call_runs, crate::proofs::Layers::value_unary, crate::proofs::Layers::chain_runs, crate::proofs::Layers::short_runs, crate::proofs::Layers::value_convert, crate::proofs::Layers::value_access, crate::proofs::Layers::new_runs, crate::proofs::Layers::value_subpool, crate::proofs::Layers::value_discriminant))]
 fn value(expression: &Expr, table: &Table) -> bool
     ensures { result ≡ (values.value_code expression.now).runs table.now.records.now }
 {
@@ -94,11 +136,8 @@ fn value(expression: &Expr, table: &Table) -> bool
                 && !goes_back(actuals.as_slice())
                 && are_actuals(actuals.as_slice(), table)
         }
-        Expr::Convert(..)
-        | Expr::Access(_)
-        | Expr::New(..)
-        | Expr::Subpool(..)
-        | Expr::Discriminant(..) => false,
+        Expr::New(_, ty, handle, value) => is_allocated(table, *ty, handle, value),
+        Expr::Convert(..) | Expr::Access(_) | Expr::Subpool(..) | Expr::Discriminant(..) => false,
     }
 }
 
@@ -108,7 +147,7 @@ fn is_copied_back(name: &Name, ty: Ty) -> bool
 {
     match reached_by(name) {
         Some(Reached::Variable(_)) => is_run_type(ty),
-        Some(Reached::Part { .. }) | None => false,
+        Some(Reached::Part { .. } | Reached::Object { .. }) | None => false,
     }
 }
 
@@ -251,8 +290,9 @@ fn item(table: &Table, item: &Item) -> bool
     match item {
         Item::Object(_, ty, None) => is_declared(table, *ty),
         Item::Object(_, ty, Some(expression)) => is_given(table, *ty, expression),
+        Item::Collections(accesses) => !accesses.as_slice().is_empty(),
         Item::Silent => true,
-        Item::Collections(_) | Item::Pool(..) => false,
+        Item::Pool(..) => false,
     }
 }
 
@@ -268,7 +308,7 @@ fn items(table: &Table, items: &[Item]) -> bool
     true
 }
 
-/// Tells whether an assignment is run: to a variable, or to a component of the object in one, or of a part of it.
+/// Tells whether an assignment is run: to a variable, or to a component of what the steps of the name lead to.
 fn is_assigned(name: &Name, expression: &Expr, table: &Table) -> bool
     ensures { result ≡ (spec.assign (values.reached_by name.now) (values.value_code expression.now)).runs table.now.records.now }
 {
@@ -277,7 +317,7 @@ fn is_assigned(name: &Name, expression: &Expr, table: &Table) -> bool
         Some(Reached::Part { steps, record, .. }) => {
             are_laid_out(table, steps, record) && value(expression, table)
         }
-        None => false,
+        Some(Reached::Object { .. }) | None => false,
     }
 }
 
@@ -288,6 +328,7 @@ fn may_be_part(part: Option<Reached<'_>>, table: &Table) -> bool
     match part {
         Some(Reached::Variable(_)) => true,
         Some(Reached::Part { steps, record, .. }) => are_laid_out(table, steps, record),
+        Some(Reached::Object { steps, .. }) => do_selectors_run(table, steps),
         None => false,
     }
 }

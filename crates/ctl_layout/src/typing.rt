@@ -10,7 +10,7 @@ use ctl_program::operators::BinaryOp;
 use ctl_program::types::Ty;
 
 /// Gives the type of a value; a constant has none of its own.
-#[tactic(auto, using(crate::proofs::Layers::value_constant, crate::proofs::Layers::read_own, crate::proofs::Layers::value_call, crate::proofs::Layers::value_unary, crate::proofs::Layers::value_chain, crate::proofs::Layers::operator_is, crate::proofs::Layers::value_short, crate::proofs::Layers::value_convert, crate::proofs::Layers::value_access, crate::proofs::Layers::value_new, crate::proofs::Layers::value_subpool, crate::proofs::Layers::value_discriminant))]
+#[tactic(auto, using(crate::proofs::Layers::value_constant, crate::proofs::Layers::read_own, crate::proofs::Layers::value_call, crate::proofs::Layers::value_unary, crate::proofs::Layers::value_chain, crate::proofs::Layers::operator_is, crate::proofs::Layers::value_short, crate::proofs::Layers::value_convert, crate::proofs::Layers::value_access, crate::proofs::Layers::new_own, crate::proofs::Layers::value_subpool, crate::proofs::Layers::value_discriminant))]
 pub fn type_of(expression: &Expr) -> Option<Ty>
     ensures { result ≡ (spec.value_code expression.now).own }
 {
@@ -18,10 +18,10 @@ pub fn type_of(expression: &Expr) -> Option<Ty>
         Expr::Read(_, ty) | Expr::Call(_, _, ty) | Expr::Unary(_, ty, _) => Some(*ty),
         Expr::Chain(_, first, more) => Some(last_type(first.get().ty, more.as_slice())),
         Expr::Short(..) => Some(Ty::Boolean),
+        Expr::New(access, ..) => Some(Ty::Access(*access)),
         Expr::Constant(_)
         | Expr::Convert(..)
         | Expr::Access(_)
-        | Expr::New(..)
         | Expr::Subpool(..)
         | Expr::Discriminant(..) => None,
     }

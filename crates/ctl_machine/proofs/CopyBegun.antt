@@ -52,10 +52,10 @@ plain_lives code old new type place x c plain turns =
     let inside = innermost code (kept old) c.stack x.control x.point.operands x.point.operands x.world c.stands c.holds in
     let same : c.master ≡ inside.master = ap (λ (l : List Master). first_or c.master l) (sym c.masters ∙ inside.masters) in
     let i = c.object in
-    let object : IsCreated x.number type inside.master old.owned.items = record { before = i.before; object = i.object; is_newest = i.is_newest; is_own = subst (λ (m : Master). m.owned ≤ length i.before) same i.is_own; number = i.number; record_type = i.record_type; no_layer = i.no_layer } in
+    let object : IsCreated x.number type inside.master old.owned.items = record { before = i.before; object = i.object; is_newest = i.is_newest; is_own = subst (λ (m : Master). m.owned ≤ length i.before) same i.is_own; number = i.number; role = i.role; no_layer = i.no_layer } in
     let t = subst (λ (o : Owned). Turns old new (alive o) (ModeOf.At place) []) (copy_newest code old type place x c) turns in
     subst (λ (p : Parts). Makes code old new (adjust_new code p x.number type x.point x.control x.world)) (sym plain)
-    (lives_makes code old new (kept old) x.control x.point x.world c.stack x.number type [] inside object c.holds c.spots (subst (λ n. Leads code n c.stack) (sym c.goes_on) c.leads) c.sized c.seen
+    (lives_makes code old new (kept old) x.control x.point x.world c.stack x.number type inside object c.holds c.spots (subst (λ n. Leads code n c.stack) (sym c.goes_on) c.leads) c.sized c.seen
     (t.mode ∙ ap (λ n. ModeOf.At n) (sym c.goes_on)) t.kept t.events t.picks)
 
 -- what the table makes of it, where some part is controlled
@@ -65,7 +65,7 @@ table_adjusts code PartsOf.Controlled n t x k w some = refl
 table_adjusts code PartsOf.Within n t x k w some = refl
 table_adjusts code PartsOf.Plain n t x k w some = absurd (some refl)
 
-pub copy_begins : (code : Code) (old new : Engine) (type place master first number : ℕ) (those : Left) (x : Copied) → IsCopied code old type place x → parts_of code type ≢ PartsOf.Plain → master ≡ last_of x.point.display → first ≡ length old.noted.items → number ≡ old.given_objects
+pub copy_begins : (code : Code) (old new : Engine) (type place master first number : ℕ) (those : Left) (x : Copied) → IsCopied code old type place x → parts_of code type ≢ PartsOf.Plain → master ≡ last_of x.point.display → first ≡ length old.noted.items → number ≡ old.numbered.objects
     → AreLeft (controlled_of code type) those (controlled_of code type)
     → kept new ≡ with_frames (FrameOf.Adjusting (Some master) type those ∷ FrameOf.Copying place first ∷ reverse old.control.items) (old.spots.items ++ whole_spot number ∷ []) (kept old) → new.mode ≡ ModeOf.Giving EndedOf.Complete
     → new.events.items ≡ old.events.items → new.picks.items ≡ old.picks.items → Makes code old new (adjust_new code (parts_of code type) x.number type x.point x.control x.world)

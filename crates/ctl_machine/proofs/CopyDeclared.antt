@@ -98,7 +98,7 @@ record IsMade (code : Code) (mid : Engine) (slot t : ℕ) (s : State) (m : Maste
   pub owned : m.owned ≤ length mid.owned.items
   pub others : List Master
   pub masters : reverse mid.masters.items ≡ m ∷ others
-  pub number : mid.given_objects + 1 ≡ s.world.ledger.next_object
+  pub number : mid.numbered.objects + 1 ≡ s.world.ledger.next_object
 
 -- the object is created, and takes the value
 made_so : (code : Code) (mid : Engine) (below : List Kind) (slot t : ℕ) (s : State) (m : Master) (value : List ℕ) → Inside code (kept mid) below s.control (drop 1 s.operands) s.world → slice_get mid.masters.items (length mid.masters.items - 1) ≡ Some m
@@ -109,15 +109,15 @@ made_so code mid below slot t s m value inside newest =
     let j = w.ledger.next_object in
     let rest = drop 1 s.operands in
     let has = has_object code mid below slot t s rest m inside newest in
-    let x = new_object (mid.given_objects + 1) (Record t) (replicate (size_of code t) 0) (Declared m.number) in
+    let x = new_object (mid.numbered.objects + 1) (Record t) (replicate (size_of code t) 0) (Declared m.number) in
     let zeros : Kept = with_object m slot t (replicate (size_of code t) 0) (kept mid) in
     let created = Table.with_object code (first_display (heads_of w.activations)) slot t w in
-    let is : mid.given_objects + 1 ≡ j = sym inside.holds.next_object in
+    let is : mid.numbered.objects + 1 ≡ j = sym inside.holds.next_object in
     let h : Holds code zeros s.control rest created = subst (λ (k : List T.Frame). Holds code zeros k rest created) (sym has.control) has.made.holds in
-    let taken = holds_changed code zeros s.control rest created (mid.given_objects + 1) (with_cells 0 value) (cells_keep 0 value) h in
+    let taken = holds_changed code zeros s.control rest created (mid.numbered.objects + 1) (with_cells 0 value) (cells_keep 0 value) h in
     record {
       begun = x;
-      there = ap (λ c. object_at c created) (sym is) ∙ (object_shown code zeros s.control rest created (mid.given_objects + 1) h ∙ new_found mid.owned.items (mid.given_objects + 1) mid.objects x inside.holds.owns refl);
+      there = ap (λ c. object_at c created) (sym is) ∙ (object_shown code zeros s.control rest created (mid.numbered.objects + 1) h ∙ new_found mid.owned.items (mid.numbered.objects + 1) mid.objects x inside.holds.owns refl);
       holds = subst (λ c. Holds code (with_copy m slot t (size_of code t) value (kept mid)) s.control rest (write_cells c 0 value created)) is taken;
       heads = has.made.heads;
       owned = has.owned;
@@ -129,7 +129,7 @@ made_so code mid below slot t s m value inside newest =
 -- the newest object has taken the value of a part of another one, and is to be adjusted
 pub copied_is : (code : Code) (old mid new : Engine) (place slot t : ℕ) (s : State) (m : Master) (o : W.Object) → Before code old place (DeclareCopy slot t) s → kept mid ≡ with_spots (kept old) (standing s.control (drop 1 s.operands))
     → slice_get mid.masters.items (length mid.masters.items - 1) ≡ Some m → object_in (first_spot s.operands).object mid.objects ≡ Some o
-    → kept new ≡ with_copy m slot t (size_of code t) (cells_at (first_spot s.operands).offset (size_of code t) o) (kept mid) → new.given_objects ≡ mid.given_objects + 1
+    → kept new ≡ with_copy m slot t (size_of code t) (cells_at (first_spot s.operands).offset (size_of code t) o) (kept mid) → new.numbered.objects ≡ mid.numbered.objects + 1
     → IsCopied code new t (place + 1) (copied_at code (place + 1) slot t s) × ((new' : Engine) → new.events.items ≡ old.events.items → new.picks.items ≡ old.picks.items
     → (let x = copied_at code (place + 1) slot t s in Makes code new new' (adjust_new code (parts_of code t) x.number t x.point x.control x.world)) → Makes code old new' (by_instr code (Some (DeclareCopy slot t)) s.operands (here_of place s)))
 copied_is code old mid new place slot t s m o b mid_is newest there are given =
@@ -146,7 +146,7 @@ copied_is code old mid new place slot t s m o b mid_is newest there are given =
     let x = copied_at code (place + 1) slot t s in
     let world : write_cells w.ledger.next_object 0 value (Table.with_object code (first_display (heads_of w.activations)) slot t w) ≡ x.world =
     ap (λ (z : Option W.Object). write_cells w.ledger.next_object 0 (value_of y.offset (size_of code t) z) (Table.with_object code (first_display (heads_of w.activations)) slot t w)) (sym object) in
-    let i : IsCreated w.ledger.next_object t m e.owned = record { before = mid.owned.items; object = newborn (kept mid) slot t m; is_newest = refl; is_own = made.owned; number = made.number; record_type = refl; no_layer = refl } in
+    let i : IsCreated w.ledger.next_object t m e.owned = record { before = mid.owned.items; object = newborn (kept mid) slot t m; is_newest = refl; is_own = made.owned; number = made.number; role = refl; no_layer = refl } in
     let heads : heads_of x.world.activations ≡ heads_of w.activations = written_heads code slot t s made.heads in (
       record {
         stack = below;

@@ -39,7 +39,7 @@ use Rattle.ctl_machine.proofs.Plain.{no_operands}
 
 -- what is finalized, behind the frame of a copy
 abbrev pub undone_in : List T.Frame → World → Finished
-undone_in (T.Copying n t paths p ∷ k) w = record { spot = whole_spot n; control = T.Undoing n paths ∷ T.Creating n t p ∷ k; world = begin_finalization n w }
+undone_in (T.Copying n t paths p ∷ k) w = record { spot = whole_spot n; control = T.Undoing n paths ∷ T.Creating T.ByDeclaration n t p ∷ k; world = begin_finalization n w }
 undone_in k w = record { spot = whole_spot 0; control = k; world = w }
 
 -- with these frames of the machine
@@ -47,11 +47,11 @@ abbrev pub with_undoing : ℕ → ℕ → List Frame → Kept → Kept
 with_undoing place first fs e = record e { control = FrameOf.Undoing first ∷ FrameOf.Creating place ∷ fs }
 
 undone_waits : {place first : ℕ} {fs : List Frame} {ms : List Master} {hs : List Head} {owned : List Owned} {n t : ℕ} {paths : List (List ℕ)} {p : T.Point} {k : List T.Frame}
-    → Wait (FrameOf.Copying place first ∷ fs) ms hs owned (T.Copying n t paths p ∷ k) → Wait (FrameOf.Undoing first ∷ FrameOf.Creating place ∷ fs) ms hs owned (T.Undoing n paths ∷ T.Creating n t p ∷ k)
+    → Wait (FrameOf.Copying place first ∷ fs) ms hs owned (T.Copying n t paths p ∷ k) → Wait (FrameOf.Undoing first ∷ FrameOf.Creating place ∷ fs) ms hs owned (T.Undoing n paths ∷ T.Creating T.ByDeclaration n t p ∷ k)
 undone_waits (copying_waits i place seen w) = undoing_waits (creating_waits i place seen w)
 
 goes_over : (code : Code) (e : Kept) (place first : ℕ) (fs : List Frame) (n t : ℕ) (paths : List (List ℕ)) (p : T.Point) (k : List T.Frame) (ops : List Word) (w : World) → e.control ≡ FrameOf.Copying place first ∷ fs → Holds code e (T.Copying n t paths p ∷ k) ops w
-    → Holds code (with_undoing place first fs e) (T.Undoing n paths ∷ T.Creating n t p ∷ k) [] w
+    → Holds code (with_undoing place first fs e) (T.Undoing n paths ∷ T.Creating T.ByDeclaration n t p ∷ k) [] w
 goes_over code e place first fs n t paths p k ops w top h =
     let h' = no_operands code e (T.Copying n t paths p ∷ k) ops w h in
     let left = subst (λ (l : List Frame). AllLeaveSame code l (T.Copying n t paths p ∷ k)) top h.left in
@@ -67,6 +67,8 @@ goes_over code e place first fs n t paths p k ops w top h =
       rise = h'.rise;
       next_master = h'.next_master;
       next_object = h'.next_object;
+      next_collection = h'.next_collection;
+      collections = h'.collections;
       left = (left.0, (tt, left.1));
       saved = h'.saved;
       noted = h'.noted;
@@ -162,7 +164,7 @@ pub record IsUndoing (code : Code) (old : Engine) (first : ℕ) (fs : List Frame
   pub paths : List (List ℕ)
   pub point : T.Point
   pub waiting : List T.Frame
-  pub is : s.control ≡ T.Undoing number paths ∷ T.Creating number record_type point ∷ waiting
+  pub is : s.control ≡ T.Undoing number paths ∷ T.Creating T.ByDeclaration number record_type point ∷ waiting
   pub master : Master
   pub object : IsCreated number record_type master old.owned.items
   pub mark : first ≡ length (noted_in waiting)
@@ -173,7 +175,7 @@ record IsTop (fs : List Frame) (ms : List Master) (hs : List Head) (owned : List
   pub paths : List (List ℕ)
   pub point : T.Point
   pub waiting : List T.Frame
-  pub is : k ≡ T.Undoing number paths ∷ T.Creating number record_type point ∷ waiting
+  pub is : k ≡ T.Undoing number paths ∷ T.Creating T.ByDeclaration number record_type point ∷ waiting
   pub master : Master
   pub object : IsCreated number record_type master owned
 
@@ -205,23 +207,25 @@ undone_there code old first fs s u = some_owned old.owned.items u.object.object 
 undoing_below : {first : ℕ} {fs : List Frame} {ms : List Master} {hs : List Head} {owned : List Owned} {n : ℕ} {paths : List (List ℕ)} {k : List T.Frame} → Wait (FrameOf.Undoing first ∷ fs) ms hs owned (T.Undoing n paths ∷ k) → Wait fs ms hs owned k
 undoing_below (undoing_waits w) = w
 
-undoing_goes : (code : Code) (e : Kept) (first : ℕ) (fs : List Frame) (n t : ℕ) (paths : List (List ℕ)) (p : T.Point) (k : List T.Frame) (ops : List Word) (w : World) → e.control ≡ FrameOf.Undoing first ∷ fs → first ≡ length (noted_in k) → Holds code e (T.Undoing n paths ∷ T.Creating n t p ∷ k) ops w
-    → Holds code (record e { control = fs; noted = take first e.noted }) (T.Creating n t p ∷ k) [] w
+undoing_goes : (code : Code) (e : Kept) (first : ℕ) (fs : List Frame) (n t : ℕ) (paths : List (List ℕ)) (p : T.Point) (k : List T.Frame) (ops : List Word) (w : World) → e.control ≡ FrameOf.Undoing first ∷ fs → first ≡ length (noted_in k) → Holds code e (T.Undoing n paths ∷ T.Creating T.ByDeclaration n t p ∷ k) ops w
+    → Holds code (record e { control = fs; noted = take first e.noted }) (T.Creating T.ByDeclaration n t p ∷ k) [] w
 undoing_goes code e first fs n t paths p k ops w top mark h =
-    let h' = no_operands code e (T.Undoing n paths ∷ T.Creating n t p ∷ k) ops w h in
-    let left = subst (λ (l : List Frame). AllLeaveSame code l (T.Undoing n paths ∷ T.Creating n t p ∷ k)) top h.left in
+    let h' = no_operands code e (T.Undoing n paths ∷ T.Creating T.ByDeclaration n t p ∷ k) ops w h in
+    let left = subst (λ (l : List Frame). AllLeaveSame code l (T.Undoing n paths ∷ T.Creating T.ByDeclaration n t p ∷ k)) top h.left in
     record {
       cells = h'.cells;
       room = h'.room;
       masters = h'.masters;
       below = h'.below;
-      waits = undoing_below (subst (λ (l : List Frame). Wait l e.masters (heads_of w.activations) e.owned (T.Undoing n paths ∷ T.Creating n t p ∷ k)) top h'.waits);
+      waits = undoing_below (subst (λ (l : List Frame). Wait l e.masters (heads_of w.activations) e.owned (T.Undoing n paths ∷ T.Creating T.ByDeclaration n t p ∷ k)) top h'.waits);
       objects = h'.objects;
       owns = h'.owns;
       held = h'.held;
       rise = h'.rise;
       next_master = h'.next_master;
       next_object = h'.next_object;
+      next_collection = h'.next_collection;
+      collections = h'.collections;
       left = left.1;
       saved = h'.saved;
       noted = paths_front first e.noted ∙ (ap (λ (l : List (List ℕ)). take first l) h'.noted ∙ take_at (noted_in k) paths first (sym mark));
@@ -238,7 +242,7 @@ pub undoing_ends : (code : Code) (old mid new : Engine) (first : ℕ) (fs : List
     → Makes code old new (act code (Giving ended) s.control s.operands s.world 0)
 unfolding opened_changes program_error
 undoing_ends code old mid new first fs s ended b u top ends spots events picks are mode shown chosen =
-    let k : List T.Frame = T.Creating u.number u.record_type u.point ∷ u.waiting in
+    let k : List T.Frame = T.Creating T.ByDeclaration u.number u.record_type u.point ∷ u.waiting in
     let all : List T.Frame = T.Undoing u.number u.paths ∷ k in
     let w = end_finalization u.number s.world in
     let hs = heads_of s.world.activations in

@@ -1,5 +1,5 @@
 -- A scalar object takes its number.
-use Rattle.std.proofs.Common.{◌≡◌, ℕ, ◌+◌, List, [], ◌∷◌, Some, refl, sym, ap, ◌∙◌, subst, arith}
+use Rattle.std.proofs.Common.{◌≡◌, ℕ, ◌+◌, List, Some, refl, sym, ap, ◌∙◌, subst, arith}
 use Rattle.std.proofs.lemmas.List.{append-nil}
 use Rattle.ctl_meaning.specs.World.{Object, World}
 use Rattle.ctl_meaning.specs.Ledger.{opened_ledger}
@@ -13,19 +13,15 @@ use Rattle.ctl_machine.specs.declared.engine.Engine.{Engine}
 use Rattle.ctl_machine.specs.declared.frame.Mode.{Mode}
 use Rattle.ctl_machine.specs.declared.frame.Mode.TheVariants as ModeOf
 use Rattle.ctl_machine.specs.declared.frame.Owned.{Owned}
-use Rattle.ctl_machine.specs.Masters.{heads_of, first_display, RiseBelow}
+use Rattle.ctl_machine.specs.Masters.{heads_of, first_display}
 use Rattle.ctl_objects.proofs.Conditions.{below_more}
 use Rattle.ctl_machine.specs.Owned.{AreOwned}
 use Rattle.ctl_machine.specs.Shows.{ShowsMode, Kept, Holds, kept}
 use Rattle.ctl_machine.specs.Moves.{Before, Makes, here_of}
 use Rattle.ctl_machine.specs.Spots.{KeepsSpots}
 
-rise_further : (os : List Owned) (low high : ℕ) → RiseBelow low os high → RiseBelow low os (high + 1)
-rise_further [] low high h = omega (arith, h)
-rise_further (o ∷ os) low high h = (h.0, rise_further os (o.number + 1) high h.1)
-
 owns_further : (owned : List Owned) (next : ℕ) (objects : List Object) → AreOwned owned next objects → AreOwned owned (next + 1) objects
-owns_further owned next objects a = record { declared = a.declared; numbers = below_more next (next + 1) objects (omega arith) a.numbers; apart = a.apart; each_declared = a.each_declared }
+owns_further owned next objects a = record { declared = a.declared; numbers = below_more next (next + 1) objects (omega arith) a.numbers; apart = a.apart; some = omega arith }
 
 abbrev pub with_number : Kept → Kept
 with_number e = record e { next_object = e.next_object + 1 }
@@ -41,9 +37,11 @@ numbered code e k ops w h = record {
   objects = h.objects;
   owns = owns_further e.owned e.next_object e.objects h.owns;
   held = h.held;
-  rise = rise_further e.owned 1 e.next_object h.rise;
+  rise = h.rise;
   next_master = h.next_master;
   next_object = ap (λ n. n + 1) h.next_object;
+  next_collection = h.next_collection;
+  collections = h.collections;
   left = h.left;
   saved = h.saved;
   noted = h.noted;

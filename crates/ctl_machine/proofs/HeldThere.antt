@@ -6,7 +6,7 @@ use Rattle.std.proofs.lemmas.Option.{slice_get_within}
 use Rattle.ctl_meaning.specs.World as W
 use Rattle.ctl_meaning.specs.World.{World, Content, Slot, unset, Activation}
 use Rattle.ctl_meaning.specs.Activations.{slot_in}
-use Rattle.ctl_meaning.specs.Changes.{opened_changes}
+use Rattle.ctl_meaning.specs.Changes.{opened_changes, slot_at}
 use Rattle.ctl_code.specs.declared.code.Code.{Code}
 use Rattle.ctl_code.specs.States as T
 use Rattle.ctl_code.specs.States.{Word}
@@ -136,12 +136,18 @@ content_there (m ∷ ms) (act ∷ acts) _ owned fs bound x end slot (newest_mast
     ∙ (ap (λ (l : List Formal). holder_in (drop x.owned (take end (take m.owned owned))) slot (formal_in l slot)) formals
     ∙ ap (λ (l : List Owned). holder_in (drop x.owned l) slot (formal_in (own_formals x fs) slot)) (take_less owned end m.owned (omega (arith, within, long)))))
 
+pub content_is : (code : Code) (e : Engine) (k : List T.Frame) (ops : List Word) (w : World) (n slot i : ℕ) (x : Master) → Holds code (kept e) k ops w → slice_get e.masters.items i ≡ Some x → n ≡ x.number → slot < x.slots
+    → (slot_at n slot w).content ≡ holder_in (drop x.owned (take (own_end (slice_get e.masters.items (i + 1)) (length e.owned.items)) e.owned.items)) slot (formal_in (own_formals x e.formals.items) slot)
+unfolding opened_changes
+content_is code e k ops w n slot i x h found number less =
+    ap (λ j. (slot_in j slot w.activations).content) number
+    ∙ content_there (reverse e.masters.items) w.activations w.ledger.masters e.owned.items e.formals.items (e.given_masters + 1) x _ slot h.masters h.below h.held (ends_own e.masters.items i (length e.owned.items) x found) less
+
 pub holder_is : (code : Code) (e : Engine) (k : List T.Frame) (ops : List Word) (w : World) (d : List ℕ) (out slot i : ℕ) (x : Master) → Holds code (kept e) k ops w → slice_get e.masters.items i ≡ Some x → out_of d out ≡ x.number → slot < x.slots
     → holder_at d out slot w ≡ spot_of (holder_in (drop x.owned (take (own_end (slice_get e.masters.items (i + 1)) (length e.owned.items)) e.owned.items)) slot (formal_in (own_formals x e.formals.items) slot))
 unfolding opened_changes
 holder_is code e k ops w d out slot i x h found number less =
-    ap (λ n. spot_of (slot_in n slot w.activations).content) number
-    ∙ ap (λ c. spot_of c) (content_there (reverse e.masters.items) w.activations w.ledger.masters e.owned.items e.formals.items (e.given_masters + 1) x _ slot h.masters h.below h.held (ends_own e.masters.items i (length e.owned.items) x found) less)
+    ap (λ c. spot_of c) (content_is code e k ops w (out_of d out) slot i x h found number less)
 
 pub no_holder : (code : Code) (e : Engine) (k : List T.Frame) (ops : List Word) (w : World) (d : List ℕ) (out slot : ℕ) → Holds code (kept e) k ops w → IsNoVariable d out slot (reverse e.masters.items) → holder_at d out slot w ≡ None
 unfolding opened_changes

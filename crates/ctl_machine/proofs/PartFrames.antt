@@ -1,6 +1,7 @@
 -- Frames that wait for the newest part: one comes over a state without operands, and goes.
 use Rattle.std.proofs.Common.{◌≡◌, ℕ, List, [], ◌∷◌, ◌++◌, Option, Bool, length, refl, sym, ap, ◌∙◌, subst, reverse}
 use Rattle.std.proofs.lemmas.List.{append-nil, append_assoc}
+use Rattle.ctl_tree.specs.declared.event.Owner.{Owner}
 use Rattle.ctl_tree.specs.declared.event.Cause.{Cause}
 use Rattle.ctl_meaning.specs.Finalization.{Spot}
 use Rattle.ctl_meaning.specs.World.{Activation, World}
@@ -22,14 +23,14 @@ use Rattle.ctl_machine.specs.Noted.{IsNoting, IsUndone, noted_in}
 use Rattle.ctl_machine.specs.Saved.{AreSaved}
 use Rattle.ctl_machine.specs.Spots.{spots_in}
 use Rattle.ctl_machine.specs.Under.{tall, under}
-use Rattle.ctl_machine.specs.Shows.{Wait, master_waits, leaving_waits, creating_waits, copying_waits, assigning_waits, finalizing_waits, filling_waits, initializing_waits, failing_waits, adjusting_waits, adjusting_own_waits, undoing_waits, undoing_own_waits, undoing_parts_waits, finalizing_own_waits, finalizing_parts_waits, SizedBelow, Kept, Holds}
+use Rattle.ctl_machine.specs.Shows.{Wait, master_waits, leaving_waits, creating_waits, allocating_waits, copying_waits, assigning_waits, emptying_waits, finalizing_waits, filling_waits, initializing_waits, failing_waits, adjusting_waits, adjusting_own_waits, undoing_waits, undoing_own_waits, undoing_parts_waits, finalizing_own_waits, finalizing_parts_waits, SizedBelow, Kept, Holds}
 use Rattle.ctl_machine.proofs.StillLeft.{left_below}
 
 -- over the same frames, a frame of the machine, one of the table, and the part that both wait for
 pub data IsPartFrame (code : Code) (k : List T.Frame) : Frame → T.Frame → Spot → Type 0 where
-  fills : {t n : ℕ} {those unfinished : Left} {x : T.Newborn} {left incomplete : List Begun} {s : Spot}
-      → x.spot ≡ s → x.type ≡ t → x.master ≡ n → AreLeft (begun_of code t) those left → AreLeft (begun_of code t) unfinished incomplete → IsPartFrame code k (FrameOf.Filling t n those unfinished) (T.Filling x left incomplete) s
-  initializes : {t n : ℕ} {x : T.Newborn} {s : Spot} → x.spot ≡ s → x.type ≡ t → x.master ≡ n → IsPartFrame code k (FrameOf.Initializing t n) (T.Initializing x) s
+  fills : {t : ℕ} {owner : Owner} {those unfinished : Left} {x : T.Newborn} {left incomplete : List Begun} {s : Spot}
+      → x.spot ≡ s → x.type ≡ t → x.owner ≡ owner → AreLeft (begun_of code t) those left → AreLeft (begun_of code t) unfinished incomplete → IsPartFrame code k (FrameOf.Filling t owner those unfinished) (T.Filling x left incomplete) s
+  initializes : {t : ℕ} {owner : Owner} {x : T.Newborn} {s : Spot} → x.spot ≡ s → x.type ≡ t → x.owner ≡ owner → IsPartFrame code k (FrameOf.Initializing t owner) (T.Initializing x) s
   fails : {e : ℕ} {s : Spot} → IsPartFrame code k (FrameOf.Failing e) (T.Failing s e) s
   adjusts : {creation : Option ℕ} {t : ℕ} {those : Left} {left : List Begun} {s : Spot}
       → IsNoting creation k → AreLeft (controlled_of code t) those left → IsPartFrame code k (FrameOf.Adjusting creation t those) (T.Adjusting creation s t left) s
@@ -176,11 +177,13 @@ below_top : {f : Frame} {g : T.Frame} {fs : List Frame} {ms : List Master} {hs :
 below_top (master_waits s i w) master = absurd master
 below_top (leaving_waits i l w) master = absurd master
 below_top (creating_waits i p d w) master = w
+below_top (allocating_waits i p d w) master = w
 below_top (copying_waits i p d w) master = w
 below_top (filling_waits i j w) master = w
 below_top (initializing_waits i j w) master = w
 below_top (failing_waits w) master = w
 below_top (assigning_waits v p d w) master = w
+below_top (emptying_waits i w) master = w
 below_top (finalizing_waits i w) master = w
 below_top (adjusting_waits w) master = w
 below_top (adjusting_own_waits w) master = w
@@ -205,6 +208,8 @@ part_comes code e f g s k w is h = record {
   rise = h.rise;
   next_master = h.next_master;
   next_object = h.next_object;
+  next_collection = h.next_collection;
+  collections = h.collections;
   left = (leaves_with code is, h.left);
   saved = subst (λ (x : Type 0). x) (sym (saved_with code is e.saved)) h.saved;
   noted = h.noted ∙ sym (noted_with code is);
@@ -228,6 +233,8 @@ part_goes code e f fs g s k ops w is top h =
       rise = h.rise;
       next_master = h.next_master;
       next_object = h.next_object;
+      next_collection = h.next_collection;
+      collections = h.collections;
       left = left_below code f fs e.control g k h.left top;
       saved = subst (λ (x : Type 0). x) (saved_with code is e.saved) h.saved;
       noted = h.noted ∙ noted_with code is;
@@ -243,10 +250,10 @@ pub record IsOver (code : Code) (f : Frame) (fs : List Frame) (ms : List Master)
   pub is : k ≡ frame ∷ waiting
   pub part : IsPartFrame code waiting f frame spot
 
-pub over_filling : (code : Code) {t n : ℕ} {those unfinished : Left} {fs : List Frame} {ms : List Master} {hs : List Head} {owned : List Owned} {k : List T.Frame} → Wait (FrameOf.Filling t n those unfinished ∷ fs) ms hs owned k → AllLeaveSame code (FrameOf.Filling t n those unfinished ∷ fs) k → IsOver code (FrameOf.Filling t n those unfinished) fs ms hs owned k
+pub over_filling : (code : Code) {t : ℕ} {owner : Owner} {those unfinished : Left} {fs : List Frame} {ms : List Master} {hs : List Head} {owned : List Owned} {k : List T.Frame} → Wait (FrameOf.Filling t owner those unfinished ∷ fs) ms hs owned k → AllLeaveSame code (FrameOf.Filling t owner those unfinished ∷ fs) k → IsOver code (FrameOf.Filling t owner those unfinished) fs ms hs owned k
 over_filling code (filling_waits {x = x} {left = left} {incomplete = incomplete} {k = k} i j w) h = record { frame = T.Filling x left incomplete; waiting = k; spot = x.spot; is = refl; part = fills refl i j h.0.0 h.0.1 }
 
-pub over_initializing : (code : Code) {t n : ℕ} {fs : List Frame} {ms : List Master} {hs : List Head} {owned : List Owned} {k : List T.Frame} → Wait (FrameOf.Initializing t n ∷ fs) ms hs owned k → IsOver code (FrameOf.Initializing t n) fs ms hs owned k
+pub over_initializing : (code : Code) {t : ℕ} {owner : Owner} {fs : List Frame} {ms : List Master} {hs : List Head} {owned : List Owned} {k : List T.Frame} → Wait (FrameOf.Initializing t owner ∷ fs) ms hs owned k → IsOver code (FrameOf.Initializing t owner) fs ms hs owned k
 over_initializing code (initializing_waits {x = x} {k = k} i j w) = record { frame = T.Initializing x; waiting = k; spot = x.spot; is = refl; part = initializes refl i j }
 
 pub over_failing : (code : Code) {e : ℕ} {fs : List Frame} {ms : List Master} {hs : List Head} {owned : List Owned} {k : List T.Frame} → Wait (FrameOf.Failing e ∷ fs) ms hs owned k → IsOver code (FrameOf.Failing e) fs ms hs owned k

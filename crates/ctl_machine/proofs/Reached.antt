@@ -120,10 +120,18 @@ unset_reads_zero : (d : List ℕ) (out slot : ℕ) (w : World) → slot_in (out_
 unfolding opened_changes opened_lists
 unset_reads_zero d out slot w e = ap (λ (x : Slot). x.value) e
 
+-- where no master has the number
+pub no_number_slot : (code : Code) (e : Kept) (k : List T.Frame) (ops : List Word) (w : World) (n slot : ℕ) → Holds code e k ops w → n ≡ 0 → slot_in n slot w.activations ≡ unset
+no_number_slot code e k ops w n slot h none = ap (λ j. slot_in j slot w.activations) none ∙ not_there 0 slot w.activations (no_zero e.masters w.activations w.ledger.masters e.owned e.next_master h.masters h.below)
+
+-- and where the master has no such slot
+pub no_master_slot : (code : Code) (e : Kept) (k : List T.Frame) (ops : List Word) (w : World) (n slot : ℕ) (x : Master) → Holds code e k ops w → IsAmong x e.masters → n ≡ x.number → x.slots ≤ slot → slot_in n slot w.activations ≡ unset
+no_master_slot code e k ops w n slot x h among number beyond = ap (λ j. slot_in j slot w.activations) number ∙ beyond_in e.masters w.activations w.ledger.masters e.owned e.next_master x slot h.masters h.below among beyond
+
 -- a slot that no master has holds nothing
 pub no_variable_slot : (code : Code) (e : Kept) (k : List T.Frame) (ops : List Word) (w : World) (d : List ℕ) (out slot : ℕ) → Holds code e k ops w → IsNoVariable d out slot e.masters → slot_in (out_of d out) slot w.activations ≡ unset
-no_variable_slot code e k ops w d out slot h (inl none) = ap (λ n. slot_in n slot w.activations) none ∙ not_there 0 slot w.activations (no_zero e.masters w.activations w.ledger.masters e.owned e.next_master h.masters h.below)
-no_variable_slot code e k ops w d out slot h (inr v) = ap (λ n. slot_in n slot w.activations) v.number ∙ beyond_in e.masters w.activations w.ledger.masters e.owned e.next_master v.master slot h.masters h.below v.among v.beyond
+no_variable_slot code e k ops w d out slot h (inl none) = no_number_slot code e k ops w (out_of d out) slot h none
+no_variable_slot code e k ops w d out slot h (inr v) = no_master_slot code e k ops w (out_of d out) slot v.master h v.among v.number v.beyond
 
 pub no_variable_read : (code : Code) (e : Kept) (k : List T.Frame) (ops : List Word) (w : World) (d : List ℕ) (out slot : ℕ) → Holds code e k ops w → IsNoVariable d out slot e.masters → cell_at d out slot w ≡ 0
 no_variable_read code e k ops w d out slot h none = unset_reads_zero d out slot w (no_variable_slot code e k ops w d out slot h none)

@@ -27,6 +27,7 @@ use Rattle.ctl_machine.specs.Departing.{IsFinalizeOf}
 use Rattle.ctl_machine.specs.Filling.{AreAmong, is_undone}
 use Rattle.ctl_machine.specs.Finishing.{BeginsOver, Finished, Finishes, with_frames}
 use Rattle.ctl_machine.specs.Owned.{IsObject}
+use Rattle.ctl_machine.proofs.Homes.{home_shown}
 use Rattle.ctl_machine.specs.Moves.{Makes}
 use Rattle.ctl_machine.specs.Noted.{IsUndone}
 use Rattle.ctl_machine.specs.Shows.{kept}
@@ -110,7 +111,7 @@ pub calls_undone : (code : Code) (old new : Engine) (entry : Entry) (type master
     → kept new ≡ with_frames (FrameOf.UndoingOwn type first ∷ reverse old.control.items) (old.spots.items ++ t.spot ∷ []) (kept old) → Calls code new entry master base x
 calls_undone code old new entry type master base first t x b begins u c are =
     subst (λ (z : Called). Calls code new entry master base z) (sym c.is)
-    (calls_over code old new (FrameOf.UndoingOwn type first) (T.UndoingOwn t.spot type) entry master base x.body x.object t (undoes_own u) b begins c.object.origin c.body c.slots are)
+    (calls_over code old new (FrameOf.UndoingOwn type first) (T.UndoingOwn t.spot type) entry master base x.body x.object t (undoes_own u) b begins (home_shown code (kept old) t.control [] t.world x.object.origin b.holds ∙ c.object.home) c.body c.slots are)
 
 pub undone_makes : (code : Code) (old mid new : Engine) (entry : Entry) (type master : ℕ) (t : Finished) (x : Called) (event : Event) → Finishes code old t → CallsUndone code old entry type master t x → event ≡ Finalize (part_at t.spot) CauseOf.Failed
     → mid.events.items ≡ old.events.items → mid.picks.items ≡ old.picks.items
@@ -122,7 +123,7 @@ undone_makes code old mid new entry type master t x event b c shows events picks
     (call_makes code old mid new x (undo_call x.object x.body type t) event (Finalize (part_at t.spot) CauseOf.Failed) c.is shows events picks made)
 
 -- the body that the user wrote
-pub calls_it : (code : Code) (e : Engine) (entry : Entry) (type master : ℕ) (t : Finished) → IsObject e.objects t.spot.object master (object_or t.spot.object e.objects) → IsFinalizeOf code type entry
+pub calls_it : (code : Code) (e : Engine) (entry : Entry) (type master : ℕ) (t : Finished) → IsObject e.owned.items e.objects t.spot.object master (object_or t.spot.object e.objects) → IsFinalizeOf code type entry
     → CallsUndone code e entry type master t (undo_call (object_or t.spot.object e.objects) (body_of_finalize code type) type t)
 calls_it code e entry type master t there i =
     let body : body_of_finalize code type ≡ i.body = ap (λ (x : Option ℕ). unwrap_or x 0) i.operation in

@@ -1,19 +1,15 @@
 -- The walk over the objects of a master, from the newest on, to the one that was declared in a slot.
-use Rattle.std.proofs.Common.{◌≡◌, ◌≢◌, ℕ, zero, suc, ◌-◌, ◌<◌, ◌≤◌, List, [], ◌∷◌, ◌++◌, Option, Some, None, length, sym, ap, ◌∙◌, arith, drop, take, false}
+use Rattle.std.proofs.Common.{◌≡◌, ◌≢◌, ℕ, zero, suc, ◌-◌, ◌<◌, ◌≤◌, List, [], ◌∷◌, ◌++◌, Option, Some, None, length, refl, sym, ap, ◌∙◌, arith, drop, take}
 use Rattle.std.specs.Prelude.{slice_get, slice_index_or, nat_eq, if◌then◌else◌}
 use Rattle.std.proofs.lemmas.Option.{slice_get_within}
 use Rattle.ctl_meaning.specs.World as W
 use Rattle.ctl_meaning.specs.World.{Content}
 use Rattle.ctl_machine.specs.declared.frame.Formal.{Formal}
 use Rattle.ctl_machine.specs.declared.frame.Owned.{Owned}
-use Rattle.ctl_machine.specs.Holders.{binding, holder_in, formal_in}
+use Rattle.ctl_machine.specs.Holders.{binding, content_of, holder_in, formal_in}
 use Rattle.ctl_machine.proofs.Lists.{length_taken, eq_same, eq_differs, get_index}
 use Rattle.ctl_machine.proofs.Held.{holder_more, bound_more}
 use Rattle.ctl_machine.proofs.Created.{drop_more}
-
--- what is read where no object is
-abbrev pub any_owned : Owned
-any_owned = record { number = 0; slot = 0; «record» = 0; master = 0; is_layer = false }
 
 pub take_last : {X : Type 0} (os : List X) (i : ℕ) (o : X) → slice_get os i ≡ Some o → take (suc i) os ≡ take i os ++ o ∷ []
 take_last [] i o e = absurd (cc)
@@ -25,7 +21,7 @@ take_last {X} (p ∷ os) zero o e = ap (λ (z : X). z ∷ []) (ap (λ (y : Optio
 take_last {X} (p ∷ os) (suc i) o e = ap (λ (l : List X). p ∷ l) (take_last os i o e)
 
 -- one object further down
-holder_walk : (os : List Owned) (start at slot : ℕ) (o : Owned) (c : Content) → start ≤ at → slice_get os at ≡ Some o → holder_in (drop start (take (suc at) os)) slot c ≡ (if nat_eq o.slot slot then W.Holds o.number else holder_in (drop start (take at os)) slot c)
+holder_walk : (os : List Owned) (start at slot : ℕ) (o : Owned) (c : Content) → start ≤ at → slice_get os at ≡ Some o → holder_in (drop start (take (suc at) os)) slot c ≡ (if nat_eq o.slot slot then content_of o else holder_in (drop start (take at os)) slot c)
 holder_walk os start at slot o c less found =
     let within = slice_get_within os at o found in
     let long : length (take at os) ≡ at = length_taken at os (omega (arith, within)) in
@@ -34,13 +30,13 @@ holder_walk os start at slot o c less found =
     ∙ holder_more (drop start (take at os)) o slot c)
 
 -- the newest of them was declared in the slot, or was not
-pub holder_found : (os : List Owned) (start at slot : ℕ) (d : Owned) (c : Content) → start < at → at ≤ length os → (slice_index_or os (at - 1) d).slot ≡ slot → holder_in (drop start (take at os)) slot c ≡ W.Holds (slice_index_or os (at - 1) d).number
+pub holder_found : (os : List Owned) (start at slot : ℕ) (d : Owned) (c : Content) → start < at → at ≤ length os → (slice_index_or os (at - 1) d).slot ≡ slot → holder_in (drop start (take at os)) slot c ≡ content_of (slice_index_or os (at - 1) d)
 holder_found os start at slot d c some within same =
     let o = slice_index_or os (at - 1) d in
     let last : suc (at - 1) ≡ at = omega (arith, some) in
     ap (λ n. holder_in (drop start (take n os)) slot c) (sym last)
     ∙ (holder_walk os start (at - 1) slot o c (omega (arith, some)) (get_index os (at - 1) d (omega (arith, some, within)))
-    ∙ ap (λ b. if b then W.Holds o.number else holder_in (drop start (take (at - 1) os)) slot c) (eq_same o.slot slot same))
+    ∙ ap (λ b. if b then content_of o else holder_in (drop start (take (at - 1) os)) slot c) (eq_same o.slot slot same))
 
 pub holder_passed : (os : List Owned) (start at slot : ℕ) (d : Owned) (c : Content) → start < at → at ≤ length os → (slice_index_or os (at - 1) d).slot ≢ slot → holder_in (drop start (take (at - 1) os)) slot c ≡ holder_in (drop start (take at os)) slot c
 holder_passed os start at slot d c some within differs =
@@ -48,7 +44,7 @@ holder_passed os start at slot d c some within differs =
     let last : suc (at - 1) ≡ at = omega (arith, some) in
     sym (ap (λ n. holder_in (drop start (take n os)) slot c) (sym last)
     ∙ (holder_walk os start (at - 1) slot o c (omega (arith, some)) (get_index os (at - 1) d (omega (arith, some, within)))
-    ∙ ap (λ b. if b then W.Holds o.number else holder_in (drop start (take (at - 1) os)) slot c) (eq_differs o.slot slot differs)))
+    ∙ ap (λ b. if b then content_of o else holder_in (drop start (take (at - 1) os)) slot c) (eq_differs o.slot slot differs)))
 
 -- Formals ------------------------------------------------------------------------------------------------
 
@@ -75,3 +71,11 @@ formal_passed fs start at slot f some found differs =
     sym (ap (λ n. formal_in (drop start (take n fs)) slot) (sym last)
     ∙ (formal_walk fs start (at - 1) slot f (omega (arith, some)) found
     ∙ ap (λ b. if b then binding f.spot else formal_in (drop start (take (at - 1) fs)) slot) (eq_differs f.slot slot differs)))
+
+-- nothing is left where the walk ends
+pub none_taken : (os : List Owned) (at start : ℕ) → at ≤ start → drop start (take at os) ≡ []
+none_taken os zero zero less = refl
+none_taken os zero (suc start) less = refl
+none_taken os (suc at) zero less = absurd (omega (arith, less))
+none_taken [] (suc at) (suc start) less = refl
+none_taken (o ∷ os) (suc at) (suc start) less = none_taken os at start (omega (arith, less))

@@ -1,6 +1,6 @@
--- What the slots of active masters hold: the objects that were declared there, and the formals of bodies the parts that they stand for.
+-- What the slots of active masters hold: the objects and collections that came there, and the formals of bodies the parts that they stand for.
 use Rattle.std.specs.Prelude.{◌≡◌, ◌≢◌, ℕ, ◌-◌, ◌<◌, ◌≤◌, List, [], ◌∷◌, Option, Some, None, length, drop, take, slice_get, nat_eq, if◌then◌else◌}
-use Rattle.ctl_meaning.specs.World.{Content, Nothing, Holds, Binds, unset, Activation}
+use Rattle.ctl_meaning.specs.World.{Content, Nothing, Holds, Binds, Gathers, unset, Activation}
 use Rattle.ctl_meaning.specs.Finalization.{Spot}
 use Rattle.ctl_meaning.specs.Lists.{item_or}
 use Rattle.ctl_machine.specs.declared.frame.Formal.{Formal}
@@ -8,12 +8,22 @@ use Rattle.ctl_machine.specs.declared.frame.Master.{Master}
 use Rattle.ctl_machine.specs.declared.frame.Holder.{Holder}
 use Rattle.ctl_machine.specs.declared.frame.Holder.TheVariants as HolderOf
 use Rattle.ctl_machine.specs.declared.frame.Owned.{Owned}
+use Rattle.ctl_machine.specs.declared.frame.Role.{Role}
+use Rattle.ctl_machine.specs.declared.frame.Role.TheVariants as RoleOf
 use Rattle.ctl_machine.specs.Spots.{whole_spot}
 
--- what a slot holds where these objects were declared in its master, the oldest first, and what it held before them
+-- what the slot of an object holds, or of a collection
+abbrev pub content_as : Role → ℕ → Content
+content_as (RoleOf.Object t) n = Holds n
+content_as (RoleOf.Collection started count) n = Gathers n
+
+abbrev pub content_of : Owned → Content
+content_of o = content_as o.role o.number
+
+-- what a slot holds where all of this came in its master, the oldest first, and what it held before
 abbrev pub holder_in : List Owned → ℕ → Content → Content
 holder_in [] slot before = before
-holder_in (o ∷ os) slot before = holder_in os slot (if nat_eq o.slot slot then Holds o.number else before)
+holder_in (o ∷ os) slot before = holder_in os slot (if nat_eq o.slot slot then content_of o else before)
 
 -- what the slot of a formal holds that stands for this part
 abbrev pub binding : Spot → Content
@@ -36,7 +46,7 @@ first_formal s = record { slot = 0; spot = s }
 abbrev pub own_formals : Master → List Formal → List Formal
 own_formals m formals = drop m.outer_formals (take m.formals formals)
 
--- what each slot of an active master holds, by the objects that the master owns and by its formals
+-- what each slot of an active master holds, by what the master owns and by its formals
 pub record IsHeld (m : Master) (a : Activation) (owned : List Owned) (formals : List Formal) : Type 0 where
   pub contents : (slot : ℕ) → slot < length a.slots → (item_or unset (slice_get a.slots slot)).content ≡ holder_in (drop m.owned owned) slot (formal_in (own_formals m formals) slot)
   pub rise : m.outer_formals ≤ m.formals
@@ -48,7 +58,7 @@ AreHeld [] [] owned formals = Unit {0}
 AreHeld (m ∷ ms) (a ∷ acts) owned formals = IsHeld m a owned formals × AreHeld ms acts (take m.owned owned) (take m.outer_formals formals)
 AreHeld _ _ owned formals = ⊥
 
--- where the objects of a master end among all of them: where those of the next newer one begin, if there is one
+-- where what a master owns ends among all that is owned: where that of the next newer one begins, if there is one
 abbrev pub own_end : Option Master → ℕ → ℕ
 own_end None total = total
 own_end (Some newer) total = newer.owned

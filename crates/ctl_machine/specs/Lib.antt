@@ -1,3 +1,5 @@
+pub mod Allocating
+pub mod Emptying
 pub mod Masters
 pub mod Under
 pub mod Shows
@@ -6,6 +8,7 @@ pub mod Machine
 pub mod Prints
 pub mod Links
 pub mod Departing
+pub mod Gathering
 pub mod GivingUp
 pub mod Finishing
 pub mod Instructions

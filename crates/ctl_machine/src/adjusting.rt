@@ -30,7 +30,7 @@ use crate::showing::show_life;
 use crate::spots::Spot;
 use ctl_code::code::{Code, Entry, Initial, Parts};
 use ctl_tree::ending::Stop;
-use ctl_tree::event::{Event, Part};
+use ctl_tree::event::{Event, Owner, Part};
 use ctl_tree::request::Order;
 use std::alloc::AllocError;
 
@@ -84,7 +84,7 @@ impl Engine {
             return;
         };
         let finalize = finalize_in(code, adjustment.record_type);
-        show_life(&mut self.events, part, master, finalize);
+        show_life(&mut self.events, part, Owner::Master(master), finalize);
         self.noted.push_reserved(spot);
     }
 

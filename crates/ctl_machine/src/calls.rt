@@ -94,6 +94,10 @@ impl Engine {
                 | Frame::Assigning { place, .. } => {
                     return self.window() + code.kinds.height_at(place, 0);
                 }
+                // The value of an allocator is not there yet.
+                Frame::Allocating { place, .. } => {
+                    return self.window() + code.kinds.height_at(place, 1);
+                }
                 _ => {}
             }
         }
@@ -163,7 +167,7 @@ impl Engine {
         ensures events { OnOk result (vec_len self.new.events < vec_capacity self.new.events) }
         ensures formals { OnOk result (vec_len self.new.formals + formals ≤ vec_capacity self.new.formals) }
         ensures number { self.new.given_masters ≡ self.old.given_masters }
-        ensures objects { self.new.given_objects ≡ self.old.given_objects }
+        ensures objects { self.new.numbered ≡ self.old.numbered }
         ensures waiting { vec_len self.new.control ≡ vec_len self.old.control }
         ensures owned { self.new.owned ≡ self.old.owned }
         ensures existing { self.new.objects ≡ self.old.objects }

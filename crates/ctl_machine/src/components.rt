@@ -27,7 +27,7 @@ use std::alloc::AllocError;
 
 impl Engine {
     /// Answers where the objects of the master at this place end among all owned objects.
-    fn own_end(&self, place: usize) -> usize
+    pub(crate) fn own_end(&self, place: usize) -> usize
         requires { place < length self.now.masters.items }
         ensures { result ≡ own_end (slice_get self.now.masters.items (place + 1)) (length self.now.owned.items) }
     {

@@ -17,7 +17,7 @@ ghost use Rattle.ctl_machine.specs.Shows as Shows;
 use crate::calls::replace_top;
 use crate::engine::Engine;
 use crate::finalizing::doubled;
-use crate::frame::{Ended, Frame, Mode};
+use crate::frame::{Ended, Frame, Mode, Role};
 use crate::layers::PROGRAM_ERROR;
 use crate::spots::Spot;
 use crate::undoing::Undone;
@@ -82,6 +82,9 @@ impl Engine {
         ensures err { OnErr result (GoesOn self.old self.new self.old.mode self.old.cells.items) }
     {
         let object = self.newest_object();
+        let Role::Object { record } = object.role else {
+            unreachable!()
+        };
         let base = self.next_window(code);
         let doubles = doubled(self.alloc, Spot::whole(self.alloc, object.number))?;
         self.prepare_finalization(code, base)?;
@@ -89,7 +92,7 @@ impl Engine {
         self.control.push_reserved(Frame::Undoing { first });
         self.begin_finalization(object.number);
         let undoing = Undone {
-            record_type: object.record,
+            record_type: record,
             first,
             base,
         };

@@ -13,11 +13,12 @@ ghost use Rattle.ctl_objects.specs.Order.{AreBelow, AreUpTo};
 
 use crate::adjusting::controlled_left;
 use crate::engine::Engine;
-use crate::frame::{Ended, Frame, Master, Mode, Owned};
+use crate::frame::{Ended, Frame, Master, Mode, Owned, Role};
 use crate::parts::{parts_of, size_of};
 use crate::spots::Spot;
 use ctl_code::code::{Code, Parts};
 use ctl_tree::ending::Stop;
+use ctl_tree::event::Owner;
 use std::alloc::AllocError;
 
 impl Engine {
@@ -28,7 +29,7 @@ impl Engine {
         ensures owned { OnOk result (vec_len self.new.owned < vec_capacity self.new.owned) }
         ensures control { OnOk result (vec_len self.new.control + 2 ≤ vec_capacity self.new.control) }
         ensures spots { OnOk result (vec_len self.new.spots < vec_capacity self.new.spots) }
-        ensures number { self.new.given_objects ≡ self.old.given_objects }
+        ensures number { self.new.numbered ≡ self.old.numbered }
     {
         self.owned.reserve(1)?;
         self.control.reserve(2)?;
@@ -47,8 +48,8 @@ impl Engine {
         size: usize,
     ) -> Result<(), AllocError>
         requires room { vec_len self.old.owned < vec_capacity self.old.owned }
-        requires number { self.old.given_objects + 1 < 2 ^ 64 }
-        requires numbers { AreBelow (self.old.given_objects + 1) self.old.objects }
+        requires number { self.old.numbered.objects + 1 < 2 ^ 64 }
+        requires numbers { AreBelow (self.old.numbered.objects + 1) self.old.objects }
         requires newest { AreUpTo newest.number self.old.objects }
         requires cell { slot < newest.slots → newest.base + slot < length self.old.cells.items }
         ensures kept { OnOk result (kept self.new ≡ with_object newest slot «record» (replicate size 0) (kept self.old)) }
@@ -56,19 +57,20 @@ impl Engine {
         ensures masters { self.new.masters ≡ self.old.masters }
         ensures control { self.new.control ≡ self.old.control }
         ensures spots { self.new.spots ≡ self.old.spots }
-        ensures number { OnOk result (self.new.given_objects ≡ self.old.given_objects + 1) }
+        ensures number { OnOk result (self.new.numbered.objects ≡ self.old.numbered.objects + 1) }
         ensures events { self.new.events ≡ self.old.events }
         ensures picks { self.new.picks ≡ self.old.picks }
     {
-        let number = self.given_objects + 1;
+        let number = self.numbered.objects + 1;
         self.objects.declare(number, record, newest.number, size)?;
-        self.given_objects = number;
+        self.numbered.objects = number;
         self.owned.push_reserved(Owned {
             number,
             slot,
-            record,
             master: newest.number,
             is_layer: false,
+            collections: self.numbered.collections,
+            role: Role::Object { record },
         });
         if slot < newest.slots {
             self.cells[newest.base + slot] = 0;
@@ -90,7 +92,7 @@ impl Engine {
         requires valid { IsValid code.now }
         requires before { Before code.now self.old place (InstrOf.Declare slot «record») s }
         requires place { place + 1 < 2 ^ 64 }
-        requires objects { self.old.given_objects + 1 < 2 ^ 64 }
+        requires objects { self.old.numbered.objects + 1 < 2 ^ 64 }
         ensures ok { OnOk result (Makes code.now self.old self.new (Table.by_instr code.now (Some (InstrOf.Declare slot «record»)) s.operands (here_of place s))) }
         ensures err { OnErr result (GoesOn self.old self.new self.old.mode self.old.cells.items) }
     {
@@ -100,8 +102,8 @@ impl Engine {
         self.create(newest, slot, record, size)?;
         self.control
             .push_reserved(Frame::Creating { place: place + 1 });
-        let spot = Spot::whole(self.alloc, self.given_objects);
-        self.begin_part(code, spot, record, newest.number);
+        let spot = Spot::whole(self.alloc, self.numbered.objects);
+        self.begin_part(code, spot, record, Owner::Master(newest.number));
         Ok(())
     }
 
@@ -125,7 +127,7 @@ impl Engine {
             record,
             left: controlled_left(code, record),
         });
-        let whole = Spot::whole(self.alloc, self.given_objects);
+        let whole = Spot::whole(self.alloc, self.numbered.objects);
         self.spots.push_reserved(whole);
         self.mode = Mode::Giving(Ended::Complete);
     }
@@ -145,7 +147,7 @@ impl Engine {
         requires valid { IsValid code.now }
         requires before { Before code.now self.old place (InstrOf.DeclareCopy slot «record») s }
         requires place { place + 1 < 2 ^ 64 }
-        requires objects { self.old.given_objects + 1 < 2 ^ 64 }
+        requires objects { self.old.numbered.objects + 1 < 2 ^ 64 }
         ensures ok { OnOk result (Makes code.now self.old self.new (Table.by_instr code.now (Some (InstrOf.DeclareCopy slot «record»)) s.operands (here_of place s))) }
         ensures err { OnErr result (GoesOn self.old self.new self.old.mode self.old.cells.items) }
     {
@@ -162,7 +164,7 @@ impl Engine {
         self.reserve_object()?;
         self.create(newest, slot, record, size)?;
         self.objects
-            .copy(source, start, self.given_objects, 0, size);
+            .copy(source, start, self.numbered.objects, 0, size);
         let _ = self.spots.take_last();
         self.adjust_new(code, record, newest.number, place + 1);
         Ok(())

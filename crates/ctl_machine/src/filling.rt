@@ -24,14 +24,15 @@ use crate::parts::{begun_at, count_begun, count_controlled, parts_of};
 use crate::spots::Spot;
 use ctl_code::code::{Begun, Code, Initial, Parts};
 use ctl_tree::ending::Stop;
+use ctl_tree::event::Owner;
 use ctl_tree::request::Order;
 use std::alloc::AllocError;
 
-/// The creation of the newest part: its record type, and the master whose object it is.
+/// The creation of the newest part: its record type, and the owner of its object.
 #[derive(Clone, Copy)]
 pub struct Creation {
     pub record_type: usize,
-    pub master: u64,
+    pub owner: Owner,
 }
 
 /// The component that is chosen: its place among those that begin with something, the number of the candidate that it was, and what is
@@ -154,12 +155,12 @@ fn complete_of(code: &Code, record: usize, incomplete: Left) -> Apart
 }
 
 impl Engine {
-    /// Begins a part of an object of this master, of a record type: its components are to begin (RM 7.6). There is room for it, and for
+    /// Begins a part of an object of this owner, of a record type: its components are to begin (RM 7.6). There is room for it, and for
     /// the frame that waits for it.
-    pub(crate) fn begin_part(&mut self, code: &Code, spot: Spot, record: usize, master: u64)
+    pub(crate) fn begin_part(&mut self, code: &Code, spot: Spot, record: usize, owner: Owner)
         ghost t: { Grown }
         requires awaits { Awaits code.now self.old t.control t.world }
-        requires is_of { IsOf «record» master t.new }
+        requires is_of { IsOf «record» owner t.new }
         requires spot { t.new.spot ≡ spot }
         requires control { vec_len self.old.control < vec_capacity self.old.control }
         requires spots { vec_len self.old.spots < vec_capacity self.old.spots }
@@ -173,7 +174,7 @@ impl Engine {
         self.spots.push_reserved(spot);
         self.control.push_reserved(Frame::Filling {
             record,
-            master,
+            owner,
             left: all,
             incomplete: all,
         });
@@ -191,7 +192,7 @@ impl Engine {
         rest: Left,
     )
         ghost t: { Grown × List Begun }
-        requires grows { Grows code.now self.old creation.record_type creation.master t.0 }
+        requires grows { Grows code.now self.old creation.record_type creation.owner t.0 }
         requires rest { AreLeft (Table.begun_of code.now creation.record_type) rest t.1 }
         ensures takes { Makes code.now self.old self.new (Table.take_default t.0.new offset value t.1 (object_at t.0.new.spot.object t.0.world) t.0.control t.0.world) }
         ensures picks { self.new.picks ≡ self.old.picks }
@@ -211,7 +212,7 @@ impl Engine {
             &mut self.control,
             Frame::Filling {
                 record: creation.record_type,
-                master: creation.master,
+                owner: creation.owner,
                 left: rest,
                 incomplete: rest,
             },
@@ -231,7 +232,7 @@ impl Engine {
         rest: Left,
     ) -> Result<(), AllocError>
         ghost t: { Grown × List Begun × List Begun }
-        requires grows { Grows code.now self.old creation.record_type creation.master t.0 }
+        requires grows { Grows code.now self.old creation.record_type creation.owner t.0 }
         requires left { AreLeft (Table.begun_of code.now creation.record_type) left t.1 }
         requires rest { AreLeft (Table.begun_of code.now creation.record_type) rest t.2 }
         ensures ok { OnOk result (Makes code.now self.old self.new (Table.begin_component code.now t.0.new component.now (ByType «record») t.2 t.1 t.0.control t.0.world)) }
@@ -247,12 +248,12 @@ impl Engine {
             &mut self.control,
             Frame::Filling {
                 record: creation.record_type,
-                master: creation.master,
+                owner: creation.owner,
                 left: rest,
                 incomplete: left,
             },
         );
-        self.begin_part(code, spot, record, creation.master);
+        self.begin_part(code, spot, record, creation.owner);
         Ok(())
     }
 
@@ -267,7 +268,7 @@ impl Engine {
         rest: Left,
     ) -> Result<(), AllocError>
         ghost t: { Grown × List Begun × List Begun }
-        requires grows { Grows code.now self.old creation.record_type creation.master t.0 }
+        requires grows { Grows code.now self.old creation.record_type creation.owner t.0 }
         requires left { AreLeft (Table.begun_of code.now creation.record_type) left t.1 }
         requires rest { AreLeft (Table.begun_of code.now creation.record_type) rest t.2 }
         ensures ok { OnOk result (Makes code.now self.old self.new (Table.begin_component code.now t.0.new component.now component.now.initial t.2 t.1 t.0.control t.0.world)) }
@@ -296,7 +297,7 @@ impl Engine {
     ) -> Result<(), AllocError>
         ghost s: { State }
         requires before { BeforeResuming code.now self.old s }
-        requires top { (incomplete : Left) × (fs : List Frame) × (reverse self.old.control.items ≡ FrameOf.Filling creation.record_type creation.master left incomplete ∷ fs) }
+        requires top { (incomplete : Left) × (fs : List Frame) × (reverse self.old.control.items ≡ FrameOf.Filling creation.record_type creation.owner left incomplete ∷ fs) }
         requires some { left.first < left.last }
         ensures ok { OnOk result ((h : Handed) → Resumes code.now self.old self.new order (Fine h) s) }
         ensures err { OnErr result (GoesOn self.old self.new self.old.mode self.old.cells.items) }
@@ -309,7 +310,7 @@ impl Engine {
         Ok(())
     }
 
-    /// Goes on with the creation of the newest part, of a record type, of an object of this master: the last one of its components that
+    /// Goes on with the creation of the newest part, of a record type, of an object of this owner: the last one of its components that
     /// have begun has ended so, some are left, and some are not complete (RM 7.6). A component is chosen by the order, or else the part is
     /// initialized, or its creation has failed (RM 7.6.1). Unchanged where memory is refused.
     pub(crate) fn resume_filling(
@@ -318,14 +319,14 @@ impl Engine {
         order: Order,
         ended: Ended,
         record: usize,
-        master: u64,
+        owner: Owner,
         left: Left,
         incomplete: Left,
     ) -> Result<(), AllocError>
         ghost s: { State }
         requires valid { IsValid code.now }
         requires before { BeforeResuming code.now self.old s }
-        requires top { (fs : List Frame) × (reverse self.old.control.items ≡ FrameOf.Filling «record» master left incomplete ∷ fs) }
+        requires top { (fs : List Frame) × (reverse self.old.control.items ≡ FrameOf.Filling «record» owner left incomplete ∷ fs) }
         requires number { self.old.given_masters + 1 < 2 ^ 64 }
         ensures ok { OnOk result (Resumes code.now self.old self.new order (tried_of ended) s) }
         ensures err { OnErr result (GoesOn self.old self.new self.old.mode self.old.cells.items) }
@@ -336,7 +337,7 @@ impl Engine {
         }
         let creation = Creation {
             record_type: record,
-            master,
+            owner,
         };
         if left.first == left.last {
             return self.initialize(code, creation);

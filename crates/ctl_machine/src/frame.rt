@@ -1,9 +1,9 @@
-//! Where the machine is, what waits on the control stack, the active masters, and the objects that they own.
+//! Where the machine is, what waits on the control stack, the active masters, and the objects and collections that they own.
 
 use crate::spots::Spot;
 use ctl_code::code::Way;
 use ctl_tree::ending::Stop;
-use ctl_tree::event::Cause;
+use ctl_tree::event::{Cause, Owner};
 
 /// How the statements of a master are completed (RM 7.6.1).
 #[derive(Clone, Copy)]
@@ -69,7 +69,7 @@ pub enum Value {
 pub enum Frame {
     /// the statements of a master
     InMaster(Handling, After),
-    /// the layers of a master that are still to be left: no owned object from `next` on is one. Whether a finalization failed, and
+    /// the layers of a master that are still to be left: nothing that is owned from `next` on is one. Whether a finalization failed, and
     /// how its statements were completed (RM 7.6.1)
     Leaving {
         failed: bool,
@@ -81,24 +81,29 @@ pub enum Frame {
     Creating {
         place: usize,
     },
+    /// the creation of an allocated object of this number is under way, or failed, and the place where its allocator goes on (RM 4.8)
+    Allocating {
+        object: u64,
+        place: usize,
+    },
     /// the newest owned object has taken a value and is adjusted: those of its parts that are adjusted are noted from `first` on; and the
     /// place where its declaration goes on (RM 3.3.1, 7.6)
     Copying {
         place: usize,
         first: usize,
     },
-    /// the newest part among those of the engine, of a record type, is created for an object of this master: of the components of its type
+    /// the newest part among those of the engine, of a record type, is created for an object of this owner: of the components of its type
     /// that begin with something, those that are left, and those that are not complete (RM 3.8, 7.6)
     Filling {
         record: usize,
-        master: u64,
+        owner: Owner,
         left: Left,
         incomplete: Left,
     },
-    /// the Initialize of the newest part, of a record type, which is created for an object of this master (RM 7.6)
+    /// the Initialize of the newest part, of a record type, which is created for an object of this owner (RM 7.6)
     Initializing {
         record: usize,
-        master: u64,
+        owner: Owner,
     },
     /// the creation of the newest part failed by this exception, and what is complete of it is finalized (RM 7.6.1)
     Failing {
@@ -143,8 +148,14 @@ pub enum Frame {
         count: usize,
         first: usize,
     },
-    /// the finalization of an owned object, by its place
-    Finalizing(usize),
+    /// the members of some collections, from this one to this one, are finalized, and whether a finalization failed (RM 7.6.1)
+    Emptying {
+        first: u64,
+        last: u64,
+        failed: bool,
+    },
+    /// the finalization of the object of this number
+    Finalizing(u64),
     /// the Finalize of the newest part, of a record type, for this cause (RM 7.6.1)
     FinalizingOwn {
         cause: Cause,
@@ -185,7 +196,7 @@ pub struct Master {
     pub link: usize,
     /// how many masters a place in it sees, itself included
     pub depth: usize,
-    /// how many objects were owned when it was entered
+    /// how many objects and collections were owned when it was entered
     pub owned: usize,
     /// how many formals of older masters stood for parts of objects when it was entered, and how many do with its own
     pub outer_formals: usize,
@@ -208,14 +219,34 @@ pub enum Holder {
     Bound(usize),
 }
 
-/// A declared object of a record type, and its master.
+/// What is owned.
+#[derive(Clone, Copy)]
+pub enum Role {
+    /// a declared object, of this record type (RM 3.3.1)
+    Object { record: usize },
+    /// the collection of an access type, and whether its finalization has started; where it is a layer, it stands for as many collections
+    /// as `count` says, which came one after another, itself the last (RM 3.10, 7.6.1)
+    Collection { started: bool, count: usize },
+}
+
+/// A declared object or a collection, and its master.
 #[derive(Clone, Copy)]
 pub struct Owned {
+    /// the number of the object, or of the collection
     pub number: u64,
     /// the slot of its declaration in its master
     pub slot: usize,
-    pub record: usize,
     pub master: u64,
     /// whether it is a layer of its master: from the end of its creation on, until it is taken out (RM 7.6.1)
     pub is_layer: bool,
+    /// how many collections were given a number when it came, itself included
+    pub collections: u64,
+    pub role: Role,
+}
+
+/// How many objects and collections were given a number; the first of each has number 1.
+#[derive(Clone, Copy)]
+pub struct Numbered {
+    pub objects: u64,
+    pub collections: u64,
 }

@@ -21,7 +21,7 @@ use crate::parts::parts_of;
 use crate::showing::show_life;
 use ctl_code::code::{Code, Entry, Parts};
 use ctl_tree::ending::Stop;
-use ctl_tree::event::Event;
+use ctl_tree::event::{Event, Owner};
 use std::alloc::AllocError;
 
 /// Answers the body that the user wrote for the Initialize of a record type, if there is one (RM 7.6).
@@ -62,7 +62,7 @@ impl Engine {
     #[inline(always)]
     fn complete(&mut self, code: &Code, creation: Creation) -> Result<(), AllocError>
         ghost t: { Grown }
-        requires grows { Grows code.now self.old creation.record_type creation.master t }
+        requires grows { Grows code.now self.old creation.record_type creation.owner t }
         ensures ok { OnOk result (Makes code.now self.old self.new (Table.completed code.now t.new t.control t.world)) }
         ensures err { OnErr result (GoesOn self.old self.new self.old.mode self.old.cells.items) }
     {
@@ -70,7 +70,7 @@ impl Engine {
         let part = self.spots[newest].part(self.alloc)?;
         self.events.reserve(1)?;
         let finalize = finalize_in(code, creation.record_type);
-        show_life(&mut self.events, part, creation.master, finalize);
+        show_life(&mut self.events, part, creation.owner, finalize);
         self.end_part(Mode::Giving(Ended::Complete));
         Ok(())
     }
@@ -86,8 +86,8 @@ impl Engine {
     ) -> Result<(), AllocError>
         ghost t: { Grown × Object }
         requires valid { IsValid code.now }
-        requires grows { Grows code.now self.old creation.record_type creation.master t.0 }
-        requires part { IsObject self.old.objects t.0.new.spot.object master t.1 }
+        requires grows { Grows code.now self.old creation.record_type creation.owner t.0 }
+        requires part { IsObject self.old.owned.items self.old.objects t.0.new.spot.object master t.1 }
         requires body { IsInitializeOf code.now creation.record_type entry.now }
         requires number { self.old.given_masters + 1 < 2 ^ 64 }
         ensures ok { OnOk result (Makes code.now self.old self.new (Table.initialize_by code.now (Table.operation_of (λ x. x.initialize) code.now creation.record_type) t.0.new (object_at t.0.new.spot.object t.0.world) t.0.control t.0.world)) }
@@ -103,7 +103,7 @@ impl Engine {
             &mut self.control,
             Frame::Initializing {
                 record: creation.record_type,
-                master: creation.master,
+                owner: creation.owner,
             },
         );
         self.call_operation(code, entry, master, base, Event::Initialize(part), spot);
@@ -115,7 +115,7 @@ impl Engine {
     fn initialize_controlled(&mut self, code: &Code, creation: Creation) -> Result<(), AllocError>
         ghost t: { Grown }
         requires valid { IsValid code.now }
-        requires grows { Grows code.now self.old creation.record_type creation.master t }
+        requires grows { Grows code.now self.old creation.record_type creation.owner t }
         requires number { self.old.given_masters + 1 < 2 ^ 64 }
         ensures ok { OnOk result (Makes code.now self.old self.new (Table.initialize_by code.now (Table.operation_of (λ x. x.initialize) code.now creation.record_type) t.new (object_at t.new.spot.object t.world) t.control t.world)) }
         ensures err { OnErr result (GoesOn self.old self.new self.old.mode self.old.cells.items) }
@@ -137,7 +137,7 @@ impl Engine {
     pub(crate) fn initialize(&mut self, code: &Code, creation: Creation) -> Result<(), AllocError>
         ghost t: { Grown }
         requires valid { IsValid code.now }
-        requires grows { Grows code.now self.old creation.record_type creation.master t }
+        requires grows { Grows code.now self.old creation.record_type creation.owner t }
         requires number { self.old.given_masters + 1 < 2 ^ 64 }
         ensures ok { OnOk result (Makes code.now self.old self.new (Table.initialize_own code.now (Table.parts_of code.now t.new.type) t.new t.control t.world)) }
         ensures err { OnErr result (GoesOn self.old self.new self.old.mode self.old.cells.items) }
@@ -158,11 +158,11 @@ impl Engine {
         code: &Code,
         ended: Ended,
         record: usize,
-        master: u64,
+        owner: Owner,
     ) -> Result<(), AllocError>
         ghost s: { State }
         requires before { BeforeResuming code.now self.old s }
-        requires top { (fs : List Frame) × (reverse self.old.control.items ≡ FrameOf.Initializing «record» master ∷ fs) }
+        requires top { (fs : List Frame) × (reverse self.old.control.items ≡ FrameOf.Initializing «record» owner ∷ fs) }
         ensures ok { OnOk result (Makes code.now self.old self.new (Table.act code.now (Giving (Shows.tried_of ended)) s.control s.operands s.world 0)) }
         ensures err { OnErr result (GoesOn self.old self.new self.old.mode self.old.cells.items) }
     {
@@ -171,7 +171,7 @@ impl Engine {
         }
         let creation = Creation {
             record_type: record,
-            master,
+            owner,
         };
         self.complete(code, creation)
     }

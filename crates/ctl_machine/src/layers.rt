@@ -1,9 +1,10 @@
-//! The layers of a master: its owned objects, which are left one by one, the newest first, and finalized where some part of them is
-//! controlled (RM 7.6.1).
+//! The layers of a master, which are left one by one, the newest first: objects are finalized where some part of them is controlled
+//! (RM 7.6.1); and how what it owned goes.
 
-ghost use Rattle.std.specs.Prelude.{◌≡◌, ◌||◌, ◌+◌, ◌<◌, [], ◌∷◌, List, IfNone, IfSome, None, Some, drop, reverse, slice_get, slice_set, vec_capacity, vec_len};
+ghost use Rattle.std.specs.Prelude.{◌≡◌, ◌||◌, ◌+◌, ◌<◌, ◌≤◌, ℕ, [], ◌∷◌, List, IfNone, IfSome, IsFalse, None, Some, drop, length, reverse, slice_get, slice_set, take, vec_capacity, vec_len};
 ghost use Rattle.ctl_meaning.specs.Objects.{change_in, with_begun};
 ghost use Rattle.ctl_meaning.specs.Outcome.{Fine};
+ghost use Rattle.ctl_meaning.specs.World.{Object};
 ghost use Rattle.ctl_code.specs.States.{Giving, State};
 ghost use Rattle.ctl_code.specs.Table as Table;
 ghost use Rattle.ctl_code.specs.Valid.{IsValid};
@@ -12,13 +13,16 @@ ghost use Rattle.ctl_machine.specs.declared.frame.Frame.TheVariants as FrameOf;
 ghost use Rattle.ctl_machine.specs.declared.frame.Owned.{Owned};
 ghost use Rattle.ctl_machine.specs.Departing.{IsFinalizeOf, IsNewestLayer, TakesOut, out};
 ghost use Rattle.ctl_machine.specs.Masters.{layers_from, rising_layers};
+ghost use Rattle.ctl_machine.specs.Owned.{HaveCome, remaining, set_numbers, sets_owned};
+ghost use Rattle.ctl_objects.specs.Order.{AreUpTo};
 ghost use Rattle.ctl_machine.specs.Moves.{BeforeResuming, Makes};
 ghost use Rattle.ctl_machine.specs.Shows as Shows;
 
 use crate::calls::{Departure, replace_top};
 use crate::engine::Engine;
-use crate::frame::{Completion, Ended, Frame, Master, Mode};
+use crate::frame::{Completion, Ended, Frame, Master, Mode, Owned, Role};
 use ctl_code::code::{Code, Entry, Way};
+use ctl_objects::Objects;
 
 /// The number of Program_Error in the table of exceptions (RM 11.1).
 pub(crate) const PROGRAM_ERROR: usize = 1;
@@ -71,8 +75,56 @@ pub(crate) fn finalize_of(code: &Code, record_type: usize) -> Option<Entry>
     Some(code.entries[finalize])
 }
 
+/// Tells whether something that came from this place on may be a collection: nothing is, if no collection was given a number since what came
+/// before it.
+fn may_gather(owned: &[Owned], start: usize) -> bool
+    requires bound { start ≤ length owned.now }
+    requires come { (given : ℕ) × HaveCome 0 owned.now given }
+    ensures { IsFalse result → sets_owned (drop start owned.now) ≡ [] }
+{
+    let before = if start == 0 {
+        0
+    } else {
+        owned[start - 1].collections
+    };
+    match owned {
+        [.., newest] => newest.collections > before,
+        [] => false,
+    }
+}
+
+/// Forgets the objects of the collections that came from this place on, which belong to this master, behind its own (RM 7.6.1); no declared
+/// object has a greater master.
+fn forget_gathered(owned: &[Owned], start: usize, objects: &mut Objects, master: u64)
+    requires bound { start ≤ length owned.now }
+    requires masters { AreUpTo master objects.old }
+    ensures { (all : List Object) → objects.old ≡ remaining master [] all → objects.new ≡ remaining master (set_numbers (drop start owned.now)) all }
+{
+    for at in start..owned.len() {
+        if let Role::Collection { .. } = owned[at].role {
+            objects.close_master(master, &[owned[at].number]);
+        }
+    }
+}
+
+/// Forgets what a master owned, which is what came last: its objects, and its collections with theirs (RM 7.6.1). No declared object has a
+/// greater master.
+pub(crate) fn forget_owned(owned: &mut Vec<Owned>, objects: &mut Objects, master: &Master)
+    requires bound { master.now.owned ≤ length owned.old.items }
+    requires come { (given : ℕ) × HaveCome 0 owned.old.items given }
+    requires masters { AreUpTo master.now.number objects.old }
+    ensures owned { owned.new.items ≡ take master.now.owned owned.old.items }
+    ensures objects { objects.new ≡ remaining master.now.number (set_numbers (drop master.now.owned owned.old.items)) objects.old }
+{
+    objects.close_master(master.number, &[]);
+    if may_gather(owned.as_slice(), master.owned) {
+        forget_gathered(owned.as_slice(), master.owned, objects, master.number);
+    }
+    owned.truncate(master.owned);
+}
+
 impl Engine {
-    /// Finds the newest layer of the newest master (RM 7.6.1): it lies below this place, from which on no owned object is a layer.
+    /// Finds the newest layer of the newest master (RM 7.6.1): it lies below this place, from which on nothing that is owned is a layer.
     pub(crate) fn newest_layer(&self, master: &Master, next: usize) -> Option<usize>
         requires { rising_layers (drop next self.now.owned.items) ≡ [] }
         ensures some { IfSome result (λ at. (o : Owned) × IsNewestLayer master.now self.now.owned.items at o) }
@@ -94,7 +146,8 @@ impl Engine {
         ghost o: { Owned }
         requires found { slice_get self.old.owned.items at ≡ Some o }
         requires waiting { 0 < vec_len self.old.control }
-        ensures { TakesOut self.old self.new departure.failed departure.pending departure.after at (out o) }
+        ensures taken { TakesOut self.old self.new departure.failed departure.pending departure.after at (out o) }
+        ensures room { (vec_len self.new.control ≡ vec_len self.old.control) × (vec_capacity self.new.control ≡ vec_capacity self.old.control) }
     {
         self.owned[at].is_layer = false;
         replace_top(&mut self.control, departure.frame(at));
@@ -108,7 +161,7 @@ impl Engine {
         requires found { slice_get self.old.owned.items at ≡ Some o }
         requires top { 0 < vec_len self.old.control }
         requires control { vec_len self.old.control < vec_capacity self.old.control }
-        ensures control { reverse self.new.control.items ≡ FrameOf.Finalizing at ∷ FrameOf.Leaving departure.failed departure.pending departure.after at ∷ drop 1 (reverse self.old.control.items) }
+        ensures control { reverse self.new.control.items ≡ FrameOf.Finalizing o.number ∷ FrameOf.Leaving departure.failed departure.pending departure.after at ∷ drop 1 (reverse self.old.control.items) }
         ensures room { vec_len self.new.control ≡ vec_len self.old.control + 1 }
         ensures capacity { vec_capacity self.new.control ≡ vec_capacity self.old.control }
         ensures owned { self.new.owned.items ≡ slice_set self.old.owned.items at (out o) }
@@ -119,7 +172,7 @@ impl Engine {
         ensures noted { self.new.noted ≡ self.old.noted }
         ensures formals { self.new.formals ≡ self.old.formals }
         ensures spots { self.new.spots ≡ self.old.spots }
-        ensures numbers { (self.new.given_masters ≡ self.old.given_masters) × (self.new.given_objects ≡ self.old.given_objects) }
+        ensures numbers { (self.new.given_masters ≡ self.old.given_masters) × (self.new.numbered ≡ self.old.numbered) }
         ensures events { self.new.events ≡ self.old.events }
         ensures picks { self.new.picks ≡ self.old.picks }
     {
@@ -128,19 +181,18 @@ impl Engine {
         let number = object.number;
         self.objects.begin_finalization(number);
         replace_top(&mut self.control, departure.frame(at));
-        self.control.push_reserved(Frame::Finalizing(at));
+        self.control.push_reserved(Frame::Finalizing(number));
     }
 
-    /// Notes that the finalization of an owned object has ended, and hands on whether it failed (RM 7.6.1).
-    pub(crate) fn resume_finalizing(&mut self, code: &Code, ended: Ended, at: usize)
+    /// Notes that the finalization of the object of this number has ended, and hands on whether it failed (RM 7.6.1).
+    pub(crate) fn resume_finalizing(&mut self, code: &Code, ended: Ended, number: u64)
         ghost s: { State }
         requires valid { IsValid code.now }
         requires before { BeforeResuming code.now self.old s }
-        requires top { (fs : List Frame) × (reverse self.old.control.items ≡ FrameOf.Finalizing at ∷ fs) }
+        requires top { (fs : List Frame) × (reverse self.old.control.items ≡ FrameOf.Finalizing number ∷ fs) }
         ensures done { Makes code.now self.old self.new (Table.act code.now (Giving (Shows.tried_of ended)) s.control s.operands s.world 0) }
     {
         let _ = code;
-        let number = self.owned[at].number;
         self.objects.end_finalization(number);
         let _ = self.control.take_last();
         self.mode = Mode::Giving(remembered(ended));

@@ -3,6 +3,7 @@
 
 mod adjusting;
 mod advance;
+mod allocating;
 mod assign;
 mod begin;
 mod calls;
@@ -10,6 +11,8 @@ mod components;
 mod computing;
 mod creating;
 mod declare;
+mod dereferencing;
+mod emptying;
 mod engine;
 mod failing;
 mod filling;

@@ -17,13 +17,12 @@ pub(crate) fn whole(alloc: Global, object: u64) -> Part
     }
 }
 
-/// Shows that a part of an object of this master has come to life, where the user wrote a Finalize for its type (RM 7.6).
-#[tactic(auto, unfolding(ctl_meaning::specs::Changes::owner_of))]
-pub(crate) fn show_life(events: &mut Vec<Event>, part: Part, master: u64, finalize: Option<usize>)
+/// Shows that a part of an object of this owner has come to life, where the user wrote a Finalize for its type (RM 7.6).
+pub(crate) fn show_life(events: &mut Vec<Event>, part: Part, owner: Owner, finalize: Option<usize>)
     requires { vec_len events.old < vec_capacity events.old }
-    ensures { events.new.items ≡ events.old.items ++ Table.birth finalize part master }
+    ensures { events.new.items ≡ events.old.items ++ Table.birth finalize part owner }
 {
     if finalize.is_some() {
-        events.push_reserved(Event::Live(part, Owner::Master(master)));
+        events.push_reserved(Event::Live(part, owner));
     }
 }

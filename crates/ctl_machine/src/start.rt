@@ -6,7 +6,7 @@ ghost use Rattle.ctl_code.specs.Valid.{IsValid};
 ghost use Rattle.ctl_machine.specs.Shows.{Shows};
 
 use crate::engine::Engine;
-use crate::frame::Mode;
+use crate::frame::{Mode, Numbered};
 use ctl_code::code::Code;
 use ctl_objects::Objects;
 use ctl_tree::event::Event;
@@ -32,7 +32,10 @@ impl Engine {
             saved: Vec::new(alloc),
             noted: Vec::new(alloc),
             given_masters: 0,
-            given_objects: 0,
+            numbered: Numbered {
+                objects: 0,
+                collections: 0,
+            },
             events: Vec::new(alloc),
             picks: Vec::new(alloc),
         })
@@ -56,7 +59,7 @@ impl Engine {
             saved: _,
             noted: _,
             given_masters: _,
-            given_objects: _,
+            numbered: _,
             events,
             picks,
         } = self;

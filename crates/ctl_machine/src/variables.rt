@@ -90,13 +90,13 @@ impl Engine {
         ghost s: { State }
         requires before { Before code.now self.old place InstrOf.Number s }
         requires place { place + 1 < 2 ^ 64 }
-        requires number { self.old.given_objects + 1 < 2 ^ 64 }
+        requires number { self.old.numbered.objects + 1 < 2 ^ 64 }
         ensures makes { Makes code.now self.old (moded self.new result) (Table.by_instr code.now (Some InstrOf.Number) s.operands (here_of place s)) }
         ensures going { IsGoing result }
         ensures masters { self.new.masters ≡ self.old.masters }
     {
         let _ = code;
-        self.given_objects += 1;
+        self.numbered.objects += 1;
         Mode::At(place + 1)
     }
 

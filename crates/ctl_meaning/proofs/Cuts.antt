@@ -22,6 +22,7 @@ use Rattle.ctl_meaning.specs.Advance.{IsAtMost}
 use Rattle.ctl_meaning.specs.Cuts.{CutForCause}
 use Rattle.ctl_meaning.proofs.Due.{count, named, due_as, edits_count, begins_count, joins_count, group_members, pulled_among}
 use Rattle.ctl_meaning.proofs.Relation.{Edit, Closed}
+use Rattle.ctl_meaning.proofs.Induction.{k_finalize_begun}
 use Rattle.ctl_meaning.proofs.Bodies.{good_run_number, good_allocate}
 
 module _ (tables : Tables) (ask : Ask) where
@@ -363,6 +364,13 @@ module _ (program : Checked) (ask : Ask) where
   executes (suc n) (OfSubprogram f ss) env = λ bound e.
       record { from = λ c l w i. (spends_below of ask bound (λ b k v h. looser of ask bound b (b + count of v) _ ((counts of ask b 1 (run_bounded n b (omega arith) (executes n) env ss f)).from b k v (omega arith)))).from c l w i }
   executes (suc n) (OfAllocator a ty h v) env = λ c l w e. joined_in of ask c _ (allocate_bounded n c (omega arith) (executes n) env a ty h v) c l w (omega arith)
+
+  -- the finalization of an object, whatever components begin with
+  pub begun_bounded : (n bound : ℕ) → bound < n → (default : Default) (cause : Cause) (m : Member) → UpTo of ask bound (finalize_begun (record { ask = ask; tables = of; call = deep n; default = default }) cause m)
+  begun_bounded n bound e default cause m = k_finalize_begun of ask ask (deep n) (deep n) default default (Rel bound) (closed of ask bound)
+      (λ g xs d. executes n (OfSubprogram g xs) d bound e)
+      (λ d a ty m1 m2 i. takes_one of ask bound (λ p. deep n (OfAllocator a ty p.0 p.1) d) m1 (λ p c l w j. executes n (OfAllocator a ty p.0 p.1) d c l w (omega arith)) i)
+      cause m
 
   -- a whole run
   pub runs : (clock : ℕ) → Sound of ask clock (clock + count of empty_world) (run program ask clock)

@@ -330,66 +330,69 @@ module _ (t : Tables) (ask other : Ask) (call spare : Caller) (default fallback 
       copied = λ n ty b h. (λ env. k_ticked (h (category_of ty) env), λ f. k_by_copy _ b f);
     }
 
+    -- Finalize ------------------------------------------------------------------
+
+    k_with_home : {A : Type 0} (n : ℕ) {f g : List ℕ → Act A} → ((d : List ℕ) → Same (f d) (g d)) → Same (with_home n f) (with_home n g)
+    unfolding with_home
+    k_with_home n h = k_existing n (λ o. closed.looks (λ w. h _))
+
+    k_call_operation : (s : Spot) (o : Option ℕ) (e : Event) → Same (call_operation k s o e) (call_operation j s o e)
+    unfolding call_operation
+    k_call_operation s None e = k_ticked (k_must_exist _)
+    k_call_operation s (Some f) e = k_with_home _ (λ d. k_then (k_then (closed.shows e) (calls _ _ d)) k_nothing)
+
+    k_after_finalize : (cause : Cause) (r : Tried Done) → Same (after_finalize cause r) (after_finalize cause r)
+    unfolding after_finalize
+    k_after_finalize CauseOf.TheVariants.Scope (Fine a) = k_done _
+    k_after_finalize CauseOf.TheVariants.Scope (Raised e) = k_done _
+    k_after_finalize CauseOf.TheVariants.Collection (Fine a) = k_done _
+    k_after_finalize CauseOf.TheVariants.Collection (Raised e) = k_done _
+    k_after_finalize CauseOf.TheVariants.Free (Fine a) = k_done _
+    k_after_finalize CauseOf.TheVariants.Free (Raised e) = k_done _
+    k_after_finalize CauseOf.TheVariants.Subpool (Fine a) = k_done _
+    k_after_finalize CauseOf.TheVariants.Subpool (Raised e) = k_done _
+    k_after_finalize CauseOf.TheVariants.Assign (Fine a) = k_done _
+    k_after_finalize CauseOf.TheVariants.Assign (Raised e) = k_raise _
+    k_after_finalize CauseOf.TheVariants.Failed (Fine a) = k_done _
+    k_after_finalize CauseOf.TheVariants.Failed (Raised e) = k_done _
+
+    k_own_finalize : (cause : Cause) (want : Chosen) (s : Spot) (u : ℕ) → Same (own_finalize k cause want s u) (own_finalize j cause want s u)
+    unfolding own_finalize
+    k_own_finalize cause want s u = k_either _ (k_seq (k_attempt (k_call_operation s _ _)) (λ r. k_after_finalize cause r)) (k_done _)
+
+    k_in_any_order : (f g : Placed → Act Bool) → ((p : Placed) → Same (f p) (g p)) → (n : ℕ) (left : List Placed) (b : Bool) → Same (in_any_order k f n left b) (in_any_order j g n left b)
+    unfolding in_any_order
+    k_in_any_order f g h zero left b = k_done b
+    k_in_any_order f g h (suc n) left b = k_seq (k_choose (suc n)) (λ i. k_seq (h (pull_item no_component i left)) (λ c. k_in_any_order f g h n (pull_rest i left) (b || c)))
+
+    k_finalize_part : (cause : Cause) (want : Chosen) (n : ℕ) (s : Spot) (u : ℕ) → Same (finalize_part k cause want n s u) (finalize_part j cause want n s u)
+    unfolding finalize_part own_finalize parts_to_finalize
+    k_finalize_part cause want zero s u = k_done _
+    k_finalize_part cause want (suc n) s u =
+        k_ticked (k_seq (k_own_finalize cause want s u) (λ b. k_in_any_order _ _ (λ p. k_of_record p.ty (k_done _) (λ x. k_finalize_part cause want n (component_at s p) x)) _ _ b))
+
+    k_finalize : (cause : Cause) (want : Chosen) (s : Spot) (u : ℕ) → Same (finalize k cause want s u) (finalize j cause want s u)
+    unfolding finalize
+    k_finalize cause want s u = k_finalize_part cause want (depth t) s u
+
+    -- the finalization of an object begins with no default
+    pub k_finalize_begun : (cause : Cause) (m : Member) → Same (finalize_begun k cause m) (finalize_begun j cause m)
+    unfolding finalize_begun
+    k_finalize_begun cause m = k_seq (k_of_record m.ty (k_done _) (λ u. k_finalize cause Every (whole m.number) u)) (λ b. k_then (closed.changes (ends _)) (k_done b))
+
+    k_finalize_object : (cause : Cause) (m : Member) → Same (finalize_object k cause m) (finalize_object j cause m)
+    unfolding finalize_object
+    k_finalize_object cause m = k_then (k_then (k_must_exist _) (closed.changes (begins _))) (k_finalize_begun cause m)
+
+    k_finalize_failed : (paths : List (List ℕ)) (s : Spot) (u : ℕ) → Same (finalize_failed k paths s u) (finalize_failed j paths s u)
+    unfolding finalize_failed
+    k_finalize_failed paths s u = k_seq (k_finalize _ (These paths) s u) (λ b. k_then (k_when _ (closed.changes (ends _))) (k_done b))
+
+    k_finalize_group : (cause : Cause) (g : Group) → Same (finalize_group k cause g) (finalize_group j cause g)
+    k_finalize_group cause g = closed.finishes call spare default fallback cause g (k_finalize_begun cause)
+
     module _ (values : Starts) where
-      -- Finalize, Adjust, Initialize ------------------------------------------------
-
-      k_with_home : {A : Type 0} (n : ℕ) {f g : List ℕ → Act A} → ((d : List ℕ) → Same (f d) (g d)) → Same (with_home n f) (with_home n g)
-      unfolding with_home
-      k_with_home n h = k_existing n (λ o. closed.looks (λ w. h _))
-
-      k_call_operation : (s : Spot) (o : Option ℕ) (e : Event) → Same (call_operation k s o e) (call_operation j s o e)
-      unfolding call_operation
-      k_call_operation s None e = k_ticked (k_must_exist _)
-      k_call_operation s (Some f) e = k_with_home _ (λ d. k_then (k_then (closed.shows e) (calls _ _ d)) k_nothing)
-
-      k_after_finalize : (cause : Cause) (r : Tried Done) → Same (after_finalize cause r) (after_finalize cause r)
-      unfolding after_finalize
-      k_after_finalize CauseOf.TheVariants.Scope (Fine a) = k_done _
-      k_after_finalize CauseOf.TheVariants.Scope (Raised e) = k_done _
-      k_after_finalize CauseOf.TheVariants.Collection (Fine a) = k_done _
-      k_after_finalize CauseOf.TheVariants.Collection (Raised e) = k_done _
-      k_after_finalize CauseOf.TheVariants.Free (Fine a) = k_done _
-      k_after_finalize CauseOf.TheVariants.Free (Raised e) = k_done _
-      k_after_finalize CauseOf.TheVariants.Subpool (Fine a) = k_done _
-      k_after_finalize CauseOf.TheVariants.Subpool (Raised e) = k_done _
-      k_after_finalize CauseOf.TheVariants.Assign (Fine a) = k_done _
-      k_after_finalize CauseOf.TheVariants.Assign (Raised e) = k_raise _
-      k_after_finalize CauseOf.TheVariants.Failed (Fine a) = k_done _
-      k_after_finalize CauseOf.TheVariants.Failed (Raised e) = k_done _
-
-      k_own_finalize : (cause : Cause) (want : Chosen) (s : Spot) (u : ℕ) → Same (own_finalize k cause want s u) (own_finalize j cause want s u)
-      unfolding own_finalize
-      k_own_finalize cause want s u = k_either _ (k_seq (k_attempt (k_call_operation s _ _)) (λ r. k_after_finalize cause r)) (k_done _)
-
-      k_in_any_order : (f g : Placed → Act Bool) → ((p : Placed) → Same (f p) (g p)) → (n : ℕ) (left : List Placed) (b : Bool) → Same (in_any_order k f n left b) (in_any_order j g n left b)
-      unfolding in_any_order
-      k_in_any_order f g h zero left b = k_done b
-      k_in_any_order f g h (suc n) left b = k_seq (k_choose (suc n)) (λ i. k_seq (h (pull_item no_component i left)) (λ c. k_in_any_order f g h n (pull_rest i left) (b || c)))
-
-      k_finalize_part : (cause : Cause) (want : Chosen) (n : ℕ) (s : Spot) (u : ℕ) → Same (finalize_part k cause want n s u) (finalize_part j cause want n s u)
-      unfolding finalize_part own_finalize parts_to_finalize
-      k_finalize_part cause want zero s u = k_done _
-      k_finalize_part cause want (suc n) s u =
-          k_ticked (k_seq (k_own_finalize cause want s u) (λ b. k_in_any_order _ _ (λ p. k_of_record p.ty (k_done _) (λ x. k_finalize_part cause want n (component_at s p) x)) _ _ b))
-
-      k_finalize : (cause : Cause) (want : Chosen) (s : Spot) (u : ℕ) → Same (finalize k cause want s u) (finalize j cause want s u)
-      unfolding finalize
-      k_finalize cause want s u = k_finalize_part cause want (depth t) s u
-
-      k_finalize_begun : (cause : Cause) (m : Member) → Same (finalize_begun k cause m) (finalize_begun j cause m)
-      unfolding finalize_begun
-      k_finalize_begun cause m = k_seq (k_of_record m.ty (k_done _) (λ u. k_finalize cause Every (whole m.number) u)) (λ b. k_then (closed.changes (ends _)) (k_done b))
-
-      k_finalize_object : (cause : Cause) (m : Member) → Same (finalize_object k cause m) (finalize_object j cause m)
-      unfolding finalize_object
-      k_finalize_object cause m = k_then (k_then (k_must_exist _) (closed.changes (begins _))) (k_finalize_begun cause m)
-
-      k_finalize_failed : (paths : List (List ℕ)) (s : Spot) (u : ℕ) → Same (finalize_failed k paths s u) (finalize_failed j paths s u)
-      unfolding finalize_failed
-      k_finalize_failed paths s u = k_seq (k_finalize _ (These paths) s u) (λ b. k_then (k_when _ (closed.changes (ends _))) (k_done b))
-
-      k_finalize_group : (cause : Cause) (g : Group) → Same (finalize_group k cause g) (finalize_group j cause g)
-      k_finalize_group cause g = closed.finishes call spare default fallback cause g (k_finalize_begun cause)
+      -- Adjust, Initialize --------------------------------------------------------
 
       k_lives : (b : Birth) (s : Spot) (u : ℕ) → Same (lives k b s u) (lives j b s u)
       unfolding lives

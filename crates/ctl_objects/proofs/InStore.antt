@@ -10,7 +10,7 @@ use Rattle.ctl_meaning.specs.World as W
 use Rattle.ctl_meaning.specs.World.{Object}
 use Rattle.ctl_meaning.specs.Lists.{item_or, keep, opened_lists}
 use Rattle.ctl_meaning.specs.Names.{scalar_of}
-use Rattle.ctl_meaning.specs.Objects.{cells_at, change_in, first_cells, object_in, with_cells, with_finalized, opened_objects}
+use Rattle.ctl_meaning.specs.Objects.{cells_at, change_in, first_cells, is_of_set, object_in, with_cells, with_finalized, opened_objects}
 use Rattle.ctl_meaning.specs.Changes.{new_object, opened_changes}
 use Rattle.number_map.specs.Table.{change}
 use Rattle.number_map.proofs.Changes.{get_dropped, get_here, get_put, get_there, insert_same}
@@ -24,6 +24,7 @@ use Rattle.ctl_objects.specs.declared.existing.Step.{Step}
 use Rattle.ctl_objects.specs.declared.existing.Step.TheVariants as StepOf
 use Rattle.ctl_objects.specs.Order.{AreBelow}
 use Rattle.ctl_objects.specs.Stages.{ended, start, state_of, with_step}
+use Rattle.ctl_objects.specs.Sets.{is_member}
 use Rattle.ctl_objects.specs.InStore.{AreStored, IsStored, allocated, moved, seen, words_written}
 use Rattle.ctl_objects.proofs.Found.{length_set}
 use Rattle.ctl_objects.proofs.Laid.{get_dropped as cell_dropped, overwritten_is, scalar_first}
@@ -57,6 +58,15 @@ found_here os s n a there = in_seen os s n ∙ ap (option_map (λ a. allocated n
 
 pub found_none : (os : Objects) (s : Store) (n : ℕ) → get os n ≡ None → object_in n (seen os s) ≡ None
 found_none os s n none = in_seen os s n ∙ ap (option_map (λ a. allocated n a (words_of n s))) none
+
+-- whether it is of a collection
+pub member_stored : (os : Objects) (s : Store) (n set : ℕ) (r : Option Allocation) → r ≡ get os n → is_member set n (seen os s) ≡ option_map_or (λ a. nat_eq a.collection set) r false
+unfolding opened_objects
+member_stored os s n set r is = ap (λ o. option_map_or (λ (x : Object). is_of_set set x.origin) o false) (in_seen os s n ∙ ap (option_map (λ a. allocated n a (words_of n s))) (sym is)) ∙ by r
+  where
+    by : (o : Option Allocation) → option_map_or (λ (x : Object). is_of_set set x.origin) (option_map (λ a. allocated n a (words_of n s)) o) false ≡ option_map_or (λ a. nat_eq a.collection set) o false
+    by None = refl
+    by (Some a) = refl
 
 -- its cells are as many as it says
 pub as_many : (os : Objects) (s : Store) (n : ℕ) (a : Allocation) → AreStored os s → get os n ≡ Some a → a.cells ≡ length (words_of n s)

@@ -9,3 +9,5 @@ pub mod Both
 pub mod Runs
 pub mod Conditions
 pub mod Apart
+pub mod Members
+pub mod Counted

@@ -1,182 +1,263 @@
--- Objects that are listed for their collections: what is listed, and that each object still is.
-use Rattle.std.proofs.Common.{◌≡◌, ◌≢◌, ◌∙◌, ℕ, zero, suc, ◌+◌, ◌<◌, ◌≤◌, List, [], ◌∷◌, ◌++◌, Option, Some, None, Bool, true, false, cond, refl, sym, ap, arith, subst, length, drop}
-use Rattle.std.specs.Prelude.{nat_eq, not, is_some, IfSome, ◌||◌, slice_index_or}
+-- Objects that are listed for their collections, and no others: what is listed first, and how the list changes.
+use Rattle.std.proofs.Common.{◌≡◌, ◌≢◌, ◌∙◌, ℕ, ◌<◌, ◌≤◌, List, [], ◌∷◌, ◌++◌, Option, Some, None, Bool, true, false, cond, refl, sym, ap, arith, subst, length}
+use Rattle.std.specs.Prelude.{nat_eq, nat_lt, not, IfSome, ◌&&◌, ◌||◌, slice_get}
+use Rattle.std.specs.List.{list_any}
 use Rattle.std.specs.Option.{option_map, option_map_or, option_or}
-use Rattle.std.specs.Ordering.{nat_cmp}
-use Rattle.std.specs.FinMap.{FinMap, empty, get, get-empty, insert, remove, contains_key}
-use borrow.Author.Tests.{eqb-true, eq-eqb, ne_eqb}
-use Rattle.number_map.specs.Table.{Table}
-use Rattle.number_map.proofs.Changes.{get_dropped, get_put}
-use Rattle.ctl_meaning.specs.World.{Origin, Declared, Allocated, Object}
+use Rattle.std.specs.Ordering.{is_eq, is_gt}
+use Rattle.std.specs.declared.cmp.Ordering.TheVariants.{Less}
+use Rattle.std.specs.declared.ops.Bound.{Bound}
+use Rattle.std.specs.declared.ops.Bound.TheVariants.{Included, Excluded, Unbounded}
+use Rattle.std.specs.BTreeSet.{IsKeyInRange, IsKeyRangeOf, Updates}
+use Rattle.std.specs.BTreeMap.Range.{IsLeBy}
+use Rattle.std.proofs.lemmas.Bool.Decides.{nat_tests}
+use borrow.Author.Tests.{eqb-true}
+use Rattle.ctl_meaning.specs.World.{Origin, Declared, Allocated, Place, Object}
 use Rattle.ctl_meaning.specs.Lists.{contains, keep, opened_lists}
 use Rattle.ctl_meaning.specs.Objects.{change_in, ends_with_master, is_of_set, object_in, opened_objects}
-use Rattle.ctl_objects.specs.Order.{Rise, AreBelow}
-use Rattle.ctl_objects.specs.Sets.{AreAmong, AreListed, IsListed, Keeps, KeepsOthers, Sets, is_listed, is_of_sets}
-use Rattle.ctl_objects.proofs.Rising.{KeepsNumbers, in_change, in_keep, in_newest, in_none, keep_more, keep_none, kept_one, number_found, rise_change, rise_keep, rise_newest, same_objects}
+use Rattle.ctl_objects.specs.Order.{AreBelow, IsAllocated, Rise}
+use Rattle.ctl_objects.specs.Sets.{AreBehind, AreListed, IsFirstListed, IsListedAs, IsNextOf, Sets, is_listed, is_member, is_of_sets, pair_cmp}
+use Rattle.ctl_objects.proofs.Rising.{KeepsNumbers, in_change, in_keep, in_more, in_newest, in_none, keep_more, keep_none, kept_one, none_above, number_found, rise_change, rise_keep, rise_newest, same_objects}
 
-abbrev Members : Type 0
-Members = Table (Unit {0})
+-- The order of what is listed ------------------------------------------------------------------------------
+
+same_pair : (a b c d : ℕ) → is_eq (pair_cmp (a, b) (c, d)) ≡ (nat_eq a c && nat_eq b d)
+same_pair a b c d = grind (arith, nat_tests)
+
+behind_less : (a b c d : ℕ) → pair_cmp (a, b) (c, d) ≡ Less → AreBehind a b c d
+behind_less a b c d less = (grind (arith, nat_tests, less), λ same. grind (arith, nat_tests, less, same))
+
+less_behind : (a b c d : ℕ) → AreBehind a b c d → pair_cmp (a, b) (c, d) ≡ Less
+less_behind a b c d behind = by (nat_lt a c) refl
+  where
+    by : (t : Bool) → nat_lt a c ≡ t → pair_cmp (a, b) (c, d) ≡ Less
+    by true is = grind (arith, nat_tests, is)
+    by false is =
+        let first = behind.0 in
+        let same : c ≡ a = grind (arith, nat_tests, is, first) in
+        let second : b < d = behind.1 same in
+        grind (arith, nat_tests, same, second)
+
+not_greater : (a b c d : ℕ) → is_gt (pair_cmp (a, b) (c, d)) ≡ false → (a ≤ c) × (c ≡ a → b ≤ d)
+not_greater a b c d is = (grind (arith, nat_tests, is), λ same. grind (arith, nat_tests, is, same))
+
+from_first : (a d : ℕ) → is_gt (pair_cmp (a, 0) (a, d)) ≡ false
+from_first a d = grind (arith, nat_tests)
 
 -- What is listed -------------------------------------------------------------------------------------------
 
-listed_put : (sets : Sets) (c : ℕ) (t : Members) (set n : ℕ) → is_listed set n (insert sets c t) ≡ cond (nat_eq set c) (is_some (get t.values n)) (is_listed set n sets)
-listed_put sets c t set n = ap (λ o. option_map_or (λ (x : Members). is_some (get x.values n)) o false) (get_put sets c set t) ∙ by (nat_eq set c)
-  where
-    by : (b : Bool) → option_map_or (λ (x : Members). is_some (get x.values n)) (cond b (Some t) (get sets set)) false ≡ cond b (is_some (get t.values n)) (is_listed set n sets)
-    by true = refl
-    by false = refl
+pub listed_as : (b : Bool) (set n : ℕ) (old new : Sets) → Updates pair_cmp old new (set, n) b → IsListedAs b set n old new
+listed_as b set n old new updates c k = updates.0 (c, k) ∙ ap (λ t. cond t b (is_listed c k old)) (same_pair set n c k)
 
-listed_of : (sets : Sets) (c n : ℕ) (t : Members) → get sets c ≡ Some t → is_listed c n sets ≡ is_some (get t.values n)
-listed_of sets c n t there = ap (λ o. option_map_or (λ (x : Members). is_some (get x.values n)) o false) there
+-- the first of those from a start on
+pub first_of_range : (start : Bound (ℕ × ℕ)) (s : Sets) (r t : List (ℕ × ℕ)) (f : ℕ × ℕ) → IsKeyRangeOf pair_cmp start Unbounded s r → r ≡ f ∷ t → IsFirstListed start (Some f) s
+first_of_range start s r t f range is =
+    let here : slice_get r 0 ≡ Some f = ap (λ l. slice_get l 0) is in
+    let it : IsKeyInRange pair_cmp start Unbounded s f = subst (λ o. IfSome o (IsKeyInRange pair_cmp start Unbounded s)) here range.1 in
+    (it.0.0, it.1, λ c k from listed. subst (λ o. IfSome o (λ e. IsLeBy pair_cmp e (c, k))) here (range.2 (c, k) (from, tt) listed))
 
-pub listed_here : (sets : Sets) (c n : ℕ) (t : Members) → is_some (get t.values n) ≡ true → is_listed c n (insert sets c t) ≡ true
-listed_here sets c n t is = listed_put sets c t c n ∙ (ap (λ b. cond b (is_some (get t.values n)) (is_listed c n sets)) (eq-eqb c c refl) ∙ is)
-
-pub keeps_put : (sets : Sets) (c : ℕ) (t u : Members) → get sets c ≡ Some t → ((n : ℕ) → is_some (get t.values n) ≡ true → is_some (get u.values n) ≡ true) → Keeps sets (insert sets c u)
-keeps_put sets c t u there more set n was = listed_put sets c u set n ∙ by (nat_eq set c) refl
-  where
-    by : (b : Bool) → nat_eq set c ≡ b → cond b (is_some (get u.values n)) (is_listed set n sets) ≡ true
-    by true is = more n (sym (listed_of sets c n t there) ∙ (ap (λ s. is_listed s n sets) (sym (eqb-true set c is)) ∙ was))
-    by false is = was
-
-pub keeps_open : (sets : Sets) (c : ℕ) (u : Members) → contains_key sets c ≡ false → Keeps sets (insert sets c u)
-keeps_open sets c u none set n was = listed_put sets c u set n ∙ by (nat_eq set c) refl
-  where
-    nothing : (o : Option Members) → is_some o ≡ false → option_map_or (λ (x : Members). is_some (get x.values n)) o false ≡ true → ⊥
-    nothing None e h = absurd (cc)
-    nothing (Some x) e h = absurd (cc)
-
-    by : (b : Bool) → nat_eq set c ≡ b → cond b (is_some (get u.values n)) (is_listed set n sets) ≡ true
-    by true is = absurd (nothing (get sets c) none (ap (λ s. is_listed s n sets) (sym (eqb-true set c is)) ∙ was))
-    by false is = was
-
-pub keeps_others : (sets : Sets) (c gone : ℕ) (t u : Members) → get sets c ≡ Some t → ((n : ℕ) → n ≢ gone → is_some (get t.values n) ≡ true → is_some (get u.values n) ≡ true) → KeepsOthers gone sets (insert sets c u)
-keeps_others sets c gone t u there more set n apart was = listed_put sets c u set n ∙ by (nat_eq set c) refl
-  where
-    by : (b : Bool) → nat_eq set c ≡ b → cond b (is_some (get u.values n)) (is_listed set n sets) ≡ true
-    by true is = more n apart (sym (listed_of sets c n t there) ∙ (ap (λ s. is_listed s n sets) (sym (eqb-true set c is)) ∙ was))
-    by false is = was
-
-pub one_more : (t : FinMap nat_cmp (Unit {0})) (c n : ℕ) → is_some (get t n) ≡ true → is_some (get (insert t c tt) n) ≡ true
-one_more t c n was = ap (λ o. is_some o) (get_put t c n tt) ∙ by (nat_eq n c)
-  where
-    by : (b : Bool) → is_some (cond b (Some tt) (get t n)) ≡ true
-    by true = refl
-    by false = was
-
-pub put_there : (t : FinMap nat_cmp (Unit {0})) (n : ℕ) → is_some (get (insert t n tt) n) ≡ true
-put_there t n = ap (λ o. is_some o) (get_put t n n tt) ∙ ap (λ b. is_some (cond b (Some tt) (get t n))) (eq-eqb n n refl)
-
-pub one_less : (t : FinMap nat_cmp (Unit {0})) (c n : ℕ) → n ≢ c → is_some (get t n) ≡ true → is_some (get (remove t c) n) ≡ true
-one_less t c n apart was = ap (λ o. is_some o) (get_dropped t c n) ∙ (ap (λ b. is_some (cond b None (get t n))) (ne_eqb n c apart) ∙ was)
+pub none_of_range : (start : Bound (ℕ × ℕ)) (s : Sets) (r : List (ℕ × ℕ)) → IsKeyRangeOf pair_cmp start Unbounded s r → r ≡ [] → IsFirstListed start None s
+none_of_range start s r range is = λ c k from. range.5 is (c, k) (from, tt)
 
 -- Objects that are listed ----------------------------------------------------------------------------------
 
-each_some : (o : Option Object) (P Q : Object → Type 0) → ((x : Object) → o ≡ Some x → P x → Q x) → IfSome o P → IfSome o Q
-each_some None P Q f h = h
-each_some (Some x) P Q f h = f x refl h
+is_false : (b : Bool) → (b ≡ true → ⊥) → b ≡ false
+is_false true never = absurd (never refl)
+is_false false never = refl
 
-listed_origin : (s t : Sets) (n : ℕ) (x : Origin) → ((set : ℕ) → is_listed set n s ≡ true → is_listed set n t ≡ true) → IsListed s n x → IsListed t n x
-listed_origin s t n (Declared m) f h = h
-listed_origin s t n (Allocated set p) f h = f set h
+-- what is listed behind others
+pub next_of : (os : List Object) (s : Sets) (set n : ℕ) (r : Option (ℕ × ℕ)) → AreListed os s → IsFirstListed (Excluded (set, n)) r s → IsNextOf set n r os
+next_of os s set n None h first = λ c k behind. sym (h.members c k) ∙ first c k (less_behind set n c k behind)
+next_of os s set n (Some f) h first = (
+  behind_less set n f.0 f.1 first.0,
+  sym (h.members f.0 f.1) ∙ first.1,
+  λ c k behind is. not_greater f.0 f.1 c k (first.2 c k (less_behind set n c k behind) (h.members c k ∙ is)),
+)
 
-pub none_listed : (sets : Sets) → AreListed [] sets
-none_listed sets = record { rise = tt; each = λ n. subst (λ o. IfSome o (λ x. IsListed sets n x.origin)) (sym (in_none n)) tt }
+-- a collection has no object
+pub no_member : (os : List Object) (s : Sets) (set : ℕ) → AreListed os s → IsFirstListed (Included (set, 0)) None s → (n : ℕ) → is_member set n os ≡ false
+no_member os s set h first n = sym (h.members set n) ∙ first set n (from_first set n)
 
-pub listed_kept : (os : List Object) (s t : Sets) → Keeps s t → AreListed os s → AreListed os t
-listed_kept os s t keeps h = record {
-  rise = h.rise;
-  each = λ n. each_some (object_in n os) (λ x. IsListed s n x.origin) (λ x. IsListed t n x.origin) (λ x there is. listed_origin s t n x.origin (λ set. keeps set n) is) (h.each n);
+pub no_other_member : (os : List Object) (s : Sets) (set : ℕ) (f : ℕ × ℕ) → AreListed os s → IsFirstListed (Included (set, 0)) (Some f) s → f.0 ≢ set → (n : ℕ) → is_member set n os ≡ false
+no_other_member os s set f h first differs n = is_false (is_member set n os) (λ is.
+    let low : set ≤ f.0 = (not_greater set 0 f.0 f.1 first.0).0 in
+    let high : f.0 ≤ set = (not_greater f.0 f.1 set n (first.2 set n (from_first set n) (h.members set n ∙ is))).0 in
+    differs (omega (arith, low, high)))
+
+listed_none : (s : Sets) → s.keys ≡ [] → AreListed [] s
+listed_none s none = record {
+  rise = tt;
+  allocated = λ n. subst (λ o. IfSome o (λ z. IsAllocated z.origin)) (sym (in_none n)) tt;
+  members = λ set n. ap (λ (l : List (ℕ × ℕ)). list_any (λ q. is_eq (pair_cmp (set, n) q)) l) none ∙ sym (ap (λ o. option_map_or (λ (z : Object). is_of_set set z.origin) o false) (in_none n));
 }
 
-pub listed_new : (os : List Object) (s : Sets) (x : Object) → AreBelow x.number os → IsListed s x.number x.origin → AreListed os s → AreListed (os ++ x ∷ []) s
-listed_new os s x below listed h = record { rise = rise_newest 0 os x h.rise below (omega arith); each = λ n. subst (λ o. IfSome o (λ z. IsListed s n z.origin)) (sym (in_newest n os x)) (by n (nat_eq x.number n) refl (object_in n os) (h.each n)) }
+pub none_listed : (os : List Object) (s : Sets) → os ≡ [] → s.keys ≡ [] → AreListed os s
+none_listed os s empty none = subst (λ l. AreListed l s) (sym empty) (listed_none s none)
+
+pub listed_new : (os : List Object) (s t : Sets) (x : Object) (set : ℕ) (p : Place) → AreBelow x.number os → x.origin ≡ Allocated set p → IsListedAs true set x.number s t → AreListed os s → AreListed (os ++ x ∷ []) t
+unfolding opened_objects
+listed_new os s t x set p below origin listed h = record {
+  rise = rise_newest 0 os x h.rise below (omega arith);
+  allocated = λ n. subst (λ o. IfSome o (λ z. IsAllocated z.origin)) (sym (in_newest n os x)) (own n (nat_eq x.number n) (object_in n os) (h.allocated n));
+  members = λ c k. listed c k ∙ (ap (λ b. cond (nat_eq set c && nat_eq x.number k) true b) (h.members c k)
+      ∙ (by c k (nat_eq x.number k) refl (nat_eq set c) refl ∙ sym (ap (λ o. option_map_or (λ (z : Object). is_of_set c z.origin) o false) (in_newest k os x))));
+}
   where
-    by : (n : ℕ) (b : Bool) → nat_eq x.number n ≡ b → (o : Option Object) → IfSome o (λ z. IsListed s n z.origin) → IfSome (option_or o (cond b (Some x) None)) (λ z. IsListed s n z.origin)
-    by n true is None i = subst (λ m. IsListed s m x.origin) (eqb-true x.number n is) listed
-    by n true is (Some z) i = i
-    by n false is None i = i
-    by n false is (Some z) i = i
+    own : (n : ℕ) (b : Bool) (o : Option Object) → IfSome o (λ z. IsAllocated z.origin) → IfSome (option_or o (cond b (Some x) None)) (λ z. IsAllocated z.origin)
+    own n b (Some z) i = i
+    own n true None i = subst (λ y. IsAllocated y) (sym origin) tt
+    own n false None i = tt
+
+    test : Option Object → ℕ → Bool
+    test o c = option_map_or (λ (z : Object). is_of_set c z.origin) o false
+
+    or_none : (o : Option Object) (c : ℕ) → test o c ≡ test (option_or o None) c
+    or_none None c = refl
+    or_none (Some z) c = refl
+
+    other : (b : Bool) (c k : ℕ) → cond (b && false) true (is_member c k os) ≡ is_member c k os
+    other true c k = refl
+    other false c k = refl
+
+    newest : (b : Bool) (c : ℕ) → nat_eq set c ≡ b → cond (b && true) true (test None c) ≡ is_of_set c x.origin
+    newest true c is = sym (ap (λ y. is_of_set c y) origin ∙ is)
+    newest false c is = sym (ap (λ y. is_of_set c y) origin ∙ is)
+
+    by : (c k : ℕ) (a : Bool) → nat_eq x.number k ≡ a → (b : Bool) → nat_eq set c ≡ b → cond (nat_eq set c && nat_eq x.number k) true (is_member c k os) ≡ test (option_or (object_in k os) (cond (nat_eq x.number k) (Some x) None)) c
+    by c k false is b which =
+        ap (λ a. cond (nat_eq set c && a) true (is_member c k os)) is ∙ (other (nat_eq set c) c k
+        ∙ (or_none (object_in k os) c ∙ sym (ap (λ a. test (option_or (object_in k os) (cond a (Some x) None)) c) is)))
+    by c k true is b which =
+        let none : object_in k os ≡ None = ap (λ m. object_in m os) (sym (eqb-true x.number k is)) ∙ none_above x.number os below in
+        ap (λ a. cond (nat_eq set c && a) true (is_member c k os)) is
+        ∙ (ap (λ o. cond (nat_eq set c && true) true (test o c)) none
+        ∙ (newest (nat_eq set c) c refl
+        ∙ sym (ap (λ o. test (option_or o (cond (nat_eq x.number k) (Some x) None)) c) none ∙ ap (λ a. test (option_or None (cond a (Some x) None)) c) is)))
+
+-- an object that was listed first is not there in the end
+pub listed_undone : (os : List Object) (s t u : Sets) (set n : ℕ) → AreBelow n os → IsListedAs true set n s t → IsListedAs false set n t u → AreListed os s → AreListed os u
+listed_undone os s t u set n below listed undone h = record {
+  rise = h.rise;
+  allocated = h.allocated;
+  members = λ c k. undone c k ∙ (ap (λ b. cond (nat_eq set c && nat_eq n k) false b) (listed c k) ∙ (by c k (nat_eq n k) refl (nat_eq set c) ∙ h.members c k));
+}
+  where
+    gone : (c k : ℕ) → nat_eq n k ≡ true → false ≡ is_listed c k s
+    gone c k is =
+        let none : object_in k os ≡ None = ap (λ m. object_in m os) (sym (eqb-true n k is)) ∙ none_above n os below in
+        sym (h.members c k ∙ ap (λ o. option_map_or (λ (z : Object). is_of_set c z.origin) o false) none)
+
+    by : (c k : ℕ) (a : Bool) → nat_eq n k ≡ a → (b : Bool) → cond (b && nat_eq n k) false (cond (b && nat_eq n k) true (is_listed c k s)) ≡ is_listed c k s
+    by c k a is false = refl
+    by c k true is true = ap (λ a. cond a false (cond a true (is_listed c k s))) is ∙ gone c k is
+    by c k false is true = ap (λ a. cond a false (cond a true (is_listed c k s))) is
 
 pub listed_changed : (os : List Object) (s : Sets) (n : ℕ) (f : Object → Object) → KeepsNumbers f → ((o : Object) → (f o).origin ≡ o.origin) → AreListed os s → AreListed (change_in n f os) s
-listed_changed os s n f numbers origins h = record { rise = rise_change n f numbers 0 os h.rise; each = λ k. subst (λ o. IfSome o (λ z. IsListed s k z.origin)) (sym (in_change n f numbers k os)) (by k (nat_eq k n) (object_in k os) (h.each k)) }
+listed_changed os s n f numbers origins h = record {
+  rise = rise_change n f numbers 0 os h.rise;
+  allocated = λ k. subst (λ o. IfSome o (λ z. IsAllocated z.origin)) (sym (in_change n f numbers k os)) (own (nat_eq k n) (object_in k os) (h.allocated k));
+  members = λ c k. h.members c k ∙ (by c (nat_eq k n) (object_in k os) ∙ sym (ap (λ o. option_map_or (λ (z : Object). is_of_set c z.origin) o false) (in_change n f numbers k os)));
+}
   where
-    by : (k : ℕ) (b : Bool) (o : Option Object) → IfSome o (λ z. IsListed s k z.origin) → IfSome (cond b (option_map f o) o) (λ z. IsListed s k z.origin)
-    by k false o i = i
-    by k true None i = i
-    by k true (Some z) i = subst (λ x. IsListed s k x) (sym (origins z)) i
+    own : (b : Bool) (o : Option Object) → IfSome o (λ z. IsAllocated z.origin) → IfSome (cond b (option_map f o) o) (λ z. IsAllocated z.origin)
+    own false o i = i
+    own true None i = i
+    own true (Some z) i = subst (λ x. IsAllocated x) (sym (origins z)) i
 
-pub listed_without : (os : List Object) (s t : Sets) (n : ℕ) → KeepsOthers n s t → AreListed os s → AreListed (keep (λ o. not (nat_eq o.number n)) os) t
-listed_without os s t n keeps h = record { rise = rise_keep (λ o. not (nat_eq o.number n)) 0 os h.rise; each = λ k. subst (λ o. IfSome o (λ z. IsListed t k z.origin)) (sym (in_keep (λ o. not (nat_eq o.number n)) 0 k os h.rise)) (by k (object_in k os) refl (h.each k)) }
+    by : (c : ℕ) (b : Bool) (o : Option Object) → option_map_or (λ (z : Object). is_of_set c z.origin) o false ≡ option_map_or (λ (z : Object). is_of_set c z.origin) (cond b (option_map f o) o) false
+    by c false o = refl
+    by c true None = refl
+    by c true (Some z) = ap (λ x. is_of_set c x) (sym (origins z))
+
+-- nothing is listed any more for a number
+abbrev IsDropped : ℕ → Sets → Sets → Type 0
+IsDropped n s t = (c k : ℕ) → is_listed c k t ≡ cond (nat_eq n k) false (is_listed c k s)
+
+listed_dropped : (os : List Object) (s t : Sets) (n : ℕ) → IsDropped n s t → AreListed os s → AreListed (keep (λ o. not (nat_eq o.number n)) os) t
+listed_dropped os s t n dropped h = record {
+  rise = rise_keep other 0 os h.rise;
+  allocated = λ k. subst (λ o. IfSome o (λ z. IsAllocated z.origin)) (sym (in_keep other 0 k os h.rise)) (own (object_in k os) (h.allocated k));
+  members = λ c k. dropped c k ∙ (ap (λ b. cond (nat_eq n k) false b) (h.members c k)
+      ∙ (by c k (object_in k os) refl ∙ sym (ap (λ o. option_map_or (λ (z : Object). is_of_set c z.origin) o false) (in_keep other 0 k os h.rise))));
+}
   where
-    at : (k : ℕ) (z : Object) → z.number ≡ k → IsListed s k z.origin → (b : Bool) → nat_eq z.number n ≡ b → IfSome (cond (not b) (Some z) None) (λ x. IsListed t k x.origin)
-    at k z number i true is = tt
-    at k z number i false is = listed_origin s t k z.origin (λ set. keeps set k (λ same. let no : true ≡ false = sym (eq-eqb z.number n (number ∙ same)) ∙ is in cc)) i
+    other : Object → Bool
+    other o = not (nat_eq o.number n)
 
-    by : (k : ℕ) (o : Option Object) → object_in k os ≡ o → IfSome o (λ z. IsListed s k z.origin) → IfSome (kept_one (λ x. not (nat_eq x.number n)) o) (λ z. IsListed t k z.origin)
-    by k None e i = i
-    by k (Some z) e i = at k z (number_found k os z e) i (nat_eq z.number n) refl
+    one : (z : Object) (b : Bool) → IsAllocated z.origin → IfSome (cond b (Some z) None) (λ x. IsAllocated x.origin)
+    one z true i = i
+    one z false i = tt
+
+    own : (o : Option Object) → IfSome o (λ z. IsAllocated z.origin) → IfSome (kept_one other o) (λ z. IsAllocated z.origin)
+    own None i = tt
+    own (Some z) i = one z (other z) i
+
+    none : (b : Bool) → cond b false false ≡ false
+    none true = refl
+    none false = refl
+
+    at : (c k : ℕ) (z : Object) (b : Bool) → cond b false (is_of_set c z.origin) ≡ option_map_or (λ (x : Object). is_of_set c x.origin) (cond (not b) (Some z) None) false
+    at c k z true = refl
+    at c k z false = refl
+
+    turned : (k : ℕ) (z : Object) → z.number ≡ k → nat_eq n k ≡ nat_eq z.number n
+    turned k z same = grind (arith, nat_tests, same)
+
+    by : (c k : ℕ) (o : Option Object) → object_in k os ≡ o
+        → cond (nat_eq n k) false (option_map_or (λ (z : Object). is_of_set c z.origin) o false) ≡ option_map_or (λ (z : Object). is_of_set c z.origin) (kept_one other o) false
+    by c k None there = none (nat_eq n k)
+    by c k (Some z) there = ap (λ b. cond b false (is_of_set c z.origin)) (turned k z (number_found k os z there)) ∙ at c k z (nat_eq z.number n)
+
+-- an object goes, and is not listed for its collection any more
+pub listed_without : (os : List Object) (s t : Sets) (set n : ℕ) → ((c : ℕ) → is_member c n os ≡ nat_eq set c) → IsListedAs false set n s t → AreListed os s → AreListed (keep (λ o. not (nat_eq o.number n)) os) t
+listed_without os s t set n own listed h = listed_dropped os s t n (λ c k. listed c k ∙ by c k (nat_eq set c) refl (nat_eq n k) refl) h
+  where
+    listed_own : (c k : ℕ) → nat_eq n k ≡ true → is_listed c k s ≡ nat_eq set c
+    listed_own c k is = ap (λ m. is_listed c m s) (sym (eqb-true n k is)) ∙ (h.members c n ∙ own c)
+
+    by : (c k : ℕ) (a : Bool) → nat_eq set c ≡ a → (b : Bool) → nat_eq n k ≡ b → cond (nat_eq set c && nat_eq n k) false (is_listed c k s) ≡ cond (nat_eq n k) false (is_listed c k s)
+    by c k true which b is = ap (λ a. cond (a && nat_eq n k) false (is_listed c k s)) which
+    by c k false which true is = ap (λ a. cond (a && nat_eq n k) false (is_listed c k s)) which ∙ (listed_own c k is ∙ (which ∙ sym (ap (λ b. cond b false (is_listed c k s)) is)))
+    by c k false which false is = ap (λ a. cond (a && nat_eq n k) false (is_listed c k s)) which ∙ sym (ap (λ b. cond b false (is_listed c k s)) is)
+
+-- or there was none
+pub listed_still : (os : List Object) (s : Sets) (n : ℕ) → ((c : ℕ) → is_member c n os ≡ false) → AreListed os s → AreListed (keep (λ o. not (nat_eq o.number n)) os) s
+listed_still os s n none h = listed_dropped os s s n (λ c k. by c k (nat_eq n k) refl) h
+  where
+    by : (c k : ℕ) (b : Bool) → nat_eq n k ≡ b → is_listed c k s ≡ cond (nat_eq n k) false (is_listed c k s)
+    by c k true is = ap (λ m. is_listed c m s) (sym (eqb-true n k is)) ∙ (h.members c n ∙ (none c ∙ sym (ap (λ b. cond b false (is_listed c k s)) is)))
+    by c k false is = sym (ap (λ b. cond b false (is_listed c k s)) is)
 
 -- A collection goes ----------------------------------------------------------------------------------------
 
 abbrev outside : ℕ → Object → Bool
 outside set o = not (is_of_set set o.origin)
 
-pub listed_closed : (os : List Object) (s : Sets) (set : ℕ) → AreListed os s → AreListed (keep (λ o. not (is_of_set set o.origin)) os) (remove s set)
-unfolding opened_objects
-listed_closed os s set h = record { rise = rise_keep (outside set) 0 os h.rise; each = λ k. subst (λ o. IfSome o (λ z. IsListed (remove s set) k z.origin)) (sym (in_keep (outside set) 0 k os h.rise)) (by k (object_in k os) (h.each k)) }
+pub all_outside : (os : List Object) (set : ℕ) → Rise 0 os → ((n : ℕ) → is_member set n os ≡ false) → os ≡ keep (λ o. not (is_of_set set o.origin)) os
+all_outside os set rise none = same_objects 0 os (keep (outside set) os) rise (rise_keep (outside set) 0 os rise) (λ k. by (object_in k os) (none k) ∙ sym (in_keep (outside set) 0 k os rise))
   where
-    at : (k : ℕ) (z : Object) (c : ℕ) → is_listed c k s ≡ true → (b : Bool) → nat_eq c set ≡ b → cond b (Unit {0}) (is_listed c k (remove s set) ≡ true)
-    at k z c i true is = tt
-    at k z c i false is = ap (λ o. option_map_or (λ (x : Members). is_some (get x.values k)) o false) (get_dropped s set c ∙ ap (λ b. cond b None (get s c)) is) ∙ i
+    by : (o : Option Object) → option_map_or (λ (z : Object). is_of_set set z.origin) o false ≡ false → o ≡ kept_one (outside set) o
+    by None is = refl
+    by (Some z) is = ap (λ b. cond (not b) (Some z) None) (sym is)
 
-    from : (k : ℕ) (z : Object) (x : Origin) → IsListed s k x → (b : Bool) → is_of_set set x ≡ b → z.origin ≡ x → IfSome (cond (not b) (Some z) None) (λ y. IsListed (remove s set) k y.origin)
-    from k z (Declared m) i b is same = absurd i
-    from k z (Allocated c p) i true is same = tt
-    from k z (Allocated c p) i false is same = subst (λ y. IsListed (remove s set) k y) (sym same) (subst (λ b. cond b (Unit {0}) (is_listed c k (remove s set) ≡ true)) is (at k z c i (nat_eq c set) refl))
-
-    by : (k : ℕ) (o : Option Object) → IfSome o (λ z. IsListed s k z.origin) → IfSome (kept_one (outside set) o) (λ z. IsListed (remove s set) k z.origin)
-    by k None i = i
-    by k (Some z) i = from k z z.origin i (is_of_set set z.origin) refl refl
-
--- the objects of a collection are listed for it
-pub among_listed : (os : List Object) (s : Sets) (set : ℕ) (t : Members) → AreListed os s → get s set ≡ Some t → AreAmong set os t.values
-unfolding opened_objects
-among_listed os s set t h there n = each_some (object_in n os) (λ x. IsListed s n x.origin) (λ x. is_of_set set x.origin ≡ true → is_some (get t.values n) ≡ true) (λ x e i. by x.origin i) (h.each n)
+no_more : (p : Object → Bool) (os : List Object) → length (keep p os) ≤ length os
+no_more p [] = subst (λ l. length l ≤ 0) (sym (keep_none p)) (omega arith)
+no_more p (o ∷ os) = subst (λ l. length l ≤ length (o ∷ os)) (sym (keep_more p o os)) (by (no_more p os) (p o))
   where
-    by : (x : Origin) → IsListed s n x → is_of_set set x ≡ true → is_some (get t.values n) ≡ true
-    by (Declared m) i is = absurd i
-    by (Allocated c p) i is = sym (listed_of s set n t there) ∙ (ap (λ d. is_listed d n s) (sym (eqb-true c set is)) ∙ i)
+    by : length (keep p os) ≤ length os → (b : Bool) → length (cond b (o ∷ keep p os) (keep p os)) ≤ length (o ∷ os)
+    by ih true = omega (arith, ih)
+    by ih false = omega (arith, ih)
 
--- where it has no list there are none
-pub none_among : (os : List Object) (s : Sets) (set : ℕ) → AreListed os s → get s set ≡ None → AreAmong set os empty
-unfolding opened_objects
-none_among os s set h none n = each_some (object_in n os) (λ x. IsListed s n x.origin) (λ x. is_of_set set x.origin ≡ true → is_some (get nothing n) ≡ true) (λ x e i. by x.origin i) (h.each n)
+-- each time there is one object less
+pub fewer : (os : List Object) (set n : ℕ) → is_member set n os ≡ true → length (keep (λ o. not (nat_eq o.number n)) os) < length os
+fewer [] set n is =
+    let no : is_member set n [] ≡ false = ap (λ o. option_map_or (λ (z : Object). is_of_set set z.origin) o false) (in_none n) in
+    absurd (cc)
+fewer (o ∷ os) set n is = subst (λ l. length l < length (o ∷ os)) (sym (keep_more (λ x. not (nat_eq x.number n)) o os)) (by (fewer os set n) (nat_eq o.number n) (sym (ap (λ x. option_map_or (λ (z : Object). is_of_set set z.origin) x false) (in_more n o os)) ∙ is))
   where
-    nothing : FinMap nat_cmp (Unit {0})
-    nothing = empty
-
-    by : (x : Origin) → IsListed s n x → is_of_set set x ≡ true → is_some (get nothing n) ≡ true
-    by (Declared m) i is = absurd i
-    by (Allocated c p) i is =
-        let no : is_listed set n s ≡ false = ap (λ o. option_map_or (λ (x : Members). is_some (get x.values n)) o false) none in
-        let yes : is_listed set n s ≡ true = ap (λ d. is_listed d n s) (sym (eqb-true c set is)) ∙ i in
-        absurd (cc)
-
-pub all_outside : (os : List Object) (set : ℕ) (numbers : FinMap nat_cmp (Unit {0})) → Rise 0 os → AreAmong set os numbers → numbers ≡ empty → os ≡ keep (λ o. not (is_of_set set o.origin)) os
-all_outside os set numbers rise among none = same_objects 0 os (keep (outside set) os) rise (rise_keep (outside set) 0 os rise) (λ k. by k (object_in k os) (among k) ∙ sym (in_keep (outside set) 0 k os rise))
-  where
-    at : (k : ℕ) (z : Object) (b : Bool) → is_of_set set z.origin ≡ b → (is_of_set set z.origin ≡ true → is_some (get numbers k) ≡ true) → Some z ≡ cond (not b) (Some z) None
-    at k z false is i = refl
-    at k z true is i =
-        let yes : is_some (get numbers k) ≡ true = i is in
-        let nothing : get numbers k ≡ None = ap (λ (m : FinMap nat_cmp (Unit {0})). get m k) none ∙ get-empty nat_cmp k in
-        let no : is_some (get numbers k) ≡ false = ap (λ (o : Option (Unit {0})). is_some o) nothing in
-        absurd (cc)
-
-    by : (k : ℕ) (o : Option Object) → IfSome o (λ x. is_of_set set x.origin ≡ true → is_some (get numbers k) ≡ true) → o ≡ kept_one (outside set) o
-    by k None i = refl
-    by k (Some z) i = at k z (is_of_set set z.origin) refl i
+    by : (is_member set n os ≡ true → length (keep (λ x. not (nat_eq x.number n)) os) < length os) → (b : Bool) → option_map_or (λ (z : Object). is_of_set set z.origin) (cond b (Some o) (object_in n os)) false ≡ true
+        → length (cond (not b) (o ∷ keep (λ x. not (nat_eq x.number n)) os) (keep (λ x. not (nat_eq x.number n)) os)) < length (o ∷ os)
+    by ih true there = let less = no_more (λ x. not (nat_eq x.number n)) os in omega (arith, less)
+    by ih false there = let less = ih there in omega (arith, less)
 
 -- an object of the collection goes
 pub rest_same : (os : List Object) (set n : ℕ) → Rise 0 os → option_map_or (λ o. is_of_set set o.origin) (object_in n os) false ≡ true
@@ -198,30 +279,6 @@ rest_same os set n rise is =
     by : (k : ℕ) (o : Option Object) → object_in k os ≡ o → kept_one (outside set) (kept_one (λ (x : Object). not (nat_eq x.number n)) o) ≡ kept_one (outside set) o
     by k None there = refl
     by k (Some z) there = at k z there (nat_eq z.number n) refl
-
--- and the others are still among the numbers that are left
-pub among_less : (os : List Object) (set n : ℕ) (numbers : FinMap nat_cmp (Unit {0})) → Rise 0 os → AreAmong set os numbers → AreAmong set (keep (λ o. not (nat_eq o.number n)) os) (remove numbers n)
-among_less os set n numbers rise among k = subst (λ o. IfSome o (λ x. is_of_set set x.origin ≡ true → is_some (get (remove numbers n) k) ≡ true)) (sym (in_keep (λ o. not (nat_eq o.number n)) 0 k os rise)) (by (object_in k os) refl (among k))
-  where
-    at : (z : Object) → object_in k os ≡ Some z → (is_of_set set z.origin ≡ true → is_some (get numbers k) ≡ true) → (b : Bool) → nat_eq z.number n ≡ b
-        → IfSome (cond (not b) (Some z) None) (λ x. is_of_set set x.origin ≡ true → is_some (get (remove numbers n) k) ≡ true)
-    at z there i true same = tt
-    at z there i false differs = λ is. one_less numbers n k (λ same. let no : true ≡ false = sym (eq-eqb z.number n (number_found k os z there ∙ same)) ∙ differs in cc) (i is)
-
-    by : (o : Option Object) → object_in k os ≡ o → IfSome o (λ x. is_of_set set x.origin ≡ true → is_some (get numbers k) ≡ true)
-        → IfSome (kept_one (λ (x : Object). not (nat_eq x.number n)) o) (λ x. is_of_set set x.origin ≡ true → is_some (get (remove numbers n) k) ≡ true)
-    by None there i = i
-    by (Some z) there i = at z there i (nat_eq z.number n) refl
-
--- a number that is no object of the collection
-pub among_other : (os : List Object) (set n : ℕ) (numbers : FinMap nat_cmp (Unit {0})) → option_map_or (λ o. is_of_set set o.origin) (object_in n os) false ≡ false → AreAmong set os numbers → AreAmong set os (remove numbers n)
-among_other os set n numbers none among k = each_some (object_in k os) (λ x. is_of_set set x.origin ≡ true → is_some (get numbers k) ≡ true) (λ x. is_of_set set x.origin ≡ true → is_some (get (remove numbers n) k) ≡ true) (λ x there i is. one_less numbers n k (λ same. absurd (differs x there is same)) (i is)) (among k)
-  where
-    differs : (x : Object) → object_in k os ≡ Some x → is_of_set set x.origin ≡ true → k ≡ n → ⊥
-    differs x there is same =
-        let found : object_in n os ≡ Some x = ap (λ m. object_in m os) (sym same) ∙ there in
-        let no : is_of_set set x.origin ≡ false = ap (λ o. option_map_or (λ (z : Object). is_of_set set z.origin) o false) (sym found) ∙ none in
-        cc
 
 -- Several collections go -----------------------------------------------------------------------------------
 
@@ -266,12 +323,12 @@ with_master os s m sets h =
     let one = λ (o : Object). not (is_of_sets sets o.origin) in
     let other = λ (o : Object). not (ends_with_master m sets o.origin) in
     same_objects 0 (keep one os) (keep other os) (rise_keep one 0 os h.rise) (rise_keep other 0 os h.rise) (λ k.
-    in_keep one 0 k os h.rise ∙ (by k (object_in k os) (h.each k) ∙ sym (in_keep other 0 k os h.rise)))
+    in_keep one 0 k os h.rise ∙ (by k (object_in k os) (h.allocated k) ∙ sym (in_keep other 0 k os h.rise)))
   where
-    at : (k : ℕ) (z : Object) (x : Origin) → IsListed s k x → z.origin ≡ x → not (is_of_sets sets z.origin) ≡ not (ends_with_master m sets z.origin)
+    at : (k : ℕ) (z : Object) (x : Origin) → IsAllocated x → z.origin ≡ x → not (is_of_sets sets z.origin) ≡ not (ends_with_master m sets z.origin)
     at k z (Declared n) i same = absurd i
     at k z (Allocated c p) i same = ap (λ y. not (is_of_sets sets y)) same ∙ sym (ap (λ y. not (ends_with_master m sets y)) same)
 
-    by : (k : ℕ) (o : Option Object) → IfSome o (λ z. IsListed s k z.origin) → kept_one (λ (z : Object). not (is_of_sets sets z.origin)) o ≡ kept_one (λ (z : Object). not (ends_with_master m sets z.origin)) o
+    by : (k : ℕ) (o : Option Object) → IfSome o (λ z. IsAllocated z.origin) → kept_one (λ (z : Object). not (is_of_sets sets z.origin)) o ≡ kept_one (λ (z : Object). not (ends_with_master m sets z.origin)) o
     by k None i = refl
     by k (Some z) i = ap (λ b. cond b (Some z) None) (at k z z.origin i refl)

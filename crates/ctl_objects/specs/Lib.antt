@@ -5,3 +5,4 @@ pub mod Order
 pub mod Stages
 pub mod InStore
 pub mod Sets
+pub mod Members

@@ -1,44 +1,56 @@
 -- Which objects are listed for each collection.
-use Rattle.std.specs.Prelude.{◌≡◌, ◌≢◌, ℕ, List, Bool, true, false, is_some, IfSome}
-use Rattle.std.specs.Ordering.{nat_cmp}
+use Rattle.std.specs.Prelude.{◌≡◌, ◌<◌, ◌≤◌, ℕ, List, Option, Bool, true, false, ◌&&◌, nat_eq, IfSome, MatchOption, if◌then◌else◌}
 use Rattle.std.specs.Option.{option_map_or}
-use Rattle.std.specs.FinMap.{FinMap, get}
-use Rattle.number_map.specs.Table.{Table}
+use Rattle.std.specs.Ordering.{nat_cmp, ordering_then}
+use Rattle.std.specs.declared.cmp.Ordering.{Ordering}
+use Rattle.std.specs.declared.ops.Bound.{Bound}
+use Rattle.std.specs.BTreeSet.{BTreeSet, contains}
+use Rattle.std.specs.BTreeMap.Range.{IsFromStart, IsLeBy}
 use Rattle.ctl_meaning.specs.World.{Origin, Declared, Allocated, Object}
-use Rattle.ctl_meaning.specs.Lists.{contains}
+use Rattle.ctl_meaning.specs.Lists as lists
 use Rattle.ctl_meaning.specs.Objects.{is_of_set, object_in}
-use Rattle.ctl_objects.specs.Order.{Rise}
+use Rattle.ctl_objects.specs.Order.{IsAllocated, Rise}
 
 abbrev pub Sets : Type 0
-Sets = FinMap nat_cmp (Table (Unit {0}))
+Sets = BTreeSet (ℕ × ℕ)
+
+-- the order of the collections, and within one that of the numbers
+abbrev pub pair_cmp : ℕ × ℕ → ℕ × ℕ → Ordering
+pair_cmp x y = ordering_then (nat_cmp x.0 y.0) (nat_cmp x.1 y.1)
 
 -- an object is listed for a collection
 abbrev pub is_listed : ℕ → ℕ → Sets → Bool
-is_listed set n sets = option_map_or (λ t. is_some (get t.values n)) (get sets set) false
+is_listed set n sets = contains pair_cmp sets (set, n)
 
--- what was listed still is
-abbrev pub Keeps : Sets → Sets → Type 0
-Keeps old new = (set n : ℕ) → is_listed set n old ≡ true → is_listed set n new ≡ true
+-- one object is listed for a collection, or is not; whatever else was listed still is
+abbrev pub IsListedAs : Bool → ℕ → ℕ → Sets → Sets → Type 0
+IsListedAs b set n old new = (c k : ℕ) → is_listed c k new ≡ (if nat_eq set c && nat_eq n k then b else is_listed c k old)
 
--- but for one object
-abbrev pub KeepsOthers : ℕ → Sets → Sets → Type 0
-KeepsOthers gone old new = (set n : ℕ) → n ≢ gone → is_listed set n old ≡ true → is_listed set n new ≡ true
+-- the first collection and number that are listed from a start on
+abbrev pub IsFirstListed : Bound (ℕ × ℕ) → Option (ℕ × ℕ) → Sets → Type 0
+IsFirstListed start r sets = MatchOption r ((c k : ℕ) → IsFromStart pair_cmp start (c, k) → is_listed c k sets ≡ false)
+    (λ f. IsFromStart pair_cmp start f × (is_listed f.0 f.1 sets ≡ true) × ((c k : ℕ) → IsFromStart pair_cmp start (c, k) → is_listed c k sets ≡ true → IsLeBy pair_cmp f (c, k)))
 
--- an object is allocated, and listed for its collection
-abbrev pub IsListed : Sets → ℕ → Origin → Type 0
-IsListed sets n (Declared m) = ⊥
-IsListed sets n (Allocated set p) = is_listed set n sets ≡ true
+-- an object of this number exists that was allocated for a collection
+abbrev pub is_member : ℕ → ℕ → List Object → Bool
+is_member set n os = option_map_or (λ o. is_of_set set o.origin) (object_in n os) false
 
--- allocated objects in the order of their numbers, each of them listed for its collection
+-- allocated objects in the order of their numbers, each of them listed for its collection, and no others
 pub record AreListed (os : List Object) (sets : Sets) : Type 0 where
   pub rise : Rise 0 os
-  pub each : (n : ℕ) → IfSome (object_in n os) (λ o. IsListed sets n o.origin)
+  pub allocated : (n : ℕ) → IfSome (object_in n os) (λ o. IsAllocated o.origin)
+  pub members : (set n : ℕ) → is_listed set n sets ≡ is_member set n os
 
--- the objects of a collection are among these numbers
-abbrev pub AreAmong : ℕ → List Object → FinMap nat_cmp (Unit {0}) → Type 0
-AreAmong set os numbers = (n : ℕ) → IfSome (object_in n os) (λ o. is_of_set set o.origin ≡ true → is_some (get numbers n) ≡ true)
+-- a collection and a number come behind others
+abbrev pub AreBehind : ℕ → ℕ → ℕ → ℕ → Type 0
+AreBehind set n c k = (set ≤ c) × (c ≡ set → n < k)
+
+-- the first collection and number of an object behind others
+abbrev pub IsNextOf : ℕ → ℕ → Option (ℕ × ℕ) → List Object → Type 0
+IsNextOf set n r os = MatchOption r ((c k : ℕ) → AreBehind set n c k → is_member c k os ≡ false)
+    (λ f. AreBehind set n f.0 f.1 × (is_member f.0 f.1 os ≡ true) × ((c k : ℕ) → AreBehind set n c k → is_member c k os ≡ true → (f.0 ≤ c) × (c ≡ f.0 → f.1 ≤ k)))
 
 -- an origin in one of these collections
 abbrev pub is_of_sets : List ℕ → Origin → Bool
 is_of_sets sets (Declared m) = false
-is_of_sets sets (Allocated set p) = contains set sets
+is_of_sets sets (Allocated set p) = lists.contains set sets

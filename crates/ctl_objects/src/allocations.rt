@@ -1,6 +1,6 @@
 //! The allocated objects, which come and go in any order, or with their collection.
 
-ghost use Rattle.std.specs.Prelude.{◌≡◌, ◌+◌, ◌++◌, ◌∷◌, [], ℕ, List, OnOk, OnErr, replicate, is_some, nat_eq, not, vec_capacity, vec_len, ◌≤◌};
+ghost use Rattle.std.specs.Prelude.{◌≡◌, ◌+◌, ◌++◌, ◌∷◌, [], ℕ, List, IfSome, IsNone, OnOk, OnErr, replicate, is_some, nat_eq, not, true, vec_capacity, vec_len, ◌≤◌};
 ghost use Rattle.std.specs.Option.{option_map, option_map_or};
 ghost use Rattle.ctl_meaning.specs.World as W;
 ghost use Rattle.ctl_meaning.specs.Lists.{keep};
@@ -8,22 +8,23 @@ ghost use Rattle.ctl_meaning.specs.Names.{scalar_of};
 ghost use Rattle.ctl_meaning.specs.Objects.{cells_at, change_in, ends_with_master, is_of_set, object_in, with_cells};
 ghost use Rattle.ctl_meaning.specs.Changes.{new_object};
 ghost use Rattle.ctl_objects.specs.Existing.{IsKnown};
+ghost use Rattle.ctl_objects.specs.Members.{IsLeast, is_behind, lower, passes};
 ghost use Rattle.ctl_objects.specs.Order.{AreBelow, Rise};
-ghost use Rattle.ctl_objects.specs.Sets.{AreAmong, is_of_sets};
+ghost use Rattle.ctl_objects.specs.Sets.{IsNextOf, is_member, is_of_sets};
 ghost use Rattle.ctl_objects.specs.Stages.{with_step};
 
 use crate::existing::{Existing, Step};
-use crate::sets::{Sets, list_object, unlist_object};
+use crate::sets::{Sets, first_listed, list_object, unlist_object};
 use crate::stored::StoredObjects;
 use ctl_program::types::Ty;
-use number_map::NumberMap;
 use std::alloc::{AllocError, Global};
+use std::collections::BTreeSet;
 use std::marker::Model;
+use std::ops::Bound;
 
 /// The allocated objects with the collections that they belong to, which contracts see as a list of
 /// the meaning's objects. It ends by `close`.
 pub struct Allocations {
-    alloc: Global,
     objects: StoredObjects,
     sets: Sets,
 }
@@ -37,7 +38,7 @@ impl Model for Allocations {
 
     ghost view = { λ a. a.objects };
 
-    ghost invariant = { λ a. AreListed a.objects a.sets.values };
+    ghost invariant = { λ a. AreListed a.objects a.sets };
 }
 
 impl Allocations {
@@ -46,9 +47,8 @@ impl Allocations {
         ensures { result ≡ [] }
     {
         Allocations {
-            alloc,
             objects: StoredObjects::new(alloc),
-            sets: NumberMap::new(alloc),
+            sets: BTreeSet::new(alloc),
         }
     }
 
@@ -68,8 +68,14 @@ impl Allocations {
         ensures ok { OnOk result (self.new ≡ self.old ++ new_object number ty (replicate cells 0) (W.Allocated collection W.Standard) ∷ []) }
         ensures err { OnErr result (self.new ≡ self.old) }
     {
-        list_object(&mut self.sets, self.alloc, collection, number)?;
-        self.objects.add(number, ty, collection, cells)
+        list_object(&mut self.sets, collection, number)?;
+        match self.objects.add(number, ty, collection, cells) {
+            Ok(()) => Ok(()),
+            Err(refused) => {
+                unlist_object(&mut self.sets, collection, number);
+                Err(refused)
+            }
+        }
     }
 
     /// Reads a cell of a part of an object, by the first cell of the part: 0 where the object has
@@ -152,19 +158,63 @@ impl Allocations {
         let _ = &self.sets;
     }
 
+    /// Forgets the objects of a collection, one after another.
     fn close_set(&mut self, set: u64)
         ensures { self.new ≡ keep (λ o. not (is_of_set set o.origin)) self.old }
     {
-        match self.sets.remove(set) {
-            Some(members) => forget_members(&mut self.objects, set, members),
-            None => (),
+        while let Some(number) = self.first_of(set) {
+            self.forget(number);
         }
+    }
+
+    /// Answers the first object of a collection.
+    fn first_of(&self, set: u64) -> Option<u64>
+        ensures rise { Rise 0 self.now }
+        ensures some { IfSome result (λ n. is_member set n self.now ≡ true) }
+        ensures none { IsNone result → self.now ≡ keep (λ o. not (is_of_set set o.origin)) self.now }
+    {
+        match first_listed(&self.sets, Bound::Included((set, 0))) {
+            Some((found, number)) if found == set => Some(number),
+            _ => None,
+        }
+    }
+
+    /// Answers the number of the first object behind this number that was allocated for a
+    /// collection between two (RM 7.6.1). It looks twice at each collection between them that has
+    /// an object, and takes time in the logarithm of the number of objects each time.
+    pub fn next_member(&self, first: u64, last: u64, after: u64) -> Option<u64>
+        ensures { IsLeast (λ n. passes (is_behind first last after) n self.now ≡ true) result }
+    {
+        let mut least = None;
+        let mut collection = first;
+        while let Some((found, number)) = self.next_listed(collection, after) {
+            if found > last {
+                return least;
+            }
+            if number <= after {
+                // It is the first one of its collection: another one may be behind the number.
+                collection = found;
+            } else {
+                least = Some(lower(least, number));
+                if found == last {
+                    return least;
+                }
+                collection = found + 1;
+            }
+        }
+        least
+    }
+
+    /// Answers the first collection and number of an object behind these.
+    fn next_listed(&self, collection: u64, number: u64) -> Option<(u64, u64)>
+        ensures { IsNextOf collection number result self.now }
+    {
+        first_listed(&self.sets, Bound::Excluded((collection, number)))
     }
 
     /// Frees all memory.
     pub fn close(self) {
         let Allocations {
-            alloc: _alloc,
             objects,
             sets: _sets,
         } = self;
@@ -172,16 +222,12 @@ impl Allocations {
     }
 }
 
-/// Forgets the objects of a collection, which are among these numbers.
-fn forget_members(objects: &mut StoredObjects, set: u64, members: NumberMap<()>)
-    requires rise { Rise 0 objects.old }
-    requires among { AreAmong set objects.old members.values }
-    ensures { objects.new ≡ keep (λ o. not (is_of_set set o.origin)) objects.old }
+/// Answers the lower of these numbers, where there are two.
+fn lower(least: Option<u64>, number: u64) -> u64
+    ensures { result ≡ lower least number }
 {
-    let mut members = members;
-    while let Some((number, ())) = members.pop() {
-        if objects.is_of(number, set) {
-            let _ = objects.remove(number);
-        }
+    match least {
+        Some(other) if other < number => other,
+        _ => number,
     }
 }

@@ -4,12 +4,13 @@ ghost use Rattle.std.specs.Prelude.{◌≡◌, ◌≢◌, ◌+◌, ◌≤◌, �
 ghost use Rattle.std.specs.Option.{option_map, option_map_or};
 ghost use Rattle.ctl_program.specs.declared.types.Ty.TheVariants.{Record};
 ghost use Rattle.ctl_meaning.specs.World as W;
-ghost use Rattle.ctl_meaning.specs.Lists.{change_first, keep};
+ghost use Rattle.ctl_meaning.specs.Lists.{change_first, first_with, keep};
 ghost use Rattle.ctl_meaning.specs.Names.{scalar_of};
 ghost use Rattle.ctl_meaning.specs.Objects.{cells_at, change_in, ends_with_master, object_in, with_begun, with_cells, with_finalized, with_joined};
 ghost use Rattle.ctl_meaning.specs.Changes.{new_object};
 ghost use Rattle.ctl_objects.specs.Copies.{copied};
 ghost use Rattle.ctl_objects.specs.Existing.{IsKnown};
+ghost use Rattle.ctl_objects.specs.Members.{is_behind};
 ghost use Rattle.ctl_objects.specs.Order.{AreBelow, AreUpTo, IsAllocated, Rise};
 ghost use Rattle.ctl_objects.specs.Stages.{with_step};
 
@@ -76,7 +77,8 @@ impl Objects {
     }
 
     /// Allocates an object for a collection in the standard pool, with so many cells, all of them 0
-    /// (RM 4.8): its number is greater than all others. It takes time in the number of its cells.
+    /// (RM 4.8): its number is greater than all others. It takes time in the number of its cells,
+    /// and in the logarithm of the number of allocated objects.
     ///
     /// # Errors
     ///
@@ -237,8 +239,8 @@ impl Objects {
     }
 
     /// Forgets an allocated object, where it exists (RM 13.11.2): no declared object has this
-    /// number. It takes constant time on average, and time in the number of its cells where the
-    /// allocator does.
+    /// number. It takes time in the logarithm of the number of allocated objects, and in the number
+    /// of its cells where the allocator does.
     pub fn forget(&mut self, number: u64)
         requires { IfSome (object_in number self.old) (λ o. IsAllocated o.origin) }
         ensures { self.new ≡ keep (λ o. not (nat_eq o.number number)) self.old }
@@ -247,9 +249,20 @@ impl Objects {
         self.allocated.forget(number);
     }
 
+    /// Answers the number of the first object behind this number that was allocated for a
+    /// collection between two (RM 7.6.1). It takes time in the number of the collections between
+    /// them that have an object, and for each of them in the logarithm of the number of allocated
+    /// objects.
+    pub fn next_member(&self, first: u64, last: u64, after: u64) -> Option<u64>
+        ensures { result ≡ option_map (λ o. o.number) (first_with (is_behind first last after) self.now) }
+    {
+        self.declared.are_declared();
+        self.allocated.next_member(first, last, after)
+    }
+
     /// Forgets the objects of a master and those of its collections, these (RM 7.6.1): no declared
-    /// object has a greater master. It takes time in the number of the objects that go and of the
-    /// collections.
+    /// object has a greater master. It takes the time to forget the objects that go, and time in the
+    /// number of the collections.
     pub fn close_master(&mut self, master: u64, sets: &[u64])
         requires { AreUpTo master self.old }
         ensures { self.new ≡ keep (λ o. not (ends_with_master master sets.now o.origin)) self.old }

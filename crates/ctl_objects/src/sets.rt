@@ -1,57 +1,42 @@
-//! Which objects were allocated for each collection.
+//! Which objects were allocated for each collection, in the order of their numbers.
 
-ghost use Rattle.std.specs.Prelude.{◌≡◌, ◌≢◌, ℕ, OnOk, true};
-ghost use Rattle.std.specs.FinMap.{contains_key};
-ghost use Rattle.ctl_objects.specs.Sets.{is_listed, Keeps, KeepsOthers};
+ghost use Rattle.std.specs.Prelude.{◌≡◌, OnErr, OnOk, false, true};
+ghost use Rattle.ctl_objects.specs.Sets.{IsFirstListed, IsListedAs};
 
-use number_map::NumberMap;
-use std::alloc::{AllocError, Global};
+use std::alloc::AllocError;
+use std::collections::BTreeSet;
+use std::ops::Bound;
 
-/// The numbers of objects, by the collection that they are listed for. One that is gone may still
-/// be listed.
-pub(crate) type Sets = NumberMap<NumberMap<()>>;
+/// Collections with the numbers of their objects, in the order of the collections, and within one
+/// in that of the numbers.
+pub(crate) type Sets = BTreeSet<(u64, u64)>;
 
-/// Lists an object for a collection.
+/// Lists an object for a collection. It takes time in the logarithm of the number of those listed.
 ///
 /// # Errors
 ///
-/// `AllocError` where the allocator refuses the memory.
-pub(crate) fn list_object(
-    sets: &mut Sets,
-    alloc: Global,
-    collection: u64,
-    number: u64,
-) -> Result<(), AllocError>
-    ensures kept { Keeps sets.old.values sets.new.values }
-    ensures listed { OnOk result (is_listed collection number sets.new.values ≡ true) }
+/// `AllocError` where the allocator refuses the memory. Nothing changes then.
+pub(crate) fn list_object(sets: &mut Sets, collection: u64, number: u64) -> Result<(), AllocError>
+    ensures ok { OnOk result (IsListedAs true collection number sets.old sets.new) }
+    ensures err { OnErr result (sets.new.keys ≡ sets.old.keys) }
 {
-    open_set(sets, alloc, collection)?;
-    let Some(members) = sets.get_mut(collection) else {
-        unreachable!();
-    };
-    members.reserve()?;
-    members.put(number, ());
+    let _ = sets.insert((collection, number))?;
     Ok(())
 }
 
-/// Makes a list for a collection that has none.
-fn open_set(sets: &mut Sets, alloc: Global, collection: u64) -> Result<(), AllocError>
-    ensures kept { Keeps sets.old.values sets.new.values }
-    ensures open { OnOk result (contains_key sets.new.values collection ≡ true) }
-{
-    if sets.contains(collection) {
-        return Ok(());
-    }
-    sets.reserve()?;
-    sets.put(collection, NumberMap::new(alloc));
-    Ok(())
-}
-
-/// Takes an object from the list of a collection.
+/// Takes an object from the list of a collection, in the same time.
 pub(crate) fn unlist_object(sets: &mut Sets, collection: u64, number: u64)
-    ensures { KeepsOthers number sets.old.values sets.new.values }
+    ensures { IsListedAs false collection number sets.old sets.new }
 {
-    if let Some(members) = sets.get_mut(collection) {
-        let _ = members.remove(number);
+    let _ = sets.remove(&(collection, number));
+}
+
+/// Finds the first collection and number that are listed from a start on, in the same time.
+pub(crate) fn first_listed(sets: &Sets, start: Bound<(u64, u64)>) -> Option<(u64, u64)>
+    ensures { IsFirstListed start result sets.now }
+{
+    match sets.range((start, Bound::Unbounded)).next() {
+        Some(first) => Some(*first),
+        None => None,
     }
 }

@@ -5,12 +5,13 @@ ghost use Rattle.std.specs.Option.{option_map, option_map_or};
 ghost use Rattle.ctl_meaning.specs.World as W;
 ghost use Rattle.ctl_meaning.specs.Lists.{keep};
 ghost use Rattle.ctl_meaning.specs.Names.{scalar_of};
-ghost use Rattle.ctl_meaning.specs.Objects.{cells_at, change_in, first_cells, is_of_set, object_in, with_cells};
+ghost use Rattle.ctl_meaning.specs.Objects.{cells_at, change_in, first_cells, object_in, with_cells};
 ghost use Rattle.ctl_meaning.specs.Changes.{new_object};
 ghost use Rattle.pool_store.specs.Store.{with_word, words_of};
 ghost use Rattle.ctl_objects.specs.Existing.{IsKnown};
 ghost use Rattle.ctl_objects.specs.InStore.{words_written};
 ghost use Rattle.ctl_objects.specs.Order.{AreBelow};
+ghost use Rattle.ctl_objects.specs.Sets.{is_member};
 ghost use Rattle.ctl_objects.specs.Stages.{with_step};
 
 use crate::existing::{Existing, Origin, Stage, Step};
@@ -168,16 +169,6 @@ impl StoredObjects {
         }
     }
 
-    /// Answers whether an object exists that was allocated for this collection.
-    pub fn is_of(&self, number: u64, collection: u64) -> bool
-        ensures { result ≡ option_map_or (λ o. is_of_set collection o.origin) (object_in number self.now) false }
-    {
-        match self.objects.get(number) {
-            Some(object) => object.collection == collection,
-            None => false,
-        }
-    }
-
     /// Takes a step of an object. It answers whether the object exists.
     pub fn step(&mut self, number: u64, step: Step) -> bool
         ensures exists { result ≡ is_some (object_in number self.old) }
@@ -193,7 +184,8 @@ impl StoredObjects {
     /// Removes an object, with its cells. It answers the collection that it was allocated for,
     /// where it existed.
     pub fn remove(&mut self, number: u64) -> Option<u64>
-        ensures { self.new ≡ keep (λ o. not (nat_eq o.number number)) self.old }
+        ensures collection { (set : ℕ) → is_member set number self.old ≡ option_map_or (λ c. nat_eq c set) result false }
+        ensures gone { self.new ≡ keep (λ o. not (nat_eq o.number number)) self.old }
     {
         let removed = self.objects.remove(number);
         let _ = self.store.vacate(number);

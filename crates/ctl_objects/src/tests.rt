@@ -162,6 +162,52 @@ fn objects_stand_side_by_side(rt: HostRuntime) {
     assert_eq!(rt; left, [11, 100, 100, 100]);
 }
 
+/// Allocates objects 1, 4 and 6 for collection 7, 2 and 5 for collection 5, and 3 for collection 9.
+fn six_members(objects: &mut Numbered) -> [u64; 6] {
+    [
+        objects.allocate(7, 1),
+        objects.allocate(5, 1),
+        objects.allocate(9, 1),
+        objects.allocate(7, 1),
+        objects.allocate(5, 1),
+        objects.allocate(7, 1),
+    ]
+}
+
+/// The first members of these collections behind a number, one after another, 100 where there is
+/// none.
+fn three_members(objects: &Numbered, first: u64, last: u64, after: u64) -> [u64; 3] {
+    let o = &objects.objects;
+    let one = o.next_member(first, last, after).unwrap_or(100);
+    let two = o.next_member(first, last, one).unwrap_or(100);
+    [one, two, o.next_member(first, last, two).unwrap_or(100)]
+}
+
+#[test]
+fn members_come_in_order(rt: HostRuntime) {
+    let mut objects = Numbered::new(rt.alloc());
+    let numbers = six_members(&mut objects);
+    let start = three_members(&objects, 5, 7, 0);
+    let rest = three_members(&objects, 5, 7, 4);
+    let one_collection = three_members(&objects, 7, 7, 0);
+    let last = three_members(&objects, 8, u64::MAX, 0);
+    let none = three_members(&objects, 7, 5, 0);
+    let gone = [objects.forget(2), objects.forget(4)];
+    let left = three_members(&objects, 5, 7, 0);
+    objects.leave(&[7]);
+    let closed = three_members(&objects, 0, 8, 0);
+    objects.finish().close();
+    assert_eq!(rt; numbers, [1, 2, 3, 4, 5, 6]);
+    assert_eq!(rt; start, [1, 2, 4]);
+    assert_eq!(rt; rest, [5, 6, 100]);
+    assert_eq!(rt; one_collection, [1, 4, 6]);
+    assert_eq!(rt; last, [3, 100, 100]);
+    assert_eq!(rt; none, [100, 100, 100]);
+    assert_eq!(rt; gone, [true, true]);
+    assert_eq!(rt; left, [1, 5, 6]);
+    assert_eq!(rt; closed, [5, 100, 100]);
+}
+
 /// The cells of objects 1 and 2, read one by one.
 fn cells_of_two(objects: &Objects) -> [u64; 5] {
     [

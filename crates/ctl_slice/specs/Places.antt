@@ -14,7 +14,7 @@ use Rattle.ctl_syntax.specs.declared.item.Statement.TheOpen.{Statement-F}
 use Rattle.ctl_syntax.specs.declared.item.Tree.{Tree}
 use Rattle.ctl_slice.specs.declared.construct.Support.{Support}
 use Rattle.ctl_slice.specs.declared.construct.Support.TheVariants.{Run, LeftOut}
-use Rattle.ctl_slice.specs.Constructs.{of_heading, of_type, of_objects, of_call}
+use Rattle.ctl_slice.specs.Constructs.{of_heading, of_type, of_objects, of_value, of_call}
 
 -- a place that may be there
 abbrev pub Place : Type 0
@@ -47,7 +47,7 @@ abbrev pub item_of : Span → ItemKind Definition Use Place → Place
 item_of place (kind.Declaration s) = where_left_out (of_heading s) place
 item_of place (kind.Body s inside) = body_of (of_heading s) place inside
 item_of place (kind.Instance n m actuals) = Some place
-item_of place (kind.Incomplete n t) = Some place
+item_of place (kind.Incomplete n t) = None
 item_of place (kind.«Type» n d) = where_left_out (of_type d) place
 item_of place (kind.StoragePool t m) = Some place
 item_of place (kind.Exceptions ns) = None
@@ -71,10 +71,10 @@ conditional first more otherwise = earliest (branch first) (first_of (map branch
 
 abbrev pub statement_step : Statement-F Definition Use Place Place Place → Place
 statement_step (Statement-F.Null place) = None
-statement_step (Statement-F.Assignment place to x) = None
+statement_step (Statement-F.Assignment place to x) = where_left_out (of_value (Some x)) place
 statement_step (Statement-F.Call place n) = where_left_out (of_call n) place
 statement_step (Statement-F.Exit place c) = None
-statement_step (Statement-F.Return place x) = None
+statement_step (Statement-F.Return place x) = where_left_out (of_value x) place
 statement_step (Statement-F.Raise place m) = None
 statement_step (Statement-F.RaiseAgain place) = None
 statement_step (Statement-F.If place first more otherwise) = conditional first more otherwise

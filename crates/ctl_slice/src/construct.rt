@@ -1,12 +1,14 @@
 //! Items and statements by themselves, without those that they hold.
 
-ghost use Rattle.std.specs.Prelude.{◌≡◌};
+ghost use Rattle.std.specs.Prelude.{◌≡◌, Some};
 ghost use Rattle.ctl_slice.specs.Constructs as spec;
 
 use ctl_grammar::spelling::is_same_name;
 use ctl_syntax::denoted::{Definition, Denoted, LibraryName, Use};
 use ctl_syntax::expression::Expression;
-use ctl_syntax::item::{Components, Definition as TypeDefinition, Formal, Objects, Specification};
+use ctl_syntax::item::{
+    Components, Coverage, Definition as TypeDefinition, Formal, Generality, Objects, Specification,
+};
 use ctl_syntax::name::Name;
 
 /// Whether this version runs a construct.
@@ -108,14 +110,24 @@ fn may_default(default: &Option<Expression<Use>>) -> bool
     }
 }
 
+/// Tells whether there is no default expression, or null (RM 3.8, 4.2).
+fn may_be_null(default: &Option<Expression<Use>>) -> bool
+    ensures { result ≡ spec.may_be_null default.now }
+{
+    match default {
+        Some(default) => matches!(default, Expression::Null(_)),
+        None => true,
+    }
+}
+
 /// Tells whether components are run: of a scalar type, without a default expression or with a literal; or of a type of the text without one
-/// (RM 3.8).
+/// or with null (RM 3.8).
 fn may_be_component(components: &Components<Use>) -> bool
     ensures { result ≡ spec.may_be_component components.now }
 {
     let denoted = components.mark.first.denoted;
     (is_scalar(denoted) && may_default(&components.default))
-        || (is_of_text(denoted) && components.default.is_none())
+        || (is_of_text(denoted) && may_be_null(&components.default))
 }
 
 /// Tells whether all of these are.
@@ -131,7 +143,8 @@ fn may_all_be_components(all: &[Components<Use>]) -> bool
 }
 
 /// Judges a type: a record with such components alone is run (RM 3.8), and so is one that extends Controlled, Limited_Controlled or a type of
-/// the text by them (RM 3.9.1, 7.6).
+/// the text by them (RM 3.9.1, 7.6), and an access type without `all` for one type of the text, of objects in the standard pool (RM 3.10,
+/// 13.11).
 pub(crate) fn of_type(definition: &TypeDefinition<Use>) -> Support
     ensures { result ≡ spec.of_type definition.now }
 {
@@ -142,7 +155,12 @@ pub(crate) fn of_type(definition: &TypeDefinition<Use>) -> Support
         TypeDefinition::Extension(parent, added) => support_when(
             may_be_extended(parent.first.denoted) && may_all_be_components(added.as_slice()),
         ),
-        _ => Support::LeftOut,
+        TypeDefinition::Access(generality, designated, coverage, pool) => support_when(
+            matches!(generality, Generality::PoolSpecific)
+                && is_of_text(designated.first.denoted)
+                && matches!(coverage, Coverage::Specific)
+                && pool.is_none(),
+        ),
     }
 }
 
@@ -167,7 +185,42 @@ fn is_scalar(denoted: Denoted) -> bool
     )
 }
 
-/// Judges objects: scalar ones are run, and others of a declared type without discriminants (RM 3.3.1).
+/// Tells whether an expression is an allocator with a value, or with a handle (RM 4.8, 13.11.4).
+fn is_allocator_with_operands(expression: &Expression<Use>) -> bool
+    ensures { result ≡ spec.is_allocator_with_operands expression.now }
+{
+    match expression {
+        Expression::New(_, handle, _, value) => handle.is_some() || value.is_some(),
+        _ => false,
+    }
+}
+
+/// Tells whether there is such an expression.
+fn has_allocator_with_operands(value: &Option<Expression<Use>>) -> bool
+    ensures { result ≡ spec.has_allocator_with_operands value.now }
+{
+    match value {
+        Some(value) => is_allocator_with_operands(value),
+        None => false,
+    }
+}
+
+/// Judges a value that is assigned: each but an allocator with a value or a handle is run (RM 4.8, 5.2).
+pub(crate) fn of_assigned(value: &Expression<Use>) -> Support
+    ensures { result ≡ spec.of_value (Some value.now) }
+{
+    support_when(!is_allocator_with_operands(value))
+}
+
+/// Judges a value that is returned, if there is one, in the same way (RM 6.5).
+pub(crate) fn of_returned(value: &Option<Expression<Use>>) -> Support
+    ensures { result ≡ spec.of_value value.now }
+{
+    support_when(!has_allocator_with_operands(value))
+}
+
+/// Judges objects: scalar ones are run, and others of a declared type without discriminants, and none whose value is an allocator with a
+/// value or a handle (RM 3.3.1, 4.8).
 pub(crate) fn of_objects(objects: &Objects<Definition, Use>) -> Support
     ensures { result ≡ spec.of_objects objects.now }
 {
@@ -175,7 +228,7 @@ pub(crate) fn of_objects(objects: &Objects<Definition, Use>) -> Support
         Denoted::Declared(_, _) => objects.discriminants.as_slice().is_empty(),
         denoted => is_scalar(denoted),
     };
-    support_when(is_run)
+    support_when(is_run && !has_allocator_with_operands(&objects.value))
 }
 
 /// Tells whether this is declared in the text, where it is judged.

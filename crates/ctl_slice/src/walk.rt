@@ -3,7 +3,9 @@
 ghost use Rattle.std.specs.Prelude.{◌≡◌, map};
 ghost use Rattle.ctl_slice.specs.Places as spec;
 
-use crate::construct::{Support, of_call, of_heading, of_objects, of_type};
+use crate::construct::{
+    Support, of_assigned, of_call, of_heading, of_objects, of_returned, of_type,
+};
 use ctl_syntax::denoted::{Definition, Named, Use};
 use ctl_syntax::item::{Body, Branch, Handler, Item, ItemKind, Statement};
 use ctl_tree::span::Span;
@@ -94,10 +96,8 @@ fn item(item: &Item<Definition, Use>) -> Option<Span>
         },
         ItemKind::Type(_, definition) => where_left_out(of_type(definition), item.span),
         ItemKind::Objects(objects) => where_left_out(of_objects(objects), item.span),
-        ItemKind::Exceptions(_) => None,
-        ItemKind::Instance(..) | ItemKind::Incomplete(..) | ItemKind::StoragePool(..) => {
-            Some(item.span)
-        }
+        ItemKind::Exceptions(_) | ItemKind::Incomplete(..) => None,
+        ItemKind::Instance(..) | ItemKind::StoragePool(..) => Some(item.span),
     }
 }
 
@@ -121,11 +121,11 @@ fn statement(statement: &Statement<Definition, Use>) -> Option<Span>
 {
     match statement {
         Statement::Null(_)
-        | Statement::Assignment(..)
         | Statement::Exit(..)
-        | Statement::Return(..)
         | Statement::Raise(..)
         | Statement::RaiseAgain(_) => None,
+        Statement::Assignment(place, _, value) => where_left_out(of_assigned(value), *place),
+        Statement::Return(place, value) => where_left_out(of_returned(value), *place),
         Statement::Call(place, name) => where_left_out(of_call(name), *place),
         Statement::If(_, first, more, otherwise) => {
             let opening = branch(first);

@@ -146,7 +146,7 @@ module _ (k : Setting) (env : Frames) (tables : Tables) (sound : Sound k env tab
       let w : HasAccess k env a = subst (λ x. AskedFine k env x) h.asks q in
       let same_one : w.is.designated ≡ t = designated_is a t w (designated_by tables a) refl h.designates in
       record {
-        typed = rule.allocate w (subst (λ u. Covers k u t) (sym same_one) same_type) v i j;
+        typed = rule.allocate w same_one v i j;
         in_view = w;
         met = subst (λ x. spec.meets x (ty.Access a) ≡ true) (sym h.asks) (same_self (ty.Access a));
         scalar = refl;

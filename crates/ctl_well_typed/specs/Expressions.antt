@@ -34,7 +34,7 @@ mutual
     -- access values of one designated type are converted without a sign in the program (4.6)
     as_access : {x : Expr} {a b : ℕ} {from to : AccessType} → slice_get k.accesses a ≡ Some from → slice_get k.accesses b ≡ Some to → from.designated ≡ to.designated → Typed k env x (ty.Access a) → Typed k env x (ty.Access b)
     access : {v : Var} {t a : ℕ} {x : AccessType} → Names env v (Declared (ty.Record t)) → slice_get k.accesses a ≡ Some x → x.designated ≡ ty.Record t → Typed k env (e.Access v) (ty.Access a)
-    allocate : {a : ℕ} {t : Ty} {handle value : Option Expr} → (to : HasAccess k env a) → Covers k to.is.designated t → InView k env t → Perhaps k env handle ty.Handle → Perhaps k env value t → Typed k env (e.New a t handle value) (ty.Access a)
+    allocate : {a : ℕ} {t : Ty} {handle value : Option Expr} → (to : HasAccess k env a) → to.is.designated ≡ t → InView k env t → Perhaps k env handle ty.Handle → Perhaps k env value t → Typed k env (e.New a t handle value) (ty.Access a)
     subpool : {which : SubpoolFunction} {x : Name} {t : ℕ} → Denotes k env x (ty.Record t) → HasRoot k t root.MarkPool → Typed k env (e.Subpool which x) ty.Handle
     discriminant : {x : Name} {t i : ℕ} {r : Root} → Denotes k env x (ty.Record t) → HasRoot k t r → HasDiscriminant r i → Typed k env (e.Discriminant x i) ty.Count
 

@@ -594,6 +594,7 @@ fn code_of(
             },
         ]?,
         layouts: vec![in alloc; layout_of_two(alloc)?]?,
+        accesses: Vec::new(alloc),
         texts: vec![in alloc; two_images(alloc)?]?,
         exceptions: vec![in alloc; Text::from_slice(alloc, b"CONSTRAINT_ERROR")?]?,
     })

@@ -97,6 +97,7 @@ fn code_with(
         entries,
         records,
         layouts: layouts_of(alloc, layout, finalizers.len())?,
+        accesses: Vec::new(alloc),
         texts: texts_of(alloc)?,
         exceptions: vec![in alloc; Text::from_slice(alloc, b"CONSTRAINT_ERROR")?]?,
     })

@@ -144,6 +144,7 @@ fn unchecked(
         entries: entries(alloc)?,
         records: vec![in alloc; records[0], records[1], records[2]]?,
         layouts: vec![in alloc; layout_of_part(alloc)?, second, last]?,
+        accesses: Vec::new(alloc),
         texts: Vec::new(alloc),
         exceptions: vec![in alloc; Text::from_slice(alloc, b"CONSTRAINT_ERROR")?]?,
     })

@@ -2,6 +2,8 @@
 #![tactic(auto)]
 
 #[cfg(test)]
+mod allocated;
+#[cfg(test)]
 mod assigned;
 #[cfg(test)]
 mod called;

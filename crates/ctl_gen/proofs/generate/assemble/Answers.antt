@@ -1,4 +1,4 @@
-use Rattle.std.proofs.Common.{◌≡◌, ◌++◌, ◌+◌, ◌<◌, ◌≤◌, [], ◌∷◌, None, length, drop, sym, ap, ◌∙◌, subst, get_or, append-nil}
+use Rattle.std.proofs.Common.{◌≡◌, ◌++◌, ◌+◌, ◌<◌, ◌≤◌, [], ◌∷◌, None, length, map, drop, sym, ap, ◌∙◌, subst, get_or, append-nil}
 use Rattle.std.specs.Prelude.{slice_get}
 use Rattle.std.proofs.lemmas.List.{drop_all}
 use Rattle.ctl_code.specs.declared.code.Instr.TheVariants.{Start}
@@ -58,8 +58,9 @@ returns-clause-laid_out c =
       entries = sym (append-nil done) ∙ ap (λ xs. done ++ entries_from (length e.instructions) (length e.texts) xs) end ∙ c.loop-subprogram.invariant.1;
       records = c.in_ok-records.ensures ∙ ap operations_of c.as_slice.ensures;
       layouts = subst (λ rs. AreLayouts [] c.in_ok-layouts.layouts.items rs) c.as_slice-2.ensures c.in_ok-layouts.ensures;
+      accesses = c.in_ok-accesses.ensures ∙ ap (map (λ a. a.collection)) c.as_slice-3.ensures;
       texts = c.finish-instructions.ensures.texts ∙ all_texts p e all;
-      exceptions = c.in_ok-exceptions.ensures ∙ c.as_slice-3.ensures;
+      exceptions = c.in_ok-exceptions.ensures ∙ c.as_slice-4.ensures;
     }
 
 pub returns-clause-kinds : goal.returns-clause-kinds

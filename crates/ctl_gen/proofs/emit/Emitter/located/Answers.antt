@@ -4,4 +4,4 @@ use Rattle.ctl_gen.proofs.emit.Emitter.located.Goals as goal
 
 pub returns : goal.returns
 returns c = on_ok _ _ c.selects.result c.selects.ensures (
-    part_located c.args.of c.args.steps.now c.args.record c.first_type.result c.args.self.now c.locate.new.self c.selects.new.self c.first_type.ensures c.in_ok-locate.ensures)
+    part_located c.args.of c.args.steps.now c.args.record c.args.self.now c.find.new.self c.selects.new.self c.in_ok-find.ensures)

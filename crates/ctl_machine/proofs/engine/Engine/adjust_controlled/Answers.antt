@@ -26,7 +26,7 @@ call_adjust_of-requires g c =
     let x = c.args.adjustment in
     let some = c.in-Some.ensures.some in
     let doubles = c.requires.1.1.1.1.0 in
-    (c.requires.0, (c.requires.1.0, (c.requires.1.1.0, (c.requires.1.1.1.0, (doubles, (c.requires.1.1.1.1.1.0, adjusts_it c.args.code.now old c.in-Some-adjust_of.entry x c.in-Some.master g.t (object_or_there old.objects c.object.result g.t.spot.object c.in-Some.master some (c.object.ensures ∙ ap (λ (s : Spot). s.object) doubles.spot)) c.in-Some-adjust_of.ensures.some))))))
+    (c.requires.0, (c.requires.1.0, (c.requires.1.1.0, (c.requires.1.1.1.0, (doubles, (c.requires.1.1.1.1.1.0, adjusts_it c.args.code.now old c.in-Some-adjust_of.entry x c.in-Some.master g.t (object_or_there old.owned.items old.objects c.object.result g.t.spot.object c.in-Some.master some (c.object.ensures ∙ ap (λ (s : Spot). s.object) doubles.spot)) c.in-Some-adjust_of.ensures.some))))))
 
 pub adjusted-requires : goal.adjusted-requires
 adjusted-requires g c =

@@ -27,7 +27,7 @@ returns g c =
     ∙ (reverse-append c.push_reserved.new.self.items (adjusting ∷ [])
     ∙ (ap (λ (l : List Frame). adjusting ∷ reverse l) c.push_reserved.ensures.items ∙ ap (λ (l : List Frame). adjusting ∷ l) (reverse-append old.control.items (copying ∷ [])))) in
     let spots = c.push_reserved-3.ensures.items ∙ ap (λ (s : Spot). old.spots.items ++ s ∷ []) c.whole-whole.ensures in
-    copy_begins code old _ c.args.record c.args.place c.args.master c.count_noted-first.result old.given_objects c.controlled_left.result g.t c.requires.0 (λ (plain : parts_of code c.args.record ≡ PartsOf.Plain). c.in_default.not-Plain (c.parts_of.ensures ∙ plain)) c.requires.1.0 (c.count_noted-first.ensures) refl
+    copy_begins code old _ c.args.record c.args.place c.args.master c.count_noted-first.result old.numbered.objects c.controlled_left.result g.t c.requires.0 (λ (plain : parts_of code c.args.record ≡ PartsOf.Plain). c.in_default.not-Plain (c.parts_of.ensures ∙ plain)) c.requires.1.0 (c.count_noted-first.ensures) refl
     c.controlled_left.ensures
     (ap (λ (l : List Frame). with_frames l c.push_reserved-3.new.self.items (kept old)) control ∙ ap (λ (l : List Spot). with_frames (adjusting ∷ copying ∷ reverse old.control.items) l (kept old)) spots)
     refl refl refl

@@ -1,5 +1,6 @@
 use Rattle.std.proofs.Common.{◌≡◌, ◌++◌, ◌∷◌, ◌∙◌, [], ℕ, List, Option, Some, ap, refl, subst, sym}
 use Rattle.ctl_tree.specs.declared.event.Event.{Event}
+use Rattle.ctl_tree.specs.declared.event.Owner.TheVariants as OwnerOf
 use Rattle.ctl_tree.specs.declared.event.Part.{Part}
 use Rattle.ctl_meaning.specs.Finalization.{Spot}
 use Rattle.ctl_code.specs.Table.{adjusted, birth, birth_in, operation_of}
@@ -34,8 +35,8 @@ returns g c =
     let m = c.in-Some.master in
     let spot = c.requires.1.1.1.1.0 in
     let part = c.requires.1.1.1.1.1 in
-    let shown : birth c.finalize_in-finalize.result c.args.part m ≡ birth_in code (Some m) t.spot x.record_type =
-    ap (λ (o : Option ℕ). birth o c.args.part m) c.finalize_in-finalize.ensures ∙ ap (λ (y : Part). birth (operation_of (λ o. o.finalize) code x.record_type) y m) part in
+    let shown : birth c.finalize_in-finalize.result c.args.part (OwnerOf.Master m) ≡ birth_in code (Some m) t.spot x.record_type =
+    ap (λ (o : Option ℕ). birth o c.args.part (OwnerOf.Master m)) c.finalize_in-finalize.ensures ∙ ap (λ (y : Part). birth (operation_of (λ o. o.finalize) code x.record_type) y (OwnerOf.Master m)) part in
     let noted = c.push_reserved.ensures.items ∙ ap (λ (s : Spot). old.noted.items ++ s ∷ []) spot in
     let new : Engine = record old { mode = ModeOf.Giving c.handed.result; events = c.show_life.new.events; noted = c.push_reserved.new.self } in
     subst (λ (z : Option ℕ). Makes code old new (adjusted code z t.spot x.record_type x.failed t.control t.world)) (sym c.in-Some.is)

@@ -15,13 +15,13 @@ use Rattle.ctl_machine.proofs.engine.Engine.begin_component.Goals as goal
 
 pub index-requires : goal.index-requires
 index-requires g c =
-    let some = has_spots c.args.code.now c.args.self.now c.args.creation.record_type c.args.creation.master g.t.0 c.requires.0 in
+    let some = has_spots c.args.code.now c.args.self.now c.args.creation.record_type c.args.creation.owner g.t.0 c.requires.0 in
     let count = c.count_spots-newest.ensures.count in
     omega (arith, some, count)
 
 pub replace_top-requires : goal.replace_top-requires
 replace_top-requires g c =
-    let some = has_frames c.args.code.now c.args.self.now c.args.creation.record_type c.args.creation.master g.t.0 c.requires.0 in
+    let some = has_frames c.args.code.now c.args.self.now c.args.creation.record_type c.args.creation.owner g.t.0 c.requires.0 in
     let long = c.args.self.now.control.ok.0 in
     let same = c.in_ok-reserve.ensures.len in
     omega (arith, some, long, same)
@@ -31,7 +31,7 @@ begin_part-requires g c =
     let code = c.args.code.now in
     let old = c.args.self.now in
     let x = c.args.creation in
-    let frame = FrameOf.Filling x.record_type x.master c.args.rest c.args.left in
+    let frame = FrameOf.Filling x.record_type x.owner c.args.rest c.args.left in
     let mid : Engine = record old { control = c.replace_top.new.control; spots = c.reserve-2.new.self } in
     let is : kept mid ≡ with_next frame (kept old) =
     ap (λ (l : List Frame). record (kept old) { control = l; spots = c.reserve-2.new.self.items }) (c.replace_top.ensures.items ∙ ap (λ (l : List Frame). frame ∷ drop 1 (reverse l)) c.in_ok-reserve.ensures.items)
@@ -40,8 +40,8 @@ begin_part-requires g c =
     let long = c.replace_top.ensures.len in
     let wide = c.replace_top.ensures.capacity in
     let spots = c.in_ok-reserve-2.ensures.ok in (
-      child_awaits code old mid x.record_type x.master c.args.record c.select.new.self g.t.0 c.args.rest c.args.left g.t.2 g.t.1 c.requires.0 c.requires.1.1 c.requires.1.0 is,
-      (record { type_is = refl; master_is = c.requires.0.is_of.master_is }, (refl, (omega (arith, room, long, wide), omega (arith, spots)))),
+      child_awaits code old mid x.record_type x.owner c.args.record c.select.new.self g.t.0 c.args.rest c.args.left g.t.2 g.t.1 c.requires.0 c.requires.1.1 c.requires.1.0 is,
+      (record { type_is = refl; owner_is = c.requires.0.is_of.owner_is }, (refl, (omega (arith, room, long, wide), omega (arith, spots)))),
     )
 
 pub returns-clause-ok : goal.returns-clause-ok

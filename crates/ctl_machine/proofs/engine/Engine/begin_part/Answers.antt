@@ -12,9 +12,9 @@ pub returns-clause-begins : goal.returns-clause-begins
 returns-clause-begins g c =
     let old = c.args.self.now in
     let those : Left = record { first = 0; last = c.count_begun.result } in
-    let frame = FrameOf.Filling c.args.record c.args.master those those in
+    let frame = FrameOf.Filling c.args.record c.args.owner those those in
     let control : reverse c.push_reserved-2.new.self.items ≡ frame ∷ reverse old.control.items = ap (λ (l : List Frame). reverse l) c.push_reserved-2.ensures.items ∙ reverse-append old.control.items (frame ∷ []) in
-    begins_makes c.args.code.now old _ g.t c.args.record c.args.master those c.push_reserved.new.self.items c.requires.0 c.requires.1.0 refl c.count_begun.ensures
+    begins_makes c.args.code.now old _ g.t c.args.record c.args.owner those c.push_reserved.new.self.items c.requires.0 c.requires.1.0 refl c.count_begun.ensures
     (c.push_reserved.ensures.items ∙ ap (λ (s : Spot). old.spots.items ++ s ∷ []) (sym c.requires.1.1.0))
     (ap (λ (l : List Frame). record (kept old) { control = l; spots = c.push_reserved.new.self.items }) control)
     refl refl refl

@@ -1,6 +1,7 @@
 use Rattle.std.proofs.Common.{drop, ◌≡◌, ◌∙◌, ◌+◌, ◌<◌, ◌≤◌, List, ℕ, ap, arith, length, refl, subst, sym}
 use Rattle.std.specs.Prelude.{vec_capacity, vec_len}
 use Rattle.ctl_meaning.specs.Objects.{object_in}
+use Rattle.ctl_machine.specs.declared.frame.Numbered.{Numbered}
 use Rattle.ctl_machine.specs.declared.frame.Owned.{Owned}
 use Rattle.ctl_objects.specs.Order as Order
 use Rattle.ctl_machine.specs.Declaring.{IsCopied}
@@ -59,9 +60,9 @@ pub copy-requires : goal.copy-requires
 copy-requires g c = λ e.
     let old = c.args.self.now in
     let given = c.in_ok-create.ensures.number in
-    let before = c.in_ok-reserve_object.ensures.number in
+    let before = ap (λ (n : Numbered). n.objects) c.in_ok-reserve_object.ensures.number in
     let some = some_there (object_in c.object-source.result old.objects) (sym c.exists.ensures ∙ c.if-not-exists.false) in
-    let less = found_below old.owned.items (old.given_objects + 1) old.objects c.object-source.result some.0 c.requires.1.0.inside.holds.owns some.1 in
+    let less = found_below old.owned.items (old.numbered.objects + 1) old.objects c.object-source.result some.0 c.requires.1.0.inside.holds.owns some.1 in
     omega (arith, e, given, before, less)
 
 pub adjust_new-requires : goal.adjust_new-requires
@@ -83,9 +84,9 @@ adjust_new-requires g c =
     let some = some_there (object_in c.object-source.result old.objects) (sym c.exists.ensures ∙ c.if-not-exists.false) in
     let number : c.object-source.result ≡ y.object = c.object-source.ensures ∙ ap (λ (x : Spot). x.object) spot in
     let start : c.offset-start.result ≡ y.offset = c.offset-start.ensures ∙ ap (λ (x : Spot). x.offset) spot in
-    let given : made.given_objects ≡ old.given_objects + 1 = c.in_ok-create.ensures.number ∙ ap (λ n. n + 1) c.in_ok-reserve_object.ensures.number in
+    let given : made.numbered.objects ≡ old.numbered.objects + 1 = c.in_ok-create.ensures.number ∙ ap (λ (n : Numbered). n.objects + 1) c.in_ok-reserve_object.ensures.number in
     let begun : Engine = record made { spots = c.take_last.new.self; objects = c.copy.new.self } in
-    let are = copy_kept (kept old) (kept ready) (kept made) c.copy.new.self c.take_last.new.self.items m c.args.slot c.args.record c.size_of-size.result c.object-source.result c.offset-start.result y.offset (size_of code c.args.record) made.given_objects some.0
+    let are = copy_kept (kept old) (kept ready) (kept made) c.copy.new.self c.take_last.new.self.items m c.args.slot c.args.record c.size_of-size.result c.object-source.result c.offset-start.result y.offset (size_of code c.args.record) made.numbered.objects some.0
     same.kept c.in_ok-create.ensures.kept given some.1 start c.size_of-size.ensures c.copy.ensures in
     let copied = copied_is code old mid begun c.args.place c.args.slot c.args.record g.s m some.0 c.requires.1.0 (ap (λ (l : List Spot). with_spots (kept old) l) popped) c.newest-newest.ensures.last
     (ap (λ n. object_in n old.objects) (sym number) ∙ some.1) are given in
@@ -128,9 +129,9 @@ returns-clause-ok g c =
     let some = some_there (object_in c.object-source.result old.objects) (sym c.exists.ensures ∙ c.if-not-exists.false) in
     let number : c.object-source.result ≡ y.object = c.object-source.ensures ∙ ap (λ (x : Spot). x.object) spot in
     let start : c.offset-start.result ≡ y.offset = c.offset-start.ensures ∙ ap (λ (x : Spot). x.offset) spot in
-    let given : made.given_objects ≡ old.given_objects + 1 = c.in_ok-create.ensures.number ∙ ap (λ n. n + 1) c.in_ok-reserve_object.ensures.number in
+    let given : made.numbered.objects ≡ old.numbered.objects + 1 = c.in_ok-create.ensures.number ∙ ap (λ (n : Numbered). n.objects + 1) c.in_ok-reserve_object.ensures.number in
     let begun : Engine = record made { spots = c.take_last.new.self; objects = c.copy.new.self } in
-    let are = copy_kept (kept old) (kept ready) (kept made) c.copy.new.self c.take_last.new.self.items m c.args.slot c.args.record c.size_of-size.result c.object-source.result c.offset-start.result y.offset (size_of code c.args.record) made.given_objects some.0
+    let are = copy_kept (kept old) (kept ready) (kept made) c.copy.new.self c.take_last.new.self.items m c.args.slot c.args.record c.size_of-size.result c.object-source.result c.offset-start.result y.offset (size_of code c.args.record) made.numbered.objects some.0
     same.kept c.in_ok-create.ensures.kept given some.1 start c.size_of-size.ensures c.copy.ensures in
     let copied = copied_is code old mid begun c.args.place c.args.slot c.args.record g.s m some.0 c.requires.1.0 (ap (λ (l : List Spot). with_spots (kept old) l) popped) c.newest-newest.ensures.last
     (ap (λ n. object_in n old.objects) (sym number) ∙ some.1) are given in

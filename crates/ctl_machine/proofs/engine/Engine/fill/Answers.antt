@@ -14,7 +14,7 @@ begun_at-component-requires g c =
     let code = c.args.code.now in
     let x = c.args.creation in
     let top = c.requires.1.0 in
-    let f = is_filling code c.args.self.now x.record_type x.master c.args.left top.0 top.1 g.s c.requires.0 top.2 in
+    let f = is_filling code c.args.self.now x.record_type x.owner c.args.left top.0 top.1 g.s c.requires.0 top.2 in
     let chosen = c.choose-chosen.ensures.chosen (begun_of code x.record_type) (left_in g.s.control) f.are in
     let b : Begun = record { position = 0; offset = 0; initial = Constant 0 } in
     slice_get_within (begun_of code x.record_type) c.choose-chosen.result.at _ (chosen.chosen b)
@@ -24,7 +24,7 @@ begin_chosen-requires g c =
     let code = c.args.code.now in
     let x = c.args.creation in
     let top = c.requires.1.0 in
-    let f = is_filling code c.args.self.now x.record_type x.master c.args.left top.0 top.1 g.s c.requires.0 top.2 in
+    let f = is_filling code c.args.self.now x.record_type x.owner c.args.left top.0 top.1 g.s c.requires.0 top.2 in
     let rest = (c.choose-chosen.ensures.chosen (begun_of code x.record_type) (left_in g.s.control) f.are).rest in
     (record { is_of = f.grows.is_of; newest = f.grows.newest; holds = f.grows.holds; spots = f.grows.spots; waits = f.grows.waits; sized = f.grows.sized }, (f.are, record { rising = rest.rising; within = rest.within; are = refl }))
 
@@ -34,11 +34,11 @@ returns-clause-ok g c = λ h.
     let old = c.args.self.now in
     let x = c.args.creation in
     let top = c.requires.1.0 in
-    let f = is_filling code old x.record_type x.master c.args.left top.0 top.1 g.s c.requires.0 top.2 in
+    let f = is_filling code old x.record_type x.owner c.args.left top.0 top.1 g.s c.requires.0 top.2 in
     let pick = c.choose-chosen.result.pick in
     let ready : Engine = record old { picks = c.reserve.new.self } in
     let mid = c.begin_chosen.new.self in
     let made = makes_later code old ready mid _ refl c.in_ok-reserve.ensures.items c.in_ok-begin_chosen.ensures.ok in
-    chosen_resumes code old mid _ x.record_type x.master c.args.left top.0 c.choose-chosen.result.rest pick c.choose-chosen.result.at g.s c.begun_at-component.result c.args.order h f c.requires.1.1 c.begun_at-component.ensures
+    chosen_resumes code old mid _ x.record_type x.owner c.args.left top.0 c.choose-chosen.result.rest pick c.choose-chosen.result.at g.s c.begun_at-component.result c.args.order h f c.requires.1.1 c.begun_at-component.ensures
     (c.choose-chosen.ensures.chosen (begun_of code x.record_type)) c.choose-chosen.ensures.pick made refl
     (c.note_pick.ensures ∙ (ap (λ (l : List ℕ). l ++ noted_among c.count.result pick) (ap (λ v. v.items) c.in_ok-begin_chosen.ensures.picks ∙ c.in_ok-reserve.ensures.items) ∙ ap (λ n. old.picks.items ++ noted_among n pick) c.count.ensures))

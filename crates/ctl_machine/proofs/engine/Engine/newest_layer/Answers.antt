@@ -1,5 +1,5 @@
 use Rattle.std.proofs.Common.{◌≡◌, ◌-◌, ◌∙◌, suc, drop, arith, ap}
-use Rattle.ctl_machine.specs.Masters.{rising_layers}
+use Rattle.ctl_machine.specs.Masters.{layer_of, rising_layers}
 use Rattle.ctl_machine.proofs.Links.{got}
 use Rattle.ctl_machine.proofs.NewestLayers.{none_from, none_there, none_below, not_a_layer}
 use Rattle.ctl_machine.proofs.engine.Engine.newest_layer.Goals as goal
@@ -23,7 +23,7 @@ loop-end-preserved c =
     let within = c.loop-end.invariant.0 in
     let next : suc (c.loop-end.end - 1) ≡ c.loop-end.end = omega (arith, some) in
     let found = got owned (c.loop-end.end - 1) c.index.result.now (omega (arith, some, within)) c.index.ensures in
-    (omega (arith, within), none_there owned (c.loop-end.end - 1) c.index.result.now found (not_a_layer c.index.result.now.is_layer c.index.result.now.number c.if-index.false) (ap (λ j. rising_layers (drop j owned)) next ∙ c.loop-end.invariant.1))
+    (omega (arith, within), none_there owned (c.loop-end.end - 1) c.index.result.now found (not_a_layer c.index.result.now.is_layer (layer_of c.index.result.now) c.if-index.false) (ap (λ j. rising_layers (drop j owned)) next ∙ c.loop-end.invariant.1))
 
 pub loop-end-init : goal.loop-end-init
 loop-end-init c =

@@ -13,15 +13,15 @@ use Rattle.ctl_machine.proofs.engine.Engine.resume_filling.Goals as goal
 pub complete_of-complete-requires : goal.complete_of-complete-requires
 complete_of-complete-requires g c =
     let top = c.requires.1.1.0 in
-    (c.requires.0, (is_filling c.args.code.now c.args.self.now c.args.record c.args.master c.args.left c.args.incomplete top.0 g.s c.requires.1.0 top.1).were)
+    (c.requires.0, (is_filling c.args.code.now c.args.self.now c.args.record c.args.owner c.args.left c.args.incomplete top.0 g.s c.requires.1.0 top.1).were)
 
 pub fail-requires : goal.fail-requires
 fail-requires g c =
     let code = c.args.code.now in
     let old = c.args.self.now in
     let top = c.requires.1.1.0 in
-    let f = is_filling code old c.args.record c.args.master c.args.left c.args.incomplete top.0 g.s c.requires.1.0 top.1 in
-    (c.requires.1.0, (gives_up_filling code old c.args.record c.args.master c.args.left c.args.incomplete g.s f, c.complete_of-complete.ensures))
+    let f = is_filling code old c.args.record c.args.owner c.args.left c.args.incomplete top.0 g.s c.requires.1.0 top.1 in
+    (c.requires.1.0, (gives_up_filling code old c.args.record c.args.owner c.args.left c.args.incomplete g.s f, c.complete_of-complete.ensures))
 
 pub returns-in-Raised-clause-ok : goal.returns-in-Raised-clause-ok
 returns-in-Raised-clause-ok g c =
@@ -29,21 +29,21 @@ returns-in-Raised-clause-ok g c =
     let old = c.args.self.now in
     let new = c.fail.new.self in
     let top = c.requires.1.1.0 in
-    let f = is_filling code old c.args.record c.args.master c.args.left c.args.incomplete top.0 g.s c.requires.1.0 top.1 in
+    let f = is_filling code old c.args.record c.args.owner c.args.left c.args.incomplete top.0 g.s c.requires.1.0 top.1 in
     on_ok_weaker c.fail.result
     (λ made. subst (λ (x : Ended). Resumes code old new c.args.order (tried_of x) g.s) (sym c.in-Raised.is)
-    (fails_filling code old new c.args.record c.args.master c.args.left c.args.incomplete g.s c.args.order c.in-Raised.exception f made))
+    (fails_filling code old new c.args.record c.args.owner c.args.left c.args.incomplete g.s c.args.order c.in-Raised.exception f made))
     c.fail.ensures.ok
 
 pub initialize-requires : goal.initialize-requires
 initialize-requires g c =
     let top = c.requires.1.1.0 in
-    (c.requires.0, ((is_filling c.args.code.now c.args.self.now c.args.record c.args.master c.args.left c.args.incomplete top.0 g.s c.requires.1.0 top.1).grows, c.requires.1.1.1))
+    (c.requires.0, ((is_filling c.args.code.now c.args.self.now c.args.record c.args.owner c.args.left c.args.incomplete top.0 g.s c.requires.1.0 top.1).grows, c.requires.1.1.1))
 
 pub fill-requires : goal.fill-requires
 fill-requires g c =
     let top = c.requires.1.1.0 in
-    let f = is_filling c.args.code.now c.args.self.now c.args.record c.args.master c.args.left c.args.incomplete top.0 g.s c.requires.1.0 top.1 in
+    let f = is_filling c.args.code.now c.args.self.now c.args.record c.args.owner c.args.left c.args.incomplete top.0 g.s c.requires.1.0 top.1 in
     let rising = f.are.rising in
     let differs = c.if-left.false in
     (c.requires.1.0, ((c.args.incomplete, top.0, top.1), omega (arith, rising, differs)))
@@ -54,12 +54,12 @@ returns-then-left g c =
     let old = c.args.self.now in
     let new = c.initialize.new.self in
     let top = c.requires.1.1.0 in
-    let f = is_filling code old c.args.record c.args.master c.args.left c.args.incomplete top.0 g.s c.requires.1.0 top.1 in
+    let f = is_filling code old c.args.record c.args.owner c.args.left c.args.incomplete top.0 g.s c.requires.1.0 top.1 in
     let fine = fine_of c.args.ended c.in_default.not-Raised in
     record {
       ok = on_ok_weaker c.initialize.result
           (λ made. subst (λ (t : Tried Handed). Resumes code old new c.args.order t g.s) (sym fine.1)
-          (initialized_resumes code old new c.args.record c.args.master c.args.left c.args.incomplete g.s c.args.order fine.0 f c.if-left.true made))
+          (initialized_resumes code old new c.args.record c.args.owner c.args.left c.args.incomplete g.s c.args.order fine.0 f c.if-left.true made))
           c.initialize.ensures.ok;
       err = c.initialize.ensures.err;
     }

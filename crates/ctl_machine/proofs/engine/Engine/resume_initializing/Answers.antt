@@ -15,8 +15,8 @@ fail-requires g c =
     let code = c.args.code.now in
     let old = c.args.self.now in
     let top = c.requires.1 in
-    let f = is_initializing code old c.args.record c.args.master top.0 g.s c.requires.0 top.1 in
-    (c.requires.0, (gives_up_initializing code old c.args.record c.args.master g.s f, c.all_controlled.ensures))
+    let f = is_initializing code old c.args.record c.args.owner top.0 g.s c.requires.0 top.1 in
+    (c.requires.0, (gives_up_initializing code old c.args.record c.args.owner g.s f, c.all_controlled.ensures))
 
 pub returns-in-Raised-clause-ok : goal.returns-in-Raised-clause-ok
 returns-in-Raised-clause-ok g c =
@@ -24,16 +24,16 @@ returns-in-Raised-clause-ok g c =
     let old = c.args.self.now in
     let new = c.fail.new.self in
     let top = c.requires.1 in
-    let f = is_initializing code old c.args.record c.args.master top.0 g.s c.requires.0 top.1 in
+    let f = is_initializing code old c.args.record c.args.owner top.0 g.s c.requires.0 top.1 in
     on_ok_weaker c.fail.result
     (λ made. subst (λ (x : Ended). Makes code old new (act code (Giving (tried_of x)) g.s.control g.s.operands g.s.world 0)) (sym c.in-Raised.is)
-    (fails_initializing code old new c.args.record c.args.master g.s c.in-Raised.exception f made))
+    (fails_initializing code old new c.args.record c.args.owner g.s c.in-Raised.exception f made))
     c.fail.ensures.ok
 
 pub complete-requires : goal.complete-requires
 complete-requires g c =
     let top = c.requires.1 in
-    (is_initializing c.args.code.now c.args.self.now c.args.record c.args.master top.0 g.s c.requires.0 top.1).grows
+    (is_initializing c.args.code.now c.args.self.now c.args.record c.args.owner top.0 g.s c.requires.0 top.1).grows
 
 pub returns-clause-ok : goal.returns-clause-ok
 returns-clause-ok g c =
@@ -41,9 +41,9 @@ returns-clause-ok g c =
     let old = c.args.self.now in
     let new = c.complete.new.self in
     let top = c.requires.1 in
-    let f = is_initializing code old c.args.record c.args.master top.0 g.s c.requires.0 top.1 in
+    let f = is_initializing code old c.args.record c.args.owner top.0 g.s c.requires.0 top.1 in
     let fine = fine_of c.args.ended c.in_default.not-Raised in
     on_ok_weaker c.complete.result
     (λ made. subst (λ (t : Tried Handed). Makes code old new (act code (Giving t) g.s.control g.s.operands g.s.world 0)) (sym fine.1)
-    (completed_resumes code old new c.args.record c.args.master g.s fine.0 f made))
+    (completed_resumes code old new c.args.record c.args.owner g.s fine.0 f made))
     c.complete.ensures.ok

@@ -13,7 +13,7 @@ use Rattle.ctl_machine.proofs.engine.Engine.take_default.Goals as goal
 
 pub index-spot-requires : goal.index-spot-requires
 index-spot-requires g c =
-    let some = has_spots c.args.code.now c.args.self.now c.args.creation.record_type c.args.creation.master g.t.0 c.requires.0 in
+    let some = has_spots c.args.code.now c.args.self.now c.args.creation.record_type c.args.creation.owner g.t.0 c.requires.0 in
     let count = c.count_spots-newest.ensures.count in
     omega (arith, some, count)
 
@@ -27,13 +27,13 @@ returns-then-not-exists g c =
     let none = ap (λ n. object_in n old.objects) (sym (c.object-object.ensures ∙ ap (λ (x : Spot). x.object) spot)) ∙ raw in
     let control = rest_of old.control.items c.take_last.new.self.items c.take_last.result c.take_last.ensures.items in
     record {
-      takes = default_gone code old _ c.args.creation.record_type c.args.creation.master c.args.offset c.args.value g.t.0 g.t.1 c.requires.0 none refl
+      takes = default_gone code old _ c.args.creation.record_type c.args.creation.owner c.args.offset c.args.value g.t.0 g.t.1 c.requires.0 none refl
           (ap (λ (l : List Frame). record (kept old) { control = l }) control) refl refl;
       picks = refl;
     }
 
 pub replace_top-requires : goal.replace_top-requires
-replace_top-requires g c = let some = has_frames c.args.code.now c.args.self.now c.args.creation.record_type c.args.creation.master g.t.0 c.requires.0 in let long = c.args.self.now.control.ok.0 in omega (arith, some, long)
+replace_top-requires g c = let some = has_frames c.args.code.now c.args.self.now c.args.creation.record_type c.args.creation.owner g.t.0 c.requires.0 in let long = c.args.self.now.control.ok.0 in omega (arith, some, long)
 
 pub returns : goal.returns
 returns g c =
@@ -45,13 +45,13 @@ returns g c =
     let number : c.object-object.result ≡ x.object = c.object-object.ensures ∙ ap (λ (y : Spot). y.object) spot in
     let start : c.offset-start.result ≡ x.offset = c.offset-start.ensures ∙ ap (λ (y : Spot). y.offset) spot in
     let there = some_there (object_in c.object-object.result old.objects) (sym c.exists.ensures ∙ c.if-not-exists.false) in
-    let frame = FrameOf.Filling c.args.creation.record_type c.args.creation.master c.args.rest c.args.rest in
+    let frame = FrameOf.Filling c.args.creation.record_type c.args.creation.owner c.args.rest c.args.rest in
     let written : c.write_part.new.self ≡ change_in x.object (with_cells (x.offset + c.args.offset) (c.args.value ∷ [])) old.objects =
     c.write_part.ensures
     ∙ (ap (λ n. change_in n (with_cells (c.offset-start.result + c.args.offset) (c.args.value ∷ [])) old.objects) number
     ∙ ap (λ n. change_in x.object (with_cells (n + c.args.offset) (c.args.value ∷ [])) old.objects) start) in
     record {
-      takes = takes_default code old _ c.args.creation.record_type c.args.creation.master c.args.offset c.args.value g.t.0 c.args.rest g.t.1 there.0 c.requires.0 c.requires.1
+      takes = takes_default code old _ c.args.creation.record_type c.args.creation.owner c.args.offset c.args.value g.t.0 c.args.rest g.t.1 there.0 c.requires.0 c.requires.1
           (ap (λ n. object_in n old.objects) (sym number) ∙ there.1)
           (record {
             mode = refl;

@@ -3,6 +3,7 @@ use Rattle.std.specs.Prelude.{◌^◌, vec_capacity, vec_len}
 use Rattle.std.proofs.lemmas.List.{reverse-append}
 use Rattle.ctl_meaning.specs.Changes.{begin_finalization}
 use Rattle.ctl_meaning.specs.Finalization.{Spot}
+use Rattle.ctl_machine.specs.Owned.{type_of}
 use Rattle.ctl_machine.specs.declared.engine.Engine.{Engine}
 use Rattle.ctl_machine.specs.declared.frame.Frame.{Frame}
 use Rattle.ctl_machine.specs.declared.frame.Frame.TheVariants as FrameOf
@@ -112,6 +113,14 @@ returns-clause-ok g c =
     let u = is_copying code old c.args.place c.args.first top.0 g.s b top.1 in
     let goes = c.in_ok-prepare_finalization.ensures.ok in
     let object = copied_object code old c.args.place c.args.first top.0 g.s c.newest_object-object.result u c.newest_object-object.ensures in
-    let type = ap (λ (o : Owned). o.record) object ∙ u.object.record_type in
-    copy_undone code old c.undo_part.new.self c.args.place c.args.first c.newest_object-object.result.record top.0 g.s u type
+    let type = ap type_of (sym c.in-Object.is ∙ (ap (λ (o : Owned). o.role) object ∙ u.object.role)) in
+    copy_undone code old c.undo_part.new.self c.args.place c.args.first c.in-Object.record top.0 g.s u type
     (makes_later code old c.begin_finalization.new.self c.undo_part.new.self _ (ap (λ v. v.items) c.begin_finalization.ensures.events ∙ goes.1.events) (ap (λ v. v.items) c.begin_finalization.ensures.picks ∙ goes.1.picks) c.undo_part.ensures)
+
+pub unreachable-requires : goal.unreachable-requires
+unreachable-requires g c =
+    let old = c.args.self.now in
+    let top = c.requires.1.1.0 in
+    let u = is_copying c.args.code.now old c.args.place c.args.first top.0 g.s c.requires.1.0 top.1 in
+    let object = copied_object c.args.code.now old c.args.place c.args.first top.0 g.s c.newest_object-object.result u c.newest_object-object.ensures in
+    c.in_default.not-Object u.record_type (ap (λ (o : Owned). o.role) object ∙ u.object.role)

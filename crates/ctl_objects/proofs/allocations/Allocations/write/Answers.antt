@@ -11,4 +11,4 @@ invariant_of-self c =
     let s = c.self.inside in
     let offset = c.args.start + c.args.offset in
     let v = c.args.value ∷ [] in
-    subst (λ (l : List Object). AreListed l s.sets.values) (sym c.write.ensures.written) (listed_changed s.objects s.sets.values c.args.number (with_cells offset v) (cells_keep offset v) (cells_stay offset v) c.self.invariant)
+    subst (λ (l : List Object). AreListed l s.sets) (sym c.write.ensures.written) (listed_changed s.objects s.sets c.args.number (with_cells offset v) (cells_keep offset v) (cells_stay offset v) c.self.invariant)

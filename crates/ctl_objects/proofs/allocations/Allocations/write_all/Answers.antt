@@ -11,4 +11,4 @@ invariant_of-self c =
     let s = c.self.inside in
     let offset = c.args.start in
     let v = c.args.values.now in
-    subst (λ (l : List Object). AreListed l s.sets.values) (sym c.write_all.ensures.written) (listed_changed s.objects s.sets.values c.args.number (with_cells offset v) (cells_keep offset v) (cells_stay offset v) c.self.invariant)
+    subst (λ (l : List Object). AreListed l s.sets) (sym c.write_all.ensures.written) (listed_changed s.objects s.sets c.args.number (with_cells offset v) (cells_keep offset v) (cells_stay offset v) c.self.invariant)

@@ -1,0 +1,9 @@
+use Rattle.std.specs.Prelude.{◌≡◌, [], List, drop, take}
+use Rattle.ctl_meaning.specs.World.{Object}
+use Rattle.ctl_objects.specs.Order.{AreUpTo}
+use Rattle.ctl_machine.specs.Owned.{remaining, set_numbers}
+use Rattle.ctl_machine.proofs.layers.forget_gathered.Given as goal
+
+-- those before are gone with their objects
+abbrev pub invariant-loop-at : goal.invariant-loop-at
+invariant-loop-at l = AreUpTo l.master l.objects × ((all : List Object) → l.fn.objects ≡ remaining l.master [] all → l.objects ≡ remaining l.master (set_numbers (drop l.start (take l.at l.owned))) all)

@@ -1,0 +1,12 @@
+use Rattle.std.proofs.Common.{[], List, subst, sym}
+use Rattle.std.specs.Prelude.{not}
+use Rattle.ctl_meaning.specs.Objects.{ends_with_master}
+use Rattle.ctl_meaning.specs.World.{Object}
+use Rattle.ctl_objects.specs.Order.{AreUpTo, IsUpTo}
+use Rattle.ctl_objects.proofs.Conditions.{all_kept}
+use Rattle.ctl_machine.proofs.layers.forget_owned.Goals as goal
+
+pub forget_gathered-requires-clause-masters : goal.forget_gathered-requires-clause-masters
+forget_gathered-requires-clause-masters c =
+    let m = c.args.master.now.number in
+    subst (λ (l : List Object). AreUpTo m l) (sym c.close_master.ensures) (all_kept (λ x. IsUpTo m x.origin) (λ x. not (ends_with_master m [] x.origin)) c.args.objects.now c.requires.masters)

@@ -1,0 +1,47 @@
+-- Collections and their objects, as the machine makes them.
+use Rattle.std.specs.Prelude.{ℕ, ◌+◌, List, [], ◌∷◌, ◌++◌, false, nat_lt}
+use Rattle.ctl_program.specs.declared.types.Ty.TheVariants.{Record}
+use Rattle.ctl_tree.specs.declared.event.Owner.TheVariants as OwnerOf
+use Rattle.ctl_meaning.specs.Changes.{new_object}
+use Rattle.ctl_meaning.specs.World.{Allocated, Standard}
+use Rattle.ctl_code.specs.declared.code.Code.{Code}
+use Rattle.ctl_code.specs.States as T
+use Rattle.ctl_code.specs.States.{Move, State}
+use Rattle.ctl_code.specs.Table.{begin_part, behind_declaration, newborn, with_member}
+use Rattle.ctl_machine.specs.declared.frame.Master.{Master}
+use Rattle.ctl_machine.specs.declared.frame.Owned.{Owned}
+use Rattle.ctl_machine.specs.declared.frame.Role.TheVariants as RoleOf
+use Rattle.ctl_machine.specs.Declaring.{slot_cleared}
+use Rattle.ctl_machine.specs.Initializing.{Grown}
+use Rattle.ctl_machine.specs.Moves.{here_of}
+use Rattle.ctl_machine.specs.Shows.{Kept}
+
+-- the next collection, of a master, in its slot: a layer, with so many up to it, if there are any
+abbrev pub new_set : Master → ℕ → ℕ → Kept → Owned
+new_set m slot count e = record { number = e.given_collections + 1; slot = slot; master = m.number; is_layer = nat_lt 0 count; collections = e.given_collections + 1; role = RoleOf.Collection false count }
+
+-- with it, and the cell of its slot is cleared
+abbrev pub with_set : Master → ℕ → ℕ → Kept → Kept
+with_set m slot count e = record e {
+  cells = slot_cleared m slot e.cells;
+  owned = e.owned ++ new_set m slot count e ∷ [];
+  given_collections = e.given_collections + 1;
+}
+
+-- Objects of collections ---------------------------------------------------------------------
+
+-- an object that is allocated for a collection, as a part that is created behind the frame of its allocator at a place
+abbrev pub member_at : Code → ℕ → ℕ → ℕ → State → Grown
+member_at code place set t s = record {
+  new = newborn s.world.ledger.next_object t (OwnerOf.Collection set);
+  control = T.Creating T.ByAllocator s.world.ledger.next_object t (behind_declaration s.operands (here_of place s)) ∷ s.control;
+  world = with_member code set t s.world;
+}
+
+-- the table's move, where its components begin
+abbrev pub member_begins : Code → ℕ → ℕ → ℕ → State → Move
+member_begins code place set t s = let g = member_at code place set t s in begin_part code g.new g.control g.world
+
+-- with it, which has these cells
+abbrev pub with_new_member : ℕ → ℕ → List ℕ → Kept → Kept
+with_new_member set t row e = record e { objects = e.objects ++ new_object e.next_object (Record t) row (Allocated set Standard) ∷ []; next_object = e.next_object + 1 }

@@ -1,0 +1,257 @@
+//! Allocators (RM 4.8): an object whose parts are created joins its collection, and is the value of the allocator.
+
+ghost use Rattle.std.specs.Prelude.{◌≡◌, ◌+◌, ◌^◌, ◌<◌, ◌≤◌, ◌∷◌, ℕ, IsFalse, IsTrue, List, OnErr, OnOk, Some, length, not, reverse, vec_capacity, vec_len, ◌&&◌};
+ghost use Rattle.std.specs.Option.{option_map};
+ghost use Rattle.ctl_meaning.specs.Activations.{master_of};
+ghost use Rattle.ctl_meaning.specs.Allocation.{set_in};
+ghost use Rattle.ctl_meaning.specs.Changes.{slot_at};
+ghost use Rattle.ctl_meaning.specs.Objects.{is_untouched};
+ghost use Rattle.ctl_objects.specs.Stages.{state_of};
+ghost use Rattle.ctl_program.specs.declared.types.Ty.{Ty};
+ghost use Rattle.ctl_code.specs.declared.code.Instr.TheVariants as InstrOf;
+ghost use Rattle.ctl_code.specs.Table as Table;
+ghost use Rattle.ctl_code.specs.States.{Giving, State};
+ghost use Rattle.ctl_code.specs.Valid.{IsValid};
+ghost use Rattle.ctl_machine.specs.Allocating.{MayJoin};
+ghost use Rattle.ctl_machine.specs.declared.frame.Frame.{Frame};
+ghost use Rattle.ctl_machine.specs.declared.frame.Frame.TheVariants as FrameOf;
+ghost use Rattle.ctl_machine.specs.Gathering.{member_begins, with_set};
+ghost use Rattle.ctl_machine.specs.Moves.{Before, BeforeResuming, GoesOn, Makes, here_of};
+ghost use Rattle.ctl_machine.specs.Shows as Shows;
+ghost use Rattle.ctl_machine.specs.Masters.{first_display, heads_of};
+ghost use Rattle.ctl_machine.specs.Owned.{collection_of};
+ghost use Rattle.ctl_machine.specs.Shows.{Holds, kept};
+
+use crate::engine::Engine;
+use crate::frame::{Ended, Frame, Master, Mode, Owned, Role};
+use crate::holders::{find_set, held_set};
+use crate::layers::PROGRAM_ERROR;
+use crate::parts::{parts_of, size_of};
+use crate::spots::Spot;
+use ctl_code::code::{Code, Parts, Way};
+use ctl_objects::{Life, Origin, Stage};
+use ctl_program::types::{Ty, Var};
+use ctl_tree::ending::Stop;
+use ctl_tree::event::Owner;
+use std::alloc::AllocError;
+
+/// Tells whether an object at this stage is a new one: its finalization has not begun, and it has not joined its collection (RM 4.8).
+fn is_new(stage: Stage) -> bool
+    ensures { result ≡ (is_untouched (state_of stage.life) && not stage.has_joined) }
+{
+    match stage.life {
+        Life::Untouched => !stage.has_joined,
+        Life::Finalizing | Life::Finalized => false,
+    }
+}
+
+/// Tells whether an object with a controlled part is allocated for a collection no more: an object of this record type has one, and the
+/// finalization of the collection has started (RM 4.8).
+fn is_refused(code: &Code, record: usize, set: &Owned) -> bool
+    ensures { result ≡ Table.is_refused code.now «record» (collection_of set.now) }
+{
+    match set.role {
+        Role::Collection { started: true, .. } => !matches!(parts_of(code, record), Parts::Plain),
+        _ => false,
+    }
+}
+
+impl Engine {
+    /// Adds the next collection, of the newest master, in its slot, for which there is room, and clears the cell of the slot; where the
+    /// count is not 0, it is a layer, with so many up to it (RM 3.10, 7.6.1).
+    #[inline(always)]
+    fn add_set(&mut self, newest: Master, slot: usize, count: usize)
+        requires room { vec_len self.old.owned < vec_capacity self.old.owned }
+        requires number { self.old.numbered.collections + 1 < 2 ^ 64 }
+        requires cell { slot < newest.slots → newest.base + slot < length self.old.cells.items }
+        ensures kept { kept self.new ≡ with_set newest slot count (kept self.old) }
+        ensures events { self.new.events ≡ self.old.events }
+        ensures picks { self.new.picks ≡ self.old.picks }
+    {
+        let number = self.numbered.collections + 1;
+        self.numbered.collections = number;
+        self.owned.push_reserved(Owned {
+            number,
+            slot,
+            master: newest.number,
+            is_layer: count > 0,
+            collections: number,
+            role: Role::Collection {
+                started: false,
+                count,
+            },
+        });
+        if slot < newest.slots {
+            self.cells[newest.base + slot] = 0;
+        }
+    }
+
+    /// Makes the collection of an access type in the newest master; the newest collections, so many, become a layer of it, if any (RM 7.6.1,
+    /// 13.14). Unchanged where memory is refused.
+    pub(crate) fn gather(
+        &mut self,
+        code: &Code,
+        access: usize,
+        count: usize,
+        place: usize,
+    ) -> Result<(), AllocError>
+        ghost s: { State }
+        requires valid { IsValid code.now }
+        requires before { Before code.now self.old place (InstrOf.Gather access count) s }
+        requires place { place + 1 < 2 ^ 64 }
+        requires collections { self.old.numbered.collections + 1 < 2 ^ 64 }
+        ensures ok { OnOk result (Makes code.now self.old self.new (Table.by_instr code.now (Some (InstrOf.Gather access count)) s.operands (here_of place s))) }
+        ensures err { OnErr result (GoesOn self.old self.new self.old.mode self.old.cells.items) }
+    {
+        let newest = self.newest();
+        let slot = code.accesses[access].slot;
+        self.owned.reserve(1)?;
+        self.add_set(newest, slot, count);
+        self.mode = Mode::At(place + 1);
+        Ok(())
+    }
+
+    /// Answers the number of the collection that the slot of an access type holds where it is seen (RM 3.10, 8.3); 0 where it holds none.
+    fn set_held(&self, code: &Code, access: &Var) -> u64
+        ghost s: { State }
+        requires holds { Holds code.now (kept self.now) s.control s.operands s.world }
+        requires level { 1 ≤ access.now.level }
+        ensures { result ≡ set_in (slot_at (master_of (first_display (heads_of s.world.activations)) access.now) access.now.slot s.world).content }
+    {
+        let _ = code;
+        let count = self.around(access.level);
+        if self.depth_at(count) < access.level {
+            return 0;
+        }
+        let place = count - 1;
+        let master = self.masters[place];
+        if access.slot >= master.slots {
+            return 0;
+        }
+        held_set(
+            self.owned.as_slice(),
+            master.owned,
+            self.own_end(place),
+            access.slot,
+        )
+    }
+
+    /// Finds the collection of an access type where that is seen (RM 3.10, 8.3), if it stands.
+    fn set_seen(&self, code: &Code, access: &Var) -> Option<Owned>
+        ghost s: { State }
+        requires holds { Holds code.now (kept self.now) s.control s.operands s.world }
+        requires level { 1 ≤ access.now.level }
+        ensures { option_map collection_of result ≡ Table.set_seen (Some access.now) (first_display (heads_of s.world.activations)) s.world }
+    {
+        find_set(self.owned.as_slice(), self.set_held(code, access))
+    }
+
+    /// Allocates an object of a record type for the collection of this number (RM 4.8): it is created, and its components are to begin
+    /// (RM 7.6). Unchanged where memory is refused.
+    fn create_member(
+        &mut self,
+        code: &Code,
+        set: u64,
+        record: usize,
+        place: usize,
+    ) -> Result<(), AllocError>
+        ghost s: { State }
+        requires before { (access : ℕ) × (ty : Ty) × (at : ℕ) × Before code.now self.old place (InstrOf.New access «record» ty at) s }
+        requires place { place + 1 < 2 ^ 64 }
+        requires objects { self.old.numbered.objects + 1 < 2 ^ 64 }
+        ensures ok { OnOk result (Makes code.now self.old self.new (member_begins code.now place set «record» s)) }
+        ensures err { OnErr result (GoesOn self.old self.new self.old.mode self.old.cells.items) }
+    {
+        let size = size_of(code, record);
+        let number = self.numbered.objects + 1;
+        self.control.reserve(2)?;
+        self.spots.reserve(1)?;
+        self.objects
+            .allocate(number, Ty::Record(record), set, size)?;
+        self.numbered.objects = number;
+        self.control.push_reserved(Frame::Allocating {
+            object: number,
+            place: place + 1,
+        });
+        let whole = Spot::whole(self.alloc, number);
+        self.begin_part(code, whole, record, Owner::Collection(set));
+        Ok(())
+    }
+
+    /// Allocates an object of a record type without a value for the collection of an access type (RM 4.8): it is created, and its components
+    /// are to begin (RM 7.6). Where the finalization of the collection has started, an object with a controlled part is not: Program_Error
+    /// is raised. Where the collection is gone, the program is erroneous (RM 13.11.2). Unchanged where memory is refused.
+    pub(crate) fn allocate(
+        &mut self,
+        code: &Code,
+        access: usize,
+        record: usize,
+        place: usize,
+    ) -> Result<(), AllocError>
+        ghost s: { State × Ty × ℕ }
+        requires valid { IsValid code.now }
+        requires before { Before code.now self.old place (InstrOf.New access «record» s.1 s.2) s.0 }
+        requires place { place + 1 < 2 ^ 64 }
+        requires objects { self.old.numbered.objects + 1 < 2 ^ 64 }
+        ensures ok { OnOk result (Makes code.now self.old self.new (Table.by_instr code.now (Some (InstrOf.New access «record» s.1 s.2)) s.0.operands (here_of place s.0))) }
+        ensures err { OnErr result (GoesOn self.old self.new self.old.mode self.old.cells.items) }
+    {
+        let Some(set) = self.set_seen(code, &code.accesses[access]) else {
+            self.go_on(Mode::Stopped(Stop::UseAfterFree));
+            return Ok(());
+        };
+        if is_refused(code, record, &set) {
+            self.go_on(Mode::Transfers(Way::Raise(PROGRAM_ERROR)));
+            return Ok(());
+        }
+        self.create_member(code, set.number, record, place)
+    }
+
+    /// Tells whether the object of this number may join its collection: it exists and is a new one, and the collection still stands
+    /// (RM 4.8).
+    fn may_join(&self, code: &Code, object: u64) -> bool
+        ghost s: { State }
+        requires { Holds code.now (kept self.now) s.control s.operands s.world }
+        ensures may { IsTrue result → MayJoin object s.world }
+        ensures not { IsFalse result → MayJoin object s.world → ⊥ }
+    {
+        let _ = code;
+        let Some(existing) = self.objects.find(object) else {
+            return false;
+        };
+        match existing.origin {
+            Origin::Declared(_) => false,
+            Origin::Allocated(collection) => {
+                is_new(existing.stage) && find_set(self.owned.as_slice(), collection).is_some()
+            }
+        }
+    }
+
+    /// Goes on with the allocator of the object of this number behind the creation of its parts, which has ended so: the object joins its
+    /// collection and is the newest operand, or it is gone and the exception is raised (RM 4.8). Where it has ceased to be a new one, the
+    /// program is erroneous (RM 13.11.2).
+    pub(crate) fn resume_allocating(&mut self, code: &Code, ended: Ended, object: u64, place: usize)
+        ghost s: { State }
+        requires valid { IsValid code.now }
+        requires before { BeforeResuming code.now self.old s }
+        requires top { (fs : List Frame) × (reverse self.old.control.items ≡ FrameOf.Allocating object place ∷ fs) }
+        ensures { Makes code.now self.old self.new (Table.act code.now (Giving (Shows.tried_of ended)) s.control s.operands s.world 0) }
+    {
+        if let Ended::Raised(exception) = ended {
+            let _ = self.control.take_last();
+            self.objects.forget(object);
+            self.mode = Mode::Transfers(Way::Raise(exception));
+            return;
+        }
+        let may_join = self.may_join(code, object);
+        let _ = self.control.take_last();
+        if !may_join {
+            self.mode = Mode::Stopped(Stop::UseAfterFree);
+            return;
+        }
+        self.objects.join(object);
+        let cell = self.window() + code.kinds.height_at(place, 1);
+        self.cells[cell] = object;
+        self.mode = Mode::At(place);
+    }
+}
