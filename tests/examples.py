@@ -3,9 +3,9 @@
 
     examples.py PATH_OF_ADACTL
 
-Beside `NAME.adb` stand what it prints, `NAME.out`, and its trace, `NAME.trace`; a line of its first comment, `--steps N`, gives
-its limit. The exit status is the one that the trace's last line says. One line for each run that is otherwise; the last line is
-`N passed, M failed`."""
+Beside `NAME.adb` stand what it prints, `NAME.out`, and its trace, `NAME.trace`; where `NAME.oldest.trace` stands there too, that
+is its trace by the order `oldest`. A line of its first comment, `--steps N`, gives its limit. The exit status is the one that the
+trace's last line says. One line for each run that is otherwise; the last line is `N passed, M failed`."""
 import os
 import re
 import subprocess
@@ -40,7 +40,10 @@ def complaints(adactl):
         stem = path.removesuffix(".adb")
         trace = read(stem + ".trace")
         status = STATUSES[trace.decode("latin-1").splitlines()[-1].split(" ")[1]]
-        for words, wanted in [([], read(stem + ".out")), (["--trace"], trace)]:
+        runs = [([], read(stem + ".out")), (["--trace"], trace)]
+        if os.path.exists(stem + ".oldest.trace"):
+            runs.append((["--trace", "--order", "oldest"], read(stem + ".oldest.trace")))
+        for words, wanted in runs:
             done = subprocess.run(
                 [adactl, "run", path, *words, *limit_of(read(path))], stdin=subprocess.DEVNULL, capture_output=True, timeout=60
             )

@@ -147,15 +147,16 @@ TEXTS = [
     (ITEM + "B : Boolean; procedure P (M : out Boolean) is begin M := True; end P; begin P (B); end Main;", ACCEPTED, 1, 1),
     (ITEM + "type R is record N : Integer; end record; V : R; procedure P (M : out Integer) is begin M := 1; end P; begin P (V.N); end Main;", 12, 1, 1),
     (ITEM + "procedure P (M : out Integer) is begin M := 1; end P; begin P (1); end Main;", 31, 1, 82),
-    # access types are run whose objects are records without a value of the allocator; an allocator with a value is left out where it stands,
-    # and so are instances of Unchecked_Deallocation
+    # access types are run whose objects are records, with allocators that have no value or that of a name, access attributes, and instances of
+    # Unchecked_Deallocation; an allocator with another value is left out where it stands
     (ITEM + "type R is record N : Integer; end record; type P is access R; V : P; begin V := new R; V.N := 1; end Main;", ACCEPTED, 1, 1),
     (ITEM + "type R is record N : Integer; end record; type P is access all R; V : P := new R; begin V.all := V.all; end Main;", ACCEPTED, 1, 1),
     (ITEM + "type N; type L is access N; type N is record X : L := null; end record; V : L; begin V := new N; V.X := V; end Main;", ACCEPTED, 1, 1),
-    (ITEM + "type R is record N : Integer; end record; type P is access R; X : R; V : P; begin V := new R'(X); end Main;", 12, 1, 101),
-    (ITEM + "type R is record N : Integer; end record; type P is access R; X : R; V : P := new R'(X); begin null; end Main;", 12, 1, 88),
-    (ITEM + "type R is record N : Integer; end record; type P is access all R; X : aliased R; V : P; begin V := X'Access; end Main;", 12, 1, 61),
-    ("with Ada.Unchecked_Deallocation; " + ITEM + "type R is record N : Integer; end record; type P is access R; procedure Free is new Ada.Unchecked_Deallocation (R, P); V : P; begin Free (V); end Main;", 12, 1, 114),
+    (ITEM + "type R is record N : Integer; end record; type P is access R; X : R; V : P; begin V := new R'(X); end Main;", ACCEPTED, 1, 1),
+    (ITEM + "type R is record N : Integer; end record; type P is access R; X : R; V : P := new R'(X); begin null; end Main;", ACCEPTED, 1, 1),
+    (ITEM + "type R is record N : Integer; end record; type P is access all R; X : aliased R; V : P; begin V := X'Access; end Main;", ACCEPTED, 1, 1),
+    ("with Ada.Unchecked_Deallocation; " + ITEM + "type R is record N : Integer; end record; type P is access R; procedure Free is new Ada.Unchecked_Deallocation (R, P); V : P; begin Free (V); end Main;", ACCEPTED, 1, 1),
+    (ITEM + "type R is record N : Integer; end record; type P is access R; type Q is access P; V : Q; begin V := new P'(null); end Main;", 12, 1, 114),
     # handlers are run
     (ITEM + "begin null; exception when others => raise; end Main;", ACCEPTED, 1, 1),
     # a type that extends another of the text inherits its components

@@ -10,7 +10,7 @@ ghost use Rattle.ctl_code.specs.declared.code.Cell.{Cell};
 ghost use Rattle.ctl_code.specs.declared.code.Operator.{Operator};
 ghost use Rattle.ctl_code.specs.declared.code.Instr.TheVariants as I;
 ghost use Rattle.ctl_code.specs.Kinds.{changed, stack_at};
-ghost use Rattle.ctl_code.specs.Valid.{HasFormals, HaveOperands, IsCalled, IsOperandAt, Bounded, DropsPart, IsAccess, IsAllocable, IsAtEnd, IsDeclarable, IsEntry, IsFine, IsInScope, IsText, Leads, Puts, Taken, Takes, Under, outermost};
+ghost use Rattle.ctl_code.specs.Valid.{HasFormals, HaveOperands, IsCalled, IsOperandAt, Bounded, DropsPart, IsAccess, IsAllocable, HasCollection, IsAtEnd, IsDeclarable, IsEntry, IsFine, IsInScope, IsText, Leads, Puts, Taken, Takes, Under, outermost};
 ghost use Rattle.ctl_code.specs.Windows.{depth, height, variable_at};
 
 use crate::code::{Cell, Code, Instr, Named, Operator, Way};
@@ -656,6 +656,50 @@ fn is_new_fine(code: &Code, place: usize, access: usize, record: usize, ty: Ty, 
         && puts_operand(code, place, 0, at, ty)
 }
 
+/// Checks an allocator with the value of a part, which stands on top, in this cell (RM 4.8).
+fn is_new_copy_fine(
+    code: &Code,
+    place: usize,
+    access: usize,
+    record: usize,
+    ty: Ty,
+    at: usize,
+) -> bool
+    requires { place + 1 < 2 ^ 64 }
+    ensures { IsTrue result ↔ IsFine code.now place (I.NewCopy access «record» ty at) (stack_at code.now.kinds place) }
+{
+    is_scalar(ty)
+        && is_allocable(code, code.kinds.depth_at(place), access, record)
+        && is_operand(code, place, 0, at, Ty::Record(record))
+        && leads_on(code, place, 1, Some(Kind::Operand(ty)))
+}
+
+/// Tells whether the collection of an access type stands in one of so many masters around a place (RM 7.6.1).
+fn has_collection(code: &Code, masters: usize, access: usize) -> bool
+    ensures { IsTrue result ↔ HasCollection code.now masters access }
+{
+    match code.accesses.get(access) {
+        Some(collection) => 1 <= collection.level && collection.level <= masters,
+        None => false,
+    }
+}
+
+/// Checks that an object is freed whose access value is in a variable (RM 13.11.2).
+fn is_free_fine(code: &Code, place: usize, access: usize) -> bool
+    requires { place + 1 < 2 ^ 64 }
+    ensures { (out slot : ℕ) → IsTrue result ↔ IsFine code.now place (I.Free access out slot) (stack_at code.now.kinds place) }
+{
+    has_collection(code, code.kinds.depth_at(place), access) && leads_on(code, place, 0, None)
+}
+
+/// Checks that an object is freed whose access value is in a component: the part that has it stands on top (RM 13.11.2).
+fn is_free_part_fine(code: &Code, place: usize, access: usize, record: usize) -> bool
+    requires { place + 1 < 2 ^ 64 }
+    ensures { (position : ℕ) → IsTrue result ↔ IsFine code.now place (I.FreePart access «record» position) (stack_at code.now.kinds place) }
+{
+    has_collection(code, code.kinds.depth_at(place), access) && drops_part(code, place, 0, record)
+}
+
 /// Checks a dereference: a number stands on top, in this cell (RM 4.1).
 fn is_dereference_fine(code: &Code, place: usize, record: usize, at: usize) -> bool
     requires { place + 1 < 2 ^ 64 }
@@ -757,13 +801,21 @@ pub fn is_fine(code: &Code, place: usize, instr: &Instr) -> bool
             ty,
             at,
         } => is_new_fine(code, place, access, record, ty, at),
+        Instr::NewCopy {
+            access,
+            record,
+            ty,
+            at,
+        } => is_new_copy_fine(code, place, access, record, ty, at),
+        Instr::Free { access, .. } => is_free_fine(code, place, access),
+        Instr::FreePart { access, record, .. } => is_free_part_fine(code, place, access, record),
         Instr::Dereference { record, at } => is_dereference_fine(code, place, record, at),
         Instr::Number | Instr::NewLine => leads_on(code, place, 0, None),
         Instr::Set { value, ty, to } => is_cell_of(ty, value) && puts(code, place, 0, to, ty),
         Instr::Move { from, ty, to } => is_scalar(ty) && passes(code, place, 0, from, ty, to, ty),
-        Instr::Fetch { ty, to, .. } | Instr::FetchPart { ty, to, .. } => {
-            is_scalar(ty) && puts(code, place, 0, to, ty)
-        }
+        Instr::Fetch { ty, to, .. }
+        | Instr::FetchPart { ty, to, .. }
+        | Instr::Designate { ty, to, .. } => is_scalar(ty) && puts(code, place, 0, to, ty),
         Instr::Locate { record, at, .. } => { puts_operand(code, place, 0, at, Ty::Record(record)) }
         Instr::Select { record, part, .. } => selects(code, place, record, part),
         Instr::TakePart { record, ty, to, .. } => is_scalar(ty)

@@ -7,7 +7,7 @@ use Rattle.ctl_program.specs.declared.types.Ty.TheVariants.{Record}
 use Rattle.ctl_program.specs.declared.operators.SubprogramKind.TheVariants.{Procedure}
 use Rattle.ctl_tree.specs.declared.ending.Stop.TheVariants.{UseAfterFree}
 use Rattle.ctl_tree.specs.declared.event.Event.{Event}
-use Rattle.ctl_tree.specs.declared.event.Owner.TheVariants as OwnerOf
+use Rattle.ctl_tree.specs.declared.event.Owner.{Owner}
 use Rattle.ctl_tree.specs.declared.event.Event.TheVariants as EventOf
 use Rattle.ctl_meaning.specs.World.{Object, Binds, holding, Log, World}
 use Rattle.ctl_meaning.specs.Lists.{keep, pull_item, pull_rest}
@@ -37,26 +37,26 @@ use Rattle.ctl_gen.proofs.FinalizedParts.{call_is, heard}
 use Rattle.ctl_gen.proofs.Adjust.{adjust_named}
 use Rattle.ctl_gen.proofs.Follow.{by_raise, Runs, gives, way_of, add_none, added, bind_add, bind_bind, both, one_step, last_step, stop_step, then_step, more_quits, more_halts, within}
 
--- the meaning's creation is the table's, by the master whose object is created; or neither is one
-abbrev pub IsCreation : Option Birth → Option ℕ → Type 0
+-- the meaning's creation is the table's, by whose object is created; or neither is one
+abbrev pub IsCreation : Option Birth → Option Owner → Type 0
 IsCreation None None = Unit {0}
-IsCreation (Some b) (Some m) = b.owner ≡ OwnerOf.Master m
+IsCreation (Some b) (Some o) = b.owner ≡ o
 IsCreation _ _ = ⊥
 
 -- frames that have noted the parts with these paths; in a creation one more part that is adjusted is noted there
 abbrev pub Noted : Type 0
 Noted = List (List ℕ) → List Frame
 
-abbrev pub Notes : Option ℕ → Noted → Type 0
-Notes m ks = (path : List ℕ) (paths : List (List ℕ)) → noting m path (ks paths) ≡ ks (paths ++ path ∷ [])
+abbrev pub Notes : Option Owner → Noted → Type 0
+Notes made ks = (path : List ℕ) (paths : List (List ℕ)) → noting made path (ks paths) ≡ ks (paths ++ path ∷ [])
 
 -- below the components that are left, too
-abbrev over_parts : Option ℕ → Spot → ℕ → List Begun → Noted → Noted
-over_parts m s t left ks paths = Adjusting m s t left ∷ ks paths
+abbrev over_parts : Option Owner → Spot → ℕ → List Begun → Noted → Noted
+over_parts made s t left ks paths = Adjusting made s t left ∷ ks paths
 
-notes_over : (m : Option ℕ) (s : Spot) (t : ℕ) (left : List Begun) (ks : Noted) → Notes m ks → Notes m (over_parts m s t left ks)
+notes_over : (made : Option Owner) (s : Spot) (t : ℕ) (left : List Begun) (ks : Noted) → Notes made ks → Notes made (over_parts made s t left ks)
 notes_over None s t left ks notes path paths = ap (λ k. Adjusting None s t left ∷ k) (notes path paths)
-notes_over (Some m) s t left ks notes path paths = ap (λ k. Adjusting (Some m) s t left ∷ k) (notes path paths)
+notes_over (Some o) s t left ks notes path paths = ap (λ k. Adjusting (Some o) s t left ∷ k) (notes path paths)
 
 -- whether an Adjust failed is what the machine hands on, over the frames that have noted what is adjusted
 abbrev pub hands : Noted → Result Adjusted → Log → World → State
@@ -68,22 +68,22 @@ abbrev settled : Spot → Adjusted → Adjusted
 settled s a = record { failed = a.failed; paths = a.paths ++ s.path ∷ [] }
 
 -- what an Adjust that did not fail comes to: in a creation the part comes to life
-born_is : (ask : Ask) (k : Tables) (code : Code) → Setting k code → (call : Call) (default : Default) (creation : Option Birth) (made : Option ℕ) → IsCreation creation made → (s : Spot) (t : ℕ) (a : Adjusted) (c : ℕ) (l : Log) (w : World) → after_adjust (tools_with ask k call default) creation s t a (Fine tt) c l w ≡ Gives (Goes (settled s a)) 0 c (tell_all (birth_in code made s t) l) w
+born_is : (ask : Ask) (k : Tables) (code : Code) → Setting k code → (call : Call) (default : Default) (creation : Option Birth) (made : Option Owner) → IsCreation creation made → (s : Spot) (t : ℕ) (a : Adjusted) (c : ℕ) (l : Log) (w : World) → after_adjust (tools_with ask k call default) creation s t a (Fine tt) c l w ≡ Gives (Goes (settled s a)) 0 c (tell_all (birth_in code made s t) l) w
 unfolding opened_adjustment opened_finalization opened_outcome
 born_is ask k code setting call default None None same s t a c l w = refl
-born_is ask k code setting call default None (Some m) same s t a c l w = absurd same
+born_is ask k code setting call default None (Some owner) same s t a c l w = absurd same
 born_is ask k code setting call default (Some b) None same s t a c l w = absurd same
-born_is ask k code setting call default (Some b) (Some m) same s t a c l w =
+born_is ask k code setting call default (Some b) (Some owner) same s t a c l w =
     ap (λ o. (either (is_some (operation (λ x. x.finalize) k t)) (show (EventOf.Live (part_at s) o)) nothing >> done (settled s a)) c l w) same
     ∙ by (operation (λ x. x.finalize) k t)
-    ∙ ap (λ g. Gives (Goes (settled s a)) 0 c (tell_all (birth g (part_at s) (OwnerOf.Master m)) l) w) (sym (setting.finalize t))
+    ∙ ap (λ g. Gives (Goes (settled s a)) 0 c (tell_all (birth g (part_at s) owner) l) w) (sym (setting.finalize t))
   where
-    by : (g : Option ℕ) → (either (is_some g) (show (EventOf.Live (part_at s) (OwnerOf.Master m))) nothing >> done (settled s a)) c l w ≡ Gives (Goes (settled s a)) 0 c (tell_all (birth g (part_at s) (OwnerOf.Master m)) l) w
+    by : (g : Option ℕ) → (either (is_some g) (show (EventOf.Live (part_at s) owner)) nothing >> done (settled s a)) c l w ≡ Gives (Goes (settled s a)) 0 c (tell_all (birth g (part_at s) owner) l) w
     by None = refl
     by (Some f) = refl
 
 -- in this creation, or an assignment, where since an earlier world so many masters are around the operations of an object
-module _ (ask : Ask) (k : Tables) (code : Code) (setting : Setting k code) (call : Call) (default : Default) (constants : GivesDefaults k default) (bound : ℕ) (calls : Calls ask k code setting bound call) (creation : Option Birth) (made : Option ℕ) (same : IsCreation creation made) (wr : World) (around : ℕ) where
+module _ (ask : Ask) (k : Tables) (code : Code) (setting : Setting k code) (call : Call) (default : Default) (constants : GivesDefaults k default) (bound : ℕ) (calls : Calls ask k code setting bound call) (creation : Option Birth) (made : Option Owner) (same : IsCreation creation made) (wr : World) (around : ℕ) where
   abbrev K : Tools
   K = tools_with ask k call default
 

@@ -1,8 +1,7 @@
 -- The collection that an allocator sees stands in the master in which its access type was declared: so around the operations of an allocated
 -- object there are so many masters as its type asks for (4.8, 7.6.1).
-use Rattle.std.proofs.Common.{◌≡◌, ℕ, ◌≤◌, List, length, Option, Some, None, refl, sym, ap, ◌∙◌, subst, arith}
+use Rattle.std.proofs.Common.{◌≡◌, ℕ, ◌≤◌, List, length, Some, sym, ap, ◌∙◌, subst, arith}
 use Rattle.std.specs.Prelude.{◌-◌, nat_eq}
-use Rattle.std.proofs.lemmas.Bool.{eqb-true}
 use Rattle.ctl_program.specs.declared.types.Var.{Var}
 use Rattle.ctl_meaning.specs.World.{Collection, Content, Nothing, Holds, Binds, Copies, Gathers, World}
 use Rattle.ctl_meaning.specs.Activations.{master_of}
@@ -15,8 +14,8 @@ use Rattle.ctl_code.specs.declared.kinds.Kind.{Kind}
 use Rattle.ctl_code.specs.Table.{set_seen}
 use Rattle.ctl_code.specs.Valid.{IsAllocable, IsDeclarable}
 use Rattle.ctl_code.specs.Windows.{depth}
-use Rattle.ctl_gen.proofs.Each.{IfFound, each_found, found_passes}
-use Rattle.ctl_gen.proofs.Collections.{home, found_number, nested_at, Gathered, IsHeldBy, IsMadeIn, IsOf}
+use Rattle.ctl_gen.proofs.Each.{IfFound, each_found}
+use Rattle.ctl_gen.proofs.Collections.{home, found_number, nested_at, Gathered, IsHeldBy, IsMadeIn}
 use Rattle.ctl_gen.proofs.Worlds.{Since, collection_fits, held_at}
 use Rattle.ctl_gen.proofs.Setting.{IsSeen, MayAllocate, Sees, seen, seen_nested}
 

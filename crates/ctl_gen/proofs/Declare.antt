@@ -12,7 +12,7 @@ use Rattle.ctl_meaning.specs.Lists.{first_with, last_of, opened_lists}
 use Rattle.ctl_meaning.specs.Objects.{object_in}
 use Rattle.ctl_meaning.specs.Changes.{object_at, create, set_slot, add_layer, owner_of, opened_changes}
 use Rattle.ctl_meaning.specs.Choice.{Ask, picked}
-use Rattle.ctl_meaning.specs.Outcome.{ByRaise, Result, Goes, Leaves, Out, Act, Done, Fine, add, bind, on_goes, nothing, change, on_some, opened_outcome}
+use Rattle.ctl_meaning.specs.Outcome.{ByRaise, Result, Goes, Leaves, Out, Gives, Act, Done, Fine, add, bind, on_goes, nothing, change, on_some, opened_outcome}
 use Rattle.ctl_meaning.specs.Types.{Tables, Composite, begin_cells, cells_of, depth, of_record}
 use Rattle.ctl_meaning.specs.Names.{Call, Default, Tools, gone, existing, must_exist}
 use Rattle.ctl_meaning.specs.Finalization.{whole}
@@ -36,7 +36,7 @@ use Rattle.ctl_gen.proofs.CreatedParts.{IsAround, new_part, parts_run}
 use Rattle.ctl_gen.proofs.Setting.{Setting, tools_with, returns, Told, Sees, Calls}
 use Rattle.ctl_gen.proofs.Cells.{by_code}
 use Rattle.ctl_gen.proofs.Place.{Laid}
-use Rattle.ctl_gen.proofs.Follow.{by_raise, gives, way_of, Runs, add_none, bind_bind, both, end_step, one_step, Target, at, arrives, stop_step}
+use Rattle.ctl_gen.proofs.Follow.{by_raise, gives, way_of, Runs, add_none, bind_bind, both, end_step, no_step, one_step, Target, at, arrives, stop_step}
 
 -- the newest object is found by its number
 found_newest : (n : ℕ) (os : List Object) (x : Object) → Each (λ o. o.number < n) os → x.number ≡ n → first_with (λ o. nat_eq o.number n) (os ++ x ∷ []) ≡ Some x
@@ -101,21 +101,25 @@ module _ (ask : Ask) (k : Tables) (code : Code) (setting : Setting k code) (call
 
   -- What its code does ----------------------------------------------------------------------------------
 
-  -- an object that is there comes to life; nothing more is done of one that is gone
-  pub lives_on : (w0 : World) (n : ℕ) (e : Target) (p : Point) (ks : List Frame) (s0 : State) (c : ℕ) (l : Log) (w : World) → Since k code w0 w → step ask code s0 ≡ moved l (come_to_life ByDeclaration n (object_at n w) p ks w)
-      → Runs ask code (Kept k code w0) 1 3 s0 c (arrives e p.display p.place ks p.operands) (stands n (last_of p.display) (Goes tt) c l w)
+  -- an object that is there comes to life, in a step that takes at most one from the clock; nothing more is done of one that is gone
+  pub lives_on : (w0 : World) (n : ℕ) (e : Target) (p : Point) (ks : List Frame) (s0 : State) (c0 c : ℕ) (l : Log) (w : World) → c ≤ c0 → c0 ≤ c + 1 → Since k code w0 w → step ask code s0 ≡ moved l (come_to_life ByDeclaration n (object_at n w) p ks w)
+      → Runs ask code (Kept k code w0) 1 3 s0 c0 (arrives e p.display p.place ks p.operands) (stands n (last_of p.display) (Goes tt) c l w)
   unfolding must_exist existing gone opened_outcome
-  lives_on w0 n e p ks s0 c l w fits first = by (object_at n w) first
+  lives_on w0 n e p ks s0 c0 c l w lo hi fits first = by (object_at n w) first
     where
-      by : (o : Option Object) → step ask code s0 ≡ moved l (come_to_life ByDeclaration n o p ks w) → Runs ask code (Kept k code w0) 1 3 s0 c (arrives e p.display p.place ks p.operands) (bind (on_some o gone (λ _. nothing) c l w) (on_goes (λ _. change (add_layer (last_of p.display) (Single n)))))
-      by None go = stop_step ask code (Kept k code w0) {A = Done} 1 3 s0 _ c 0 (arrives e p.display p.place ks p.operands) UseAfterFree l (omega arith) go refl refl
-      by (Some o) go = end_step ask code (Kept k code w0) {A = Done} 3 s0 c 0 (arrives e p.display p.place ks p.operands) (Goes tt) l (add_layer (last_of p.display) (Single n) w) (since_layer k code (last_of p.display) (Single n) w0 w fits) go
+      by : (o : Option Object) → step ask code s0 ≡ moved l (come_to_life ByDeclaration n o p ks w) → Runs ask code (Kept k code w0) 1 3 s0 c0 (arrives e p.display p.place ks p.operands) (bind (on_some o gone (λ _. nothing) c l w) (on_goes (λ _. change (add_layer (last_of p.display) (Single n)))))
+      by None go = stop_step ask code (Kept k code w0) {A = Done} 1 3 s0 _ c0 0 (arrives e p.display p.place ks p.operands) UseAfterFree l (omega arith) go refl refl
+      by (Some o) go =
+          let next = arrives e p.display p.place ks p.operands in
+          let w1 = add_layer (last_of p.display) (Single n) w in
+          one_step ask code (Kept k code w0) {A = Done} 0 2 1 3 s0 (next (Goes tt) l w1) c0 c next (Gives (Goes tt) 0 c l w1) (omega arith) (omega arith) lo hi go
+          (no_step ask code (Kept k code w0) {A = Done} 0 2 _ c 0 next (Goes tt) l w1 (since_layer k code (last_of p.display) (Single n) w0 w fits) refl)
 
   module _ (bound : ℕ) (calls : Calls ask k code setting bound call) where
     -- after its creation
     pub stands_runs : (w0 w1 : World) (n : ℕ) (e : Target) (p : Point) (ks : List Frame) → Since k code w0 w1 → (r : Result Done) (c : ℕ) (l : Log) (w : World) → Told k code w1 (way_of r) w → Runs ask code (Kept k code w0) 1 3 (returns (Creating ByDeclaration n t p ∷ ks) r l w) c (arrives e p.display p.place ks p.operands) (stands n (last_of p.display) r c l w)
     unfolding picked opened_outcome
-    stands_runs w0 w1 n e p ks fits1 (Goes u) c l w told1 = lives_on w0 n e p ks _ c l w (told1.1.0, keeps_on k code w0 w1 w fits1.1 told1.1.1) refl
+    stands_runs w0 w1 n e p ks fits1 (Goes u) c l w told1 = lives_on w0 n e p ks _ c c l w (omega arith) (omega arith) (told1.1.0, keeps_on k code w0 w1 w fits1.1 told1.1.1) refl
     stands_runs w0 w1 n e p ks fits1 (Leaves y) c l w told1 =
         by_raise (λ v. Runs ask code (Kept k code w0) 1 3 (returns {A = Done} (Creating ByDeclaration n t p ∷ ks) (Leaves v) l w) c (arrives e p.display p.place ks p.operands) (stands n (last_of p.display) (Leaves v) c l w))
         (λ x. end_step ask code (Kept k code w0) {A = Done} 3 _ c 0 (arrives e p.display p.place ks p.operands) (Leaves (ByRaise x)) l w (told1.1.0, keeps_on k code w0 w1 w fits1.1 told1.1.1) refl) y told1.0

@@ -2,16 +2,14 @@
 use Rattle.std.proofs.Common.{◌≡◌, ℕ, zero, suc, ◌+◌, ◌<◌, ◌≤◌, List, [], ◌∷◌, length, map, Option, Some, None, Bool, true, false, refl, sym, ap, ◌∙◌, subst, arith, inr}
 use Rattle.std.specs.Prelude.{◌&&◌, ◌||◌, if◌then◌else◌, nat_eq}
 use Rattle.std.proofs.lemmas.Bool.{eq-eqb, ne_eqb}
-use Rattle.ctl_program.specs.declared.types.Ty.{Ty}
-use Rattle.ctl_program.specs.declared.types.Ty.TheVariants.{Integer, Count, Boolean, Address, Handle, Access, Record}
 use Rattle.ctl_tree.specs.declared.event.Cause.TheVariants.{Collection}
 use Rattle.ctl_meaning.specs.World.{Object, Member, Log, World}
-use Rattle.ctl_meaning.specs.Lists.{any_of, first_with, keep, pull_item}
+use Rattle.ctl_meaning.specs.Lists.{any_of, first_with, pull_item}
 use Rattle.ctl_meaning.specs.Objects.{is_untouched, object_in}
 use Rattle.ctl_meaning.specs.Changes.{object_at, begin_finalization}
 use Rattle.ctl_meaning.specs.Choice.{Ask, picked}
 use Rattle.ctl_meaning.specs.Outcome.{Way, Result, Goes, Leaves, Out, Gives, Stops, Cut, Act, Fine, add, after_pick, bind, on_goes, ◌>>=◌, nothing, counted, change, on_some, opened_outcome}
-use Rattle.ctl_meaning.specs.Types.{Tables, has_controlled}
+use Rattle.ctl_meaning.specs.Types.{Tables}
 use Rattle.ctl_meaning.specs.Members as Members
 use Rattle.ctl_meaning.specs.Members.{OfSets, candidates_of, count_due, is_of_group, member_of, opened_members}
 use Rattle.ctl_meaning.specs.Names.{Call, Default, Tools, gone, must_exist, existing}
@@ -19,11 +17,9 @@ use Rattle.ctl_meaning.specs.Finalization.{finalize_begun, finalize_members, fin
 use Rattle.ctl_meaning.proofs.Due.{begins_count, count, group_members, named, pulled_among}
 use Rattle.ctl_meaning.proofs.Cuts.{HasAtMost}
 use Rattle.ctl_code.specs.declared.code.Code.{Code}
-use Rattle.ctl_code.specs.declared.code.Parts.{Parts}
-use Rattle.ctl_code.specs.declared.code.Parts.TheVariants as PartsOf
-use Rattle.ctl_code.specs.States.{Handed, Complete, Frame, Emptying, Finalizing, State, whole_spot}
+use Rattle.ctl_code.specs.States.{Handed, Complete, Frame, Emptying, State}
 use Rattle.ctl_code.specs.Table as Table
-use Rattle.ctl_code.specs.Table.{candidates, empty_next, finalize_typed, handed, has_part, has_part_in, parts_of, says_failed}
+use Rattle.ctl_code.specs.Table.{candidates, empty_next, handed, has_part_in, says_failed}
 use Rattle.ctl_code.specs.Steps.{moved, step, stepped}
 use Rattle.ctl_gen.proofs.Known.{IsPlainType}
 use Rattle.ctl_gen.proofs.Parted.{GivesDefaults}
@@ -33,7 +29,7 @@ use Rattle.ctl_gen.proofs.ChosenParts.{each_both, keep_same_on}
 use Rattle.ctl_gen.proofs.Worlds.{AreApart, Fits, Settled, Since}
 use Rattle.ctl_gen.proofs.Setting.{Setting, tools_with, Calls, Sure}
 use Rattle.ctl_gen.proofs.FinalizedParts.{each_pulled, heard, tells}
-use Rattle.ctl_gen.proofs.Finalize.{object_runs}
+use Rattle.ctl_gen.proofs.Finalize.{part_alike, typed_runs}
 use Rattle.ctl_gen.proofs.Follow.{Runs, gives, way_of, added, after_comes, last_step}
 
 -- Lists ---------------------------------------------------------------------------------------------
@@ -104,19 +100,9 @@ module _ (ask : Ask) (k : Tables) (code : Code) (setting : Setting k code) (call
   abbrev K : Tools
   K = tools_with ask k call default
 
-  -- both tables speak alike of controlled parts
-  part_alike : (ty : Ty) → IsPlainType k ty → has_controlled k ty ≡ has_part_in code ty
-  part_alike (Record t) plain = (setting.agrees default constants t plain).has
-  part_alike Integer plain = absurd plain
-  part_alike Boolean plain = absurd plain
-  part_alike Count plain = absurd plain
-  part_alike Address plain = absurd plain
-  part_alike Handle plain = absurd plain
-  part_alike (Access a) plain = absurd plain
-
   candidate_alike : (sets : List ℕ) (o : Object) → IsPlainType k o.ty → Members.is_candidate k (OfSets sets) o ≡ Table.is_candidate code sets o
   unfolding opened_members
-  candidate_alike sets o plain = ap (λ b. (o.joined && (is_untouched o.state && b)) && is_of_group (OfSets sets) o.origin) (part_alike o.ty plain)
+  candidate_alike sets o plain = ap (λ b. (o.joined && (is_untouched o.state && b)) && is_of_group (OfSets sets) o.origin) (part_alike ask k code setting call default constants bound calls o.ty plain)
 
   -- the candidates are the same
   candidates_are : (sets : List ℕ) (w : World) → Fits k code w → candidates_of k (OfSets sets) w ≡ map member_of (candidates code sets w)
@@ -196,25 +182,6 @@ module _ (ask : Ask) (k : Tables) (code : Code) (setting : Setting k code) (call
       by None = refl
       by (Some p) = refl
 
-  -- a member is finalized by its own type
-  member_runs : (o : Object) (w0 : World) (ks : List Frame) (c : ℕ) (l : Log) (w : World) (s0 : State) → c ≤ bound → Since k code w0 w → IsDue k code w o → step ask code s0 ≡ moved l (finalize_typed code Collection o.number o.ty ks w) → Runs ask code (Sure k code w0) 1 1 s0 c (tells ks) (finalize_object K Collection (member_of o) c l w)
-  unfolding member_of
-  member_runs o w0 ks c l w s0 le fits due first = by o.ty refl due.plain due.part first
-    where
-      by : (ty : Ty) → o.ty ≡ ty → IsPlainType k ty → has_part_in code ty ≡ true → step ask code s0 ≡ moved l (finalize_typed code Collection o.number ty ks w) → Runs ask code (Sure k code w0) 1 1 s0 c (tells ks) (finalize_object K Collection (record { number = o.number; ty = o.ty }) c l w)
-      by (Record t) is plain part go = subst (λ ty. Runs ask code (Sure k code w0) 1 1 s0 c (tells ks) (finalize_object K Collection (record { number = o.number; ty = ty }) c l w)) (sym is) (parted (parts_of code t) refl part go)
-        where
-          parted : (p : Parts) → parts_of code t ≡ p → has_part p ≡ true → step ask code s0 ≡ moved l (Table.finalize_object code p Collection o.number t ks w) → Runs ask code (Sure k code w0) 1 1 s0 c (tells ks) (finalize_object K Collection (record { number = o.number; ty = Record t }) c l w)
-          parted PartsOf.Plain at has go1 = absurd (cc has)
-          parted PartsOf.Within at has go1 = object_runs ask k code setting call default constants bound calls Collection (λ y h. h) t o.number w0 ks c l w s0 o le fits due.there is plain (part_alike (Record t) plain ∙ part) (go1 ∙ ap (λ p. moved l (Table.finalize_part code p Collection (whole_spot o.number) t (Finalizing o.number ∷ ks) (begin_finalization o.number w))) (sym at))
-          parted PartsOf.Controlled at has go1 = object_runs ask k code setting call default constants bound calls Collection (λ y h. h) t o.number w0 ks c l w s0 o le fits due.there is plain (part_alike (Record t) plain ∙ part) (go1 ∙ ap (λ p. moved l (Table.finalize_part code p Collection (whole_spot o.number) t (Finalizing o.number ∷ ks) (begin_finalization o.number w))) (sym at))
-      by Integer is plain part go = absurd plain
-      by Boolean is plain part go = absurd plain
-      by Count is plain part go = absurd plain
-      by Address is plain part go = absurd plain
-      by Handle is plain part go = absurd plain
-      by (Access a) is plain part go = absurd plain
-
   -- the members that are left, in no more turns than there are of the clock and of candidates
   members_run : (n : ℕ) (sets : List ℕ) (failed : Bool) (h : Handed) (w0 : World) (ks : List Frame) (c : ℕ) (l : Log) (w : World) → c ≤ bound → c + count k w < n → Since k code w0 w → Runs ask code (Sure k code w0) 1 1 (turning sets failed ks h l w) c (tells ks) (others sets n (failed || says_failed (Fine h)) c l w)
   unfolding picked on_goes finalize_members member_of pull_item
@@ -246,7 +213,7 @@ module _ (ask : Ask) (k : Tables) (code : Code) (setting : Setting k code) (call
               (added ask code (Sure k code w0) (suc (length os) + 0) 2 2 1 1 _ c (tells ks) _ (omega arith) (omega arith)
               (both_counted ask k code (Sure k code w0) (Sure k code w0) (c + count k (begin_finalization m.number w)) 1 1 1 1 2 2 _ c (tells frames) (tells ks) _ _ (omega arith) (omega arith) (omega arith)
               (turn_counted (member_of m) m c a.1 w le one.there)
-              (member_runs m w0 frames c a.1 w _ le fits one (turn_step sets failed ks h l w (o ∷ os) (Some a) are is))
+              (typed_runs ask k code setting call default constants bound calls Collection (λ y sure. sure) m w0 frames c a.1 w _ le fits one.there one.plain one.part (turn_step sets failed ks h l w (o ∷ os) (Some a) are is))
               rest))
             where
               m : Object

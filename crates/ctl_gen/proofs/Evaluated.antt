@@ -1,6 +1,5 @@
 -- The code of each expression and of each actual that this version runs does what it means.
 use Rattle.std.proofs.Common.{◌≡◌, ℕ, List, [], ◌∷◌, ◌++◌, map, Option, Some, None, true, false, refl, sym, ap, ◌∙◌, subst}
-use Rattle.std.specs.Prelude.{is_some, ◌||◌}
 use Rattle.std.proofs.lemmas.Bool.{not-true}
 use Rattle.ctl_program.specs.declared.types.Ty.{Ty}
 use Rattle.ctl_program.specs.declared.types.Ty.TheVariants.{Integer, Count, Boolean, Address, Handle, Access, Record}
@@ -20,7 +19,7 @@ use Rattle.ctl_meaning.proofs.Trees.{actual_roll as supply_roll, eval_roll, oper
 use Rattle.ctl_code.specs.declared.code.Code.{Code}
 use Rattle.ctl_program.specs.declared.expression.Step.TheVariants.{Component}
 use Rattle.ctl_layout.specs.Parts.{Reached, Variable, Part, Object, are_walked}
-use Rattle.ctl_layout.specs.Values.{ActualCode, ValueCode, OperatorCode, actual_code, actuals_run, missing_value, new, operator_of, operators_run, read, value_code, values_run, reached_by}
+use Rattle.ctl_layout.specs.Values.{ActualCode, ValueCode, OperatorCode, actual_code, actuals_run, copied, missing_value, new, new_copy, operator_of, operators_run, read, value_code, values_run, reached_by}
 use Rattle.ctl_gen.proofs.Known.{IsScalar, both_true, plain_if, scalar_elementary, scalar_if}
 use Rattle.ctl_gen.proofs.Worlds.{Since, no_copy_at}
 use Rattle.ctl_gen.proofs.Parts.{Leads, find_as, find_by, name_leads, part_leads}
@@ -29,7 +28,9 @@ use Rattle.ctl_layout.proofs.TreeLayers.{value_roll, operator_roll, actual_roll}
 use Rattle.ctl_gen.proofs.Setting.{Setting, Calls, tools_with}
 use Rattle.ctl_gen.proofs.Actuals as A
 use Rattle.ctl_gen.proofs.FunctionCalls.{function_value}
-use Rattle.ctl_gen.proofs.Allocators.{new_value}
+use Rattle.ctl_gen.proofs.Sources.{copied_means}
+use Rattle.ctl_gen.proofs.Allocators.{copied_value, new_value}
+use Rattle.ctl_gen.proofs.Designated.{designating_value}
 use Rattle.ctl_gen.proofs.Expressions as X
 
 -- Names -------------------------------------------------------------------------------------------
@@ -135,20 +136,34 @@ module _ (ask : Ask) (k : Tables) (code : Code) (setting : Setting k code) (call
   allocates access Handle runs = absurd (cc)
   allocates access (Access a) runs = absurd (cc)
 
-  -- with one of them it is not run
-  not_new : (access : ℕ) (ty : Ty) (handle value : Option ValueCode) → (is_some handle || is_some value) ≡ true → (new access ty handle value).runs k.records ≡ true → ⊥
-  not_new access (Record t) None None some runs = absurd (cc)
-  not_new access (Record t) None (Some v) some runs = absurd (cc)
-  not_new access (Record t) (Some h) value some runs = absurd (cc)
-  not_new access Integer handle value some runs = absurd (cc)
-  not_new access Boolean handle value some runs = absurd (cc)
-  not_new access Count handle value some runs = absurd (cc)
-  not_new access Address handle value some runs = absurd (cc)
-  not_new access Handle handle value some runs = absurd (cc)
-  not_new access (Access a) handle value some runs = absurd (cc)
+  -- with the value of a part
+  copies : (access t : ℕ) (v : Expr) (o : Option Reached) → copied t (value_code v) ≡ o → Meets (new_copy access t o) (eval_step (Expr-F.New access (Record t) None (Some (eval v))))
+  copies access t v None is runs = absurd (cc)
+  copies access t v (Some x) is runs =
+      let e = both_true _ _ runs in
+      copied_value ask k code setting call default bound calls w0 access t (plain_if k t e.0) (eval v) x (copied_means K v t x is) e.1
 
-  new_rolled : (y : Expr-F Actual Expr Name Operand) (access : ℕ) (ty : Ty) (handle value : Option ValueCode) → value_code (roll-Expr y) ≡ new access ty handle value → (is_some handle || is_some value) ≡ true → IsValue (roll-Expr y)
-  new_rolled y access ty handle value same some h = absurd (not_new access ty handle value some (subst (λ (x : ValueCode). x.runs k.records ≡ true) same h))
+  allocates_with : (access : ℕ) (ty : Ty) (v : Expr) → Meets (new access ty None (Some (value_code v))) (eval_step (Expr-F.New access ty None (Some (eval v))))
+  allocates_with access (Record t) v runs = copies access t v (copied t (value_code v)) refl runs
+  allocates_with access Integer v runs = absurd (cc)
+  allocates_with access Boolean v runs = absurd (cc)
+  allocates_with access Count v runs = absurd (cc)
+  allocates_with access Address v runs = absurd (cc)
+  allocates_with access Handle v runs = absurd (cc)
+  allocates_with access (Access a) v runs = absurd (cc)
+
+  -- with a handle it is not run
+  not_new : (access : ℕ) (ty : Ty) (handle : ValueCode) (value : Option ValueCode) → (new access ty (Some handle) value).runs k.records ≡ true → ⊥
+  not_new access (Record t) handle value runs = absurd (cc)
+  not_new access Integer handle value runs = absurd (cc)
+  not_new access Boolean handle value runs = absurd (cc)
+  not_new access Count handle value runs = absurd (cc)
+  not_new access Address handle value runs = absurd (cc)
+  not_new access Handle handle value runs = absurd (cc)
+  not_new access (Access a) handle value runs = absurd (cc)
+
+  new_rolled : (y : Expr-F Actual Expr Name Operand) (access : ℕ) (ty : Ty) (handle : ValueCode) (value : Option ValueCode) → value_code (roll-Expr y) ≡ new access ty (Some handle) value → IsValue (roll-Expr y)
+  new_rolled y access ty handle value same h = absurd (not_new access ty handle value (subst (λ (x : ValueCode). x.runs k.records ≡ true) same h))
 
   -- a value of an elementary type
   elementary : (o : Option Reached) (ty : Ty) (find : Naming) → IsScalar ty → X.Value ask k code bound w0 (read o ty) (λ v. ticked (find Elementary K v >>= read_found (cells_of k ty))) → X.Value ask k code bound w0 (read o ty) (eval_step (Expr-F.Read find ty) K)
@@ -191,11 +206,11 @@ module _ (ask : Ask) (k : Tables) (code : Code) (setting : Setting k code) (call
       let i = both_true _ _ g.1 in
       function_value ask k code setting call default bound calls w0 f (map actual_code (map (λ z. z.0) xs)) (map supply (map (λ z. z.0) xs)) ty (scalar_if ty g.0) (not-true _ i.0) (actuals_too xs i.1))
   expr_rolled (Expr-F.Convert ty e) = missing_rolled (Expr-F.Convert ty e.0) (value_roll (Expr-F.Convert ty e.0))
-  expr_rolled (Expr-F.Access v) = missing_rolled (Expr-F.Access v) (value_roll (Expr-F.Access v))
+  expr_rolled (Expr-F.Access v) = meets (Expr-F.Access v) _ _ (value_roll (Expr-F.Access v)) (eval_roll (Expr-F.Access v)) (λ h. designating_value ask k code call default bound w0 v)
   expr_rolled (Expr-F.New access ty None None) = let y = Expr-F.New access ty None None in meets y _ _ (value_roll y) (eval_roll y) (allocates access ty)
-  expr_rolled (Expr-F.New access ty None (Some v)) = let y = Expr-F.New access ty None (Some v.0) in new_rolled y access ty None (Some (value_code v.0)) (value_roll y) refl
-  expr_rolled (Expr-F.New access ty (Some h) None) = let y = Expr-F.New access ty (Some h.0) None in new_rolled y access ty (Some (value_code h.0)) None (value_roll y) refl
-  expr_rolled (Expr-F.New access ty (Some h) (Some v)) = let y = Expr-F.New access ty (Some h.0) (Some v.0) in new_rolled y access ty (Some (value_code h.0)) (Some (value_code v.0)) (value_roll y) refl
+  expr_rolled (Expr-F.New access ty None (Some v)) = let y = Expr-F.New access ty None (Some v.0) in meets y _ _ (value_roll y) (eval_roll y) (allocates_with access ty v.0)
+  expr_rolled (Expr-F.New access ty (Some h) None) = let y = Expr-F.New access ty (Some h.0) None in new_rolled y access ty (value_code h.0) None (value_roll y)
+  expr_rolled (Expr-F.New access ty (Some h) (Some v)) = let y = Expr-F.New access ty (Some h.0) (Some v.0) in new_rolled y access ty (value_code h.0) (Some (value_code v.0)) (value_roll y)
   expr_rolled (Expr-F.Subpool which n) = missing_rolled (Expr-F.Subpool which n.0) (value_roll (Expr-F.Subpool which n.0))
   expr_rolled (Expr-F.Discriminant n i) = missing_rolled (Expr-F.Discriminant n.0 i) (value_roll (Expr-F.Discriminant n.0 i))
 

@@ -15,7 +15,7 @@ use Rattle.ctl_meaning.specs.Types.{Tables, Elementary}
 use Rattle.ctl_meaning.specs.Names.{Default, Found, Tools}
 use Rattle.ctl_meaning.specs.Names as Names
 use Rattle.ctl_meaning.specs.Expressions.{Naming, Supplied, eval, eval_name, supply}
-use Rattle.ctl_meaning.specs.Statements.{Doing, arm_of, assign as assign_doing, assign_part, assign_record as assign_found, body_of, call as call_doing, do_each, exec, exit as exit_doing, handler_of, loop_for, loop_plainly, loop_while, new_line, null as null_doing, put, put_line, raise_again, raise_new, return as return_doing, within}
+use Rattle.ctl_meaning.specs.Statements.{Doing, arm_of, assign as assign_doing, assign_part, assign_record as assign_found, body_of, call as call_doing, do_each, exec, exit as exit_doing, free_object_of, handler_of, loop_for, loop_plainly, loop_while, new_line, null as null_doing, put, put_line, raise_again, raise_new, return as return_doing, within}
 use Rattle.ctl_meaning.proofs.Trees.{exec_roll, arm_roll as guarding_roll, handler_roll as handling_roll, master_roll as body_roll}
 use Rattle.ctl_code.specs.declared.code.Code.{Code}
 use Rattle.ctl_code.specs.declared.code.Instr.TheVariants as InstrOf
@@ -23,7 +23,7 @@ use Rattle.ctl_code.specs.declared.code.Way.TheVariants as WayOf
 use Rattle.ctl_code.specs.Table.{caught_in}
 use Rattle.ctl_layout.specs.Parts.{Reached, Variable, Part, Object}
 use Rattle.ctl_layout.specs.Values.{value_code, value_type, reached_by, sourced}
-use Rattle.ctl_layout.specs.Layout.{StatementCode, all, all_items, arm_code, assign, assign_record, call as call_code, record_code, exit, handled, handler_code, return, inside, item_code, master_code, missing_statement, statement_code, leaves_code}
+use Rattle.ctl_layout.specs.Layout.{StatementCode, all, all_items, arm_code, assign, assign_record, call as call_code, record_code, exit, free as free_code, handled, handler_code, return, inside, item_code, master_code, missing_statement, statement_code, leaves_code}
 use Rattle.ctl_layout.specs.Values.{actual_code}
 use Rattle.ctl_gen.proofs.Known.{both_true, plain_if}
 use Rattle.ctl_layout.proofs.TreeLayers.{handler_roll, arm_roll, master_roll, statement_roll}
@@ -38,6 +38,7 @@ use Rattle.ctl_gen.proofs.Parts.{Leads, composite_leads, find_by, name_leads}
 use Rattle.ctl_gen.proofs.Walked.{steps_of, variable_of}
 use Rattle.ctl_gen.proofs.Sources.{IsSource, source_means}
 use Rattle.ctl_gen.proofs.RecordAssign.{record_does}
+use Rattle.ctl_gen.proofs.Freeing.{part_freed_does, variable_freed_does}
 use Rattle.ctl_gen.proofs.Calls.{call_does}
 use Rattle.ctl_gen.proofs.Returns.{return_runs}
 use Rattle.ctl_gen.proofs.Assign.{assign_runs}
@@ -143,6 +144,15 @@ module _ (ask : Ask) (k : Tables) (code : Code) (setting : Setting k code) (call
       (subst (λ (find2 : List ℕ → Act Found). DoesIn 0 ask k code bound (λ a. record_code x t y a.stack) (λ d caught. ticked (find_by K (steps_of x) (variable_of x) d >>= (λ f. find2 d >>= assign_found K t f)))) (sym from.finds)
       (record_does ask k code setting call default constants t known bound calls x y to.walked from.walked h.0 g.0))
 
+  free_does : (access : ℕ) (o : Option Reached) (find : Naming) → ((x : Reached) → o ≡ Some x → Reaches K x (find Elementary K)) → Performs (free_code access o) (free_object_of access find)
+  unfolding free_object_of
+  free_does access None find reaches runs n texts = absurd (cc)
+  free_does access (Some (Variable v)) find reaches runs n texts = variable_freed_does ask k code setting call default constants bound calls access v (find Elementary K) (reaches (Variable v) refl)
+  free_does access (Some (Object v steps)) find reaches runs n texts = absurd (cc)
+  free_does access (Some (Part v steps t position)) find reaches runs n texts =
+      let g = reaches (Part v steps t position) refl in
+      part_freed_does ask k code setting call default constants bound calls access v steps t position runs g.0 (find Elementary K) g.1
+
   called_does : (f : ℕ) (actuals : List Actual) → Performs (call_code f (map actual_code actuals)) (call_doing f (map supply actuals))
   called_does f actuals runs n texts = call_does ask k code setting call default bound calls f (map actual_code actuals) (map supply actuals) (λ w0. actuals_mean ask k code setting call default bound calls w0 actuals runs)
 
@@ -198,7 +208,7 @@ module _ (ask : Ask) (k : Tables) (code : Code) (setting : Setting k code) (call
   stmt_rolled (Stmt-F.Dispatch op x) = missing_does (Stmt-F.Dispatch op x) (statement_roll (Stmt-F.Dispatch op x))
   stmt_rolled (Stmt-F.LibraryAllocate p x size al) = missing_does (Stmt-F.LibraryAllocate p x size al) (statement_roll (Stmt-F.LibraryAllocate p x size al))
   stmt_rolled (Stmt-F.LibraryDeallocate p x size al) = missing_does (Stmt-F.LibraryDeallocate p x size al) (statement_roll (Stmt-F.LibraryDeallocate p x size al))
-  stmt_rolled (Stmt-F.Free a x) = missing_does (Stmt-F.Free a x) (statement_roll (Stmt-F.Free a x))
+  stmt_rolled (Stmt-F.Free a x) = does (Stmt-F.Free a x) _ _ (statement_roll (Stmt-F.Free a x)) (exec_roll (Stmt-F.Free a x)) (free_does a (reached_by x) (eval_name x) (name_finds K x))
   stmt_rolled (Stmt-F.Release x) = missing_does (Stmt-F.Release x) (statement_roll (Stmt-F.Release x))
 
   arm_rolled : (y : Arm-F StmtToo ArmToo HandlerToo MasterToo) → Guards (roll-Arm (bare_arm y))

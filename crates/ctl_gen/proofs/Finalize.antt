@@ -3,11 +3,12 @@ use Rattle.std.proofs.Common.{◌≡◌, ℕ, ◌<◌, ◌≤◌, List, ◌∷�
 use Rattle.std.specs.Prelude.{◌||◌, nat_eq}
 use Rattle.std.proofs.lemmas.Option.{slice_get_within}
 use Rattle.ctl_program.specs.declared.types.Ty.{Ty}
-use Rattle.ctl_program.specs.declared.types.Ty.TheVariants.{Record}
+use Rattle.ctl_program.specs.declared.types.Ty.TheVariants.{Integer, Count, Boolean, Address, Handle, Access, Record}
 use Rattle.ctl_tree.specs.declared.event.Cause.{Cause}
 use Rattle.ctl_tree.specs.declared.event.Cause.TheVariants.{Scope}
 use Rattle.ctl_meaning.specs.World.{Object, Member, Log, World}
 use Rattle.ctl_meaning.specs.Lists.{first_with, opened_lists}
+use Rattle.ctl_meaning.specs.Members.{member_of}
 use Rattle.ctl_meaning.specs.Pools.{opened_pools}
 use Rattle.ctl_meaning.specs.Changes.{object_at, begin_finalization, end_finalization, home_of}
 use Rattle.ctl_meaning.specs.Choice.{Ask, picked}
@@ -21,7 +22,7 @@ use Rattle.ctl_code.specs.declared.code.Parts.TheVariants as PartsOf
 use Rattle.ctl_code.specs.declared.code.Code.{Code}
 use Rattle.ctl_code.specs.States.{Frame, Finalizing, State, whole_spot}
 use Rattle.ctl_code.specs.Table as Table
-use Rattle.ctl_code.specs.Table.{has_part, parts_of}
+use Rattle.ctl_code.specs.Table.{has_part, has_part_in, parts_of}
 use Rattle.ctl_code.specs.Steps.{moved, step}
 use Rattle.ctl_code.specs.Valid.{IsDeclarable}
 use Rattle.ctl_gen.proofs.Known.{IsPlainType}
@@ -88,6 +89,35 @@ module _ (ask : Ask) (k : Tables) (code : Code) (setting : Setting k code) (call
       after : (r : Result Bool) (c1 : ℕ) (l1 : Log) (w1 : World) → c1 ≤ c → Sure k code w (way_of r) w1 → Runs ask code (Sure k code w0) 1 1 (tells (Finalizing n ∷ ks) r l1 w1) c1 (tells ks) (on_goes (λ b. change (end_finalization n) >> done b) r c1 l1 w1)
       after (Goes b) c1 l1 w1 lo sure = last_step ask code (Sure k code w0) 1 1 _ c1 0 (tells ks) (Goes b) l1 (end_finalization n w1) (omega arith) (tt, since_end k code n w0 w1 (since_on k code w0 w w1 fits sure.1)) refl
       after (Leaves y) c1 l1 w1 lo sure = absurd sure.0
+
+  -- both tables speak alike of controlled parts
+  pub part_alike : (ty : Ty) → IsPlainType k ty → has_controlled k ty ≡ has_part_in code ty
+  part_alike (Record t) plain = (setting.agrees default constants t plain).has
+  part_alike Integer plain = absurd plain
+  part_alike Boolean plain = absurd plain
+  part_alike Count plain = absurd plain
+  part_alike Address plain = absurd plain
+  part_alike Handle plain = absurd plain
+  part_alike (Access a) plain = absurd plain
+
+  -- an object with a controlled part is finalized by its own type
+  pub typed_runs : (cause : Cause) → ((y : Option Way) → IsPassed cause y → IsSure y) → (o : Object) (w0 : World) (ks : List Frame) (c : ℕ) (l : Log) (w : World) (s0 : State) → c ≤ bound → Since k code w0 w → object_at o.number w ≡ Some o → IsPlainType k o.ty → has_part_in code o.ty ≡ true → step ask code s0 ≡ moved l (Table.finalize_typed code cause o.number o.ty ks w) → Runs ask code (Sure k code w0) 1 1 s0 c (tells ks) (finalize_object K cause (member_of o) c l w)
+  unfolding member_of
+  typed_runs cause sure o w0 ks c l w s0 le fits at plain part first = by o.ty refl plain part first
+    where
+      by : (ty : Ty) → o.ty ≡ ty → IsPlainType k ty → has_part_in code ty ≡ true → step ask code s0 ≡ moved l (Table.finalize_typed code cause o.number ty ks w) → Runs ask code (Sure k code w0) 1 1 s0 c (tells ks) (finalize_object K cause (record { number = o.number; ty = o.ty }) c l w)
+      by (Record t) is plain1 part1 go = subst (λ ty. Runs ask code (Sure k code w0) 1 1 s0 c (tells ks) (finalize_object K cause (record { number = o.number; ty = ty }) c l w)) (sym is) (parted (parts_of code t) refl part1 go)
+        where
+          parted : (p : Parts) → parts_of code t ≡ p → has_part p ≡ true → step ask code s0 ≡ moved l (Table.finalize_object code p cause o.number t ks w) → Runs ask code (Sure k code w0) 1 1 s0 c (tells ks) (finalize_object K cause (record { number = o.number; ty = Record t }) c l w)
+          parted PartsOf.Plain named has go1 = absurd (cc has)
+          parted PartsOf.Within named has go1 = object_runs cause sure t o.number w0 ks c l w s0 o le fits at is plain1 (part_alike (Record t) plain1 ∙ part1) (go1 ∙ ap (λ p. moved l (Table.finalize_part code p cause (whole_spot o.number) t (Finalizing o.number ∷ ks) (begin_finalization o.number w))) (sym named))
+          parted PartsOf.Controlled named has go1 = object_runs cause sure t o.number w0 ks c l w s0 o le fits at is plain1 (part_alike (Record t) plain1 ∙ part1) (go1 ∙ ap (λ p. moved l (Table.finalize_part code p cause (whole_spot o.number) t (Finalizing o.number ∷ ks) (begin_finalization o.number w))) (sym named))
+      by Integer is plain1 part1 go = absurd plain1
+      by Boolean is plain1 part1 go = absurd plain1
+      by Count is plain1 part1 go = absurd plain1
+      by Address is plain1 part1 go = absurd plain1
+      by Handle is plain1 part1 go = absurd plain1
+      by (Access a) is plain1 part1 go = absurd plain1
 
   -- a declared object, which is no pool
   pub declared_runs : (t n : ℕ) (w0 : World) (ks : List Frame) (c : ℕ) (l : Log) (w : World) (s0 : State) (o : Object) → c ≤ bound → Since k code w0 w → object_at n w ≡ Some o → o.ty ≡ Record t → IsPlainType k (Record t) → step ask code s0 ≡ moved l (Table.finalize_object code (parts_of code t) Scope n t ks w) → Runs ask code (Sure k code w0) 3 3 s0 c (tells ks) (finalize_as K n (Record t) c l w)

@@ -19,15 +19,16 @@ use Rattle.ctl_code.specs.declared.code.Code.{Code}
 use Rattle.ctl_code.specs.Valid as Valid
 use Rattle.ctl_code.specs.Valid.{HasFormals, IsAllocable}
 use Rattle.ctl_layout.specs.Records.{is_run_type}
-use Rattle.ctl_layout.specs.Values.{OperatorCode, ValueCode, actual_code, actuals_run, chain, goes_back, missing_value, new, operator_of, operators_run, reached_by, value_code, values_run}
+use Rattle.ctl_layout.specs.Parts.{Reached}
+use Rattle.ctl_layout.specs.Values.{OperatorCode, ValueCode, actual_code, actuals_run, chain, copied, goes_back, missing_value, new, new_copy, operator_of, operators_run, reached_by, value_code, values_run}
 use Rattle.ctl_layout.proofs.Extensions.{both_true}
 use Rattle.ctl_layout.proofs.Layers.{actual_copied, actual_part, actual_value, value_access, value_call, value_chain, value_constant, value_convert, value_discriminant, value_new, value_read, value_short, value_subpool, value_unary}
 use Rattle.ctl_layout.proofs.TreeLayers.{operator_roll}
 use Rattle.ctl_gen.proofs.Formed.{none}
-use Rattle.ctl_gen.proofs.Walked.{name_walked}
+use Rattle.ctl_gen.proofs.Walked.{IsWalked, copied_walked, name_walked}
 use Rattle.ctl_gen.proofs.FormedCalls.{GoodActual, GoodActuals, MayCall, MayNew, copy_good, function_own, good_as, kind_by, reference_good, value_good}
 use Rattle.ctl_gen.proofs.FormedTypes.{IsAccessType, joins_plain, joins_scalar, run_scalar, takes_unary}
-use Rattle.ctl_gen.proofs.FormedValues.{Conditions, Fine, Operating, chain_own, fine_like, first_joins, new_own, next_condition, next_joins, next_operating, none_operating, read_own, short_own, unary_own, usable_as}
+use Rattle.ctl_gen.proofs.FormedValues.{Conditions, Fine, Operating, chain_own, constant_fine, copied_own, designating_fine, fine_like, first_joins, new_own, next_condition, next_joins, next_operating, none_operating, read_own, short_own, unary_own, usable_as}
 
 -- as many actuals as formals
 as_many : {k : W.Setting} {env : W.Frames} {fs : List W.Formal} {actuals : List Actual} → FitEach k env fs actuals → length fs ≡ length (map actual_code actuals)
@@ -52,10 +53,15 @@ module _ (code : Code) (records : List RecordType) where
   not_missing : (x : ValueCode) → x ≡ missing_value None → x.runs records ≡ true → ⊥
   not_missing x same h = absurd (let e = sym (ap (λ (z : ValueCode). z.runs records) same) ∙ h in cc)
 
-  -- an allocator, which is run where it has no handle and no value
-  allocated_fine : (masters a : ℕ) (t : Ty) (handle value : Option ValueCode) → ((u : ℕ) → t ≡ TyOf.Record u → IsAllocable code masters a u) → (new a t handle value).runs records ≡ true → Fine code masters (new a t handle value) (TyOf.Access a)
+  -- an allocator with the value of a part
+  copied_fine : (masters a u : ℕ) (o : Option Reached) → IsWalked o → IsAllocable code masters a u → (new_copy a u o).runs records ≡ true → Fine code masters (new_copy a u o) (TyOf.Access a)
+  copied_fine masters a u None walked allocable runs = absurd (cc)
+  copied_fine masters a u (Some x) walked allocable runs = inl (copied_own code masters a u x walked allocable)
+
+  -- an allocator, which is run where it has no handle, and no value but that of a part
+  allocated_fine : (masters a : ℕ) (t : Ty) (handle : Option ValueCode) (x : Option Expr) → ((u : ℕ) → t ≡ TyOf.Record u → IsAllocable code masters a u) → (new a t handle (option_map value_code x)).runs records ≡ true → Fine code masters (new a t handle (option_map value_code x)) (TyOf.Access a)
   allocated_fine masters a (TyOf.Record u) None None may runs = inl (new_own code masters a u (may u refl))
-  allocated_fine masters a (TyOf.Record u) None (Some x) may runs = absurd (cc)
+  allocated_fine masters a (TyOf.Record u) None (Some x) may runs = copied_fine masters a u (copied u (value_code x)) (copied_walked u x) (may u refl) runs
   allocated_fine masters a (TyOf.Record u) (Some h) x may runs = absurd (cc)
   allocated_fine masters a TyOf.Integer h x may runs = absurd (cc)
   allocated_fine masters a TyOf.Count h x may runs = absurd (cc)
@@ -74,7 +80,7 @@ module _ (code : Code) (records : List RecordType) where
   module _ (k : W.Setting) (may_call : MayCall code k) (may_new : MayNew code k) where
     mutual
       pub typed_fine : {env : W.Frames} {x : Expr} {t : Ty} → Typed k env x t → (value_code x).runs records ≡ true → Fine code (length env) (value_code x) t
-      typed_fine {env} (T.constant {cell = n} {t = t} scalar cell view) runs = inr (n, value_constant n, cell)
+      typed_fine {env} (T.constant {cell = n} {t = t} scalar cell view) runs = fine_as (length env) _ _ t (value_constant n) (constant_fine code (length env) n t cell)
       typed_fine {env} (T.read {x = x} {t = t} denotes) runs =
           let same = value_read x t in
           fine_as (length env) _ _ t same (inl (read_own code (length env) records (reached_by x) t (name_walked x) (runs_as _ _ same runs)))
@@ -104,10 +110,10 @@ module _ (code : Code) (records : List RecordType) where
           (next_condition code (length env) form (value_code y) (map value_code more) (usable_as code (length env) (value_code y) Boolean tt (typed_fine g f.0)) (conditions form rest f.1))))
       typed_fine {env} (T.convert {x = x} {t = t} number from h) runs = absurd (not_missing _ (value_convert t x) runs)
       typed_fine {env} (T.as_access {x = x} {a = a} {b = b} from to same h) runs = fine_like code (length env) (value_code x) (TyOf.Access b) (TyOf.Access a) (inr ((b, refl), (a, refl))) (typed_fine h runs)
-      typed_fine {env} (T.access {v = v} names found designates) runs = absurd (not_missing _ (value_access v) runs)
+      typed_fine {env} (T.access {v = v} {a = a} names found designates) runs = fine_as (length env) _ _ (TyOf.Access a) (value_access v) (designating_fine code (length env) v (TyOf.Access a))
       typed_fine {env} (T.allocate {a = a} {t = t} {handle = handle} {value = x} to designates view h g) runs =
           let same = value_new a t handle x in
-          fine_as (length env) _ _ (TyOf.Access a) same (allocated_fine (length env) a t (option_map value_code handle) (option_map value_code x) (λ u is. may_new env a u to (designates ∙ is)) (runs_as _ _ same runs))
+          fine_as (length env) _ _ (TyOf.Access a) same (allocated_fine (length env) a t (option_map value_code handle) x (λ u is. may_new env a u to (designates ∙ is)) (runs_as _ _ same runs))
       typed_fine {env} (T.subpool {which = which} {x = x} denotes rooted) runs = absurd (not_missing _ (value_subpool which x) runs)
       typed_fine {env} (T.discriminant {x = x} {i = i} denotes rooted has) runs = absurd (not_missing _ (value_discriminant x i) runs)
 

@@ -26,14 +26,14 @@ use Rattle.ctl_code.specs.declared.code.Instr.TheVariants as InstrOf
 use Rattle.ctl_code.specs.declared.code.Way.TheVariants as WayOf
 use Rattle.ctl_code.specs.declared.code.Code.{Code}
 use Rattle.ctl_code.specs.Windows.{depth, variable_at}
-use Rattle.ctl_code.specs.Valid.{IsAccess, IsAtEnd, IsDeclarable, outermost}
-use Rattle.ctl_layout.specs.Around.{behind, local_at}
+use Rattle.ctl_code.specs.Valid.{IsAtEnd, IsDeclarable, HasCollection, outermost}
+use Rattle.ctl_layout.specs.Around.{behind, local_at, out_to}
 use Rattle.ctl_layout.specs.Parts.{Reached, Variable, Part, Object, part_runs, parts_run}
 use Rattle.ctl_layout.specs.Values.{ValueCode, actual_code, copied, sourced, value_code, value_type, reached_by}
 use Rattle.ctl_layout.specs.Records.{is_run_type}
 use Rattle.ctl_layout.specs.Defaults.{is_assignable, is_outermost}
 use Rattle.ctl_layout.specs.Layout as Layout
-use Rattle.ctl_layout.specs.Layout.{ArmCode, HandlerCode, ItemCode, MasterCode, StatementCode, all, all_items, arm_code, arms_run, assign, assign_record, block, call, exit, gathers_code, return, handled, handler_code, handlers_run, has_choice, in_master, inside, item_code, master_code, missing_statement, statement_code, tested, valued, with_value}
+use Rattle.ctl_layout.specs.Layout.{ArmCode, HandlerCode, ItemCode, MasterCode, StatementCode, all, all_items, arm_code, arms_run, assign, assign_record, block, call, exit, free, gathers_code, return, handled, handler_code, handlers_run, has_choice, in_master, inside, item_code, master_code, missing_statement, statement_code, tested, valued, with_value}
 use Rattle.ctl_layout.proofs.Extensions.{both_true}
 use Rattle.ctl_layout.proofs.TreeLayers.{arm_roll, layer_of, master_roll, handler_roll}
 use Rattle.ctl_gen.proofs.Place.{HasAt}
@@ -46,7 +46,7 @@ use Rattle.ctl_gen.proofs.FormedExpressions.{actuals_good, has_formals, typed_fi
 use Rattle.ctl_gen.proofs.FormedLines.{block_formed}
 use Rattle.ctl_gen.proofs.FormedParts.{record_formed}
 use Rattle.ctl_gen.proofs.Walked.{IsWalked, copied_walked, name_walked, source_walked}
-use Rattle.ctl_gen.proofs.FormedStatements.{MayDeclare, Stays, all_stay, assign_formed, assign_part_formed, copy_formed, declaration_formed, for_stays, leaves_stay, leaves_when_stay, loop_stays, returned_formed, tested_turns, valued_formed}
+use Rattle.ctl_gen.proofs.FormedStatements.{MayDeclare, Stays, all_stay, assign_formed, assign_part_formed, copy_formed, declaration_formed, for_stays, free_formed, free_part_formed, leaves_stay, leaves_when_stay, loop_stays, returned_formed, tested_turns, valued_formed}
 use Rattle.ctl_gen.proofs.FormedTexts.{print_formed}
 use Rattle.ctl_gen.proofs.FormedTypes.{run_scalar}
 use Rattle.ctl_gen.proofs.FormedValues.{Fine, usable_as, value_usable}
@@ -57,8 +57,9 @@ slots_told (D.master {f = f} {is = items} {body = body} {hs = hs} elaborated don
     ap (λ (z : MasterCode). z.slots) (master_roll (record { slots = length f; items = items; body = body; handlers = hs }))
 
 -- the operations of each record type that is declared around a place are declared there too, and so is each subprogram that can be called
--- there, with slots for its formals; and those of one of the main procedure's own declarative part inside its master
-module _ (code : Code) (records : List RecordType) (k : W.Setting) (declarable : (env : W.Frames) (t : ℕ) → W.HasRecord k env t → IsDeclarable code (length env) t) (may_call : MayCall code k) (may_new : MayNew code k) (collected : (env : W.Frames) (a : ℕ) → W.HasAccess k env a → IsAccess code a) (assignable : (t : ℕ) → is_outermost (slice_get records t) ≡ true → IsDeclarable code outermost t) (raisable : (x : ℕ) → x < k.exceptions → x < length code.exceptions.items) where
+-- there, with slots for its formals; the collection of each access type stands in one of the masters around; and the operations of a record
+-- type of the main procedure's own declarative part are declared inside its master
+module _ (code : Code) (records : List RecordType) (k : W.Setting) (declarable : (env : W.Frames) (t : ℕ) → W.HasRecord k env t → IsDeclarable code (length env) t) (may_call : MayCall code k) (may_new : MayNew code k) (seen : (env : W.Frames) (a : ℕ) → W.HasAccess k env a → HasCollection code (length env) a) (assignable : (t : ℕ) → is_outermost (slice_get records t) ≡ true → IsDeclarable code outermost t) (raisable : (x : ℕ) → x < k.exceptions → x < length code.exceptions.items) where
   -- Items ------------------------------------------------------------------------------------------
 
   may_declare : (env : W.Frames) (ty : Ty) → W.InView k env ty → MayDeclare code (length env) ty
@@ -104,8 +105,9 @@ module _ (code : Code) (records : List RecordType) (k : W.Setting) (declarable :
   gathers_good {env} (D.one_more_collection {a = a} {more = more} of level names rest) count s agrees =
       let least = named_level names in
       let gather = InstrOf.Gather a (Layout.layer_of more (count + 1)) in
+      let around = seen env a of in
       both code ((gather, s) ∷ []) (gathers_code more (count + 1) s) s s (Some s)
-      (one code gather s (Some s) (λ p next. (collected env a of, omega (arith, least, level, agrees.deep), next)))
+      (one code gather s (Some s) (λ p next. ((around.0, around.1), omega (arith, least, level, agrees.deep), next)))
       (gathers_good rest (count + 1) s agrees)
 
   collections_good : {env : W.Frames} (as' : List ℕ) → D.Gathers k env as' → GoodItem env (item_code (Collections as'))
@@ -150,6 +152,12 @@ module _ (code : Code) (records : List RecordType) (k : W.Setting) (declarable :
       let e = both_true (part_runs target records) (part_runs source records && is_assignable records t) runs in
       let f = both_true (part_runs source records) (is_assignable records t) e.1 in
       record_formed code target source t a.stack walked walked1 (assignable t (both_true _ _ f.1).1) p
+
+  free_good : (env : W.Frames) (access : ℕ) (o : Option Reached) → IsWalked o → HasCollection code (length env) access → GoodStatement env (free access o)
+  free_good env access None walked around runs a n p agrees texts can = absurd (cc)
+  free_good env access (Some (Object v steps)) walked around runs a n p agrees texts can = absurd (cc)
+  free_good env access (Some (Part v steps t position)) walked around runs a n p agrees texts can = free_part_formed code access v steps t position a.stack walked (subst (λ m. HasCollection code m access) (sym agrees.deep) around) p
+  free_good env access (Some (Variable v)) walked around runs a n p agrees texts can = free_formed code access (out_to a.stack v) v.slot a.stack (subst (λ m. HasCollection code m access) (sym agrees.deep) around) p
 
   call_good : {env : W.Frames} {f : ℕ} {is : W.Signature} {actuals : List Actual} → W.Callable k env f is → is.result ≡ None → T.FitEach k env is.formals actuals → GoodStatement env (call f (map actual_code actuals))
   call_good {env} {f} {is} {actuals} can_call gives fits = λ runs a n p agrees texts can.
@@ -253,7 +261,7 @@ module _ (code : Code) (records : List RecordType) (k : W.Setting) (declarable :
     statement_good {env} (D.dispatch {o = o} {x = x} views) = not_missing env _ (layer_of _ (sym (rolls-Dispatch o x)))
     statement_good {env} (D.library_allocate {p = p} {x = x} {size = size} {alignment = alignment} views rooted denotes h g) = not_missing env _ (layer_of _ (sym (rolls-LibraryAllocate p x size alignment)))
     statement_good {env} (D.library_deallocate {p = p} {x = x} {size = size} {alignment = alignment} views rooted address h g) = not_missing env _ (layer_of _ (sym (rolls-LibraryDeallocate p x size alignment)))
-    statement_good {env} (D.free {t = t} {x = x} has denotes) = not_missing env _ (layer_of _ (sym (rolls-Free t x)))
+    statement_good {env} (D.free {t = t} {x = x} has denotes) = good_as env _ _ (layer_of _ (sym (rolls-Free t x))) (free_good env t (reached_by x) (name_walked x) (seen env t has))
     statement_good {env} (D.release {x = x} denotes) = not_missing env _ (layer_of _ (sym (rolls-Release x)))
     statement_good {env} (D.raise_again handles) = good_as env _ _ (layer_of _ (sym rolls-RaiseAgain)) (λ runs a n p agrees texts can. one code InstrOf.RaiseAgain a.stack (Some a.stack) (λ q next. tt) p)
 

@@ -13,11 +13,11 @@ use Rattle.ctl_code.specs.declared.code.Instr.TheVariants as InstrOf
 use Rattle.ctl_code.specs.declared.code.Code.{Code}
 use Rattle.ctl_code.specs.declared.template.TextPart.{TextPart}
 use Rattle.ctl_code.specs.Windows.{depth, variable_at}
-use Rattle.ctl_code.specs.Valid.{IsCellOf, IsDeclarable, Leads}
+use Rattle.ctl_code.specs.Valid.{IsCellOf, IsDeclarable, HasCollection, Leads}
 use Rattle.ctl_layout.specs.Parts.{Reached, are_walked, located_code, part_code}
 use Rattle.ctl_layout.specs.Around.{Line, Around, behind, local_at, local_cell, new_operand, newest_at, newest_cell, out_to}
 use Rattle.ctl_layout.specs.Values.{ValueCode, held, value_type}
-use Rattle.ctl_layout.specs.Layout.{StatementCode, all, assign_code, assign_part_code, bounds_code, copy, declaration, for, in_loop, leaves_code, loop, return_held, scalar_code, store_part_code, test_code, test_held, test_length, tested_code, turns_code, valued_code, with_bounds}
+use Rattle.ctl_layout.specs.Layout.{StatementCode, all, assign_code, assign_part_code, bounds_code, copy, declaration, for, free_part_code, in_loop, leaves_code, loop, return_held, scalar_code, store_part_code, test_code, test_held, test_length, tested_code, turns_code, valued_code, with_bounds}
 use Rattle.ctl_layout.specs.Defaults.{is_declared}
 use Rattle.ctl_gen.proofs.Place.{HasAt}
 use Rattle.ctl_gen.proofs.Place as Place
@@ -107,6 +107,17 @@ module _ (code : Code) where
       both code (located_code v steps t s) (store_part_code t position x s) s over (Some s) (located_formed code v steps t s walked)
       (both code h.code ((store, h.after) ∷ []) over h.after (Some s) f.formed
       (one code store h.after (Some s) (λ p next. (usable.scalar, (over, f.taken, (s, refl, next))))))
+
+  -- an object is freed whose access value is in a variable, or in a component of a part (13.11.2)
+  pub free_formed : (access out slot : ℕ) (s : List Kind) → HasCollection code (depth s) access → Formed code ((InstrOf.Free access out slot, s) ∷ []) s (Some s)
+  free_formed access out slot s seen = one code (InstrOf.Free access out slot) s (Some s) (λ p next. (seen, next))
+
+  pub free_part_formed : (access : ℕ) (v : Var) (steps : List Step) (t position : ℕ) (s : List Kind) → are_walked false steps ≡ true → HasCollection code (depth s) access → Formed code (free_part_code access v steps t position s) s (Some s)
+  free_part_formed access v steps t position s walked seen =
+      let over = Operand (Record t) ∷ s in
+      let free = InstrOf.FreePart access t position in
+      both code (located_code v steps t s) ((free, over) ∷ []) s over (Some s) (located_formed code v steps t s walked)
+      (one code free over (Some s) (λ p next. (seen, (s, refl, next))))
 
   -- a return statement with a value (6.5)
   pub returned_formed : (masters : ℕ) (x : ValueCode) (s : List Kind) → depth s ≡ masters → Usable code masters x (value_type x) → Formed code (return_held (value_type x) (held x (value_type x) s)) s (Some s)

@@ -26,11 +26,11 @@ use Rattle.ctl_layout.specs.declared.right.Right.{Right}
 use Rattle.ctl_layout.specs.declared.right.Right.TheVariants as RightOf
 use Rattle.ctl_layout.specs.Around.{Line, local_at, new_operand, out_to, read_from}
 use Rattle.ctl_layout.specs.Records.{is_run_type}
-use Rattle.ctl_layout.specs.Parts.{Reached, Variable, Part, Object, are_walked, component_code, located_code, parts_run}
-use Rattle.ctl_layout.specs.Values.{Held, OperatorCode, ValueCode, binary_code, chain, common_type, constant, evaluated, first_type, held, held_by, in_cell, last_type, left_held, moved_to, new, next_target, operand_type, operator_by, operator_code, operator_for, operators_code, other_code, others_code, read, short, unary, value_type}
+use Rattle.ctl_layout.specs.Parts.{Reached, Variable, Part, Object, are_walked, component_code, located_code, part_code, parts_run}
+use Rattle.ctl_layout.specs.Values.{Held, OperatorCode, ValueCode, binary_code, chain, common_type, constant, designating, evaluated, first_type, held, held_by, in_cell, last_type, left_held, moved_to, new, new_copy, new_copy_code, next_target, operand_type, operator_by, operator_code, operator_for, operators_code, other_code, others_code, read, short, unary, value_type}
 use Rattle.ctl_layout.proofs.Extensions.{both_true}
 use Rattle.ctl_gen.proofs.Formed.{Formed, both, has_end, none, one}
-use Rattle.ctl_gen.proofs.FormedParts.{located_formed, read_fine}
+use Rattle.ctl_gen.proofs.FormedParts.{located_formed, part_formed, read_fine}
 use Rattle.ctl_gen.proofs.Walked.{IsWalked}
 use Rattle.ctl_gen.proofs.FormedTypes.{IsAccessType, IsLike, arithmetic_of, boolean_plain, cell_like, cell_of, equality_relates, is_relation, like_back, like_scalar, like_then, logical_of, number_of, number_scalar, of_arithmetic, of_logical, of_relation, ordering_relates, relation_of, run_scalar, same_unless, unary_plain}
 
@@ -93,15 +93,21 @@ module _ (code : Code) (masters : ℕ) where
     pub formed : (to : Cell) (s : List Kind) → depth s ≡ masters → Placed to s → Formed code (x.code to ty s) s (Some (with_put to.named ty s))
     pub constant : (n : ℕ) → x.right ≡ RightOf.Constant n → IsCellOf ty n
 
-  -- a value of this type of its own, or a constant. An access value is one of each access type that designates the same type (4.6)
+  -- a value of this type of its own. An access value is one of each access type that designates the same type (4.6)
   pub record Own (x : ValueCode) (ty : Ty) : Type 0 where
     pub type : Ty
     pub own : x.own ≡ Some type
     pub like : IsLike type ty
     pub usable : (t : Ty) → IsLike t ty → Usable x t
 
+  -- a value of this type that has none of its own: a constant, or an access attribute. Where its type is not asked, it is taken as a number
+  pub record Bare (x : ValueCode) (ty : Ty) : Type 0 where
+    pub own : x.own ≡ None
+    pub number : Usable x Integer
+    pub usable : (t : Ty) → IsLike t ty → Valid.IsScalar t → Usable x t
+
   abbrev pub Fine : ValueCode → Ty → Type 0
-  Fine x ty = Own x ty ⊎ ((n : ℕ) × (x ≡ constant n) × IsCell ty n)
+  Fine x ty = Own x ty ⊎ Bare x ty
 
   -- where its own type is no access type
   own_of : (x : ValueCode) (ty : Ty) → x.own ≡ Some ty → (IsAccessType ty → ⊥) → Usable x ty → Own x ty
@@ -118,20 +124,34 @@ module _ (code : Code) (masters : ℕ) where
     constant = λ m is. let same : n ≡ m = cc in subst (IsCellOf ty) same cell;
   }
 
+  pub constant_fine : (n : ℕ) (ty : Ty) → IsCell ty n → Fine (constant n) ty
+  constant_fine n ty cell = inr (record { own = refl; number = usable_constant n Integer tt tt; usable = λ t like scalar. usable_constant n t scalar (cell_of t n scalar (cell_like t ty n like cell)) })
+
+  -- an access attribute
+  usable_designating : (v : Var) (ty : Ty) → Valid.IsScalar ty → Usable (designating v) ty
+  usable_designating v ty scalar = record {
+    scalar = scalar;
+    formed = λ to s deep at. one code (InstrOf.Designate (out_to s v) v.slot ty to) s (Some (with_put to.named ty s)) (λ p next. (scalar, puts code p to ty s at next));
+    constant = λ n is. absurd (cc);
+  }
+
+  pub designating_fine : (v : Var) (ty : Ty) → Fine (designating v) ty
+  designating_fine v ty = inr (record { own = refl; number = usable_designating v Integer tt; usable = λ t like scalar. usable_designating v t scalar })
+
   -- where its type is scalar
   pub usable_as : (x : ValueCode) (ty : Ty) → Valid.IsScalar ty → Fine x ty → Usable x ty
   usable_as x ty scalar (inl h) = h.usable ty (inl refl)
-  usable_as x ty scalar (inr (n, is, cell)) = subst (λ y. Usable y ty) (sym is) (usable_constant n ty scalar (cell_of ty n scalar cell))
+  usable_as x ty scalar (inr h) = h.usable ty (inl refl) scalar
 
   -- where each scalar type will do
   pub value_usable : (x : ValueCode) (ty : Ty) → Fine x ty → Usable x (value_type x)
   value_usable x ty (inl h) = subst (Usable x) (sym (ap (λ o. unwrap_or o Integer) h.own)) (h.usable h.type h.like)
-  value_usable x ty (inr (n, is, cell)) = subst (λ (y : ValueCode). Usable y (value_type y)) (sym is) (usable_constant n Integer tt tt)
+  value_usable x ty (inr h) = subst (Usable x) (sym (ap (λ o. unwrap_or o Integer) h.own)) h.number
 
   -- one of another access type
   pub fine_like : (x : ValueCode) (s t : Ty) → IsLike s t → Fine x t → Fine x s
   fine_like x s t like (inl h) = inl (record { type = h.type; own = h.own; like = like_then h.type t s h.like (like_back s t like); usable = λ u l. h.usable u (like_then u s t l like) })
-  fine_like x s t like (inr (n, is, cell)) = inr (n, is, cell_like s t n like cell)
+  fine_like x s t like (inr h) = inr (record { own = h.own; number = h.number; usable = λ u l. h.usable u (like_then u s t l like) })
 
   -- Operands ----------------------------------------------------------------------------------------
 
@@ -213,16 +233,13 @@ module _ (code : Code) (masters : ℕ) where
       let e : h.type ≡ common_type x.own y.own = sym (ap (λ a. common_type a y.own) h.own) in
       let u = h.usable h.type h.like in
       (subst (Usable x) e u, subst (Usable y) e (usable_as y h.type u.scalar (fine_like y h.type s h.like g)))
-  common_usable x y s (inr (n, is, cell)) (inl g) =
-      let a : x.own ≡ None = ap (λ (z : ValueCode). z.own) is in
-      let e : g.type ≡ common_type x.own y.own = sym (ap (λ o. common_type o y.own) a ∙ ap (λ o. common_type None o) g.own) in
+  common_usable x y s (inr h) (inl g) =
+      let e : g.type ≡ common_type x.own y.own = sym (ap (λ o. common_type o y.own) h.own ∙ ap (λ o. common_type None o) g.own) in
       let u = g.usable g.type g.like in
-      (subst (Usable x) e (usable_as x g.type u.scalar (fine_like x g.type s g.like (inr (n, is, cell)))), subst (Usable y) e u)
-  common_usable x y s (inr (n, is, cell)) (inr (m, same, cell1)) =
-      let a : x.own ≡ None = ap (λ (z : ValueCode). z.own) is in
-      let b : y.own ≡ None = ap (λ (z : ValueCode). z.own) same in
-      let e : Integer ≡ common_type x.own y.own = sym (ap (λ o. common_type o y.own) a ∙ ap (λ o. common_type None o) b) in
-      (subst (Usable x) e (subst (λ z. Usable z Integer) (sym is) (usable_constant n Integer tt tt)), subst (Usable y) e (subst (λ z. Usable z Integer) (sym same) (usable_constant m Integer tt tt)))
+      (subst (Usable x) e (usable_as x g.type u.scalar (fine_like x g.type s g.like (inr h))), subst (Usable y) e u)
+  common_usable x y s (inr h) (inr g) =
+      let e : Integer ≡ common_type x.own y.own = sym (ap (λ o. common_type o y.own) h.own ∙ ap (λ o. common_type None o) g.own) in
+      (subst (Usable x) e h.number, subst (Usable y) e g.number)
 
   -- an operator over operands of this type, and the type that they are found to have
   abbrev Joined : BinaryOp → Ty → ValueCode → ValueCode → Type 0
@@ -308,6 +325,23 @@ module _ (code : Code) (masters : ℕ) where
             let top = KindOf.Operand ty ∷ s in
             both code ((InstrOf.New access t ty (height s), s) ∷ []) (moved_to to ty s) s top (Some (with_put to.named ty s))
             (one code (InstrOf.New access t ty (height s)) s (Some top) (λ p next. (scalar, subst (λ n. IsAllocable code n access t) (sym deep) allocable, refl, next)))
+            (moved_formed code to ty s scalar at);
+        constant = λ n is. absurd (cc);
+      })
+
+  -- and so is that of an allocator with the value of a part, which is found before
+  pub copied_own : (access t : ℕ) (x : Reached) → IsWalked (Some x) → IsAllocable code masters access t → Own (new_copy access t (Some x)) (TyOf.Access access)
+  copied_own access t x walked allocable =
+      own_as (new_copy access t (Some x)) (TyOf.Access access) refl tt
+      (λ ty scalar. record {
+        scalar = scalar;
+        formed = λ to s deep at.
+            let part = KindOf.Operand (TyOf.Record t) ∷ s in
+            let top = KindOf.Operand ty ∷ s in
+            both code (new_copy_code access t x ty s) (moved_to to ty s) s top (Some (with_put to.named ty s))
+            (both code (part_code x t s) ((InstrOf.NewCopy access t ty (height s), part) ∷ []) s part (Some top)
+            (part_formed code x t s walked)
+            (one code (InstrOf.NewCopy access t ty (height s)) part (Some top) (λ p next. (scalar, subst (λ n. IsAllocable code n access t) (sym deep) allocable, (s, refl, (refl, next))))))
             (moved_formed code to ty s scalar at);
         constant = λ n is. absurd (cc);
       })

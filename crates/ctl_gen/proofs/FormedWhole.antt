@@ -13,7 +13,7 @@ use Rattle.ctl_program.specs.declared.operators.SubprogramKind.TheVariants.{Proc
 use Rattle.ctl_program.specs.declared.program.Subprogram.{Subprogram}
 use Rattle.ctl_program.specs.declared.program.Checked.{Checked}
 use Rattle.ctl_well_typed.specs.Setting as W
-use Rattle.ctl_well_typed.specs.Programs.{Overrides, Results, SubprogramFine, WellTyped, operation}
+use Rattle.ctl_well_typed.specs.Programs.{AccessFine, Overrides, Results, SubprogramFine, WellTyped, operation}
 use Rattle.ctl_well_typed.specs.Programs as P
 use Rattle.ctl_code.specs.declared.kinds.Kind.{Kind}
 use Rattle.ctl_code.specs.declared.kinds.Kind.TheVariants.{Body}
@@ -21,7 +21,7 @@ use Rattle.ctl_code.specs.declared.code.Instr.{Instr}
 use Rattle.ctl_code.specs.declared.code.Entry.{Entry}
 use Rattle.ctl_code.specs.declared.code.Operations.{Operations}
 use Rattle.ctl_code.specs.declared.code.Code.{Code}
-use Rattle.ctl_code.specs.Valid.{AreInScope, IsAccess, IsBegun, IsDeclarable, IsEntry, IsFine, IsInScope, IsValid, Leads, MayBeEntry, TakesObject, outermost}
+use Rattle.ctl_code.specs.Valid.{AreInScope, IsBegun, IsDeclarable, IsEntry, IsFine, IsInScope, HasCollection, IsValid, Leads, MayBeEntry, TakesObject, outermost}
 use Rattle.ctl_layout.specs.Around.{Line, Around, behind}
 use Rattle.ctl_layout.specs.Layout.{bodies, body_code, entries_from, entry_at, HasKinds, in_body, instructions_of, IsLaidOut, kinds_of, master_code, nowhere, operations_in, operations_of, program_code}
 use Rattle.ctl_layout.specs.Defaults.{is_outermost}
@@ -264,23 +264,29 @@ module _ (program : Checked) (code : Code) (laid : IsLaidOut program code) (kind
       let least = not_more is.home env c.encloses in
       ((e, x.1, omega (arith, level, least)), (e, x.1, kind_told s.fine.result, subst (λ m. length is.formals ≤ m) (sym (slots_told s.fine.body)) (formals_first is.formals s.fine.others)))
 
-  -- an access type in view is declared around, where its collection stands, and its record type is in view there
+  -- the table has the collection of each access type in view, which stands in one of the masters around
+  collection_there : (env : W.Frames) (a : ℕ) → (to : W.HasAccess typed.k env a) → slice_get code.accesses.items a ≡ Some to.is.collection
+  collection_there env a to =
+      let there : slice_get program.accesses a ≡ Some to.is = sym (ap (λ xs. slice_get xs a) typed.fits.accesses) ∙ to.found in
+      ap (λ vs. slice_get vs a) laid.accesses ∙ collection_in program.accesses a ∙ ap (option_map (λ (x : AccessType). x.collection)) there
+
+  access_fine : (env : W.Frames) (a : ℕ) → (to : W.HasAccess typed.k env a) → AccessFine typed.k a to.is to.home
+  access_fine env a to = typed.each_access a to.is to.home (sym (ap (λ xs. slice_get xs a) typed.fits.accesses) ∙ to.found) to.at_home
+
+  seen : (env : W.Frames) (a : ℕ) → W.HasAccess typed.k env a → HasCollection code (length env) a
+  seen env a to =
+      let fine = access_fine env a to in
+      let level = fine.level in
+      let least = not_more to.home env to.encloses in
+      (to.is.collection, collection_there env a to, named_level fine.collection, omega (arith, level, least))
+
+  -- and its record type is in view there
   may_new : MayNew code typed.k
   may_new env a t to designates =
-      let there : slice_get program.accesses a ≡ Some to.is = sym (ap (λ xs. slice_get xs a) typed.fits.accesses) ∙ to.found in
-      let fine = typed.each_access a to.is to.home there to.at_home in
+      let fine = access_fine env a to in
       let level = fine.level in
-      let least = not_more to.home env to.encloses in (
-        to.is.collection,
-        ap (λ vs. slice_get vs a) laid.accesses ∙ collection_in program.accesses a ∙ ap (option_map (λ (x : AccessType). x.collection)) there,
-        named_level fine.collection,
-        omega (arith, level, least),
-        subst (λ n. IsDeclarable code n t) (sym level) (declarable program typed code laid to.home t (subst (W.InView typed.k to.home) designates fine.designated)),
-      )
-
-  -- the table has each access type that is declared around a place
-  collected : (env : W.Frames) (a : ℕ) → W.HasAccess typed.k env a → IsAccess code a
-  collected env a has = (has.is.collection, ap (λ xs. slice_get xs a) laid.accesses ∙ collection_in program.accesses a ∙ ap (option_map (λ x. x.collection)) (sym (ap (λ xs. slice_get xs a) typed.fits.accesses) ∙ has.found))
+      let least = not_more to.home env to.encloses in
+      (to.is.collection, collection_there env a to, named_level fine.collection, omega (arith, level, least), subst (λ n. IsDeclarable code n t) (sym level) (declarable program typed code laid to.home t (subst (W.InView typed.k to.home) designates fine.designated)))
 
   -- the level of a type says how many masters are around it
   assignable : (t : ℕ) → is_outermost (slice_get program.records t) ≡ true → IsDeclarable code outermost t
@@ -310,7 +316,7 @@ module _ (program : Checked) (code : Code) (laid : IsLaidOut program code) (kind
       let frame = map W.OfFormal is.formals ++ h.others in
       let slots = (master_code s.body).slots in
       let over = subst (λ m. Agrees (is.home ++ frame ∷ []) (Body s.level m ∷ [])) (sym (slots_told h.body)) (agrees_body is.home frame s.level h.level) in
-      master_good code program.records typed.k (declarable program typed code laid) may_call may_new collected assignable raisable h.body runs (Body s.level slots) [] n p over texts tt
+      master_good code program.records typed.k (declarable program typed code laid) may_call may_new seen assignable raisable h.body runs (Body s.level slots) [] n p over texts tt
 
   good : (f : ℕ) (s : Subprogram) → slice_get program.subprograms f ≡ Some s → GoodBody code program.records s
   good f s e =

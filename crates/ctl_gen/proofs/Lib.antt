@@ -36,7 +36,10 @@ pub mod UndoneParts
 pub mod Complete
 pub mod KeptPaths
 pub mod CreatedParts
+pub mod TakenValues
+pub mod PartValues
 pub mod Allocators
+pub mod Designated
 pub mod Sources
 pub mod Adjust
 pub mod AdjustedParts
@@ -45,6 +48,7 @@ pub mod Leave
 pub mod Declare
 pub mod Copies
 pub mod RecordAssign
+pub mod Freeing
 pub mod Actuals
 pub mod CopiesBack
 pub mod Calls

@@ -21,8 +21,8 @@ use Rattle.ctl_code.specs.declared.code.Entry.{Entry}
 use Rattle.ctl_code.specs.declared.code.Instr.TheVariants as InstrOf
 use Rattle.ctl_code.specs.declared.code.Code.{Code}
 use Rattle.ctl_code.specs.declared.kinds.Kind.{Kind}
-use Rattle.ctl_code.specs.States.{Word, Scalar, Handed, Complete, After, AfterBlock, AfterProcedure, AfterFunction, AfterBody, Frame, State}
-use Rattle.ctl_code.specs.Table.{by_new, enter_body, offset_of, operation_of, or_complete, set_seen, size_of, with_values}
+use Rattle.ctl_code.specs.States.{Move, Word, Scalar, Handed, Complete, After, AfterBlock, AfterProcedure, AfterFunction, AfterBody, Frame, State}
+use Rattle.ctl_code.specs.Table.{Here, by_new, enter_body, new_with, offset_of, operation_of, or_complete, set_seen, size_of, with_values}
 use Rattle.ctl_code.specs.Steps.{moved, step}
 use Rattle.ctl_code.specs.Valid.{IsDeclarable, IsValid, kinds_at}
 use Rattle.ctl_code.specs.Windows.{depth}
@@ -127,18 +127,23 @@ Sure k code w0 y w = IsSure y × Since k code w0 w
 abbrev pub MayAllocate : Code → ℕ → ℕ → List ℕ → World → Type 0
 MayAllocate code access t d w = (x : Collection) → set_seen (slice_get code.accesses.items access) d w ≡ Some x → IsDeclarable code (length (home x.master w.activations)) t
 
+-- the step of an allocator whose value is at hand, if it has one
+abbrev pub by_allocator : Code → ℕ → Option (List ℕ) → Option Collection → List Word → Here → Move
+by_allocator code t None = by_new code t
+by_allocator code t (Some v) = new_with code t v
+
 -- an allocator gives one cell, and nothing but an exception leaves it
 abbrev pub Allocates : (k : Tables) (code : Code) → World → Result Returned → World → Type 0
 Allocates k code w0 (Goes r) w = ((n : ℕ) × (r.cells ≡ n ∷ [])) × Since k code w0 w
 Allocates k code w0 (Leaves y) w = IsRaise y × Since k code w0 w
 
 -- bodies behave, while at most this much is on the clock: from the state whose step enters the body, in so many masters as are around it,
--- which are nested, to where a body of its kind leads. And so do allocators without a handle or a value, behind the one that they take from the clock: from
+-- which are nested, to where a body of its kind leads. And so do allocators without a handle, behind the one that they take from the clock: from
 -- the state whose step is theirs. The finalization of a member, with all that its operations do, leaves no more on the clock and members to
 -- be finalized together than there were
 pub record Calls (ask : Ask) (k : Tables) (code : Code) (setting : Setting k code) (bound : ℕ) (call : Call) : Type 0 where
   pub runs : (f : ℕ) (s : Subprogram) → slice_get setting.subprograms f ≡ Some s → (w0 : World) (v : List ℕ) (actuals : List Slot) (after : After) (ks : List Frame) (c : ℕ) (l : Log) (w : World) (s0 : State) (kind : SubprogramKind) (count : ℕ) → EndsIn kind after → c ≤ bound → Since k code w0 w → IsCallable code kind (length v) f count → IsNested w v → Each IsPlainSlot actuals → step ask code s0 ≡ moved l (enter_body (slice_get code.entries.items f) [] v actuals after ks w) → Runs ask code (Told k code w0) 2 3 s0 c (returned_to after ks) (call (OfSubprogram f actuals) v c l w)
-  pub allocates : (access t : ℕ) → IsPlainType k (Record t) → (w0 : World) (d : List ℕ) (place : ℕ) (ks : List Frame) (ops : List Word) (c0 c : ℕ) (l : Log) (w : World) (s0 : State) → c + 1 ≤ bound → c ≤ c0 → c0 ≤ c + 1 → Since k code w0 w → MayAllocate code access t d w → step ask code s0 ≡ moved l (by_new code t (set_seen (slice_get code.accesses.items access) d w) ops (record { display = d; place = place; control = ks; world = w })) → RunsTo ask code (Allocates k code w0) 5 7 s0 c0 (returned_to (AfterFunction (record { display = d; place = place + 1; operands = ops })) ks) (call (OfAllocator access (Record t) None None) d c l w)
+  pub allocates : (access t : ℕ) → IsPlainType k (Record t) → (value : Option (List ℕ)) (w0 : World) (d : List ℕ) (place : ℕ) (ks : List Frame) (ops : List Word) (c0 c : ℕ) (l : Log) (w : World) (s0 : State) → c + 1 ≤ bound → c ≤ c0 → c0 ≤ c + 1 → Since k code w0 w → MayAllocate code access t d w → step ask code s0 ≡ moved l (by_allocator code t value (set_seen (slice_get code.accesses.items access) d w) ops (record { display = d; place = place; control = ks; world = w })) → RunsTo ask code (Allocates k code w0) 6 8 s0 c0 (returned_to (AfterFunction (record { display = d; place = place + 1; operands = ops })) ks) (call (OfAllocator access (Record t) None value) d c l w)
   pub counts : (default : Default) (m : Member) → UpTo k ask bound (finalize_begun (tools_with ask k call default) CauseOf.Collection m)
 
 -- what is shown when a body is entered is shown before

@@ -13,7 +13,7 @@ use Rattle.ctl_program.specs.declared.expression.Step.{Step}
 use Rattle.ctl_program.specs.declared.expression.Step.TheVariants.{Component, Dereference, Narrow}
 use Rattle.ctl_program.specs.declared.operators.CopyStart.{CopyStart}
 use Rattle.ctl_layout.specs.Parts.{Reached, Variable, Part, Object, are_walked, behind_last, behind_further, behind_steps, object_if, part_if}
-use Rattle.ctl_layout.specs.Values.{ActualCode, ValueCode, by_copy, copied, is_of, new, read, reached_by, reached_if, sourced, value_code}
+use Rattle.ctl_layout.specs.Values.{ActualCode, ValueCode, by_copy, copied, is_of, new, new_copy, read, reached_by, reached_if, sourced, value_code}
 use Rattle.ctl_layout.proofs.TreeLayers.{actual_roll, reached_roll, value_roll}
 use Rattle.ctl_layout.proofs.Layers.{part_source}
 
@@ -96,7 +96,11 @@ unreached y z same none = subst IsWalked (sym (ap (λ (x : ValueCode). x.reached
 
 pub new_reaches : (access : ℕ) (ty : Ty) (handle value : Option ValueCode) → (new access ty handle value).reached ≡ None
 new_reaches access (Record t) None None = refl
-new_reaches access (Record t) None (Some v) = refl
+new_reaches access (Record t) None (Some v) = by (copied t v)
+  where
+    by : (o : Option Reached) → (new_copy access t o).reached ≡ None
+    by None = refl
+    by (Some x) = refl
 new_reaches access (Record t) (Some h) value = refl
 new_reaches access Integer handle value = refl
 new_reaches access Count handle value = refl

@@ -10,7 +10,7 @@ use Rattle.ctl_program.specs.declared.types.Ty.TheVariants.{Record}
 use Rattle.ctl_meaning.specs.Types.{Tables}
 use Rattle.ctl_meaning.specs.World.{Standard, Finalized, Origin, Declared, Allocated, Object, Layer, Collection, Content, Nothing, Holds, Binds, Copies, Gathers, holding, Slot, unset, Activation, World, opened_world, empty_world}
 use Rattle.ctl_meaning.specs.Lists.{first_with, change_each, change_first, keep, contains, item_or, opened_lists}
-use Rattle.ctl_meaning.specs.Ledger.{collection_at, with_started, master_in, opened_ledger}
+use Rattle.ctl_meaning.specs.Ledger.{collection_at, with_started, opened_ledger}
 use Rattle.ctl_meaning.specs.Activations.{with_slot, slots_in, display_in, activation_at, slot_in, opened_activations}
 use Rattle.ctl_meaning.specs.Objects.{object_in, change_in, with_cells, with_begun, with_joined, with_finalized, is_untouched, opened_objects}
 use Rattle.ctl_meaning.specs.Pools.{keep_pools}

@@ -198,11 +198,11 @@ impl Emitter {
                 self.for_loop(body.as_slice(), *parameter, *way, low, high)
             }
             Stmt::Block(master) => self.block(master.get(), landing),
+            Stmt::Free(access, name) => self.free(*access, name),
             Stmt::Nothing(_)
             | Stmt::Dispatch(..)
             | Stmt::LibraryAllocate(..)
             | Stmt::LibraryDeallocate(..)
-            | Stmt::Free(..)
             | Stmt::Release(_) => self.put(Instr::Missing),
         }
     }
@@ -281,6 +281,55 @@ impl Emitter {
                 )
             }
         }
+    }
+
+    /// Emits a call of an instance of Unchecked_Deallocation for an access type: what the value of a variable or a component designates is
+    /// freed (RM 13.11.2).
+    fn free(&mut self, access: usize, name: &Name) -> Result<(), AllocError>
+        ensures { OnOk result (self.new ≡ stated (spec.free access (values.reached_by name.now)) None self.old) }
+    {
+        match reached_by(name) {
+            Some(Reached::Variable(variable)) => self.free_variable(access, variable),
+            Some(
+                Reached::Part {
+                    of,
+                    steps,
+                    record,
+                    position,
+                },
+            ) => self.free_component(access, of, steps, record, position),
+            Some(Reached::Object { .. }) | None => self.put(Instr::Missing),
+        }
+    }
+
+    /// Emits such a call for the value of a variable.
+    fn free_variable(&mut self, access: usize, variable: Var) -> Result<(), AllocError>
+        ensures { OnOk result (self.new ≡ stated (spec.free access (Some (parts.Variable variable))) None self.old) }
+    {
+        let (out, slot) = (self.out_to(variable), variable.slot);
+        self.put(Instr::Free { access, out, slot })
+    }
+
+    /// Emits such a call for the value of a component: the part that has it is found first.
+    fn free_component(
+        &mut self,
+        access: usize,
+        of: Var,
+        steps: &[Step],
+        record: usize,
+        position: usize,
+    ) -> Result<(), AllocError>
+        ensures { OnOk result (self.new ≡ stated (spec.free access (Some (parts.Part of steps.now «record» position))) None self.old) }
+    {
+        self.located(of, steps, record)?;
+        self.over_operand(
+            Ty::Record(record),
+            Instr::FreePart {
+                access,
+                record,
+                position,
+            },
+        )
     }
 
     /// Emits the assignment of a record to what a name denotes (RM 5.2).

@@ -9,8 +9,8 @@ use Rattle.ctl_program.specs.declared.statement.Master.{Master, out-Master, fold
 use Rattle.ctl_program.specs.declared.statement.Stmt.{Stmt}
 use Rattle.ctl_program.specs.declared.statement.Stmt.TheVariants as s
 use Rattle.ctl_program.specs.declared.statement.Stmt.TheVariants.{rolls-Dispatch, rolls-Free, rolls-LibraryAllocate, rolls-LibraryDeallocate, rolls-Nothing, rolls-Release}
-use Rattle.ctl_layout.specs.Values.{value_code}
-use Rattle.ctl_layout.specs.Layout.{all, all_items, handled, inside, item_code, missing_statement, statement_code, arm_code, handler_code, master_code}
+use Rattle.ctl_layout.specs.Values.{value_code, reached_by}
+use Rattle.ctl_layout.specs.Layout.{all, all_items, free, handled, inside, item_code, missing_statement, statement_code, arm_code, handler_code, master_code}
 use Rattle.ctl_layout.proofs.TreeLayers.{layer_of}
 
 -- a statement that no instructions exist for
@@ -20,16 +20,18 @@ IsMissing y =
     ⊎ (((op : Operation) × (x : Name) × (y ≡ s.Dispatch op x))
     ⊎ (((p : Name) × (x : Name) × (size : Expr) × (alignment : Expr) × (y ≡ s.LibraryAllocate p x size alignment))
     ⊎ (((p : Name) × (x : Expr) × (size : Expr) × (alignment : Expr) × (y ≡ s.LibraryDeallocate p x size alignment))
-    ⊎ (((access : ℕ) × (x : Name) × (y ≡ s.Free access x))
-    ⊎ ((x : Name) × (y ≡ s.Release x))))))
+    ⊎ ((x : Name) × (y ≡ s.Release x)))))
 
 pub missing_is : (y : Stmt) → IsMissing y → statement_code y ≡ missing_statement
 missing_is y (inl (x, is)) = layer_of _ (is ∙ sym (rolls-Nothing x))
 missing_is y (inr (inl (op, x, is))) = layer_of _ (is ∙ sym (rolls-Dispatch op x))
 missing_is y (inr (inr (inl (p, x, size, alignment, is)))) = layer_of _ (is ∙ sym (rolls-LibraryAllocate p x size alignment))
 missing_is y (inr (inr (inr (inl (p, x, size, alignment, is))))) = layer_of _ (is ∙ sym (rolls-LibraryDeallocate p x size alignment))
-missing_is y (inr (inr (inr (inr (inl (access, x, is)))))) = layer_of _ (is ∙ sym (rolls-Free access x))
-missing_is y (inr (inr (inr (inr (inr (x, is)))))) = layer_of _ (is ∙ sym (rolls-Release x))
+missing_is y (inr (inr (inr (inr (x, is))))) = layer_of _ (is ∙ sym (rolls-Release x))
+
+-- Unchecked_Deallocation (13.11.2)
+pub free_is : (access : ℕ) (x : Name) → statement_code (s.Free access x) ≡ free access (reached_by x)
+free_is access x = layer_of _ (sym (rolls-Free access x))
 
 -- Arms and masters --------------------------------------------------------------------------------
 

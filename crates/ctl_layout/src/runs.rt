@@ -96,7 +96,16 @@ fn is_read(name: &Name, ty: Ty, table: &Table) -> bool
     }
 }
 
-/// Tells whether an allocator is run: of an object of a record type, without a handle and a value (RM 4.8).
+/// Tells whether an object of a record type may take this value: that of a part of the type (RM 3.3.1, 4.8).
+fn is_copied(table: &Table, number: usize, expression: &Expr) -> bool
+    ensures declared { (slot : ℕ) → result ≡ (spec.copy slot number (values.copied number (values.value_code expression.now))).runs table.now.records.now }
+    ensures allocated { (access : ℕ) → result ≡ (values.new_copy access number (values.copied number (values.value_code expression.now))).runs table.now.records.now }
+{
+    table.is_plain(number) && may_be_part(copied(number, expression), table)
+}
+
+/// Tells whether an allocator is run: of an object of a record type, without a handle; its value, if it has one, is that of a part of the type
+/// (RM 4.8).
 fn is_allocated(
     table: &Table,
     ty: Ty,
@@ -106,7 +115,11 @@ fn is_allocated(
     ensures { (access : ℕ) → result ≡ (values.new access ty (option_map values.value_code handle.now) (option_map values.value_code value.now)).runs table.now.records.now }
 {
     match ty {
-        Ty::Record(number) => { handle.is_none() && value.is_none() && table.is_plain(number) }
+        Ty::Record(number) => match (handle, value) {
+            (None, None) => table.is_plain(number),
+            (None, Some(value)) => is_copied(table, number, value.get()),
+            (Some(_), _) => false,
+        },
         _ => false,
     }
 }
@@ -118,7 +131,7 @@ fn value(expression: &Expr, table: &Table) -> bool
     ensures { result ≡ (values.value_code expression.now).runs table.now.records.now }
 {
     match expression {
-        Expr::Constant(_) => true,
+        Expr::Constant(_) | Expr::Access(_) => true,
         Expr::Read(name, ty) => is_read(name, *ty, table),
         Expr::Unary(_, _, operand) => value(operand.get(), table),
         Expr::Chain(first, second, more) => {
@@ -137,7 +150,7 @@ fn value(expression: &Expr, table: &Table) -> bool
                 && are_actuals(actuals.as_slice(), table)
         }
         Expr::New(_, ty, handle, value) => is_allocated(table, *ty, handle, value),
-        Expr::Convert(..) | Expr::Access(_) | Expr::Subpool(..) | Expr::Discriminant(..) => false,
+        Expr::Convert(..) | Expr::Subpool(..) | Expr::Discriminant(..) => false,
     }
 }
 
@@ -266,13 +279,6 @@ fn is_declared(table: &Table, ty: Ty) -> bool
     }
 }
 
-/// Tells whether an object of a record type may begin with this value: that of a part of the type (RM 3.3.1).
-fn is_copied(table: &Table, number: usize, expression: &Expr) -> bool
-    ensures { result ≡ (spec.copy 0 number (values.copied number (values.value_code expression.now))).runs table.now.records.now }
-{
-    table.is_plain(number) && may_be_part(copied(number, expression), table)
-}
-
 /// Tells whether a declaration with this value is run, in each slot.
 fn is_given(table: &Table, ty: Ty, expression: &Expr) -> bool
     ensures { (slot : ℕ) → result ≡ (spec.with_value slot ty (values.value_code expression.now)).runs table.now.records.now }
@@ -341,6 +347,17 @@ fn is_record_assigned(name: &Name, number: usize, value: &Actual, table: &Table)
     may_be_part(target, table) && may_be_part(source, table) && is_assignable(table, number)
 }
 
+/// Tells whether what is freed is run: what a variable designates, or a component of what the steps of the name lead to (RM 13.11.2).
+fn is_freed(name: &Name, table: &Table) -> bool
+    ensures { (access : ℕ) → result ≡ (spec.free access (values.reached_by name.now)).runs table.now.records.now }
+{
+    match reached_by(name) {
+        Some(Reached::Variable(_)) => true,
+        Some(Reached::Part { steps, record, .. }) => are_laid_out(table, steps, record),
+        Some(Reached::Object { .. }) | None => false,
+    }
+}
+
 /// Tells whether the condition of an exit is run, if there is one.
 fn is_exit(condition: &Option<Expr>, table: &Table) -> bool
     ensures { result ≡ (spec.exit (option_map values.value_code condition.now)).runs table.now.records.now }
@@ -386,11 +403,11 @@ fn statement(statement: &Stmt, table: &Table) -> bool
             value(low, table) && value(high, table) && statements(body.as_slice(), table)
         }
         Stmt::Block(inside) => master(inside.get(), table),
+        Stmt::Free(_, name) => is_freed(name, table),
         Stmt::Nothing(_)
         | Stmt::Dispatch(..)
         | Stmt::LibraryAllocate(..)
         | Stmt::LibraryDeallocate(..)
-        | Stmt::Free(..)
         | Stmt::Release(_) => false,
     }
 }

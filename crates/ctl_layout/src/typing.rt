@@ -9,7 +9,7 @@ use ctl_program::expression::{Expr, Operand};
 use ctl_program::operators::BinaryOp;
 use ctl_program::types::Ty;
 
-/// Gives the type of a value; a constant has none of its own.
+/// Gives the type of a value; a constant has none of its own, nor has an access attribute.
 #[tactic(auto, using(crate::proofs::Layers::value_constant, crate::proofs::Layers::read_own, crate::proofs::Layers::value_call, crate::proofs::Layers::value_unary, crate::proofs::Layers::value_chain, crate::proofs::Layers::operator_is, crate::proofs::Layers::value_short, crate::proofs::Layers::value_convert, crate::proofs::Layers::value_access, crate::proofs::Layers::new_own, crate::proofs::Layers::value_subpool, crate::proofs::Layers::value_discriminant))]
 pub fn type_of(expression: &Expr) -> Option<Ty>
     ensures { result ≡ (spec.value_code expression.now).own }

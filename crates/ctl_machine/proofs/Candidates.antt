@@ -1,24 +1,37 @@
 -- The members of collections that are still to be finalized are counted, and one of them is chosen.
-use Rattle.std.proofs.Common.{◌≡◌, ◌≢◌, ◌∙◌, ℕ, zero, suc, ◌+◌, ◌-◌, ◌<◌, ◌≤◌, List, [], ◌∷◌, ◌++◌, Option, Some, None, Bool, true, false, cond, refl, sym, ap, arith, subst, length, map}
-use Rattle.std.specs.Prelude.{nat_eq, nat_le, ◌&&◌, ◌||◌}
+use Rattle.std.proofs.Common.{◌≡◌, ◌≢◌, ◌⊎◌, inl, inr, ◌∙◌, ℕ, zero, suc, ◌+◌, ◌-◌, ◌<◌, ◌≤◌, ◌^◌, List, [], ◌∷◌, ◌++◌, Option, Some, None, Bool, true, false, cond, refl, sym, ap, arith, subst, length}
+use Rattle.std.specs.Prelude.{nat_eq, nat_le, nat_lt, not, ◌&&◌, ◌||◌, IfSome}
+use Rattle.std.specs.List.{AllByRecursion}
+use Rattle.std.specs.Option.{option_map, option_map_or}
 use Rattle.std.proofs.lemmas.Bool.Decides.{nat_tests}
 use Rattle.ctl_tree.specs.declared.request.Order.{Order}
 use Rattle.ctl_tree.specs.declared.request.Order.TheVariants as OrderOf
 use Rattle.ctl_program.specs.declared.types.Ty.{Ty}
+use Rattle.ctl_program.specs.declared.types.Ty.TheVariants as TyOf
 use Rattle.ctl_program.specs.declared.types.Ty.TheVariants.{Record}
-use Rattle.ctl_meaning.specs.Lists.{contains, opened_lists, pull_item}
+use Rattle.ctl_meaning.specs.Lists.{contains, keep, opened_lists, pull_item}
 use Rattle.ctl_meaning.specs.Members.{OfSets, is_of_group, opened_members}
-use Rattle.ctl_meaning.specs.World.{Allocated, Declared, Object, Origin}
-use Rattle.ctl_objects.specs.Members.{is_between, next_member, passed}
+use Rattle.ctl_meaning.specs.Objects.{is_untouched, object_in}
+use Rattle.ctl_meaning.specs.World.{Allocated, Declared, Object, Origin, State}
+use Rattle.ctl_objects.specs.declared.groups.Group.{Group}
+use Rattle.ctl_objects.specs.declared.groups.Start.{Start}
+use Rattle.ctl_objects.specs.declared.groups.Start.TheVariants.{Behind, Collection}
+use Rattle.ctl_objects.specs.declared.groups.Waiting.{Waiting}
+use Rattle.ctl_objects.specs.Groups.{IsNextGroup, group_by, group_of, is_allocated, is_from, is_open, is_same, is_waiting, one, precedes, test}
+use Rattle.ctl_objects.specs.Members.{IsGreatest, IsLeast, is_between, passes}
 use Rattle.ctl_objects.specs.Order.{Rise}
-use Rattle.ctl_objects.proofs.Counted.{IsNext, IsWithin, all_passed, count_passed, item_next, none_passed}
+use Rattle.ctl_objects.proofs.Counted.{each_there, fewer_left, greatest_pulled, kept_same, least_pulled, no_fewer, none_passes, passes_so, passing, some_kept, sums}
+use Rattle.ctl_objects.proofs.Grouped.{later, neither, never, not_itself, same_is, same_self}
+use Rattle.ctl_objects.proofs.Moved.{length_more, length_none}
+use Rattle.ctl_objects.proofs.Rising.{number_found, rise_lower}
+use Rattle.ctl_objects.proofs.Waits.{greatest_alike, least_alike}
 use Rattle.ctl_code.specs.declared.code.Code.{Code}
 use Rattle.ctl_code.specs.declared.code.Parts.{Parts}
 use Rattle.ctl_code.specs.declared.code.Parts.TheVariants as PartsOf
 use Rattle.ctl_code.specs.Table.{has_part, has_part_in, is_candidate, numbers_to, parts_of}
 use Rattle.ctl_machine.specs.declared.emptying.Candidates.{Candidates}
 use Rattle.ctl_machine.specs.declared.emptying.Member.{Member}
-use Rattle.ctl_machine.specs.Emptying.{AreCounted, IsMember, IsTaken, due, is_due, taken_of}
+use Rattle.ctl_machine.specs.Emptying.{AreCounted, IsEnd, IsMember, IsTaken, IsWith, due, is_ahead, is_counted, is_due, is_due_in, is_passed, taken_of, taken_with}
 use Rattle.ctl_machine.specs.Filling.{pick_among}
 use Rattle.ctl_machine.specs.Owned.{AreFromTo}
 
@@ -118,44 +131,352 @@ second_holds : (a b : Bool) → (a && b) ≡ true → b ≡ true
 second_holds true b h = h
 second_holds false b h = absurd (cc)
 
-both_hold : (a b : Bool) → a ≡ true → b ≡ true → (a && b) ≡ true
-both_hold a b p q = ap (λ x. x && b) p ∙ q
+-- Tests ----------------------------------------------------------------------------------------------------
 
-first_fails : (a b : Bool) → a ≡ false → (a && b) ≡ false
-first_fails a b p = ap (λ x. x && b) p
+right_false : (a : Bool) → (a && false) ≡ false
+right_false true = refl
+right_false false = refl
 
--- candidates are members of these collections
-pub are_within : (code : Code) (first last : ℕ) (sets : List ℕ) → AreFromTo first last sets → IsWithin first last (is_candidate code sets)
-are_within code first last sets range o is = sym (group_is first last sets o.origin range) ∙ second_holds (is_due code o) (is_of_group (OfSets sets) o.origin) is
+right_true : (a : Bool) → (a && true) ≡ a
+right_true true = refl
+right_true false = refl
 
--- The members are counted -----------------------------------------------------------------------------------
+-- an object with no controlled part, or with no group
+undue : (j u b : Bool) → ((j && (u && false)) && b) ≡ false
+undue true true b = refl
+undue true false b = refl
+undue false u b = refl
 
-pub counted_none : (code : Code) (order : Order) (sets : List ℕ) (os : List Object) → Rise 1 os → AreCounted code order sets os 0 (record { count = 0; chosen = None })
-counted_none code order sets os rise = record {
-  count = sym (ap (λ (l : List Object). length l) (none_passed (is_candidate code sets) 0 1 os rise (omega arith)));
-  few = omega arith;
-  taken = refl;
+outside : (h j u : Bool) → (h && (j && (u && false))) ≡ false
+outside true true true = refl
+outside true true false = refl
+outside true false u = refl
+outside false j u = refl
+
+-- The groups come one after another ------------------------------------------------------------------------
+
+from_later : (start : Start) (g h : Group) → is_from start g ≡ true → precedes g h ≡ true → is_from start h ≡ true
+from_later (Collection c) g h from before = grind (arith, nat_tests, from, before)
+from_later (Behind a) g h from before = later a g h from before
+
+abbrev counted_by : Code → ℕ → ℕ → Start → Bool → State → Origin → Ty → Bool
+counted_by code first last start j s x ty = (j && (is_untouched s && has_part_in code ty)) && (is_between first last x && is_passed start (group_by x ty))
+
+abbrev in_by : Group → Origin → Ty → Bool
+in_by g x ty = option_map_or (λ h. is_same h g) (group_by x ty) false
+
+abbrev due_by : Code → Group → Bool → State → Origin → Ty → Bool
+due_by code g j s x ty = has_part (parts_of code g.record_type) && (j && (is_untouched s && in_by g x ty))
+
+-- no group before this one, from the start on, has an object that is untouched
+abbrev NoneBetween : Start → Group → Bool → Origin → Ty → Type 0
+NoneBetween start g u x ty = (h : Group) → is_from start h ≡ true → precedes h g ≡ true → (u && in_by h x ty) ≡ false
+
+zeros : (h j u b c : Bool) → one ((j && (u && false)) && b) ≡ one ((j && (u && false)) && c) + one (h && (j && (u && false)))
+zeros h j u b c =
+    let p : one ((j && (u && false)) && b) ≡ 0 = ap one (undue j u b) in
+    let q : one ((j && (u && false)) && c) ≡ 0 = ap one (undue j u c) in
+    let r : one (h && (j && (u && false))) ≡ 0 = ap one (outside h j u) in
+    omega (arith, p, q, r)
+
+-- one object: it is counted before, or with the group (h: its parts are controlled; b: it is between; f: its group comes from the start on;
+-- q: it comes behind the group; same: it is the group)
+one_object : (h hg j u b f q same : Bool) → (q ≡ true → f ≡ true) → (same ≡ true → (f ≡ true) × (q ≡ false) × (b ≡ true) × (hg ≡ h)) → (same ≡ false → q ≡ false → f ≡ true → u ≡ false)
+    → one ((j && (u && h)) && (b && not q)) ≡ one ((j && (u && h)) && (b && not f)) + one (hg && (j && (u && same)))
+one_object h hg j u b false q true behind own between = absurd (let it = (own refl).0 in cc)
+one_object h hg j u b true true true behind own between = absurd (let it = (own refl).1 in cc)
+one_object h hg j u b true false true behind own between =
+    let it = own refl in
+    subst (λ (c : Bool). one ((j && (u && h)) && (c && true)) ≡ one ((j && (u && h)) && (c && false)) + one (hg && (j && (u && true)))) (sym it.2)
+    (subst (λ (c : Bool). one ((j && (u && h)) && true) ≡ one ((j && (u && h)) && false) + one (c && (j && (u && true)))) (sym it.3) (by h j u))
+  where
+    by : (h j u : Bool) → one ((j && (u && h)) && true) ≡ one ((j && (u && h)) && false) + one (h && (j && (u && true)))
+    by true true true = refl
+    by true true false = refl
+    by true false u = refl
+    by false true true = refl
+    by false true false = refl
+    by false false u = refl
+one_object h hg j u b true true false behind own between = let none : one (hg && (j && (u && false))) ≡ 0 = ap one (outside hg j u) in omega (arith, none)
+one_object h hg j u b false true false behind own between = absurd (let it = behind refl in cc)
+one_object h hg j u b false false false behind own between = let none : one (hg && (j && (u && false))) ≡ 0 = ap one (outside hg j u) in omega (arith, none)
+one_object h hg j u b true false false behind own between =
+    let none : one (hg && (j && (u && false))) ≡ 0 = ap one (outside hg j u) in
+    let p : one ((j && (u && h)) && (b && true)) ≡ 0 = ap (λ c. one ((j && (c && h)) && (b && true))) (between refl refl refl) ∙ ap one (begun j (b && true)) in
+    let q : one ((j && (u && h)) && (b && false)) ≡ 0 = ap (λ c. one ((j && (c && h)) && (b && false))) (between refl refl refl) ∙ ap one (begun j (b && false)) in
+    omega (arith, none, p, q)
+  where
+    begun : (j b : Bool) → ((j && false) && b) ≡ false
+    begun true b = refl
+    begun false b = refl
+
+one_more : (code : Code) (first last : ℕ) (start : Start) (g : Group) (j : Bool) (s : State) (x : Origin) (ty : Ty) → is_from start g ≡ true → first ≤ g.collection → g.collection ≤ last → NoneBetween start g (is_untouched s) x ty
+    → one (counted_by code first last (Behind g) j s x ty) ≡ one (counted_by code first last start j s x ty) + one (due_by code g j s x ty)
+one_more code first last start g j s (Declared m) ty from low high none =
+    let a = is_untouched s in
+    let p : one (counted_by code first last (Behind g) j s (Declared m) ty) ≡ 0 = ap one (right_false (j && (a && has_part_in code ty))) in
+    let q : one (counted_by code first last start j s (Declared m) ty) ≡ 0 = ap one (right_false (j && (a && has_part_in code ty))) in
+    let r : one (due_by code g j s (Declared m) ty) ≡ 0 = ap one (outside (has_part (parts_of code g.record_type)) j a) in
+    omega (arith, p, q, r)
+one_more code first last start g j s (Allocated c p) TyOf.Integer from low high none = zeros (has_part (parts_of code g.record_type)) j (is_untouched s) (is_between first last (Allocated c p) && false) (is_between first last (Allocated c p) && false)
+one_more code first last start g j s (Allocated c p) TyOf.Count from low high none = zeros (has_part (parts_of code g.record_type)) j (is_untouched s) (is_between first last (Allocated c p) && false) (is_between first last (Allocated c p) && false)
+one_more code first last start g j s (Allocated c p) TyOf.Boolean from low high none = zeros (has_part (parts_of code g.record_type)) j (is_untouched s) (is_between first last (Allocated c p) && false) (is_between first last (Allocated c p) && false)
+one_more code first last start g j s (Allocated c p) TyOf.Address from low high none = zeros (has_part (parts_of code g.record_type)) j (is_untouched s) (is_between first last (Allocated c p) && false) (is_between first last (Allocated c p) && false)
+one_more code first last start g j s (Allocated c p) TyOf.Handle from low high none = zeros (has_part (parts_of code g.record_type)) j (is_untouched s) (is_between first last (Allocated c p) && false) (is_between first last (Allocated c p) && false)
+one_more code first last start g j s (Allocated c p) (TyOf.Access t) from low high none = zeros (has_part (parts_of code g.record_type)) j (is_untouched s) (is_between first last (Allocated c p) && false) (is_between first last (Allocated c p) && false)
+one_more code first last start g j s (Allocated c p) (Record t) from low high none =
+    one_object (has_part (parts_of code t)) (has_part (parts_of code g.record_type)) j (is_untouched s) (is_between first last (Allocated c p)) (is_from start own) (precedes g own) (is_same own g) (from_later start g own from) here between
+  where
+    own : Group
+    own = record { collection = c; record_type = t }
+
+    here : is_same own g ≡ true → (is_from start own ≡ true) × (precedes g own ≡ false) × (is_between first last (Allocated c p) ≡ true) × (has_part (parts_of code g.record_type) ≡ has_part (parts_of code t))
+    here same =
+        let is : own ≡ g = same_is own g same in
+        let set : c ≡ g.collection = ap (λ (h : Group). h.collection) is in (
+          ap (λ (h : Group). is_from start h) is ∙ from,
+          ap (λ (h : Group). precedes g h) is ∙ not_itself g,
+          within set,
+          ap (λ (h : Group). has_part (parts_of code h.record_type)) (sym is),
+        )
+      where
+        within : c ≡ g.collection → (nat_le first c && nat_le c last) ≡ true
+        within set = grind (arith, nat_tests, set, low, high)
+
+    untouched : (u : Bool) → (u && is_same own own) ≡ false → u ≡ false
+    untouched false is = refl
+    untouched true is = absurd (never (is_same own own) (same_self own) is)
+
+    between : is_same own g ≡ false → precedes g own ≡ false → is_from start own ≡ true → is_untouched s ≡ false
+    between differs not_behind from_start = untouched (is_untouched s) (none own from_start (before (precedes own g) refl))
+      where
+        before : (b : Bool) → precedes own g ≡ b → precedes own g ≡ true
+        before true is = is
+        before false is = absurd (never (is_same own g) (neither own g is not_behind) differs)
+
+-- each object is counted before, or with the group
+each_object : (code : Code) (first last : ℕ) (start : Start) (w : Waiting) (os : List Object) → ((g : Group) → is_from start g ≡ true → first ≤ g.collection) → IsNextGroup start last (Some w) os → (o : Object) → object_in o.number os ≡ Some o
+    → one (is_counted code first last (Behind w.group) o) ≡ one (is_counted code first last start o) + one (is_due_in code w.group o)
+each_object code first last start w os within next o there =
+    one_more code first last start w.group o.joined o.state o.origin o.ty next.0 (within w.group next.0) next.1 (λ h from before. sym (ap (test (is_open h)) there) ∙ next.4 h o.number from before)
+
+-- The first or the last ------------------------------------------------------------------------------------
+
+left_one : (P R : Type 0) → (R → ⊥) → P ⊎ R → P
+left_one P R none (inl p) = p
+left_one P R none (inr r) = absurd (none r)
+
+right_one : (P R : Type 0) → (P → ⊥) → P ⊎ R → R
+right_one P R none (inl p) = absurd (none p)
+right_one P R none (inr r) = r
+
+-- of two numbers an order takes one
+end_with : (order : Order) (P R Q : ℕ → Type 0) (chosen : Option Member) (r : Option ℕ) (g : Group) → IsEnd order P (option_map (λ m. m.number) chosen) → IsEnd order R r → ((n : ℕ) → P n → Q n) → ((n : ℕ) → R n → Q n) → ((n : ℕ) → Q n → P n ⊎ R n)
+    → IsEnd order Q (option_map (λ m. m.number) (taken_with order chosen g r))
+end_with OrderOf.Newest P R Q chosen None g h l p r back = greatest_alike P Q (option_map (λ m. m.number) chosen) p (λ n q. left_one (P n) (R n) (l n) (back n q)) h
+end_with OrderOf.Oldest P R Q chosen None g h l p r back = least_alike P Q (option_map (λ m. m.number) chosen) p (λ n q. left_one (P n) (R n) (l n) (back n q)) h
+end_with OrderOf.Newest P R Q None (Some n) g h l p r back = greatest_alike R Q (Some n) r (λ k q. right_one (P k) (R k) (h k) (back k q)) l
+end_with OrderOf.Oldest P R Q None (Some n) g h l p r back = least_alike R Q (Some n) r (λ k q. right_one (P k) (R k) (h k) (back k q)) l
+end_with OrderOf.Newest P R Q (Some m) (Some n) g h l p r back = by (nat_lt m.number n) refl
+  where
+    x : Member
+    x = record { number = n; record_type = g.record_type }
+
+    high : n ≤ m.number → (k : ℕ) → P k ⊎ R k → k ≤ m.number
+    high less k (inl is) = h.1 k is
+    high less k (inr is) = let most = l.1 k is in omega (arith, most, less)
+
+    low : m.number < n → (k : ℕ) → P k ⊎ R k → k ≤ n
+    low less k (inl is) = let most = h.1 k is in omega (arith, most, less)
+    low less k (inr is) = l.1 k is
+
+    by : (b : Bool) → nat_lt m.number n ≡ b → IsGreatest Q (Some ((cond b x m).number))
+    by true is = (r n l.0, λ k q. low (grind (arith, nat_tests, is)) k (back k q))
+    by false is = (p m.number h.0, λ k q. high (grind (arith, nat_tests, is)) k (back k q))
+end_with OrderOf.Oldest P R Q (Some m) (Some n) g h l p r back = by (nat_lt n m.number) refl
+  where
+    x : Member
+    x = record { number = n; record_type = g.record_type }
+
+    high : m.number ≤ n → (k : ℕ) → P k ⊎ R k → m.number ≤ k
+    high less k (inl is) = h.1 k is
+    high less k (inr is) = let least = l.1 k is in omega (arith, least, less)
+
+    low : n < m.number → (k : ℕ) → P k ⊎ R k → n ≤ k
+    low less k (inl is) = let least = h.1 k is in omega (arith, least, less)
+    low less k (inr is) = l.1 k is
+
+    by : (b : Bool) → nat_lt n m.number ≡ b → IsLeast Q (Some ((cond b x m).number))
+    by true is = (r n l.0, λ k q. low (grind (arith, nat_tests, is)) k (back k q))
+    by false is = (p m.number h.0, λ k q. high (grind (arith, nat_tests, is)) k (back k q))
+
+-- a member has the type of its object
+abbrev IsTyped : List Object → Member → Type 0
+IsTyped os m = (o : Object) → object_in m.number os ≡ Some o → o.ty ≡ Record m.record_type
+
+-- The members are counted ----------------------------------------------------------------------------------
+
+-- its type is the group's
+type_in : (g : Group) (x : Origin) (ty : Ty) → in_by g x ty ≡ true → ty ≡ Record g.record_type
+type_in g (Declared m) ty is = absurd (cc)
+type_in g (Allocated c p) TyOf.Integer is = absurd (cc)
+type_in g (Allocated c p) TyOf.Count is = absurd (cc)
+type_in g (Allocated c p) TyOf.Boolean is = absurd (cc)
+type_in g (Allocated c p) TyOf.Address is = absurd (cc)
+type_in g (Allocated c p) TyOf.Handle is = absurd (cc)
+type_in g (Allocated c p) (TyOf.Access t) is = absurd (cc)
+type_in g (Allocated c p) (Record t) is = ap (λ (h : Group). Record h.record_type) (same_is (record { collection = c; record_type = t }) g is)
+
+due_type : (code : Code) (g : Group) (o : Object) → is_due_in code g o ≡ true → o.ty ≡ Record g.record_type
+due_type code g o is = type_in g o.origin o.ty (second_holds (is_untouched o.state) (in_by g o.origin o.ty) (second_holds o.joined (is_open g o) (second_holds (has_part (parts_of code g.record_type)) (is_waiting g o) is)))
+
+one_is : (a b c : Bool) → one a ≡ one b + one c → b ≡ true → a ≡ true
+one_is true b c e is = refl
+one_is false true c e is = absurd (let no = e in omega (arith, no))
+one_is false false c e is = absurd (cc)
+
+other_is : (a b c : Bool) → one a ≡ one b + one c → c ≡ true → a ≡ true
+other_is true b c e is = refl
+other_is false b true e is = absurd (let no = e in omega (arith, no))
+other_is false b false e is = absurd (cc)
+
+either_is : (a b c : Bool) → one a ≡ one b + one c → a ≡ true → (b ≡ true) ⊎ (c ≡ true)
+either_is a true c e is = inl refl
+either_is a false true e is = inr refl
+either_is true false false e is = absurd (let no = e in omega (arith, no))
+either_is false false false e is = absurd (cc)
+
+pub counted_next : (code : Code) (order : Order) (first last : ℕ) (os : List Object) (start : Start) (w : Waiting) (found more : Candidates) → Rise 1 os → IsNextGroup start last (Some w) os → IsWith code order os found w.group more
+    → AreCounted code order first last os start found → AreCounted code order first last os (Behind w.group) more
+counted_next code order first last os start w found more rise next m c = record {
+  count = let all = sums after before with_it os (each_there (λ o. one (after o) ≡ one (before o) + one (with_it o)) 1 os rise each) in let had = c.count in let now = m.count in omega (arith, all, had, now);
+  end = subst (λ (z : Option Member). IsEnd order (λ k. passes after k os ≡ true) (option_map (λ m. m.number) z)) (sym m.chosen)
+      (end_with order (λ k. passes before k os ≡ true) (λ k. passes with_it k os ≡ true) (λ k. passes after k os ≡ true) found.chosen m.member w.group c.end m.end was own back);
+  ty = subst (λ (z : Option Member). IfSome z (λ m. (o : Object) → object_in m.number os ≡ Some o → o.ty ≡ Record m.record_type)) (sym m.chosen) (types order found.chosen m.member c.ty m.end);
+  within = λ h behind. let from = c.within w.group next.0 in beyond h from behind;
 }
+  where
+    after : Object → Bool
+    after = is_counted code first last (Behind w.group)
 
-pub counted_all : (code : Code) (order : Order) (first last after : ℕ) (sets : List ℕ) (os : List Object) (found : Candidates) → Rise 1 os → AreFromTo first last sets → next_member first last after os ≡ None → AreCounted code order sets os after found → found.count ≡ length (due code sets os)
-counted_all code order first last after sets os found rise range none c = c.count ∙ ap (λ (l : List Object). length l) (all_passed (is_candidate code sets) first last after 1 os rise (are_within code first last sets range) none)
+    before : Object → Bool
+    before = is_counted code first last start
 
--- one that is not to be finalized
-pub counted_same : (code : Code) (order : Order) (first last after m : ℕ) (sets : List ℕ) (os : List Object) (found : Candidates) (n : IsNext (is_candidate code sets) first last after m os) → is_due code n.object ≡ false → AreCounted code order sets os after found → AreCounted code order sets os m found
-counted_same code order first last after m sets os found n fails c =
-    let few = c.few in
-    let behind = n.behind in
-    let many = count_passed (is_candidate code sets) first last after m os n ∙ ap (λ b. length (passed (is_candidate code sets) after os) + cond b 1 0) (first_fails (is_due code n.object) (is_of_group (OfSets sets) n.object.origin) fails) in
-    let before = c.count in
-    record {
-      count = omega (arith, many, before);
-      few = omega (arith, few, behind);
-      taken = c.taken;
-    }
+    with_it : Object → Bool
+    with_it = is_due_in code w.group
 
-map_same : (os : List Object) → map (λ (o : Object). o) os ≡ os
-map_same [] = refl
-map_same (o ∷ os) = ap (λ (l : List Object). o ∷ l) (map_same os)
+    each : (o : Object) → object_in o.number os ≡ Some o → one (after o) ≡ one (before o) + one (with_it o)
+    each = each_object code first last start w os c.within next
+
+    found_so : (n : ℕ) (o : Object) → object_in n os ≡ Some o → object_in o.number os ≡ Some o
+    found_so n o there = ap (λ k. object_in k os) (number_found n os o there) ∙ there
+
+    was : (n : ℕ) → passes before n os ≡ true → passes after n os ≡ true
+    was n is = let it = passing before n os is in passes_so after n it.0 os it.1 (one_is (after it.0) (before it.0) (with_it it.0) (each it.0 (found_so n it.0 it.1)) it.2)
+
+    own : (n : ℕ) → passes with_it n os ≡ true → passes after n os ≡ true
+    own n is = let it = passing with_it n os is in passes_so after n it.0 os it.1 (other_is (after it.0) (before it.0) (with_it it.0) (each it.0 (found_so n it.0 it.1)) it.2)
+
+    back : (n : ℕ) → passes after n os ≡ true → (passes before n os ≡ true) ⊎ (passes with_it n os ≡ true)
+    back n is = let it = passing after n os is in by it.0 it.1 (either_is (after it.0) (before it.0) (with_it it.0) (each it.0 (found_so n it.0 it.1)) it.2)
+      where
+        by : (o : Object) → object_in n os ≡ Some o → (before o ≡ true) ⊎ (with_it o ≡ true) → (passes before n os ≡ true) ⊎ (passes with_it n os ≡ true)
+        by o there (inl p) = inl (passes_so before n o os there p)
+        by o there (inr p) = inr (passes_so with_it n o os there p)
+
+    beyond : (h : Group) → first ≤ w.group.collection → precedes w.group h ≡ true → first ≤ h.collection
+    beyond h from behind = grind (arith, nat_tests, from, behind)
+
+    type_of : (n : ℕ) → passes with_it n os ≡ true → (o : Object) → object_in n os ≡ Some o → o.ty ≡ Record w.group.record_type
+    type_of n is o there = due_type code w.group o (sym (ap (test with_it) there) ∙ is)
+
+    one_of : (b : Bool) (x y : Member) → IsTyped os x → IsTyped os y → IsTyped os (cond b x y)
+    one_of true x y p q = p
+    one_of false x y p q = q
+
+    types : (k : Order) (chosen : Option Member) (r : Option ℕ) → IfSome chosen (IsTyped os) → IsEnd k (λ n. passes with_it n os ≡ true) r → IfSome (taken_with k chosen w.group r) (IsTyped os)
+    types k chosen None t l = t
+    types OrderOf.Newest None (Some n) t l = type_of n l.0
+    types OrderOf.Oldest None (Some n) t l = type_of n l.0
+    types OrderOf.Newest (Some m) (Some n) t l = one_of (nat_lt m.number n) (record { number = n; record_type = w.group.record_type }) m (type_of n l.0) t
+    types OrderOf.Oldest (Some m) (Some n) t l = one_of (nat_lt n m.number) (record { number = n; record_type = w.group.record_type }) m (type_of n l.0) t
+
+-- at the start none is counted
+nothing_yet : (first last : ℕ) (a : Bool) (x : Origin) (ty : Ty) → (a && (is_between first last x && is_passed (Collection first) (group_by x ty))) ≡ false
+nothing_yet first last a (Declared m) ty = right_false a
+nothing_yet first last a (Allocated c p) TyOf.Integer = ap (λ b. a && b) (right_false (is_between first last (Allocated c p))) ∙ right_false a
+nothing_yet first last a (Allocated c p) TyOf.Count = ap (λ b. a && b) (right_false (is_between first last (Allocated c p))) ∙ right_false a
+nothing_yet first last a (Allocated c p) TyOf.Boolean = ap (λ b. a && b) (right_false (is_between first last (Allocated c p))) ∙ right_false a
+nothing_yet first last a (Allocated c p) TyOf.Address = ap (λ b. a && b) (right_false (is_between first last (Allocated c p))) ∙ right_false a
+nothing_yet first last a (Allocated c p) TyOf.Handle = ap (λ b. a && b) (right_false (is_between first last (Allocated c p))) ∙ right_false a
+nothing_yet first last a (Allocated c p) (TyOf.Access t) = ap (λ b. a && b) (right_false (is_between first last (Allocated c p))) ∙ right_false a
+nothing_yet first last a (Allocated c p) (Record t) = ap (λ b. a && b) (by (nat_le first c) (nat_le c last)) ∙ right_false a
+  where
+    by : (b d : Bool) → ((b && d) && not b) ≡ false
+    by true true = refl
+    by true false = refl
+    by false d = refl
+
+pub counted_none : (code : Code) (order : Order) (first last : ℕ) (os : List Object) → Rise 1 os → AreCounted code order first last os (Collection first) (record { count = 0; chosen = None })
+counted_none code order first last os rise = record {
+  count = sym (ap (λ (l : List Object). length l) (none_passes before os (rise_lower 0 1 os (omega arith) rise) none));
+  end = by order;
+  ty = tt;
+  within = λ g from. grind (arith, nat_tests, from);
+}
+  where
+    before : Object → Bool
+    before = is_counted code first last (Collection first)
+
+    none : (n : ℕ) → passes before n os ≡ true → ⊥
+    none n is = let it = passing before n os is in never (before it.0) it.2 (nothing_yet first last (is_due code it.0) it.0.origin it.0.ty)
+
+    by : (k : Order) → IsEnd k (λ n. passes before n os ≡ true) (option_map (λ (m : Member). m.number) None)
+    by OrderOf.Newest = none
+    by OrderOf.Oldest = none
+
+-- in the end all are counted
+one_left : (h j u b f : Bool) → (f ≡ true → b ≡ true → u ≡ false) → ((j && (u && h)) && (b && not f)) ≡ ((j && (u && h)) && b)
+one_left h j u b false none = ap (λ c. (j && (u && h)) && c) (right_true b)
+one_left h j u false true none = refl
+one_left h j u true true none = ap (λ c. (j && (c && h)) && false) (none refl refl) ∙ (by j ∙ sym (ap (λ c. (j && (c && h)) && true) (none refl refl)))
+  where
+    by : (j : Bool) → ((j && false) && false) ≡ ((j && false) && true)
+    by true = refl
+    by false = refl
+
+both_undue : (j u b c : Bool) → ((j && (u && false)) && b) ≡ ((j && (u && false)) && c)
+both_undue j u b c = undue j u b ∙ sym (undue j u c)
+
+all_counted : (code : Code) (first last : ℕ) (start : Start) (j : Bool) (s : State) (x : Origin) (ty : Ty) → ((h : Group) → is_from start h ≡ true → h.collection ≤ last → (is_untouched s && in_by h x ty) ≡ false)
+    → counted_by code first last start j s x ty ≡ ((j && (is_untouched s && has_part_in code ty)) && is_between first last x)
+all_counted code first last start j s (Declared m) ty none = refl
+all_counted code first last start j s (Allocated c p) TyOf.Integer none = both_undue j (is_untouched s) (is_between first last (Allocated c p) && false) (is_between first last (Allocated c p))
+all_counted code first last start j s (Allocated c p) TyOf.Count none = both_undue j (is_untouched s) (is_between first last (Allocated c p) && false) (is_between first last (Allocated c p))
+all_counted code first last start j s (Allocated c p) TyOf.Boolean none = both_undue j (is_untouched s) (is_between first last (Allocated c p) && false) (is_between first last (Allocated c p))
+all_counted code first last start j s (Allocated c p) TyOf.Address none = both_undue j (is_untouched s) (is_between first last (Allocated c p) && false) (is_between first last (Allocated c p))
+all_counted code first last start j s (Allocated c p) TyOf.Handle none = both_undue j (is_untouched s) (is_between first last (Allocated c p) && false) (is_between first last (Allocated c p))
+all_counted code first last start j s (Allocated c p) (TyOf.Access t) none = both_undue j (is_untouched s) (is_between first last (Allocated c p) && false) (is_between first last (Allocated c p))
+all_counted code first last start j s (Allocated c p) (Record t) none = one_left (has_part (parts_of code t)) j (is_untouched s) (is_between first last (Allocated c p)) (is_from start own) (λ from between. untouched (is_untouched s) (none own from (up_to between)))
+  where
+    own : Group
+    own = record { collection = c; record_type = t }
+
+    up_to : (nat_le first c && nat_le c last) ≡ true → c ≤ last
+    up_to is = let less = second_holds (nat_le first c) (nat_le c last) is in grind (arith, nat_tests, less)
+
+    untouched : (u : Bool) → (u && is_same own own) ≡ false → u ≡ false
+    untouched false is = refl
+    untouched true is = absurd (never (is_same own own) (same_self own) is)
+
+counted_due : (code : Code) (first last : ℕ) (start : Start) (sets : List ℕ) (os : List Object) → Rise 1 os → AreFromTo first last sets → IsNextGroup start last None os → keep (is_counted code first last start) os ≡ due code sets os
+counted_due code first last start sets os rise range next = kept_same (is_counted code first last start) (is_candidate code sets) os (each_there (λ o. is_counted code first last start o ≡ is_candidate code sets o) 1 os rise (λ o there.
+    all_counted code first last start o.joined o.state o.origin o.ty (λ h from to. sym (ap (test (is_open h)) there) ∙ next h o.number from to)
+    ∙ ap (λ b. is_due code o && b) (sym (group_is first last sets o.origin range))))
+
+pub counted_all : (code : Code) (order : Order) (first last : ℕ) (start : Start) (sets : List ℕ) (os : List Object) (found : Candidates) → Rise 1 os → AreFromTo first last sets → IsNextGroup start last None os → AreCounted code order first last os start found
+    → found.count ≡ length (due code sets os)
+counted_all code order first last start sets os found rise range next c = c.count ∙ ap (λ (l : List Object). length l) (counted_due code first last start sets os rise range next)
 
 has_some_part : (p : Parts) → has_part p ≡ true → p ≢ PartsOf.Plain
 has_some_part PartsOf.Plain h is = absurd (cc)
@@ -167,33 +488,144 @@ due_parts : (code : Code) (o : Object) (t : ℕ) → is_due code o ≡ true → 
 due_parts code o t is ty =
     has_some_part (parts_of code t) (sym (ap (λ (x : Ty). has_part_in code x) ty) ∙ second_holds _ (has_part_in code o.ty) (second_holds o.joined _ is))
 
--- one that is
-pub counted_more : (code : Code) (order : Order) (first last after m : ℕ) (sets : List ℕ) (os : List Object) (found more : Candidates) (x : Member) (n : IsNext (is_candidate code sets) first last after m os) → Rise 1 os → AreFromTo first last sets
-    → is_due code n.object ≡ true → n.object.number ≡ x.number → n.object.ty ≡ Record x.record_type → more.count ≡ found.count + 1 → more.chosen ≡ Some (taken_of order found.chosen x) → AreCounted code order sets os after found → AreCounted code order sets os m more
-counted_more code order first last after m sets os found more x n rise range is number ty count chosen c =
-    let p = is_candidate code sets in
-    let few = c.few in
-    let behind = n.behind in
-    let passes = both_hold (is_due code n.object) (is_of_group (OfSets sets) n.object.origin) is (group_is first last sets n.object.origin range ∙ n.between) in
-    let many = count_passed p first last after m os n ∙ ap (λ b. length (passed p after os) + cond b 1 0) passes in
-    let before = c.count in
-    let item : (d : Object) → pull_item d (length (passed p after os)) (due code sets os) ≡ n.object =
-    λ d. ap (λ (l : List Object). pull_item d (length (passed p after os)) l) (sym (map_same (due code sets os))) ∙ item_next (λ (o : Object). o) d p first last after 1 m os n rise passes in
-    let this : (pick : ℕ) → pick ≡ found.count → pick_among order more.count ≡ pick → IsMember code order more.count (due code sets os) x =
-    λ pick same picks. record {
-      object = n.object;
-      chosen = λ d. ap (λ k. pull_item d k (due code sets os)) (picks ∙ (same ∙ before)) ∙ item d;
-      number = number;
-      ty = ty;
-      parts = due_parts code n.object x.record_type is ty;
-    } in
-    record {
-      count = omega (arith, many, before, count);
-      few = omega (arith, few, behind, count);
-      taken = subst (λ (z : Option Member). IsTaken code order more.count (due code sets os) z) (sym chosen) (omega (arith, count), by order found.chosen c.taken this);
-    }
+first_holds : (a b : Bool) → (a && b) ≡ true → a ≡ true
+first_holds true b h = refl
+first_holds false b h = absurd (cc)
+
+pub taken_all : (code : Code) (order : Order) (first last : ℕ) (start : Start) (sets : List ℕ) (os : List Object) (found : Candidates) → Rise 1 os → AreFromTo first last sets → IsNextGroup start last None os → AreCounted code order first last os start found
+    → IsTaken code order found.count (due code sets os) found.chosen
+taken_all code order first last start sets os found rise range next c = subst (λ (l : List Object). IsTaken code order found.count l found.chosen) (counted_due code first last start sets os rise range next) (by order found.chosen c.end c.ty)
   where
-    by : (k : Order) (z : Option Member) → IsTaken code k found.count (due code sets os) z → ((pick : ℕ) → pick ≡ found.count → pick_among k more.count ≡ pick → IsMember code k more.count (due code sets os) x) → IsMember code k more.count (due code sets os) (taken_of k z x)
-    by OrderOf.Newest z taken this = this found.count refl (omega (arith, count))
-    by OrderOf.Oldest None taken this = this 0 (sym taken) refl
-    by OrderOf.Oldest (Some y) taken this = let m = taken.1 in record { object = m.object; chosen = m.chosen; number = m.number; ty = m.ty; parts = m.parts }
+    before : Object → Bool
+    before = is_counted code first last start
+
+    low : Rise 0 os
+    low = rise_lower 0 1 os (omega arith) rise
+
+    some : (n : ℕ) → passes before n os ≡ true → 0 < found.count
+    some n is = let more = some_kept before n 0 os low is in let many = c.count in omega (arith, more, many)
+
+    none : ((n : ℕ) → passes before n os ≡ true → ⊥) → found.count ≡ 0
+    none no_one = c.count ∙ ap (λ (l : List Object). length l) (none_passes before os low no_one)
+
+    member : (k : Order) (m : Member) → ((o : Object) → object_in m.number os ≡ Some o → o.ty ≡ Record m.record_type) → (o : Object) → object_in m.number os ≡ Some o → before o ≡ true → ((d : Object) → pull_item d (pick_among k found.count) (keep before os) ≡ o)
+        → IsMember code k found.count (keep before os) m
+    member k m types o there is pulled = record {
+      object = o;
+      chosen = pulled;
+      number = number_found m.number os o there;
+      ty = types o there;
+      parts = due_parts code o m.record_type (first_holds (is_due code o) _ is) (types o there);
+    }
+
+    by : (k : Order) (z : Option Member) → IsEnd k (λ n. passes before n os ≡ true) (option_map (λ m. m.number) z) → IfSome z (λ m. (o : Object) → object_in m.number os ≡ Some o → o.ty ≡ Record m.record_type) → IsTaken code k found.count (keep before os) z
+    by OrderOf.Newest None e t = none e
+    by OrderOf.Oldest None e t = none e
+    by OrderOf.Newest (Some m) e t =
+        let it = greatest_pulled before m.number os low e in
+        (some m.number e.0, member OrderOf.Newest m t it.0 it.1 it.2 (λ d. ap (λ n. pull_item d (n - 1) (keep before os)) c.count ∙ it.3 d))
+    by OrderOf.Oldest (Some m) e t =
+        let it = least_pulled before m.number os low e in
+        (some m.number e.0, member OrderOf.Oldest m t it.0 it.1 it.2 it.3)
+
+-- There are not too many -----------------------------------------------------------------------------------
+
+counted_allocated : (code : Code) (first last : ℕ) (start : Start) (o : Object) → is_counted code first last start o ≡ true → is_allocated o.origin ≡ true
+counted_allocated code first last start o is = by o.origin (second_holds (is_due code o) (is_between first last o.origin && is_passed start (group_of o)) is)
+  where
+    by : (x : Origin) → (is_between first last x && is_passed start (group_by x o.ty)) ≡ true → is_allocated x ≡ true
+    by (Declared m) t = absurd (cc)
+    by (Allocated c p) t = refl
+
+waiting_allocated : (g : Group) (o : Object) → is_waiting g o ≡ true → is_allocated o.origin ≡ true
+waiting_allocated g o is = by o.origin (second_holds (is_untouched o.state) (in_by g o.origin o.ty) (second_holds o.joined (is_open g o) is))
+  where
+    by : (x : Origin) → in_by g x o.ty ≡ true → is_allocated x ≡ true
+    by (Declared m) t = absurd (cc)
+    by (Allocated c p) t = refl
+
+pub few_counted : (code : Code) (order : Order) (first last : ℕ) (os : List Object) (start : Start) (w : Waiting) (found : Candidates) → length (keep (λ o. is_allocated o.origin) os) < 2 ^ 63 → w.count ≡ length (keep (is_waiting w.group) os)
+    → AreCounted code order first last os start found → found.count + w.count < 2 ^ 64
+few_counted code order first last os start w found few many c =
+    let a = no_fewer (is_counted code first last start) (λ o. is_allocated o.origin) os (counted_allocated code first last start) in
+    let b = no_fewer (is_waiting w.group) (λ o. is_allocated o.origin) os (waiting_allocated w.group) in
+    let count = c.count in
+    omega (arith, few, many, a, b, count)
+
+-- Each time there are fewer groups left --------------------------------------------------------------------
+
+abbrev ahead_of : Start → Option Group → Bool
+ahead_of start r = option_map_or (λ g. is_from start g) r false
+
+in_group : (g : Group) (r : Option Group) → option_map_or (λ h. is_same h g) r false ≡ true → r ≡ Some g
+in_group g None is = absurd (cc)
+in_group g (Some h) is = ap (λ (x : Group). Some x) (same_is h g is)
+
+pub fewer_ahead : (os : List Object) (start : Start) (last : ℕ) (w : Waiting) → Rise 1 os → IsNextGroup start last (Some w) os → length (keep (is_ahead (Behind w.group)) os) < length (keep (is_ahead start) os)
+fewer_ahead os start last w rise next =
+    let it = passing (is_open w.group) next.2.0 os next.2.1 in
+    let own : group_of it.0 ≡ Some w.group = in_group w.group (group_of it.0) (second_holds (is_untouched it.0.state) (in_by w.group it.0.origin it.0.ty) it.2) in
+    fewer_left (is_ahead (Behind w.group)) (is_ahead start) next.2.0 1 os rise (λ o is. by (group_of o) is) (ap (test (is_ahead (Behind w.group))) it.1 ∙ (ap (ahead_of (Behind w.group)) own ∙ not_itself w.group))
+    (ap (test (is_ahead start)) it.1 ∙ (ap (ahead_of start) own ∙ next.0))
+  where
+    by : (r : Option Group) → option_map_or (λ h. precedes w.group h) r false ≡ true → ahead_of start r ≡ true
+    by None is = absurd (cc)
+    by (Some h) is = from_later start w.group h next.0 is
+
+-- A group whose objects have no controlled part ------------------------------------------------------------
+
+pub plain_with : (code : Code) (order : Order) (os : List Object) (found : Candidates) (g : Group) → parts_of code g.record_type ≡ PartsOf.Plain → IsWith code order os found g found
+plain_with code order os found g plain = record {
+  count = let none = nothing os in omega (arith, none);
+  member = None;
+  end = by order;
+  chosen = refl;
+}
+  where
+    fails : (o : Object) → is_due_in code g o ≡ false
+    fails o = ap (λ p. has_part p && is_waiting g o) plain
+
+    no_one : (n : ℕ) → passes (is_due_in code g) n os ≡ true → ⊥
+    no_one n is = let it = passing (is_due_in code g) n os is in never (is_due_in code g it.0) it.2 (fails it.0)
+
+    by : (k : Order) → IsEnd k (λ n. passes (is_due_in code g) n os ≡ true) None
+    by OrderOf.Newest = no_one
+    by OrderOf.Oldest = no_one
+
+    nothing : (l : List Object) → length (keep (is_due_in code g) l) ≡ 0
+    nothing [] = length_none (is_due_in code g)
+    nothing (x ∷ xs) =
+        let more = length_more (is_due_in code g) x xs in
+        let rest = nothing xs in
+        let out : one (is_due_in code g x) ≡ 0 = ap one (fails x) in
+        omega (arith, more, rest, out)
+
+-- A group whose objects have one
+pub group_with : (code : Code) (order : Order) (os : List Object) (found more : Candidates) (w : Waiting) → parts_of code w.group.record_type ≢ PartsOf.Plain → w.count ≡ length (keep (is_waiting w.group) os) → more.count ≡ found.count + w.count
+    → (n : Option ℕ) × IsEnd order (λ k. passes (is_waiting w.group) k os ≡ true) n × (more.chosen ≡ taken_with order found.chosen w.group n) → IsWith code order os found w.group more
+group_with code order os found more w parts many count taken = record {
+  count = let all = ap (λ (l : List Object). length l) (kept_same (is_due_in code w.group) (is_waiting w.group) os (each os)) in omega (arith, all, many, count);
+  member = taken.0;
+  end = by order taken.0 taken.1;
+  chosen = taken.2;
+}
+  where
+    has_some : (p : Parts) → p ≢ PartsOf.Plain → has_part p ≡ true
+    has_some PartsOf.Plain h = absurd (h refl)
+    has_some PartsOf.Controlled h = refl
+    has_some PartsOf.Within h = refl
+
+    same : (o : Object) → is_due_in code w.group o ≡ is_waiting w.group o
+    same o = ap (λ b. b && is_waiting w.group o) (has_some (parts_of code w.group.record_type) parts)
+
+    each : (l : List Object) → AllByRecursion (λ o. is_due_in code w.group o ≡ is_waiting w.group o) l
+    each [] = tt
+    each (x ∷ xs) = (same x, each xs)
+
+    same_found : (r : Option Object) → test (is_due_in code w.group) r ≡ test (is_waiting w.group) r
+    same_found None = refl
+    same_found (Some o) = same o
+
+    by : (k : Order) (n : Option ℕ) → IsEnd k (λ m. passes (is_waiting w.group) m os ≡ true) n → IsEnd k (λ m. passes (is_due_in code w.group) m os ≡ true) n
+    by OrderOf.Newest n e = greatest_alike (λ m. passes (is_waiting w.group) m os ≡ true) (λ m. passes (is_due_in code w.group) m os ≡ true) n (λ m q. same_found (object_in m os) ∙ q) (λ m q. sym (same_found (object_in m os)) ∙ q) e
+    by OrderOf.Oldest n e = least_alike (λ m. passes (is_waiting w.group) m os ≡ true) (λ m. passes (is_due_in code w.group) m os ≡ true) n (λ m q. same_found (object_in m os) ∙ q) (λ m q. sym (same_found (object_in m os)) ∙ q) e

@@ -3,6 +3,8 @@ use Rattle.std.proofs.Common.{◌≡◌, ℕ, ◌+◌, ◌-◌, ◌≤◌, List,
 use Rattle.std.specs.Prelude.{slice_get}
 use Rattle.std.specs.Option.{option_map_or}
 use Rattle.ctl_tree.specs.declared.ending.Stop.TheVariants.{UseAfterFree}
+use Rattle.ctl_tree.specs.declared.event.Owner.TheVariants as OwnerOf
+use Rattle.ctl_meaning.specs.Lists.{last_of}
 use Rattle.ctl_meaning.specs.World as W
 use Rattle.ctl_program.specs.declared.types.Ty.TheVariants.{Record}
 use Rattle.ctl_meaning.specs.Objects.{cells_at, change_in, object_in, with_cells}
@@ -53,7 +55,7 @@ copied_at code place slot t s =
 
 -- what the table makes of it, where there is the object
 table_copies : (code : Code) (slot t : ℕ) (y : Spot) (ops rest : List Word) (h : Here) (o x : W.Object) → ops ≡ Located y ∷ rest → object_at y.object h.world ≡ Some o → object_at h.world.ledger.next_object (Table.with_object code h.display slot t h.world) ≡ Some x
-    → by_declare_copy code slot t ops h ≡ adjust_new code (parts_of code t) h.world.ledger.next_object t (record { display = h.display; place = h.place + 1; operands = rest }) h.control (write_cells h.world.ledger.next_object 0 (value_of y.offset (size_of code t) (object_at y.object h.world)) (Table.with_object code h.display slot t h.world))
+    → by_declare_copy code slot t ops h ≡ adjust_new code (parts_of code t) T.ByDeclaration (Table.newborn h.world.ledger.next_object t (OwnerOf.Master (last_of h.display))) (record { display = h.display; place = h.place + 1; operands = rest }) h.control (write_cells h.world.ledger.next_object 0 (value_of y.offset (size_of code t) (object_at y.object h.world)) (Table.with_object code h.display slot t h.world))
 table_copies code slot t y ops rest h o x are there new = rw (are, there, new) refl
 
 -- the part whose value is taken
@@ -68,26 +70,28 @@ written_heads code slot t s h = h
 abbrev pub with_copy : Master → ℕ → ℕ → ℕ → List ℕ → Kept → Kept
 with_copy m slot t size value e = with_objects (change_in e.next_object (with_cells 0 value) (with_object m slot t (replicate size 0) e).objects) (with_object m slot t (replicate size 0) e)
 
+-- a new object among others takes a value that is copied from one of these
+pub value_taken : (before made objects : List W.Object) (x : W.Object) (source start offset size count number next : ℕ) (o : W.Object) → made ≡ before ++ x ∷ [] → number ≡ next → object_in source before ≡ Some o → start ≡ offset → size ≡ count
+    → objects ≡ option_map_or (λ z. change_in number (with_cells 0 (cells_at start size z)) made) (object_in source made) made → objects ≡ change_in next (with_cells 0 (cells_at offset count o)) (before ++ x ∷ [])
+value_taken before made objects x source start offset size count number next o more at there from all copied =
+    let found : object_in source made ≡ Some o = ap (λ (l : List W.Object). object_in source l) more ∙ still_found before source o x there in
+    copied
+    ∙ (ap (λ (z : Option W.Object). option_map_or (λ z. change_in number (with_cells 0 (cells_at start size z)) made) z made) found
+    ∙ (ap (λ n. change_in n (with_cells 0 (cells_at start size o)) made) at
+    ∙ (ap (λ (l : List W.Object). change_in next (with_cells 0 (cells_at start size o)) l) more
+    ∙ (ap (λ n. change_in next (with_cells 0 (cells_at n size o)) (before ++ x ∷ [])) from ∙ ap (λ n. change_in next (with_cells 0 (cells_at offset n o)) (before ++ x ∷ [])) all))))
+
 -- it is created, and then its cells are copied from an object that was there
 pub copy_kept : (old ready made : Kept) (objects : List W.Object) (spots : List Spot) (m : Master) (slot t size source start offset count number : ℕ) (o : W.Object)
     → ready ≡ old → made ≡ with_object m slot t (replicate size 0) ready → number ≡ old.next_object → object_in source old.objects ≡ Some o → start ≡ offset → size ≡ count
     → objects ≡ option_map_or (λ z. change_in number (with_cells 0 (cells_at start size z)) made.objects) (object_in source made.objects) made.objects
     → record made { spots = spots; objects = objects } ≡ with_copy m slot t count (cells_at offset count o) (with_spots old spots)
 copy_kept old ready made objects spots m slot t size source start offset count number o was created next there from all copied =
-    let x = new_object old.next_object (Record t) (replicate size 0) (Declared m.number) in
-    let made_is : made ≡ with_object m slot t (replicate size 0) old = created ∙ ap (λ (e : Kept). with_object m slot t (replicate size 0) e) was in
-    let more : made.objects ≡ old.objects ++ x ∷ [] = ap (λ (e : Kept). e.objects) made_is in
-    let found : object_in source made.objects ≡ Some o = ap (λ (l : List W.Object). object_in source l) more ∙ still_found old.objects source o x there in
-    let value = cells_at start size o in
-    let is : objects ≡ change_in old.next_object (with_cells 0 value) (old.objects ++ x ∷ []) =
-    copied
-    ∙ (ap (λ (z : Option W.Object). option_map_or (λ z. change_in number (with_cells 0 (cells_at start size z)) made.objects) z made.objects) found
-    ∙ (ap (λ n. change_in n (with_cells 0 value) made.objects) next
-    ∙ ap (λ (l : List W.Object). change_in old.next_object (with_cells 0 value) l) more)) in
+    let x = new_object old.next_object (Record t) (replicate count 0) (Declared m.number) in
+    let made_is : made ≡ with_object m slot t (replicate count 0) old = created ∙ (ap (λ (e : Kept). with_object m slot t (replicate size 0) e) was ∙ ap (λ n. with_object m slot t (replicate n 0) old) all) in
+    let is = value_taken old.objects made.objects objects x source start offset size count number old.next_object o (ap (λ (e : Kept). e.objects) made_is) next there from all copied in
     ap (λ (l : List W.Object). record made { spots = spots; objects = l }) is
-    ∙ (ap (λ (e : Kept). record e { spots = spots; objects = change_in old.next_object (with_cells 0 value) (old.objects ++ x ∷ []) }) made_is
-    ∙ (ap (λ n. with_copy m slot t n (cells_at start n o) (with_spots old spots)) all
-    ∙ ap (λ n. with_copy m slot t count (cells_at n count o) (with_spots old spots)) from))
+    ∙ ap (λ (e : Kept). record e { spots = spots; objects = change_in old.next_object (with_cells 0 (cells_at offset count o)) (old.objects ++ x ∷ []) }) made_is
 
 -- what the object and its slot are
 record IsMade (code : Code) (mid : Engine) (slot t : ℕ) (s : State) (m : Master) (value : List ℕ) : Type 0 where
@@ -131,7 +135,7 @@ pub copied_is : (code : Code) (old mid new : Engine) (place slot t : ℕ) (s : S
     → slice_get mid.masters.items (length mid.masters.items - 1) ≡ Some m → object_in (first_spot s.operands).object mid.objects ≡ Some o
     → kept new ≡ with_copy m slot t (size_of code t) (cells_at (first_spot s.operands).offset (size_of code t) o) (kept mid) → new.numbered.objects ≡ mid.numbered.objects + 1
     → IsCopied code new t (place + 1) (copied_at code (place + 1) slot t s) × ((new' : Engine) → new.events.items ≡ old.events.items → new.picks.items ≡ old.picks.items
-    → (let x = copied_at code (place + 1) slot t s in Makes code new new' (adjust_new code (parts_of code t) x.number t x.point x.control x.world)) → Makes code old new' (by_instr code (Some (DeclareCopy slot t)) s.operands (here_of place s)))
+    → (let x = copied_at code (place + 1) slot t s in Makes code new new' (adjust_new code (parts_of code t) T.ByDeclaration (Table.newborn x.number t (OwnerOf.Master (last_of x.point.display))) x.point x.control x.world)) → Makes code old new' (by_instr code (Some (DeclareCopy slot t)) s.operands (here_of place s)))
 copied_is code old mid new place slot t s m o b mid_is newest there are given =
     let w = s.world in
     let y = first_spot s.operands in

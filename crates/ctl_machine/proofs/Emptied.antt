@@ -5,7 +5,6 @@ use Rattle.std.proofs.lemmas.List.{append-nil}
 use Rattle.ctl_tree.specs.declared.event.Cause.TheVariants as CauseOf
 use Rattle.ctl_tree.specs.declared.request.Order.{Order}
 use Rattle.ctl_program.specs.declared.types.Ty.TheVariants.{Record}
-use Rattle.ctl_meaning.specs.Changes.{begin_finalization, opened_changes}
 use Rattle.ctl_meaning.specs.Lists.{pull_item}
 use Rattle.ctl_meaning.specs.Outcome.{Fine, Raised, Tried}
 use Rattle.ctl_meaning.specs.World.{Object, World}
@@ -29,7 +28,7 @@ use Rattle.ctl_machine.specs.Links.{end_behind}
 use Rattle.ctl_machine.specs.Masters.{Head, heads_of}
 use Rattle.ctl_machine.specs.Moves.{BeforeResuming, Chooses, Resumes}
 use Rattle.ctl_machine.specs.Owned.{AreFromTo}
-use Rattle.ctl_machine.specs.Shows.{Holds, Kept, SizedBelow, Wait, emptying_waits, finalizing_waits, kept, tried_of, with_cells}
+use Rattle.ctl_machine.specs.Shows.{Holds, Kept, SizedBelow, Wait, emptying_waits, kept, tried_of, with_cells}
 use Rattle.ctl_machine.specs.Spots.{spots_in}
 use Rattle.ctl_machine.proofs.AfterFinalize.{none_noted, resumes_so, waits_so}
 use Rattle.ctl_machine.proofs.Bodies.{more_cells}
@@ -97,17 +96,17 @@ below_emptying (emptying_waits range w) = w
 
 -- A member is finalized over it --------------------------------------------------------------------------
 
-member_waits : {first last : ℕ} {failed failed' : Bool} {fs : List Frame} {ms : List Master} {hs : List Head} {owned : List Owned} {sets : List ℕ} {k : List T.Frame} (fails : Bool) (n : ℕ) → Wait (FrameOf.Emptying first last failed ∷ fs) ms hs owned (T.Emptying sets failed' ∷ k)
-    → Wait (FrameOf.Finalizing n ∷ FrameOf.Emptying first last fails ∷ fs) ms hs owned (T.Finalizing n ∷ T.Emptying sets fails ∷ k)
-member_waits fails n (emptying_waits range w) = finalizing_waits refl (emptying_waits range w)
+emptying_stays : {first last : ℕ} {failed failed' : Bool} {fs : List Frame} {ms : List Master} {hs : List Head} {owned : List Owned} {sets : List ℕ} {k : List T.Frame} (fails : Bool) → Wait (FrameOf.Emptying first last failed ∷ fs) ms hs owned (T.Emptying sets failed' ∷ k)
+    → Wait (FrameOf.Emptying first last fails ∷ fs) ms hs owned (T.Emptying sets fails ∷ k)
+emptying_stays fails (emptying_waits range w) = emptying_waits range w
 
--- with the frames of a member
-abbrev pub with_member : ℕ → Frame → Kept → Kept
-with_member n f e = record e { control = FrameOf.Finalizing n ∷ f ∷ drop 1 e.control }
+-- with this frame in place of the newest
+abbrev pub with_newest : Frame → Kept → Kept
+with_newest f e = record e { control = f ∷ drop 1 e.control }
 
-pub member_comes : (code : Code) (e : Kept) (first last : ℕ) (failed fails : Bool) (fs : List Frame) (n : ℕ) (sets : List ℕ) (k : List T.Frame) (w : World) → Holds code e (T.Emptying sets failed ∷ k) [] w → e.control ≡ FrameOf.Emptying first last failed ∷ fs
-    → Holds code (with_member n (FrameOf.Emptying first last fails) e) (T.Finalizing n ∷ T.Emptying sets fails ∷ k) [] w
-member_comes code e first last failed fails fs n sets k w h top =
+member_over : (code : Code) (e : Kept) (first last : ℕ) (failed fails : Bool) (fs : List Frame) (sets : List ℕ) (k : List T.Frame) (w : World) → Holds code e (T.Emptying sets failed ∷ k) [] w → e.control ≡ FrameOf.Emptying first last failed ∷ fs
+    → Holds code (with_newest (FrameOf.Emptying first last fails) e) (T.Emptying sets fails ∷ k) [] w
+member_over code e first last failed fails fs sets k w h top =
     let f = FrameOf.Emptying first last failed in
     let rest : drop 1 e.control ≡ fs = ap (λ (l : List Frame). drop 1 l) top in
     record {
@@ -115,8 +114,8 @@ member_comes code e first last failed fails fs n sets k w h top =
       room = h.room;
       masters = h.masters;
       below = h.below;
-      waits = subst (λ (l : List Frame). Wait (FrameOf.Finalizing n ∷ FrameOf.Emptying first last fails ∷ l) e.masters (heads_of w.activations) e.owned (T.Finalizing n ∷ T.Emptying sets fails ∷ k)) (sym rest)
-          (member_waits fails n (subst (λ (l : List Frame). Wait l e.masters (heads_of w.activations) e.owned (T.Emptying sets failed ∷ k)) top h.waits));
+      waits = subst (λ (l : List Frame). Wait (FrameOf.Emptying first last fails ∷ l) e.masters (heads_of w.activations) e.owned (T.Emptying sets fails ∷ k)) (sym rest)
+          (emptying_stays fails (subst (λ (l : List Frame). Wait l e.masters (heads_of w.activations) e.owned (T.Emptying sets failed ∷ k)) top h.waits));
       objects = h.objects;
       owns = h.owns;
       held = h.held;
@@ -125,28 +124,24 @@ member_comes code e first last failed fails fs n sets k w h top =
       next_object = h.next_object;
       next_collection = h.next_collection;
       collections = h.collections;
-      left = (tt, (tt, left_below code f (drop 1 e.control) e.control (T.Emptying sets failed) k h.left (top ∙ ap (λ (l : List Frame). f ∷ l) (sym rest))));
+      left = (tt, left_below code f (drop 1 e.control) e.control (T.Emptying sets failed) k h.left (top ∙ ap (λ (l : List Frame). f ∷ l) (sym rest)));
       saved = h.saved;
       noted = h.noted;
     }
 
 -- it is finalized so
-pub member_finishes : (code : Code) (old before mid : Engine) (first last : ℕ) (failed fails : Bool) (t : Emptied) (n : ℕ) (more : List ℕ) → Empties code old first last failed t
-    → kept before ≡ with_member n (FrameOf.Emptying first last fails) (with_cells (kept old) (old.cells.items ++ more))
-    → ((k : List T.Frame) (w : World) → Holds code (kept before) k [] w → Holds code (kept mid) k [] (begin_finalization n w)) → mid.spots.items ≡ before.spots.items → Finishes code mid (member_finished t fails n)
-unfolding opened_changes
-member_finishes code old before mid first last failed fails t n more u are begun spots =
+pub member_finishes : (code : Code) (old mid : Engine) (first last : ℕ) (failed fails : Bool) (t : Emptied) (n : ℕ) (more : List ℕ) → Empties code old first last failed t
+    → kept mid ≡ with_newest (FrameOf.Emptying first last fails) (with_cells (kept old) (old.cells.items ++ more)) → Finishes code mid (member_finished t fails n)
+member_finishes code old mid first last failed fails t n more u are =
     let h = more_cells code (kept old) more (T.Emptying t.sets failed ∷ t.control) [] t.world u.holds in
-    let comes = member_comes code (with_cells (kept old) (old.cells.items ++ more)) first last failed fails u.frames n t.sets t.control t.world h u.top in
     record {
-      holds = begun (T.Finalizing n ∷ T.Emptying t.sets fails ∷ t.control) t.world (subst (λ (e : Kept). Holds code e (T.Finalizing n ∷ T.Emptying t.sets fails ∷ t.control) [] t.world) (sym are) comes);
-      spots = spots ∙ (ap (λ (e : Kept). e.spots) are ∙ u.spots);
+      holds = subst (λ (e : Kept). Holds code e (T.Emptying t.sets fails ∷ t.control) [] t.world) (sym are) (member_over code (with_cells (kept old) (old.cells.items ++ more)) first last failed fails u.frames t.sets t.control t.world h u.top);
+      spots = ap (λ (e : Kept). e.spots) are ∙ u.spots;
       sized = u.sized;
     }
 
 -- a body over it begins behind what waits
 pub member_base : (code : Code) (old : Engine) (first last base : ℕ) (failed fails : Bool) (t : Emptied) (n : ℕ) → Empties code old first last failed t → base ≡ end_behind code (reverse old.masters.items) (reverse old.control.items) → BeginsOver base (member_finished t fails n)
-unfolding opened_changes
 member_base code old first last base failed fails t n u is = is ∙ end_is code (kept old) (T.Emptying t.sets failed ∷ t.control) [] t.world u.holds u.waits u.sized
 
 -- No member is left --------------------------------------------------------------------------------------

@@ -99,3 +99,13 @@ owns_no_next owned next objects h = have_not next (objects_owned owned) (λ at o
     let i = found_among 1 objects (objects_owned owned) at o h.declared h.apart e in
     let less = found_below owned next objects o.number i.object h i.found in
     omega (arith, less, same))
+
+-- An object that is allocated ------------------------------------------------------------------------
+
+-- no master owns it
+pub allocated_foreign : (n next : ℕ) (objects : List Object) (owned : List Owned) (o : Object) → AreOwned owned next objects → object_in n objects ≡ Some o → Order.IsAllocated o.origin → OwnsNone n owned
+allocated_foreign n next objects owned o h found allocated = have_not n (objects_owned owned) (λ at x e same.
+    let i = found_among 1 objects (objects_owned owned) at x h.declared h.apart e in
+    let both : Some o ≡ Some i.object = sym found ∙ (ap (λ m. object_in m objects) (sym same) ∙ i.found) in
+    let is : o ≡ i.object = cc in
+    subst (λ (z : Origin). Order.IsAllocated z) (ap (λ (y : Object). y.origin) is ∙ i.origin) allocated)

@@ -119,3 +119,8 @@ pub mod Among
 pub mod Beginnings
 pub mod NextUndone
 pub mod Undone
+pub mod WholeFinalized
+pub mod Fates
+pub mod Freed
+pub mod FreedPart
+pub mod CopyAllocated

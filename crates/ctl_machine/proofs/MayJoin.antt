@@ -21,7 +21,7 @@ use Rattle.ctl_machine.specs.Shows.{Holds, Kept}
 use Rattle.ctl_machine.proofs.Owned.{object_shown}
 
 -- what is known of an object that is there
-known_there : (n : ℕ) (x : Existing) (os : List Object) → IsKnown n (Some x) os → (o : Object) × (object_in n os ≡ Some o) × (bare o ≡ known n x)
+pub known_there : (n : ℕ) (x : Existing) (os : List Object) → IsKnown n (Some x) os → (o : Object) × (object_in n os ≡ Some o) × (bare o ≡ known n x)
 known_there n x os h = by (object_in n os) refl h
   where
     by : (o : Option Object) → object_in n os ≡ o → Some (known n x) ≡ option_map bare o → (o : Object) × (object_in n os ≡ Some o) × (bare o ≡ known n x)
@@ -29,7 +29,7 @@ known_there n x os h = by (object_in n os) refl h
     by (Some o) is k = (o, is, cc)
 
 -- nothing is known of it
-none_known : (n : ℕ) (os : List Object) → IsKnown n None os → object_in n os ≡ None
+pub none_known : (n : ℕ) (os : List Object) → IsKnown n None os → object_in n os ≡ None
 none_known n os h = by (object_in n os) refl h
   where
     by : (x : Option Object) → object_in n os ≡ x → None ≡ option_map bare x → object_in n os ≡ None

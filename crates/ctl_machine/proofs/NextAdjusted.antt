@@ -1,6 +1,7 @@
 -- One of the components that are left is adjusted, or the part itself, once none is left.
 use Rattle.std.proofs.Common.{◌≡◌, ℕ, ◌+◌, ◌^◌, ◌<◌, ◌≤◌, List, [], ◌∷◌, ◌++◌, Option, None, Some, Bool, length, sym, ap, ◌∙◌, subst, arith}
 use Rattle.std.specs.Prelude.{vec_capacity, vec_len}
+use Rattle.ctl_tree.specs.declared.event.Owner.{Owner}
 use Rattle.ctl_meaning.specs.World.{World}
 use Rattle.ctl_meaning.specs.Finalization.{Spot}
 use Rattle.ctl_meaning.specs.Lists.{pull_item, pull_rest}
@@ -28,14 +29,14 @@ use Rattle.ctl_machine.proofs.PartFrames.{adjusts}
 
 -- The table ----------------------------------------------------------------------------------------------
 
-pub next_constant : (code : Code) (creation : Option ℕ) (s : Spot) (type : ℕ) (left : List Begun) (failed : Bool) (pick : ℕ) (k : List T.Frame) (w : World) (y : Begun) (v : ℕ) → 0 < length left → ((d : Begun) → y ≡ pull_item d pick left) → y.initial ≡ Constant v
+pub next_constant : (code : Code) (creation : Option Owner) (s : Spot) (type : ℕ) (left : List Begun) (failed : Bool) (pick : ℕ) (k : List T.Frame) (w : World) (y : Begun) (v : ℕ) → 0 < length left → ((d : Begun) → y ≡ pull_item d pick left) → y.initial ≡ Constant v
     → adjust_next code creation s type left failed pick k w ≡ gives (Fine (handed failed)) (T.Adjusting creation s type (pull_rest pick left) ∷ k) w
 next_constant code creation s type [] failed pick k w y v some is constant = absurd (omega (arith, some))
 next_constant code creation s type (x ∷ xs) failed pick k w y v some is constant =
     let rest : List T.Frame = T.Adjusting creation s type (pull_rest pick (x ∷ xs)) ∷ k in
     ap (λ (i : Initial). adjust_component code creation s (pull_item x pick (x ∷ xs)) i failed rest w) (ap (λ (z : Begun). z.initial) (sym (is x)) ∙ constant)
 
-pub next_by_type : (code : Code) (creation : Option ℕ) (s : Spot) (type : ℕ) (left : List Begun) (failed : Bool) (pick : ℕ) (k : List T.Frame) (w : World) (y : Begun) (t : ℕ) → 0 < length left → ((d : Begun) → y ≡ pull_item d pick left) → y.initial ≡ ByType t
+pub next_by_type : (code : Code) (creation : Option Owner) (s : Spot) (type : ℕ) (left : List Begun) (failed : Bool) (pick : ℕ) (k : List T.Frame) (w : World) (y : Begun) (t : ℕ) → 0 < length left → ((d : Begun) → y ≡ pull_item d pick left) → y.initial ≡ ByType t
     → adjust_next code creation s type left failed pick k w ≡ adjust_part code creation (component_of s y.offset y.position) t failed (T.Adjusting creation s type (pull_rest pick left) ∷ k) w
 next_by_type code creation s type [] failed pick k w y t some is by = absurd (omega (arith, some))
 next_by_type code creation s type (x ∷ xs) failed pick k w y t some is by =
@@ -45,7 +46,7 @@ next_by_type code creation s type (x ∷ xs) failed pick k w y t some is by =
 
 -- The frame with the rest --------------------------------------------------------------------------------
 
-pub rest_adjusts : (code : Code) (old new : Engine) (creation : Option ℕ) (type : ℕ) (those rest : Left) (p : Spot) (t : Finished) (left right : List Begun) (more : List ℕ) → AdjustsParts code old creation type those t left → AreLeft (controlled_of code type) rest right
+pub rest_adjusts : (code : Code) (old new : Engine) (creation : Option Owner) (type : ℕ) (those rest : Left) (p : Spot) (t : Finished) (left right : List Begun) (more : List ℕ) → AdjustsParts code old creation type those t left → AreLeft (controlled_of code type) rest right
     → kept new ≡ with_top (FrameOf.Adjusting creation type rest) (with_cells (kept old) (old.cells.items ++ more)) → Finishes code new (record { spot = p; control = T.Adjusting creation t.spot type right ∷ t.control; world = t.world })
 rest_adjusts code old new creation type those rest p t left right more f b are =
     changed_finishes code old new (FrameOf.Adjusting creation type those) (FrameOf.Adjusting creation type rest) (T.Adjusting creation t.spot type left) (T.Adjusting creation t.spot type right) p f.frames t more (adjusts f.noting f.are) (adjusts f.noting b) f.top f.holds f.spots f.sized are
@@ -53,7 +54,7 @@ rest_adjusts code old new creation type those rest p t left right more f b are =
 -- The part itself ----------------------------------------------------------------------------------------
 
 -- its frame is dropped, where there are further cells
-pub newest_dropped : (code : Code) (old mid new : Engine) (creation : Option ℕ) (type : ℕ) (those : Left) (t : Finished) (left : List Begun) (more : List ℕ) (popped : Spot) → AdjustsParts code old creation type those t left → kept mid ≡ with_cells (kept old) (old.cells.items ++ more) → DropsFrame mid new popped
+pub newest_dropped : (code : Code) (old mid new : Engine) (creation : Option Owner) (type : ℕ) (those : Left) (t : Finished) (left : List Begun) (more : List ℕ) (popped : Spot) → AdjustsParts code old creation type those t left → kept mid ≡ with_cells (kept old) (old.cells.items ++ more) → DropsFrame mid new popped
     → Finishes code new t × (popped ≡ t.spot)
 newest_dropped code old mid new creation type those t left more popped f are d =
     let k : List T.Frame = T.Adjusting creation t.spot type left ∷ t.control in
@@ -78,11 +79,11 @@ after_room code old new base popped d room more =
     }
 
 -- and room to note it
-pub note_room : (e : Engine) (creation : Option ℕ) → vec_len e.noted < vec_capacity e.noted → HasNoteRoom e creation
+pub note_room : (e : Engine) (creation : Option Owner) → vec_len e.noted < vec_capacity e.noted → HasNoteRoom e creation
 note_room e None room = tt
 note_room e (Some m) room = room
 
 -- and it is noted for the same copy
-pub still_noting : (creation : Option ℕ) (s : Spot) (type : ℕ) (left : List Begun) (k : List T.Frame) → IsNoting creation k → IsNoting creation (T.Adjusting creation s type left ∷ k)
+pub still_noting : (creation : Option Owner) (s : Spot) (type : ℕ) (left : List Begun) (k : List T.Frame) → IsNoting creation k → IsNoting creation (T.Adjusting creation s type left ∷ k)
 still_noting None s type left k h = tt
 still_noting (Some m) s type left k h = h

@@ -1,6 +1,7 @@
 -- A part is noted that is adjusted, for the copy that is under way below the frames that lead down to it.
 use Rattle.std.proofs.Common.{◌≡◌, ℕ, List, [], ◌∷◌, ◌++◌, Option, Some, None, Bool, refl, sym, ap, ◌∙◌, subst}
 use Rattle.std.proofs.lemmas.List.{append_assoc}
+use Rattle.ctl_tree.specs.declared.event.Owner.{Owner}
 use Rattle.ctl_meaning.specs.World.{Activation, World}
 use Rattle.ctl_meaning.specs.Finalization.{Spot}
 use Rattle.ctl_meaning.specs.Outcome.{Fine}
@@ -21,7 +22,7 @@ use Rattle.ctl_machine.specs.Masters.{Head, heads_of}
 use Rattle.ctl_machine.specs.Moves.{Makes}
 use Rattle.ctl_machine.specs.Noted.{IsNoting, noted_in}
 use Rattle.ctl_machine.specs.Saved.{AreWhole, saved_in}
-use Rattle.ctl_machine.specs.Shows.{Holds, Kept, ShowsMode, SizedBelow, Wait, adjusting_waits, copying_waits, kept, tried_of}
+use Rattle.ctl_machine.specs.Shows.{Holds, Kept, ShowsMode, SizedBelow, Wait, adjusting_waits, allocating_copy_waits, copying_waits, kept, tried_of}
 use Rattle.ctl_machine.specs.Spots.{KeepsSpots, spots_in}
 use Rattle.ctl_machine.specs.Under.{under}
 use Rattle.ctl_machine.proofs.Finishing.{finished_gives, same_finishes}
@@ -31,13 +32,13 @@ use Rattle.ctl_machine.proofs.Notes.{paths_more}
 
 -- frames before and after a path is noted
 data Leads (path : List ℕ) : List T.Frame → List T.Frame → Type 0 where
-  to_copy : {n t : ℕ} {paths : List (List ℕ)} {p : T.Point} {k : List T.Frame} → Leads path (T.Copying n t paths p ∷ k) (T.Copying n t (paths ++ path ∷ []) p ∷ k)
-  through : {creation : Option ℕ} {s : Spot} {t : ℕ} {left : List Begun} {k k' : List T.Frame} → Leads path k k' → Leads path (T.Adjusting creation s t left ∷ k) (T.Adjusting creation s t left ∷ k')
+  to_copy : {by : T.Maker} {n t : ℕ} {paths : List (List ℕ)} {p : T.Point} {k : List T.Frame} → Leads path (T.Copying by n t paths p ∷ k) (T.Copying by n t (paths ++ path ∷ []) p ∷ k)
+  through : {creation : Option Owner} {s : Spot} {t : ℕ} {left : List Begun} {k k' : List T.Frame} → Leads path k k' → Leads path (T.Adjusting creation s t left ∷ k) (T.Adjusting creation s t left ∷ k')
 
-leads_down : (m : ℕ) (path : List ℕ) (k : List T.Frame) → IsNoting (Some m) k → Leads path k (note path k)
-leads_down m path (T.Copying n t paths p ∷ k) noting = to_copy
-leads_down m path (T.Adjusting creation s t left ∷ k) noting = through (leads_down m path k noting)
-leads_down m path _ noting = elim noting [ ]
+leads_down : (owner : Owner) (path : List ℕ) (k : List T.Frame) → IsNoting (Some owner) k → Leads path k (note path k)
+leads_down owner path (T.Copying by n t paths p ∷ k) noting = to_copy
+leads_down owner path (T.Adjusting creation s t left ∷ k) noting = through (leads_down owner path k noting)
+leads_down owner path _ noting = elim noting [ ]
 
 under_same : {path : List ℕ} {k k' : List T.Frame} → Leads path k k' → (acts : List Activation) → under k acts ≡ under k' acts
 under_same to_copy acts = refl
@@ -63,17 +64,19 @@ noted_more : {path : List ℕ} {k k' : List T.Frame} → Leads path k k' → not
 noted_more {path = path} (to_copy {paths = paths} {k = k}) = sym (append_assoc (noted_in k) paths (path ∷ []))
 noted_more (through d) = noted_more d
 
-noting_same : {path : List ℕ} {k k' : List T.Frame} (creation : Option ℕ) → Leads path k k' → IsNoting creation k → IsNoting creation k'
+noting_same : {path : List ℕ} {k k' : List T.Frame} (creation : Option Owner) → Leads path k k' → IsNoting creation k → IsNoting creation k'
 noting_same None d h = tt
-noting_same (Some m) to_copy h = tt
-noting_same (Some m) (through d) h = noting_same (Some m) d h
+noting_same (Some owner) to_copy h = tt
+noting_same (Some owner) (through d) h = noting_same (Some owner) d h
 
 waits_same : {path : List ℕ} {k k' : List T.Frame} {fs : List Frame} {ms : List Master} {hs : List Head} {owned : List Owned} → Leads path k k' → Wait fs ms hs owned k → Wait fs ms hs owned k'
 waits_same to_copy (copying_waits i place seen w) = copying_waits i place seen w
+waits_same to_copy (allocating_copy_waits i place seen w) = allocating_copy_waits i place seen w
 waits_same (through d) (adjusting_waits w) = adjusting_waits (waits_same d w)
 
 leaves_same : {path : List ℕ} {k k' : List T.Frame} {fs : List Frame} {ms : List Master} {hs : List Head} {owned : List Owned} (code : Code) → Leads path k k' → Wait fs ms hs owned k → AllLeaveSame code fs k → AllLeaveSame code fs k'
 leaves_same code to_copy (copying_waits i place seen w) h = h
+leaves_same code to_copy (allocating_copy_waits i place seen w) h = h
 leaves_same code (through {creation = creation} d) (adjusting_waits w) h = ((noting_same creation d h.0.0, h.0.1), leaves_same code d w h.1)
 
 -- The machine --------------------------------------------------------------------------------------------
@@ -99,12 +102,12 @@ notes code e s k k' w d h = record {
 }
 
 -- where an object is created, the part is noted
-pub notes_part : (code : Code) (old new : Engine) (m type : ℕ) (failed : Bool) (ended : Ended) (t : Finished) → Finishes code old t → IsNoting (Some m) t.control → kept new ≡ record (kept old) { noted = old.noted.items ++ t.spot ∷ [] }
-    → new.mode ≡ ModeOf.Giving ended → tried_of ended ≡ Fine (handed failed) → new.events.items ≡ old.events.items ++ birth_in code (Some m) t.spot type → new.picks.items ≡ old.picks.items
-    → Makes code old new (adjusted code (Some m) t.spot type failed t.control t.world)
-notes_part code old new m type failed ended t b noting are mode is events picks =
+pub notes_part : (code : Code) (old new : Engine) (owner : Owner) (type : ℕ) (failed : Bool) (ended : Ended) (t : Finished) → Finishes code old t → IsNoting (Some owner) t.control → kept new ≡ record (kept old) { noted = old.noted.items ++ t.spot ∷ [] }
+    → new.mode ≡ ModeOf.Giving ended → tried_of ended ≡ Fine (handed failed) → new.events.items ≡ old.events.items ++ birth_in code (Some owner) t.spot type → new.picks.items ≡ old.picks.items
+    → Makes code old new (adjusted code (Some owner) t.spot type failed t.control t.world)
+notes_part code old new owner type failed ended t b noting are mode is events picks =
     let k = note t.spot.path t.control in
-    let d = leads_down m t.spot.path t.control noting in
+    let d = leads_down owner t.spot.path t.control noting in
     let hs = heads_of t.world.activations in
     record {
       mode = subst (λ (z : Mode). ShowsMode code z (T.Giving (Fine (handed failed))) k hs) (sym mode) (sym is, sized_same code hs d b.sized);

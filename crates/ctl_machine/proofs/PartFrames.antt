@@ -23,7 +23,7 @@ use Rattle.ctl_machine.specs.Noted.{IsNoting, IsUndone, noted_in}
 use Rattle.ctl_machine.specs.Saved.{AreSaved}
 use Rattle.ctl_machine.specs.Spots.{spots_in}
 use Rattle.ctl_machine.specs.Under.{tall, under}
-use Rattle.ctl_machine.specs.Shows.{Wait, master_waits, leaving_waits, creating_waits, allocating_waits, copying_waits, assigning_waits, emptying_waits, finalizing_waits, filling_waits, initializing_waits, failing_waits, adjusting_waits, adjusting_own_waits, undoing_waits, undoing_own_waits, undoing_parts_waits, finalizing_own_waits, finalizing_parts_waits, SizedBelow, Kept, Holds}
+use Rattle.ctl_machine.specs.Shows.{Wait, master_waits, leaving_waits, creating_waits, allocating_waits, allocating_copy_waits, copying_waits, assigning_waits, emptying_waits, freeing_waits, finalizing_waits, filling_waits, initializing_waits, failing_waits, adjusting_waits, adjusting_own_waits, undoing_waits, undoing_own_waits, undoing_parts_waits, finalizing_own_waits, finalizing_parts_waits, SizedBelow, Kept, Holds}
 use Rattle.ctl_machine.proofs.StillLeft.{left_below}
 
 -- over the same frames, a frame of the machine, one of the table, and the part that both wait for
@@ -32,9 +32,9 @@ pub data IsPartFrame (code : Code) (k : List T.Frame) : Frame → T.Frame → Sp
       → x.spot ≡ s → x.type ≡ t → x.owner ≡ owner → AreLeft (begun_of code t) those left → AreLeft (begun_of code t) unfinished incomplete → IsPartFrame code k (FrameOf.Filling t owner those unfinished) (T.Filling x left incomplete) s
   initializes : {t : ℕ} {owner : Owner} {x : T.Newborn} {s : Spot} → x.spot ≡ s → x.type ≡ t → x.owner ≡ owner → IsPartFrame code k (FrameOf.Initializing t owner) (T.Initializing x) s
   fails : {e : ℕ} {s : Spot} → IsPartFrame code k (FrameOf.Failing e) (T.Failing s e) s
-  adjusts : {creation : Option ℕ} {t : ℕ} {those : Left} {left : List Begun} {s : Spot}
+  adjusts : {creation : Option Owner} {t : ℕ} {those : Left} {left : List Begun} {s : Spot}
       → IsNoting creation k → AreLeft (controlled_of code t) those left → IsPartFrame code k (FrameOf.Adjusting creation t those) (T.Adjusting creation s t left) s
-  adjusts_own : {creation : Option ℕ} {t : ℕ} {failed : Bool} {s : Spot} → IsNoting creation k → IsPartFrame code k (FrameOf.AdjustingOwn creation t failed) (T.AdjustingOwn creation s t failed) s
+  adjusts_own : {creation : Option Owner} {t : ℕ} {failed : Bool} {s : Spot} → IsNoting creation k → IsPartFrame code k (FrameOf.AdjustingOwn creation t failed) (T.AdjustingOwn creation s t failed) s
   undoes_own : {t first : ℕ} {s : Spot} → IsUndone first k → IsPartFrame code k (FrameOf.UndoingOwn t first) (T.UndoingOwn s t) s
   undoes_parts : {t count first : ℕ} {those : Left} {left : List Begun} {s : Spot}
       → IsUndone first k → AreAmong (controlled_of code t) those (is_undone s k) left → count ≡ length left → IsPartFrame code k (FrameOf.UndoingParts t those count first) (T.UndoingParts s left) s
@@ -179,15 +179,17 @@ below_top (leaving_waits i l w) master = absurd master
 below_top (creating_waits i p d w) master = w
 below_top (allocating_waits i p d w) master = w
 below_top (copying_waits i p d w) master = w
+below_top (allocating_copy_waits i p d w) master = w
 below_top (filling_waits i j w) master = w
 below_top (initializing_waits i j w) master = w
 below_top (failing_waits w) master = w
 below_top (assigning_waits v p d w) master = w
 below_top (emptying_waits i w) master = w
+below_top (freeing_waits h i p d w) master = w
 below_top (finalizing_waits i w) master = w
 below_top (adjusting_waits w) master = w
 below_top (adjusting_own_waits w) master = w
-below_top (undoing_waits w) master = w
+below_top (undoing_waits i w) master = w
 below_top (undoing_own_waits w) master = w
 below_top (undoing_parts_waits w) master = w
 below_top (finalizing_own_waits w) master = w

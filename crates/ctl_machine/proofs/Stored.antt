@@ -54,7 +54,7 @@ nothing_valued : (n slot x : ℕ) (w : World) → ((y : Slot) → change_slot n 
 unfolding set_value
 nothing_valued n slot x w e = set_nothing n slot (record (slot_at n slot w) { value = x }) w (e (record (slot_at n slot w) { value = x }))
 
-nothing_written : (code : Code) (e : Kept) (k : List T.Frame) (ops : List Word) (w : World) (d : List ℕ) (out slot x : ℕ) → Holds code e k ops w → IsNoVariable d out slot e.masters → with_cell d out slot x w ≡ w
+pub nothing_written : (code : Code) (e : Kept) (k : List T.Frame) (ops : List Word) (w : World) (d : List ℕ) (out slot x : ℕ) → Holds code e k ops w → IsNoVariable d out slot e.masters → with_cell d out slot x w ≡ w
 nothing_written code e k ops w d out slot x h (inl none) =
     nothing_valued (out_of d out) slot x w (λ y. ap (λ n. change_slot n slot y w.activations) none ∙ unwritten 0 slot y w.activations (no_zero e.masters w.activations w.ledger.masters e.owned e.next_master h.masters h.below))
 nothing_written code e k ops w d out slot x h (inr v) =

@@ -13,10 +13,10 @@ use Rattle.ctl_meaning.specs.Changes.{object_at}
 use Rattle.ctl_code.specs.declared.code.Code.{Code}
 use Rattle.ctl_code.specs.declared.code.Cell.{Cell}
 use Rattle.ctl_code.specs.declared.code.Named.{Named}
-use Rattle.ctl_code.specs.declared.code.Instr.TheVariants.{FetchPart}
+use Rattle.ctl_code.specs.declared.code.Instr.TheVariants.{Designate, FetchPart}
 use Rattle.ctl_code.specs.States as T
 use Rattle.ctl_code.specs.States.{Word, State, Move}
-use Rattle.ctl_code.specs.Table.{Here, by_instr, by_fetch_part, fetched, gone, holder_at, offset_of, put}
+use Rattle.ctl_code.specs.Table.{Here, by_designate, by_instr, by_fetch_part, fetched, gone, holder_at, offset_of, put}
 use Rattle.ctl_code.specs.Valid.{IsValid}
 use Rattle.ctl_machine.specs.declared.engine.Engine.{Engine}
 use Rattle.ctl_machine.specs.declared.frame.Mode.{Mode}
@@ -84,3 +84,16 @@ part_read code e k ops w n offset r h read = read ∙ (by (object_in n e.objects
     by : (o : Option W.Object) → option_map (λ o. scalar_of (cells_at offset 1 o)) o ≡ part_in offset o
     by None = refl
     by (Some o) = refl
+
+-- An object (3.10.2) -------------------------------------------------------------------------------------
+
+pub designate_makes : (code : Code) (old new : Engine) (place : ℕ) (s : State) (out slot : ℕ) (ty : Ty) (to : Cell) (x : Spot) → IsValid code → Before code old place (Designate out slot ty to) s → Some x ≡ holder_at (first_display (heads_of s.world.activations)) out slot s.world
+    → GoesOn old new (ModeOf.At (place + 1)) (slice_set old.cells.items (first_window (reverse old.masters.items) + to.at) x.object) → (ty' : Ty) → Makes code old new (by_instr code (Some (Designate out slot ty' to)) s.operands (here_of place s))
+designate_makes code old new place s out slot ty to x valid b is g ty' =
+    subst (λ (o : Option Spot). Makes code old new (by_designate o to.named s.operands (here_of place s))) is
+    (put_makes code old new place to ty b.stack s.control s.operands s.world x.object b.fine.0 valid b.inside b.fine.1 g)
+
+pub designate_gone : (code : Code) (old new : Engine) (place : ℕ) (s : State) (out slot : ℕ) (ty : Ty) (to : Cell) → Before code old place (Designate out slot ty to) s → None ≡ holder_at (first_display (heads_of s.world.activations)) out slot s.world
+    → GoesOn old new (ModeOf.Stopped UseAfterFree) old.cells.items → (ty' : Ty) → Makes code old new (by_instr code (Some (Designate out slot ty' to)) s.operands (here_of place s))
+designate_gone code old new place s out slot ty to b is g ty' =
+    subst (λ (o : Option Spot). Makes code old new (by_designate o to.named s.operands (here_of place s))) is (gone_makes code old new s.control s.operands s.world b.inside.holds g)

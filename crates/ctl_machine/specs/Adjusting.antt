@@ -1,5 +1,6 @@
 -- Parts of objects that are adjusted: what stands there before.
 use Rattle.std.specs.Prelude.{◌≡◌, ℕ, ◌≤◌, List, ◌∷◌, [], ◌++◌, reverse, slice_get, Option, Some, None, ◌<◌, vec_capacity, vec_len}
+use Rattle.ctl_tree.specs.declared.event.Owner.{Owner}
 use Rattle.ctl_meaning.specs.World.{Object}
 use Rattle.ctl_code.specs.declared.code.Code.{Code}
 use Rattle.ctl_code.specs.declared.code.Begun.{Begun}
@@ -34,7 +35,7 @@ pub record CallsAdjust (code : Code) (e : Engine) (entry : Entry) (y : Adjustmen
   pub slots : 1 ≤ entry.slots
 
 -- the frame of this part is the newest, and these of its components are left
-pub record AdjustsParts (code : Code) (e : Engine) (creation : Option ℕ) (type : ℕ) (those : Left) (t : Finished) (left : List Begun) : Type 0 where
+pub record AdjustsParts (code : Code) (e : Engine) (creation : Option Owner) (type : ℕ) (those : Left) (t : Finished) (left : List Begun) : Type 0 where
   pub frames : List Frame
   pub top : reverse e.control.items ≡ FrameOf.Adjusting creation type those ∷ frames
   pub holds : Holds code (kept e) (T.Adjusting creation t.spot type left ∷ t.control) [] t.world
@@ -45,6 +46,6 @@ pub record AdjustsParts (code : Code) (e : Engine) (creation : Option ℕ) (type
   pub are : AreLeft (controlled_of code type) those left
 
 -- where an object is created by a copy, there is room to note a part that is adjusted
-abbrev pub HasNoteRoom : Engine → Option ℕ → Type 0
+abbrev pub HasNoteRoom : Engine → Option Owner → Type 0
 HasNoteRoom e None = Unit {0}
-HasNoteRoom e (Some m) = vec_len e.noted < vec_capacity e.noted
+HasNoteRoom e (Some owner) = vec_len e.noted < vec_capacity e.noted

@@ -15,7 +15,7 @@ HaveNot n (o ∷ os) = (o.number ≢ n) × HaveNot n os
 abbrev pub OwnsNone : ℕ → List Owned → Type 0
 OwnsNone n owned = HaveNot n (objects_owned owned)
 
--- the object of a number is the one that an allocator creates: no master owns it
+-- the object of a number is the one that an allocator creates, or that is freed: no master owns it
 pub record IsAllocated (n object : ℕ) (owned : List Owned) : Type 0 where
   pub number : n ≡ object
   pub foreign : OwnsNone object owned

@@ -31,3 +31,5 @@ pub mod Noted
 pub mod Adjusting
 pub mod Undoing
 pub mod Owned
+pub mod Freeing
+pub mod Copying

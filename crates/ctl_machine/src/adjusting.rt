@@ -1,17 +1,20 @@
 //! Parts of objects are adjusted: their components with a controlled part, one chosen after another, and then the part itself (RM 7.6).
 
-ghost use Rattle.std.specs.Prelude.{◌≡◌, ◌+◌, ◌^◌, ◌<◌, ◌∷◌, [], List, IfNone, IfSome, None, OnErr, OnOk, length, reverse, vec_capacity, vec_len};
+ghost use Rattle.std.specs.Prelude.{◌≡◌, ◌≢◌, ◌+◌, ◌^◌, ◌<◌, ◌≤◌, ◌∷◌, [], List, IfNone, IfSome, None, OnErr, OnOk, length, reverse, vec_capacity, vec_len};
 ghost use Rattle.ctl_code.specs.declared.code.Begun.{Begun};
+ghost use Rattle.ctl_code.specs.declared.code.Parts.TheVariants as PartsOf;
 ghost use Rattle.ctl_meaning.specs.Changes as Changes;
 ghost use Rattle.ctl_meaning.specs.Lists.{pull_rest};
 ghost use Rattle.ctl_code.specs.States as T;
-ghost use Rattle.ctl_code.specs.States.{Giving, State};
+ghost use Rattle.ctl_code.specs.States.{Giving, Maker, State};
 ghost use Rattle.ctl_code.specs.Table as Table;
 ghost use Rattle.ctl_code.specs.Valid.{IsValid};
 ghost use Rattle.ctl_machine.specs.declared.frame.Frame.{Frame};
 ghost use Rattle.ctl_machine.specs.declared.frame.Frame.TheVariants as FrameOf;
 ghost use Rattle.ctl_machine.specs.Adjusting.{AdjustsParts, CallsAdjust, HasNoteRoom};
 ghost use Rattle.ctl_machine.specs.Assigning.{Called, IsAdjustOf};
+ghost use Rattle.ctl_machine.specs.Copying.{AwaitsCopy};
+ghost use Rattle.ctl_machine.specs.Declaring.{Copied};
 ghost use Rattle.ctl_machine.specs.Filling.{AreLeft, noted_among, pick_among};
 ghost use Rattle.ctl_machine.specs.Finishing.{AreDoubles, BeginsOver, Finished, Finishes, HasRoomToFinish};
 ghost use Rattle.ctl_machine.specs.Moves.{BeforeResuming, Chooses, GoesOn, Makes, Resumes};
@@ -34,11 +37,11 @@ use ctl_tree::event::{Event, Owner, Part};
 use ctl_tree::request::Order;
 use std::alloc::AllocError;
 
-/// The adjustment of a part: the master whose object is created by a copy, if one is, the record type of the part, whether an Adjust before
+/// The adjustment of a part: whose object is created by a copy, if one is, the record type of the part, whether an Adjust before
 /// it failed, and the cell where the window of a body begins that is called for it.
 #[derive(Clone, Copy)]
 pub struct Adjustment {
-    pub creation: Option<u64>,
+    pub creation: Option<Owner>,
     pub record_type: usize,
     pub failed: bool,
     pub base: usize,
@@ -56,7 +59,7 @@ pub(crate) fn adjust_of(code: &Code, record: usize) -> Option<Entry>
 
 /// Answers all components of a record type with a controlled part (RM 7.6).
 #[inline(always)]
-pub(crate) fn controlled_left(code: &Code, record: usize) -> Left
+fn controlled_left(code: &Code, record: usize) -> Left
     ensures { AreLeft (Table.controlled_of code.now «record») result (Table.controlled_of code.now «record») }
 {
     Left {
@@ -80,11 +83,11 @@ impl Engine {
         ensures { Makes code.now self.old self.new (Table.adjusted code.now adjustment.creation t.spot adjustment.record_type adjustment.failed t.control t.world) }
     {
         self.mode = Mode::Giving(handed(adjustment.failed));
-        let Some(master) = adjustment.creation else {
+        let Some(owner) = adjustment.creation else {
             return;
         };
         let finalize = finalize_in(code, adjustment.record_type);
-        show_life(&mut self.events, part, Owner::Master(master), finalize);
+        show_life(&mut self.events, part, owner, finalize);
         self.noted.push_reserved(spot);
     }
 
@@ -189,13 +192,42 @@ impl Engine {
         self.mode = Mode::Giving(handed(adjustment.failed));
     }
 
+    /// Lets the object of this number, of a record type with a controlled part, be adjusted, which is created for this owner and has taken a
+    /// value; this frame waits for it, and there is room (RM 7.6).
+    pub(crate) fn adjust_object(
+        &mut self,
+        code: &Code,
+        copy: Frame,
+        object: u64,
+        record: usize,
+        owner: Owner,
+    )
+        ghost t: { Maker × Copied }
+        requires copies { AwaitsCopy code.now self.old copy t.0 «record» t.1 }
+        requires object { t.1.number ≡ object }
+        requires some { Table.parts_of code.now «record» ≢ PartsOf.Plain }
+        requires control { vec_len self.old.control + 2 ≤ vec_capacity self.old.control }
+        requires spots { vec_len self.old.spots < vec_capacity self.old.spots }
+        ensures { Makes code.now self.old self.new (Table.adjust_new code.now (Table.parts_of code.now «record») t.0 (Table.newborn object «record» owner) t.1.point t.1.control t.1.world) }
+    {
+        self.control.push_reserved(copy);
+        self.control.push_reserved(Frame::Adjusting {
+            creation: Some(owner),
+            record,
+            left: controlled_left(code, record),
+        });
+        let whole = Spot::whole(self.alloc, object);
+        self.spots.push_reserved(whole);
+        self.mode = Mode::Giving(Ended::Complete);
+    }
+
     /// Adjusts the component that an order chooses among those that are left of the newest part, where an Adjust before it failed or did
     /// not (RM 7.6); unchanged where memory is refused.
     fn adjust_next(
         &mut self,
         code: &Code,
         order: Order,
-        creation: Option<u64>,
+        creation: Option<Owner>,
         record: usize,
         left: Left,
         failed: bool,
@@ -243,7 +275,7 @@ impl Engine {
     fn adjust_newest(
         &mut self,
         code: &Code,
-        creation: Option<u64>,
+        creation: Option<Owner>,
         record: usize,
         failed: bool,
     ) -> Result<(), AllocError>
@@ -278,7 +310,7 @@ impl Engine {
         code: &Code,
         order: Order,
         ended: Ended,
-        creation: Option<u64>,
+        creation: Option<Owner>,
         record: usize,
         left: Left,
     ) -> Result<(), AllocError>
@@ -308,7 +340,7 @@ impl Engine {
         &mut self,
         code: &Code,
         ended: Ended,
-        creation: Option<u64>,
+        creation: Option<Owner>,
         record: usize,
         failed: bool,
     ) -> Result<(), AllocError>

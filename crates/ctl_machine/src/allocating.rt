@@ -1,21 +1,24 @@
 //! Allocators (RM 4.8): an object whose parts are created joins its collection, and is the value of the allocator.
 
-ghost use Rattle.std.specs.Prelude.{◌≡◌, ◌+◌, ◌^◌, ◌<◌, ◌≤◌, ◌∷◌, ℕ, IsFalse, IsTrue, List, OnErr, OnOk, Some, length, not, reverse, vec_capacity, vec_len, ◌&&◌};
+ghost use Rattle.std.specs.Prelude.{◌≡◌, ◌+◌, ◌^◌, ◌<◌, ◌≤◌, ◌∷◌, ℕ, IfErr, IfOk, IsFalse, IsTrue, List, OnErr, OnOk, Some, length, not, replicate, reverse, slice_get, vec_capacity, vec_len, ◌&&◌};
 ghost use Rattle.std.specs.Option.{option_map};
 ghost use Rattle.ctl_meaning.specs.Activations.{master_of};
 ghost use Rattle.ctl_meaning.specs.Allocation.{set_in};
 ghost use Rattle.ctl_meaning.specs.Changes.{slot_at};
 ghost use Rattle.ctl_meaning.specs.Objects.{is_untouched};
 ghost use Rattle.ctl_objects.specs.Stages.{state_of};
+ghost use Rattle.ctl_objects.specs.Order.{AreBelow};
 ghost use Rattle.ctl_program.specs.declared.types.Ty.{Ty};
+ghost use Rattle.ctl_program.specs.declared.types.Var.{Var};
 ghost use Rattle.ctl_code.specs.declared.code.Instr.TheVariants as InstrOf;
 ghost use Rattle.ctl_code.specs.Table as Table;
-ghost use Rattle.ctl_code.specs.States.{Giving, State};
+ghost use Rattle.ctl_code.specs.States.{ByAllocator, Giving, State};
 ghost use Rattle.ctl_code.specs.Valid.{IsValid};
 ghost use Rattle.ctl_machine.specs.Allocating.{MayJoin};
+ghost use Rattle.ctl_machine.specs.Copying.{IsMember, Refuses, Takes, point_at};
 ghost use Rattle.ctl_machine.specs.declared.frame.Frame.{Frame};
 ghost use Rattle.ctl_machine.specs.declared.frame.Frame.TheVariants as FrameOf;
-ghost use Rattle.ctl_machine.specs.Gathering.{member_begins, with_set};
+ghost use Rattle.ctl_machine.specs.Gathering.{member_begins, with_new_member, with_set};
 ghost use Rattle.ctl_machine.specs.Moves.{Before, BeforeResuming, GoesOn, Makes, here_of};
 ghost use Rattle.ctl_machine.specs.Shows as Shows;
 ghost use Rattle.ctl_machine.specs.Masters.{first_display, heads_of};
@@ -112,7 +115,7 @@ impl Engine {
     }
 
     /// Answers the number of the collection that the slot of an access type holds where it is seen (RM 3.10, 8.3); 0 where it holds none.
-    fn set_held(&self, code: &Code, access: &Var) -> u64
+    pub(crate) fn set_held(&self, code: &Code, access: &Var) -> u64
         ghost s: { State }
         requires holds { Holds code.now (kept self.now) s.control s.operands s.world }
         requires level { 1 ≤ access.now.level }
@@ -146,6 +149,53 @@ impl Engine {
         find_set(self.owned.as_slice(), self.set_held(code, access))
     }
 
+    /// Finds the collection of an access type where that is seen, for which an object of a record type is allocated, and answers its number;
+    /// else what comes next: where the finalization of the collection has started, an object with a controlled part is not allocated, and
+    /// Program_Error is raised (RM 4.8); where the collection is gone, the program is erroneous (RM 13.11.2).
+    pub(crate) fn set_for(&self, code: &Code, access: usize, record: usize) -> Result<u64, Mode>
+        ghost s: { State }
+        requires holds { Holds code.now (kept self.now) s.control s.operands s.world }
+        requires access { (v : Var) × (slice_get code.now.accesses.items access ≡ Some v) × (1 ≤ v.level) }
+        ensures ok { IfOk result (Takes code.now «record» (Table.set_seen (slice_get code.now.accesses.items access) (first_display (heads_of s.world.activations)) s.world)) }
+        ensures err { IfErr result (Refuses code.now «record» (Table.set_seen (slice_get code.now.accesses.items access) (first_display (heads_of s.world.activations)) s.world)) }
+    {
+        let Some(set) = self.set_seen(code, &code.accesses[access]) else {
+            return Err(Mode::Stopped(Stop::UseAfterFree));
+        };
+        if is_refused(code, record, &set) {
+            return Err(Mode::Transfers(Way::Raise(PROGRAM_ERROR)));
+        }
+        Ok(set.number)
+    }
+
+    /// Allocates an object of a record type with so many cells of 0 for the collection of this number (RM 4.8), and reserves room for two
+    /// frames that wait for it and for the part that it is; unchanged where memory is refused.
+    #[inline(always)]
+    pub(crate) fn add_member(
+        &mut self,
+        set: u64,
+        record: usize,
+        size: usize,
+    ) -> Result<(), AllocError>
+        requires number { self.old.numbered.objects + 1 < 2 ^ 64 }
+        requires numbers { AreBelow (self.old.numbered.objects + 1) self.old.objects }
+        ensures kept { OnOk result (kept self.new ≡ with_new_member set «record» (replicate size 0) (kept self.old)) }
+        ensures err { OnErr result (GoesOn self.old self.new self.old.mode self.old.cells.items) }
+        ensures control { OnOk result (vec_len self.new.control + 2 ≤ vec_capacity self.new.control) }
+        ensures spots { OnOk result (vec_len self.new.spots < vec_capacity self.new.spots) }
+        ensures number { OnOk result (self.new.numbered.objects ≡ self.old.numbered.objects + 1) }
+        ensures events { self.new.events ≡ self.old.events }
+        ensures picks { self.new.picks ≡ self.old.picks }
+    {
+        let number = self.numbered.objects + 1;
+        self.control.reserve(2)?;
+        self.spots.reserve(1)?;
+        self.objects
+            .allocate(number, Ty::Record(record), set, size)?;
+        self.numbered.objects = number;
+        Ok(())
+    }
+
     /// Allocates an object of a record type for the collection of this number (RM 4.8): it is created, and its components are to begin
     /// (RM 7.6). Unchanged where memory is refused.
     fn create_member(
@@ -163,17 +213,13 @@ impl Engine {
         ensures err { OnErr result (GoesOn self.old self.new self.old.mode self.old.cells.items) }
     {
         let size = size_of(code, record);
-        let number = self.numbered.objects + 1;
-        self.control.reserve(2)?;
-        self.spots.reserve(1)?;
-        self.objects
-            .allocate(number, Ty::Record(record), set, size)?;
-        self.numbered.objects = number;
+        self.add_member(set, record, size)?;
+        let object = self.numbered.objects;
         self.control.push_reserved(Frame::Allocating {
-            object: number,
+            object,
             place: place + 1,
         });
-        let whole = Spot::whole(self.alloc, number);
+        let whole = Spot::whole(self.alloc, object);
         self.begin_part(code, whole, record, Owner::Collection(set));
         Ok(())
     }
@@ -196,15 +242,13 @@ impl Engine {
         ensures ok { OnOk result (Makes code.now self.old self.new (Table.by_instr code.now (Some (InstrOf.New access «record» s.1 s.2)) s.0.operands (here_of place s.0))) }
         ensures err { OnErr result (GoesOn self.old self.new self.old.mode self.old.cells.items) }
     {
-        let Some(set) = self.set_seen(code, &code.accesses[access]) else {
-            self.go_on(Mode::Stopped(Stop::UseAfterFree));
-            return Ok(());
-        };
-        if is_refused(code, record, &set) {
-            self.go_on(Mode::Transfers(Way::Raise(PROGRAM_ERROR)));
-            return Ok(());
+        match self.set_for(code, access, record) {
+            Ok(set) => self.create_member(code, set, record, place),
+            Err(refused) => {
+                self.go_on(refused);
+                Ok(())
+            }
         }
-        self.create_member(code, set.number, record, place)
     }
 
     /// Tells whether the object of this number may join its collection: it exists and is a new one, and the collection still stands
@@ -227,25 +271,21 @@ impl Engine {
         }
     }
 
-    /// Goes on with the allocator of the object of this number behind the creation of its parts, which has ended so: the object joins its
-    /// collection and is the newest operand, or it is gone and the exception is raised (RM 4.8). Where it has ceased to be a new one, the
-    /// program is erroneous (RM 13.11.2).
-    pub(crate) fn resume_allocating(&mut self, code: &Code, ended: Ended, object: u64, place: usize)
+    /// Goes on at this place behind the creation of the allocated object of this number, which has ended so: the object joins its collection
+    /// and is the newest operand, or it is gone and the exception is raised (RM 4.8). Where it has ceased to be a new one, the program is
+    /// erroneous (RM 13.11.2).
+    pub(crate) fn end_allocation(&mut self, code: &Code, ended: Ended, object: u64, place: usize)
         ghost s: { State }
         requires valid { IsValid code.now }
-        requires before { BeforeResuming code.now self.old s }
-        requires top { (fs : List Frame) × (reverse self.old.control.items ≡ FrameOf.Allocating object place ∷ fs) }
-        ensures { Makes code.now self.old self.new (Table.act code.now (Giving (Shows.tried_of ended)) s.control s.operands s.world 0) }
+        requires ends { IsMember code.now self.old object place s }
+        ensures { Makes code.now self.old self.new (Table.by_creating (Shows.tried_of ended) ByAllocator object (point_at place s) s.control s.world) }
     {
         if let Ended::Raised(exception) = ended {
-            let _ = self.control.take_last();
             self.objects.forget(object);
             self.mode = Mode::Transfers(Way::Raise(exception));
             return;
         }
-        let may_join = self.may_join(code, object);
-        let _ = self.control.take_last();
-        if !may_join {
+        if !self.may_join(code, object) {
             self.mode = Mode::Stopped(Stop::UseAfterFree);
             return;
         }
@@ -253,5 +293,18 @@ impl Engine {
         let cell = self.window() + code.kinds.height_at(place, 1);
         self.cells[cell] = object;
         self.mode = Mode::At(place);
+    }
+
+    /// Goes on with the allocator of the object of this number behind the creation of its parts, which has ended so: the object joins its
+    /// collection and is the newest operand, or it is gone and the exception is raised (RM 4.8).
+    pub(crate) fn resume_allocating(&mut self, code: &Code, ended: Ended, object: u64, place: usize)
+        ghost s: { State }
+        requires valid { IsValid code.now }
+        requires before { BeforeResuming code.now self.old s }
+        requires top { (fs : List Frame) × (reverse self.old.control.items ≡ FrameOf.Allocating object place ∷ fs) }
+        ensures { Makes code.now self.old self.new (Table.act code.now (Giving (Shows.tried_of ended)) s.control s.operands s.world 0) }
+    {
+        let _ = self.control.take_last();
+        self.end_allocation(code, ended, object, place);
     }
 }

@@ -91,11 +91,12 @@ impl Engine {
                 Frame::InMaster(..) | Frame::Leaving { .. } => return self.end_of_newest(),
                 Frame::Creating { place, .. }
                 | Frame::Copying { place, .. }
-                | Frame::Assigning { place, .. } => {
+                | Frame::Assigning { place, .. }
+                | Frame::Freeing { place, .. } => {
                     return self.window() + code.kinds.height_at(place, 0);
                 }
                 // The value of an allocator is not there yet.
-                Frame::Allocating { place, .. } => {
+                Frame::Allocating { place, .. } | Frame::AllocatingCopy { place, .. } => {
                     return self.window() + code.kinds.height_at(place, 1);
                 }
                 _ => {}

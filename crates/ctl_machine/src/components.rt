@@ -178,6 +178,9 @@ impl Engine {
                 let offset = offset_of(code, *record, *position);
                 Ok(self.store_part(code, from, offset, place))
             }
+            Instr::Designate { out, slot, to, .. } => {
+                Ok(self.designate_slot(code, *out, *slot, to, place))
+            }
             _ => unreachable!(),
         }
     }

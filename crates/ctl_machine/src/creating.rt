@@ -10,6 +10,7 @@ ghost use Rattle.ctl_machine.specs.declared.frame.Frame.{Frame};
 ghost use Rattle.ctl_machine.specs.declared.frame.Frame.TheVariants as FrameOf;
 ghost use Rattle.ctl_machine.specs.declared.frame.Mode.TheVariants as ModeOf;
 ghost use Rattle.ctl_machine.specs.declared.frame.Owned.{Owned};
+ghost use Rattle.ctl_machine.specs.Copying.{IsCopy};
 ghost use Rattle.ctl_machine.specs.Initializing.{IsNewest, Turns, alive};
 ghost use Rattle.ctl_machine.specs.Moves.{BeforeResuming, GoesOn, Makes};
 ghost use Rattle.ctl_machine.specs.Shows as Shows;
@@ -70,9 +71,43 @@ impl Engine {
         }
     }
 
+    /// Begins the finalization of the object of this number, of a record type, of which an Adjust has failed: those of its parts that are
+    /// noted from this place on are finalized, which are adjusted, over the frame of its creation (RM 7.6.1); unchanged where memory is
+    /// refused.
+    pub(crate) fn undo_copy(
+        &mut self,
+        code: &Code,
+        creation: Frame,
+        object: u64,
+        record: usize,
+        first: usize,
+    ) -> Result<(), AllocError>
+        ghost s: { State }
+        requires valid { IsValid code.now }
+        requires before { BeforeResuming code.now self.old s }
+        requires copies { IsCopy code.now self.old creation object «record» first s }
+        requires number { self.old.given_masters + 1 < 2 ^ 64 }
+        ensures ok { OnOk result (Makes code.now self.old self.new (Table.act code.now (Giving (Fine OperationFailed)) s.control s.operands s.world 0)) }
+        ensures err { OnErr result (GoesOn self.old self.new self.old.mode self.old.cells.items) }
+    {
+        let base = self.next_window(code);
+        let doubles = doubled(self.alloc, Spot::whole(self.alloc, object))?;
+        self.prepare_finalization(code, base)?;
+        replace_top(&mut self.control, creation);
+        self.control.push_reserved(Frame::Undoing { object, first });
+        self.begin_finalization(object);
+        let undoing = Undone {
+            record_type: record,
+            first,
+            base,
+        };
+        self.undo_part(code, undoing, doubles);
+        Ok(())
+    }
+
     /// Begins the finalization of the newest owned object, of which an Adjust has failed: those of its parts that are noted from this place
     /// on are finalized, which are adjusted (RM 7.6.1); unchanged where memory is refused.
-    fn undo_copy(&mut self, code: &Code, place: usize, first: usize) -> Result<(), AllocError>
+    fn undo_declared(&mut self, code: &Code, place: usize, first: usize) -> Result<(), AllocError>
         ghost s: { State }
         requires valid { IsValid code.now }
         requires before { BeforeResuming code.now self.old s }
@@ -85,19 +120,13 @@ impl Engine {
         let Role::Object { record } = object.role else {
             unreachable!()
         };
-        let base = self.next_window(code);
-        let doubles = doubled(self.alloc, Spot::whole(self.alloc, object.number))?;
-        self.prepare_finalization(code, base)?;
-        replace_top(&mut self.control, Frame::Creating { place });
-        self.control.push_reserved(Frame::Undoing { first });
-        self.begin_finalization(object.number);
-        let undoing = Undone {
-            record_type: record,
+        self.undo_copy(
+            code,
+            Frame::Creating { place },
+            object.number,
+            record,
             first,
-            base,
-        };
-        self.undo_part(code, undoing, doubles);
-        Ok(())
+        )
     }
 
     /// Goes on with the declaration of the newest owned object, which has taken a value, behind its adjustment, which has ended so: the
@@ -119,23 +148,22 @@ impl Engine {
         ensures err { OnErr result (GoesOn self.old self.new self.old.mode self.old.cells.items) }
     {
         if let Ended::OperationFailed = ended {
-            return self.undo_copy(code, place, first);
+            return self.undo_declared(code, place, first);
         }
         self.end_copy(code, ended, place, first);
         Ok(())
     }
 
-    /// Ends the finalization of the newest owned object, of which an Adjust has failed: what is noted of it, from this place on, is dropped,
-    /// and Program_Error goes on, whether a Finalize has failed or not (RM 7.6.1).
-    pub(crate) fn resume_undoing(&mut self, code: &Code, first: usize)
+    /// Ends the finalization of the object of this number, of which an Adjust has failed: what is noted of it, from this place on, is
+    /// dropped, and Program_Error goes on, whether a Finalize has failed or not (RM 7.6.1).
+    pub(crate) fn resume_undoing(&mut self, code: &Code, object: u64, first: usize)
         ghost s: { State }
         requires before { BeforeResuming code.now self.old s }
-        requires top { (fs : List Frame) × (reverse self.old.control.items ≡ FrameOf.Undoing first ∷ fs) }
+        requires top { (fs : List Frame) × (reverse self.old.control.items ≡ FrameOf.Undoing object first ∷ fs) }
         ensures { (ended : Tried Handed) → Makes code.now self.old self.new (Table.act code.now (Giving ended) s.control s.operands s.world 0) }
     {
         let _ = code;
-        let object = self.newest_object();
-        let whole = Spot::whole(self.alloc, object.number);
+        let whole = Spot::whole(self.alloc, object);
         self.end_whole(&whole);
         let _ = self.control.take_last();
         self.noted.truncate(first);

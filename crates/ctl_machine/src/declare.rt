@@ -1,19 +1,18 @@
 //! Objects of record types are declared (RM 3.3.1).
 
 ghost use Rattle.std.specs.Prelude.{◌≡◌, ◌+◌, ◌-◌, ◌^◌, ◌<◌, ◌≤◌, [], ◌++◌, OnErr, OnOk, Some, length, replicate, vec_capacity, vec_len};
-ghost use Rattle.ctl_meaning.specs.Lists.{last_of};
 ghost use Rattle.ctl_code.specs.declared.code.Instr.TheVariants as InstrOf;
 ghost use Rattle.ctl_code.specs.Table as Table;
-ghost use Rattle.ctl_code.specs.States.{State};
+ghost use Rattle.ctl_code.specs.States.{ByDeclaration, State};
 ghost use Rattle.ctl_code.specs.Valid.{IsValid};
+ghost use Rattle.ctl_tree.specs.declared.event.Owner.TheVariants as OwnerOf;
 ghost use Rattle.ctl_machine.specs.Moves.{Before, GoesOn, Makes, here_of};
 ghost use Rattle.ctl_machine.specs.Shows.{kept};
 ghost use Rattle.ctl_machine.specs.Declaring.{Copied, IsCopied, with_object};
 ghost use Rattle.ctl_objects.specs.Order.{AreBelow, AreUpTo};
 
-use crate::adjusting::controlled_left;
 use crate::engine::Engine;
-use crate::frame::{Ended, Frame, Master, Mode, Owned, Role};
+use crate::frame::{Frame, Master, Mode, Owned, Role};
 use crate::parts::{parts_of, size_of};
 use crate::spots::Spot;
 use ctl_code::code::{Code, Parts};
@@ -112,24 +111,17 @@ impl Engine {
     fn adjust_new(&mut self, code: &Code, record: usize, master: u64, place: usize)
         ghost t: { Copied }
         requires copied { IsCopied code.now self.old «record» place t }
-        requires master { master ≡ last_of t.point.display }
         requires control { vec_len self.old.control + 2 ≤ vec_capacity self.old.control }
         requires spots { vec_len self.old.spots < vec_capacity self.old.spots }
-        ensures { Makes code.now self.old self.new (Table.adjust_new code.now (Table.parts_of code.now «record») t.number «record» t.point t.control t.world) }
+        ensures { Makes code.now self.old self.new (Table.adjust_new code.now (Table.parts_of code.now «record») ByDeclaration (Table.newborn t.number «record» (OwnerOf.Master master)) t.point t.control t.world) }
     {
         if let Parts::Plain = parts_of(code, record) {
             return self.become_layer(place);
         }
         let first = self.count_noted();
-        self.control.push_reserved(Frame::Copying { place, first });
-        self.control.push_reserved(Frame::Adjusting {
-            creation: Some(master),
-            record,
-            left: controlled_left(code, record),
-        });
-        let whole = Spot::whole(self.alloc, self.numbered.objects);
-        self.spots.push_reserved(whole);
-        self.mode = Mode::Giving(Ended::Complete);
+        let copy = Frame::Copying { place, first };
+        let object = self.numbered.objects;
+        self.adjust_object(code, copy, object, record, Owner::Master(master));
     }
 
     /// Declares an object of a record type with the value of the part that is the newest operand (RM 3.3.1): it is created and takes the

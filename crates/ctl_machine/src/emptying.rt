@@ -1,12 +1,10 @@
 //! Collections are emptied: their members are finalized, one chosen after another, until none is left (RM 7.6.1).
 
-ghost use Rattle.std.specs.Prelude.{◌≡◌, ◌+◌, ◌-◌, ◌^◌, ◌<◌, ◌≢◌, ◌∷◌, ◌&&◌, Bool, List, ℕ, IfNone, IfSome, OnErr, OnOk, Some, false, length, reverse, true, vec_len};
-ghost use Rattle.ctl_program.specs.declared.types.Ty.TheVariants.{Record};
+ghost use Rattle.std.specs.Prelude.{◌≡◌, ◌+◌, ◌-◌, ◌^◌, ◌<◌, ◌≢◌, ◌∷◌, Bool, List, ℕ, OnErr, OnOk, length, reverse, vec_len};
 ghost use Rattle.ctl_tree.specs.declared.event.Cause.TheVariants as CauseOf;
-ghost use Rattle.ctl_meaning.specs.Objects.{is_untouched, object_in};
-ghost use Rattle.ctl_meaning.specs.World.{Object};
+ghost use Rattle.ctl_meaning.specs.Lists.{keep};
+ghost use Rattle.ctl_objects.specs.Groups.{is_waiting};
 ghost use Rattle.ctl_objects.specs.Order.{Rise};
-ghost use Rattle.ctl_objects.specs.Stages.{state_of};
 ghost use Rattle.ctl_code.specs.declared.code.Parts.TheVariants as PartsOf;
 ghost use Rattle.ctl_code.specs.States as T;
 ghost use Rattle.ctl_code.specs.States.{State};
@@ -16,7 +14,7 @@ ghost use Rattle.ctl_machine.specs.declared.frame.Frame.{Frame};
 ghost use Rattle.ctl_machine.specs.declared.frame.Frame.TheVariants as FrameOf;
 ghost use Rattle.ctl_machine.specs.declared.frame.Owned.{Owned};
 ghost use Rattle.ctl_machine.specs.Departing.{Departed, EmptiesLayer};
-ghost use Rattle.ctl_machine.specs.Emptying.{AreCounted, Emptied, Empties, IsMember, IsTaken, due, is_due, member_finished, taken_of};
+ghost use Rattle.ctl_machine.specs.Emptying.{Emptied, Empties, IsTaken, IsTakenWith, IsWith, due, member_finished, taken_of};
 ghost use Rattle.ctl_machine.specs.Filling.{noted_among, pick_among};
 ghost use Rattle.ctl_machine.specs.Finishing.{Finished};
 ghost use Rattle.ctl_machine.specs.Moves.{BeforeResuming, Chooses, GoesOn, Makes, Resumes};
@@ -32,8 +30,7 @@ use crate::layers::fails_with;
 use crate::parts::parts_of;
 use crate::spots::Spot;
 use ctl_code::code::{Code, Parts};
-use ctl_objects::{Existing, Life};
-use ctl_program::types::Ty;
+use ctl_objects::{Group, Start, Waiting};
 use ctl_tree::event::Cause;
 use ctl_tree::request::Order;
 use std::alloc::AllocError;
@@ -68,21 +65,17 @@ impl Owned {
     }
 }
 
-impl Candidates {
-    /// Counts one candidate more, which has a greater number than the others.
-    fn with(self, order: Order, member: Member) -> Candidates
-        requires { self.count + 1 < 2 ^ 64 }
-        ensures count { result.count ≡ self.count + 1 }
-        ensures chosen { result.chosen ≡ Some (taken_of order self.chosen member) }
-    {
-        let chosen = match (order, self.chosen) {
-            (Order::Oldest, Some(oldest)) => oldest,
-            _ => member,
-        };
-        Candidates {
-            count: self.count + 1,
-            chosen: Some(chosen),
-        }
+/// Answers the one of two members that an order takes, if there is another one.
+fn taken(order: Order, chosen: Option<Member>, member: Member) -> Member
+    ensures { result ≡ taken_of order chosen member }
+{
+    let Some(other) = chosen else {
+        return member;
+    };
+    match order {
+        Order::Newest if other.number < member.number => member,
+        Order::Oldest if member.number < other.number => member,
+        _ => other,
     }
 }
 
@@ -132,36 +125,44 @@ fn pick_of(order: Order, count: usize) -> usize
     }
 }
 
-/// Tells whether an object of a record type is still to be finalized with its collection: it has joined it, its finalization has not begun,
-/// and some part of it is controlled (RM 7.6.1).
-#[tactic(auto, unfolding(ctl_meaning::specs::Objects::is_untouched))]
-fn is_unfinished(code: &Code, existing: &Existing, record: usize) -> bool
-    ensures { result ≡ (existing.now.stage.has_joined && (is_untouched (state_of existing.now.stage.life) && Table.has_part (Table.parts_of code.now «record»))) }
-{
-    if !existing.stage.has_joined {
-        return false;
-    }
-    match existing.stage.life {
-        Life::Untouched => !matches!(parts_of(code, record), Parts::Plain),
-        _ => false,
-    }
-}
-
 impl Engine {
-    /// Answers the record type of an allocated object that is still to be finalized with its collection (RM 7.6.1).
-    fn due_type(&self, code: &Code, number: u64) -> Option<usize>
-        ensures bound { number < 2 ^ 64 }
-        ensures none { IfNone result ((o : Object) → object_in number self.now.objects ≡ Some o → is_due code.now o ≡ false) }
-        ensures some { IfSome result (λ t. (o : Object) → object_in number self.now.objects ≡ Some o → (is_due code.now o ≡ true) × (o.number ≡ number) × (o.ty ≡ Record t)) }
+    /// Answers which member an order takes, where it takes this one among all but the objects of a group that are still to be finalized.
+    fn taken_with(&self, order: Order, chosen: Option<Member>, group: Group) -> Option<Member>
+        ensures { IsTakenWith order self.now.objects chosen group result }
     {
-        let existing = self.objects.find(number)?;
-        let Ty::Record(record) = existing.ty else {
-            return None;
+        let waiting = match order {
+            Order::Newest => self.objects.last_waiting(group),
+            Order::Oldest => self.objects.first_waiting(group),
         };
-        if !is_unfinished(code, &existing, record) {
-            return None;
+        let Some(number) = waiting else {
+            return chosen;
+        };
+        let member = Member {
+            number,
+            record_type: group.record_type,
+        };
+        Some(taken(order, chosen, member))
+    }
+
+    /// Adds the objects of a group that are still to be finalized to the candidates, if some part of them is controlled (RM 7.6.1).
+    fn with_group(
+        &self,
+        code: &Code,
+        order: Order,
+        found: Candidates,
+        waiting: Waiting,
+    ) -> Candidates
+        requires few { found.count + waiting.count < 2 ^ 64 }
+        requires count { waiting.count ≡ length (keep (is_waiting waiting.group) self.now.objects) }
+        ensures { IsWith code.now order self.now.objects found waiting.group result }
+    {
+        match parts_of(code, waiting.group.record_type) {
+            Parts::Plain => found,
+            _ => Candidates {
+                count: found.count + waiting.count,
+                chosen: self.taken_with(order, found.chosen, waiting.group),
+            },
         }
-        Some(record)
     }
 
     /// Counts the members of some collections, from one to another, that are still to be finalized, and finds the one that an order chooses
@@ -177,18 +178,10 @@ impl Engine {
             count: 0,
             chosen: None,
         };
-        let mut after = 0;
-        while let Some(number) = self.objects.next_member(first, last, after) {
-            if let Some(record_type) = self.due_type(code, number) {
-                found = found.with(
-                    order,
-                    Member {
-                        number,
-                        record_type,
-                    },
-                );
-            }
-            after = number;
+        let mut start = Start::Collection(first);
+        while let Some(waiting) = self.objects.next_group(start, last) {
+            found = self.with_group(code, order, found, waiting);
+            start = Start::Behind(waiting.group);
         }
         found
     }
@@ -217,8 +210,7 @@ impl Engine {
     {
         self.picks.reserve(1)?;
         let base = self.next_window(code);
-        let whole = Spot::whole(self.alloc, member.number);
-        let doubles = doubled(self.alloc, whole)?;
+        let doubles = doubled(self.alloc, Spot::whole(self.alloc, member.number))?;
         self.prepare_finalization(code, base)?;
         note_pick(&mut self.picks, count, pick_of(order, count));
         let frame = Frame::Emptying {
@@ -227,14 +219,12 @@ impl Engine {
             failed,
         };
         replace_top(&mut self.control, frame);
-        self.control.push_reserved(Frame::Finalizing(member.number));
-        self.begin_finalization(member.number);
         let finalization = Finalization {
             cause: Cause::Collection,
             record_type: member.record_type,
             base,
         };
-        self.finalize_part(code, finalization, doubles);
+        self.finalize_whole(code, member.number, finalization, doubles);
         Ok(())
     }
 

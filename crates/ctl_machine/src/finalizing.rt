@@ -9,6 +9,7 @@ ghost use Rattle.ctl_meaning.specs.Lists.{pull_rest};
 ghost use Rattle.ctl_meaning.specs.Outcome.{Fine};
 ghost use Rattle.ctl_meaning.specs.World.{World};
 ghost use Rattle.ctl_code.specs.declared.code.Code.{Code};
+ghost use Rattle.ctl_code.specs.declared.code.Parts.TheVariants as PartsOf;
 ghost use Rattle.ctl_code.specs.States as T;
 ghost use Rattle.ctl_code.specs.States.{Giving, State, Word};
 ghost use Rattle.ctl_code.specs.Table as Table;
@@ -201,6 +202,7 @@ impl Engine {
         ensures err { OnErr result (GoesOn self.old self.new self.old.mode self.old.cells.items) }
         ensures room { OnOk result (HasRoom code.now self.new base) }
         ensures control { OnOk result (vec_len self.new.control + 3 ≤ vec_capacity self.new.control) }
+        ensures frames { OnOk result (vec_len self.new.control + 4 ≤ vec_capacity self.new.control) }
         ensures spots { OnOk result (vec_len self.new.spots < vec_capacity self.new.spots) }
         ensures choices { self.new.picks ≡ self.old.picks }
         ensures waiting { vec_len self.new.control ≡ vec_len self.old.control }
@@ -210,7 +212,7 @@ impl Engine {
         ensures notes { OnOk result (vec_len self.new.noted < vec_capacity self.new.noted) }
     {
         self.spots.reserve(1)?;
-        self.control.reserve(3)?;
+        self.control.reserve(4)?;
         self.noted.reserve(1)?;
         self.prepare(base, code.room, 1)
     }
@@ -332,6 +334,31 @@ impl Engine {
             ),
             Parts::Plain => self.mode = Mode::Giving(Ended::Complete),
         }
+    }
+
+    /// Finalizes the object of this number as a whole, over what waits: it has a record type with a controlled part (RM 7.6.1). There is
+    /// room, also for the frame of the object.
+    pub(crate) fn finalize_whole(
+        &mut self,
+        code: &Code,
+        number: u64,
+        finalization: Finalization,
+        doubles: Doubles,
+    )
+        ghost t: { Finished }
+        requires valid { IsValid code.now }
+        requires finishes { Finishes code.now self.old t }
+        requires base { BeginsOver finalization.base t }
+        requires room { HasRoom code.now self.old finalization.base }
+        requires control { vec_len self.old.control + 3 ≤ vec_capacity self.old.control }
+        requires spots { vec_len self.old.spots < vec_capacity self.old.spots }
+        requires doubles { AreDoubles doubles (T.whole_spot number) }
+        requires parts { Table.parts_of code.now finalization.record_type ≢ PartsOf.Plain }
+        ensures { Makes code.now self.old self.new (Table.finalize_object code.now (Table.parts_of code.now finalization.record_type) finalization.cause number finalization.record_type t.control t.world) }
+    {
+        self.control.push_reserved(Frame::Finalizing(number));
+        self.begin_finalization(number);
+        self.finalize_part(code, finalization, doubles);
     }
 
     /// Takes the newest frame off, with the part that it waits for.

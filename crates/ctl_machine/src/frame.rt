@@ -64,6 +64,14 @@ pub enum Value {
     Taken,
 }
 
+/// What becomes null where an object is freed: the variable of this slot in the master so many further out, or the newest part among those of
+/// the engine, which is the component (RM 13.11.2).
+#[derive(Clone, Copy)]
+pub enum Nulled {
+    Variable { out: usize, slot: usize },
+    Part,
+}
+
 /// What waits on the control stack.
 #[derive(Clone, Copy)]
 pub enum Frame {
@@ -92,6 +100,14 @@ pub enum Frame {
         place: usize,
         first: usize,
     },
+    /// an allocated object of this number, of a record type, has taken a value and is adjusted: those of its parts that are adjusted are noted
+    /// from `first` on; and the place where its allocator goes on (RM 4.8, 7.6)
+    AllocatingCopy {
+        object: u64,
+        record: usize,
+        place: usize,
+        first: usize,
+    },
     /// the newest part among those of the engine, of a record type, is created for an object of this owner: of the components of its type
     /// that begin with something, those that are left, and those that are not complete (RM 3.8, 7.6)
     Filling {
@@ -117,22 +133,23 @@ pub enum Frame {
         place: usize,
     },
     /// the components of the newest part that are still to be adjusted before it, of those of its record type with a controlled part, and
-    /// the master whose object is created by a copy, if one is (RM 7.6)
+    /// whose object is created by a copy, if one is (RM 7.6)
     Adjusting {
-        creation: Option<u64>,
+        creation: Option<Owner>,
         record: usize,
         left: Left,
     },
-    /// the Adjust of the newest part, of a record type, whether an Adjust before it failed, and the master whose object is created by a
-    /// copy, if one is (RM 7.6)
+    /// the Adjust of the newest part, of a record type, whether an Adjust before it failed, and whose object is created by a copy, if one
+    /// is (RM 7.6)
     AdjustingOwn {
-        creation: Option<u64>,
+        creation: Option<Owner>,
         record: usize,
         failed: bool,
     },
-    /// an Adjust of the newest owned object failed, and its parts that are noted from `first` on are finalized, which are adjusted
+    /// an Adjust of the object of this number failed, and its parts that are noted from `first` on are finalized, which are adjusted
     /// (RM 7.6.1)
     Undoing {
+        object: u64,
         first: usize,
     },
     /// the Finalize of the newest part, of a record type, which is one of those that are noted from `first` on (RM 7.6.1)
@@ -153,6 +170,13 @@ pub enum Frame {
         first: u64,
         last: u64,
         failed: bool,
+    },
+    /// the finalization of the object of this number, which is freed, what becomes null, and the place where that goes on
+    /// (RM 13.11.2)
+    Freeing {
+        object: u64,
+        nulled: Nulled,
+        place: usize,
     },
     /// the finalization of the object of this number
     Finalizing(u64),

@@ -4,6 +4,7 @@
 mod adjusting;
 mod advance;
 mod allocating;
+mod allocating_copy;
 mod assign;
 mod begin;
 mod calls;
@@ -18,6 +19,7 @@ mod failing;
 mod filling;
 mod finalizing;
 mod frame;
+mod freeing;
 mod handlers;
 mod holders;
 mod initialize;

@@ -1,9 +1,10 @@
 //! Instructions whose operand is a part of an object (RM 4.1, 4.1.3, 5.2): it is found, one of its components takes its place, or the value
-//! of one does, and a component takes a value.
+//! of one does, and a component takes a value; and access values that designate the object of one (RM 3.10.2).
 
 ghost use Rattle.std.specs.Prelude.{◌≡◌, ◌+◌, ◌^◌, ◌<◌, ℕ, IfNone, IfOk, IfSome, OnErr, OnOk, Some, slice_get};
 ghost use Rattle.ctl_code.specs.declared.code.Instr.TheVariants as InstrOf;
 ghost use Rattle.ctl_program.specs.declared.types.Ty.{Ty};
+ghost use Rattle.ctl_meaning.specs.Finalization.{Spot};
 ghost use Rattle.ctl_code.specs.Table as Table;
 ghost use Rattle.ctl_code.specs.States.{State};
 ghost use Rattle.ctl_code.specs.Valid.{IsValid};
@@ -28,6 +29,45 @@ impl Engine {
         match holder {
             Holder::Whole(object) => Ok(Spot::whole(self.alloc, object)),
             Holder::Bound(at) => self.formals[at].spot.copied(self.alloc),
+        }
+    }
+
+    /// Answers the number of the object that is held, or of which a part is.
+    fn number_of(&self, holder: Holder) -> u64
+        requires { IsThere self.now.formals.items holder }
+        ensures { (spot : Spot) × (found_in self.now.formals.items (Some holder) ≡ Some spot) × (result ≡ spot.object) }
+    {
+        match holder {
+            Holder::Whole(object) => object,
+            Holder::Bound(at) => self.formals[at].spot.object(),
+        }
+    }
+
+    /// Puts an access value that designates the object in this slot, and answers what comes next (RM 3.10.2); where there is none, the program
+    /// is erroneous (RM 13.11.2), and nothing changes.
+    pub(crate) fn designate_slot(
+        &mut self,
+        code: &Code,
+        out: usize,
+        slot: usize,
+        to: &Cell,
+        place: usize,
+    ) -> Option<usize>
+        ghost s: { State }
+        requires valid { IsValid code.now }
+        requires before { (ty : Ty) × Before code.now self.old place (InstrOf.Designate out slot ty to.now) s }
+        requires place { place + 1 < 2 ^ 64 }
+        ensures passed { (ty : Ty) → IfSome result (λ next. (self.new.mode ≡ ModeOf.At next) × Makes code.now self.old self.new (Table.by_instr code.now (Some (InstrOf.Designate out slot ty to.now)) s.operands (here_of place s))) }
+        ensures left { IfNone result (GoesOn self.old self.new self.old.mode self.old.cells.items) }
+        ensures gone { (ty : Ty) → IfNone result (Comes code.now self.new (ModeOf.Stopped StopOf.UseAfterFree) self.new.cells.items (Table.by_instr code.now (Some (InstrOf.Designate out slot ty to.now)) s.operands (here_of place s))) }
+    {
+        match self.holder_out(code, out, slot) {
+            Some(holder) => {
+                let object = self.number_of(holder);
+                self.put(object, to, place);
+                Some(place + 1)
+            }
+            None => None,
         }
     }
 

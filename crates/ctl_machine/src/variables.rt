@@ -59,7 +59,7 @@ impl Engine {
     }
 
     /// Reads such a variable; 0 where there is none.
-    fn read_variable(&self, code: &Code, out: usize, slot: usize) -> u64
+    pub(crate) fn read_variable(&self, code: &Code, out: usize, slot: usize) -> u64
         ghost s: { State }
         requires { Holds code.now (kept self.now) s.control s.operands s.world }
         ensures { result ≡ Table.cell_at (first_display (heads_of s.world.activations)) out slot s.world }
@@ -100,21 +100,20 @@ impl Engine {
         Mode::At(place + 1)
     }
 
-    /// Gives such a variable a value, and goes on behind this place; where there is none, nothing takes it.
-    fn give(&mut self, code: &Code, out: usize, slot: usize, value: u64, place: usize)
+    /// Gives such a variable a value, and goes on at this place; where there is none, nothing takes it.
+    pub(crate) fn give(&mut self, code: &Code, out: usize, slot: usize, value: u64, place: usize)
         ghost s: { State }
-        requires holds { Holds code.now (kept self.old) s.control s.operands s.world }
-        requires place { place + 1 < 2 ^ 64 }
-        ensures mode { self.new.mode ≡ ModeOf.At (place + 1) }
+        requires { Holds code.now (kept self.old) s.control s.operands s.world }
+        ensures mode { self.new.mode ≡ ModeOf.At place }
         ensures masters { reverse self.new.masters.items ≡ reverse self.old.masters.items }
-        ensures gives { Gives (first_display (heads_of s.world.activations)) out slot value (place + 1) self.old self.new }
+        ensures gives { Gives (first_display (heads_of s.world.activations)) out slot value place self.old self.new }
     {
         match self.variable(code, out, slot) {
             Some(cell) => {
                 self.cells[cell] = value;
-                self.mode = Mode::At(place + 1);
+                self.mode = Mode::At(place);
             }
-            None => self.mode = Mode::At(place + 1),
+            None => self.mode = Mode::At(place),
         }
     }
 
@@ -129,7 +128,7 @@ impl Engine {
         ensures makes { (ty : Ty) → Makes code.now self.old self.new (Table.by_instr code.now (Some (InstrOf.Store from.now ty out slot)) s.operands (here_of place s)) }
     {
         let value = self.take(from);
-        self.give(code, out, slot, value, place);
+        self.give(code, out, slot, value, place + 1);
     }
 
     /// Gives a variable what a copy holds, the last of so many operands, in this cell, which stays; where there is no such variable, nothing
@@ -153,7 +152,7 @@ impl Engine {
     {
         let _ = depth;
         let value = self.cells[self.window() + at];
-        self.give(code, out, slot, value, place);
+        self.give(code, out, slot, value, place + 1);
     }
 
     /// Executes this instruction, which stands at this place and reaches a variable by its slot.

@@ -3,7 +3,7 @@ use Rattle.std.proofs.Common.{◌≡◌, ℕ, ◌+◌, ◌<◌, ◌≤◌, List,
 use Rattle.std.specs.Prelude.{nat_eq}
 use Rattle.std.specs.List.{AllByRecursion}
 use Rattle.ctl_meaning.specs.World.{Origin, Declared, Allocated, Object}
-use Rattle.ctl_meaning.specs.Lists.{keep, opened_lists}
+use Rattle.ctl_meaning.specs.Lists.{change_first, keep, opened_lists}
 use Rattle.ctl_meaning.specs.Objects.{change_in, opened_objects}
 use Rattle.ctl_objects.specs.Order.{AreBelow, AreUpTo, IsUpTo}
 use Rattle.ctl_objects.proofs.Rising.{KeepsNumbers}
@@ -24,6 +24,15 @@ all_changed P n f keeps (o ∷ os) h = (by (nat_eq o.number n), all_changed P n 
     by : (b : Bool) → P (cond b (f o) o)
     by true = keeps o h.0
     by false = h.0
+
+pub all_first : (P : Object → Type 0) (p : Object → Bool) (f : Object → Object) → ((o : Object) → P o → P (f o)) → (os : List Object) → AllByRecursion P os → AllByRecursion P (change_first p f os)
+unfolding opened_lists
+all_first P p f keeps [] h = tt
+all_first P p f keeps (o ∷ os) h = by (all_first P p f keeps os h.1) (p o)
+  where
+    by : AllByRecursion P (change_first p f os) → (b : Bool) → AllByRecursion P (cond b (f o ∷ os) (o ∷ change_first p f os))
+    by rest true = (keeps o h.0, h.1)
+    by rest false = (h.0, rest)
 
 pub all_kept : (P : Object → Type 0) (p : Object → Bool) (os : List Object) → AllByRecursion P os → AllByRecursion P (keep p os)
 unfolding opened_lists
@@ -54,6 +63,12 @@ pub numbered_changed : (next m n : ℕ) (f : Object → Object) (os : List Objec
 numbered_changed next m n f os numbers origins h = (
   all_changed (λ o. o.number < next) n f (λ o below. let same = numbers o in omega (arith, same, below)) os h.0,
   all_changed (λ o. IsUpTo m o.origin) n f (λ o up. subst (λ x. IsUpTo m x) (sym (origins o)) up) os h.1,
+)
+
+pub numbered_first : (next m : ℕ) (p : Object → Bool) (f : Object → Object) (os : List Object) → KeepsNumbers f → ((o : Object) → (f o).origin ≡ o.origin) → AreNumbered next m os → AreNumbered next m (change_first p f os)
+numbered_first next m p f os numbers origins h = (
+  all_first (λ o. o.number < next) p f (λ o below. let same = numbers o in omega (arith, same, below)) os h.0,
+  all_first (λ o. IsUpTo m o.origin) p f (λ o up. subst (λ x. IsUpTo m x) (sym (origins o)) up) os h.1,
 )
 
 pub numbered_kept : (next m : ℕ) (p : Object → Bool) (os : List Object) → AreNumbered next m os → AreNumbered next m (keep p os)

@@ -25,7 +25,8 @@ use Rattle.ctl_objects.specs.declared.existing.Step.TheVariants as StepOf
 use Rattle.ctl_objects.specs.Order.{AreBelow}
 use Rattle.ctl_objects.specs.Stages.{ended, start, state_of, with_step}
 use Rattle.ctl_objects.specs.Sets.{is_member}
-use Rattle.ctl_objects.specs.InStore.{AreStored, IsStored, allocated, moved, seen, words_written}
+use Rattle.ctl_objects.specs.Existing.{bare}
+use Rattle.ctl_objects.specs.InStore.{AreStored, IsBare, IsStored, allocated, bare_of, moved, seen, words_written}
 use Rattle.ctl_objects.proofs.Found.{length_set}
 use Rattle.ctl_objects.proofs.Laid.{get_dropped as cell_dropped, overwritten_is, scalar_first}
 use Rattle.ctl_objects.proofs.Rising.{KeepsNumbers, in_none, kept_one, none_above, same_objects}
@@ -58,6 +59,14 @@ found_here os s n a there = in_seen os s n ∙ ap (option_map (λ a. allocated n
 
 pub found_none : (os : Objects) (s : Store) (n : ℕ) → get os n ≡ None → object_in n (seen os s) ≡ None
 found_none os s n none = in_seen os s n ∙ ap (option_map (λ a. allocated n a (words_of n s))) none
+
+-- the object but for its cells
+pub bare_stored : (os : Objects) (s : Store) (n : ℕ) (r : Option Allocation) → r ≡ get os n → IsBare n r (seen os s)
+bare_stored os s n r is = by r ∙ ap (option_map bare) (ap (option_map (λ a. allocated n a (words_of n s))) is ∙ sym (in_seen os s n))
+  where
+    by : (o : Option Allocation) → option_map (bare_of n) o ≡ option_map bare (option_map (λ a. allocated n a (words_of n s)) o)
+    by None = refl
+    by (Some a) = refl
 
 -- whether it is of a collection
 pub member_stored : (os : Objects) (s : Store) (n set : ℕ) (r : Option Allocation) → r ≡ get os n → is_member set n (seen os s) ≡ option_map_or (λ a. nat_eq a.collection set) r false

@@ -9,5 +9,8 @@ pub mod Both
 pub mod Runs
 pub mod Conditions
 pub mod Apart
-pub mod Members
+pub mod Filed
+pub mod Waits
+pub mod Grouped
+pub mod Moved
 pub mod Counted

@@ -1,12 +1,11 @@
 -- Objects that are listed for their collections, and no others: what is listed first, and how the list changes.
 use Rattle.std.proofs.Common.{◌≡◌, ◌≢◌, ◌∙◌, ℕ, ◌<◌, ◌≤◌, List, [], ◌∷◌, ◌++◌, Option, Some, None, Bool, true, false, cond, refl, sym, ap, arith, subst, length}
-use Rattle.std.specs.Prelude.{nat_eq, nat_lt, not, IfSome, ◌&&◌, ◌||◌, slice_get}
+use Rattle.std.specs.Prelude.{nat_eq, not, IfSome, ◌&&◌, ◌||◌, slice_get}
 use Rattle.std.specs.List.{list_any}
 use Rattle.std.specs.Option.{option_map, option_map_or, option_or}
 use Rattle.std.specs.Ordering.{is_eq, is_gt}
-use Rattle.std.specs.declared.cmp.Ordering.TheVariants.{Less}
 use Rattle.std.specs.declared.ops.Bound.{Bound}
-use Rattle.std.specs.declared.ops.Bound.TheVariants.{Included, Excluded, Unbounded}
+use Rattle.std.specs.declared.ops.Bound.TheVariants.{Included, Unbounded}
 use Rattle.std.specs.BTreeSet.{IsKeyInRange, IsKeyRangeOf, Updates}
 use Rattle.std.specs.BTreeMap.Range.{IsLeBy}
 use Rattle.std.proofs.lemmas.Bool.Decides.{nat_tests}
@@ -15,27 +14,13 @@ use Rattle.ctl_meaning.specs.World.{Origin, Declared, Allocated, Place, Object}
 use Rattle.ctl_meaning.specs.Lists.{contains, keep, opened_lists}
 use Rattle.ctl_meaning.specs.Objects.{change_in, ends_with_master, is_of_set, object_in, opened_objects}
 use Rattle.ctl_objects.specs.Order.{AreBelow, IsAllocated, Rise}
-use Rattle.ctl_objects.specs.Sets.{AreBehind, AreListed, IsFirstListed, IsListedAs, IsNextOf, Sets, is_listed, is_member, is_of_sets, pair_cmp}
+use Rattle.ctl_objects.specs.Sets.{AreListed, IsFirstListed, IsListedAs, Sets, is_listed, is_member, is_of_sets, pair_cmp}
 use Rattle.ctl_objects.proofs.Rising.{KeepsNumbers, in_change, in_keep, in_more, in_newest, in_none, keep_more, keep_none, kept_one, none_above, number_found, rise_change, rise_keep, rise_newest, same_objects}
 
 -- The order of what is listed ------------------------------------------------------------------------------
 
 same_pair : (a b c d : ℕ) → is_eq (pair_cmp (a, b) (c, d)) ≡ (nat_eq a c && nat_eq b d)
 same_pair a b c d = grind (arith, nat_tests)
-
-behind_less : (a b c d : ℕ) → pair_cmp (a, b) (c, d) ≡ Less → AreBehind a b c d
-behind_less a b c d less = (grind (arith, nat_tests, less), λ same. grind (arith, nat_tests, less, same))
-
-less_behind : (a b c d : ℕ) → AreBehind a b c d → pair_cmp (a, b) (c, d) ≡ Less
-less_behind a b c d behind = by (nat_lt a c) refl
-  where
-    by : (t : Bool) → nat_lt a c ≡ t → pair_cmp (a, b) (c, d) ≡ Less
-    by true is = grind (arith, nat_tests, is)
-    by false is =
-        let first = behind.0 in
-        let same : c ≡ a = grind (arith, nat_tests, is, first) in
-        let second : b < d = behind.1 same in
-        grind (arith, nat_tests, same, second)
 
 not_greater : (a b c d : ℕ) → is_gt (pair_cmp (a, b) (c, d)) ≡ false → (a ≤ c) × (c ≡ a → b ≤ d)
 not_greater a b c d is = (grind (arith, nat_tests, is), λ same. grind (arith, nat_tests, is, same))
@@ -63,15 +48,6 @@ none_of_range start s r range is = λ c k from. range.5 is (c, k) (from, tt)
 is_false : (b : Bool) → (b ≡ true → ⊥) → b ≡ false
 is_false true never = absurd (never refl)
 is_false false never = refl
-
--- what is listed behind others
-pub next_of : (os : List Object) (s : Sets) (set n : ℕ) (r : Option (ℕ × ℕ)) → AreListed os s → IsFirstListed (Excluded (set, n)) r s → IsNextOf set n r os
-next_of os s set n None h first = λ c k behind. sym (h.members c k) ∙ first c k (less_behind set n c k behind)
-next_of os s set n (Some f) h first = (
-  behind_less set n f.0 f.1 first.0,
-  sym (h.members f.0 f.1) ∙ first.1,
-  λ c k behind is. not_greater f.0 f.1 c k (first.2 c k (less_behind set n c k behind) (h.members c k ∙ is)),
-)
 
 -- a collection has no object
 pub no_member : (os : List Object) (s : Sets) (set : ℕ) → AreListed os s → IsFirstListed (Included (set, 0)) None s → (n : ℕ) → is_member set n os ≡ false
@@ -239,7 +215,7 @@ all_outside os set rise none = same_objects 0 os (keep (outside set) os) rise (r
     by None is = refl
     by (Some z) is = ap (λ b. cond (not b) (Some z) None) (sym is)
 
-no_more : (p : Object → Bool) (os : List Object) → length (keep p os) ≤ length os
+pub no_more : (p : Object → Bool) (os : List Object) → length (keep p os) ≤ length os
 no_more p [] = subst (λ l. length l ≤ 0) (sym (keep_none p)) (omega arith)
 no_more p (o ∷ os) = subst (λ l. length l ≤ length (o ∷ os)) (sym (keep_more p o os)) (by (no_more p os) (p o))
   where

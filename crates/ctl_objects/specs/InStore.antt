@@ -4,14 +4,25 @@ use Rattle.std.specs.Ordering.{nat_cmp}
 use Rattle.std.specs.FinMap.{FinMap, entries, get}
 use Rattle.pool_store.specs.Entries.{Stored}
 use Rattle.pool_store.specs.Store.{Store, with_word, words_of}
+use Rattle.std.specs.Option.{option_map}
 use Rattle.ctl_meaning.specs.World as W
+use Rattle.ctl_meaning.specs.Objects.{object_in}
 use Rattle.ctl_objects.specs.declared.stored.Allocation.{Allocation}
 use Rattle.ctl_objects.specs.declared.existing.Step.{Step}
+use Rattle.ctl_objects.specs.Existing.{bare}
 use Rattle.ctl_objects.specs.Stages.{after, state_of}
 
 -- an object of this number with these cells
 abbrev pub allocated : ℕ → Allocation → List ℕ → W.Object
 allocated n a cells = record { number = n; ty = a.ty; cells = cells; state = state_of a.stage.life; origin = W.Allocated a.collection W.Standard; joined = a.stage.has_joined }
+
+-- without its cells
+abbrev pub bare_of : ℕ → Allocation → W.Object
+bare_of n a = allocated n a []
+
+-- an allocated object but for its cells is the object of a number, where there is one
+abbrev pub IsBare : ℕ → Option Allocation → List W.Object → Type 0
+IsBare n a os = let found : Option W.Object = option_map (bare_of n) a in found ≡ option_map bare (object_in n os)
 
 -- the objects in the order of their numbers
 unfoldable pub seen : FinMap nat_cmp Allocation → Store → List W.Object

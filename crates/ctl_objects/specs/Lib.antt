@@ -6,3 +6,5 @@ pub mod Stages
 pub mod InStore
 pub mod Sets
 pub mod Members
+pub mod Groups
+pub mod Filed

@@ -1,5 +1,5 @@
 -- Which objects are listed for each collection.
-use Rattle.std.specs.Prelude.{◌≡◌, ◌<◌, ◌≤◌, ℕ, List, Option, Bool, true, false, ◌&&◌, nat_eq, IfSome, MatchOption, if◌then◌else◌}
+use Rattle.std.specs.Prelude.{◌≡◌, ℕ, List, Option, Bool, true, false, ◌&&◌, nat_eq, IfSome, MatchOption, if◌then◌else◌}
 use Rattle.std.specs.Option.{option_map_or}
 use Rattle.std.specs.Ordering.{nat_cmp, ordering_then}
 use Rattle.std.specs.declared.cmp.Ordering.{Ordering}
@@ -40,15 +40,6 @@ pub record AreListed (os : List Object) (sets : Sets) : Type 0 where
   pub rise : Rise 0 os
   pub allocated : (n : ℕ) → IfSome (object_in n os) (λ o. IsAllocated o.origin)
   pub members : (set n : ℕ) → is_listed set n sets ≡ is_member set n os
-
--- a collection and a number come behind others
-abbrev pub AreBehind : ℕ → ℕ → ℕ → ℕ → Type 0
-AreBehind set n c k = (set ≤ c) × (c ≡ set → n < k)
-
--- the first collection and number of an object behind others
-abbrev pub IsNextOf : ℕ → ℕ → Option (ℕ × ℕ) → List Object → Type 0
-IsNextOf set n r os = MatchOption r ((c k : ℕ) → AreBehind set n c k → is_member c k os ≡ false)
-    (λ f. AreBehind set n f.0 f.1 × (is_member f.0 f.1 os ≡ true) × ((c k : ℕ) → AreBehind set n c k → is_member c k os ≡ true → (f.0 ≤ c) × (c ≡ f.0 → f.1 ≤ k)))
 
 -- an origin in one of these collections
 abbrev pub is_of_sets : List ℕ → Origin → Bool

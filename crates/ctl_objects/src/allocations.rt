@@ -1,6 +1,6 @@
 //! The allocated objects, which come and go in any order, or with their collection.
 
-ghost use Rattle.std.specs.Prelude.{◌≡◌, ◌+◌, ◌++◌, ◌∷◌, [], ℕ, List, IfSome, IsNone, OnOk, OnErr, replicate, is_some, nat_eq, not, true, vec_capacity, vec_len, ◌≤◌};
+ghost use Rattle.std.specs.Prelude.{◌≡◌, ◌+◌, ◌<◌, ◌^◌, ◌++◌, ◌∷◌, [], ℕ, List, IfSome, IsNone, OnOk, OnErr, length, replicate, is_some, nat_eq, not, true, vec_capacity, vec_len, ◌≤◌};
 ghost use Rattle.std.specs.Option.{option_map, option_map_or};
 ghost use Rattle.ctl_meaning.specs.World as W;
 ghost use Rattle.ctl_meaning.specs.Lists.{keep};
@@ -8,37 +8,40 @@ ghost use Rattle.ctl_meaning.specs.Names.{scalar_of};
 ghost use Rattle.ctl_meaning.specs.Objects.{cells_at, change_in, ends_with_master, is_of_set, object_in, with_cells};
 ghost use Rattle.ctl_meaning.specs.Changes.{new_object};
 ghost use Rattle.ctl_objects.specs.Existing.{IsKnown};
-ghost use Rattle.ctl_objects.specs.Members.{IsLeast, is_behind, lower, passes};
+ghost use Rattle.ctl_objects.specs.Groups.{IsNextGroup, is_open, is_waiting};
+ghost use Rattle.ctl_objects.specs.Members.{IsGreatest, IsLeast, passes};
 ghost use Rattle.ctl_objects.specs.Order.{AreBelow, Rise};
-ghost use Rattle.ctl_objects.specs.Sets.{IsNextOf, is_member, is_of_sets};
+ghost use Rattle.ctl_objects.specs.Sets.{is_member, is_of_sets};
 ghost use Rattle.ctl_objects.specs.Stages.{with_step};
 
-use crate::existing::{Existing, Step};
+use crate::existing::{Existing, Stage, Step};
+use crate::groups::{Group, Groups, Start, Waiting};
 use crate::sets::{Sets, first_listed, list_object, unlist_object};
-use crate::stored::StoredObjects;
+use crate::stored::{Allocation, StoredObjects};
 use ctl_program::types::Ty;
 use std::alloc::{AllocError, Global};
 use std::collections::BTreeSet;
 use std::marker::Model;
 use std::ops::Bound;
 
-/// The allocated objects with the collections that they belong to, which contracts see as a list of
-/// the meaning's objects. It ends by `close`.
+/// The allocated objects with the collections that they belong to, and in groups of one collection
+/// and record type, which contracts see as a list of the meaning's objects. It ends by `close`.
 pub struct Allocations {
     objects: StoredObjects,
     sets: Sets,
+    groups: Groups,
 }
 
 impl Model for Allocations {
     ghost use Rattle.std.specs.Prelude.{List};
     ghost use Rattle.ctl_meaning.specs.World.{Object};
-    ghost use Rattle.ctl_objects.specs.Sets.{AreListed};
+    ghost use Rattle.ctl_objects.specs.Filed.{AreFiled};
 
     ghost Value = { List Object };
 
     ghost view = { λ a. a.objects };
 
-    ghost invariant = { λ a. AreListed a.objects a.sets };
+    ghost invariant = { λ a. AreFiled a.objects a.sets a.groups };
 }
 
 impl Allocations {
@@ -49,6 +52,7 @@ impl Allocations {
         Allocations {
             objects: StoredObjects::new(alloc),
             sets: BTreeSet::new(alloc),
+            groups: Groups::new(alloc),
         }
     }
 
@@ -68,10 +72,22 @@ impl Allocations {
         ensures ok { OnOk result (self.new ≡ self.old ++ new_object number ty (replicate cells 0) (W.Allocated collection W.Standard) ∷ []) }
         ensures err { OnErr result (self.new ≡ self.old) }
     {
+        self.are_few();
+        let object = Allocation {
+            ty,
+            collection,
+            cells,
+            stage: Stage::start(),
+        };
         list_object(&mut self.sets, collection, number)?;
+        if let Err(refused) = self.groups.add(number, &object) {
+            unlist_object(&mut self.sets, collection, number);
+            return Err(refused);
+        }
         match self.objects.add(number, ty, collection, cells) {
             Ok(()) => Ok(()),
             Err(refused) => {
+                self.groups.leave(number, &object);
                 unlist_object(&mut self.sets, collection, number);
                 Err(refused)
             }
@@ -129,16 +145,30 @@ impl Allocations {
         ensures exists { result ≡ is_some (object_in number self.old) }
         ensures stepped { self.new ≡ change_in number (with_step step) self.old }
     {
-        self.objects.step(number, step)
+        self.are_few();
+        let Some(before) = self.objects.step(number, step) else {
+            return false;
+        };
+        self.groups.follow(number, &before, step);
+        true
     }
 
     /// Forgets an object, where it exists (RM 13.11.2).
     pub fn forget(&mut self, number: u64)
         ensures { self.new ≡ keep (λ o. not (nat_eq o.number number)) self.old }
     {
-        if let Some(collection) = self.objects.remove(number) {
-            unlist_object(&mut self.sets, collection, number);
+        self.are_few();
+        if let Some(object) = self.objects.remove(number) {
+            unlist_object(&mut self.sets, object.collection, number);
+            self.groups.leave(number, &object);
         }
+    }
+
+    /// Says that they are not too many to be counted.
+    fn are_few(&self)
+        ensures { length self.now < 2 ^ 63 }
+    {
+        let _ = self.sets.len();
     }
 
     /// Forgets the objects of these collections (RM 7.6.1). It takes time in how many they are.
@@ -179,37 +209,83 @@ impl Allocations {
         }
     }
 
-    /// Answers the number of the first object behind this number that was allocated for a
-    /// collection between two (RM 7.6.1). It looks twice at each collection between them that has
-    /// an object, and takes time in the logarithm of the number of objects each time.
-    pub fn next_member(&self, first: u64, last: u64, after: u64) -> Option<u64>
-        ensures { IsLeast (λ n. passes (is_behind first last after) n self.now ≡ true) result }
+    /// Answers the next group up to a collection, from a start on, with how many of its objects are
+    /// still to be finalized (RM 7.6.1). It takes time in the logarithm of the number of objects.
+    pub fn next_group(&self, start: Start, last: u64) -> Option<Waiting>
+        ensures next { IsNextGroup start last result self.now }
+        ensures few { length self.now < 2 ^ 63 }
     {
-        let mut least = None;
-        let mut collection = first;
-        while let Some((found, number)) = self.next_listed(collection, after) {
-            if found > last {
-                return least;
-            }
-            if number <= after {
-                // It is the first one of its collection: another one may be behind the number.
-                collection = found;
-            } else {
-                least = Some(lower(least, number));
-                if found == last {
-                    return least;
-                }
-                collection = found + 1;
-            }
-        }
-        least
+        self.are_few();
+        self.groups.next(start, last)
     }
 
-    /// Answers the first collection and number of an object behind these.
-    fn next_listed(&self, collection: u64, number: u64) -> Option<(u64, u64)>
-        ensures { IsNextOf collection number result self.now }
+    /// Answers the first object of a group that is still to be finalized. It takes time in the
+    /// logarithm of the number of objects, once more for each object before it that has not joined
+    /// its collection.
+    pub fn first_waiting(&self, group: Group) -> Option<u64>
+        ensures { IsLeast (λ n. passes (is_waiting group) n self.now ≡ true) result }
     {
-        first_listed(&self.sets, Bound::Excluded((collection, number)))
+        self.are_numbered();
+        let mut start = 0;
+        while let Some(number) = self.open_from(group, start) {
+            if self.has_joined(number) {
+                return Some(number);
+            }
+            if number == u64::MAX {
+                return None;
+            }
+            start = number + 1;
+        }
+        None
+    }
+
+    /// Answers the last object of a group that is still to be finalized, in the same time.
+    pub fn last_waiting(&self, group: Group) -> Option<u64>
+        ensures { IsGreatest (λ n. passes (is_waiting group) n self.now ≡ true) result }
+    {
+        self.are_numbered();
+        let mut end = u64::MAX;
+        while let Some(number) = self.open_to(group, end) {
+            if self.has_joined(number) {
+                return Some(number);
+            }
+            if number == 0 {
+                return None;
+            }
+            end = number - 1;
+        }
+        None
+    }
+
+    /// Answers the first object of a group, from a number on, whose finalization has not begun.
+    fn open_from(&self, group: Group, start: u64) -> Option<u64>
+        ensures { IsLeast (λ n. (start ≤ n) × (passes (is_open group) n self.now ≡ true)) result }
+    {
+        self.groups.member_from(group, start)
+    }
+
+    /// Answers the last object of a group, up to a number, whose finalization has not begun.
+    fn open_to(&self, group: Group, end: u64) -> Option<u64>
+        ensures { IsGreatest (λ n. (n ≤ end) × (passes (is_open group) n self.now ≡ true)) result }
+    {
+        self.groups.member_to(group, end)
+    }
+
+    /// Answers whether an object has joined its collection.
+    fn has_joined(&self, number: u64) -> bool
+        ensures { result ≡ passes (λ o. o.joined) number self.now }
+    {
+        match self.objects.find(number) {
+            Some(existing) => existing.stage.has_joined,
+            None => false,
+        }
+    }
+
+    /// Says that no number is too great.
+    fn are_numbered(&self)
+        ensures { AreBelow (2 ^ 64) self.now }
+    {
+        let _ = &self.sets;
     }
 
     /// Frees all memory.
@@ -217,17 +293,8 @@ impl Allocations {
         let Allocations {
             objects,
             sets: _sets,
+            groups: _groups,
         } = self;
         objects.close();
-    }
-}
-
-/// Answers the lower of these numbers, where there are two.
-fn lower(least: Option<u64>, number: u64) -> u64
-    ensures { result ≡ lower least number }
-{
-    match least {
-        Some(other) if other < number => other,
-        _ => number,
     }
 }

@@ -6,11 +6,13 @@ mod allocations;
 mod cells;
 mod declarations;
 mod existing;
+mod groups;
 mod object_list;
 mod sets;
 mod stored;
 
 pub use existing::{Existing, Life, Origin, Stage};
+pub use groups::{Group, Start, Waiting};
 pub use object_list::Objects;
 
 #[cfg(test)]

@@ -1,22 +1,24 @@
 //! All objects that exist, declared and allocated ones.
 
-ghost use Rattle.std.specs.Prelude.{◌≡◌, ◌≢◌, ◌+◌, ◌≤◌, ◌++◌, ◌∷◌, [], IfSome, OnOk, OnErr, replicate, is_some, nat_eq, not, vec_capacity, vec_len};
+ghost use Rattle.std.specs.Prelude.{◌≡◌, ◌≢◌, ◌+◌, ◌<◌, ◌≤◌, ◌^◌, ◌++◌, ◌∷◌, [], IfSome, OnOk, OnErr, length, replicate, is_some, nat_eq, not, true, vec_capacity, vec_len};
 ghost use Rattle.std.specs.Option.{option_map, option_map_or};
 ghost use Rattle.ctl_program.specs.declared.types.Ty.TheVariants.{Record};
 ghost use Rattle.ctl_meaning.specs.World as W;
-ghost use Rattle.ctl_meaning.specs.Lists.{change_first, first_with, keep};
+ghost use Rattle.ctl_meaning.specs.Lists.{change_first, keep};
 ghost use Rattle.ctl_meaning.specs.Names.{scalar_of};
 ghost use Rattle.ctl_meaning.specs.Objects.{cells_at, change_in, ends_with_master, object_in, with_begun, with_cells, with_finalized, with_joined};
 ghost use Rattle.ctl_meaning.specs.Changes.{new_object};
 ghost use Rattle.ctl_objects.specs.Copies.{copied};
 ghost use Rattle.ctl_objects.specs.Existing.{IsKnown};
-ghost use Rattle.ctl_objects.specs.Members.{is_behind};
+ghost use Rattle.ctl_objects.specs.Groups.{IsNextGroup, is_allocated, is_waiting};
+ghost use Rattle.ctl_objects.specs.Members.{IsGreatest, IsLeast, passes};
 ghost use Rattle.ctl_objects.specs.Order.{AreBelow, AreUpTo, IsAllocated, Rise};
 ghost use Rattle.ctl_objects.specs.Stages.{with_step};
 
 use crate::allocations::Allocations;
 use crate::declarations::Declarations;
 use crate::existing::{Existing, Step};
+use crate::groups::{Group, Start, Waiting};
 use ctl_program::types::Ty;
 use std::alloc::{AllocError, Global};
 use std::marker::Model;
@@ -249,15 +251,34 @@ impl Objects {
         self.allocated.forget(number);
     }
 
-    /// Answers the number of the first object behind this number that was allocated for a
-    /// collection between two (RM 7.6.1). It takes time in the number of the collections between
-    /// them that have an object, and for each of them in the logarithm of the number of allocated
-    /// objects.
-    pub fn next_member(&self, first: u64, last: u64, after: u64) -> Option<u64>
-        ensures { result ≡ option_map (λ o. o.number) (first_with (is_behind first last after) self.now) }
+    /// Answers the next group up to a collection, from a start on, that has an object whose
+    /// finalization has not begun, and how many of its objects are still to be finalized (RM
+    /// 7.6.1). It takes time in the logarithm of the number of allocated objects.
+    pub fn next_group(&self, start: Start, last: u64) -> Option<Waiting>
+        ensures next { IsNextGroup start last result self.now }
+        ensures few { length (keep (λ o. is_allocated o.origin) self.now) < 2 ^ 63 }
     {
         self.declared.are_declared();
-        self.allocated.next_member(first, last, after)
+        self.allocated.next_group(start, last)
+    }
+
+    /// Answers the number of the first object of a group that is still to be finalized. It takes
+    /// time in the logarithm of the number of allocated objects, once more for each object of the
+    /// group before it that has not joined its collection.
+    pub fn first_waiting(&self, group: Group) -> Option<u64>
+        ensures { IsLeast (λ n. passes (is_waiting group) n self.now ≡ true) result }
+    {
+        self.declared.are_declared();
+        self.allocated.first_waiting(group)
+    }
+
+    /// Answers the number of the last object of a group that is still to be finalized, in the same
+    /// time.
+    pub fn last_waiting(&self, group: Group) -> Option<u64>
+        ensures { IsGreatest (λ n. passes (is_waiting group) n self.now ≡ true) result }
+    {
+        self.declared.are_declared();
+        self.allocated.last_waiting(group)
     }
 
     /// Forgets the objects of a master and those of its collections, these (RM 7.6.1): no declared

@@ -1,7 +1,8 @@
 //! Which objects were allocated for each collection, in the order of their numbers.
 
-ghost use Rattle.std.specs.Prelude.{◌≡◌, OnErr, OnOk, false, true};
-ghost use Rattle.ctl_objects.specs.Sets.{IsFirstListed, IsListedAs};
+ghost use Rattle.std.specs.Prelude.{◌≡◌, ◌+◌, OnErr, OnOk, false, true, if◌then◌else◌};
+ghost use Rattle.std.specs.BTreeSet.{btree_set_len};
+ghost use Rattle.ctl_objects.specs.Sets.{IsFirstListed, IsListedAs, is_listed};
 
 use std::alloc::AllocError;
 use std::collections::BTreeSet;
@@ -18,6 +19,7 @@ pub(crate) type Sets = BTreeSet<(u64, u64)>;
 /// `AllocError` where the allocator refuses the memory. Nothing changes then.
 pub(crate) fn list_object(sets: &mut Sets, collection: u64, number: u64) -> Result<(), AllocError>
     ensures ok { OnOk result (IsListedAs true collection number sets.old sets.new) }
+    ensures len { OnOk result (btree_set_len sets.new + (if is_listed collection number sets.old then 1 else 0) ≡ btree_set_len sets.old + 1) }
     ensures err { OnErr result (sets.new.keys ≡ sets.old.keys) }
 {
     let _ = sets.insert((collection, number))?;
@@ -26,7 +28,8 @@ pub(crate) fn list_object(sets: &mut Sets, collection: u64, number: u64) -> Resu
 
 /// Takes an object from the list of a collection, in the same time.
 pub(crate) fn unlist_object(sets: &mut Sets, collection: u64, number: u64)
-    ensures { IsListedAs false collection number sets.old sets.new }
+    ensures gone { IsListedAs false collection number sets.old sets.new }
+    ensures len { btree_set_len sets.new + (if is_listed collection number sets.old then 1 else 0) ≡ btree_set_len sets.old }
 {
     let _ = sets.remove(&(collection, number));
 }

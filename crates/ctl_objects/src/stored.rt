@@ -9,7 +9,7 @@ ghost use Rattle.ctl_meaning.specs.Objects.{cells_at, change_in, first_cells, ob
 ghost use Rattle.ctl_meaning.specs.Changes.{new_object};
 ghost use Rattle.pool_store.specs.Store.{with_word, words_of};
 ghost use Rattle.ctl_objects.specs.Existing.{IsKnown};
-ghost use Rattle.ctl_objects.specs.InStore.{words_written};
+ghost use Rattle.ctl_objects.specs.InStore.{IsBare, words_written};
 ghost use Rattle.ctl_objects.specs.Order.{AreBelow};
 ghost use Rattle.ctl_objects.specs.Sets.{is_member};
 ghost use Rattle.ctl_objects.specs.Stages.{with_step};
@@ -169,30 +169,28 @@ impl StoredObjects {
         }
     }
 
-    /// Takes a step of an object. It answers whether the object exists.
-    pub fn step(&mut self, number: u64, step: Step) -> bool
-        ensures exists { result ≡ is_some (object_in number self.old) }
+    /// Takes a step of an object. It answers what it was before, where it exists.
+    pub fn step(&mut self, number: u64, step: Step) -> Option<Allocation>
+        ensures before { IsBare number result self.old }
         ensures stepped { self.new ≡ change_in number (with_step step) self.old }
     {
         let Some(object) = self.objects.get_mut(number) else {
-            return false;
+            return None;
         };
+        let before = *object;
         object.stage = object.stage.after(step);
-        true
+        Some(before)
     }
 
-    /// Removes an object, with its cells. It answers the collection that it was allocated for,
-    /// where it existed.
-    pub fn remove(&mut self, number: u64) -> Option<u64>
-        ensures collection { (set : ℕ) → is_member set number self.old ≡ option_map_or (λ c. nat_eq c set) result false }
+    /// Removes an object, with its cells. It answers what it was, where it existed.
+    pub fn remove(&mut self, number: u64) -> Option<Allocation>
+        ensures before { IsBare number result self.old }
+        ensures collection { (set : ℕ) → is_member set number self.old ≡ option_map_or (λ a. nat_eq a.collection set) result false }
         ensures gone { self.new ≡ keep (λ o. not (nat_eq o.number number)) self.old }
     {
         let removed = self.objects.remove(number);
         let _ = self.store.vacate(number);
-        match removed {
-            Some(object) => Some(object.collection),
-            None => None,
-        }
+        removed
     }
 
     /// Frees all memory.

@@ -1,6 +1,6 @@
 //! Declared and allocated objects side by side, by a caller that numbers them as they come.
 
-use crate::{Existing, Life, Objects, Origin, Stage};
+use crate::{Existing, Group, Life, Objects, Origin, Stage, Start};
 use ctl_program::types::Ty;
 use std::alloc::Global;
 use std::marker::Model;
@@ -50,21 +50,49 @@ impl Numbered {
         }
     }
 
-    /// Allocates an object, and answers its number, 0 where that fails.
+    /// Allocates an integer, and answers its number, 0 where that fails.
     fn allocate(&mut self, collection: u64, cells: usize) -> u64 {
+        self.allocate_as(Ty::Integer, collection, cells)
+    }
+
+    /// Allocates an object of this type, and answers its number, 0 where that fails.
+    fn allocate_as(&mut self, ty: Ty, collection: u64, cells: usize) -> u64 {
         if self.next == u64::MAX {
             return 0;
         }
         let number = self.next;
-        match self
-            .objects
-            .allocate(number, Ty::Integer, collection, cells)
-        {
+        match self.objects.allocate(number, ty, collection, cells) {
             Ok(()) => {
                 self.next = number + 1;
                 number
             }
             Err(_refused) => 0,
+        }
+    }
+
+    /// Lets an object join its collection, where it exists.
+    fn join(&mut self, number: u64) {
+        self.objects.join(number);
+    }
+
+    /// Begins the finalization of an object, where it exists.
+    fn begin(&mut self, number: u64) {
+        self.objects.begin_finalization(number);
+    }
+
+    /// The next group up to a collection, from a start on, as its collection and record type, how
+    /// many of its objects are still to be finalized, and the first and the last of these: 100 for
+    /// what there is not.
+    fn group(&self, start: Start, last: u64) -> [u64; 5] {
+        match self.objects.next_group(start, last) {
+            Some(waiting) => [
+                waiting.group.collection,
+                waiting.group.record_type as u64,
+                waiting.count as u64,
+                self.objects.first_waiting(waiting.group).unwrap_or(100),
+                self.objects.last_waiting(waiting.group).unwrap_or(100),
+            ],
+            None => [100; 5],
         }
     }
 
@@ -162,50 +190,60 @@ fn objects_stand_side_by_side(rt: HostRuntime) {
     assert_eq!(rt; left, [11, 100, 100, 100]);
 }
 
-/// Allocates objects 1, 4 and 6 for collection 7, 2 and 5 for collection 5, and 3 for collection 9.
+/// Allocates objects 1, 4 and 6 of record type 7 and 5 of record type 8 for collection 5, 2 of
+/// record type 7 for collection 6, and 3, which is no record, for collection 5; all but 4 join.
 fn six_members(objects: &mut Numbered) -> [u64; 6] {
-    [
-        objects.allocate(7, 1),
-        objects.allocate(5, 1),
-        objects.allocate(9, 1),
-        objects.allocate(7, 1),
-        objects.allocate(5, 1),
-        objects.allocate(7, 1),
-    ]
+    let numbers = [
+        objects.allocate_as(Ty::Record(7), 5, 1),
+        objects.allocate_as(Ty::Record(7), 6, 1),
+        objects.allocate_as(Ty::Integer, 5, 1),
+        objects.allocate_as(Ty::Record(7), 5, 1),
+        objects.allocate_as(Ty::Record(8), 5, 1),
+        objects.allocate_as(Ty::Record(7), 5, 1),
+    ];
+    for number in [1, 2, 3, 5, 6] {
+        objects.join(number);
+    }
+    numbers
 }
 
-/// The first members of these collections behind a number, one after another, 100 where there is
-/// none.
-fn three_members(objects: &Numbered, first: u64, last: u64, after: u64) -> [u64; 3] {
-    let o = &objects.objects;
-    let one = o.next_member(first, last, after).unwrap_or(100);
-    let two = o.next_member(first, last, one).unwrap_or(100);
-    [one, two, o.next_member(first, last, two).unwrap_or(100)]
+/// The groups from a collection to another, one after another, each with how many of its objects
+/// are still to be finalized, the first and the last of them: 100 where there is none.
+fn three_groups(objects: &Numbered, first: u64, last: u64) -> [[u64; 5]; 3] {
+    let one = objects.group(Start::Collection(first), last);
+    let two = objects.group(behind(one), last);
+    [one, two, objects.group(behind(two), last)]
+}
+
+fn behind(group: [u64; 5]) -> Start {
+    Start::Behind(Group {
+        collection: group[0],
+        record_type: group[1] as usize,
+    })
 }
 
 #[test]
-fn members_come_in_order(rt: HostRuntime) {
+fn groups_come_in_order(rt: HostRuntime) {
     let mut objects = Numbered::new(rt.alloc());
     let numbers = six_members(&mut objects);
-    let start = three_members(&objects, 5, 7, 0);
-    let rest = three_members(&objects, 5, 7, 4);
-    let one_collection = three_members(&objects, 7, 7, 0);
-    let last = three_members(&objects, 8, u64::MAX, 0);
-    let none = three_members(&objects, 7, 5, 0);
-    let gone = [objects.forget(2), objects.forget(4)];
-    let left = three_members(&objects, 5, 7, 0);
-    objects.leave(&[7]);
-    let closed = three_members(&objects, 0, 8, 0);
+    let start = three_groups(&objects, 5, 6);
+    let other = three_groups(&objects, 6, u64::MAX);
+    objects.begin(6);
+    objects.begin(5);
+    let begun = three_groups(&objects, 0, 6);
+    let gone = [objects.forget(1), objects.forget(2)];
+    let left = three_groups(&objects, 0, 6);
+    objects.leave(&[5]);
+    let closed = three_groups(&objects, 0, 6);
     objects.finish().close();
+    let none = [100; 5];
     assert_eq!(rt; numbers, [1, 2, 3, 4, 5, 6]);
-    assert_eq!(rt; start, [1, 2, 4]);
-    assert_eq!(rt; rest, [5, 6, 100]);
-    assert_eq!(rt; one_collection, [1, 4, 6]);
-    assert_eq!(rt; last, [3, 100, 100]);
-    assert_eq!(rt; none, [100, 100, 100]);
+    assert_eq!(rt; start, [[5, 7, 2, 1, 6], [5, 8, 1, 5, 5], [6, 7, 1, 2, 2]]);
+    assert_eq!(rt; other, [[6, 7, 1, 2, 2], none, none]);
+    assert_eq!(rt; begun, [[5, 7, 1, 1, 1], [6, 7, 1, 2, 2], none]);
     assert_eq!(rt; gone, [true, true]);
-    assert_eq!(rt; left, [1, 5, 6]);
-    assert_eq!(rt; closed, [5, 100, 100]);
+    assert_eq!(rt; left, [[5, 7, 0, 100, 100], none, none]);
+    assert_eq!(rt; closed, [none, none, none]);
 }
 
 /// The cells of objects 1 and 2, read one by one.

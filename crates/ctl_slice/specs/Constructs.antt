@@ -12,8 +12,6 @@ use Rattle.ctl_syntax.specs.declared.item.Association.{Association}
 use Rattle.ctl_syntax.specs.declared.item.Components.{Components}
 use Rattle.ctl_syntax.specs.declared.item.Coverage.{Coverage}
 use Rattle.ctl_syntax.specs.declared.item.Coverage.TheVariants.{Specific, ClassWide}
-use Rattle.ctl_syntax.specs.declared.item.Generality.{Generality}
-use Rattle.ctl_syntax.specs.declared.item.Generality.TheVariants.{PoolSpecific, General}
 use Rattle.ctl_syntax.specs.declared.item.Definition.{Definition as Type_definition}
 use Rattle.ctl_syntax.specs.declared.item.Definition.TheVariants.{Access, Extension, Record}
 use Rattle.ctl_syntax.specs.declared.item.Formal.{Formal}
@@ -111,44 +109,50 @@ abbrev pub may_all_be_components : List (Components Use) → Bool
 may_all_be_components [] = true
 may_all_be_components (c ∷ cs) = may_be_component c && may_all_be_components cs
 
-abbrev pub is_pool_specific : Generality → Bool
-is_pool_specific PoolSpecific = true
-is_pool_specific General = false
-
 abbrev pub is_specific : Coverage → Bool
 is_specific Specific = true
 is_specific ClassWide = false
 
--- a record of such components (3.8), a type that extends such a type by them (3.9.1), or an access type without `all` for one type of the
--- text, of objects in the standard pool (3.10, 13.11)
+-- a record of such components (3.8), a type that extends such a type by them (3.9.1), or an access type for one type of the text, of objects
+-- in the standard pool (3.10, 13.11)
 abbrev pub of_type : Type_definition Use → Support
 of_type (Record limitation components) = support_when (may_all_be_components components)
 of_type (Extension parent added) = support_when (may_be_extended parent.first.denoted && may_all_be_components added)
-of_type (Access generality designated coverage pool) = support_when (is_pool_specific generality && (is_of_text designated.first.denoted && (is_specific coverage && is_none pool)))
+of_type (Access generality designated coverage pool) = support_when (is_of_text designated.first.denoted && (is_specific coverage && is_none pool))
 
 -- objects of this type, with these discriminants: of a type of the text without any, and of a scalar one (3.3.1)
 abbrev pub are_objects_run : Denoted → List (Association Use) → Bool
 are_objects_run (Declared number level) discriminants = is_empty discriminants
 are_objects_run d discriminants = is_scalar d
 
--- an allocator with a value, or with a handle: one layer of an expression (4.8, 13.11.4)
-abbrev pub allocator_layer : {A : Type 0} → Expression-F Use A → Bool
-allocator_layer (Expression-F.New place handle mark value) = is_some handle || is_some value
+-- a name: one layer of an expression (4.1)
+abbrev pub name_layer : {A : Type 0} → Expression-F Use A → Bool
+name_layer (Expression-F.Name place name) = true
+name_layer e = false
+
+-- no value of an allocator, or that of what a name denotes (4.8)
+abbrev pub is_name_if_given : Option (Expression Use) → Bool
+is_name_if_given None = true
+is_name_if_given (Some e) = name_layer (out-Expression Use e)
+
+-- an allocator with another value, or with a handle: one layer of an expression (4.8, 13.11.4)
+abbrev pub allocator_layer : Expression-F Use (Expression Use) → Bool
+allocator_layer (Expression-F.New place handle mark value) = is_some handle || not (is_name_if_given value)
 allocator_layer e = false
 
-abbrev pub is_allocator_with_operands : Expression Use → Bool
-is_allocator_with_operands e = allocator_layer (out-Expression Use e)
+abbrev pub is_left_out_allocator : Expression Use → Bool
+is_left_out_allocator e = allocator_layer (out-Expression Use e)
 
-abbrev pub has_allocator_with_operands : Option (Expression Use) → Bool
-has_allocator_with_operands None = false
-has_allocator_with_operands (Some e) = is_allocator_with_operands e
+abbrev pub has_left_out_allocator : Option (Expression Use) → Bool
+has_left_out_allocator None = false
+has_left_out_allocator (Some e) = is_left_out_allocator e
 
 abbrev pub of_objects : Objects Definition Use → Support
-of_objects o = support_when (are_objects_run o.mark.first.denoted o.discriminants && not (has_allocator_with_operands o.value))
+of_objects o = support_when (are_objects_run o.mark.first.denoted o.discriminants && not (has_left_out_allocator o.value))
 
 -- a value that is assigned or returned (5.2, 6.5)
 abbrev pub of_value : Option (Expression Use) → Support
-of_value e = support_when (not (has_allocator_with_operands e))
+of_value e = support_when (not (has_left_out_allocator e))
 
 -- calls of Put, Put_Line and New_Line (A.10.7)
 abbrev pub is_output : Denoted → Bool

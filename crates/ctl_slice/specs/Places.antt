@@ -46,7 +46,8 @@ body_of LeftOut place inside = Some place
 abbrev pub item_of : Span → ItemKind Definition Use Place → Place
 item_of place (kind.Declaration s) = where_left_out (of_heading s) place
 item_of place (kind.Body s inside) = body_of (of_heading s) place inside
-item_of place (kind.Instance n m actuals) = Some place
+-- Unchecked_Deallocation is the one generic of the language (13.11.2)
+item_of place (kind.Instance n m actuals) = None
 item_of place (kind.Incomplete n t) = None
 item_of place (kind.«Type» n d) = where_left_out (of_type d) place
 item_of place (kind.StoragePool t m) = Some place

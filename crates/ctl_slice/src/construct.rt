@@ -7,9 +7,10 @@ use ctl_grammar::spelling::is_same_name;
 use ctl_syntax::denoted::{Definition, Denoted, LibraryName, Use};
 use ctl_syntax::expression::Expression;
 use ctl_syntax::item::{
-    Components, Coverage, Definition as TypeDefinition, Formal, Generality, Objects, Specification,
+    Components, Coverage, Definition as TypeDefinition, Formal, Objects, Specification,
 };
 use ctl_syntax::name::Name;
+use sqlite_items::Boxed;
 
 /// Whether this version runs a construct.
 #[derive(Clone, Copy, Debug, PartialEq, Eq)]
@@ -143,8 +144,7 @@ fn may_all_be_components(all: &[Components<Use>]) -> bool
 }
 
 /// Judges a type: a record with such components alone is run (RM 3.8), and so is one that extends Controlled, Limited_Controlled or a type of
-/// the text by them (RM 3.9.1, 7.6), and an access type without `all` for one type of the text, of objects in the standard pool (RM 3.10,
-/// 13.11).
+/// the text by them (RM 3.9.1, 7.6), and an access type for one type of the text, of objects in the standard pool (RM 3.10, 13.11).
 pub(crate) fn of_type(definition: &TypeDefinition<Use>) -> Support
     ensures { result ≡ spec.of_type definition.now }
 {
@@ -155,9 +155,8 @@ pub(crate) fn of_type(definition: &TypeDefinition<Use>) -> Support
         TypeDefinition::Extension(parent, added) => support_when(
             may_be_extended(parent.first.denoted) && may_all_be_components(added.as_slice()),
         ),
-        TypeDefinition::Access(generality, designated, coverage, pool) => support_when(
-            matches!(generality, Generality::PoolSpecific)
-                && is_of_text(designated.first.denoted)
+        TypeDefinition::Access(_, designated, coverage, pool) => support_when(
+            is_of_text(designated.first.denoted)
                 && matches!(coverage, Coverage::Specific)
                 && pool.is_none(),
         ),
@@ -185,42 +184,52 @@ fn is_scalar(denoted: Denoted) -> bool
     )
 }
 
-/// Tells whether an expression is an allocator with a value, or with a handle (RM 4.8, 13.11.4).
-fn is_allocator_with_operands(expression: &Expression<Use>) -> bool
-    ensures { result ≡ spec.is_allocator_with_operands expression.now }
+/// Tells whether an allocator has no value, or that of what a name denotes (RM 4.8).
+fn is_name_if_given(value: &Option<Boxed<Expression<Use>>>) -> bool
+    ensures { result ≡ spec.is_name_if_given value.now }
+{
+    match value {
+        Some(value) => matches!(value.get(), Expression::Name(..)),
+        None => true,
+    }
+}
+
+/// Tells whether an expression is an allocator with another value, or with a handle (RM 4.8, 13.11.4).
+fn is_left_out_allocator(expression: &Expression<Use>) -> bool
+    ensures { result ≡ spec.is_left_out_allocator expression.now }
 {
     match expression {
-        Expression::New(_, handle, _, value) => handle.is_some() || value.is_some(),
+        Expression::New(_, handle, _, value) => handle.is_some() || !is_name_if_given(value),
         _ => false,
     }
 }
 
 /// Tells whether there is such an expression.
-fn has_allocator_with_operands(value: &Option<Expression<Use>>) -> bool
-    ensures { result ≡ spec.has_allocator_with_operands value.now }
+fn has_left_out_allocator(value: &Option<Expression<Use>>) -> bool
+    ensures { result ≡ spec.has_left_out_allocator value.now }
 {
     match value {
-        Some(value) => is_allocator_with_operands(value),
+        Some(value) => is_left_out_allocator(value),
         None => false,
     }
 }
 
-/// Judges a value that is assigned: each but an allocator with a value or a handle is run (RM 4.8, 5.2).
+/// Judges a value that is assigned: each but such an allocator is run (RM 4.8, 5.2).
 pub(crate) fn of_assigned(value: &Expression<Use>) -> Support
     ensures { result ≡ spec.of_value (Some value.now) }
 {
-    support_when(!is_allocator_with_operands(value))
+    support_when(!is_left_out_allocator(value))
 }
 
 /// Judges a value that is returned, if there is one, in the same way (RM 6.5).
 pub(crate) fn of_returned(value: &Option<Expression<Use>>) -> Support
     ensures { result ≡ spec.of_value value.now }
 {
-    support_when(!has_allocator_with_operands(value))
+    support_when(!has_left_out_allocator(value))
 }
 
-/// Judges objects: scalar ones are run, and others of a declared type without discriminants, and none whose value is an allocator with a
-/// value or a handle (RM 3.3.1, 4.8).
+/// Judges objects: scalar ones are run, and others of a declared type without discriminants, and none whose value is such an allocator
+/// (RM 3.3.1, 4.8).
 pub(crate) fn of_objects(objects: &Objects<Definition, Use>) -> Support
     ensures { result ≡ spec.of_objects objects.now }
 {
@@ -228,7 +237,7 @@ pub(crate) fn of_objects(objects: &Objects<Definition, Use>) -> Support
         Denoted::Declared(_, _) => objects.discriminants.as_slice().is_empty(),
         denoted => is_scalar(denoted),
     };
-    support_when(is_run && !has_allocator_with_operands(&objects.value))
+    support_when(is_run && !has_left_out_allocator(&objects.value))
 }
 
 /// Tells whether this is declared in the text, where it is judged.

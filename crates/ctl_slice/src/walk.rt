@@ -96,8 +96,9 @@ fn item(item: &Item<Definition, Use>) -> Option<Span>
         },
         ItemKind::Type(_, definition) => where_left_out(of_type(definition), item.span),
         ItemKind::Objects(objects) => where_left_out(of_objects(objects), item.span),
-        ItemKind::Exceptions(_) | ItemKind::Incomplete(..) => None,
-        ItemKind::Instance(..) | ItemKind::StoragePool(..) => Some(item.span),
+        // Unchecked_Deallocation is the one generic of the language (RM 13.11.2).
+        ItemKind::Exceptions(_) | ItemKind::Incomplete(..) | ItemKind::Instance(..) => None,
+        ItemKind::StoragePool(..) => Some(item.span),
     }
 }
 

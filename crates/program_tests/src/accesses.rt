@@ -1,6 +1,6 @@
 //! Runs of texts with access types: what is shown (RM 3.10, 4.1, 4.8, 7.6.1).
 
-use crate::jobs::{order_job, ran, served};
+use crate::jobs::{ran, told};
 use ctl_tree::request::Order;
 use std::alloc::Global;
 use std::process::Abort;
@@ -63,10 +63,8 @@ fn picked(
     wanted: &str,
     picks: &str,
 ) -> Result<(), Fail> {
-    let got = served(alloc, order_job(alloc, order), text)?;
     let wanted = format!(in alloc; "0|{wanted}|adactl: picks {picks}\n")?;
-    assert_eq!(rt; got, wanted, "a run with picks");
-    Ok(())
+    told(rt, alloc, order, text, wanted.as_str())
 }
 
 /// A dereference of null (RM 4.1).

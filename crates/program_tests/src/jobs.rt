@@ -143,12 +143,23 @@ pub(crate) fn served(alloc: Global, job: Job, source: &str) -> Result<String, Fa
     Ok(format!(in alloc; "{status}|{out}|{err}")?)
 }
 
+/// Runs a text by an order, and compares its status, its trace and what it said, with bars between them.
+pub(crate) fn told(
+    rt: &impl Abort,
+    alloc: Global,
+    order: Order,
+    text: &str,
+    wanted: &str,
+) -> Result<(), Fail> {
+    let got = served(alloc, order_job(alloc, order), text)?;
+    assert_eq!(rt; got.as_str(), wanted, "a run");
+    Ok(())
+}
+
 /// Runs a text without choices that ends by itself, and compares what it printed and said.
 pub(crate) fn ran(rt: &impl Abort, alloc: Global, text: &str, wanted: &str) -> Result<(), Fail> {
-    let got = served(alloc, order_job(alloc, Order::Newest), text)?;
     let wanted = format!(in alloc; "0|{wanted}|adactl: picks none\n")?;
-    assert_eq!(rt; got, wanted, "a run");
-    Ok(())
+    told(rt, alloc, Order::Newest, text, wanted.as_str())
 }
 
 /// Each component that takes its default is chosen among those that are left: a choice among three, one among two, and none (RM 7.6).

@@ -6,6 +6,8 @@ mod accesses;
 #[cfg(test)]
 mod copies;
 #[cfg(test)]
+mod freeing;
+#[cfg(test)]
 mod functions;
 #[cfg(test)]
 mod jobs;

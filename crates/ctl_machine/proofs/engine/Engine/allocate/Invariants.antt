@@ -1,7 +1,7 @@
 use Rattle.ctl_machine.proofs.engine.Engine.allocate.Given as goal
 
-abbrev pub ghost-set_seen : goal.ghost-set_seen
-ghost-set_seen g a = g.s.0
+abbrev pub ghost-set_for : goal.ghost-set_for
+ghost-set_for g a = g.s.0
 
 abbrev pub ghost-create_member : goal.ghost-create_member
 ghost-create_member g a = g.s.0

@@ -12,8 +12,9 @@ use Rattle.ctl_machine.proofs.CopyDeclared.{copy_kept, copied_at, copied_gone, c
 use Rattle.ctl_machine.proofs.Words.{newest_read, same_front}
 use Rattle.ctl_machine.specs.Spots.{first_spot, standing}
 use Rattle.ctl_meaning.specs.Finalization.{Spot}
-use Rattle.ctl_code.specs.States.{Move}
-use Rattle.ctl_code.specs.Table.{adjust_new, parts_of, size_of}
+use Rattle.ctl_tree.specs.declared.event.Owner.TheVariants as OwnerOf
+use Rattle.ctl_code.specs.States.{ByDeclaration, Move}
+use Rattle.ctl_code.specs.Table.{adjust_new, newborn, parts_of, size_of}
 use Rattle.ctl_machine.specs.declared.engine.Engine.{Engine}
 use Rattle.ctl_machine.proofs.Newborn.{some_masters, has_object, row_of}
 use Rattle.ctl_machine.proofs.Newest.{newest_object, newest_object_is}
@@ -91,8 +92,6 @@ adjust_new-requires g c =
     let copied = copied_is code old mid begun c.args.place c.args.slot c.args.record g.s m some.0 c.requires.1.0 (ap (λ (l : List Spot). with_spots (kept old) l) popped) c.newest-newest.ensures.last
     (ap (λ n. object_in n old.objects) (sym number) ∙ some.1) are given in
     let slot : (newest_object made.owned.items).slot ≡ c.args.slot = ap (λ (e : Kept). (newest_object e.owned).slot) c.in_ok-create.ensures.kept ∙ ap (λ (x : Owned). x.slot) (newest_object_is ready.owned.items (row_of m c.args.slot c.args.record (kept ready))) in
-    let b = c.requires.1.0 in
-    let has = has_object code old b.stack c.args.slot c.args.record g.s g.s.operands m b.inside c.newest-newest.ensures.last in
     let room = c.in_ok-reserve_object.ensures.control in
     let frames = c.in_ok-create.ensures.control in
     let fewer = c.take_last.ensures.len in
@@ -102,11 +101,8 @@ adjust_new-requires g c =
     let wider = ap (λ v. vec_capacity v) c.in_ok-create.ensures.spots in (
       subst (λ n. IsCopied code begun c.args.record (c.args.place + 1) (copied_at code (c.args.place + 1) n c.args.record g.s)) (sym slot) copied.0,
       (
-        sym has.own,
-        (
-          subst (λ v. vec_len v + 2 ≤ vec_capacity v) (sym frames) room,
-          omega (arith, fewer, wide, there, was, wider),
-        ),
+        subst (λ v. vec_len v + 2 ≤ vec_capacity v) (sym frames) room,
+        omega (arith, fewer, wide, there, was, wider),
       ),
     )
 
@@ -136,6 +132,8 @@ returns-clause-ok g c =
     let copied = copied_is code old mid begun c.args.place c.args.slot c.args.record g.s m some.0 c.requires.1.0 (ap (λ (l : List Spot). with_spots (kept old) l) popped) c.newest-newest.ensures.last
     (ap (λ n. object_in n old.objects) (sym number) ∙ some.1) are given in
     let slot : (newest_object made.owned.items).slot ≡ c.args.slot = ap (λ (e : Kept). (newest_object e.owned).slot) c.in_ok-create.ensures.kept ∙ ap (λ (x : Owned). x.slot) (newest_object_is ready.owned.items (row_of m c.args.slot c.args.record (kept ready))) in
-    let goes : ℕ → Move = λ n. let x = copied_at code (c.args.place + 1) n c.args.record g.s in adjust_new code (parts_of code c.args.record) x.number c.args.record x.point x.control x.world in
+    let b = c.requires.1.0 in
+    let has = has_object code old b.stack c.args.slot c.args.record g.s g.s.operands m b.inside c.newest-newest.ensures.last in
+    let goes : ℕ → ℕ → Move = λ n j. let x = copied_at code (c.args.place + 1) n c.args.record g.s in adjust_new code (parts_of code c.args.record) ByDeclaration (newborn x.number c.args.record (OwnerOf.Master j)) x.point x.control x.world in
     copied.1 c.adjust_new.new.self (ap (λ v. v.items) c.in_ok-create.ensures.events ∙ same.events) (ap (λ v. v.items) c.in_ok-create.ensures.picks ∙ same.picks)
-    (subst (λ n. Makes code begun c.adjust_new.new.self (goes n)) slot c.adjust_new.ensures)
+    (subst (λ j. Makes code begun c.adjust_new.new.self (goes c.args.slot j)) (sym has.own) (subst (λ n. Makes code begun c.adjust_new.new.self (goes n m.number)) slot c.adjust_new.ensures))

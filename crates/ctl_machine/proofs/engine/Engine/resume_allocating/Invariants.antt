@@ -1,4 +1,5 @@
+use Rattle.ctl_machine.proofs.Allocated.{behind_frame}
 use Rattle.ctl_machine.proofs.engine.Engine.resume_allocating.Given as goal
 
-abbrev pub ghost-may_join : goal.ghost-may_join
-ghost-may_join g a = g.s
+abbrev pub ghost-end_allocation : goal.ghost-end_allocation
+ghost-end_allocation g a = behind_frame g.s

@@ -5,15 +5,9 @@ use Rattle.ctl_meaning.specs.Finalization.{Spot, is_whole}
 use Rattle.ctl_machine.specs.declared.frame.Frame.{Frame}
 use Rattle.ctl_machine.specs.declared.frame.Frame.TheVariants as FrameOf
 use Rattle.ctl_machine.specs.Shows.{Holds, Kept, kept}
-use Rattle.ctl_machine.specs.Spots.{whole_spot}
 use Rattle.ctl_machine.proofs.AfterInitialize.{rest_is}
-use Rattle.ctl_machine.proofs.CopyUndone.{is_undoing, undoing_ends, undone_object, undone_there}
+use Rattle.ctl_machine.proofs.CopyUndone.{undoing_ends}
 use Rattle.ctl_machine.proofs.engine.Engine.resume_undoing.Goals as goal
-
-pub newest_object-object-requires : goal.newest_object-object-requires
-newest_object-object-requires g c =
-    let top = c.requires.1 in
-    undone_there c.args.code.now c.args.self.now c.args.first top.0 g.s (is_undoing c.args.code.now c.args.self.now c.args.first top.0 g.s c.requires.0 top.1)
 
 pub returns : goal.returns
 returns g c = λ ended.
@@ -22,13 +16,12 @@ returns g c = λ ended.
     let mid = c.end_whole.new.self in
     let b = c.requires.0 in
     let top = c.requires.1 in
-    let u = is_undoing code old c.args.first top.0 g.s b top.1 in
-    let number = undone_object code old c.args.first top.0 g.s c.newest_object-object.result u c.newest_object-object.ensures in
-    let whole : c.whole-whole.result ≡ whole_spot u.number = c.whole-whole.ensures ∙ ap whole_spot number in
-    let control : reverse mid.control.items ≡ FrameOf.Undoing c.args.first ∷ top.0 = ap (λ v. reverse v.items) c.end_whole.ensures.stacks.0 ∙ top.1 in
-    let rest : reverse c.take_last.new.self.items ≡ top.0 = rest_is mid.control.items c.take_last.new.self.items c.take_last.result (FrameOf.Undoing c.args.first) top.0 c.take_last.ensures.items control in
-    undoing_ends code old mid _ c.args.first top.0 g.s ended b u control
-    (λ k ops w h. subst (λ (z : Spot). Holds code (kept mid) k ops (if is_whole z then end_finalization z.object w else w)) whole (c.end_whole.ensures.holds code k ops w h))
+    let object = c.args.object in
+    let undoing = FrameOf.Undoing object c.args.first in
+    let control : reverse mid.control.items ≡ undoing ∷ top.0 = ap (λ v. reverse v.items) c.end_whole.ensures.stacks.0 ∙ top.1 in
+    let rest : reverse c.take_last.new.self.items ≡ top.0 = rest_is mid.control.items c.take_last.new.self.items c.take_last.result undoing top.0 c.take_last.ensures.items control in
+    undoing_ends code old mid _ object c.args.first top.0 g.s ended b top.1 control
+    (λ k ops w h. subst (λ (z : Spot). Holds code (kept mid) k ops (if is_whole z then end_finalization z.object w else w)) c.whole-whole.ensures (c.end_whole.ensures.holds code k ops w h))
     (ap (λ (y : Kept). y.spots) c.end_whole.ensures.kept) (ap (λ v. v.items) c.end_whole.ensures.events) (ap (λ v. v.items) c.end_whole.ensures.picks)
     (ap (λ (l : List Frame). record (kept mid) { control = l; noted = c.truncate.new.self.items }) rest ∙ ap (λ (l : List Spot). record (kept mid) { control = top.0; noted = l }) c.truncate.ensures.items)
     refl refl refl

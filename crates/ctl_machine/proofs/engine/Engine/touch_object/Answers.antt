@@ -34,3 +34,9 @@ returns-in-StorePart-clause-gone g c = subst (λ (i : Instr). IfNone c.store_par
 
 pub returns-in_ok-select-in-Select-clause-passed : goal.returns-in_ok-select-in-Select-clause-passed
 returns-in_ok-select-in-Select-clause-passed g c = subst (λ (i : Instr). (c.select.new.self.mode ≡ At (c.args.place + 1)) × Makes c.args.code.now c.args.self.now c.select.new.self (by_instr c.args.code.now (Some i) g.s.operands (here_of c.args.place g.s))) (sym c.in-Select.is) (c.in_ok-select-in-Select.ensures.mode, c.in_ok-select-in-Select.ensures.ok c.in-Select.record c.in-Select.part c.offset_of-offset-in-Select.ensures)
+
+pub returns-in-Designate-clause-passed : goal.returns-in-Designate-clause-passed
+returns-in-Designate-clause-passed g c = subst (λ (i : Instr). IfSome c.designate_slot.result (λ next. (c.designate_slot.new.self.mode ≡ At next) × Makes c.args.code.now c.args.self.now c.designate_slot.new.self (by_instr c.args.code.now (Some i) g.s.operands (here_of c.args.place g.s)))) (sym c.in-Designate.is) (c.designate_slot.ensures.passed c.in-Designate.ty)
+
+pub returns-in-Designate-clause-gone : goal.returns-in-Designate-clause-gone
+returns-in-Designate-clause-gone g c = subst (λ (i : Instr). IfNone c.designate_slot.result (Comes c.args.code.now c.designate_slot.new.self (Stopped UseAfterFree) c.designate_slot.new.self.cells.items (by_instr c.args.code.now (Some i) g.s.operands (here_of c.args.place g.s)))) (sym c.in-Designate.is) (c.designate_slot.ensures.gone c.in-Designate.ty)

@@ -14,3 +14,6 @@ ghost-select g a = g.s
 
 abbrev pub ghost-take_part : goal.ghost-take_part
 ghost-take_part g a = g.s
+
+abbrev pub ghost-designate_slot : goal.ghost-designate_slot
+ghost-designate_slot g a = g.s

@@ -3,24 +3,15 @@ use Rattle.std.specs.Prelude.{◌^◌, vec_capacity, vec_len}
 use Rattle.std.proofs.lemmas.List.{reverse-append}
 use Rattle.ctl_meaning.specs.Changes.{begin_finalization}
 use Rattle.ctl_meaning.specs.Finalization.{Spot}
-use Rattle.ctl_machine.specs.Owned.{type_of}
 use Rattle.ctl_machine.specs.declared.engine.Engine.{Engine}
 use Rattle.ctl_machine.specs.declared.frame.Frame.{Frame}
 use Rattle.ctl_machine.specs.declared.frame.Frame.TheVariants as FrameOf
-use Rattle.ctl_machine.specs.declared.frame.Owned.{Owned}
 use Rattle.ctl_machine.specs.Finishing.{AreDoubles}
 use Rattle.ctl_machine.specs.Shows.{Holds, Kept, kept, with_cells}
-use Rattle.ctl_machine.specs.Spots.{whole_spot}
-use Rattle.ctl_machine.proofs.AfterFinalize.{frame_there}
-use Rattle.ctl_machine.proofs.CopyUndone.{are_undone, begins_undone, copied_object, copied_there, copy_undone, finishes_undone, is_copying, over_to, spot_undone, undone_in, with_undoing}
+use Rattle.ctl_machine.proofs.CopyUndone.{are_undone, begins_undone, copy_undone, finishes_undone, over_to, spot_undone, undone_in, with_undoing}
 use Rattle.ctl_machine.proofs.Following.{makes_later}
 use Rattle.ctl_machine.proofs.NextWindow.{end_is, tall_within}
 use Rattle.ctl_machine.proofs.engine.Engine.undo_copy.Goals as goal
-
-pub newest_object-object-requires : goal.newest_object-object-requires
-newest_object-object-requires g c =
-    let top = c.requires.1.1.0 in
-    copied_there c.args.code.now c.args.self.now c.args.place c.args.first top.0 g.s (is_copying c.args.code.now c.args.self.now c.args.place c.args.first top.0 g.s c.requires.1.0 top.1)
 
 pub next_window-base-requires : goal.next_window-base-requires
 next_window-base-requires g c =
@@ -35,8 +26,7 @@ next_window-base-requires g c =
 pub replace_top-requires : goal.replace_top-requires
 replace_top-requires g c =
     let old = c.args.self.now in
-    let top = c.requires.1.1.0 in
-    let some = frame_there old.control.items (FrameOf.Copying c.args.place c.args.first) top.0 top.1 in
+    let some = c.requires.1.1.0.some in
     let all = old.control.ok.1 in
     let same = c.prepare_finalization.ensures.waiting in
     omega (arith, some, all, same)
@@ -45,31 +35,32 @@ pub undo_part-requires : goal.undo_part-requires
 undo_part-requires g c =
     let code = c.args.code.now in
     let old = c.args.self.now in
+    let creation = c.args.creation in
+    let object = c.args.object in
+    let type = c.args.record in
+    let first = c.args.first in
     let b = c.requires.1.0 in
-    let top = c.requires.1.1.0 in
-    let u = is_copying code old c.args.place c.args.first top.0 g.s b top.1 in
+    let u = c.requires.1.1.0 in
     let goes = c.in_ok-prepare_finalization.ensures.ok in
     let room = c.in_ok-prepare_finalization.ensures.room in
     let ready = c.prepare_finalization.new.self in
     let e = c.begin_finalization.ensures in
     let mid = c.begin_finalization.new.self in
-    let creating = FrameOf.Creating c.args.place in
-    let undoing = FrameOf.Undoing c.args.first in
-    let control : reverse c.push_reserved.new.self.items ≡ undoing ∷ creating ∷ top.0 =
+    let undoing = FrameOf.Undoing object first in
+    let control : reverse c.push_reserved.new.self.items ≡ undoing ∷ creation ∷ drop 1 (reverse old.control.items) =
     ap (λ (l : List Frame). reverse l) c.push_reserved.ensures.items
     ∙ (reverse-append c.replace_top.new.control.items (undoing ∷ [])
     ∙ (ap (λ (l : List Frame). undoing ∷ l) c.replace_top.ensures.items
-    ∙ (ap (λ (x : Kept). undoing ∷ creating ∷ drop 1 x.control) goes.1.kept ∙ ap (λ (l : List Frame). undoing ∷ creating ∷ drop 1 l) top.1))) in
+    ∙ ap (λ (x : Kept). undoing ∷ creation ∷ drop 1 x.control) goes.1.kept)) in
     let before : Engine = record ready { control = c.push_reserved.new.self } in
-    let are : kept before ≡ with_undoing c.args.place c.args.first top.0 (with_cells (kept old) (old.cells.items ++ goes.0)) = ap (λ (l : List Frame). record (kept ready) { control = l }) control ∙ ap (λ (x : Kept). with_undoing c.args.place c.args.first top.0 x) goes.1.kept in
+    let are : kept before ≡ with_undoing creation object first (with_cells (kept old) (old.cells.items ++ goes.0)) =
+    ap (λ (l : List Frame). record (kept ready) { control = l }) control ∙ ap (λ (x : Kept). record x { control = undoing ∷ creation ∷ drop 1 (reverse old.control.items) }) goes.1.kept in
     let x = undone_in g.s.control g.s.world in
-    let object = copied_object code old c.args.place c.args.first top.0 g.s c.newest_object-object.result u c.newest_object-object.ensures in
-    let number : c.newest_object-object.result.number ≡ u.number = ap (λ (o : Owned). o.number) object ∙ u.object.number in
-    let over : Holds code (kept before) x.control [] g.s.world = subst (λ (y : Kept). Holds code y x.control [] g.s.world) (sym are) (over_to code old c.args.place c.args.first top.0 g.s goes.0 b top.1 u) in
-    let begun : Holds code (kept mid) x.control [] (begin_finalization u.number g.s.world) = subst (λ n. Holds code (kept mid) x.control [] (begin_finalization n g.s.world)) number (e.holds code x.control [] g.s.world over) in
+    let over : Holds code (kept before) x.control [] g.s.world = subst (λ (y : Kept). Holds code y x.control [] g.s.world) (sym are) (over_to code old creation object type first g.s goes.0 b u) in
+    let begun : Holds code (kept mid) x.control [] (begin_finalization object g.s.world) = e.holds code x.control [] g.s.world over in
     let spots : mid.spots.items ≡ old.spots.items = ap (λ v. v.items) e.spots ∙ ap (λ (y : Kept). y.spots) goes.1.kept in
     let base = c.next_window-base.ensures ∙ end_is code (kept old) g.s.control g.s.operands g.s.world b.holds b.waits b.sized in
-    let whole : c.whole.result ≡ x.spot = c.whole.ensures ∙ (ap whole_spot number ∙ sym (spot_undone code old c.args.place c.args.first top.0 g.s u)) in
+    let whole : c.whole.result ≡ x.spot = c.whole.ensures ∙ sym (spot_undone code old creation object type first g.s u) in
     let len = c.replace_top.ensures.len in
     let capacity = c.replace_top.ensures.capacity in
     let longer = c.push_reserved.ensures.len in
@@ -79,9 +70,9 @@ undo_part-requires g c =
     let cells : mid.cells.items ≡ ready.cells.items = ap (λ (y : Kept). y.cells) e.kept in (
       c.requires.0,
       (
-        finishes_undone code old mid c.args.place c.args.first top.0 g.s b u spots begun,
+        finishes_undone code old mid creation object type first g.s b u spots begun,
         (
-          begins_undone code old c.args.place c.args.first c.next_window-base.result top.0 g.s u base,
+          begins_undone code old creation object type first c.next_window-base.result g.s u base,
           (
             record {
               call = record {
@@ -97,7 +88,7 @@ undo_part-requires g c =
             },
             (
               subst (λ (z : Spot). AreDoubles c.in_ok-doubles.doubles z) whole c.in_ok-doubles.ensures,
-              are_undone code old c.args.place c.args.first top.0 g.s u,
+              are_undone code old creation object type first g.s u,
             ),
           ),
         ),
@@ -108,19 +99,6 @@ pub returns-clause-ok : goal.returns-clause-ok
 returns-clause-ok g c =
     let code = c.args.code.now in
     let old = c.args.self.now in
-    let b = c.requires.1.0 in
-    let top = c.requires.1.1.0 in
-    let u = is_copying code old c.args.place c.args.first top.0 g.s b top.1 in
     let goes = c.in_ok-prepare_finalization.ensures.ok in
-    let object = copied_object code old c.args.place c.args.first top.0 g.s c.newest_object-object.result u c.newest_object-object.ensures in
-    let type = ap type_of (sym c.in-Object.is ∙ (ap (λ (o : Owned). o.role) object ∙ u.object.role)) in
-    copy_undone code old c.undo_part.new.self c.args.place c.args.first c.in-Object.record top.0 g.s u type
+    copy_undone code old c.undo_part.new.self c.args.creation c.args.object c.args.record c.args.first g.s c.requires.1.1.0
     (makes_later code old c.begin_finalization.new.self c.undo_part.new.self _ (ap (λ v. v.items) c.begin_finalization.ensures.events ∙ goes.1.events) (ap (λ v. v.items) c.begin_finalization.ensures.picks ∙ goes.1.picks) c.undo_part.ensures)
-
-pub unreachable-requires : goal.unreachable-requires
-unreachable-requires g c =
-    let old = c.args.self.now in
-    let top = c.requires.1.1.0 in
-    let u = is_copying c.args.code.now old c.args.place c.args.first top.0 g.s c.requires.1.0 top.1 in
-    let object = copied_object c.args.code.now old c.args.place c.args.first top.0 g.s c.newest_object-object.result u c.newest_object-object.ensures in
-    c.in_default.not-Object u.record_type (ap (λ (o : Owned). o.role) object ∙ u.object.role)

@@ -1,12 +1,22 @@
-use Rattle.std.proofs.Common.{List, subst, sym}
+use Rattle.std.proofs.Common.{◌<◌, ◌^◌, List, length, subst, sym}
 use Rattle.ctl_meaning.specs.World.{Object}
-use Rattle.ctl_objects.specs.Sets.{AreListed}
-use Rattle.ctl_objects.specs.Stages.{with_step}
-use Rattle.ctl_objects.proofs.InStore.{step_keeps, step_stays}
-use Rattle.ctl_objects.proofs.Listed.{listed_changed}
+use Rattle.ctl_objects.specs.Filed.{AreFiled}
+use Rattle.ctl_objects.proofs.Filed.{filed_stepped, filed_unstepped, has_found}
 use Rattle.ctl_objects.proofs.allocations.Allocations.step.Goals as goal
+
+pub follow-requires : goal.follow-requires
+follow-requires c =
+    let s = c.self.inside in
+    let few = subst (λ (l : List Object). length l < 2 ^ 63) (sym c.self.view_is) c.are_few.ensures in
+    has_found s.objects s.sets s.groups c.args.number c.in-Some.before few c.in-Some.ensures.before c.self.invariant
 
 pub invariant_of-self : goal.invariant_of-self
 invariant_of-self c =
     let s = c.self.inside in
-    subst (λ (l : List Object). AreListed l s.sets) (sym c.step.ensures.stepped) (listed_changed s.objects s.sets c.args.number (with_step c.args.step) (step_keeps c.args.step) (step_stays c.args.step) c.self.invariant)
+    subst (λ (l : List Object). AreFiled l s.sets s.groups) (sym c.in_default.ensures.stepped) (filed_unstepped s.objects s.sets s.groups c.args.number c.args.step c.in_default.ensures.before c.self.invariant)
+
+pub invariant_of-self-2 : goal.invariant_of-self-2
+invariant_of-self-2 c =
+    let s = c.self.inside in
+    subst (λ (l : List Object). AreFiled l s.sets c.follow.new.self) (sym c.in-Some.ensures.stepped)
+    (filed_stepped s.objects s.sets s.groups c.follow.new.self c.args.number c.args.step c.in-Some.before c.in-Some.ensures.before c.follow.ensures c.self.invariant)

@@ -1,9 +1,7 @@
 use Rattle.std.proofs.Common.{◌+◌, [], ◌∷◌, List, subst, sym}
 use Rattle.ctl_meaning.specs.World.{Object}
-use Rattle.ctl_meaning.specs.Objects.{with_cells}
-use Rattle.ctl_objects.specs.Sets.{AreListed}
-use Rattle.ctl_objects.proofs.InStore.{cells_keep, cells_stay}
-use Rattle.ctl_objects.proofs.Listed.{listed_changed}
+use Rattle.ctl_objects.specs.Filed.{AreFiled}
+use Rattle.ctl_objects.proofs.Filed.{filed_written}
 use Rattle.ctl_objects.proofs.allocations.Allocations.write.Goals as goal
 
 pub invariant_of-self : goal.invariant_of-self
@@ -11,4 +9,4 @@ invariant_of-self c =
     let s = c.self.inside in
     let offset = c.args.start + c.args.offset in
     let v = c.args.value ∷ [] in
-    subst (λ (l : List Object). AreListed l s.sets) (sym c.write.ensures.written) (listed_changed s.objects s.sets c.args.number (with_cells offset v) (cells_keep offset v) (cells_stay offset v) c.self.invariant)
+    subst (λ (l : List Object). AreFiled l s.sets s.groups) (sym c.write.ensures.written) (filed_written s.objects s.sets s.groups c.args.number offset v c.self.invariant)

@@ -1,17 +1,17 @@
-use Rattle.std.proofs.Common.{◌≡◌, ◌∙◌, List, Option, ap, false, subst, sym, ℕ}
-use Rattle.std.specs.Option.{option_map_or}
+use Rattle.std.proofs.Common.{◌∙◌, List, ap, subst, sym}
+use Rattle.std.specs.Option.{option_map}
 use Rattle.std.specs.Prelude.{nat_eq, not}
 use Rattle.std.specs.FinMap.{remove}
 use Rattle.pool_store.specs.Store.{Store}
 use Rattle.ctl_meaning.specs.World.{Object}
 use Rattle.ctl_meaning.specs.Lists.{keep}
+use Rattle.ctl_meaning.specs.Objects.{object_in}
+use Rattle.ctl_objects.specs.Existing.{bare}
 use Rattle.ctl_objects.specs.InStore.{AreStored, seen}
 use Rattle.ctl_objects.proofs.Seen.{Objects}
-use Rattle.ctl_objects.specs.declared.stored.Allocation.{Allocation}
 use Rattle.ctl_objects.specs.Sets.{is_member}
-use Rattle.ctl_objects.proofs.InStore.{member_stored, seen_without, stored_without}
+use Rattle.ctl_objects.proofs.InStore.{bare_stored, member_stored, seen_without, stored_without}
 use Rattle.ctl_objects.proofs.stored.StoredObjects.remove.Goals as goal
-use Rattle.ctl_objects.proofs.stored.StoredObjects.remove.Goals.{in-Some, in-None}
 
 pub invariant_of-self : goal.invariant_of-self
 invariant_of-self c =
@@ -33,9 +33,11 @@ pub returns-clause-collection : goal.returns-clause-collection
 returns-clause-collection c = λ set.
     let s = c.self.inside in
     let n = c.args.number in
-    let own : option_map_or (λ (a : Allocation). nat_eq a.collection set) c.remove-removed.result false ≡ option_map_or (λ (d : ℕ). nat_eq d set) c.match-removed.result false =
-    elim c.match-removed.branch [
-      | in-Some w ↦ ap (λ (o : Option Allocation). option_map_or (λ (a : Allocation). nat_eq a.collection set) o false) w.in-Some.is ∙ sym (ap (λ (o : Option ℕ). option_map_or (λ (d : ℕ). nat_eq d set) o false) w.result-is)
-      | in-None w ↦ ap (λ (o : Option Allocation). option_map_or (λ (a : Allocation). nat_eq a.collection set) o false) w.in-None.is ∙ sym (ap (λ (o : Option ℕ). option_map_or (λ (d : ℕ). nat_eq d set) o false) w.result-is)
-    ] in
-    ap (λ (l : List Object). is_member set n l) (sym c.self.view_is) ∙ (member_stored s.objects.values s.store n set c.remove-removed.result c.remove-removed.ensures.value ∙ own)
+    ap (λ (l : List Object). is_member set n l) (sym c.self.view_is) ∙ member_stored s.objects.values s.store n set c.remove-removed.result c.remove-removed.ensures.value
+
+pub returns-clause-before : goal.returns-clause-before
+returns-clause-before c =
+    let s = c.self.inside in
+    let n = c.args.number in
+    bare_stored s.objects.values s.store n c.remove-removed.result c.remove-removed.ensures.value
+    ∙ ap (λ (l : List Object). option_map bare (object_in n l)) c.self.view_is

@@ -1,21 +1,22 @@
-use Rattle.std.proofs.Common.{◌∙◌, List, Option, ap, refl, sym}
-use Rattle.std.specs.Prelude.{is_some}
+use Rattle.std.proofs.Common.{◌∙◌, List, ap, refl, sym}
+use Rattle.std.specs.Option.{option_map}
 use Rattle.std.specs.FinMap.{insert}
 use Rattle.ctl_meaning.specs.World.{Object}
 use Rattle.ctl_meaning.specs.Objects.{change_in, object_in}
 use Rattle.ctl_objects.specs.declared.existing.Stage.{Stage}
+use Rattle.ctl_objects.specs.Existing.{bare}
 use Rattle.ctl_objects.specs.Stages.{with_step}
 use Rattle.ctl_objects.specs.InStore.{seen}
 use Rattle.ctl_objects.proofs.Rising.{change_lacking}
 use Rattle.ctl_objects.proofs.InStore.{found_here, found_none, seen_moved, stored_moved}
 use Rattle.ctl_objects.proofs.stored.StoredObjects.step.Goals as goal
 
-pub returns-in_default-clause-exists : goal.returns-in_default-clause-exists
-returns-in_default-clause-exists c =
+pub returns-in_default-clause-before : goal.returns-in_default-clause-before
+returns-in_default-clause-before c =
     let s = c.self.inside in
     let n = c.args.number in
-    sym (ap (λ (o : Option Object). is_some o) (found_none s.objects.values s.store n (sym c.in_default.ensures.value)))
-    ∙ ap (λ (l : List Object). is_some (object_in n l)) c.self.view_is
+    sym (ap (option_map bare) (found_none s.objects.values s.store n (sym c.in_default.ensures.value)))
+    ∙ ap (λ (l : List Object). option_map bare (object_in n l)) c.self.view_is
 
 pub returns-in_default-clause-stepped : goal.returns-in_default-clause-stepped
 returns-in_default-clause-stepped c =
@@ -30,12 +31,12 @@ invariant_of-self-2 c =
     let a = c.in-Some.object.now in
     stored_moved s.objects.values s.store c.args.number a (record a { stage = c.after-object.result }) c.self.invariant (sym c.in-Some.ensures.value) refl
 
-pub returns-clause-exists : goal.returns-clause-exists
-returns-clause-exists c =
+pub returns-clause-before : goal.returns-clause-before
+returns-clause-before c =
     let s = c.self.inside in
     let n = c.args.number in
-    sym (ap (λ (o : Option Object). is_some o) (found_here s.objects.values s.store n c.in-Some.object.now (sym c.in-Some.ensures.value)))
-    ∙ ap (λ (l : List Object). is_some (object_in n l)) c.self.view_is
+    sym (ap (option_map bare) (found_here s.objects.values s.store n c.in-Some.object.now (sym c.in-Some.ensures.value)))
+    ∙ ap (λ (l : List Object). option_map bare (object_in n l)) c.self.view_is
 
 pub returns-clause-stepped : goal.returns-clause-stepped
 returns-clause-stepped c =

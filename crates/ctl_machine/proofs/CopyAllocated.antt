@@ -1,0 +1,227 @@
+-- An object is allocated for a collection with the value of a part of another one.
+use Rattle.std.proofs.Common.{◌≡◌, ℕ, ◌+◌, List, [], ◌∷◌, ◌++◌, Option, Some, None, length, refl, sym, ap, ◌∙◌, subst, drop, replicate}
+use Rattle.std.specs.Prelude.{◌-◌, is_some, slice_get, slice_index_or, true}
+use Rattle.std.specs.Option.{option_map_or}
+use Rattle.ctl_tree.specs.declared.ending.Stop.TheVariants.{UseAfterFree}
+use Rattle.ctl_tree.specs.declared.event.Owner.TheVariants as OwnerOf
+use Rattle.ctl_program.specs.declared.types.Ty.{Ty}
+use Rattle.ctl_program.specs.declared.types.Ty.TheVariants.{Record}
+use Rattle.ctl_meaning.specs.World as W
+use Rattle.ctl_meaning.specs.World.{Allocated, Collection, Standard, World}
+use Rattle.ctl_meaning.specs.Objects.{cells_at, change_in, object_in, with_cells}
+use Rattle.ctl_meaning.specs.Changes.{new_object, object_at, write_cells, opened_changes}
+use Rattle.ctl_meaning.specs.Finalization.{Spot}
+use Rattle.ctl_meaning.specs.Outcome.{Fine}
+use Rattle.ctl_code.specs.declared.code.Code.{Code}
+use Rattle.ctl_code.specs.declared.code.Instr.TheVariants.{NewCopy}
+use Rattle.ctl_code.specs.declared.code.Parts.{Parts}
+use Rattle.ctl_code.specs.declared.code.Parts.TheVariants as PartsOf
+use Rattle.ctl_code.specs.States as T
+use Rattle.ctl_code.specs.States.{State, Word}
+use Rattle.ctl_code.specs.Table.{Here, adjust_new, by_creating, by_instr, new_from, new_with, newborn, parts_of, set_seen, size_of, with_member}
+use Rattle.ctl_machine.specs.declared.engine.Engine.{Engine}
+use Rattle.ctl_machine.specs.declared.frame.Frame.{Frame}
+use Rattle.ctl_machine.specs.declared.frame.Frame.TheVariants as FrameOf
+use Rattle.ctl_machine.specs.declared.frame.Mode.{Mode}
+use Rattle.ctl_machine.specs.declared.frame.Mode.TheVariants as ModeOf
+use Rattle.ctl_machine.specs.declared.frame.Owned.{Owned}
+use Rattle.ctl_machine.specs.Allocating.{OwnsNone}
+use Rattle.ctl_machine.specs.Copying.{AwaitsCopy, IsMember, Refuses, Takes, member_copied, point_at}
+use Rattle.ctl_machine.specs.Declaring.{Copied}
+use Rattle.ctl_machine.specs.Finishing.{with_objects}
+use Rattle.ctl_machine.specs.Gathering.{with_new_member}
+use Rattle.ctl_machine.specs.Masters.{Head, heads_of, first_display}
+use Rattle.ctl_machine.specs.Moves.{Before, GoesOn, Inside, Makes, here_of}
+use Rattle.ctl_machine.specs.Shows.{Holds, Kept, Sized, kept, with_spots}
+use Rattle.ctl_machine.specs.Spots.{first_spot, standing}
+use Rattle.ctl_machine.proofs.CopyBegun.{noted_from}
+use Rattle.ctl_machine.proofs.CopyDeclared.{value_taken}
+use Rattle.ctl_machine.proofs.Following.{makes_later}
+use Rattle.ctl_machine.proofs.Foreign.{owns_no_next}
+use Rattle.ctl_machine.proofs.Located.{located_move, part_on_top}
+use Rattle.ctl_machine.proofs.NewMember.{member_added, member_heads, not_allocated, refused_makes}
+use Rattle.ctl_machine.proofs.Operands.{HasPart}
+use Rattle.ctl_machine.proofs.Owned.{cells_keep, holds_changed, new_found, object_shown, some_there}
+use Rattle.ctl_machine.proofs.Stages.{Copies, allocator_begins}
+use Rattle.ctl_machine.proofs.Touched.{gone_makes}
+use Rattle.ctl_machine.proofs.Words.{newest_read}
+
+-- It is to be adjusted -----------------------------------------------------------------------------------
+
+-- an allocated object as one that has taken a value
+abbrev pub member_at : ℕ → ℕ → State → Copied
+member_at object place s = record { number = object; point = point_at place s; control = s.control; world = s.world }
+
+-- where the allocator of a frame goes on
+abbrev pub place_of : Frame → ℕ
+place_of (FrameOf.AllocatingCopy object t place first) = place
+place_of _ = 0
+
+-- the frame of its allocator is to wait for it
+pub member_awaits_copy : (code : Code) (old : Engine) (object type place first : ℕ) (s : State) → IsMember code old object place s → first ≡ length old.noted.items → AwaitsCopy code old (FrameOf.AllocatingCopy object type place first) T.ByAllocator type (member_at object place s)
+member_awaits_copy code old object type place first s m begins = record {
+  holds = allocator_begins (Copies first []) code (kept old) object type place (point_at place s) s.control s.world (noted_from code old (member_at object place s) first begins m.inside.holds, refl) m.inside.holds m.foreign refl refl;
+  spots = m.inside.spots;
+  sized = (m.stack, (m.type, m.scalar, m.leads), m.inside.sized);
+}
+
+-- where no part of it is controlled, it joins its collection at once
+pub plain_joins : (code : Code) (old new : Engine) (object type place set : ℕ) (s : State) → parts_of code type ≡ PartsOf.Plain → Makes code old new (by_creating (Fine T.Complete) T.ByAllocator object (point_at place s) s.control s.world)
+    → Makes code old new (adjust_new code (parts_of code type) T.ByAllocator (newborn object type (OwnerOf.Collection set)) (point_at place s) s.control s.world)
+plain_joins code old new object type place set s plain makes =
+    subst (λ (p : Parts). Makes code old new (adjust_new code p T.ByAllocator (newborn object type (OwnerOf.Collection set)) (point_at place s) s.control s.world)) (sym plain) makes
+
+-- It takes the value -------------------------------------------------------------------------------------
+
+-- a new object of a collection, which has taken this value
+abbrev pub with_taken : ℕ → ℕ → ℕ → List ℕ → Kept → Kept
+with_taken set t size value e = with_objects (change_in e.next_object (with_cells 0 value) (with_new_member set t (replicate size 0) e).objects) (with_new_member set t (replicate size 0) e)
+
+-- it is allocated, and then its cells are copied from an object that was there
+pub taken_kept : (old made : Kept) (objects : List W.Object) (spots : List Spot) (set t size source start offset count number : ℕ) (o : W.Object)
+    → made ≡ with_new_member set t (replicate size 0) old → number ≡ old.next_object → object_in source old.objects ≡ Some o → start ≡ offset → size ≡ count
+    → objects ≡ option_map_or (λ z. change_in number (with_cells 0 (cells_at start size z)) made.objects) (object_in source made.objects) made.objects
+    → record made { spots = spots; objects = objects } ≡ with_taken set t count (cells_at offset count o) (with_spots old spots)
+taken_kept old made objects spots set t size source start offset count number o added next there from all copied =
+    let x = new_object old.next_object (Record t) (replicate count 0) (Allocated set Standard) in
+    let made_is : made ≡ with_new_member set t (replicate count 0) old = added ∙ ap (λ n. with_new_member set t (replicate n 0) old) all in
+    let is = value_taken old.objects made.objects objects x source start offset size count number old.next_object o (ap (λ (e : Kept). e.objects) made_is) next there from all copied in
+    ap (λ (l : List W.Object). record made { spots = spots; objects = l }) is
+    ∙ ap (λ (e : Kept). record e { spots = spots; objects = change_in old.next_object (with_cells 0 (cells_at offset count o)) (old.objects ++ x ∷ []) }) made_is
+
+taken_holds : (code : Code) (e : Kept) (set t : ℕ) (value : List ℕ) (k : List T.Frame) (ops : List Word) (w : World) → Holds code e k ops w → Holds code (with_taken set t (size_of code t) value e) k ops (write_cells w.ledger.next_object 0 value (with_member code set t w))
+unfolding opened_changes
+taken_holds code e set t value k ops w h =
+    let added = member_added code e set t k ops w h in
+    let taken = holds_changed code (with_new_member set t (replicate (size_of code t) 0) e) k ops (with_member code set t w) e.next_object (with_cells 0 value) (cells_keep 0 value) added in
+    subst (λ c. Holds code (with_taken set t (size_of code t) value e) k ops (write_cells c 0 value (with_member code set t w))) (sym h.next_object) taken
+
+taken_heads : (code : Code) (n set t : ℕ) (value : List ℕ) (w : World) → heads_of (write_cells n 0 value (with_member code set t w)).activations ≡ heads_of w.activations
+unfolding opened_changes
+taken_heads code n set t value w = member_heads code set t w
+
+member_there : (code : Code) (e : Kept) (set t : ℕ) (k : List T.Frame) (ops : List Word) (w : World) → Holds code e k ops w
+    → object_at w.ledger.next_object (with_member code set t w) ≡ Some (new_object e.next_object (Record t) (replicate (size_of code t) 0) (Allocated set Standard))
+unfolding opened_changes
+member_there code e set t k ops w h =
+    let x = new_object e.next_object (Record t) (replicate (size_of code t) 0) (Allocated set Standard) in
+    let added = member_added code e set t k ops w h in
+    ap (λ c. object_at c (with_member code set t w)) h.next_object
+    ∙ (object_shown code (with_new_member set t (replicate (size_of code t) 0) e) k ops (with_member code set t w) e.next_object added ∙ new_found e.owned e.next_object e.objects x h.owns refl)
+
+-- the state then
+abbrev pub taken_state : Code → ℕ → ℕ → W.Object → State → State
+taken_state code set t o s = record s { operands = drop 1 s.operands; world = write_cells s.world.ledger.next_object 0 (cells_at (first_spot s.operands).offset (size_of code t) o) (with_member code set t s.world) }
+
+-- what the table makes of it
+table_takes : (code : Code) (e : Kept) (place set t : ℕ) (o : W.Object) (k : List T.Frame) (ops : List Word) (s : State) → Holds code e k ops s.world
+    → member_copied code place set t o s ≡ (let x = taken_state code set t o s in adjust_new code (parts_of code t) T.ByAllocator (newborn s.world.ledger.next_object t (OwnerOf.Collection set)) (point_at (place + 1) (record x { world = s.world })) x.control x.world)
+table_takes code e place set t o k ops s h = rw (member_there code e set t k ops s.world h) refl
+
+-- the part whose value is taken
+pub source_part : (code : Code) (e : Engine) (access place t at : ℕ) (ty : Ty) (s : State) → (b : Before code e place (NewCopy access t ty at) s) → HasPart code (kept e) b.fine.2.0 s.control s.operands s.world
+source_part code e access place t at ty s b = part_on_top code e t b.stack b.fine.2.0 s b.inside b.fine.2.1
+
+-- the new object has taken the value, and its allocator goes on
+pub taken_is : (code : Code) (old new : Engine) (access place set t at : ℕ) (ty : Ty) (o : W.Object) (s : State) → Before code old place (NewCopy access t ty at) s
+    → kept new ≡ with_taken set t (size_of code t) (cells_at (first_spot s.operands).offset (size_of code t) o) (with_spots (kept old) (standing s.control (drop 1 s.operands)))
+    → IsMember code new (old.numbered.objects + 1) (place + 1) (taken_state code set t o s)
+taken_is code old new access place set t at ty o s b are =
+    let value = cells_at (first_spot s.operands).offset (size_of code t) o in
+    let p = source_part code old access place t at ty s b in
+    let x = taken_state code set t o s in
+    let e = with_spots (kept old) (standing s.control (drop 1 s.operands)) in
+    let made = with_taken set t (size_of code t) value e in
+    let heads : heads_of x.world.activations ≡ heads_of s.world.activations = taken_heads code s.world.ledger.next_object set t value s.world in
+    let inside : Inside code made b.fine.2.0 s.control x.operands x.world = record {
+      stands = p.left.stands;
+      sized = subst (λ (l : List Head). Sized code b.fine.2.0 s.control l) (sym heads) p.left.sized;
+      holds = taken_holds code e set t value s.control x.operands s.world p.left.holds;
+      spots = p.left.spots;
+    } in
+    record {
+      stack = b.fine.2.0;
+      type = ty;
+      scalar = b.fine.0;
+      leads = b.fine.2.2.1;
+      inside = subst (λ (z : Kept). Inside code z b.fine.2.0 s.control x.operands x.world) (sym are) inside;
+      foreign = subst (λ (l : List Owned). OwnsNone (old.numbered.objects + 1) l) (sym (ap (λ (z : Kept). z.owned) are)) (owns_no_next old.owned.items (old.numbered.objects + 1) old.objects b.inside.holds.owns);
+    }
+
+pub taken_makes : (code : Code) (old mid new : Engine) (access place set t at : ℕ) (ty : Ty) (o : W.Object) (s : State) → Before code old place (NewCopy access t ty at) s → mid.events.items ≡ old.events.items → mid.picks.items ≡ old.picks.items
+    → (let x = taken_state code set t o s in Makes code mid new (adjust_new code (parts_of code t) T.ByAllocator (newborn (old.numbered.objects + 1) t (OwnerOf.Collection set)) (point_at (place + 1) x) x.control x.world)) → Makes code old new (member_copied code place set t o s)
+taken_makes code old mid new access place set t at ty o s b events picks makes =
+    let x = taken_state code set t o s in
+    let value = cells_at (first_spot s.operands).offset (size_of code t) o in
+    let h = b.inside.holds in
+    let goes : List Head → ℕ → T.Move = λ hs n. adjust_new code (parts_of code t) T.ByAllocator (newborn n t (OwnerOf.Collection set)) (record { display = first_display hs; place = place + 1; operands = x.operands }) x.control x.world in
+    let same : member_copied code place set t o s ≡ goes (heads_of x.world.activations) (old.numbered.objects + 1) =
+    table_takes code (kept old) place set t o s.control s.operands s h
+    ∙ (ap (λ n. goes (heads_of s.world.activations) n) h.next_object ∙ ap (λ (hs : List Head). goes hs (old.numbered.objects + 1)) (sym (taken_heads code s.world.ledger.next_object set t value s.world))) in
+    subst (λ (m : T.Move). Makes code old new m) (sym same) (makes_later code old mid new _ events picks makes)
+
+-- By the instruction -------------------------------------------------------------------------------------
+
+-- the collection of an access type, where it is seen
+abbrev pub seen_in : Code → ℕ → State → Option Collection
+seen_in code access s = set_seen (slice_get code.accesses.items access) (first_display (heads_of s.world.activations)) s.world
+
+copied_move : (code : Code) (e : Engine) (access place t at : ℕ) (ty : Ty) (s : State) → Before code e place (NewCopy access t ty at) s
+    → by_instr code (Some (NewCopy access t ty at)) s.operands (here_of place s) ≡ new_from code t (first_spot s.operands).offset (object_at (first_spot s.operands).object s.world) (seen_in code access s) (drop 1 s.operands) (here_of place s)
+copied_move code e access place t at ty s b =
+    located_move code e b.fine.2.0 s (λ y rest. new_from code t y.offset (object_at y.object s.world) (seen_in code access s) rest (here_of place s)) (here_of place s) (source_part code e access place t at ty s b)
+
+-- an object that is there
+abbrev pub object_or : Option W.Object → W.Object
+object_or None = new_object 0 (Record 0) [] (Allocated 0 Standard)
+object_or (Some o) = o
+
+pub source_found : (code : Code) (e : Engine) (access place t at : ℕ) (ty : Ty) (s : State) → Before code e place (NewCopy access t ty at) s → (count number : ℕ) (x : Spot) → count ≡ length e.spots.items → x ≡ slice_index_or e.spots.items (count - 1) x → number ≡ x.object
+    → is_some (object_in number e.objects) ≡ true → object_at (first_spot s.operands).object s.world ≡ Some (object_or (object_at (first_spot s.operands).object s.world))
+source_found code e access place t at ty s b count number x all read is there =
+    let y = first_spot s.operands in
+    let p = source_part code e access place t at ty s b in
+    let same : x ≡ y = newest_read e.spots.items (standing s.control (drop 1 s.operands)) y x count p.spots all read in
+    let some = some_there (object_in number e.objects) there in
+    let found : object_in y.object e.objects ≡ Some some.0 = ap (λ n. object_in n e.objects) (sym (is ∙ ap (λ (z : Spot). z.object) same)) ∙ some.1 in
+    let shown : object_at y.object s.world ≡ Some some.0 = object_shown code (kept e) s.control s.operands s.world y.object b.inside.holds ∙ found in
+    shown ∙ ap (λ (z : Option W.Object). Some (object_or z)) (sym shown)
+
+-- the object of the part is gone
+pub source_gone : (code : Code) (old new : Engine) (access place t at : ℕ) (ty : Ty) (s : State) → Before code old place (NewCopy access t ty at) s → object_in (first_spot s.operands).object old.objects ≡ None
+    → GoesOn old new (ModeOf.Stopped UseAfterFree) old.cells.items → Makes code old new (by_instr code (Some (NewCopy access t ty at)) s.operands (here_of place s))
+source_gone code old new access place t at ty s b none goes =
+    let y = first_spot s.operands in
+    let rest = drop 1 s.operands in
+    let object : object_at y.object s.world ≡ None = object_shown code (kept old) s.control s.operands s.world y.object b.inside.holds ∙ none in
+    subst (λ (m : T.Move). Makes code old new m) (sym (copied_move code old access place t at ty s b ∙ ap (λ (z : Option W.Object). new_from code t y.offset z (seen_in code access s) rest (here_of place s)) object))
+    (gone_makes code old new s.control s.operands s.world b.inside.holds goes)
+
+-- it is there
+source_there : (code : Code) (old : Engine) (access place t at : ℕ) (ty : Ty) (o : W.Object) (s : State) → Before code old place (NewCopy access t ty at) s → object_at (first_spot s.operands).object s.world ≡ Some o
+    → by_instr code (Some (NewCopy access t ty at)) s.operands (here_of place s) ≡ new_with code t (cells_at (first_spot s.operands).offset (size_of code t) o) (seen_in code access s) (drop 1 s.operands) (here_of place s)
+source_there code old access place t at ty o s b there =
+    copied_move code old access place t at ty s b ∙ ap (λ (z : Option W.Object). new_from code t (first_spot s.operands).offset z (seen_in code access s) (drop 1 s.operands) (here_of place s)) there
+
+-- no collection takes the new object
+refused_with : (code : Code) (t : ℕ) (mode : Mode) (v : List ℕ) (ops : List Word) (h : Here) (c : Option Collection) → Refuses code t c mode → new_with code t v c ops h ≡ not_allocated code t c h
+refused_with code t mode v ops h None refuses = refl
+refused_with code t mode v ops h (Some c) refuses = rw (refuses.0) refl
+
+pub copy_refused : (code : Code) (old new : Engine) (access place t at : ℕ) (ty : Ty) (mode : Mode) (o : W.Object) (s : State) → Before code old place (NewCopy access t ty at) s → object_at (first_spot s.operands).object s.world ≡ Some o
+    → Refuses code t (seen_in code access s) mode → GoesOn old new mode old.cells.items → Makes code old new (by_instr code (Some (NewCopy access t ty at)) s.operands (here_of place s))
+copy_refused code old new access place t at ty mode o s b there refuses goes =
+    subst (λ (m : T.Move). Makes code old new m)
+    (sym (source_there code old access place t at ty o s b there ∙ refused_with code t mode (cells_at (first_spot s.operands).offset (size_of code t) o) (drop 1 s.operands) (here_of place s) (seen_in code access s) refuses))
+    (refused_makes code old new t mode b.stack s.operands (here_of place s) b.inside (seen_in code access s) refuses goes)
+
+-- it takes it
+takes_with : (code : Code) (place t set : ℕ) (o : W.Object) (s : State) (c : Option Collection) → Takes code t c set → new_with code t (cells_at (first_spot s.operands).offset (size_of code t) o) c (drop 1 s.operands) (here_of place s) ≡ member_copied code place set t o s
+takes_with code place t set o s c u =
+    ap (λ (z : Option Collection). new_with code t (cells_at (first_spot s.operands).offset (size_of code t) o) z (drop 1 s.operands) (here_of place s)) u.is
+    ∙ rw (u.takes) (ap (λ n. member_copied code place n t o s) u.number)
+
+pub copy_takes : (code : Code) (old new : Engine) (access place set t at : ℕ) (ty : Ty) (o : W.Object) (s : State) → Before code old place (NewCopy access t ty at) s → object_at (first_spot s.operands).object s.world ≡ Some o
+    → Takes code t (seen_in code access s) set → Makes code old new (member_copied code place set t o s) → Makes code old new (by_instr code (Some (NewCopy access t ty at)) s.operands (here_of place s))
+copy_takes code old new access place set t at ty o s b there u makes =
+    subst (λ (m : T.Move). Makes code old new m) (sym (source_there code old access place t at ty o s b there ∙ takes_with code place t set o s (seen_in code access s) u)) makes

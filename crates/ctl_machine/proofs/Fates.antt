@@ -1,0 +1,185 @@
+-- What becomes of an object that is to be freed, by what is known of it.
+use Rattle.std.proofs.Common.{◌≡◌, ◌≢◌, ℕ, ◌+◌, List, [], ◌∷◌, Option, Some, None, Bool, true, false, refl, sym, ap, ◌∙◌, subst}
+use Rattle.std.specs.Prelude.{◌&&◌, if◌then◌else◌, nat_eq, not}
+use Rattle.std.specs.Option.{option_map}
+use Rattle.ctl_program.specs.declared.types.Ty.{Ty}
+use Rattle.ctl_program.specs.declared.types.Ty.TheVariants.{Integer, Count, Boolean, Address, Handle, Access, Record}
+use Rattle.ctl_program.specs.declared.types.Var.{Var}
+use Rattle.ctl_tree.specs.declared.ending.Stop.TheVariants as StopOf
+use Rattle.ctl_tree.specs.declared.event.Cause.TheVariants as CauseOf
+use Rattle.ctl_meaning.specs.Activations.{master_of}
+use Rattle.ctl_meaning.specs.Allocation.{set_in}
+use Rattle.ctl_meaning.specs.Changes.{object_at, slot_at}
+use Rattle.ctl_meaning.specs.Objects.{is_finalizing, is_of_set, is_untouched, object_in, opened_objects}
+use Rattle.ctl_meaning.specs.Outcome.{Fine}
+use Rattle.ctl_meaning.specs.World as W
+use Rattle.ctl_meaning.specs.World.{Object, World}
+use Rattle.ctl_objects.specs.declared.existing.Existing.{Existing}
+use Rattle.ctl_objects.specs.declared.existing.Life.{Life}
+use Rattle.ctl_objects.specs.declared.existing.Life.TheVariants as LifeOf
+use Rattle.ctl_objects.specs.declared.existing.Origin.{Origin}
+use Rattle.ctl_objects.specs.declared.existing.Origin.TheVariants as OriginOf
+use Rattle.ctl_objects.specs.declared.existing.Stage.{Stage}
+use Rattle.ctl_objects.specs.Existing.{IsKnown, bare, known, origin_of}
+use Rattle.ctl_objects.specs.Order as Order
+use Rattle.ctl_objects.specs.Stages.{state_of}
+use Rattle.ctl_code.specs.declared.code.Code.{Code}
+use Rattle.ctl_code.specs.declared.code.Parts.{Parts}
+use Rattle.ctl_code.specs.declared.code.Parts.TheVariants as PartsOf
+use Rattle.ctl_code.specs.States as T
+use Rattle.ctl_code.specs.States.{State, Word}
+use Rattle.ctl_code.specs.Table.{behind_declaration, finalize_freed, finalize_object, free_member, free_object, gives, has_part, parts_of, stopped}
+use Rattle.ctl_machine.specs.declared.engine.Engine.{Engine}
+use Rattle.ctl_machine.specs.declared.frame.Owned.{Owned}
+use Rattle.ctl_machine.specs.declared.freeing.Fate.{Fate}
+use Rattle.ctl_machine.specs.declared.freeing.Fate.TheVariants as FateOf
+use Rattle.ctl_machine.specs.Allocating.{OwnsNone}
+use Rattle.ctl_machine.specs.Freeing.{IsFate, MayBe, by_fate, fate_by_life, fate_by_origin, fate_of, fate_of_member, if_unfinished}
+use Rattle.ctl_machine.specs.Masters.{first_display, heads_of}
+use Rattle.ctl_machine.specs.Moves.{here_of}
+use Rattle.ctl_machine.specs.Shows.{Holds, kept}
+use Rattle.ctl_machine.proofs.Foreign.{allocated_foreign}
+use Rattle.ctl_machine.proofs.MayJoin.{known_there, none_known}
+use Rattle.ctl_machine.proofs.Owned.{object_shown}
+
+-- The table's move -------------------------------------------------------------------------------------
+
+-- an object of which this is known
+abbrev known_object : ℕ → Existing → List ℕ → Object
+known_object n x cells = record (known n x) { cells = cells }
+
+is_known_object : (n : ℕ) (x : Existing) (o : Object) → bare o ≡ known n x → o ≡ known_object n x o.cells
+is_known_object n x o e = ap (λ (z : Object). record z { cells = o.cells }) e
+
+same_either : {A : Type 0} (b : Bool) (x : A) → (if b then x else x) ≡ x
+same_either true x = refl
+same_either false x = refl
+
+-- one that is not being finalized
+unfinished_moves : (code : Code) (n : ℕ) (x : Existing) (cells : List ℕ) (f : T.Frame) (k : List T.Frame) (w : World) → finalize_freed code (known_object n x cells) (f ∷ k) w ≡ by_fate code (if_unfinished code x.stage x.ty) n f k w
+unfinished_moves code n x cells f k w = by x.ty
+  where
+    by_due : (b : Bool) (t : ℕ) → (if b then finalize_object code (parts_of code t) CauseOf.Free n t (f ∷ k) w else gives (Fine T.Complete) (f ∷ k) w) ≡ by_fate code (if b then FateOf.Finalizes t else FateOf.Goes) n f k w
+    by_due true t = refl
+    by_due false t = refl
+
+    other : (if x.stage.has_joined && (is_untouched (state_of x.stage.life) && false) then gives (Fine T.Complete) (f ∷ k) w else gives (Fine T.Complete) (f ∷ k) w) ≡ gives (Fine T.Complete) (f ∷ k) w
+    other = same_either (x.stage.has_joined && (is_untouched (state_of x.stage.life) && false)) (gives (Fine T.Complete) (f ∷ k) w)
+
+    by : (ty : Ty) → finalize_freed code (record (known_object n x cells) { ty = ty }) (f ∷ k) w ≡ by_fate code (if_unfinished code x.stage ty) n f k w
+    by Integer = other
+    by Count = other
+    by Boolean = other
+    by Address = other
+    by Handle = other
+    by (Access a) = other
+    by (Record t) = by_due (x.stage.has_joined && (is_untouched (state_of x.stage.life) && has_part (parts_of code t))) t
+
+-- one that is freed from its collection
+member_moves : (code : Code) (n : ℕ) (x : Existing) (cells : List ℕ) (f : T.Frame) (k : List T.Frame) (w : World)
+    → (if is_finalizing (state_of x.stage.life) then stopped StopOf.FreeWhileFinalizing k w else finalize_freed code (known_object n x cells) (f ∷ k) w) ≡ by_fate code (fate_of_member code x) n f k w
+unfolding opened_objects
+member_moves code n x cells f k w = by x.stage.life (unfinished_moves code n x cells f k w)
+  where
+    by : (l : Life) → finalize_freed code (known_object n x cells) (f ∷ k) w ≡ by_fate code (if_unfinished code x.stage x.ty) n f k w
+        → (if is_finalizing (state_of l) then stopped StopOf.FreeWhileFinalizing k w else finalize_freed code (known_object n x cells) (f ∷ k) w) ≡ by_fate code (fate_by_life code l x.stage x.ty) n f k w
+    by LifeOf.Untouched e = e
+    by LifeOf.Finalizing e = refl
+    by LifeOf.Finalized e = e
+
+-- and from whichever collection
+freed_moves : (code : Code) (set n : ℕ) (x : Existing) (cells : List ℕ) (nulled : T.Nulled) (p : T.Point) (k : List T.Frame) (w : World) → free_member code nulled set (known_object n x cells) p k w ≡ by_fate code (fate_of code set x) n (T.Freeing nulled n p) k w
+unfolding opened_objects
+freed_moves code set n x cells nulled p k w = by x.origin (member_moves code n x cells (T.Freeing nulled n p) k w)
+  where
+    by_set : (b : Bool) → (if is_finalizing (state_of x.stage.life) then stopped StopOf.FreeWhileFinalizing k w else finalize_freed code (known_object n x cells) (T.Freeing nulled n p ∷ k) w) ≡ by_fate code (fate_of_member code x) n (T.Freeing nulled n p) k w
+        → (if not b then stopped StopOf.ForeignFree k w else if is_finalizing (state_of x.stage.life) then stopped StopOf.FreeWhileFinalizing k w else finalize_freed code (known_object n x cells) (T.Freeing nulled n p ∷ k) w)
+        ≡ by_fate code (if b then fate_of_member code x else FateOf.Stops StopOf.ForeignFree) n (T.Freeing nulled n p) k w
+    by_set true e = e
+    by_set false e = refl
+
+    by : (z : Origin) → (if is_finalizing (state_of x.stage.life) then stopped StopOf.FreeWhileFinalizing k w else finalize_freed code (known_object n x cells) (T.Freeing nulled n p ∷ k) w) ≡ by_fate code (fate_of_member code x) n (T.Freeing nulled n p) k w
+        → (if not (is_of_set set (origin_of z)) then stopped StopOf.ForeignFree k w else if is_finalizing (state_of x.stage.life) then stopped StopOf.FreeWhileFinalizing k w else finalize_freed code (known_object n x cells) (T.Freeing nulled n p ∷ k) w)
+        ≡ by_fate code (fate_by_origin code set z x) n (T.Freeing nulled n p) k w
+    by (OriginOf.Declared m) e = refl
+    by (OriginOf.Allocated c) e = by_set (nat_eq c set) e
+
+-- Who owns it ------------------------------------------------------------------------------------------
+
+some_part : (p : Parts) → has_part p ≡ true → p ≢ PartsOf.Plain
+some_part PartsOf.Plain e is = absurd (cc)
+some_part PartsOf.Within e is = absurd (cc)
+some_part PartsOf.Controlled e is = absurd (cc)
+
+last_holds : (a b c : Bool) → (a && (b && c)) ≡ true → c ≡ true
+last_holds true true c e = e
+last_holds true false c e = absurd (cc)
+last_holds false b c e = absurd (cc)
+
+member_may : (code : Code) (n : ℕ) (x : Existing) (owned : List Owned) → OwnsNone n owned → MayBe code (fate_of_member code x) n owned
+member_may code n x owned none = by_life x.stage.life
+  where
+    by_due : (b : Bool) (t : ℕ) → (x.stage.has_joined && (is_untouched (state_of x.stage.life) && has_part (parts_of code t))) ≡ b → MayBe code (if b then FateOf.Finalizes t else FateOf.Goes) n owned
+    by_due true t is = (none, some_part (parts_of code t) (last_holds x.stage.has_joined (is_untouched (state_of x.stage.life)) (has_part (parts_of code t)) is))
+    by_due false t is = none
+
+    by : (ty : Ty) → MayBe code (if_unfinished code x.stage ty) n owned
+    by Integer = none
+    by Count = none
+    by Boolean = none
+    by Address = none
+    by Handle = none
+    by (Access a) = none
+    by (Record t) = by_due (x.stage.has_joined && (is_untouched (state_of x.stage.life) && has_part (parts_of code t))) t refl
+
+    by_life : (l : Life) → MayBe code (fate_by_life code l x.stage x.ty) n owned
+    by_life LifeOf.Untouched = by x.ty
+    by_life LifeOf.Finalizing = tt
+    by_life LifeOf.Finalized = by x.ty
+
+freed_may : (code : Code) (set n : ℕ) (x : Existing) (owned : List Owned) → ((c : ℕ) → x.origin ≡ OriginOf.Allocated c → OwnsNone n owned) → MayBe code (fate_of code set x) n owned
+freed_may code set n x owned none = by x.origin refl
+  where
+    by_set : (b : Bool) → OwnsNone n owned → MayBe code (if b then fate_of_member code x else FateOf.Stops StopOf.ForeignFree) n owned
+    by_set true own = member_may code n x owned own
+    by_set false own = tt
+
+    by : (z : Origin) → x.origin ≡ z → MayBe code (fate_by_origin code set z x) n owned
+    by (OriginOf.Declared m) is = tt
+    by (OriginOf.Allocated c) is = by_set (nat_eq c set) (none c is)
+
+-- Both -------------------------------------------------------------------------------------------------
+
+found_moves : (code : Code) (nulled : T.Nulled) (v : Var) (ops : List Word) (place : ℕ) (s : State) (y : Option Object) (o : Object) → y ≡ Some o
+    → free_object code nulled (Some v) y ops (here_of place s) ≡ free_member code nulled (set_in (slot_at (master_of (first_display (heads_of s.world.activations)) v) v.slot s.world).content) o (behind_declaration ops (here_of place s)) s.control s.world
+found_moves code nulled v ops place s y o is = rw is refl
+
+-- it is there
+pub fate_known : (code : Code) (e : Engine) (v : Var) (n set : ℕ) (x : Existing) (s : State) → Holds code (kept e) s.control s.operands s.world → IsKnown n (Some x) e.objects
+    → set ≡ set_in (slot_at (master_of (first_display (heads_of s.world.activations)) v) v.slot s.world).content → IsFate code v n e.owned.items s (fate_of code set x)
+fate_known code e v n set x s h knows is =
+    let there = known_there n x e.objects knows in
+    let o = there.0 in
+    let found : object_at n s.world ≡ Some o = object_shown code (kept e) s.control s.operands s.world n h ∙ there.1 in
+    let same = is_known_object n x o there.2 in
+    let origin : o.origin ≡ origin_of x.origin = ap (λ (z : Object). z.origin) there.2 in
+    record {
+      may = freed_may code set n x e.owned.items (λ c from.
+          allocated_foreign n (e.numbered.objects + 1) e.objects e.owned.items o h.owns there.1 (subst (λ (z : W.Origin). Order.IsAllocated z) (sym (origin ∙ ap origin_of from)) tt));
+      moves = λ place nulled ops.
+          let p = behind_declaration ops (here_of place s) in
+          found_moves code nulled v ops place s (object_at n s.world) o found
+          ∙ (ap (λ m. free_member code nulled m o p s.control s.world) (sym is)
+          ∙ (ap (λ (z : Object). free_member code nulled set z p s.control s.world) same
+          ∙ freed_moves code set n x o.cells nulled p s.control s.world));
+    }
+
+none_moves : (code : Code) (nulled : T.Nulled) (v : Var) (ops : List Word) (place : ℕ) (s : State) (y : Option Object) → y ≡ None → free_object code nulled (Some v) y ops (here_of place s) ≡ stopped StopOf.UseAfterFree s.control s.world
+none_moves code nulled v ops place s y is = rw is refl
+
+-- it is gone
+pub fate_unknown : (code : Code) (e : Engine) (v : Var) (n : ℕ) (s : State) → Holds code (kept e) s.control s.operands s.world → IsKnown n None e.objects → IsFate code v n e.owned.items s (FateOf.Stops StopOf.UseAfterFree)
+fate_unknown code e v n s h knows = record {
+  may = tt;
+  moves = λ place nulled ops. none_moves code nulled v ops place s (object_at n s.world) (object_shown code (kept e) s.control s.operands s.world n h ∙ none_known n e.objects knows);
+}

@@ -1,0 +1,274 @@
+-- An object is freed by a component, which becomes null.
+use Rattle.std.proofs.Common.{◌≡◌, ℕ, zero, suc, ◌+◌, List, [], ◌∷◌, ◌++◌, Option, Some, None, Bool, drop, length, refl, sym, ap, ◌∙◌, subst, reverse}
+use Rattle.std.specs.Prelude.{slice_get}
+use Rattle.ctl_program.specs.declared.types.Var.{Var}
+use Rattle.ctl_tree.specs.declared.ending.Stop.TheVariants.{UseAfterFree}
+use Rattle.ctl_meaning.specs.Changes.{object_at, opened_changes, write_cells}
+use Rattle.ctl_meaning.specs.Finalization.{Spot}
+use Rattle.ctl_meaning.specs.Names.{scalar_of}
+use Rattle.ctl_meaning.specs.Objects.{cells_at, change_in, object_in}
+use Rattle.ctl_meaning.specs.Objects as O
+use Rattle.ctl_meaning.specs.Outcome.{Tried}
+use Rattle.ctl_meaning.specs.World as W
+use Rattle.ctl_meaning.specs.World.{World}
+use Rattle.ctl_code.specs.declared.kinds.Kind.{Kind}
+use Rattle.ctl_code.specs.declared.code.Code.{Code}
+use Rattle.ctl_code.specs.declared.code.Instr.TheVariants.{Free, FreePart}
+use Rattle.ctl_code.specs.States as T
+use Rattle.ctl_code.specs.States.{Giving, Move, State, Word}
+use Rattle.ctl_code.specs.Table.{Here, act, by_free, by_free_part, by_instr, cell_at, component_of, freed_part, free_object, gone, offset_of, on, says_failed}
+use Rattle.ctl_code.specs.Valid.{Leads}
+use Rattle.ctl_machine.specs.declared.engine.Engine.{Engine}
+use Rattle.ctl_machine.specs.declared.frame.Ended.{Ended}
+use Rattle.ctl_machine.specs.declared.frame.Frame.{Frame}
+use Rattle.ctl_machine.specs.declared.frame.Frame.TheVariants as FrameOf
+use Rattle.ctl_machine.specs.declared.frame.Mode.TheVariants as ModeOf
+use Rattle.ctl_machine.specs.declared.frame.Nulled.{Nulled}
+use Rattle.ctl_machine.specs.declared.frame.Nulled.TheVariants as NulledOf
+use Rattle.ctl_machine.specs.Finishing.{DropsFrame, with_objects}
+use Rattle.ctl_machine.specs.Freeing.{Freed, Frees, mode_freed}
+use Rattle.ctl_machine.specs.Masters.{first_display, heads_of}
+use Rattle.ctl_machine.specs.Moves.{Before, BeforeResuming, GoesOn, Inside, Makes, here_of}
+use Rattle.ctl_machine.specs.Parts.{part_in}
+use Rattle.ctl_machine.specs.Shows.{Holds, Kept, kept, nulled_of, tried_of, with_cells, with_spots}
+use Rattle.ctl_machine.specs.Spots.{first_spot, spots_in, standing}
+use Rattle.ctl_machine.proofs.Assignments.{stops_makes}
+use Rattle.ctl_machine.proofs.Bodies.{more_cells}
+use Rattle.ctl_machine.proofs.Foreign.{forgotten}
+use Rattle.ctl_machine.proofs.Freed.{IsFreeingIn, behind_frame, freed_makes, freeing, stands_behind}
+use Rattle.ctl_machine.proofs.Located.{goes_keeping, part_on_top, read_is}
+use Rattle.ctl_machine.proofs.Operands.{HasPart, other_spots}
+use Rattle.ctl_machine.proofs.Owned.{cells_keep, holds_changed, object_shown}
+use Rattle.ctl_machine.proofs.Plain.{goes_makes}
+use Rattle.ctl_machine.proofs.Touched.{gone_makes}
+use Rattle.ctl_machine.proofs.Words.{same_front}
+
+-- The frame goes ---------------------------------------------------------------------------------------
+
+-- the component that becomes null stands above the operands
+pub record IsNulled (e : Engine) (object : ℕ) (p : T.Point) (k : List T.Frame) (s : State) : Type 0 where
+  pub part : Spot
+  pub is : s.control ≡ T.Freeing (T.NullPart part) object p ∷ k
+  pub spots : e.spots.items ≡ standing k p.operands ++ part ∷ []
+
+pub nulled_part : (code : Code) (e : Engine) (object place : ℕ) (fs : List Frame) (s : State) → BeforeResuming code e s → (u : IsFreeingIn e object NulledOf.Part place fs s) → IsNulled e object u.point u.waiting s
+nulled_part code e object place fs s b u = by u.nulled_too u.is u.nulled_is
+  where
+    by : (x : T.Nulled) → s.control ≡ T.Freeing x object u.point ∷ u.waiting → NulledOf.Part ≡ nulled_of x → IsNulled e object u.point u.waiting s
+    by (T.NullVariable out slot) is same = absurd (cc)
+    by (T.NullPart part) is same = record { part = part; is = is; spots = b.spots ∙ ap (λ (k : List T.Frame). spots_in k) is }
+
+-- without the frame and the component
+pub record IsDropped (old new : Engine) (fs : List Frame) (parts : List Spot) (part dropped : Spot) : Type 0 where
+  pub kept : kept new ≡ behind_frame fs parts (kept old)
+  pub same : dropped ≡ part
+
+pub dropped_so : (old new : Engine) (f : Frame) (fs : List Frame) (parts : List Spot) (part dropped : Spot) → DropsFrame old new dropped → reverse old.control.items ≡ f ∷ fs → old.spots.items ≡ parts ++ part ∷ [] → IsDropped old new fs parts part dropped
+dropped_so old new f fs parts part dropped d top spots =
+    let rest : reverse new.control.items ≡ fs = ap (λ (l : List Frame). drop 1 l) (sym d.frame.1 ∙ top) in
+    let front = same_front new.spots.items parts dropped part (sym d.spot ∙ spots) in
+    record {
+      kept = d.kept ∙ (ap (λ (l : List Frame). behind_frame l new.spots.items (kept old)) rest ∙ ap (λ (l : List Spot). behind_frame fs l (kept old)) front.0);
+      same = front.1;
+    }
+
+gone_so : (part : Spot) (object : ℕ) (failed : Bool) (y : Option W.Object) (p : T.Point) (k : List T.Frame) (w : World) → y ≡ None → freed_part part object failed y p k w ≡ freed_part part object failed None p k w
+gone_so part object failed y p k w is = ap (λ z. freed_part part object failed z p k w) is
+
+-- the object of the component is gone
+pub part_stops : (code : Code) (old new : Engine) (ended : Ended) (object place : ℕ) (fs : List Frame) (s : State) → BeforeResuming code old s → reverse old.control.items ≡ FrameOf.Freeing object NulledOf.Part place ∷ fs
+    → (u : IsFreeingIn old object NulledOf.Part place fs s) → (x : IsNulled old object u.point u.waiting s) → object_in x.part.object old.objects ≡ None
+    → new.mode ≡ ModeOf.Stopped UseAfterFree → kept new ≡ behind_frame fs (standing u.waiting u.point.operands) (kept old) → new.events.items ≡ old.events.items → new.picks.items ≡ old.picks.items
+    → Makes code old new (act code (Giving (tried_of ended)) s.control s.operands s.world 0)
+part_stops code old new ended object place fs s b top u x none mode are events picks =
+    let v = stands_behind code old object NulledOf.Part place fs s b top u in
+    let k = u.waiting in
+    let p = u.point in
+    let failed = says_failed (tried_of ended) in
+    let missing = object_shown code (kept old) s.control s.operands s.world x.part.object b.holds ∙ none in
+    let made = stops_makes code old new k p.operands s.world mode (subst (λ (e : Kept). Holds code e k p.operands s.world) (sym are) v.inside.holds) events picks in
+    subst (λ (l : List T.Frame). Makes code old new (act code (Giving (tried_of ended)) l s.operands s.world 0)) (sym x.is)
+    (subst (λ (m : Move). Makes code old new m) (sym (gone_so x.part object failed (object_at x.part.object s.world) p k s.world missing)) made)
+
+-- with null in a component
+abbrev pub with_null : Spot → Kept → Kept
+with_null part e = with_objects (change_in part.object (O.with_cells part.offset (0 ∷ [])) e.objects) e
+
+-- what was written
+pub null_written : (written before objects : List W.Object) (number offset : ℕ) (part : Spot) → written ≡ change_in number (O.with_cells offset (0 ∷ [])) before → number ≡ part.object → offset ≡ part.offset → before ≡ objects → written ≡ change_in part.object (O.with_cells part.offset (0 ∷ [])) objects
+null_written written before objects number offset part is object first same =
+    is
+    ∙ (ap (λ n. change_in n (O.with_cells offset (0 ∷ [])) before) object
+    ∙ (ap (λ n. change_in part.object (O.with_cells n (0 ∷ [])) before) first ∙ ap (λ (l : List W.Object). change_in part.object (O.with_cells part.offset (0 ∷ [])) l) same))
+
+pub null_inside : (code : Code) (e : Kept) (stack : List Kind) (k : List T.Frame) (ops : List Word) (w : World) (part : Spot) → Inside code e stack k ops w → Inside code (with_null part e) stack k ops (write_cells part.object part.offset (0 ∷ []) w)
+unfolding opened_changes
+null_inside code e stack k ops w part i = record {
+  stands = i.stands;
+  sized = i.sized;
+  holds = holds_changed code e k ops w part.object (O.with_cells part.offset (0 ∷ [])) (cells_keep part.offset (0 ∷ [])) i.holds;
+  spots = i.spots;
+}
+
+same_display : (part : Spot) (w : World) (P : List W.Activation → Type 0) → P w.activations → P (write_cells part.object part.offset (0 ∷ []) w).activations
+unfolding opened_changes
+same_display part w P x = x
+
+there_so : (part : Spot) (object : ℕ) (failed : Bool) (y : Option W.Object) (o : W.Object) (p : T.Point) (k : List T.Frame) (w : World) → y ≡ Some o → freed_part part object failed y p k w ≡ freed_part part object failed (Some o) p k w
+there_so part object failed y o p k w is = ap (λ z. freed_part part object failed z p k w) is
+
+pub part_ends : (code : Code) (old new : Engine) (ended : Ended) (object place : ℕ) (fs : List Frame) (s : State) (o : W.Object) → BeforeResuming code old s → reverse old.control.items ≡ FrameOf.Freeing object NulledOf.Part place ∷ fs
+    → (u : IsFreeingIn old object NulledOf.Part place fs s) → (x : IsNulled old object u.point u.waiting s) → object_in x.part.object old.objects ≡ Some o
+    → new.mode ≡ mode_freed ended place → (let e = with_null x.part (behind_frame fs (standing u.waiting u.point.operands) (kept old)) in kept new ≡ with_objects (forgotten object e.objects) e) → new.events.items ≡ old.events.items → new.picks.items ≡ old.picks.items
+    → Makes code old new (act code (Giving (tried_of ended)) s.control s.operands s.world 0)
+part_ends code old new ended object place fs s o b top u x found mode are events picks =
+    let v = stands_behind code old object NulledOf.Part place fs s b top u in
+    let k = u.waiting in
+    let p = u.point in
+    let failed = says_failed (tried_of ended) in
+    let there = object_shown code (kept old) s.control s.operands s.world x.part.object b.holds ∙ found in
+    let e = with_null x.part (behind_frame fs (standing k p.operands) (kept old)) in
+    let w = write_cells x.part.object x.part.offset (0 ∷ []) s.world in
+    let i = null_inside code (behind_frame fs (standing k p.operands) (kept old)) v.stack k p.operands s.world x.part v.inside in
+    let seen : p.display ≡ first_display (heads_of w.activations) = same_display x.part s.world (λ acts. p.display ≡ first_display (heads_of acts)) u.seen in
+    let made = freed_makes code old new e ended object place v.stack p k w v.leads i u.foreign u.place_is seen mode are events picks in
+    subst (λ (l : List T.Frame). Makes code old new (act code (Giving (tried_of ended)) l s.operands s.world 0)) (sym x.is)
+    (subst (λ (m : Move). Makes code old new m) (sym (there_so x.part object failed (object_at x.part.object s.world) o p k s.world there)) made)
+
+-- By an instruction ------------------------------------------------------------------------------------
+
+-- with further cells, which mean nothing
+pub frees_more : (code : Code) (old new : Engine) (nulled : Nulled) (t : Freed) (more : List ℕ) → Frees code old nulled t → kept new ≡ with_cells (kept old) (old.cells.items ++ more) → Frees code new nulled t
+frees_more code old new nulled t more f is =
+    let k = t.state.control in
+    let w = t.state.world in
+    let parts = standing k t.operands in
+    record {
+      nulled_is = f.nulled_is;
+      stack = f.stack;
+      leads = f.leads;
+      before = subst (λ (e : Kept). Holds code e k t.state.operands w) (sym is) (more_cells code (kept old) more k t.state.operands w f.before);
+      inside = record {
+        stands = f.inside.stands;
+        sized = f.inside.sized;
+        holds = subst (λ (e : Kept). Holds code (with_spots e parts) k t.operands w) (sym is) (more_cells code (with_spots (kept old) parts) more k t.operands w f.inside.holds);
+        spots = refl;
+      };
+      spots = λ n. ap (λ (e : Kept). e.spots) is ∙ f.spots n;
+    }
+
+-- a variable
+abbrev pub by_variable : (out slot place : ℕ) → State → Freed
+by_variable out slot place s = record { nulled = T.NullVariable out slot; operands = s.operands; place = place; state = s }
+
+pub variable_frees : (code : Code) (old : Engine) (access out slot place : ℕ) (s : State) → Before code old place (Free access out slot) s → Frees code old (NulledOf.Variable out slot) (by_variable out slot place s)
+variable_frees code old access out slot place s b = record {
+  nulled_is = refl;
+  stack = b.stack;
+  leads = b.fine.1;
+  before = b.inside.holds;
+  inside = record {
+    stands = b.inside.stands;
+    sized = b.inside.sized;
+    holds = other_spots code (kept old) (standing s.control s.operands) s.control s.operands s.world b.inside.holds;
+    spots = refl;
+  };
+  spots = λ n. b.inside.spots;
+}
+
+-- a component
+abbrev pub by_component : Spot → ℕ → State → Freed
+by_component part place s = record { nulled = T.NullPart part; operands = drop 1 s.operands; place = place; state = s }
+
+pub component_frees : (code : Code) (old new : Engine) (access place t position : ℕ) (part : Spot) (s : State) → Before code old place (FreePart access t position) s → kept new ≡ with_spots (kept old) (standing s.control (drop 1 s.operands) ++ part ∷ [])
+    → Frees code new NulledOf.Part (by_component part place s)
+component_frees code old new access place t position part s b is =
+    let p = part_on_top code old t b.stack b.fine.1.0 s b.inside b.fine.1.1 in
+    let k = s.control in
+    let rest = drop 1 s.operands in
+    let spots = standing k rest ++ part ∷ [] in
+    record {
+      nulled_is = refl;
+      stack = b.fine.1.0;
+      leads = b.fine.1.2;
+      before = subst (λ (e : Kept). Holds code e k s.operands s.world) (sym is) (other_spots code (kept old) spots k s.operands s.world b.inside.holds);
+      inside = record {
+        stands = p.left.stands;
+        sized = p.left.sized;
+        holds = subst (λ (e : Kept). Holds code (with_spots e (standing k rest)) k rest s.world) (sym is) p.left.holds;
+        spots = refl;
+      };
+      spots = λ n. ap (λ (e : Kept). e.spots) is;
+    }
+
+-- null designates no object
+by_none : (code : Code) (nulled : T.Nulled) (v : Option Var) (n : ℕ) (ops : List Word) (h : Here) → n ≡ 0 → by_free code nulled v n ops h ≡ on ops h.world h
+by_none code nulled v n ops h is = ap (λ m. by_free code nulled v m ops h) is
+
+by_some : (code : Code) (nulled : T.Nulled) (v : Option Var) (n : ℕ) (ops : List Word) (h : Here) → (n ≡ 0 → ⊥) → by_free code nulled v n ops h ≡ free_object code nulled v (object_at n h.world) ops h
+by_some code nulled v zero ops h some = absurd (some refl)
+by_some code nulled v (suc n) ops h some = refl
+
+pub variable_null : (code : Code) (old new : Engine) (access out slot place n : ℕ) (s : State) → Before code old place (Free access out slot) s → n ≡ cell_at (first_display (heads_of s.world.activations)) out slot s.world → n ≡ 0 → GoesOn old new (ModeOf.At (place + 1)) old.cells.items
+    → Makes code old new (by_instr code (Some (Free access out slot)) s.operands (here_of place s))
+variable_null code old new access out slot place n s b read none goes =
+    subst (λ (m : Move). Makes code old new m) (sym (by_none code (T.NullVariable out slot) (slice_get code.accesses.items access) (cell_at (first_display (heads_of s.world.activations)) out slot s.world) s.operands (here_of place s) (sym read ∙ none)))
+    (goes_makes code old new (place + 1) b.stack s.control s.operands s.world old.cells.items b.fine.1 b.inside goes)
+
+pub variable_some : (code : Code) (old new : Engine) (access out slot place n : ℕ) (s : State) → n ≡ cell_at (first_display (heads_of s.world.activations)) out slot s.world → (n ≡ 0 → ⊥)
+    → Makes code old new (free_object code (T.NullVariable out slot) (slice_get code.accesses.items access) (object_at n s.world) s.operands (here_of place s)) → Makes code old new (by_instr code (Some (Free access out slot)) s.operands (here_of place s))
+variable_some code old new access out slot place n s read some made =
+    subst (λ m. Makes code old new (by_free code (T.NullVariable out slot) (slice_get code.accesses.items access) m s.operands (here_of place s))) read
+    (subst (λ (m : Move). Makes code old new m) (sym (by_some code (T.NullVariable out slot) (slice_get code.accesses.items access) n s.operands (here_of place s) some)) made)
+
+-- the table's move, once the component is read
+abbrev part_read : Code → Spot → Option Var → Option ℕ → List Word → Here → Move
+part_read code part v None ops h = gone h.control h.world
+part_read code part v (Some n) ops h = by_free code (T.NullPart part) v n ops h
+
+read_part : (code : Code) (part : Spot) (v : Option Var) (y : Option W.Object) (ops : List Word) (h : Here) → by_free_part code part v y ops h ≡ part_read code part v (part_in part.offset y) ops h
+read_part code part v None ops h = refl
+read_part code part v (Some o) ops h = refl
+
+-- the component of the part that is the newest operand
+abbrev pub component : Code → ℕ → ℕ → State → Spot
+component code t position s = component_of (first_spot s.operands) (offset_of code t position) position
+
+-- what was read of it
+pub component_read : (code : Code) (t position : ℕ) (s : State) (r : Option ℕ) (start number offset : ℕ) (x : Spot) → r ≡ part_in (start + offset) (object_at number s.world) → start ≡ x.offset → number ≡ x.object → x ≡ first_spot s.operands → offset ≡ offset_of code t position
+    → (let z = component code t position s in r ≡ part_in z.offset (object_at z.object s.world))
+component_read code t position s r start number offset x read first object same is =
+    let y = first_spot s.operands in
+    read_is r start number offset x y s.world read first object same ∙ ap (λ n. part_in (y.offset + n) (object_at y.object s.world)) is
+
+part_move : (code : Code) (old : Engine) (access place t position : ℕ) (s : State) (r : Option ℕ) → Before code old place (FreePart access t position) s → (let x = component code t position s in r ≡ part_in x.offset (object_at x.object s.world)
+    → by_instr code (Some (FreePart access t position)) s.operands (here_of place s) ≡ part_read code x (slice_get code.accesses.items access) r (drop 1 s.operands) (here_of place s))
+part_move code old access place t position s r b read =
+    let h = here_of place s in
+    let p = part_on_top code old t b.stack b.fine.1.0 s b.inside b.fine.1.1 in
+    let x = component code t position s in
+    let v = slice_get code.accesses.items access in
+    ap (λ (l : List Word). by_instr code (Some (FreePart access t position)) l h) p.are
+    ∙ (read_part code x v (object_at x.object s.world) (drop 1 s.operands) h ∙ ap (λ z. part_read code x v z (drop 1 s.operands) h) (sym read))
+
+pub component_gone : (code : Code) (old new : Engine) (access place t position : ℕ) (s : State) → Before code old place (FreePart access t position) s → (let x = component code t position s in None ≡ part_in x.offset (object_at x.object s.world))
+    → GoesOn old new (ModeOf.Stopped UseAfterFree) old.cells.items → Makes code old new (by_instr code (Some (FreePart access t position)) s.operands (here_of place s))
+component_gone code old new access place t position s b none goes =
+    subst (λ (m : Move). Makes code old new m) (sym (part_move code old access place t position s None b none)) (gone_makes code old new s.control s.operands s.world b.inside.holds goes)
+
+pub component_null : (code : Code) (old new : Engine) (access place t position n : ℕ) (s : State) → Before code old place (FreePart access t position) s → (let x = component code t position s in Some n ≡ part_in x.offset (object_at x.object s.world)) → n ≡ 0
+    → new.mode ≡ ModeOf.At (place + 1) → kept new ≡ with_spots (kept old) (standing s.control (drop 1 s.operands)) → new.events.items ≡ old.events.items → new.picks.items ≡ old.picks.items
+    → Makes code old new (by_instr code (Some (FreePart access t position)) s.operands (here_of place s))
+component_null code old new access place t position n s b read none mode are events picks =
+    let p = part_on_top code old t b.stack b.fine.1.0 s b.inside b.fine.1.1 in
+    let h = here_of place s in
+    let x = component code t position s in
+    let rest = drop 1 s.operands in
+    subst (λ (m : Move). Makes code old new m) (sym (part_move code old access place t position s (Some n) b read ∙ by_none code (T.NullPart x) (slice_get code.accesses.items access) n rest h none))
+    (goes_keeping code old new (with_spots (kept old) (standing s.control rest)) (place + 1) b.fine.1.0 s.control rest s.world b.fine.1.2 p.left mode are events picks)
+
+pub component_some : (code : Code) (old new : Engine) (access place t position n : ℕ) (s : State) → Before code old place (FreePart access t position) s → (let x = component code t position s in Some n ≡ part_in x.offset (object_at x.object s.world) → (n ≡ 0 → ⊥)
+    → Makes code old new (free_object code (T.NullPart x) (slice_get code.accesses.items access) (object_at n s.world) (drop 1 s.operands) (here_of place s)) → Makes code old new (by_instr code (Some (FreePart access t position)) s.operands (here_of place s)))
+component_some code old new access place t position n s b read some made =
+    subst (λ (m : Move). Makes code old new m)
+    (sym (part_move code old access place t position s (Some n) b read ∙ by_some code (T.NullPart (component code t position s)) (slice_get code.accesses.items access) n (drop 1 s.operands) (here_of place s) some)) made

@@ -1,0 +1,85 @@
+-- Objects that take values, and objects that allocators create: what stands there before they are adjusted, and where that has ended.
+use Rattle.std.specs.Prelude.{◌≡◌, ℕ, ◌<◌, List, [], ◌∷◌, Option, None, Some, drop, length, reverse, false, true}
+use Rattle.ctl_program.specs.declared.types.Ty.{Ty}
+use Rattle.ctl_tree.specs.declared.ending.Stop.TheVariants.{UseAfterFree}
+use Rattle.ctl_tree.specs.declared.event.Owner.TheVariants as OwnerOf
+use Rattle.ctl_meaning.specs.Objects.{cells_at}
+use Rattle.ctl_meaning.specs.Changes.{object_at}
+use Rattle.ctl_meaning.specs.World.{Collection, Object}
+use Rattle.ctl_code.specs.declared.kinds.Kind.{Kind}
+use Rattle.ctl_code.specs.declared.kinds.Kind.TheVariants.{Operand}
+use Rattle.ctl_code.specs.declared.code.Code.{Code}
+use Rattle.ctl_code.specs.declared.code.Way.TheVariants as WayOf
+use Rattle.ctl_code.specs.States as T
+use Rattle.ctl_code.specs.States.{ByAllocator, Maker, Move, Point, State}
+use Rattle.ctl_code.specs.Table.{behind_declaration, is_refused, newborn, size_of, take_value, with_member}
+use Rattle.ctl_code.specs.Valid.{IsScalar, Leads}
+use Rattle.ctl_machine.specs.Allocating.{OwnsNone}
+use Rattle.ctl_machine.specs.Declaring.{Copied}
+use Rattle.ctl_machine.specs.Filling.{AllLeaveSame}
+use Rattle.ctl_machine.specs.Masters.{first_display, heads_of}
+use Rattle.ctl_machine.specs.Moves.{Inside, here_of}
+use Rattle.ctl_machine.specs.Noted.{noted_in}
+use Rattle.ctl_machine.specs.Shows.{Holds, SizedBelow, Wait, kept}
+use Rattle.ctl_machine.specs.Spots.{first_spot, standing}
+use Rattle.ctl_machine.specs.declared.engine.Engine.{Engine}
+use Rattle.ctl_machine.specs.declared.frame.Frame.{Frame}
+use Rattle.ctl_machine.specs.declared.frame.Mode.{Mode}
+use Rattle.ctl_machine.specs.declared.frame.Mode.TheVariants as ModeOf
+
+-- Collections that take objects ------------------------------------------------------------------
+
+-- the collection of this number takes an object of a record type
+pub record Takes (code : Code) (type : ℕ) (seen : Option Collection) (set : ℕ) : Type 0 where
+  pub collection : Collection
+  pub is : seen ≡ Some collection
+  pub number : collection.number ≡ set
+  pub takes : is_refused code type collection ≡ false
+
+-- no collection does, and this comes instead: it is gone, or its finalization has started (4.8, 13.11.2)
+abbrev pub Refuses : Code → ℕ → Option Collection → Mode → Type 0
+Refuses code type None mode = mode ≡ ModeOf.Stopped UseAfterFree
+Refuses code type (Some c) mode = (is_refused code type c ≡ true) × (mode ≡ ModeOf.Transfers (WayOf.Raise 1))
+
+-- Allocated objects ------------------------------------------------------------------------------
+
+-- where an allocator goes on, over these operands
+abbrev pub point_at : ℕ → State → Point
+point_at place s = record { display = first_display (heads_of s.world.activations); place = place; operands = s.operands }
+
+-- the object of this number is one that an allocator creates, which goes on at a place, with its value on top; no frame waits for it
+pub record IsMember (code : Code) (e : Engine) (object place : ℕ) (s : State) : Type 0 where
+  pub stack : List Kind
+  pub type : Ty
+  pub scalar : IsScalar type
+  pub leads : Leads code place (Operand type ∷ stack)
+  pub inside : Inside code (kept e) stack s.control s.operands s.world
+  pub foreign : OwnsNone object e.owned.items
+
+-- the table's move, where a new object of a collection takes the value of a part of this object
+abbrev pub member_copied : Code → ℕ → ℕ → ℕ → Object → State → Move
+member_copied code place set t o s =
+    let n = s.world.ledger.next_object in
+    let w = with_member code set t s.world in
+    take_value code ByAllocator (newborn n t (OwnerOf.Collection set)) (cells_at (first_spot s.operands).offset (size_of code t) o) (object_at n w) (behind_declaration (drop 1 s.operands) (here_of place s)) s.control w
+
+-- Adjustments ------------------------------------------------------------------------------------
+
+-- an object that has taken a value is to be adjusted: this frame is to wait for it
+pub record AwaitsCopy (code : Code) (e : Engine) (copy : Frame) (by : Maker) (type : ℕ) (t : Copied) : Type 0 where
+  pub holds : Holds code (record (kept e) { control = copy ∷ (kept e).control }) (T.Copying by t.number type [] t.point ∷ t.control) [] t.world
+  pub spots : e.spots.items ≡ standing t.control t.point.operands
+  pub sized : SizedBelow code (T.Copying by t.number type [] t.point ∷ t.control) (heads_of t.world.activations)
+
+-- the newest frame is that of a copy, for an object of this number and record type, and this one is to take its place, which waits for the
+-- end of the creation
+pub record IsCopy (code : Code) (e : Engine) (creation : Frame) (object type first : ℕ) (s : State) : Type 0 where
+  pub by : Maker
+  pub paths : List (List ℕ)
+  pub point : Point
+  pub waiting : List T.Frame
+  pub is : s.control ≡ T.Copying by object type paths point ∷ waiting
+  pub some : 0 < length e.control.items
+  pub waits : Wait (creation ∷ drop 1 (reverse e.control.items)) (reverse e.masters.items) (heads_of s.world.activations) e.owned.items (T.Creating by object type point ∷ waiting)
+  pub left : AllLeaveSame code (creation ∷ drop 1 (reverse e.control.items)) (T.Creating by object type point ∷ waiting)
+  pub mark : first ≡ length (noted_in waiting)

@@ -1,0 +1,343 @@
+//! Objects are freed (RM 13.11.2): one that is still to be finalized is finalized, what designated it becomes null, and it is gone.
+
+ghost use Rattle.std.specs.Prelude.{◌≡◌, ◌+◌, ◌-◌, ◌^◌, ◌<◌, ◌≤◌, ◌∷◌, ◌&&◌, List, ℕ, IfOk, OnErr, OnOk, Some, drop, length, reverse, slice_get, vec_capacity, vec_len};
+ghost use Rattle.ctl_meaning.specs.Changes.{object_at};
+ghost use Rattle.ctl_meaning.specs.Finalization as S;
+ghost use Rattle.ctl_meaning.specs.Objects.{is_untouched};
+ghost use Rattle.ctl_objects.specs.Stages.{state_of};
+ghost use Rattle.ctl_program.specs.declared.types.Var.{Var};
+ghost use Rattle.ctl_code.specs.declared.code.Instr.TheVariants as InstrOf;
+ghost use Rattle.ctl_code.specs.Table as Table;
+ghost use Rattle.ctl_code.specs.States.{Giving, NullPart, State, whole_spot};
+ghost use Rattle.ctl_code.specs.Valid.{IsValid};
+ghost use Rattle.ctl_machine.specs.declared.frame.Frame.{Frame};
+ghost use Rattle.ctl_machine.specs.declared.frame.Frame.TheVariants as FrameOf;
+ghost use Rattle.ctl_machine.specs.declared.frame.Nulled.TheVariants as NulledOf;
+ghost use Rattle.ctl_machine.specs.Assigning.{HasRoom};
+ghost use Rattle.ctl_machine.specs.Finishing.{AreDoubles};
+ghost use Rattle.ctl_machine.specs.Freeing as Freeing;
+ghost use Rattle.ctl_machine.specs.Freeing.{Freed, Frees, IsFate};
+ghost use Rattle.ctl_machine.specs.Masters.{heads_of};
+ghost use Rattle.ctl_machine.specs.Moves.{Before, BeforeResuming, GoesOn, Makes, here_of};
+ghost use Rattle.ctl_machine.specs.Shows as Shows;
+ghost use Rattle.ctl_machine.specs.Shows.{Holds, kept};
+ghost use Rattle.ctl_machine.specs.Spots.{first_spot};
+ghost use Rattle.ctl_machine.specs.Under.{tall};
+
+use crate::engine::Engine;
+use crate::finalizing::{Doubles, Finalization, doubled};
+use crate::frame::{Ended, Frame, Mode, Nulled};
+use crate::layers::PROGRAM_ERROR;
+use crate::parts::{offset_of, parts_of};
+use crate::spots::Spot;
+use ctl_code::code::{Code, Parts, Way};
+use ctl_objects::{Existing, Life, Origin};
+use ctl_program::types::{Ty, Var};
+use ctl_tree::ending::Stop;
+use ctl_tree::event::Cause;
+use std::alloc::AllocError;
+
+/// What becomes of an object that is to be freed.
+#[derive(Clone, Copy)]
+pub enum Fate {
+    /// it stays, and the program is erroneous
+    Stops(Stop),
+    /// it goes as it is
+    Goes,
+    /// it is finalized before, as an object of this record type
+    Finalizes(usize),
+}
+
+/// An object that is freed: its number, what becomes null, the place of the instruction, and the cell where the window of a body begins that
+/// is called for it.
+#[derive(Clone, Copy)]
+pub struct Release {
+    pub object: u64,
+    pub nulled: Nulled,
+    pub place: usize,
+    pub base: usize,
+}
+
+/// Tells whether an object of a record type is still to be finalized: it has joined its collection, its finalization has not begun, and some
+/// part of it is controlled (RM 7.6.1).
+#[tactic(auto, unfolding(ctl_meaning::specs::Objects::is_untouched))]
+fn is_unfinished(code: &Code, existing: &Existing, record: usize) -> bool
+    ensures { result ≡ (existing.now.stage.has_joined && (is_untouched (state_of existing.now.stage.life) && Table.has_part (Table.parts_of code.now «record»))) }
+{
+    if !existing.stage.has_joined {
+        return false;
+    }
+    match existing.stage.life {
+        Life::Untouched => !matches!(parts_of(code, record), Parts::Plain),
+        _ => false,
+    }
+}
+
+/// Answers what becomes of an object that exists, by the collection from which it is to be freed (RM 13.11.2).
+fn fate_of(code: &Code, set: u64, existing: &Existing) -> Fate
+    ensures { result ≡ Freeing.fate_of code.now set existing.now }
+{
+    match existing.origin {
+        Origin::Allocated(collection) if collection == set => fate_of_member(code, existing),
+        _ => Fate::Stops(Stop::ForeignFree),
+    }
+}
+
+/// Answers what becomes of an object that is freed from its collection (RM 13.11.2).
+fn fate_of_member(code: &Code, existing: &Existing) -> Fate
+    ensures { result ≡ Freeing.fate_of_member code.now existing.now }
+{
+    if let Life::Finalizing = existing.stage.life {
+        return Fate::Stops(Stop::FreeWhileFinalizing);
+    }
+    match existing.ty {
+        Ty::Record(record) if is_unfinished(code, existing, record) => Fate::Finalizes(record),
+        _ => Fate::Goes,
+    }
+}
+
+/// Answers how it goes on at a place where an object is freed whose finalization has ended so: where a Finalize failed, by Program_Error
+/// (RM 13.11.2).
+fn mode_freed(ended: Ended, place: usize) -> Mode
+    ensures { result ≡ Freeing.mode_freed ended place }
+{
+    match ended {
+        Ended::Complete => Mode::At(place),
+        _ => Mode::Transfers(Way::Raise(PROGRAM_ERROR)),
+    }
+}
+
+impl Engine {
+    /// Answers what becomes of the object of this number, by the access type from whose collection it is to be freed (RM 13.11.2).
+    fn fate(&self, code: &Code, access: &Var, object: u64) -> Fate
+        ghost s: { State }
+        requires holds { Holds code.now (kept self.now) s.control s.operands s.world }
+        requires level { 1 ≤ access.now.level }
+        ensures { IsFate code.now access.now object self.now.owned.items s result }
+    {
+        match self.objects.find(object) {
+            Some(existing) => fate_of(code, self.set_held(code, access), &existing),
+            None => Fate::Stops(Stop::UseAfterFree),
+        }
+    }
+
+    /// Frees an object by an instruction (RM 13.11.2): it is finalized, if it is still to be, and its frame waits for that. There is room.
+    fn release(&mut self, code: &Code, access: usize, release: Release, doubles: Doubles)
+        ghost t: { Freed }
+        requires valid { IsValid code.now }
+        requires frees { Frees code.now self.old release.nulled t }
+        requires at { release.place ≡ t.place }
+        requires access { (v : Var) × (slice_get code.now.accesses.items access ≡ Some v) × (1 ≤ v.level) }
+        requires place { t.place + 1 < 2 ^ 64 }
+        requires base { release.base ≡ tall t.state.control (heads_of t.state.world.activations) + length t.operands }
+        requires room { HasRoom code.now self.old release.base }
+        requires control { vec_len self.old.control + 4 ≤ vec_capacity self.old.control }
+        requires spots { vec_len self.old.spots < vec_capacity self.old.spots }
+        requires doubles { AreDoubles doubles (whole_spot release.object) }
+        ensures { Makes code.now self.old self.new (Table.free_object code.now t.nulled (slice_get code.now.accesses.items access) (object_at release.object t.state.world) t.operands (here_of t.place t.state)) }
+    {
+        let fate = self.fate(code, &code.accesses[access], release.object);
+        if let Fate::Stops(stop) = fate {
+            self.go_on(Mode::Stopped(stop));
+            return;
+        }
+        self.control.push_reserved(Frame::Freeing {
+            object: release.object,
+            nulled: release.nulled,
+            place: release.place + 1,
+        });
+        let Fate::Finalizes(record_type) = fate else {
+            self.mode = Mode::Giving(Ended::Complete);
+            return;
+        };
+        let finalization = Finalization {
+            cause: Cause::Free,
+            record_type,
+            base: release.base,
+        };
+        self.finalize_whole(code, release.object, finalization, doubles);
+    }
+
+    /// Frees the object that the access value in the variable of this slot designates, in the master so many further out (RM 13.11.2); null
+    /// designates none, and nothing is done. Unchanged where memory is refused.
+    pub(crate) fn free_variable(
+        &mut self,
+        code: &Code,
+        access: usize,
+        out: usize,
+        slot: usize,
+        place: usize,
+    ) -> Result<(), AllocError>
+        ghost s: { State }
+        requires valid { IsValid code.now }
+        requires before { Before code.now self.old place (InstrOf.Free access out slot) s }
+        requires place { place + 1 < 2 ^ 64 }
+        requires number { self.old.given_masters + 1 < 2 ^ 64 }
+        ensures ok { OnOk result (Makes code.now self.old self.new (Table.by_instr code.now (Some (InstrOf.Free access out slot)) s.operands (here_of place s))) }
+        ensures err { OnErr result (GoesOn self.old self.new self.old.mode self.old.cells.items) }
+    {
+        let object = self.read_variable(code, out, slot);
+        if object == 0 {
+            self.go_on(Mode::At(place + 1));
+            return Ok(());
+        }
+        let base = self.window() + code.kinds.height_at(place + 1, 0);
+        let doubles = doubled(self.alloc, Spot::whole(self.alloc, object))?;
+        self.prepare_finalization(code, base)?;
+        let release = Release {
+            object,
+            nulled: Nulled::Variable { out, slot },
+            place,
+            base,
+        };
+        self.release(code, access, release, doubles);
+        Ok(())
+    }
+
+    /// Answers a component of the newest part, by its first cell and its position.
+    fn component_of_newest(&self, offset: usize, position: usize) -> Result<Spot, AllocError>
+        requires { 0 < length self.now.spots.items }
+        ensures { IfOk result (λ spot. (s : S.Spot) × (slice_get self.now.spots.items (length self.now.spots.items - 1) ≡ Some s) × (spot ≡ Table.component_of s offset position)) }
+    {
+        let newest = self.count_spots() - 1;
+        let mut spot = self.spots[newest].copied(self.alloc)?;
+        spot.select(offset, position)?;
+        Ok(spot)
+    }
+
+    /// Frees an object whose number a component of the part has that is the newest operand, by the first cell of the component and its
+    /// position (RM 13.11.2); unchanged where memory is refused.
+    fn free_designated(
+        &mut self,
+        code: &Code,
+        access: usize,
+        object: u64,
+        offset: usize,
+        position: usize,
+        place: usize,
+    ) -> Result<(), AllocError>
+        ghost s: { State × S.Spot }
+        requires valid { IsValid code.now }
+        requires before { (t : ℕ) × Before code.now self.old place (InstrOf.FreePart access t position) s.0 }
+        requires place { place + 1 < 2 ^ 64 }
+        requires number { self.old.given_masters + 1 < 2 ^ 64 }
+        requires component { s.1 ≡ Table.component_of (first_spot s.0.operands) offset position }
+        ensures ok { OnOk result (Makes code.now self.old self.new (Table.free_object code.now (NullPart s.1) (slice_get code.now.accesses.items access) (object_at object s.0.world) (drop 1 s.0.operands) (here_of place s.0))) }
+        ensures err { OnErr result (GoesOn self.old self.new self.old.mode self.old.cells.items) }
+    {
+        let base = self.window() + code.kinds.height_at(place + 1, 0);
+        let component = self.component_of_newest(offset, position)?;
+        let doubles = doubled(self.alloc, Spot::whole(self.alloc, object))?;
+        self.prepare_finalization(code, base)?;
+        let newest = self.count_spots() - 1;
+        self.spots[newest] = component;
+        let release = Release {
+            object,
+            nulled: Nulled::Part,
+            place,
+            base,
+        };
+        self.release(code, access, release, doubles);
+        Ok(())
+    }
+
+    /// Frees the object that the access value in a component of the part designates that is the newest operand, by the record type of the
+    /// part and the position of the component (RM 13.11.2); null designates none, and the part is dropped. Unchanged where memory is
+    /// refused.
+    pub(crate) fn free_part(
+        &mut self,
+        code: &Code,
+        access: usize,
+        record: usize,
+        position: usize,
+        place: usize,
+    ) -> Result<(), AllocError>
+        ghost s: { State }
+        requires valid { IsValid code.now }
+        requires before { Before code.now self.old place (InstrOf.FreePart access «record» position) s }
+        requires place { place + 1 < 2 ^ 64 }
+        requires number { self.old.given_masters + 1 < 2 ^ 64 }
+        ensures ok { OnOk result (Makes code.now self.old self.new (Table.by_instr code.now (Some (InstrOf.FreePart access «record» position)) s.operands (here_of place s))) }
+        ensures err { OnErr result (GoesOn self.old self.new self.old.mode self.old.cells.items) }
+    {
+        let offset = offset_of(code, record, position);
+        let newest = self.count_spots() - 1;
+        let spot = &self.spots[newest];
+        let Some(object) = self.read_at(code, spot.object(), spot.offset(), offset) else {
+            self.go_on(Mode::Stopped(Stop::UseAfterFree));
+            return Ok(());
+        };
+        if object == 0 {
+            let _ = self.spots.take_last();
+            self.mode = Mode::At(place + 1);
+            return Ok(());
+        }
+        self.free_designated(code, access, object, offset, position, place)
+    }
+
+    /// Ends the freeing of an object by a variable, behind its finalization, which has ended so: the variable becomes null, and the object
+    /// is gone (RM 13.11.2).
+    fn end_in_variable(
+        &mut self,
+        code: &Code,
+        ended: Ended,
+        object: u64,
+        out: usize,
+        slot: usize,
+        place: usize,
+    )
+        ghost s: { State }
+        requires before { BeforeResuming code.now self.old s }
+        requires top { (fs : List Frame) × (reverse self.old.control.items ≡ FrameOf.Freeing object (NulledOf.Variable out slot) place ∷ fs) }
+        ensures { Makes code.now self.old self.new (Table.act code.now (Giving (Shows.tried_of ended)) s.control s.operands s.world 0) }
+    {
+        self.give(code, out, slot, 0, place);
+        let _ = self.control.take_last();
+        self.objects.forget(object);
+        self.mode = mode_freed(ended, place);
+    }
+
+    /// Ends the freeing of an object by a component, behind its finalization, which has ended so: the component becomes null, and the object
+    /// is gone. Where the object of the component is gone, the program is erroneous (RM 13.11.2).
+    fn end_in_part(&mut self, code: &Code, ended: Ended, object: u64, place: usize)
+        ghost s: { State }
+        requires before { BeforeResuming code.now self.old s }
+        requires top { (fs : List Frame) × (reverse self.old.control.items ≡ FrameOf.Freeing object NulledOf.Part place ∷ fs) }
+        ensures { Makes code.now self.old self.new (Table.act code.now (Giving (Shows.tried_of ended)) s.control s.operands s.world 0) }
+    {
+        let _ = code;
+        let component = self.drop_frame();
+        if !self.objects.exists(component.object()) {
+            self.mode = Mode::Stopped(Stop::UseAfterFree);
+            return;
+        }
+        self.objects
+            .write(component.object(), component.offset(), 0);
+        self.objects.forget(object);
+        self.mode = mode_freed(ended, place);
+    }
+
+    /// Goes on with the freeing of an object behind its finalization, which has ended so: what designated it becomes null, and it is gone;
+    /// where a Finalize failed, Program_Error is raised (RM 13.11.2).
+    pub(crate) fn resume_freeing(
+        &mut self,
+        code: &Code,
+        ended: Ended,
+        object: u64,
+        nulled: Nulled,
+        place: usize,
+    )
+        ghost s: { State }
+        requires valid { IsValid code.now }
+        requires before { BeforeResuming code.now self.old s }
+        requires top { (fs : List Frame) × (reverse self.old.control.items ≡ FrameOf.Freeing object nulled place ∷ fs) }
+        ensures { Makes code.now self.old self.new (Table.act code.now (Giving (Shows.tried_of ended)) s.control s.operands s.world 0) }
+    {
+        match nulled {
+            Nulled::Variable { out, slot } => {
+                self.end_in_variable(code, ended, object, out, slot, place);
+            }
+            Nulled::Part => self.end_in_part(code, ended, object, place),
+        }
+    }
+}

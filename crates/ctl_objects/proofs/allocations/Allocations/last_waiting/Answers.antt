@@ -1,0 +1,5 @@
+use Rattle.ctl_objects.proofs.Waits.{none_under}
+use Rattle.ctl_objects.proofs.allocations.Allocations.last_waiting.Goals as goal
+
+pub loop-number-init : goal.loop-number-init
+loop-number-init c = none_under c.args.group c.args.self.now c.are_numbered.ensures
